@@ -1,0 +1,3 @@
+pub mod Common
+pub mod Tree
+pub mod Bools

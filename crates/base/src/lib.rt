@@ -1,0 +1,1 @@
+// Definitions that every other crate shares; this crate has no code.

@@ -1,0 +1,1 @@
+// When a program is finishing, as definitions with a theorem; this crate has no code.

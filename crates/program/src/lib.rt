@@ -1,0 +1,1 @@
+// The program as numbers and its table, as definitions; this crate has no code.
