@@ -1,0 +1,2 @@
+-- The tables of cases, each under one statement.
+pub mod Hold

@@ -1,0 +1,1 @@
+// The cases of the papers, proved by computation; this crate has no code.

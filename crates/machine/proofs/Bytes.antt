@@ -1,0 +1,50 @@
+-- Words and bytes: each is the other, and an odd last byte counts for nothing.
+use mathlib.Core.Path.{_≡_, refl, sym, ap, _∙_}
+use mathlib.Core.List.{List, [], _∷_, _++_}
+use Prim.Native.Nat.{ℕ, zero, suc, _+_, _*_, _/_, _%_, _<_, _≤_}
+use native.Mathlib.Omega.{arith}
+use lib.ListN.{length, take, getD, length-take}
+use Rattle.machine.specs.Bytes.{count, wordsOf, wordAt, tableOf, bytesOf}
+
+pub length-wordsOf : (s : List ℕ) → length (wordsOf s) ≡ count s
+unfolding wordsOf count
+length-wordsOf [] = refl
+length-wordsOf (h ∷ []) = refl
+length-wordsOf (h ∷ l ∷ s) = let ih = length-wordsOf s in omega arith
+
+pub getD-wordsOf : (s : List ℕ) (i : ℕ) → i < count s → getD (wordsOf s) i 0 ≡ wordAt s i
+unfolding wordsOf count wordAt
+getD-wordsOf [] i h = absurd (omega arith)
+getD-wordsOf (h ∷ []) i b = absurd (omega arith)
+getD-wordsOf (h ∷ l ∷ s) zero b = refl
+getD-wordsOf (h ∷ l ∷ s) (suc i) b =
+    let e : 2 * suc i ≡ suc (suc (2 * i)) = omega arith in
+    let f : 2 * suc i + 1 ≡ suc (suc (2 * i + 1)) = omega arith in
+    getD-wordsOf s i (omega arith) ∙ rw (f, e)
+
+pub wordsOf-bytesOf : (ws : List ℕ) → wordsOf (bytesOf ws) ≡ ws
+unfolding wordsOf bytesOf
+wordsOf-bytesOf [] = refl
+wordsOf-bytesOf (w ∷ ws) =
+    let e : w / 256 * 256 + w % 256 ≡ w = omega arith in
+    λ i. e i ∷ wordsOf-bytesOf ws i
+
+pub length-bytesOf : (ws : List ℕ) → length (bytesOf ws) ≡ 2 * length ws
+unfolding bytesOf
+length-bytesOf [] = refl
+length-bytesOf (w ∷ ws) = let ih = length-bytesOf ws in omega arith
+
+pub bytesOf-wordsOf : (s : List ℕ) → ((i : ℕ) → getD s i 0 < 256) → length s % 2 ≡ 0 → bytesOf (wordsOf s) ≡ s
+unfolding wordsOf bytesOf
+bytesOf-wordsOf [] b e = refl
+bytesOf-wordsOf (h ∷ []) b e = absurd (omega arith)
+bytesOf-wordsOf (h ∷ l ∷ s) b e =
+    let x : h < 256 = b 0 in
+    let y : l < 256 = b 1 in
+    let hi : (h * 256 + l) / 256 ≡ h = omega arith in
+    let lo : (h * 256 + l) % 256 ≡ l = omega arith in
+    λ i. hi i ∷ lo i ∷ bytesOf-wordsOf s (λ k. b (suc (suc k))) (omega arith) i
+
+pub length-tableOf : (s : List ℕ) → length (tableOf s) ≤ 4096
+unfolding tableOf
+length-tableOf s = let e = length-take 4096 (wordsOf s) in omega arith

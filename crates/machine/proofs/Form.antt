@@ -1,0 +1,183 @@
+-- The byte form of walks is canonical: a walk that fits is read back from its bytes, and bytes that are read as a walk are that walk's.
+use mathlib.Core.Path.{_≡_, refl, sym, ap, _∙_, subst}
+use mathlib.Core.Bool.{Bool, true, false}
+use mathlib.Core.List.{List, [], _∷_, _++_, reverse, reverseAux, reverse-reverse}
+use mathlib.Core.Option.{Option, none, some}
+use Prim.Native.Nat.{ℕ, zero, suc, _+_, _*_, _-_, _/_, _%_, _<_, _≤_}
+use native.Mathlib.Omega.{arith}
+use native.Mathlib.Nat.{div-div-eq-div-mul}
+use lib.Dec.{eqb}
+use lib.ListN.{length, take, drop, getD, replicate, length-append, length-take, length-drop, length-reverse, length-replicate}
+use lib.Seq.{take-at, getD-drop}
+use borrow.Author.Tests.{eq-eqb, eqb-true}
+use Rattle.base.specs.Common.{if_then_else_, same}
+use Rattle.base.specs.Bools.{never, split}
+use Rattle.events.specs.Events.{Reason, finished, differs, missing, unlabelled, deep, unanswered, outside, reasonNumber, Io}
+use Rattle.machine.specs.Bytes.{count, wordsOf, bytesOf}
+use Rattle.machine.specs.Walk.{Phase, going, waiting, stopped, Walk}
+use Rattle.machine.specs.Form.{phaseWords, words64, returnWords, walkWords, walkBytes, reasonOf, phaseOf, number64, walkNamed, walkOf, Fits}
+use Rattle.machine.proofs.Bytes.{length-wordsOf, wordsOf-bytesOf, length-bytesOf}
+
+-- The test of two lists
+
+pub same-refl : (s : List ℕ) → same s s ≡ true
+same-refl [] = refl
+same-refl (x ∷ s) = rw (eq-eqb x x refl) (same-refl s)
+
+pub same-≡ : (a b : List ℕ) → same a b ≡ true → a ≡ b
+same-≡ [] [] e = refl
+same-≡ [] (y ∷ b) e = never e
+same-≡ (x ∷ a) [] e = never e
+same-≡ (x ∷ a) (y ∷ b) e =
+    split (eqb x y)
+    (λ t. let h = eqb-true x y t in let r = same-≡ a b (rw t at e) in λ i. h i ∷ r i)
+    (λ f. never (rw f at e))
+
+-- From a walk to its bytes and back
+
+reasonOf-number : (r : Reason) → reasonOf (reasonNumber r) ≡ r
+unfolding reasonOf reasonNumber
+reasonOf-number finished = refl
+reasonOf-number differs = refl
+reasonOf-number missing = refl
+reasonOf-number unlabelled = refl
+reasonOf-number deep = refl
+reasonOf-number unanswered = refl
+reasonOf-number outside = refl
+
+number64-words64 : (n : ℕ) (rest : List ℕ) → number64 (words64 n ++ rest) ≡ n
+unfolding number64 words64
+number64-words64 n rest =
+    let a = div-div-eq-div-mul n 65536 65536 in
+    let b = div-div-eq-div-mul n 4294967296 65536 in
+    omega arith
+
+returns-back : (rs : List ℕ) → reverse (take (length rs) (returnWords rs)) ≡ rs
+unfolding returnWords
+returns-back rs = rw (take-at (reverse rs) (replicate (64 - length rs) 0) (length rs) (length-reverse rs)) (reverse-reverse rs)
+
+-- the words after those of the phase
+afterPhase : Walk → List ℕ
+afterPhase w =
+    w .location ∷ w .result ∷ w .parameter ∷ length (w .returns)
+    ∷ (words64 (w .io .read) ++ (words64 (w .io .used) ++ returnWords (w .returns)))
+
+named : (a b : ℕ) (w : Walk) → w .io .events ≡ [] → phaseOf a b ≡ w .phase → walkNamed (a ∷ b ∷ afterPhase w) ≡ w
+unfolding walkNamed afterPhase words64
+named a b w e p = λ i. record {
+  phase = p i;
+  location = w .location;
+  result = w .result;
+  parameter = w .parameter;
+  returns = returns-back (w .returns) i;
+  io = record {
+    read = number64-words64 (w .io .read) (words64 (w .io .used) ++ returnWords (w .returns)) i;
+    used = number64-words64 (w .io .used) (returnWords (w .returns)) i;
+    events = sym e i;
+  };
+}
+
+namedIn : (p : Phase) (w : Walk) → w .io .events ≡ [] → p ≡ w .phase → walkNamed (phaseWords p ++ afterPhase w) ≡ w
+unfolding phaseWords phaseOf
+namedIn going w e q = named 0 0 w e q
+namedIn waiting w e q = named 1 0 w e q
+namedIn (stopped r) w e q = named 2 (reasonNumber r) w e (ap stopped (reasonOf-number r) ∙ q)
+
+walkNamed-walkWords : (w : Walk) → w .io .events ≡ [] → walkNamed (walkWords w) ≡ w
+unfolding walkWords afterPhase
+walkNamed-walkWords w e = namedIn (w .phase) w e refl
+
+pub walkOf-walkBytes : (w : Walk) → Fits w → walkOf (walkBytes w) ≡ some w
+unfolding walkOf walkBytes
+walkOf-walkBytes w f =
+    let e : walkNamed (wordsOf (bytesOf (walkWords w))) ≡ w = ap walkNamed (wordsOf-bytesOf (walkWords w)) ∙ walkNamed-walkWords w (f .events) in
+    rw (e, same-refl (bytesOf (walkWords w)))
+
+-- From bytes to a walk and back
+
+pub walkBytes-walkOf : (s : List ℕ) (w : Walk) → walkOf s ≡ some w → walkBytes w ≡ s
+unfolding walkOf
+walkBytes-walkOf s w e =
+    split (same (walkBytes (walkNamed (wordsOf s))) s)
+    (λ t. let v : some (walkNamed (wordsOf s)) ≡ some w = rw t at e in
+    let u : walkNamed (wordsOf s) ≡ w = cc in
+    rw u at (same-≡ (walkBytes (walkNamed (wordsOf s))) s t))
+    (λ f. let v : none ≡ some w = rw f at e in let z : _≡_ {A = Bool} false true = cc in never z)
+
+length-phaseWords : (p : Phase) → length (phaseWords p) ≡ 2
+unfolding phaseWords
+length-phaseWords going = refl
+length-phaseWords waiting = refl
+length-phaseWords (stopped r) = refl
+
+length-returnWords : (rs : List ℕ) → length rs ≤ 64 → length (returnWords rs) ≡ 64
+unfolding returnWords
+length-returnWords rs h = simp (length-append, length-reverse, length-replicate) (omega arith)
+
+pub walkBytes-length : (w : Walk) → Fits w → length (walkBytes w) ≡ 156
+unfolding walkBytes walkWords words64 afterPhase
+walkBytes-length w f =
+    let a = length-bytesOf (walkWords w) in
+    let b = length-append (phaseWords (w .phase)) (afterPhase w) in
+    let c = length-phaseWords (w .phase) in
+    let d = length-returnWords (w .returns) (f .depth) in
+    omega arith
+
+-- Bytes of the right length are read as a walk that fits
+
+-- each number of the list is a word
+abbrev Small : List ℕ → Type 0
+Small l = (i : ℕ) → getD l i 0 < 65536
+
+small-words : (s : List ℕ) → ((i : ℕ) → getD s i 0 < 256) → Small (wordsOf s)
+unfolding wordsOf
+small-words [] b i = omega arith
+small-words (h ∷ []) b i = omega arith
+small-words (h ∷ l ∷ s) b zero = omega (arith, b 0, b 1)
+small-words (h ∷ l ∷ s) b (suc i) = small-words s (λ k. b (suc (suc k))) i
+
+small-take : (n : ℕ) (l : List ℕ) → Small l → Small (take n l)
+small-take zero l b i = omega arith
+small-take (suc n) [] b i = omega arith
+small-take (suc n) (x ∷ l) b zero = b 0
+small-take (suc n) (x ∷ l) b (suc i) = small-take n l (λ k. b (suc k)) i
+
+small-drop : (n : ℕ) (l : List ℕ) → Small l → Small (drop n l)
+small-drop zero l b i = b i
+small-drop (suc n) [] b i = omega arith
+small-drop (suc n) (x ∷ l) b i = small-drop n l (λ k. b (suc k)) i
+
+small-cons : (x : ℕ) (l : List ℕ) → x < 65536 → Small l → Small (x ∷ l)
+small-cons x l h b zero = h
+small-cons x l h b (suc i) = b i
+
+small-reverse : (l r : List ℕ) → Small l → Small r → Small (reverseAux l r)
+small-reverse [] r b c i = c i
+small-reverse (x ∷ l) r b c i = small-reverse l (x ∷ r) (λ k. b (suc k)) (small-cons x r (b 0) c) i
+
+small-number : (ws : List ℕ) → Small ws → number64 ws < 18446744073709551616
+unfolding number64
+small-number ws b = omega (arith, b 0, b 1, b 2, b 3)
+
+fits-named : (ws : List ℕ) → length ws ≡ 78 → Small ws → Fits (walkNamed ws)
+unfolding walkNamed
+fits-named ws e b = record {
+  location = b 2;
+  result = b 3;
+  parameter = b 4;
+  depth = simp (length-reverse, length-take, length-drop) (omega arith);
+  returns = λ i h. small-reverse (take (getD ws 5 0) (drop 14 ws)) [] (small-take (getD ws 5 0) (drop 14 ws) (small-drop 14 ws b)) (λ k. omega arith) i;
+  read = small-number (drop 6 ws) (small-drop 6 ws b);
+  used = small-number (drop 10 ws) (small-drop 10 ws b);
+  events = refl;
+}
+
+pub walkOf-fits : (s : List ℕ) (w : Walk) → ((i : ℕ) → getD s i 0 < 256) → length s ≡ 156 → walkOf s ≡ some w → Fits w
+unfolding walkOf count
+walkOf-fits s w b l e =
+    split (same (walkBytes (walkNamed (wordsOf s))) s)
+    (λ t. let v : some (walkNamed (wordsOf s)) ≡ some w = rw t at e in
+    let u : walkNamed (wordsOf s) ≡ w = cc in
+    let n = length-wordsOf s in
+    subst Fits u (fits-named (wordsOf s) (omega arith) (small-words s b)))
+    (λ f. let v : none ≡ some w = rw f at e in let z : _≡_ {A = Bool} false true = cc in never z)

@@ -1,0 +1,5 @@
+-- Laws of the definitions, and facts that antt computes from them.
+pub mod Table
+pub mod Lengths
+pub mod Bytes
+pub mod Form

@@ -1,0 +1,4 @@
+pub mod Known
+pub mod Declare
+pub mod Resolve
+pub mod Understand

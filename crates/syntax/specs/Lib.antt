@@ -1,0 +1,5 @@
+pub mod Written
+pub mod Reading
+pub mod Actions
+pub mod Sections
+pub mod Parse

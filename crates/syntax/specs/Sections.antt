@@ -1,0 +1,147 @@
+-- Sections: "A section is a head, a colon, one entry or more, a semicolon." Values and instruction numbers are counted here, since a
+-- value past 65,535 and a 257th operation are limits.
+use mathlib.Core.Bool.{Bool, true, false, _&&_}
+use mathlib.Core.List.{List, [], _∷_, _++_}
+use mathlib.Core.Option.{Option, none, some}
+use Prim.Native.Char.{code}
+use Prim.Native.Nat.{ℕ, zero, suc, _+_, _-_, max}
+use lib.Dec.{eqb, leb, ltb}
+use lib.ListN.{length}
+use Rattle.base.specs.Common.{if_then_else_, given}
+use Rattle.syntax.specs.Reading.{Read, got, fault, Reader, onward, _>>=_, _>>_, pure, peek, pass, refuse, on_then_else_, expect, aName, oneName, aNumber, optional}
+use Rattle.syntax.specs.Written.{Entry, Operation, Section, inputs, outputs, both, errors, values, operations}
+use Rattle.words.specs.Words.{Word, twice, string, input, output, error, type, mechanism, rules}
+
+-- Entries
+
+-- "an optional string; .. error and type entries have no string"
+unfoldable pub aSpelling : Bool → Reader (Option Word)
+aSpelling false = pure none
+aSpelling true = on string then (do w ← pass; pure (some w)) else pure none
+
+-- the value of the entry named w: "`= number` sets a value and counting goes on from it"; counted past 65,535, the name is at fault
+unfoldable pub aCount : Word → ℕ → Reader ℕ
+aCount w v = on code "=" then (do pass; aNumber) else (λ ws. if ltb 65535 v then fault 9 w else got v ws)
+
+unfoldable pub anEntry : ℕ → Bool → ℕ → Reader Entry
+anEntry left strings v = do
+  w ← oneName left
+  s ← aSpelling strings
+  n ← aCount w v
+  pure (record { entry = w; spelt = s; value = n })
+
+-- entries to the semicolon, where `left` more names may be declared, counting from v
+unfoldable pub entries : ℕ → ℕ → Bool → ℕ → Reader (List Entry)
+entries zero left strings v ws = refuse ws
+entries (suc k) left strings v ws =
+    (do
+      e ← anEntry left strings v
+      more ← on code ";" then (do pass; pure []) else entries k (left - 1) strings (e .value + 1)
+      pure (e ∷ more)) ws
+
+-- Operations
+
+-- "updates from 256, updates with a parameter from 512, choice operations from 768, with a parameter from 1,024"
+unfoldable pub firstOf : Bool → Bool → ℕ
+firstOf false false = 256
+firstOf true false = 512
+firstOf false true = 768
+firstOf true true = 1024
+
+-- how many of the instruction numbers are of the kind that begins at b
+unfoldable pub ofKind : ℕ → List ℕ → ℕ
+ofKind b [] = 0
+ofKind b (i ∷ is) = (if leb b i && ltb i (b + 256) then 1 else 0) + ofKind b is
+
+unfoldable pub aParameter : Reader (Option Word)
+aParameter = on code "(" then (do pass; t ← aName; expect (code ")"); pure (some t)) else pure none
+
+-- the operation w of the kind that begins at b, n of which stand before it: "256 operations a kind", the name at fault
+unfoldable pub numbered : Word → Option Word → ℕ → ℕ → Reader Operation
+numbered w t b n ws =
+    if eqb n 256 then fault 9 w
+    else (do
+      g ← optional twice aName
+      pure (record { operation = w; takes = t; gives = g; instruction = b + n })) ws
+
+-- the kind is known once `(type)` is read or not there, and `>>` is seen or not
+unfoldable pub anOperation : ℕ → List ℕ → Reader Operation
+anOperation left seen = do
+  w ← oneName left
+  t ← aParameter
+  λ ws. let b = firstOf (given t) (eqb (peek ws .kind) twice) in numbered w t b (ofKind b seen) ws
+
+-- operations to the semicolon, after those with the instruction numbers `seen`
+unfoldable pub someOperations : ℕ → ℕ → List ℕ → Reader (List Operation)
+someOperations zero left seen ws = refuse ws
+someOperations (suc k) left seen ws =
+    (do
+      o ← anOperation left seen
+      more ← on code ";" then (do pass; pure []) else someOperations k (left - 1) (o .instruction ∷ seen)
+      pure (o ∷ more)) ws
+
+-- Sections
+
+-- what the sections so far leave: names that may still be declared, for each class of tokens and errors "one above the greatest number
+-- so far .., or .. 0", the operations' instruction numbers
+pub record Sofar : Type 0 where
+  pub left : ℕ
+  pub input : ℕ
+  pub output : ℕ
+  pub error : ℕ
+  pub seen : List ℕ
+
+-- "512 names of entries, types and rules"
+unfoldable pub nothing : Sofar
+nothing = record { left = 512; input = 0; output = 0; error = 0; seen = [] }
+
+unfoldable pub nextOf : ℕ → List Entry → ℕ
+nextOf n [] = n
+nextOf n (e ∷ es) = nextOf (max n (e .value + 1)) es
+
+unfoldable pub instructions : List Operation → List ℕ
+instructions [] = []
+instructions (o ∷ os) = o .instruction ∷ instructions os
+
+unfoldable pub after : Sofar → Section → Sofar
+after s (inputs es) = record { left = s .left - length es; input = nextOf (s .input) es; output = s .output; error = s .error; seen = s .seen }
+after s (outputs es) = record { left = s .left - length es; input = s .input; output = nextOf (s .output) es; error = s .error; seen = s .seen }
+after s (both es) = record { left = s .left - length es; input = nextOf (s .input) es; output = nextOf (s .output) es; error = s .error; seen = s .seen }
+after s (errors es) = record { left = s .left - length es; input = s .input; output = s .output; error = nextOf (s .error) es; seen = s .seen }
+after s (values w es) = record { left = s .left - suc (length es); input = s .input; output = s .output; error = s .error; seen = s .seen }
+after s (operations os) = record { left = s .left - length os; input = s .input; output = s .output; error = s .error; seen = instructions os ++ s .seen }
+
+-- "a token or error section begins one above the greatest number so far in any class it feeds, or at 0"
+unfoldable pub tokenSection : ℕ → Sofar → Reader Section
+tokenSection k s =
+    on output then (do pass; expect (code ":"); es ← entries k (s .left) true (max (s .input) (s .output)); pure (both es))
+    else (do expect (code ":"); es ← entries k (s .left) true (s .input); pure (inputs es))
+
+-- "types count from 0"; "Mechanism names declare nothing and may repeat."
+unfoldable pub aSection : ℕ → Sofar → Reader Section
+aSection k s =
+    on input then (do pass; tokenSection k s)
+    else on output then (do pass; expect (code ":"); es ← entries k (s .left) true (s .output); pure (outputs es))
+    else on error then (do pass; expect (code ":"); es ← entries k (s .left) false (s .error); pure (errors es))
+    else on type then (do pass; w ← oneName (s .left); expect (code ":"); es ← entries k (s .left - 1) false 0; pure (values w es))
+    else (do expect mechanism; aName; expect (code ":"); os ← someOperations k (s .left) (s .seen); pure (operations os))
+
+-- the sections, and how many names they leave for the rules
+pub record Sections : Type 0 where
+  pub sections : List Section
+  pub left : ℕ
+
+-- sections up to the word `rules`
+unfoldable pub someSections : ℕ → Sofar → Reader Sections
+someSections zero s ws = refuse ws
+someSections (suc k) s ws =
+    (on rules then pure (record { sections = []; left = s .left })
+    else do
+      x ← aSection k s
+      more ← someSections k (after s x)
+      pure (record { sections = x ∷ more .sections; left = more .left })) ws
+
+-- all of this file computes where this is unfolded
+unfoldable pub opened : Unit {0}
+unfolding aSpelling aCount anEntry entries firstOf ofKind aParameter numbered anOperation someOperations nothing nextOf instructions after tokenSection aSection someSections
+opened = tt

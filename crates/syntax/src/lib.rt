@@ -1,0 +1,1 @@
+// From words to the tree, as definitions; this crate has no code.

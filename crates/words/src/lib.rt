@@ -1,0 +1,1 @@
+// From bytes to words, as definitions; this crate has no code.
