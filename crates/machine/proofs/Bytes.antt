@@ -1,10 +1,12 @@
 -- Words and bytes: each is the other, and an odd last byte counts for nothing.
-use mathlib.Core.Path.{_≡_, refl, sym, ap, _∙_}
-use mathlib.Core.List.{List, [], _∷_, _++_}
+use mathlib.Core.Path.{_≡_, refl, _∙_}
+use mathlib.Core.List.{List, [], _∷_}
+use mathlib.Core.Option.{none}
 use Prim.Native.Nat.{ℕ, zero, suc, _+_, _*_, _/_, _%_, _<_, _≤_}
 use native.Mathlib.Omega.{arith}
-use lib.ListN.{length, take, getD, length-take}
+use lib.ListN.{length, getD, getElem?, length-take}
 use Rattle.machine.specs.Bytes.{count, wordsOf, wordAt, tableOf, bytesOf}
+use Rattle.machine.specs.Decode.{fetch}
 
 pub length-wordsOf : (s : List ℕ) → length (wordsOf s) ≡ count s
 unfolding wordsOf count
@@ -48,3 +50,14 @@ bytesOf-wordsOf (h ∷ l ∷ s) b e =
 pub length-tableOf : (s : List ℕ) → length (tableOf s) ≤ 4096
 unfolding tableOf
 length-tableOf s = let e = length-take 4096 (wordsOf s) in omega arith
+
+past-end : (l : List ℕ) (i : ℕ) → length l ≤ i → getElem? l i ≡ none
+past-end [] i h = refl
+past-end (x ∷ l) zero h = absurd (omega arith)
+past-end (x ∷ l) (suc i) h = past-end l i (omega arith)
+
+-- "Table words past 4,096 are outside the table."
+pub fetch-past : (s : List ℕ) (l : ℕ) → 4096 < l → fetch (tableOf s) l ≡ none
+unfolding fetch
+fetch-past s zero h = absurd (omega arith)
+fetch-past s (suc i) h = let b = length-tableOf s in past-end (tableOf s) i (omega arith)

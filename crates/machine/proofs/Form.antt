@@ -2,17 +2,17 @@
 use mathlib.Core.Path.{_≡_, refl, sym, ap, _∙_, subst}
 use mathlib.Core.Bool.{Bool, true, false}
 use mathlib.Core.List.{List, [], _∷_, _++_, reverse, reverseAux, reverse-reverse}
-use mathlib.Core.Option.{Option, none, some}
-use Prim.Native.Nat.{ℕ, zero, suc, _+_, _*_, _-_, _/_, _%_, _<_, _≤_}
+use mathlib.Core.Option.{none, some}
+use Prim.Native.Nat.{ℕ, zero, suc, _-_, _<_, _≤_}
 use native.Mathlib.Omega.{arith}
 use native.Mathlib.Nat.{div-div-eq-div-mul}
 use lib.Dec.{eqb}
 use lib.ListN.{length, take, drop, getD, replicate, length-append, length-take, length-drop, length-reverse, length-replicate}
-use lib.Seq.{take-at, getD-drop}
+use lib.Seq.{take-at}
 use borrow.Author.Tests.{eq-eqb, eqb-true}
-use Rattle.base.specs.Common.{if_then_else_, same}
+use Rattle.base.specs.Common.{same}
 use Rattle.base.specs.Bools.{never, split}
-use Rattle.events.specs.Events.{Reason, finished, differs, missing, unlabelled, deep, unanswered, outside, reasonNumber, Io}
+use Rattle.events.specs.Events.{Reason, finished, differs, missing, unlabelled, deep, unanswered, outside, reasonNumber}
 use Rattle.machine.specs.Bytes.{count, wordsOf, bytesOf}
 use Rattle.machine.specs.Walk.{Phase, going, waiting, stopped, Walk}
 use Rattle.machine.specs.Form.{phaseWords, words64, returnWords, walkWords, walkBytes, reasonOf, phaseOf, number64, walkNamed, walkOf, Fits}

@@ -3,3 +3,4 @@ pub mod Table
 pub mod Lengths
 pub mod Bytes
 pub mod Form
+pub mod Facts

@@ -1,13 +1,12 @@
 -- Every word of a table is a word of 16 bits, if the program's own numbers are and the table has 4,096 words or fewer.
-use mathlib.Core.Path.{_≡_, refl}
 use mathlib.Core.Bool.{Bool, true, false}
 use mathlib.Core.List.{List, [], _∷_, _++_}
 use Prim.Native.Nat.{ℕ, zero, suc, _+_, _*_, _≤_, _<_}
 use native.Mathlib.Omega.{arith}
 use lib.ListN.{length, getD}
-use Rattle.base.specs.Tree.{Action, plain, cycle, choice, Actions, done, _▸_, Alternatives, nil, alternative, Otherwise, absent, otherwise}
+use Rattle.base.specs.Tree.{plain, cycle, choice, done, _▸_, nil, alternative, absent, otherwise}
 use Rattle.program.specs.Program.{Plain, match, any, emit, error, exit, call, back, give, update, updateWith, Selector, byToken, byRule, byOperation, byOperationWith, Act, Acts, Alts, Other, Rule, ruleOf}
-use Rattle.program.specs.Table.{sizePlain, sizeSelector, sizeAbsent, countLabels, size, sizes, sizeAlts, sizeOther, labelWords, tableWords, firstOf, firstLabel, absentWords, choiceNumber, selectorWords, plainWords, code, codes, codeAlts, codeOther, endWords, sizeRule, sizeRules, rulesWords, place, table}
+use Rattle.program.specs.Table.{sizePlain, sizeAbsent, countLabels, size, sizes, sizeAlts, sizeOther, labelWords, tableWords, firstOf, firstLabel, absentWords, choiceNumber, selectorWords, plainWords, code, codes, codeAlts, codeOther, endWords, sizeRule, sizeRules, rulesWords, place, table}
 use Rattle.program.proofs.Places.{place-fits}
 
 -- "Words of 16 bits"
@@ -28,7 +27,7 @@ all-getD d h all-nil i = h
 all-getD d h (all-cons w p g) zero = p
 all-getD d h (all-cons w p g) (suc i) = all-getD d h g i
 
--- A program's own numbers are words; of a rule that is called there are n
+-- The numbers that stand in a program are words, and the rules that it calls are among its n
 
 module _ (n : ℕ) where
   unfoldable pub SmallPlain : Plain → Type 0

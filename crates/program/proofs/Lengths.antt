@@ -1,13 +1,12 @@
 -- The words made are as many as the sizes say.
 use mathlib.Core.Path.{_≡_, refl}
-use mathlib.Core.Bool.{Bool, true, false}
-use mathlib.Core.List.{List, [], _∷_, _++_}
-use Prim.Native.Nat.{ℕ, zero, suc, _+_, _*_}
+use mathlib.Core.List.{List, [], _∷_}
+use Prim.Native.Nat.{ℕ, _+_, _*_}
 use native.Mathlib.Omega.{arith}
 use lib.ListN.{length, length-append}
-use Rattle.base.specs.Tree.{Action, plain, cycle, choice, Actions, done, _▸_, Alternatives, nil, alternative, Otherwise, absent, otherwise}
+use Rattle.base.specs.Tree.{plain, cycle, choice, done, _▸_, nil, alternative, absent, otherwise}
 use Rattle.program.specs.Program.{Plain, match, any, emit, error, exit, call, back, give, update, updateWith, Selector, byToken, byRule, byOperation, byOperationWith, Act, Acts, Alts, Other, Rule}
-use Rattle.program.specs.Table.{sizePlain, sizeSelector, sizeAbsent, countLabels, size, sizes, sizeAlts, sizeOther, labelWords, tableWords, firstLabel, absentWords, choiceNumber, selectorWords, plainWords, code, codes, codeAlts, codeOther, endWords, sizeRule, sizeRules, rulesWords, place, table}
+use Rattle.program.specs.Table.{sizePlain, sizeSelector, sizeAbsent, countLabels, size, sizes, sizeAlts, sizeOther, labelWords, tableWords, firstLabel, absentWords, selectorWords, plainWords, code, codes, codeAlts, codeOther, sizeRule, sizeRules, rulesWords, place, table}
 
 -- The choice table
 

@@ -1,4 +1,6 @@
--- The table's length is the sum of the sizes, its locations lie inside it, its words fit in 16 bits; facts by computing.
+-- The table's length is the sum of the sizes, its rules stand inside it, its words have 16 bits; and facts by computing.
 pub mod Lengths
 pub mod Places
 pub mod Bounds
+pub mod Facts
+pub mod AcceptedWords

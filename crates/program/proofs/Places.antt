@@ -2,15 +2,15 @@
 use mathlib.Core.Path.{_≡_, refl, sym, ap, _∙_}
 use mathlib.Core.Bool.{Bool, true, false}
 use mathlib.Core.List.{List, [], _∷_, _++_}
-use Prim.Native.Nat.{ℕ, zero, suc, _+_, _*_, _≤_, _<_}
+use Prim.Native.Nat.{ℕ, zero, suc, _+_, _≤_, _<_}
 use native.Mathlib.Omega.{arith}
 use native.Mathlib.Nat.{zero-add, suc-add}
-use lib.ListN.{length, length-append, getD, drop}
+use lib.ListN.{length, drop}
 use Rattle.base.specs.Bools.{never}
-use Rattle.base.specs.Tree.{Action, plain, cycle, choice, Actions, done, _▸_, Alternatives, nil, alternative, Otherwise, absent, otherwise}
+use Rattle.base.specs.Tree.{plain, cycle, choice, done, _▸_}
 use Rattle.program.specs.Program.{Plain, match, any, emit, error, exit, call, back, give, update, updateWith, Act, Acts, Rule, ruleOf, bodyOf}
-use Rattle.program.specs.Past.{past, pastAll}
-use Rattle.program.specs.Table.{sizePlain, sizeSelector, sizeAbsent, countLabels, size, sizes, sizeAlts, sizeOther, codes, endWords, sizeRule, sizeRules, rulesWords, place, table}
+use Rattle.program.specs.Past.{pastAll}
+use Rattle.program.specs.Table.{sizePlain, size, sizes, codes, endWords, sizeRule, sizeRules, rulesWords, place, table}
 use Rattle.program.proofs.Lengths.{length-codes, length-table}
 
 -- Where the rules stand

@@ -1,3 +1,4 @@
 pub mod Program
 pub mod Past
 pub mod Table
+pub mod Accepted

@@ -59,10 +59,10 @@ aParameter = on code "(" then (do pass; t ← aName; expect (code ")"); pure (so
 -- the operation w of the kind that begins at b, n of which stand before it: "256 operations a kind", the name at fault
 unfoldable pub numbered : Word → Option Word → ℕ → ℕ → Reader Operation
 numbered w t b n ws =
-    if eqb n 256 then fault 9 w
-    else (do
+    (if ltb n 256 then (do
       g ← optional twice aName
-      pure (record { operation = w; takes = t; gives = g; instruction = b + n })) ws
+      pure (record { operation = w; takes = t; gives = g; instruction = b + n }))
+    else (λ _. fault 9 w)) ws
 
 -- the kind is known once `(type)` is read or not there, and `>>` is seen or not
 unfoldable pub anOperation : ℕ → List ℕ → Reader Operation

@@ -1,7 +1,7 @@
 -- `machine::instruction_length` meets its contract: the constant table is `lengths`, and the laws of `lengthOf` say the rest.
 use mathlib.Core.Path.{sym}
 use native.Mathlib.Omega.{arith}
-use Rattle.machine.specs.Lengths.{lengths, lengthOf}
+use Rattle.machine.specs.Lengths.{lengths}
 use Rattle.machine.proofs.Lengths.{length-entry, length-none, length-between, length-operation, length-above}
 use borrow.Author.Needs.{needs}
 use Rattle.machine.proofs.instruction_length.Statement.{statement}

@@ -1,0 +1,279 @@
+-- What a text that the syntax pass reads through has: the laws follow the readers, one by one.
+use mathlib.Core.Bool.{Bool, true, false}
+use mathlib.Core.List.{List, [], _∷_}
+use mathlib.Core.Option.{Option, none, some}
+use mathlib.Core.Path.{_≡_, refl, sym, ap, _∙_}
+use Prim.Native.Char.{code}
+use Prim.Native.Nat.{ℕ, zero, suc, _+_, _-_, _<_, _≤_, max, min}
+use lib.Dec.{eqb, ltb}
+use lib.ListN.{length}
+use borrow.Author.Tests.{ltb-true, ltb-false}
+use native.Mathlib.Omega.{arith}
+use Rattle.acceptance.proofs.ReadLaws.{Gives, Any, any, no-got, bind, after, gives, refuses, either, on-kind, limited}
+use Rattle.acceptance.proofs.Shape.{Each, Defaulted, Shaped, ShapedAll, ShapedAlts, ShapedOther, ShapedChoices, NotEmpty, InRange, OfKind, SectionOk, WrittenOk}
+use Rattle.base.specs.Common.{if_then_else_, given}
+use Rattle.base.specs.Tree.{Action, plain, cycle, choice, Actions, done, _▸_, Alternatives, nil, alternative, Otherwise, absent, otherwise}
+use Rattle.syntax.specs.Actions.{aConstant, aPlain, aSelector, aLabel, someLabels, closes, aCycle, aChoice, anAction, anOtherwise, anAlternative, actions, alternatives}
+use Rattle.syntax.specs.Parse.{aRule, someRules, program, parse, endOf}
+use Rattle.syntax.specs.Reading.{Read, got, fault, Reader, onward, _>>=_, _>>_, pure, peek, pass, refuse, over, within, on_then_else_, expect, short, aName, oneName, small, aNumber, optional}
+use Rattle.syntax.specs.Sections.{aSpelling, aCount, anEntry, entries, firstOf, ofKind, aParameter, numbered, anOperation, someOperations, Sofar, nothing, after as afterSection, tokenSection, aSection, Sections, someSections}
+use Rattle.syntax.specs.Written.{Act, Acts, Alts, Other, Choices, Entry, Operation, Section, inputs, outputs, both, errors, values, operations, Rule, Program}
+use Rattle.words.specs.Words.{Word, words, last, twice, name, number, string, input, output, error, type, mechanism, rules, end, value}
+
+-- Entries
+
+small-in : Gives (λ n. n < 65536) small
+unfolding small over onward
+small-in ws a rest e = go (ltb 65535 (value 0 (peek ws .text))) refl e
+  where
+    got-in : (r : Read Word) → value 0 (peek ws .text) < 65536 → onward r (λ w. pure (value 0 (peek ws .text))) ≡ got a rest → a < 65536
+    got-in (got w more) h d = let x : value 0 (peek ws .text) ≡ a = cc in omega arith
+    got-in (fault n w) h d = no-got d
+    go : (t : Bool) → ltb 65535 (value 0 (peek ws .text)) ≡ t
+        → (if t then over ws else onward (pass ws) (λ w. pure (value 0 (peek ws .text)))) ≡ got a rest → a < 65536
+    go true t e₁ = no-got e₁
+    go false t e₁ = let h = ltb-false 65535 (value 0 (peek ws .text)) t in got-in (pass ws) (omega arith) e₁
+
+number-in : Gives (λ n. n < 65536) aNumber
+unfolding aNumber
+number-in = on-kind (λ n. n < 65536) number small refuse small-in (refuses (λ n. n < 65536))
+
+count-in : (w : Word) (v : ℕ) → Gives (λ n. n < 65536) (aCount w v)
+unfolding aCount
+count-in w v =
+    on-kind (λ n. n < 65536) (code "=") (_>>_ pass aNumber) (λ ws. if ltb 65535 v then fault 9 w else got v ws)
+    (after (λ n. n < 65536) pass aNumber number-in)
+    (λ ws a rest e. go ws a rest (ltb 65535 v) refl e)
+  where
+    go : (ws : List Word) (a : ℕ) (rest : List Word) (t : Bool) → ltb 65535 v ≡ t → (if t then fault 9 w else got v ws) ≡ got a rest → a < 65536
+    go ws a rest true t e = no-got e
+    go ws a rest false t e = let h = ltb-false 65535 v t in let x : v ≡ a = cc in omega arith
+
+entry-in : (left : ℕ) (strings : Bool) (v : ℕ) → Gives InRange (anEntry left strings v)
+unfolding anEntry
+entry-in left strings v =
+    bind InRange Any (oneName left) _ (any (oneName left)) (λ w _.
+    bind InRange Any (aSpelling strings) _ (any (aSpelling strings)) (λ s _.
+    bind InRange (λ n. n < 65536) (aCount w v) _ (count-in w v) (λ n h.
+    gives InRange (record { entry = w; spelt = s; value = n }) h)))
+
+entries-in : (k left : ℕ) (strings : Bool) (v : ℕ) → Gives (Each InRange) (entries k left strings v)
+unfolding entries Each
+entries-in zero left strings v = refuses (Each InRange)
+entries-in (suc k) left strings v =
+    bind (Each InRange) InRange (anEntry left strings v) _ (entry-in left strings v) (λ e h.
+    bind (Each InRange) (Each InRange) (on code ";" then (_>>_ pass (pure [])) else entries k (left - 1) strings (e .value + 1)) _
+    (on-kind (Each InRange) (code ";") (_>>_ pass (pure [])) (entries k (left - 1) strings (e .value + 1)) (after (Each InRange) pass (pure []) (gives (Each InRange) [] tt)) (entries-in k (left - 1) strings (e .value + 1)))
+    (λ more hs. gives (Each InRange) (e ∷ more) (h, hs)))
+
+-- Operations
+
+-- what is after an optional word is there exactly if the word is
+optional-given : {A : Type 0} (k : ℕ) (m : Reader A) (ws rest : List Word) (x : Option A) → optional k m ws ≡ got x rest → given x ≡ eqb (peek ws .kind) k
+unfolding optional on_then_else_ onward
+optional-given {A} k m ws rest x e = go (eqb (peek ws .kind) k) e
+  where
+    inner : (r : Read A) → onward r (λ a. pure (some a)) ≡ got x rest → given x ≡ true
+    inner (got a more) d = let y : some a ≡ x = cc in ap given (sym y)
+    inner (fault n w) d = no-got d
+    outer : (r : Read Word) → onward r (λ _. (_>>=_ m (λ a. pure (some a)))) ≡ got x rest → given x ≡ true
+    outer (got w more) d = inner (m more) d
+    outer (fault n w) d = no-got d
+    go : (t : Bool) → (if t then (_>>_ pass (_>>=_ m (λ a. pure (some a)))) else pure none) ws ≡ got x rest → given x ≡ t
+    go true d = outer (pass ws) d
+    go false d = let y : none ≡ x = cc in ap given (sym y)
+
+numbered-ok : (w : Word) (t : Option Word) (seen : List ℕ) (ws rest : List Word) (o : Operation)
+    → numbered w t (firstOf (given t) (eqb (peek ws .kind) twice)) (ofKind (firstOf (given t) (eqb (peek ws .kind) twice)) seen) ws ≡ got o rest → OfKind o
+unfolding numbered onward
+numbered-ok w t seen ws rest o e = go (ltb n 256) refl e
+  where
+    b : ℕ
+    b = firstOf (given t) (eqb (peek ws .kind) twice)
+    n : ℕ
+    n = ofKind b seen
+    made : Option Word → Operation
+    made g = record { operation = w; takes = t; gives = g; instruction = b + n }
+    made-ok : (g : Option Word) → n < 256 → given g ≡ eqb (peek ws .kind) twice → OfKind (made g)
+    made-ok g h d = record { low = rw d (omega arith); high = rw d (omega arith) }
+    inner : (r : Read (Option Word)) → optional twice aName ws ≡ r → n < 256 → onward r (λ g. pure (made g)) ≡ got o rest → OfKind o
+    inner (got g more) d h e₁ = let x : made g ≡ o = cc in rw x at (made-ok g h (optional-given twice aName ws more g d))
+    inner (fault m v) d h e₁ = no-got e₁
+    go : (u : Bool) → ltb n 256 ≡ u → (if u then (_>>=_ (optional twice aName) (λ g. pure (made g))) else (λ _. fault 9 w)) ws ≡ got o rest → OfKind o
+    go true u e₁ = inner (optional twice aName ws) refl (ltb-true n 256 u) e₁
+    go false u e₁ = no-got e₁
+
+operation-ok : (left : ℕ) (seen : List ℕ) → Gives OfKind (anOperation left seen)
+unfolding anOperation
+operation-ok left seen =
+    bind OfKind Any (oneName left) _ (any (oneName left)) (λ w _.
+    bind OfKind Any aParameter _ (any aParameter) (λ t _.
+    λ ws o rest e. numbered-ok w t seen ws rest o e))
+
+operations-ok : (k left : ℕ) (seen : List ℕ) → Gives (Each OfKind) (someOperations k left seen)
+unfolding someOperations Each
+operations-ok zero left seen = refuses (Each OfKind)
+operations-ok (suc k) left seen =
+    bind (Each OfKind) OfKind (anOperation left seen) _ (operation-ok left seen) (λ o h.
+    bind (Each OfKind) (Each OfKind) (on code ";" then (_>>_ pass (pure [])) else someOperations k (left - 1) (o .instruction ∷ seen)) _
+    (on-kind (Each OfKind) (code ";") (_>>_ pass (pure [])) (someOperations k (left - 1) (o .instruction ∷ seen)) (after (Each OfKind) pass (pure []) (gives (Each OfKind) [] tt)) (operations-ok k (left - 1) (o .instruction ∷ seen)))
+    (λ more hs. gives (Each OfKind) (o ∷ more) (h, hs)))
+
+-- Sections
+
+-- a colon, entries, and a section made of them
+section-of : (k left : ℕ) (strings : Bool) (v : ℕ) (make : List Entry → Section) → ((es : List Entry) → Each InRange es → SectionOk (make es))
+    → Gives SectionOk (_>>_ (expect (code ":")) (_>>=_ (entries k left strings v) (λ es. pure (make es))))
+section-of k left strings v make h =
+    after SectionOk (expect (code ":")) _ (bind SectionOk (Each InRange) (entries k left strings v) _ (entries-in k left strings v) (λ es hs. gives SectionOk (make es) (h es hs)))
+
+tokens-ok : (k : ℕ) (s : Sofar) → Gives SectionOk (tokenSection k s)
+unfolding tokenSection SectionOk
+tokens-ok k s =
+    on-kind SectionOk output _ _
+    (after SectionOk pass _ (section-of k (s .left) true (max (s .input) (s .output)) both (λ es h. h)))
+    (section-of k (s .left) true (s .input) inputs (λ es h. h))
+
+section-ok : (k : ℕ) (s : Sofar) → Gives SectionOk (aSection k s)
+unfolding aSection SectionOk
+section-ok k s =
+    on-kind SectionOk input _ _ (after SectionOk pass _ (tokens-ok k s))
+    (on-kind SectionOk output _ _ (after SectionOk pass _ (section-of k (s .left) true (s .output) outputs (λ es h. h)))
+    (on-kind SectionOk error _ _ (after SectionOk pass _ (section-of k (s .left) false (s .error) errors (λ es h. h)))
+    (on-kind SectionOk type _ _ (after SectionOk pass _ (bind SectionOk Any (oneName (s .left)) _ (any (oneName (s .left))) (λ w _. section-of k (s .left - 1) false 0 (values w) (λ es h. h))))
+    (after SectionOk (expect mechanism) _ (after SectionOk aName _ (after SectionOk (expect (code ":")) _
+    (bind SectionOk (Each OfKind) (someOperations k (s .left) (s .seen)) _ (operations-ok k (s .left) (s .seen)) (λ os h. gives SectionOk (operations os) h))))))))
+
+abbrev AllOk : Sections → Type 0
+AllOk x = Each SectionOk (x .sections)
+
+sections-ok : (k : ℕ) (s : Sofar) → Gives AllOk (someSections k s)
+unfolding someSections Each
+sections-ok zero s = refuses AllOk
+sections-ok (suc k) s =
+    on-kind AllOk rules _ _ (gives AllOk (record { sections = []; left = s .left }) tt)
+    (bind AllOk SectionOk (aSection k s) _ (section-ok k s) (λ x h.
+    bind AllOk AllOk (someSections k (afterSection s x)) _ (sections-ok k (afterSection s x)) (λ more hs.
+    gives AllOk (record { sections = x ∷ more .sections; left = more .left }) (h, hs))))
+
+-- Actions
+
+labels-ok : (k room : ℕ) → Gives NotEmpty (someLabels k room)
+unfolding someLabels NotEmpty
+labels-ok zero room = refuses NotEmpty
+labels-ok (suc k) room =
+    bind NotEmpty Any (aLabel room) _ (any (aLabel room)) (λ w _.
+    bind NotEmpty Any (on code "," then (_>>_ pass (someLabels k (room - 1))) else pure []) _ (any _) (λ more _.
+    gives NotEmpty (w ∷ more) tt))
+
+cycle-ok : (inner : Reader Acts) → Gives ShapedAll inner → Gives Shaped (aCycle inner)
+unfolding aCycle Shaped
+cycle-ok inner h = bind Shaped ShapedAll inner _ h (λ b hb. after Shaped (expect (code "}")) _ (gives Shaped (cycle b) hb))
+
+choice-ok : (choices : Reader Choices) → Gives ShapedChoices choices → Gives Shaped (aChoice choices)
+unfolding aChoice Shaped
+choice-ok choices h =
+    bind Shaped Any aSelector _ (any aSelector) (λ s _.
+    after Shaped (expect (code "|")) _
+    (bind Shaped ShapedChoices choices _ h (λ c hc. gives Shaped (choice s (c .labelled) (c .default)) (hc .labelled, hc .default, hc .defaulted))))
+
+action-ok : (inner : ℕ → Reader Acts) (choices : ℕ → Reader Choices) (left : ℕ) → ((n : ℕ) → Gives ShapedAll (inner n)) → ((n : ℕ) → Gives ShapedChoices (choices n))
+    → Gives Shaped (anAction inner choices left)
+unfolding anAction Shaped
+action-ok inner choices left h hc =
+    on-kind Shaped (code "{") _ _ (limited Shaped left _ (after Shaped pass _ (cycle-ok (inner (left - 1)) (h (left - 1)))))
+    (on-kind Shaped (code "[") _ _ (limited Shaped left _ (after Shaped pass _ (choice-ok (choices (left - 1)) (hc (left - 1)))))
+    (bind Shaped Any aPlain _ (any aPlain) (λ p _. gives Shaped (plain p) tt)))
+
+otherwise-ok : (inner : Reader Acts) → Gives ShapedAll inner → Gives ShapedChoices (anOtherwise inner)
+unfolding anOtherwise Shaped Defaulted
+otherwise-ok inner h =
+    after ShapedChoices (expect (code ":")) _
+    (bind ShapedChoices ShapedAll inner _ h (λ b hb.
+    after ShapedChoices (expect (code "]")) _ (gives ShapedChoices (record { labelled = nil; default = otherwise b }) (record { labelled = tt; default = hb; defaulted = tt }))))
+
+-- what follows an alternative: more of them, or the end of the choice
+abbrev Later : Choices → Type 0
+Later c = ShapedAlts (c .labelled) × ShapedOther (c .default)
+
+defaulted : (o : Other) (ls : List Word) (b : Acts) (q : Alts) → NotEmpty ls → Defaulted o (alternative ls b q)
+unfolding Defaulted NotEmpty
+defaulted absent [] b q h = h
+defaulted absent (w ∷ ws) b q h = tt
+defaulted (otherwise d) ls b q h = tt
+
+alternative-ok : (k room : ℕ) (inner : Reader Acts) (more : ℕ → Reader Choices) → Gives ShapedAll inner → ((n : ℕ) → Gives ShapedChoices (more n))
+    → Gives ShapedChoices (anAlternative k room inner more)
+unfolding anAlternative Shaped
+alternative-ok k room inner more h hm =
+    bind ShapedChoices NotEmpty (someLabels k room) _ (labels-ok k room) (λ ls hl.
+    after ShapedChoices (expect (code ":")) _
+    (bind ShapedChoices ShapedAll inner _ h (λ b hb.
+    bind ShapedChoices Later
+    (on code "|" then (_>>_ pass (more (room - length ls))) else (_>>_ (expect (code "]")) (pure (record { labelled = nil; default = absent })))) _
+    (on-kind Later (code "|") _ _
+    (after Later pass _ (λ ws c rest e. let x = hm (room - length ls) ws c rest e in (x .labelled, x .default)))
+    (after Later (expect (code "]")) _ (gives Later (record { labelled = nil; default = absent }) (tt, tt))))
+    (λ c hc. gives ShapedChoices (record { labelled = alternative ls b (c .labelled); default = c .default })
+    (record { labelled = (hb, hc .0); default = hc .1; defaulted = defaulted (c .default) ls b (c .labelled) hl })))))
+
+mutual
+  unfolding actions Shaped
+
+  actions-ok : (k left : ℕ) → Gives ShapedAll (actions k left)
+  actions-ok zero left = refuses ShapedAll
+  actions-ok (suc k) left = λ ws a rest e.
+      either ShapedAll (closes (peek ws .kind)) (pure done) _ (gives ShapedAll done tt)
+      (bind ShapedAll Shaped (anAction (λ l ws. actions k l ws) (λ l ws. alternatives k l 64 ws) left) _
+      (action-ok (λ l ws. actions k l ws) (λ l ws. alternatives k l 64 ws) left (λ n. actions-ok k n) (λ n. alternatives-ok k n 64))
+      (λ x hx. bind ShapedAll ShapedAll (actions k left) _ (actions-ok k left) (λ q hq. gives ShapedAll (x ▸ q) (hx, hq)))) ws a rest e
+
+  alternatives-ok : (k left room : ℕ) → Gives ShapedChoices (alternatives k left room)
+  alternatives-ok zero left room = refuses ShapedChoices
+  alternatives-ok (suc k) left room =
+      on-kind ShapedChoices (code "*") _ _ (after ShapedChoices pass _ (otherwise-ok (λ ws. actions k left ws) (actions-ok k left)))
+      (alternative-ok k room (λ ws. actions k left ws) (λ n ws. alternatives k left n ws) (actions-ok k left) (λ n. alternatives-ok k left n))
+
+-- Rules
+
+abbrev RuleOk : Rule → Type 0
+RuleOk r = ShapedAll (r .body)
+
+rule-ok : (k left : ℕ) → Gives RuleOk (aRule k left)
+unfolding aRule
+rule-ok k left =
+    bind RuleOk Any (oneName left) _ (any (oneName left)) (λ w _.
+    bind RuleOk Any (optional twice aName) _ (any (optional twice aName)) (λ g _.
+    after RuleOk (expect (code ":")) _
+    (bind RuleOk ShapedAll (actions k 32) _ (actions-ok k 32) (λ b h.
+    bind RuleOk Any (expect (code ";")) _ (any (expect (code ";"))) (λ e _.
+    gives RuleOk (record { rule = w; gives = g; body = b; closing = e }) h)))))
+
+abbrev RulesOk : List Rule → Type 0
+RulesOk rs = Each RuleOk rs × NotEmpty rs
+
+rules-ok : (k left : ℕ) → Gives RulesOk (someRules k left)
+unfolding someRules Each NotEmpty
+rules-ok zero left = refuses RulesOk
+rules-ok (suc k) left =
+    bind RulesOk RuleOk (aRule k left) _ (rule-ok k left) (λ r h.
+    bind RulesOk (Each RuleOk) (on name then someRules k (left - 1) else pure []) _
+    (on-kind (Each RuleOk) name _ _ (λ ws a rest e. rules-ok k (left - 1) ws a rest e .0) (gives (Each RuleOk) [] tt))
+    (λ more hs. gives RulesOk (r ∷ more) ((h, hs), tt)))
+
+program-ok : (k : ℕ) → Gives WrittenOk (program k)
+unfolding program
+program-ok k =
+    bind WrittenOk AllOk (someSections k nothing) _ (sections-ok k nothing) (λ s hs.
+    after WrittenOk (expect rules) _
+    (bind WrittenOk RulesOk (someRules k (min 128 (s .left))) _ (rules-ok k (min 128 (s .left))) (λ rs hr.
+    after WrittenOk (expect end) _
+    (after WrittenOk (expect last) _ (gives WrittenOk (record { sections = s .sections; rules = rs }) (record { sections = hs; rules = hr .0; some-rule = hr .1 }))))))
+
+pub parse-ok : (text : List ℕ) (p : Program) (rest : List Word) → parse text ≡ got p rest → WrittenOk p
+unfolding parse
+parse-ok text p rest e = go (ltb 32768 (length text)) e
+  where
+    go : (t : Bool) → (if t then fault 9 (endOf text) else program (length text + 1) (words text)) ≡ got p rest → WrittenOk p
+    go true e₁ = no-got e₁
+    go false e₁ = program-ok (length text + 1) (words text) p rest e₁

@@ -1,0 +1,1 @@
+// What acceptance by the processor implies, as theorems; this crate has no code.

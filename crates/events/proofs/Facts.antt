@@ -1,0 +1,124 @@
+-- What the definitions give, against values worked out from document 01 by hand.
+use mathlib.Core.Bool.{Bool, true, false, _&&_, not}
+use mathlib.Core.List.{List, [], _∷_, _++_}
+use mathlib.Core.Option.{Option, none, some}
+use Prim.Native.Nat.{ℕ}
+use lib.Dec.{T, eqb}
+use Rattle.base.specs.Common.{if_then_else_, same}
+use Rattle.events.specs.Events
+use Rattle.events.specs.Events.{Event, output, signal, operation, operationWith, eventWords, Reason, finished, differs, missing, unlabelled, deep, unanswered, outside, reasonNumber, Io, present, answer, took, wrote, answered, is}
+
+-- Events and reasons
+
+pub record Words : Type 0 where
+  pub event : Event
+  pub words : List ℕ
+
+abbrev pub says : Event → ℕ → ℕ → ℕ → Words
+says e a b c = record { event = e; words = a ∷ b ∷ c ∷ [] }
+
+-- "1, output token, 0; 2, error, 0; 3, the operation's instruction number, its parameter or 0"
+pub events : List Words
+events =
+    says (output 0) 1 0 0
+    ∷ says (output 7) 1 7 0
+    ∷ says (signal 10) 2 10 0
+    ∷ says (operation 256) 3 256 0
+    ∷ says (operation 1023) 3 1023 0
+    ∷ says (operationWith 512 9) 3 512 9
+    ∷ says (operationWith 1024 0) 3 1024 0
+    ∷ says (operationWith 1279 65535) 3 1279 65535
+    ∷ []
+
+pub allSay : List Words → Bool
+allSay [] = true
+allSay (w ∷ ws) = same (eventWords (w .event)) (w .words) && allSay ws
+
+pub events-say : T (allSay events)
+unfolding events allSay Events.opened
+events-say = tt
+
+pub numbers : List Reason → List ℕ
+numbers [] = []
+numbers (r ∷ rs) = reasonNumber r ∷ numbers rs
+
+-- 0, 30 to 34 and 37, in this order
+pub reasons-number : T (same (numbers (finished ∷ differs ∷ missing ∷ unlabelled ∷ deep ∷ unanswered ∷ outside ∷ [])) (0 ∷ 30 ∷ 31 ∷ 32 ∷ 33 ∷ 34 ∷ 37 ∷ []))
+unfolding numbers Events.opened
+reasons-number = tt
+
+-- Tokens and answers
+
+abbrev pub io : ℕ → ℕ → List Event → Io
+io r u es = record { read = r; used = u; events = es }
+
+pub record Look : Type 0 where
+  pub list : List ℕ
+  pub read : ℕ
+  pub used : ℕ
+  pub token : Option ℕ
+  pub reply : Option ℕ
+
+abbrev pub look : List ℕ → ℕ → ℕ → Option ℕ → Option ℕ → Look
+look l r u t a = record { list = l; read = r; used = u; token = t; reply = a }
+
+-- the same list as tokens and as answers, with so many read and so many used: the present token and the next answer
+pub looks : List Look
+looks =
+    look [] 0 0 none none
+    ∷ look (5 ∷ 6 ∷ []) 0 0 (some 5) (some 5)
+    ∷ look (5 ∷ 6 ∷ []) 0 1 (some 5) (some 6)
+    ∷ look (5 ∷ 6 ∷ []) 1 0 (some 6) (some 5)
+    ∷ look (5 ∷ 6 ∷ []) 1 2 (some 6) none
+    ∷ look (5 ∷ 6 ∷ []) 2 1 none (some 6)
+    ∷ look (5 ∷ 6 ∷ []) 2 2 none none
+    ∷ look (5 ∷ 6 ∷ []) 3 900 none none
+    ∷ look (0 ∷ []) 0 1 (some 0) none
+    ∷ look (0 ∷ []) 1 0 none (some 0)
+    ∷ look (5 ∷ []) 18446744073709551615 18446744073709551615 none none
+    ∷ []
+
+abbrev pub alike : Option ℕ → Option ℕ → Bool
+alike none none = true
+alike none (some v) = false
+alike (some u) none = false
+alike (some u) (some v) = eqb u v
+
+pub allLook : List Look → Bool
+allLook [] = true
+allLook (l ∷ ls) =
+    let at = io (l .read) (l .used) [] in
+    alike (present (l .list) at) (l .token) && alike (answer (l .list) at) (l .reply) && allLook ls
+
+pub all-look : T (allLook looks)
+unfolding looks allLook Events.opened
+all-look = tt
+
+-- "30 token differs from the one required, or none": also where the token required is 0
+pub tokens-required : T (is 5 (some 5) && is 0 (some 0) && not (is 5 (some 6)) && not (is 0 (some 1)) && not (is 0 none) && not (is 5 none))
+unfolding Events.opened
+tokens-required = tt
+
+-- What changes
+
+pub wordsOf : List Event → List ℕ
+wordsOf [] = []
+wordsOf (e ∷ es) = eventWords e ++ wordsOf es
+
+pub isIo : Io → ℕ → ℕ → List ℕ → Bool
+isIo x r u ws = eqb (x .read) r && eqb (x .used) u && same (wordsOf (x .events)) ws
+
+-- one token more is read, an event is written behind the others, one answer more is used; nothing else changes
+pub changes : T (isIo (took (io 3 4 (output 1 ∷ []))) 4 4 (1 ∷ 1 ∷ 0 ∷ [])
+    && isIo (wrote (signal 2) (io 3 4 (output 1 ∷ []))) 3 4 (1 ∷ 1 ∷ 0 ∷ 2 ∷ 2 ∷ 0 ∷ [])
+    && isIo (wrote (operationWith 512 8) (io 0 0 [])) 0 0 (3 ∷ 512 ∷ 8 ∷ [])
+    && isIo (answered (io 3 4 (output 1 ∷ []))) 3 5 (1 ∷ 1 ∷ 0 ∷ []))
+unfolding isIo wordsOf Events.opened
+changes = tt
+
+-- "answers used, 64 bits wide, stops at its greatest"
+pub greatest : T (isIo (answered (io 0 18446744073709551613 [])) 0 18446744073709551614 []
+    && isIo (answered (io 0 18446744073709551614 [])) 0 18446744073709551615 []
+    && isIo (answered (io 0 18446744073709551615 [])) 0 18446744073709551615 [])
+unfolding isIo wordsOf Events.opened
+greatest = tt
