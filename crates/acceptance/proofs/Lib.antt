@@ -2,3 +2,7 @@
 pub mod ReadLaws
 pub mod Shape
 pub mod Parsed
+pub mod CheckLaws
+pub mod NamesOk
+pub mod Resolved
+pub mod Accepts

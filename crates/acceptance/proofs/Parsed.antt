@@ -29,6 +29,7 @@ small-in ws a rest e = go (ltb 65535 (value 0 (peek ws .text))) refl e
     got-in : (r : Read Word) → value 0 (peek ws .text) < 65536 → onward r (λ w. pure (value 0 (peek ws .text))) ≡ got a rest → a < 65536
     got-in (got w more) h d = let x : value 0 (peek ws .text) ≡ a = cc in omega arith
     got-in (fault n w) h d = no-got d
+
     go : (t : Bool) → ltb 65535 (value 0 (peek ws .text)) ≡ t
         → (if t then over ws else onward (pass ws) (λ w. pure (value 0 (peek ws .text)))) ≡ got a rest → a < 65536
     go true t e₁ = no-got e₁
@@ -76,9 +77,11 @@ optional-given {A} k m ws rest x e = go (eqb (peek ws .kind) k) e
     inner : (r : Read A) → onward r (λ a. pure (some a)) ≡ got x rest → given x ≡ true
     inner (got a more) d = let y : some a ≡ x = cc in ap given (sym y)
     inner (fault n w) d = no-got d
+
     outer : (r : Read Word) → onward r (λ _. (_>>=_ m (λ a. pure (some a)))) ≡ got x rest → given x ≡ true
     outer (got w more) d = inner (m more) d
     outer (fault n w) d = no-got d
+
     go : (t : Bool) → (if t then (_>>_ pass (_>>=_ m (λ a. pure (some a)))) else pure none) ws ≡ got x rest → given x ≡ t
     go true d = outer (pass ws) d
     go false d = let y : none ≡ x = cc in ap given (sym y)
@@ -90,15 +93,20 @@ numbered-ok w t seen ws rest o e = go (ltb n 256) refl e
   where
     b : ℕ
     b = firstOf (given t) (eqb (peek ws .kind) twice)
+
     n : ℕ
     n = ofKind b seen
+
     made : Option Word → Operation
     made g = record { operation = w; takes = t; gives = g; instruction = b + n }
+
     made-ok : (g : Option Word) → n < 256 → given g ≡ eqb (peek ws .kind) twice → OfKind (made g)
     made-ok g h d = record { low = rw d (omega arith); high = rw d (omega arith) }
+
     inner : (r : Read (Option Word)) → optional twice aName ws ≡ r → n < 256 → onward r (λ g. pure (made g)) ≡ got o rest → OfKind o
     inner (got g more) d h e₁ = let x : made g ≡ o = cc in rw x at (made-ok g h (optional-given twice aName ws more g d))
     inner (fault m v) d h e₁ = no-got e₁
+
     go : (u : Bool) → ltb n 256 ≡ u → (if u then (_>>=_ (optional twice aName) (λ g. pure (made g))) else (λ _. fault 9 w)) ws ≡ got o rest → OfKind o
     go true u e₁ = inner (optional twice aName ws) refl (ltb-true n 256 u) e₁
     go false u e₁ = no-got e₁

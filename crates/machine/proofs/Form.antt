@@ -8,15 +8,15 @@ use native.Mathlib.Omega.{arith}
 use native.Mathlib.Nat.{div-div-eq-div-mul}
 use lib.Dec.{eqb}
 use lib.ListN.{length, take, drop, getD, replicate, length-append, length-take, length-drop, length-reverse, length-replicate}
-use lib.Seq.{take-at}
+use lib.Seq.{take-at, take-take}
 use borrow.Author.Tests.{eq-eqb, eqb-true}
 use Rattle.base.specs.Common.{same}
 use Rattle.base.specs.Bools.{never, split}
 use Rattle.events.specs.Events.{Reason, finished, differs, missing, unlabelled, deep, unanswered, outside, reasonNumber}
-use Rattle.machine.specs.Bytes.{count, wordsOf, bytesOf}
+use Rattle.machine.specs.Bytes.{wordsOf, bytesOf}
 use Rattle.machine.specs.Walk.{Phase, going, waiting, stopped, Walk}
 use Rattle.machine.specs.Form.{phaseWords, words64, returnWords, walkWords, walkBytes, reasonOf, phaseOf, number64, walkNamed, walkOf, Fits}
-use Rattle.machine.proofs.Bytes.{length-wordsOf, wordsOf-bytesOf, length-bytesOf}
+use Rattle.machine.proofs.Bytes.{wordsOf-bytesOf, length-bytesOf}
 
 -- The test of two lists
 
@@ -52,9 +52,9 @@ number64-words64 n rest =
     let b = div-div-eq-div-mul n 4294967296 65536 in
     omega arith
 
-returns-back : (rs : List ℕ) → reverse (take (length rs) (returnWords rs)) ≡ rs
+returns-back : (rs : List ℕ) → length rs ≤ 64 → reverse (take (length rs) (take 64 (returnWords rs))) ≡ rs
 unfolding returnWords
-returns-back rs = rw (take-at (reverse rs) (replicate (64 - length rs) 0) (length rs) (length-reverse rs)) (reverse-reverse rs)
+returns-back rs h = rw (take-take (length rs) 64 (reverse rs ++ replicate (64 - length rs) 0) h, take-at (reverse rs) (replicate (64 - length rs) 0) (length rs) (length-reverse rs)) (reverse-reverse rs)
 
 -- the words after those of the phase
 afterPhase : Walk → List ℕ
@@ -62,14 +62,14 @@ afterPhase w =
     w .location ∷ w .result ∷ w .parameter ∷ length (w .returns)
     ∷ (words64 (w .io .read) ++ (words64 (w .io .used) ++ returnWords (w .returns)))
 
-named : (a b : ℕ) (w : Walk) → w .io .events ≡ [] → phaseOf a b ≡ w .phase → walkNamed (a ∷ b ∷ afterPhase w) ≡ w
+named : (a b : ℕ) (w : Walk) → length (w .returns) ≤ 64 → w .io .events ≡ [] → phaseOf a b ≡ w .phase → walkNamed (a ∷ b ∷ afterPhase w) ≡ w
 unfolding walkNamed afterPhase words64
-named a b w e p = λ i. record {
+named a b w d e p = λ i. record {
   phase = p i;
   location = w .location;
   result = w .result;
   parameter = w .parameter;
-  returns = returns-back (w .returns) i;
+  returns = returns-back (w .returns) d i;
   io = record {
     read = number64-words64 (w .io .read) (words64 (w .io .used) ++ returnWords (w .returns)) i;
     used = number64-words64 (w .io .used) (returnWords (w .returns)) i;
@@ -77,20 +77,20 @@ named a b w e p = λ i. record {
   };
 }
 
-namedIn : (p : Phase) (w : Walk) → w .io .events ≡ [] → p ≡ w .phase → walkNamed (phaseWords p ++ afterPhase w) ≡ w
+namedIn : (p : Phase) (w : Walk) → length (w .returns) ≤ 64 → w .io .events ≡ [] → p ≡ w .phase → walkNamed (phaseWords p ++ afterPhase w) ≡ w
 unfolding phaseWords phaseOf
-namedIn going w e q = named 0 0 w e q
-namedIn waiting w e q = named 1 0 w e q
-namedIn (stopped r) w e q = named 2 (reasonNumber r) w e (ap stopped (reasonOf-number r) ∙ q)
+namedIn going w d e q = named 0 0 w d e q
+namedIn waiting w d e q = named 1 0 w d e q
+namedIn (stopped r) w d e q = named 2 (reasonNumber r) w d e (ap stopped (reasonOf-number r) ∙ q)
 
-walkNamed-walkWords : (w : Walk) → w .io .events ≡ [] → walkNamed (walkWords w) ≡ w
+walkNamed-walkWords : (w : Walk) → length (w .returns) ≤ 64 → w .io .events ≡ [] → walkNamed (walkWords w) ≡ w
 unfolding walkWords afterPhase
-walkNamed-walkWords w e = namedIn (w .phase) w e refl
+walkNamed-walkWords w d e = namedIn (w .phase) w d e refl
 
 pub walkOf-walkBytes : (w : Walk) → Fits w → walkOf (walkBytes w) ≡ some w
 unfolding walkOf walkBytes
 walkOf-walkBytes w f =
-    let e : walkNamed (wordsOf (bytesOf (walkWords w))) ≡ w = ap walkNamed (wordsOf-bytesOf (walkWords w)) ∙ walkNamed-walkWords w (f .events) in
+    let e : walkNamed (wordsOf (bytesOf (walkWords w))) ≡ w = ap walkNamed (wordsOf-bytesOf (walkWords w)) ∙ walkNamed-walkWords w (f .depth) (f .events) in
     rw (e, same-refl (bytesOf (walkWords w)))
 
 -- From bytes to a walk and back
@@ -159,25 +159,28 @@ small-number : (ws : List ℕ) → Small ws → number64 ws < 184467440737095516
 unfolding number64
 small-number ws b = omega (arith, b 0, b 1, b 2, b 3)
 
-fits-named : (ws : List ℕ) → length ws ≡ 78 → Small ws → Fits (walkNamed ws)
+fits-named : (ws : List ℕ) → Small ws → Fits (walkNamed ws)
 unfolding walkNamed
-fits-named ws e b = record {
+fits-named ws b = record {
   location = b 2;
   result = b 3;
   parameter = b 4;
   depth = simp (length-reverse, length-take, length-drop) (omega arith);
-  returns = λ i h. small-reverse (take (getD ws 5 0) (drop 14 ws)) [] (small-take (getD ws 5 0) (drop 14 ws) (small-drop 14 ws b)) (λ k. omega arith) i;
+  returns = λ i h. small-reverse (take (getD ws 5 0) (take 64 (drop 14 ws))) [] (small-take (getD ws 5 0) (take 64 (drop 14 ws)) (small-take 64 (drop 14 ws) (small-drop 14 ws b))) (λ k. omega arith) i;
   read = small-number (drop 6 ws) (small-drop 6 ws b);
   used = small-number (drop 10 ws) (small-drop 10 ws b);
   events = refl;
 }
 
-pub walkOf-fits : (s : List ℕ) (w : Walk) → ((i : ℕ) → getD s i 0 < 256) → length s ≡ 156 → walkOf s ≡ some w → Fits w
-unfolding walkOf count
-walkOf-fits s w b l e =
+pub walkOf-fits : (s : List ℕ) (w : Walk) → ((i : ℕ) → getD s i 0 < 256) → walkOf s ≡ some w → Fits w
+unfolding walkOf
+walkOf-fits s w b e =
     split (same (walkBytes (walkNamed (wordsOf s))) s)
     (λ t. let v : some (walkNamed (wordsOf s)) ≡ some w = rw t at e in
     let u : walkNamed (wordsOf s) ≡ w = cc in
-    let n = length-wordsOf s in
-    subst Fits u (fits-named (wordsOf s) (omega arith) (small-words s b)))
+    subst Fits u (fits-named (wordsOf s) (small-words s b)))
     (λ f. let v : none ≡ some w = rw f at e in let z : _≡_ {A = Bool} false true = cc in never z)
+
+-- a walk is 156 bytes
+pub walkOf-length : (s : List ℕ) (w : Walk) → ((i : ℕ) → getD s i 0 < 256) → walkOf s ≡ some w → length s ≡ 156
+walkOf-length s w b e = rw (walkBytes-walkOf s w e) at (walkBytes-length w (walkOf-fits s w b e))

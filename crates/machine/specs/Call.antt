@@ -78,8 +78,8 @@ module _ (T tokens : List ℕ) where
   callIn waiting (whole answers) budget room w = refuses w
   callIn waiting (paused none) budget room w = refuses w
   callIn waiting (paused (some x)) budget room w = run budget (paused none) room 0 (withAnswer x (atRest w))
-  callIn (stopped r) (whole answers) budget room w = ends (reasonNumber r) 0 w
-  callIn (stopped r) (paused none) budget room w = ends (reasonNumber r) 0 w
+  callIn (stopped r) (whole answers) budget room w = ends (reasonNumber r) 0 (atRest w)
+  callIn (stopped r) (paused none) budget room w = ends (reasonNumber r) 0 (atRest w)
   callIn (stopped r) (paused (some x)) budget room w = refuses w
 
   -- a call with a budget and an event buffer of so many words

@@ -53,7 +53,7 @@ walkNamed ws = record {
   location = getD ws 2 0;
   result = getD ws 3 0;
   parameter = getD ws 4 0;
-  returns = reverse (take (getD ws 5 0) (drop 14 ws));
+  returns = reverse (take (getD ws 5 0) (take 64 (drop 14 ws)));
   io = record { read = number64 (drop 6 ws); used = number64 (drop 10 ws); events = [] };
 }
 

@@ -25,6 +25,15 @@ pub record Chooses : Type 0 where
   pub by : means.Selector
   pub labels : List Known
 
+-- an operation with its parameter, if it has one
+abbrev pub updating : ℕ → Option ℕ → means.Plain
+updating op none = means.update op
+updating op (some v) = means.updateWith op v
+
+abbrev pub choosing : ℕ → Option ℕ → means.Selector
+choosing op none = means.byOperation op
+choosing op (some v) = means.byOperationWith op v
+
 module _ (p : Program) (n : Names) (rules : List KnownRule) where
   -- an operation of the name
   unfoldable pub operationOf : Word → Checked KnownOperation
@@ -44,10 +53,6 @@ module _ (p : Program) (n : Names) (rules : List KnownRule) where
   parameterOf w (some ks) (some c) = do
     v ← lookup p ks (c .constant)
     good (some v)
-
-  abbrev updating : ℕ → Option ℕ → means.Plain
-  updating op none = means.update op
-  updating op (some v) = means.updateWith op v
 
   -- an update operation with its constant: "wrong sort of .. operation"
   unfoldable pub updateOf : Word → Option Constant → Checked means.Plain
@@ -90,10 +95,6 @@ module _ (p : Program) (n : Names) (rules : List KnownRule) where
   -- the members of a type; one that is not declared has none (R6)
   unfoldable pub membersOf : List ℕ → List Known
   membersOf t = elim (findType t (n .types)) [ some ks ↦ ks | none ↦ [] ]
-
-  abbrev choosing : ℕ → Option ℕ → means.Selector
-  choosing op none = means.byOperation op
-  choosing op (some v) = means.byOperationWith op v
 
   -- "wrong sort of rule or operation"
   unfoldable pub selectorOf : written.Selector → Checked Chooses

@@ -1,0 +1,182 @@
+-- What the declarations leave: every value of every class in range, every operation's instruction number of its kind.
+use mathlib.Core.Bool.{Bool, true, false, _||_}
+use mathlib.Core.List.{List, [], _∷_, _++_}
+use mathlib.Core.Option.{Option, none, some}
+use mathlib.Core.Path.{_≡_, refl, sym, ap, _∙_}
+use Prim.Native.Nat.{ℕ, zero, suc, _+_, _<_, _≤_}
+use native.Mathlib.Omega.{arith}
+use Rattle.acceptance.proofs.CheckLaws.{Yields, no-good, yields, never, next, passed}
+use Rattle.acceptance.proofs.Shape.{Each, InRange, OfKind, SectionOk}
+use Rattle.base.specs.Common.{if_then_else_, same, given}
+use Rattle.names.specs.Declare.{knowns, repeats, clashes, declareAll, declareBoth, withOperations, declareOperations, declareSection, declareSections}
+use Rattle.names.specs.Known.{Checked, good, wrong, _>>=_, faultIf, Known, KnownType, KnownOperation, Names, find, findType, findOperation, elsewhere, lookup, isType, lookupType, optionalType}
+use Rattle.syntax.specs.Sections.{firstOf}
+use Rattle.syntax.specs.Written.{Entry, Operation, Section, inputs, outputs, both, errors, values, operations, Program}
+use Rattle.words.specs.Words.{Word}
+
+abbrev pub KnownOk : Known → Type 0
+KnownOk k = k .value < 65536
+
+abbrev pub TypeOk : KnownType → Type 0
+TypeOk t = Each KnownOk (t .members)
+
+-- the members of a type that is there
+unfoldable pub MembersOk : Option (List Known) → Type 0
+MembersOk none = Unit {0}
+MembersOk (some ks) = Each KnownOk ks
+
+pub record OperationOk (o : KnownOperation) : Type 0 where
+  pub low : firstOf (given (o .takes)) (given (o .gives)) ≤ o .instruction
+  pub high : o .instruction < firstOf (given (o .takes)) (given (o .gives)) + 256
+  pub takes : MembersOk (o .takes)
+  pub gives : MembersOk (o .gives)
+
+pub record NamesOk (n : Names) : Type 0 where
+  pub inputs : Each KnownOk (n .inputs)
+  pub outputs : Each KnownOk (n .outputs)
+  pub errors : Each KnownOk (n .errors)
+  pub types : Each TypeOk (n .types)
+  pub operations : Each OperationOk (n .operations)
+
+each-append : {A : Type 0} (P : A → Type 0) (xs ys : List A) → Each P xs → Each P ys → Each P (xs ++ ys)
+unfolding Each
+each-append P [] ys h k = k
+each-append P (x ∷ xs) ys h k = (h .0, each-append P xs ys (h .1) k)
+
+one-more : {A : Type 0} (P : A → Type 0) (xs : List A) (y : A) → Each P xs → P y → Each P (xs ++ (y ∷ []))
+unfolding Each
+one-more P xs y h k = each-append P xs (y ∷ []) h (k, tt)
+
+-- Looking up
+
+-- the first of a list that passes a test, or a later one
+picked : {A : Type 0} (P : A → Type 0) (t : Bool) (a v : A) (later : Option A) → P a → (later ≡ some v → P v) → (if t then some a else later) ≡ some v → P v
+picked P true a v later h k e = let x : a ≡ v = cc in rw x at h
+picked P false a v later h k e = k e
+
+none-some {ℓ} : {A : Type 0} {B : Type ℓ} {a : A} → none ≡ some a → B
+none-some e = let z : _≡_ {A = ℕ} 0 1 = cc in absurd (omega arith)
+
+pub find-in : (w : List ℕ) (ks : List Known) (v : ℕ) → Each KnownOk ks → find w ks ≡ some v → v < 65536
+unfolding Each find
+find-in w [] v h e = none-some e
+find-in w (k ∷ ks) v h e = picked (λ x. x < 65536) (same w (k .named)) (k .value) v (find w ks) (h .0) (find-in w ks v (h .1)) e
+
+pub lookup-in : (p : Program) (ks : List Known) (w : Word) → Each KnownOk ks → Yields (λ v. v < 65536) (lookup p ks w)
+unfolding lookup elsewhere
+lookup-in p ks w h v e = go (find (w .text) ks) refl e
+  where
+    go : (o : Option ℕ) → find (w .text) ks ≡ o → elim o as (λ _. Checked ℕ) [ some x ↦ good x | none ↦ elsewhere p w ] ≡ good v → v < 65536
+    go none d e₁ = no-good e₁
+    go (some x) d e₁ = let y : x ≡ v = cc in rw y at (find-in (w .text) ks x h d)
+
+pub find-type-in : (w : List ℕ) (ts : List KnownType) (ks : List Known) → Each TypeOk ts → findType w ts ≡ some ks → Each KnownOk ks
+unfolding Each findType
+find-type-in w [] ks h e = none-some e
+find-type-in w (t ∷ ts) ks h e = picked (Each KnownOk) (same w (t .named)) (t .members) ks (findType w ts) (h .0) (find-type-in w ts ks (h .1)) e
+
+find-operation-in : (w : List ℕ) (os : List KnownOperation) (o : KnownOperation) → Each OperationOk os → findOperation w os ≡ some o → OperationOk o
+unfolding Each findOperation
+find-operation-in w [] o h e = none-some e
+find-operation-in w (k ∷ ks) o h e = picked OperationOk (same w (k .named)) k o (findOperation w ks) (h .0) (find-operation-in w ks o (h .1)) e
+
+pub operation-in : (w : List ℕ) (n : Names) (o : KnownOperation) → NamesOk n → findOperation w (n .operations) ≡ some o → OperationOk o
+operation-in w n o h e = find-operation-in w (n .operations) o (h .operations) e
+
+-- the members found are in range, and there is a type exactly if one was written
+pub record Typed (x : Option Word) (t : Option (List Known)) : Type 0 where
+  pub same-given : given t ≡ given x
+  pub members : MembersOk t
+
+lookup-type-in : (p : Program) (ts : List KnownType) (w : Word) → Each TypeOk ts → Yields (Each KnownOk) (lookupType p ts w)
+unfolding lookupType elsewhere
+lookup-type-in p ts w h ks e = go (findType (w .text) ts) refl e
+  where
+    no-type : (t : Bool) → (if t then wrong 3 w else elsewhere p w) ≡ good ks → Each KnownOk ks
+    no-type true d = no-good d
+    no-type false d = no-good d
+
+    go : (o : Option (List Known)) → findType (w .text) ts ≡ o
+        → elim o as (λ _. Checked (List Known)) [ some x ↦ good x | none ↦ if isType (w .text) (p .sections) then wrong 3 w else elsewhere p w ] ≡ good ks → Each KnownOk ks
+    go none d e₁ = no-type (isType (w .text) (p .sections)) e₁
+    go (some x) d e₁ = let y : x ≡ ks = cc in rw y at (find-type-in (w .text) ts x h d)
+
+pub typed : (p : Program) (ts : List KnownType) (x : Option Word) → Each TypeOk ts → Yields (Typed x) (optionalType p ts x)
+unfolding optionalType MembersOk
+typed p ts none h = yields (Typed none) none (record { same-given = refl; members = tt })
+typed p ts (some w) h =
+    next (Typed (some w)) (Each KnownOk) (lookupType p ts w) _ (lookup-type-in p ts w h) (λ ks hk.
+    yields (Typed (some w)) (some ks) (record { same-given = refl; members = hk }))
+
+-- Declaring
+
+knowns-ok : (e : Entry) → InRange e → Each KnownOk (knowns e)
+unfolding knowns Each
+knowns-ok e h = go (e .spelt)
+  where
+    go : (s : Option Word) → Each KnownOk (record { named = e .entry .text; value = e .value } ∷ elim s as (λ _. List Known) [ none ↦ [] | some w ↦ record { named = w .text; value = e .value } ∷ [] ])
+    go none = (h, tt)
+    go (some w) = (h, (h, tt))
+
+all-ok : (es : List Entry) (have : List Known) (os : List KnownOperation) → Each InRange es → Each KnownOk have → Yields (Each KnownOk) (declareAll es have os)
+unfolding declareAll Each
+all-ok [] have os h k = yields (Each KnownOk) have k
+all-ok (e ∷ es) have os h k =
+    passed (Each KnownOk) (repeats e have || clashes e os) 4 (e .entry) _ (λ _.
+    all-ok es (have ++ knowns e) os (h .1) (each-append KnownOk have (knowns e) k (knowns-ok e (h .0))))
+
+abbrev BothOk : List Known × List Known → Type 0
+BothOk x = Each KnownOk (x .0) × Each KnownOk (x .1)
+
+both-ok : (es : List Entry) (ins outs : List Known) (os : List KnownOperation) → Each InRange es → Each KnownOk ins → Each KnownOk outs → Yields BothOk (declareBoth es ins outs os)
+unfolding declareBoth Each
+both-ok [] ins outs os h k l = yields BothOk (ins, outs) (k, l)
+both-ok (e ∷ es) ins outs os h k l =
+    passed BothOk (repeats e ins || repeats e outs || clashes e os) 4 (e .entry) _ (λ _.
+    both-ok es (ins ++ knowns e) (outs ++ knowns e) os (h .1) (each-append KnownOk ins (knowns e) k (knowns-ok e (h .0))) (each-append KnownOk outs (knowns e) l (knowns-ok e (h .0))))
+
+operations-ok : (p : Program) (os : List Operation) (n : Names) → Each OfKind os → NamesOk n → Yields NamesOk (declareOperations p os n)
+unfolding declareOperations Each
+operations-ok p [] n h k = yields NamesOk n k
+operations-ok p (o ∷ os) n h k =
+    passed NamesOk (given (findOperation (o .operation .text) (n .operations)) || given (find (o .operation .text) (n .inputs))) 4 (o .operation) _ (λ _.
+    next NamesOk (Typed (o .takes)) (optionalType p (n .types) (o .takes)) _ (typed p (n .types) (o .takes) (k .types)) (λ t ht.
+    next NamesOk (Typed (o .gives)) (optionalType p (n .types) (o .gives)) _ (typed p (n .types) (o .gives) (k .types)) (λ g hg.
+    let own : OperationOk (record { named = o .operation .text; instruction = o .instruction; takes = t; gives = g }) = record {
+      low = rw (ht .same-given, hg .same-given) (h .0 .low);
+      high = rw (ht .same-given, hg .same-given) (h .0 .high);
+      takes = ht .members;
+      gives = hg .members;
+    } in
+    operations-ok p os (withOperations n (n .operations ++ (record { named = o .operation .text; instruction = o .instruction; takes = t; gives = g } ∷ []))) (h .1) (record {
+      inputs = k .inputs;
+      outputs = k .outputs;
+      errors = k .errors;
+      types = k .types;
+      operations = one-more OperationOk (n .operations) _ (k .operations) own;
+    }))))
+
+section-ok : (p : Program) (s : Section) (n : Names) → SectionOk s → NamesOk n → Yields NamesOk (declareSection p s n)
+unfolding declareSection SectionOk Each
+section-ok p (inputs es) n h k =
+    next NamesOk (Each KnownOk) (declareAll es (n .inputs) (n .operations)) _ (all-ok es (n .inputs) (n .operations) h (k .inputs)) (λ ks hk.
+    yields NamesOk _ (record { inputs = hk; outputs = k .outputs; errors = k .errors; types = k .types; operations = k .operations }))
+section-ok p (outputs es) n h k =
+    next NamesOk (Each KnownOk) (declareAll es (n .outputs) []) _ (all-ok es (n .outputs) [] h (k .outputs)) (λ ks hk.
+    yields NamesOk _ (record { inputs = k .inputs; outputs = hk; errors = k .errors; types = k .types; operations = k .operations }))
+section-ok p (both es) n h k =
+    next NamesOk BothOk (declareBoth es (n .inputs) (n .outputs) (n .operations)) _ (both-ok es (n .inputs) (n .outputs) (n .operations) h (k .inputs) (k .outputs)) (λ ks hk.
+    yields NamesOk _ (record { inputs = hk .0; outputs = hk .1; errors = k .errors; types = k .types; operations = k .operations }))
+section-ok p (errors es) n h k =
+    next NamesOk (Each KnownOk) (declareAll es (n .errors) []) _ (all-ok es (n .errors) [] h (k .errors)) (λ ks hk.
+    yields NamesOk _ (record { inputs = k .inputs; outputs = k .outputs; errors = hk; types = k .types; operations = k .operations }))
+section-ok p (values w es) n h k =
+    passed NamesOk (given (findType (w .text) (n .types))) 4 w _ (λ _.
+    next NamesOk (Each KnownOk) (declareAll es [] []) _ (all-ok es [] [] h tt) (λ ks hk.
+    yields NamesOk _ (record { inputs = k .inputs; outputs = k .outputs; errors = k .errors; types = one-more TypeOk (n .types) _ (k .types) hk; operations = k .operations })))
+section-ok p (operations os) n h k = operations-ok p os n h k
+
+pub sections-ok : (p : Program) (ss : List Section) (n : Names) → Each SectionOk ss → NamesOk n → Yields NamesOk (declareSections p ss n)
+unfolding declareSections Each
+sections-ok p [] n h k = yields NamesOk n k
+sections-ok p (s ∷ ss) n h k = next NamesOk NamesOk (declareSection p s n) _ (section-ok p s n (h .0) k) (λ m hm. sections-ok p ss m (h .1) hm)
