@@ -3,8 +3,9 @@ use mathlib.Core.Bool.{Bool, true, false}
 use mathlib.Core.List.{List, [], _∷_, _++_}
 use mathlib.Core.Option.{Option, none, some}
 use Prim.Native.Nat.{ℕ, _+_, _-_, _^_, min}
-use lib.Dec.{eqb}
+use lib.Dec.{eqb, leb}
 use lib.ListN.{getElem?}
+use Rattle.base.specs.Common.{if_then_else_}
 
 -- the decoded event: an output token, an error, an operation's instruction number, one with its parameter
 pub data Event : Type 0 where
@@ -39,11 +40,23 @@ pub record Io : Type 0 where
   pub used : ℕ
   pub events : List Event
 
+-- an operation's event, with its instruction number; "choice operations from 768"
+unfoldable pub isChoice : Event → Bool
+isChoice (output t) = false
+isChoice (signal n) = false
+isChoice (operation op) = leb 768 op
+isChoice (operationWith op v) = leb 768 op
+
+-- how many choice operations stand in the events
+unfoldable pub choices : List Event → ℕ
+choices [] = 0
+choices (e ∷ es) = (if isChoice e then 1 else 0) + choices es
+
 -- "The present token is the first unread one, or none past the end."
 unfoldable pub present : List ℕ → Io → Option ℕ
 present tokens io = getElem? tokens (io .read)
 
--- the next answer, or none where all are used up
+-- the answer that a walk over a table takes next, which knows only how many are used; none where all are used up
 unfoldable pub answer : List ℕ → Io → Option ℕ
 answer answers io = getElem? answers (io .used)
 
@@ -65,5 +78,5 @@ is t (some u) = eqb t u
 
 -- all of this file computes where this is unfolded
 unfoldable pub opened : Unit {0}
-unfolding eventWords reasonNumber present answer took wrote answered is
+unfolding eventWords reasonNumber isChoice choices present answer took wrote answered is
 opened = tt

@@ -5,10 +5,10 @@ use mathlib.Core.List.{List, [], _∷_}
 use mathlib.Core.Option.{Option, none, some}
 use Prim.Native.Nat.{ℕ, zero, suc}
 use lib.Dec.{ltb}
-use lib.ListN.{length}
+use lib.ListN.{length, getElem?}
 use Rattle.base.specs.Common.{if_then_else_, member, given}
 use Rattle.base.specs.Tree.{Action, plain, cycle, choice, Actions, done, _▸_, Alternatives, nil, alternative, Otherwise, absent, otherwise}
-use Rattle.events.specs.Events.{Event, output, signal, operation, operationWith, Reason, finished, differs, missing, unlabelled, deep, unanswered, Io, present, answer, took, wrote, answered, is}
+use Rattle.events.specs.Events.{Event, output, signal, operation, operationWith, Reason, finished, differs, missing, unlabelled, deep, unanswered, Io, choices, present, took, wrote, answered, is}
 use Rattle.program.specs.Program.{Plain, match, any, emit, error, exit, call, back, give, update, updateWith, Selector, byToken, byRule, byOperation, byOperationWith, Acts, Alts, Other, Rule, bodyOf}
 
 -- what stands around the actions of a place: a cycle with its body, an alternative's choice, otherwise's choice, each with the
@@ -66,6 +66,10 @@ gaveBack v [] io = stopped finished io
 gaveBack v (before q k ∷ ps) io = on q k ps io
 gaveBack v (beforeChoice al o q k ∷ ps) io = choosing v al o q k ps io
 
+-- the next answer: one is behind for each choice operation in the events, also past the greatest count of answers used
+unfoldable pub nextAnswer : List ℕ → Io → Option ℕ
+nextAnswer answers io = getElem? answers (choices (io .events))
+
 -- "or the next answer (with none 34, no event)"
 unfoldable pub asked : Option ℕ → Event → Alts → Other → Acts → List Context → List Pending → Io → Own
 asked none e al o q k ps io = stopped unanswered io
@@ -93,8 +97,8 @@ module _ (prog : List Rule) (tokens answers : List ℕ) where
   unfoldable pub ownChoice : Selector → Alts → Other → Acts → List Context → List Pending → Io → Own
   ownChoice byToken al o q k ps io = chosen (labelledBy (present tokens io) al) o q k ps differs io (took io)
   ownChoice (byRule r) al o q k ps io = entered r (beforeChoice al o q k) ps io
-  ownChoice (byOperation op) al o q k ps io = asked (answer answers io) (operation op) al o q k ps io
-  ownChoice (byOperationWith op v) al o q k ps io = asked (answer answers io) (operationWith op v) al o q k ps io
+  ownChoice (byOperation op) al o q k ps io = asked (nextAnswer answers io) (operation op) al o q k ps io
+  ownChoice (byOperationWith op v) al o q k ps io = asked (nextAnswer answers io) (operationWith op v) al o q k ps io
 
   -- one step; a walk that has stopped stays so
   unfoldable pub own : Own → Own
@@ -115,5 +119,5 @@ ownStart prog = on (bodyOf prog 0) [] [] (record { read = 0; used = 0; events = 
 
 -- all of this file computes where this is unfolded
 unfoldable pub opened : Unit {0}
-unfolding labelled labelledBy chosen ended left gaveBack asked entered ownPlain ownChoice own owns ownStart
+unfolding labelled labelledBy chosen ended left gaveBack nextAnswer asked entered ownPlain ownChoice own owns ownStart
 opened = tt

@@ -1,0 +1,1 @@
+// Demand 3, as one statement and its proof; this crate has no code.
