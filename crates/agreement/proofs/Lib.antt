@@ -1,0 +1,2 @@
+-- The proof of demand 3, in the order of the argument.
+pub mod Single
