@@ -1,0 +1,73 @@
+/* S/SL tables: walking a table, whole or in pauses.
+ *
+ * Words are 16 bits, high byte first; an odd last byte of a buffer counts for nothing and is never touched. A buffer is a pointer and
+ * its length in bytes; the pointer is not null, also where the length is 0. Buffers of one call do not overlap. Nothing is kept between
+ * calls: the walk is the SST_WALK_BYTES bytes that the caller lends (docs/LAYOUT.md), and any bytes may be handed in.
+ *
+ * The number that a walk call answers:
+ *    0  the walk has stopped: it returned with nothing pending
+ *   21  refused: an answer for a walk that is not waiting, none for one that is, a waiting one given to sst_whole, or bytes that are no
+ *       walk. Walk and event buffer are unchanged
+ *   22  the walk waits: the last event written is the operation that wants an answer
+ *   30  stopped: the token differs from the one required, or there is none
+ *   31  stopped: a token is required and there is none
+ *   32  stopped: no label for the value of a choice without otherwise
+ *   33  stopped: a call with 64 pending
+ *   34  stopped: the answers of sst_whole are used up
+ *   35  fewer than three words are left in the event buffer: call again with another one
+ *   36  the budget is done: call again
+ *   37  stopped: the table is no table of the processor's
+ * Only 22, 35 and 36 leave a walk that can be called on; the other stops are final, and repeat.
+ */
+#ifndef SST_H
+#define SST_H
+
+#include <stddef.h>
+#include <stdint.h>
+
+#ifdef __cplusplus
+extern "C" {
+#endif
+
+/* The bytes of a walk. */
+#define SST_WALK_BYTES 156
+
+/* Writes a fresh walk. Lent: walk, SST_WALK_BYTES bytes. Answers 0; 21 where the length is another, and then nothing is written. */
+uint16_t sst_fresh(uint8_t *walk, size_t walk_len);
+
+/* A whole call: up to `budget` steps, with all the operations' answers as words. Read: table (words past 4,096 count for nothing), tokens,
+ * answers. Lent: walk, read and written; events, written from its start with three words an event, the rest kept. `*written` becomes
+ * the number of events, `*steps` the number of steps of this call. Answers any number of the list above but 22. */
+uint16_t sst_whole(const uint8_t *table, size_t table_len, const uint8_t *tokens, size_t tokens_len, const uint8_t *answers,
+                   size_t answers_len, uint64_t budget, uint8_t *walk, size_t walk_len, uint8_t *events, size_t events_len,
+                   uint64_t *written, uint64_t *steps);
+
+/* A paused call: as sst_whole, but an operation that wants an answer is handed out: its event is written, and the walk waits. The answer
+ * is given to the next call: `given` 1 and the answer; `given` 0 otherwise (any other value counts as 1). Answers any number of the
+ * list above but 34. */
+uint16_t sst_paused(const uint8_t *table, size_t table_len, const uint8_t *tokens, size_t tokens_len, uint16_t given, uint16_t answer,
+                    uint64_t budget, uint8_t *walk, size_t walk_len, uint8_t *events, size_t events_len, uint64_t *written,
+                    uint64_t *steps);
+
+/* The parts of a walk; nothing is written. */
+
+/* 0 going on, 1 waiting, 2 stopped, 3 for bytes that are no walk. */
+uint16_t sst_phase(const uint8_t *walk, size_t walk_len);
+
+/* The number that a stopped walk answers; 65535 for a walk that has not stopped and for bytes that are no walk. */
+uint16_t sst_reason(const uint8_t *walk, size_t walk_len);
+
+/* The location of the next instruction; 0 for bytes that are no walk. */
+uint16_t sst_location(const uint8_t *walk, size_t walk_len);
+
+/* Tokens read; 0 for bytes that are no walk. */
+uint64_t sst_read(const uint8_t *walk, size_t walk_len);
+
+/* Answers used, up to 2^64 - 1; 0 for bytes that are no walk. */
+uint64_t sst_used(const uint8_t *walk, size_t walk_len);
+
+#ifdef __cplusplus
+}
+#endif
+
+#endif
