@@ -5,25 +5,25 @@ use native.Mathlib.Nat.{add-zero}
 use native.Mathlib.Numerals.{add-one}
 use mathlib.Core.Path.{_≡_, refl, sym, ap, _∙_, subst}
 use mathlib.Core.Logic.{inl, inr}
-use mathlib.Core.Bool.{Bool, true, false, _&&_, _||_}
+use mathlib.Core.Bool.{Bool, true, false}
 use mathlib.Core.Option.{Option, none, some}
 use mathlib.Core.List.{List, [], _∷_, _++_}
-use lib.Dec.{leb, eqb, ltb}
-use lib.ListN.{length, getD, getElem?}
+use lib.Dec.{eqb}
+use lib.ListN.{length}
 use borrow.Author.Tests.{le-leb, lt-leb, lt-ltb, le-ltb, ne-eqb}
 use Rattle.base.specs.Bools.{never, or}
 use Rattle.base.specs.Common.{if_then_else_}
 use Rattle.base.specs.Tree.{plain, cycle, choice, done, _▸_, nil, alternative, absent, otherwise}
-use Rattle.events.specs.Events.{Event, output, signal, is}
-use Rattle.machine.specs.Decode.{fetch, Instruction, jump, input, inputAny, write, inputChoice, callRule, return, setResult, choice as byResult, endChoice, setParameter, update as updates, updateWith as updatesWith, choose, chooseWith, decodeOperation, decodeTwo, decodeOne, decodeWord, decodeAt, decode}
+use Rattle.events.specs.Events.{is}
+use Rattle.machine.specs.Decode.{fetch, jump, inputChoice, return, choice as byResult, update as updates, updateWith as updatesWith, choose, chooseWith, decodeOperation, decodeTwo, decodeOne, decodeWord, decodeAt, decode}
 use Rattle.machine.specs.Lengths.{lengths, lengthOf}
 use Rattle.machine.specs.Step.{seek}
-use Rattle.program.proofs.Lengths.{length-labels, length-tableWords, length-absent, length-selector, length-code, length-codes, length-alts}
+use Rattle.program.proofs.Lengths.{length-labels, length-tableWords, length-selector, length-code, length-codes, length-alts}
 use Rattle.program.specs.Accepted.{Labelled, NeedsLabel, OkPlain, OkSelector, Ok, Oks, OkAlts, OkOther, Accepted}
 use Rattle.program.specs.Past.{isExit, exits, exitsAll, exitsSome, exitsOther, pastAll}
 use Rattle.program.specs.Program.{Plain, match, any, emit, error, exit, call, back, give, update, updateWith, Selector, byToken, byRule, byOperation, byOperationWith, Act, Acts, Alts, Other, Rule, ruleOf, bodyOf}
 use Rattle.program.specs.Table.{sizePlain, sizeSelector, sizeAbsent, countLabels, size, sizes, sizeAlts, sizeOther, labelWords, tableWords, firstOf, firstLabel, absentWords, choiceNumber, selectorWords, plainWords, code, codes, codeAlts, codeOther, endWords, sizeRule, rulesWords, place, table}
-use Rattle.agreement.proofs.Lay.{Entry, lookup, entries, Leads, leads-none, leads, Table, LayPlain, lay-match, lay-any, lay-emit, lay-error, lay-exit, lay-call, lay-back, lay-give, lay-update, lay-updateWith, Lay, lay-plain, lay-cycle, lay-token, lay-rule, lay-operation, lay-operationWith, Lays, lays-done, lays-cons, LayChoice, lay-choice, LayAlts, alts-nil, alts-cons, LayOther, other-input, other-end, other-is, At, at-place, End, end-rule, Out}
+use Rattle.agreement.proofs.Lay.{Entry, lookup, entries, Leads, leads-none, leads, Table, LayPlain, lay-match, lay-any, lay-emit, lay-error, lay-exit, lay-call, lay-back, lay-give, lay-update, lay-updateWith, Lay, lay-plain, lay-cycle, lay-token, lay-rule, lay-operation, lay-operationWith, Lays, lays-done, lays-cons, LayChoice, lay-choice, LayAlts, alts-nil, alts-cons, LayOther, other-input, other-end, other-is, At, at-place, End, end-rule}
 
 -- Words in a table
 
@@ -119,7 +119,8 @@ module _ (T tokens : List ℕ) (u : ℕ) where
       let a = labelWords d p ls in
       let t = tableWords (p + 2 * length ls) q in
       entries-find ls (pairs (l + sizes b + 2) q) c d p l e (seg-left a t s)
-      (rw (near c p (length ls)) (pairs-find q c (p + 2 * length ls) (l + sizes b + 2) (omega arith) (seg-at (seg-right a t s) (omega (arith, length-labels d p ls)))))
+      (rw (near c p (length ls)) (pairs-find q c (p + 2 * length ls) (l + sizes b + 2) (omega arith)
+      (seg-at (seg-right a t s) (omega (arith, length-labels d p ls)))))
     where
       near : (c p n : ℕ) → c + p + 2 * n ≡ c + (p + 2 * n)
       near c p n = omega arith
@@ -266,7 +267,7 @@ module _ (T : List ℕ) (start : ℕ → ℕ) (prog : List Rule) where
   laid-plain (updateWith op u) v c out x l ok hx s =
       let s₂ = seg-after 2 (13 ∷ u ∷ []) (op ∷ []) refl s in
       let d : decode T (l + 2) ≡ updatesWith op =
-        seg-operation (omega (arith, ok .0)) (omega (arith, ok .1)) s₂ ∙ is-updateWith op (ok .0) (ok .1)
+      seg-operation (omega (arith, ok .0)) (omega (arith, ok .1)) s₂ ∙ is-updateWith op (ok .0) (ok .1)
       in
       plain-end (lay-updateWith (seg-two s) d) (omega arith)
 
@@ -352,7 +353,8 @@ module _ (T : List ℕ) (start : ℕ → ℕ) (prog : List Rule) where
         let as₁ = codeAlts start q out z in
         let os = codeOther start o out (absentWords sl (firstLabel q) d) in
         let ts = countLabels q ∷ (tableWords 1 q ++ os) in
-        let s₁ = seg-after (sizeSelector sl) (selectorWords start sl) (choiceNumber sl ∷ (sizeAlts q + 1) ∷ (as₁ ++ ts)) (length-selector start sl) s in
+        let ws = choiceNumber sl ∷ (sizeAlts q + 1) ∷ (as₁ ++ ts) in
+        let s₁ = seg-after (sizeSelector sl) (selectorWords start sl) ws (length-selector start sl) s in
         let s₂ = seg-after 2 (choiceNumber sl ∷ (sizeAlts q + 1) ∷ []) (as₁ ++ ts) refl s₁ in
         let s₃ = seg-after (sizeAlts q) as₁ ts (length-alts start q out z) s₂ in
         let s₄ = seg-after (1 + 2 * countLabels q) (countLabels q ∷ tableWords 1 q) os (omega (arith, length-tableWords 1 q)) s₃ in

@@ -1,5 +1,5 @@
 -- What it is for a table to hold a tree, by locations alone, and for a walk over it to stand where the rules stand.
-use Prim.Native.Nat.{ℕ, zero, suc, _+_, _-_, _*_}
+use Prim.Native.Nat.{ℕ, _+_, _-_, _*_}
 use mathlib.Core.Path.{_≡_}
 use mathlib.Core.Bool.{Bool, true, false, _||_}
 use mathlib.Core.Option.{Option, none, some}
@@ -8,15 +8,15 @@ use lib.Dec.{leb, eqb}
 use lib.ListN.{length}
 use Rattle.base.specs.Common.{if_then_else_}
 use Rattle.base.specs.Tree.{plain, cycle, choice, done, _▸_, nil, alternative, absent, otherwise}
-use Rattle.events.specs.Events.{Event, output, signal, Reason, finished, differs, missing, unlabelled, deep, unanswered, outside, Io}
+use Rattle.events.specs.Events.{output, signal, Reason, finished, differs, missing, unlabelled, deep, unanswered, outside, Io}
 use Rattle.machine.specs.Decode.{fetch, jump, input, inputAny, write, inputChoice, callRule, return, setResult, choice as byResult, endChoice, setParameter, update as updates, updateWith as updatesWith, choose, chooseWith, decode}
 use Rattle.machine.specs.Step.{seek}
-use Rattle.machine.specs.Walk.{Phase, going, stopped, Walk}
+use Rattle.machine.specs.Walk.{going, stopped, Walk}
 use Rattle.ownwalk.specs.OwnWalk as rules
 use Rattle.ownwalk.specs.OwnWalk.{Context, inCycle, inAlternative, inOtherwise, Pending, before, beforeChoice, Own, on, choosing}
 use Rattle.program.specs.Accepted.{Calls}
 use Rattle.program.specs.Past.{exitsAll, exitsSome, exitsOther, pastAll, pastSome, pastOther}
-use Rattle.program.specs.Program.{Plain, match, any, emit, error, exit, call, back, give, update, updateWith, Selector, byToken, byRule, byOperation, byOperationWith, Act, Acts, Alts, Other, Rule}
+use Rattle.program.specs.Program.{Plain, match, any, emit, error, exit, call, back, give, update, updateWith, byToken, byRule, byOperation, byOperationWith, Act, Acts, Alts, Other, Rule}
 
 -- Choice tables
 

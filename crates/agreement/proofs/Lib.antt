@@ -1,3 +1,14 @@
 -- The proof of demand 3, in the order of the argument.
 pub mod Single
 pub mod Lists
+pub mod Lay
+pub mod Laid
+pub mod Sim
+pub mod Agree
+pub mod Grow
+pub mod Bound
+pub mod BoundRules
+pub mod BoundWalk
+pub mod Doubling
+pub mod MoreAnswers
+pub mod Theorem

@@ -190,13 +190,23 @@ pub record Keeps (w v : Walk) : Type 0 where
   pub events : v .io .events ≡ w .io .events
   pub returns : length (w .returns) ≤ 64 → length (v .returns) ≤ 64
 
+-- the reasons that an instruction stops for of its own: not for want of an answer, and not for 37
+abbrev pub Own : Reason → Type 0
+Own finished = Unit {0}
+Own differs = Unit {0}
+Own missing = Unit {0}
+Own unlabelled = Unit {0}
+Own deep = Unit {0}
+Own unanswered = ⊥
+Own outside = ⊥
+
 -- what holds of what an instruction does: only one that asks has a choice operation's event
 pub data After (w : Walk) : Next → Type 0 where
   after-outside : After w goesOutside
-  after-stop : (r : Reason) → After w (stops r)
+  after-stop : (r : Reason) → Own r → After w (stops r)
   after-goes : (v : Walk) → Keeps w v → After w (goes v)
   after-tells : (e : Event) (v : Walk) → isChoice e ≡ false → Keeps w v → After w (tells e v)
-  after-asks : (e : Event) (v : Walk) → isChoice e ≡ true → Keeps w v → After w (asks e v)
+  after-asks : (e : Event) (v : Walk) → isChoice e ≡ true → v ≡ moved (w .location + 1) w → Keeps w v → After w (asks e v)
 
 if-after : (u : Walk) (b : Bool) (x y : Next) → (b ≡ true → After u x) → (b ≡ false → After u y) → After u (if b then x else y)
 if-after u true x y p q = p refl
@@ -253,12 +263,12 @@ module _ (T tokens : List ℕ) (u : Walk) where
       if-after u (given (fetch T l)) (if b then on else stops deep) goesOutside
       (λ _. if-after u b on (stops deep)
       (λ t. after-goes _ (record { phase = refl; used = refl; events = refl; returns = λ h. ltb-true (length (u .returns)) 64 t }))
-      (λ _. after-stop deep))
+      (λ _. after-stop deep tt))
       (λ _. after-outside)
 
   returning-after : (rs : List ℕ) → u .returns ≡ rs → After u (returning T tokens rs u)
   unfolding returning withReturns
-  returning-after [] e = after-stop finished
+  returning-after [] e = after-stop finished tt
   returning-after (l ∷ rs) e =
       let s : length (u .returns) ≡ suc (length rs) = ap length e in
       goTo-after l (withReturns rs u) (record { phase = refl; used = refl; events = refl; returns = λ h. omega (arith, s) })
@@ -269,32 +279,37 @@ module _ (T tokens : List ℕ) (u : Walk) where
   exec-after (jump l) k = goTo-after l u (kept u _ _ _ _)
   exec-after (input t) k =
       if-after u (is t (present tokens (u .io))) _ (stops differs)
-      (λ _. after-goes _ (kept u _ _ _ _)) (λ _. after-stop differs)
+      (λ _. after-goes _ (kept u _ _ _ _)) (λ _. after-stop differs tt)
   exec-after inputAny k =
       if-after u (given (present tokens (u .io))) _ (stops missing)
-      (λ _. after-goes _ (kept u _ _ _ _)) (λ _. after-stop missing)
+      (λ _. after-goes _ (kept u _ _ _ _)) (λ _. after-stop missing tt)
   exec-after (write e) k = after-tells e _ k (kept u _ _ _ _)
   exec-after (inputChoice c) k = inputChoosing-after (present tokens (u .io)) c
   exec-after (callRule l) k = calling-after l
   exec-after return k = returning-after (u .returns) refl
   exec-after (setResult v) k = after-goes _ (kept u _ _ _ _)
   exec-after (choice c) k = branched-after (fetch T c) (some (u .result)) c u u (kept u _ _ _ _) (kept u _ _ _ _)
-  exec-after endChoice k = after-stop unlabelled
+  exec-after endChoice k = after-stop unlabelled tt
   exec-after (setParameter v) k = after-goes _ (kept u _ _ _ _)
   exec-after (update op) k = after-tells _ _ k (kept u _ _ _ _)
   exec-after (updateWith op) k = after-tells _ _ k (kept u _ _ _ _)
-  exec-after (choose op) k = after-asks _ _ k (kept u _ _ _ _)
-  exec-after (chooseWith op) k = after-asks _ _ k (kept u _ _ _ _)
+  exec-after (choose op) k = after-asks _ _ k refl (kept u _ _ _ _)
+  exec-after (chooseWith op) k = after-asks _ _ k refl (kept u _ _ _ _)
 
   pub step-after : After u (step T tokens u)
   unfolding step
   step-after = exec-after (decode T (u .location)) (kind T (u .location))
 
-asked : {w v : Walk} {e : Event} → After w (asks e v) → (isChoice e ≡ true) × Keeps w v
-asked (after-asks e v t k) = (t, k)
+-- an operation that asks is a choice operation, and leaves the location past itself
+pub record Asked (w v : Walk) (e : Event) : Type 0 where
+  pub choice : isChoice e ≡ true
+  pub past : v ≡ moved (w .location + 1) w
+  pub keeps : Keeps w v
 
--- an operation that asks is a choice operation
-pub step-asked : (T tokens : List ℕ) (w v : Walk) (e : Event) → step T tokens w ≡ asks e v → (isChoice e ≡ true) × Keeps w v
+asked : {w v : Walk} {e : Event} → After w (asks e v) → Asked w v e
+asked (after-asks e v t m k) = record { choice = t; past = m; keeps = k }
+
+pub step-asked : (T tokens : List ℕ) (w v : Walk) (e : Event) → step T tokens w ≡ asks e v → Asked w v e
 step-asked T tokens w v e s = asked (rw s at (step-after T tokens w))
 
 -- The answers used and the choice operations in the events
@@ -352,6 +367,21 @@ pub record Kept (w : Walk) : Type 0 where
   pub used : w .io .used ≡ min (choices (w .io .events)) (2 ^ 64 - 1)
   pub returns : length (w .returns) ≤ 64
 
+module _ (T tokens : List ℕ) where
+  -- the rest of a call after a turn
+  unfoldable pub resume : ℕ → Mode → ℕ → Turn → Called
+  resume b m n (over c) = c
+  resume b m n (further room v) = run T tokens b m room (n + 1) v
+
+  pub run-resume : (b : ℕ) (m : Mode) (room n : ℕ) (w : Walk)
+      → run T tokens (suc b) m room n w ≡ resume b m n (turn m room n w (step T tokens w))
+  unfolding run resume
+  run-resume b m room n w = go (turn m room n w (step T tokens w))
+    where
+      go : (t : Turn) → _≡_ {A = Called} (elim t [ over c ↦ c | further room v ↦ run T tokens b m room (n + 1) v ]) (resume b m n t)
+      go (over c) = refl
+      go (further room v) = refl
+
 module _ (T tokens answers : List ℕ) where
   kept-taking : (o : Option ℕ) (e : Event) (v w : Walk) → isChoice e ≡ true → Keeps w v → Kept w → Kept (taking o e v w)
   unfolding taking writing Walk.opened Events.wrote Events.answered
@@ -364,7 +394,7 @@ module _ (T tokens answers : List ℕ) where
   kept-done : {nx : Next} (w : Walk) → After w nx → Kept w → Kept (done T tokens answers nx w)
   unfolding done writing Walk.opened Events.wrote
   kept-done w after-outside h = record { used = h .used; returns = h .returns }
-  kept-done w (after-stop r) h = record { used = h .used; returns = h .returns }
+  kept-done w (after-stop r o) h = record { used = h .used; returns = h .returns }
   kept-done w (after-goes v k) h =
       let d : choices (v .io .events) ≡ choices (w .io .events) = ap choices (k .events) in
       record { used = omega (arith, d, k .used, h .used); returns = k .returns (h .returns) }
@@ -372,7 +402,7 @@ module _ (T tokens answers : List ℕ) where
       let c = choices-told (v .io .events) e f in
       let d : choices (v .io .events) ≡ choices (w .io .events) = ap choices (k .events) in
       record { used = omega (arith, c, d, k .used, h .used); returns = k .returns (h .returns) }
-  kept-done w (after-asks e v t k) h = kept-taking (getElem? answers (choices (w .io .events))) e v w t k h
+  kept-done w (after-asks e v t m k) h = kept-taking (getElem? answers (choices (w .io .events))) e v w t k h
 
   kept-one : (w : Walk) → Kept w → Kept (one T tokens answers w)
   unfolding one oneIn
@@ -422,7 +452,7 @@ module _ (T tokens answers : List ℕ) where
   unfolding done
   asked-next k v v′ e es a g s q =
       runs-suc k fresh ∙ ap (one T tokens answers) a ∙ one-going v g ∙ ap (λ nx. done T tokens answers nx v) s
-      ∙ ap (λ o. taking o e v′ v) (sym (ap (wanted answers) q ∙ wanted-asked answers (v .io .events) e (step-asked T tokens v v′ e s .0)))
+      ∙ ap (λ o. taking o e v′ v) (sym (ap (wanted answers) q ∙ wanted-asked answers (v .io .events) e (step-asked T tokens v v′ e s .choice)))
 
   -- A call
 
@@ -430,20 +460,6 @@ module _ (T tokens answers : List ℕ) where
   Given : Mode → Type 0
   Given (whole given) = (given ≡ answers) × (length answers < 2 ^ 64)
   Given (paused x) = Unit {0}
-
-  -- the rest of a call after a turn
-  resume : ℕ → Mode → ℕ → Turn → Called
-  resume b m n (over c) = c
-  resume b m n (further room v) = run T tokens b m room (n + 1) v
-
-  run-resume : (b : ℕ) (m : Mode) (room n : ℕ) (w : Walk)
-      → run T tokens (suc b) m room n w ≡ resume b m n (turn m room n w (step T tokens w))
-  unfolding run resume
-  run-resume b m room n w = go (turn m room n w (step T tokens w))
-    where
-      go : (t : Turn) → _≡_ {A = Called} (elim t [ over c ↦ c | further room v ↦ run T tokens b m room (n + 1) v ]) (resume b m n t)
-      go (over c) = refl
-      go (further room v) = refl
 
   -- before a call there were these events and k steps
   module _ (es : List Event) (k : ℕ) where
@@ -484,8 +500,8 @@ module _ (T tokens answers : List ℕ) where
         waits (k + n) (withEarlier es w) (withEarlier es v) e (sym d) g (step-earlier es T tokens w ∙ ap (earlier es) s)
         (rw (keeps .events) (sym a)) (omega arith) (λ i. withReturns (r i) (inPhase waiting (withEvents [] v)))
 
-    if-ended : (b : ℕ) (m : Mode) (n : ℕ) (t : Bool) (x y : Turn) → Ended (resume b m n x) → Ended (resume b m n y)
-        → Ended (resume b m n (if t then x else y))
+    if-ended : (b : ℕ) (m : Mode) (n : ℕ) (t : Bool) (x y : Turn) → Ended (resume T tokens b m n x) → Ended (resume T tokens b m n y)
+        → Ended (resume T tokens b m n (if t then x else y))
     if-ended b m n true x y p q = p
     if-ended b m n false x y p q = q
 
@@ -494,7 +510,7 @@ module _ (T tokens answers : List ℕ) where
     Rest b m n = (room : ℕ) (v : Walk) → v .phase ≡ going → Within (n + 1) v → Ended (run T tokens b m room (n + 1) v)
 
     takes-ended : (b : ℕ) (m : Mode) (n : ℕ) → Rest b m n → (o : Option ℕ) (room : ℕ) (w : Walk) (e : Event) (v : Walk)
-        → after (k + (n + 1)) ≡ taking o e (withEarlier es v) (withEarlier es w) → Ended (resume b m n (takes o room n w e v))
+        → after (k + (n + 1)) ≡ taking o e (withEarlier es v) (withEarlier es w) → Ended (resume T tokens b m n (takes o room n w e v))
     unfolding takes taking resume endsFor withEarlier withEvents Walk.opened Events.answered
     takes-ended b m n rest none room w e v d = rested _ (n + 1) (inPhase (stopped unanswered) w) (λ p. waiting-stopped p refl) (sym d)
     takes-ended b m n rest (some x) room w e v d =
@@ -509,7 +525,7 @@ module _ (T tokens answers : List ℕ) where
         rw (a, u) (used-enough answers (choices (es ++ w .io .events)) l)
 
     handsOut-ended : (b : ℕ) (m : Mode) (n : ℕ) → Rest b m n → Given m → (room : ℕ) (w : Walk) (e : Event) (v : Walk)
-        → w .phase ≡ going → Within n w → Keeps w v → step T tokens w ≡ asks e v → Ended (resume b m n (handsOut m room n w e v))
+        → w .phase ≡ going → Within n w → Keeps w v → step T tokens w ≡ asks e v → Ended (resume T tokens b m n (handsOut m room n w e v))
     unfolding handsOut done earlier resume withEarlier withEvents Walk.opened
     handsOut-ended b (whole given) n rest gm room w e v g d keeps s =
         takes-ended b (whole given) n rest (answer given (w .io)) room w e v
@@ -517,19 +533,19 @@ module _ (T tokens answers : List ℕ) where
     handsOut-ended b (paused x) n rest gm room w e v g d keeps s = waited n Call.waits w v e g d keeps s
 
     turn-ended : (b : ℕ) (m : Mode) (n : ℕ) → Rest b m n → Given m → (room : ℕ) (w : Walk) {nx : Next} → After w nx
-        → w .phase ≡ going → Within n w → step T tokens w ≡ nx → Ended (resume b m n (turn m room n w nx))
+        → w .phase ≡ going → Within n w → step T tokens w ≡ nx → Ended (resume T tokens b m n (turn m room n w nx))
     unfolding turn resume done earlier ends endsFor withEarlier withEvents Walk.opened writing
     turn-ended b m n rest gm room w after-outside g d s =
         let r = within64 n w d in
         left refl (ap (λ x. x .phase) (sym d) ∙ g) (ap (step T tokens) (sym d) ∙ step-earlier es T tokens w ∙ ap (earlier es) s)
         ((λ i. withReturns (r i) (inPhase (stopped outside) (withEarlier es w))) ∙ ap (inPhase (stopped outside)) d)
-    turn-ended b m n rest gm room w (after-stop r) g d s =
+    turn-ended b m n rest gm room w (after-stop r o) g d s =
         rested (reasonNumber r) (n + 1) (inPhase (stopped r) w) (λ p. waiting-stopped p refl) (sym (next-within n w (stops r) g d s))
     turn-ended b m n rest gm room w (after-goes v keeps) g d s = rest room v (keeps .phase ∙ g) (sym (next-within n w (goes v) g d s))
     turn-ended b m n rest gm room w (after-tells e v c keeps) g d s =
         if-ended b m n (ltb room 3) (over (ends 35 n w)) (further (room - 3) (writing e v)) (rested 35 n w (going-waiting g) d)
         (rest (room - 3) (writing e v) (keeps .phase ∙ g) (writing-earlier e v ∙ sym (next-within n w (tells e v) g d s)))
-    turn-ended b m n rest gm room w (after-asks e v c keeps) g d s =
+    turn-ended b m n rest gm room w (after-asks e v c past keeps) g d s =
         if-ended b m n (ltb room 3) (over (ends 35 n w)) (handsOut m room n w e v) (rested 35 n w (going-waiting g) d)
         (handsOut-ended b m n rest gm room w e v g d keeps s)
 
@@ -537,7 +553,7 @@ module _ (T tokens answers : List ℕ) where
     unfolding run
     run-ended zero m gm room n w g d = rested 36 n w (going-waiting g) d
     run-ended (suc b) m gm room n w g d =
-        rw (run-resume b m room n w) (turn-ended b m n (λ room v. run-ended b m gm room (n + 1) v) gm room w (step-after T tokens w) g d refl)
+        rw (run-resume T tokens b m room n w) (turn-ended b m n (λ room v. run-ended b m gm room (n + 1) v) gm room w (step-after T tokens w) g d refl)
 
   -- A list of calls
 
@@ -581,7 +597,7 @@ module _ (T tokens answers : List ℕ) where
   answers-it budget room w es n x g o (lives p d) = absurd (p g)
   answers-it budget room w es n x g o (left p q s d) = absurd (waiting-stopped g p)
   answers-it budget room w es n x g o (waits k v v′ e a p s q y d) =
-      let keeps = step-asked T tokens v v′ e s .1 in
+      let keeps = step-asked T tokens v v′ e s .keeps in
       let b : length (v .returns) ≤ 64 = rw a at (kept-after k .returns) in
       let r = all64 (v′ .returns) (keeps .returns b) in
       let f : es ++ [] ≡ v′ .io .events ++ (e ∷ []) = append-nil es ∙ q ∙ ap (λ (l : List Event). l ++ (e ∷ [])) (sym (keeps .events)) in
@@ -628,26 +644,26 @@ module _ (T tokens answers : List ℕ) where
   unfolding endsFor ends Walk.opened
   ended-37 r n w e = ap stopped (outside-37 r e)
 
-  if-37 : (b : ℕ) (m : Mode) (n : ℕ) (t : Bool) (x y : Turn) → Says (resume b m n x) → Says (resume b m n y)
-      → Says (resume b m n (if t then x else y))
+  if-37 : (b : ℕ) (m : Mode) (n : ℕ) (t : Bool) (x y : Turn) → Says (resume T tokens b m n x) → Says (resume T tokens b m n y)
+      → Says (resume T tokens b m n (if t then x else y))
   if-37 b m n true x y p q = p
   if-37 b m n false x y p q = q
 
   module _ (b : ℕ) (n : ℕ) where
     takes-37 : (m : Mode) (o : Option ℕ) (room : ℕ) (w : Walk) (e : Event) (v : Walk)
-        → ((room : ℕ) (v : Walk) → Says (run T tokens b m room (n + 1) v)) → Says (resume b m n (takes o room n w e v))
+        → ((room : ℕ) (v : Walk) → Says (run T tokens b m room (n + 1) v)) → Says (resume T tokens b m n (takes o room n w e v))
     unfolding takes resume
     takes-37 m none room w e v rest = ended-37 unanswered (n + 1) w
     takes-37 m (some x) room w e v rest = rest (room - 3) (withAnswer x (writing e v))
 
     handsOut-37 : (m : Mode) (room : ℕ) (w : Walk) (e : Event) (v : Walk)
-        → ((room : ℕ) (v : Walk) → Says (run T tokens b m room (n + 1) v)) → Says (resume b m n (handsOut m room n w e v))
+        → ((room : ℕ) (v : Walk) → Says (run T tokens b m room (n + 1) v)) → Says (resume T tokens b m n (handsOut m room n w e v))
     unfolding handsOut resume ends
     handsOut-37 (whole given) room w e v rest = takes-37 (whole given) (answer given (w .io)) room w e v rest
     handsOut-37 (paused x) room w e v rest = λ z. absurd (omega arith)
 
     turn-37 : (m : Mode) (room : ℕ) (w : Walk) (nx : Next)
-        → ((room : ℕ) (v : Walk) → Says (run T tokens b m room (n + 1) v)) → Says (resume b m n (turn m room n w nx))
+        → ((room : ℕ) (v : Walk) → Says (run T tokens b m room (n + 1) v)) → Says (resume T tokens b m n (turn m room n w nx))
     unfolding turn resume ends
     turn-37 m room w goesOutside rest = ended-37 outside n w
     turn-37 m room w (stops r) rest = ended-37 r (n + 1) w
@@ -660,7 +676,7 @@ module _ (T tokens answers : List ℕ) where
   run-37 : (b : ℕ) (m : Mode) (room n : ℕ) (w : Walk) → Says (run T tokens b m room n w)
   unfolding run ends
   run-37 zero m room n w = λ z. absurd (omega arith)
-  run-37 (suc b) m room n w = rw (run-resume b m room n w) (turn-37 b n m room w (step T tokens w) (λ room v. run-37 b m room (n + 1) v))
+  run-37 (suc b) m room n w = rw (run-resume T tokens b m room n w) (turn-37 b n m room w (step T tokens w) (λ room v. run-37 b m room (n + 1) v))
 
   in-phase-37 : (ph : Phase) (m : Mode) (budget room : ℕ) (w : Walk) → w .phase ≡ ph → Says (callIn T tokens ph m budget room w)
   unfolding callIn ends Walk.opened

@@ -1,28 +1,28 @@
 -- Each step of the rules' own walk is none, one or two instructions of the table.
-use Prim.Native.Nat.{ℕ, zero, suc, _+_, _-_, _*_, _≤_, _<_}
+use Prim.Native.Nat.{ℕ, suc, _+_, _-_, _*_, _<_}
 use native.Mathlib.Omega.{arith}
 use mathlib.Core.Path.{_≡_, refl, sym, ap, _∙_}
-use mathlib.Core.Bool.{Bool, true, false, _&&_, _||_}
+use mathlib.Core.Bool.{Bool, true, false, _||_}
 use mathlib.Core.Option.{Option, none, some}
 use mathlib.Core.List.{List, [], _∷_}
-use lib.Dec.{leb, eqb, ltb}
-use lib.ListN.{length, getElem?}
+use lib.Dec.{eqb, ltb}
+use lib.ListN.{length}
 use borrow.Author.Tests.{eqb-true, eq-eqb}
 use Rattle.base.specs.Bools.{never, or₁, or₂, both, same}
 use Rattle.base.specs.Common.{if_then_else_, member, given}
-use Rattle.base.specs.Tree.{plain, cycle, choice, done, _▸_, nil, alternative, absent, otherwise}
-use Rattle.events.specs.Events.{Event, output, signal, operation, operationWith, Reason, finished, differs, missing, unlabelled, deep, unanswered, Io, choices, present, took, wrote, answered, is}
+use Rattle.base.specs.Tree.{plain, cycle, choice, done, _▸_, alternative}
+use Rattle.events.specs.Events.{Event, operation, operationWith, Reason, differs, missing, unlabelled, deep, Io, present, took, is}
 use Rattle.machine.specs.Call.{writing}
 use Rattle.machine.specs.Decode.{fetch, Instruction, invalid, jump, input, inputAny, write, inputChoice, callRule, return, setResult, choice as byResult, endChoice, setParameter, update as updates, updateWith as updatesWith, choose, chooseWith, decodeAt, decode}
-use Rattle.machine.specs.Step.{Next, stops, goes, goTo, seekBy, landed, branched, inputChoosing, calling, returning, exec, step}
+use Rattle.machine.specs.Step.{stops, goes, goTo, seekBy, landed, branched, inputChoosing, calling, returning, exec, step}
 use Rattle.machine.specs.Walk.{Walk, moved, withReturns, withResult, withParameter, withIo, inPhase, withAnswer}
 use Rattle.ownwalk.specs.OwnWalk as rules
-use Rattle.ownwalk.specs.OwnWalk.{Context, inCycle, inAlternative, inOtherwise, Pending, before, beforeChoice, Own, on, choosing, labelled, labelledBy, chosen, ended, left, gaveBack, nextAnswer, asked, entered, ownPlain, ownChoice, own}
+use Rattle.ownwalk.specs.OwnWalk.{Context, inCycle, inAlternative, inOtherwise, Pending, Own, on, choosing, labelled, labelledBy, chosen, ended, left, gaveBack, nextAnswer, asked, entered, ownPlain, ownChoice, own}
 use Rattle.program.specs.Accepted.{Calls}
 use Rattle.program.specs.Past.{plainPast, isExit, exits, exitsAll, exitsSome, exitsOther, past, pastAll, pastSome, pastOther}
-use Rattle.program.specs.Program.{Plain, match, any, emit, error, exit, call, back, give, update, updateWith, Selector, byToken, byRule, byOperation, byOperationWith, Act, Acts, Alts, Other, Rule, ruleOf, bodyOf}
+use Rattle.program.specs.Program.{Plain, match, any, emit, error, exit, call, update, updateWith, byToken, byRule, byOperation, byOperationWith, Act, Acts, Alts, Other, Rule, ruleOf, bodyOf}
 use Rattle.agreement.proofs.Single.{taking, done as doing, oneIn, one}
-use Rattle.agreement.proofs.Lay.{Entry, lookup, entries, Leads, leads-none, leads, Table, goingAt, stoppedAt, inside, LayPlain, lay-match, lay-any, lay-emit, lay-error, lay-exit, lay-call, lay-back, lay-give, lay-update, lay-updateWith, Lay, lay-plain, lay-cycle, lay-token, lay-rule, lay-operation, lay-operationWith, Lays, lays-done, lays-cons, LayChoice, lay-choice, LayAlts, alts-nil, alts-cons, LayOther, other-input, other-end, other-is, At, at-place, End, end-rule, end-cycle, end-alternative, end-otherwise, Out, out-cycle, out-alternative, out-otherwise, AtChoice, at-choice, Pend, pend-nil, pend-before, pend-choice, Rel, rel-on, rel-choosing, rel-stopped}
+use Rattle.agreement.proofs.Lay.{Entry, lookup, entries, Leads, leads-none, leads, Table, goingAt, inside, LayPlain, lay-match, lay-any, lay-emit, lay-error, lay-exit, lay-call, lay-back, lay-give, lay-update, lay-updateWith, Lay, lay-plain, lay-cycle, lay-token, lay-rule, lay-operation, lay-operationWith, Lays, lays-done, lays-cons, lay-choice, LayAlts, alts-nil, alts-cons, LayOther, other-input, other-end, other-is, At, at-place, End, end-rule, end-cycle, end-alternative, end-otherwise, Out, out-cycle, out-alternative, out-otherwise, AtChoice, at-choice, Pend, pend-nil, pend-before, pend-choice, Rel, rel-on, rel-choosing, rel-stopped}
 
 -- Steps that are no instruction: into a cycle, out of otherwise; with them this weight falls
 
@@ -141,7 +141,8 @@ module _ (T tokens : List ℕ) where
 
   inputChoosing-is : (u : Option ℕ) {c : ℕ} {ps : List Entry} (l : ℕ) (rs : List ℕ) (w p : ℕ) (io : Io) → Table T c ps
       → inputChoosing T tokens u c (goingAt l rs w p io)
-      ≡ landed T tokens (seekBy T tokens u (length ps) (c + 1)) (c + 1 + 2 * length ps) (goingAt l rs (orElse u w) p (took io)) (goingAt l rs (orElse u w) p io)
+      ≡ landed T tokens (seekBy T tokens u (length ps) (c + 1)) (c + 1 + 2 * length ps)
+      (goingAt l rs (orElse u w) p (took io)) (goingAt l rs (orElse u w) p io)
   unfolding inputChoosing orElse withResult withIo seekBy landed
   inputChoosing-is none l rs w p io t = branched-is none (goingAt l rs w p io) (goingAt l rs w p io) t
   inputChoosing-is (some u) l rs w p io t = branched-is (some u) (goingAt l rs u p (took io)) (goingAt l rs u p io) t
@@ -173,7 +174,8 @@ module _ (T : List ℕ) (start : ℕ → ℕ) (prog : List Rule) where
     lay-good (choice (byOperation op) q o) (lay-operation d h) = rw d
     lay-good (choice (byOperationWith op u) q o) (lay-operationWith d d₁ h) = rw d
 
-    lays-good : (q : Acts) {v : Bool} {x l e : ℕ} → Lays T start prog v q x l e → (pastAll q ≡ true → good (decode T e) ≡ true) → good (decode T l) ≡ true
+    lays-good : (q : Acts) {v : Bool} {x l e : ℕ} → Lays T start prog v q x l e → (pastAll q ≡ true → good (decode T e) ≡ true)
+        → good (decode T l) ≡ true
     lays-good done lays-done g = g refl
     lays-good (a ▸ q) (lays-cons h hs) g = lay-good a h
 
@@ -187,17 +189,20 @@ module _ (T : List ℕ) (start : ℕ → ℕ) (prog : List Rule) where
   at-good : {v : Bool} {q : Acts} {k : List Context} {l : ℕ} → At T start prog v q k l → good (decode T l) ≡ true
   at-good (at-place {q = q} {k = k} h hg hh) = lays-good q h (λ g. end-good k (hg g))
 
-  at-choice-good : {v : Bool} {q : Alts} {o : Other} {r : Acts} {k : List Context} {l : ℕ} → AtChoice T start prog v q o r k l → good (decode T l) ≡ true
+  at-choice-good : {v : Bool} {q : Alts} {o : Other} {r : Acts} {k : List Context} {l : ℕ} → AtChoice T start prog v q o r k l
+      → good (decode T l) ≡ true
   unfolding good
   at-choice-good (at-choice (lay-choice d t hq ho) hg hh) = rw d
 
-  -- what follows an action that goes past; what an exit in it leads to
-  rest-at : {v : Bool} (a : Act) {q : Acts} {k : List Context} {x m e : ℕ} → Lays T start prog v q x m e → (pastAll (a ▸ q) ≡ true → End T start prog v k e)
-      → (exitsAll (a ▸ q) ≡ true → Out T start prog v k x) → past a ≡ true → At T start prog v q k m
+  -- what follows an action that goes past; where an exit in it goes
+  rest-at : {v : Bool} (a : Act) {q : Acts} {k : List Context} {x m e : ℕ} → Lays T start prog v q x m e
+      → (pastAll (a ▸ q) ≡ true → End T start prog v k e) → (exitsAll (a ▸ q) ≡ true → Out T start prog v k x)
+      → past a ≡ true → At T start prog v q k m
   unfolding pastAll exitsAll
   rest-at a {q} hs hg hh g = at-place hs (λ gs. hg (both (past a) (pastAll q) g gs)) (λ h. hh (or₂ (exits a) (exitsAll q) h))
 
-  exit-out : {v : Bool} (a : Act) (q : Acts) {k : List Context} {x : ℕ} → (exitsAll (a ▸ q) ≡ true → Out T start prog v k x) → exits a ≡ true → Out T start prog v k x
+  exit-out : {v : Bool} (a : Act) (q : Acts) {k : List Context} {x : ℕ} → (exitsAll (a ▸ q) ≡ true → Out T start prog v k x)
+      → exits a ≡ true → Out T start prog v k x
   unfolding exitsAll
   exit-out a q hh g = hh (or₁ (exits a) (exitsAll q) g)
 
@@ -224,7 +229,8 @@ module _ (T : List ℕ) (start : ℕ → ℕ) (prog : List Rule) where
   if-found true h h′ = h
   if-found false h h′ = h′
 
-  alts-found : (u : ℕ) {v : Bool} {q : Alts} {x y l : ℕ} {ps : List Entry} → LayAlts T start prog v q x y l ps → Found v x y q (labelled u q) (lookup u ps)
+  alts-found : (u : ℕ) {v : Bool} {q : Alts} {x y l : ℕ} {ps : List Entry} → LayAlts T start prog v q x y l ps
+      → Found v x y q (labelled u q) (lookup u ps)
   unfolding labelled lookup pastSome exitsSome
   alts-found u alts-nil = found-none
   alts-found u (alts-cons {ls = ls} {b = b} {q = q} {l = l} {ps = ps} h d t) =
@@ -247,12 +253,12 @@ module _ (T : List ℕ) (start : ℕ → ℕ) (prog : List Rule) (tokens answers
   goTo-rel {y = y} {rs = rs} io l w p m a h = rw (goTo-is T tokens y (goingAt l rs w p io) (at-good T start prog a)) (rel-on a h)
 
   test-rel : (r : Reason) (t : Bool) {v : Bool} {q : Acts} {k : List Context} {ps : List Pending} {y : ℕ} {rs : List ℕ}
-      (io io₀ : Io) (l w p w₀ p₀ : ℕ) (rs₀ : List ℕ) → inside r ≡ true → At T start prog v q k y → Pend T start prog v ps rs
+      (io io₀ : Io) (l w p : ℕ) (rs₀ : List ℕ) → inside r ≡ true → At T start prog v q k y → Pend T start prog v ps rs
       → Rel T start prog (if t then on q k ps io else rules.stopped r io₀)
-      (doing T tokens answers (if t then goes (goingAt y rs w p io) else stops r) (goingAt l rs₀ w₀ p₀ io₀))
+      (doing T tokens answers (if t then goes (goingAt y rs w p io) else stops r) (goingAt l rs₀ w p io₀))
   unfolding doing inPhase
-  test-rel r true io io₀ l w p w₀ p₀ rs₀ z a h = rel-on a h
-  test-rel r false io io₀ l w p w₀ p₀ rs₀ z a h = rel-stopped z
+  test-rel r true io io₀ l w p rs₀ z a h = rel-on a h
+  test-rel r false io io₀ l w p rs₀ z a h = rel-stopped z
 
   left-rel : {v : Bool} {k : List Context} {x : ℕ} {ps : List Pending} {rs : List ℕ} (io : Io) (l w p : ℕ) (m : Walk)
       → Out T start prog v k x → Pend T start prog v ps rs
@@ -274,7 +280,8 @@ module _ (T : List ℕ) (start : ℕ → ℕ) (prog : List Rule) (tokens answers
   give-rel io l w p (pend-choice {r = r} {rs = rs} a h) =
       rw (goTo-is T tokens r (goingAt l rs w p io) (at-choice-good T start prog a)) (rel-choosing a h)
 
-  asked-rel : (x : Option ℕ) {v : Bool} {al : Alts} {o : Other} {q : Acts} {k : List Context} {ps : List Pending} {rs : List ℕ} (e : Event) (io : Io) (l w p : ℕ)
+  asked-rel : (x : Option ℕ) {v : Bool} {al : Alts} {o : Other} {q : Acts} {k : List Context} {ps : List Pending} {rs : List ℕ}
+      (e : Event) (io : Io) (l w p : ℕ)
       → AtChoice T start prog v al o q k (l + 1) → Pend T start prog v ps rs
       → Rel T start prog (asked x e al o q k ps io) (taking x e (goingAt (l + 1) rs w p io) (goingAt l rs w p io))
   unfolding asked taking withAnswer writing inPhase withResult withIo
@@ -289,7 +296,7 @@ module _ (T : List ℕ) (start : ℕ → ℕ) (prog : List Rule) (tokens answers
       two-steps : (io : Io) (l : ℕ) (rs : List ℕ) (w p : ℕ) → Running s io → one T tokens answers m ≡ goingAt l rs w p io
           → Rel T start prog (own prog tokens answers s) (one T tokens answers (goingAt l rs w p io)) → Move s m
 
-    -- i: of an input choice
+    -- at a choice: i: of an input choice; f, t: where the tree and the table lead; z: the location of the distance
     choice-move : (i : Bool) {v : Bool} {al : Alts} {f : Option Acts} {t z : Option ℕ} {q : Acts} {k : List Context} {pps : List Pending} {o : Other}
         {ps : List Entry} {x d e : ℕ} {rs : List ℕ} (io io′ : Io) (l w p : ℕ) (s : Own) (m : Walk) → Running s io
         → own prog tokens answers s ≡ chosen f o q k pps (why i) io io′
@@ -312,8 +319,8 @@ module _ (T : List ℕ) (start : ℕ → ℕ) (prog : List Rule) (tokens answers
     choice-move false {d = d} {rs = rs} io io′ l w p s m rn os st lk leads-none found-none (other-end j) hg hh hp =
         two-steps io d rs w p rn (rw (st, goTo-is T tokens d (goingAt l rs w p io) (rw j))) (rw (os, j) (rel-stopped refl))
 
-    end-move : {v : Bool} {k : List Context} {ps : List Pending} {e : ℕ} {rs : List ℕ} (io : Io) (w p : ℕ) → End T start prog v k e → Pend T start prog v ps rs
-        → Move (on done k ps io) (goingAt e rs w p io)
+    end-move : {v : Bool} {k : List Context} {ps : List Pending} {e : ℕ} {rs : List ℕ} (io : Io) (w p : ℕ)
+        → End T start prog v k e → Pend T start prog v ps rs → Move (on done k ps io) (goingAt e rs w p io)
     unfolding own ended one oneIn step exec weight
     end-move {e = e} io w p (end-rule z d) h = one-step (rw d (return-rel io e w p (rw z at h)))
     end-move {e = e} io w p (end-cycle b d o) h = one-step (rw d (goTo-rel io e w p _ (at-place b (λ x. end-cycle b d o) o) h))
@@ -322,11 +329,12 @@ module _ (T : List ℕ) (start : ℕ → ℕ) (prog : List Rule) (tokens answers
 
     entered-rel : {v : Bool} {r : ℕ} {pl : Pending} {ps : List Pending} {rs : List ℕ} (io : Io) (l w p : ℕ) → Calls prog r v → length ps ≡ length rs
         → Pend T start prog v (pl ∷ ps) ((l + 2) ∷ rs)
-        → Rel T start prog (entered prog tokens answers r pl ps io) (doing T tokens answers (calling T tokens (start r) (goingAt l rs w p io)) (goingAt l rs w p io))
+        → Rel T start prog (entered prog tokens answers r pl ps io)
+        (doing T tokens answers (calling T tokens (start r) (goingAt l rs w p io)) (goingAt l rs w p io))
     unfolding entered calling moved withReturns
     entered-rel {r = r} {rs = rs} io l w p c e h =
         let a = laid r (c .there) in
-        rw (good-there T (start r) (at-good T start prog a), e) (test-rel deep (ltb (length rs) 64) io io l w p w p rs refl (rw (c .sort) at a) h)
+        rw (good-there T (start r) (at-good T start prog a), e) (test-rel deep (ltb (length rs) 64) io io l w p rs refl (rw (c .sort) at a) h)
 
     -- before a plain action
     plain-move : {v : Bool} {a : Plain} {q : Acts} {k : List Context} {ps : List Pending} {x l m e : ℕ} {rs : List ℕ} (io : Io) (w p : ℕ)
@@ -334,9 +342,9 @@ module _ (T : List ℕ) (start : ℕ → ℕ) (prog : List Rule) (tokens answers
         → (exitsAll (plain a ▸ q) ≡ true → Out T start prog v k x) → Pend T start prog v ps rs → Move (on (plain a ▸ q) k ps io) (goingAt l rs w p io)
     unfolding own ownPlain one oneIn step exec doing writing moved withIo withResult withParameter past plainPast exits isExit
     plain-move {l = l} {rs = rs} io w p (lay-match {t = t} d) hs hg hh h =
-        one-step (rw d (test-rel differs (is t (present tokens io)) (took io) io l w p w p rs refl (rest-at T start prog (plain (match t)) hs hg hh refl) h))
+        one-step (rw d (test-rel differs (is t (present tokens io)) (took io) io l w p rs refl (rest-at T start prog (plain (match t)) hs hg hh refl) h))
     plain-move {l = l} {rs = rs} io w p (lay-any d) hs hg hh h =
-        one-step (rw d (test-rel missing (given (present tokens io)) (took io) io l w p w p rs refl (rest-at T start prog (plain any) hs hg hh refl) h))
+        one-step (rw d (test-rel missing (given (present tokens io)) (took io) io l w p rs refl (rest-at T start prog (plain any) hs hg hh refl) h))
     plain-move io w p (lay-emit {t = t} d) hs hg hh h = one-step (rw d (rel-on (rest-at T start prog (plain (emit t)) hs hg hh refl) h))
     plain-move io w p (lay-error {t = t} d) hs hg hh h = one-step (rw d (rel-on (rest-at T start prog (plain (error t)) hs hg hh refl) h))
     plain-move {q = q} {l = l} io w p (lay-exit d) hs hg hh h = one-step (rw d (left-rel io l w p _ (exit-out T start prog (plain exit) q hh refl) h))
@@ -375,7 +383,7 @@ module _ (T : List ℕ) (start : ℕ → ℕ) (prog : List Rule) (tokens answers
         let here = choice (byOperation op) al o in
         one-step (rw d (asked-rel (nextAnswer answers io) (operation op) io l w p
         (at-choice a (λ x. rest-at T start prog here hs hg hh x) (λ x. exit-out T start prog here q hh x)) h))
-    move (rel-on {io = io} {l = l} {w = w} {p = p} {rs = rs} (at-place (lays-cons {q = q} (lay-operationWith {op = op} {u = u} {q = al} {o = o} d d₁ a) hs) hg hh) h) =
+    move (rel-on {io = io} {l = l} {w = w} {rs = rs} (at-place (lays-cons {q = q} (lay-operationWith {op = op} {u = u} {q = al} {o = o} d d₁ a) hs) hg hh) h) =
         let here = choice (byOperationWith op u) al o in
         two-steps io (l + 2) rs w u running-on (rw d)
         (rw d₁ (asked-rel (nextAnswer answers io) (operationWith op u) io (l + 2) w u

@@ -4,3 +4,4 @@ pub mod Lengths
 pub mod Bytes
 pub mod Form
 pub mod Facts
+pub mod Keeps

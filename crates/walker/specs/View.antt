@@ -36,13 +36,13 @@ eventOf (With op v) = events.operationWith op v
 -- registers and return locations in a phase: "more than 64 return locations are read as the first 64", the array having no more
 unfoldable pub walkIn : machine.Phase → Registers → List ℕ → machine.Walk
 walkIn ph r returns = record {
-      phase = ph;
-      location = r .location;
-      returns = reverse (take (r .depth) returns);
-      result = r .result;
-      parameter = r .parameter;
-      io = record { read = r .read; used = r .used; events = [] }
-    }
+  phase = ph;
+  location = r .location;
+  returns = reverse (take (r .depth) returns);
+  result = r .result;
+  parameter = r .parameter;
+  io = record { read = r .read; used = r .used; events = [] };
+}
 
 unfoldable pub walkOf : Walk → machine.Walk
 walkOf w = walkIn (phaseOf (w .phase)) (w .at) (w .returns)

@@ -1,0 +1,53 @@
+//! Compiles c/walker.c and, with the feature `lib`, links libfirmware.a.
+
+use std::env;
+use std::path::Path;
+use std::process::{Command, exit};
+
+fn fail(message: &str) -> ! {
+    eprintln!("{message}");
+    exit(1)
+}
+
+fn run(command: &mut Command) {
+    match command.status() {
+        Ok(status) if status.success() => {}
+        Ok(status) => fail(&format!("{command:?}: {status}")),
+        Err(error) => fail(&format!("{command:?}: {error}")),
+    }
+}
+
+fn main() {
+    let Ok(out) = env::var("OUT_DIR") else { fail("OUT_DIR is not set") };
+    let compiler = env::var("CC").unwrap_or_else(|_| "gcc".to_string());
+    let object = format!("{out}/walker.o");
+    let archive = format!("{out}/libcwalker.a");
+    println!("cargo::rerun-if-env-changed=CC");
+    println!("cargo::rerun-if-changed=build.rs");
+    println!("cargo::rerun-if-changed=c/walker.c");
+    run(Command::new(compiler)
+        .args(["-std=c99", "-O2", "-Wall", "-Wextra", "-pedantic", "-fPIC", "-c", "c/walker.c", "-o"])
+        .arg(&object));
+    let _ = std::fs::remove_file(&archive);
+    run(Command::new("ar").arg("crs").arg(&archive).arg(&object));
+    println!("cargo::rustc-link-search=native={out}");
+    println!("cargo::rustc-link-lib=static=cwalker");
+
+    println!("cargo::rerun-if-env-changed=SST_LIB_DIR");
+    if env::var_os("CARGO_FEATURE_LIB").is_some() {
+        let Ok(dir) = env::var("SST_LIB_DIR") else {
+            fail("set SST_LIB_DIR to the folder of libfirmware.a, or build with --no-default-features")
+        };
+        let library = Path::new(&dir).join("libfirmware.a");
+        let Ok(library) = library.canonicalize() else {
+            fail(&format!("{}: not found; or build with --no-default-features", library.display()))
+        };
+        println!("cargo::rerun-if-changed={}", library.display());
+        if let Some(folder) = library.parent() {
+            println!("cargo::rustc-link-search=native={}", folder.display());
+        }
+        println!("cargo::rustc-link-lib=static=firmware");
+        println!("cargo::rustc-link-lib=dylib=m");
+        println!("cargo::rustc-link-lib=dylib=c");
+    }
+}

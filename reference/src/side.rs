@@ -1,0 +1,86 @@
+//! The entries of the C interface, as one trait for all walkers, and this crate's own walker behind it.
+
+use crate::walker::{self, Done, Phase, REFUSED, Walk};
+
+/// What a call reads.
+#[derive(Clone, Copy)]
+pub struct Inputs<'a> {
+    pub table: &'a [u8],
+    pub tokens: &'a [u8],
+    pub answers: &'a [u8],
+}
+
+/// The entries of `sst.h`. A paused call reads no answers.
+pub trait Side {
+    fn name(&self) -> &'static str;
+    fn fresh(&self, walk: &mut [u8]) -> u16;
+    fn whole(&self, inputs: Inputs, budget: u64, walk: &mut [u8], events: &mut [u8]) -> Done;
+    fn paused(&self, inputs: Inputs, given: u16, answer: u16, budget: u64, walk: &mut [u8], events: &mut [u8]) -> Done;
+    fn phase(&self, walk: &[u8]) -> u16;
+    fn reason(&self, walk: &[u8]) -> u16;
+    fn location(&self, walk: &[u8]) -> u16;
+    fn read(&self, walk: &[u8]) -> u64;
+    fn used(&self, walk: &[u8]) -> u64;
+}
+
+/// The walker of this crate.
+pub struct Reference;
+
+const REFUSAL: Done = Done { number: REFUSED, written: 0, steps: 0 };
+
+impl Side for Reference {
+    fn name(&self) -> &'static str {
+        "rust"
+    }
+
+    fn fresh(&self, walk: &mut [u8]) -> u16 {
+        if walk.len() != walker::WALK_BYTES {
+            return REFUSED;
+        }
+        walk.copy_from_slice(&Walk::fresh().encode());
+        0
+    }
+
+    fn whole(&self, inputs: Inputs, budget: u64, walk: &mut [u8], events: &mut [u8]) -> Done {
+        let Some(mut state) = Walk::decode(walk) else { return REFUSAL };
+        let done = walker::whole(inputs.table, inputs.tokens, inputs.answers, budget, &mut state, events);
+        walk.copy_from_slice(&state.encode());
+        done
+    }
+
+    fn paused(&self, inputs: Inputs, given: u16, answer: u16, budget: u64, walk: &mut [u8], events: &mut [u8]) -> Done {
+        let Some(mut state) = Walk::decode(walk) else { return REFUSAL };
+        let answer = (given != 0).then_some(answer);
+        let done = walker::paused(inputs.table, inputs.tokens, answer, budget, &mut state, events);
+        walk.copy_from_slice(&state.encode());
+        done
+    }
+
+    fn phase(&self, walk: &[u8]) -> u16 {
+        match Walk::decode(walk).map(|walk| walk.phase) {
+            Some(Phase::Going) => 0,
+            Some(Phase::Waiting) => 1,
+            Some(Phase::Stopped(_)) => 2,
+            None => 3,
+        }
+    }
+
+    fn reason(&self, walk: &[u8]) -> u16 {
+        match Walk::decode(walk).map(|walk| walk.phase) {
+            Some(Phase::Stopped(reason)) => reason as u16,
+            _ => u16::MAX,
+        }
+    }
+
+    fn location(&self, walk: &[u8]) -> u16 {
+        Walk::decode(walk).map_or(0, |walk| walk.location)
+    }
+
+    fn read(&self, walk: &[u8]) -> u64 {
+        Walk::decode(walk).map_or(0, |walk| walk.read)
+    }
+
+    fn used(&self, walk: &[u8]) -> u64 {
+        Walk::decode(walk).map_or(0, |walk| walk.used)
+    }
+}
