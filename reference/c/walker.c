@@ -178,7 +178,7 @@ static uint16_t run(const uint8_t *table, size_t table_len, const uint8_t *token
             if (i < count) {
                 size_t here = first + 2 * i + 2;
                 uint16_t distance = word(table, here - 1);
-                if (distance >= here || here - distance > size)
+                if (distance >= here)
                     goto outside;
                 target = here - distance;
                 if (op == 7)

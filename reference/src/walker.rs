@@ -421,3 +421,430 @@ impl Machine<'_> {
         }
     }
 }
+
+#[cfg(test)]
+mod tests {
+    use super::*;
+    use crate::tables::bytes;
+
+    const FILL: u8 = 0xEE;
+
+    /// A call's answer, the events it wrote as words, and the walk after it.
+    struct Ran {
+        done: Done,
+        events: Vec<u16>,
+        walk: Walk,
+    }
+
+    impl Ran {
+        fn is(&self, number: u16, steps: u64) -> &Ran {
+            assert_eq!((self.done.number, self.done.steps), (number, steps));
+            self
+        }
+
+        fn events(&self, events: &[[u16; 3]]) -> &Ran {
+            assert_eq!(self.done.written, events.len() as u64);
+            assert_eq!(self.events, events.concat());
+            self
+        }
+
+        /// Location, tokens read, answers used.
+        fn at(&self, location: u16, read: u64, used: u64) -> &Ran {
+            assert_eq!((self.walk.location, self.walk.read, self.walk.used), (location, read, used));
+            self
+        }
+
+        fn stopped(&self, reason: Reason) -> &Ran {
+            assert_eq!(self.walk.phase, Phase::Stopped(reason));
+            self
+        }
+
+        fn goes(&self) -> &Ran {
+            assert_eq!(self.walk.phase, Phase::Going);
+            self
+        }
+
+        fn waits(&self) -> &Ran {
+            assert_eq!(self.walk.phase, Phase::Waiting);
+            self
+        }
+    }
+
+    /// Runs a call on a copy of the walk, with a buffer of so many bytes, and looks at what it left alone.
+    fn ran(walk: &Walk, size: usize, call: impl FnOnce(&mut Walk, &mut [u8]) -> Done) -> Ran {
+        let mut walk = walk.clone();
+        let mut buffer = vec![FILL; size];
+        let done = call(&mut walk, &mut buffer);
+        let end = 6 * done.written as usize;
+        assert!(buffer[end..].iter().all(|byte| *byte == FILL));
+        let again = Walk::decode(&walk.encode()).expect("a walk has a form");
+        assert_eq!(again.encode(), walk.encode());
+        let events = words(&buffer[..end]).iter().map(|word| u16::from_be_bytes(*word)).collect();
+        Ran { done, events, walk }
+    }
+
+    fn whole_from(walk: &Walk, size: usize, table: &[u16], tokens: &[u16], answers: &[u16], budget: u64) -> Ran {
+        let (table, tokens, answers) = (bytes(table), bytes(tokens), bytes(answers));
+        ran(walk, size, |walk, buffer| whole(&table, &tokens, &answers, budget, walk, buffer))
+    }
+
+    fn paused_from(walk: &Walk, size: usize, table: &[u16], tokens: &[u16], answer: Option<u16>, budget: u64) -> Ran {
+        let (table, tokens) = (bytes(table), bytes(tokens));
+        ran(walk, size, |walk, buffer| paused(&table, &tokens, answer, budget, walk, buffer))
+    }
+
+    /// From a fresh walk with room enough.
+    fn whole_of(table: &[u16], tokens: &[u16], answers: &[u16], budget: u64) -> Ran {
+        whole_from(&Walk::fresh(), 600, table, tokens, answers, budget)
+    }
+
+    fn paused_of(table: &[u16], tokens: &[u16], budget: u64) -> Ran {
+        paused_from(&Walk::fresh(), 600, table, tokens, None, budget)
+    }
+
+    #[test]
+    fn p1_to_p4() {
+        whole_of(&[9], &[], &[], 1).is(0, 1).stopped(Reason::Returned).at(1, 0, 0);
+        let p2 = [7, 7, 1, 12, 6, 10, 1, 8, 2, 2, 8, 3, 8, 1, 3, 2, 16, 9];
+        // Blank: choice, jump, back; illegal: choice, error, jump, back; end: choice, jump, return.
+        let run = whole_of(&p2, &[2, 3, 7], &[], 100);
+        run.is(0, 10).events(&[[2, 10, 0]]).at(18, 2, 0);
+        assert_eq!(run.walk.result, 7);
+        whole_of(&[2, 1, 9], &[], &[], 1000).is(36, 1000).goes().at(1, 0, 0);
+        whole_of(&[1, 3, 2, 3, 9], &[], &[], 9).is(0, 2).at(5, 0, 0);
+    }
+
+    #[test]
+    fn p5() {
+        whole_of(&[3, 0, 9], &[0], &[], 2).is(0, 2).stopped(Reason::Returned).at(3, 1, 0);
+        whole_of(&[3, 0, 9], &[0], &[], 1).is(36, 1).goes().at(3, 1, 0);
+        whole_of(&[3, 0, 9], &[], &[], 1).is(30, 1).stopped(Reason::OtherToken).at(1, 0, 0);
+        whole_of(&[3, 0, 9], &[1], &[], 1).is(30, 1).stopped(Reason::OtherToken).at(1, 0, 0);
+    }
+
+    #[test]
+    fn p6() {
+        let table = [7, 3, 1, 8, 1, 1, 4, 3, 1, 2, 8, 9];
+        let run = whole_of(&table, &[0], &[], 2);
+        run.is(30, 2).stopped(Reason::OtherToken).at(8, 0, 0);
+        assert_eq!(run.walk.result, 0);
+        let run = whole_of(&table, &[1], &[], 9);
+        run.is(0, 3).at(12, 1, 0);
+        assert_eq!(run.walk.result, 1);
+    }
+
+    #[test]
+    fn p7() {
+        whole_of(&[8, 1, 9], &[], &[], 64).is(36, 64).goes();
+        let run = whole_of(&[8, 1, 9], &[], &[], 65);
+        run.is(33, 65).stopped(Reason::TooDeep).at(1, 0, 0);
+        assert_eq!((run.walk.held, run.walk.returns), (64, [3; 64]));
+    }
+
+    #[test]
+    fn number_0_returns() {
+        // 1: call 4, 3: return, 4: return.
+        whole_of(&[8, 4, 9, 9], &[], &[], 9).is(0, 3).at(3, 0, 0);
+        // The return with nothing pending stops a paused walk too.
+        paused_of(&[9], &[], 1).is(0, 1);
+    }
+
+    #[test]
+    fn number_21() {
+        let table = [768, 9];
+        let going = Walk::fresh();
+        let waiting = paused_of(&table, &[], 9).walk;
+        let stopped = whole_of(&[9], &[], &[], 9).walk;
+        for (run, before) in [
+            (paused_from(&going, 60, &table, &[], Some(1), 9), &going),
+            (paused_from(&stopped, 60, &table, &[], Some(1), 9), &stopped),
+            (paused_from(&waiting, 60, &table, &[], None, 9), &waiting),
+            (whole_from(&waiting, 60, &table, &[], &[1], 9), &waiting),
+            (whole_from(&waiting, 60, &table, &[], &[1], 0), &waiting),
+        ] {
+            run.is(21, 0).events(&[]);
+            assert_eq!(run.walk.encode(), before.encode());
+        }
+    }
+
+    #[test]
+    fn number_21_for_bytes() {
+        let good = whole_of(&[8, 1, 9], &[], &[], 5).walk.encode();
+        assert!(Walk::decode(&good).is_some());
+        assert!(Walk::decode(&good[..155]).is_none());
+        assert!(Walk::decode(&[&good[..], &[0]].concat()).is_none());
+        assert!(Walk::decode(&[]).is_none());
+        let with = |word: usize, value: u16| {
+            let mut bytes = good;
+            bytes[2 * word..2 * word + 2].copy_from_slice(&value.to_be_bytes());
+            Walk::decode(&bytes).is_some()
+        };
+        assert!(with(0, 1) && with(0, 2) && !with(0, 3) && !with(0, 256));
+        assert!(!with(1, 30) && !with(1, 37));
+        assert!(with(5, 64) && !with(5, 65) && !with(5, 4) && with(5, 6));
+        assert!(with(18, 9) && !with(19, 1) && !with(77, 1));
+        let stopped = |reason: u16| {
+            let mut bytes = good;
+            bytes[1] = 2;
+            bytes[2..4].copy_from_slice(&reason.to_be_bytes());
+            Walk::decode(&bytes).is_some()
+        };
+        let reasons: Vec<u16> = (0..=65535).filter(|reason| stopped(*reason)).collect();
+        assert_eq!(reasons, [0, 30, 31, 32, 33, 34, 37]);
+    }
+
+    #[test]
+    fn the_byte_form() {
+        let mut fresh = [0; WALK_BYTES];
+        fresh[5] = 1;
+        assert_eq!(Walk::fresh().encode(), fresh);
+        let mut walk = Walk {
+            phase: Phase::Stopped(Reason::Foreign),
+            location: 0x0102,
+            returns: [0xFFFF; MAX_RETURNS],
+            held: 2,
+            result: 0x0304,
+            parameter: 0x0506,
+            read: 0x0708_090A_0B0C_0D0E,
+            used: u64::MAX - 1,
+        };
+        let form = walk.encode();
+        assert_eq!(form[..14], [0, 2, 0, 37, 1, 2, 3, 4, 5, 6, 0, 2, 7, 8]);
+        assert_eq!(form[14..28], [9, 10, 11, 12, 13, 14, 255, 255, 255, 255, 255, 255, 255, 254]);
+        assert_eq!(form[28..34], [255, 255, 255, 255, 0, 0]);
+        // More than 64 are read as the first 64.
+        walk.held = 1000;
+        assert_eq!(walk.encode()[10..12], [0, 64]);
+        walk.phase = Phase::Going;
+        whole_from(&walk, 60, &[0; 258], &[], &[], 1).is(37, 0);
+        let mut deep = walk.clone();
+        deep.location = 1;
+        whole_from(&deep, 60, &[8, 1, 9], &[], &[], 9).is(33, 1);
+    }
+
+    #[test]
+    fn number_22_pauses() {
+        // setParameter 7, choice operation 1,024, choice by 1: emit 5, else endChoice.
+        let table = [13, 7, 1024, 11, 5, 5, 5, 1, 5, 1, 1, 6, 12, 9];
+        let first = paused_of(&table, &[], 2);
+        first.is(22, 2).waits().events(&[[3, 1024, 7]]).at(4, 0, 0);
+        let second = paused_from(&first.walk, 60, &table, &[], Some(1), 0);
+        second.is(36, 0).goes().events(&[]).at(4, 0, 1);
+        assert_eq!(second.walk.result, 1);
+        paused_from(&second.walk, 60, &table, &[], None, 9).is(0, 4).events(&[[1, 5, 0]]).at(14, 0, 1);
+        paused_from(&first.walk, 60, &table, &[], Some(2), 9).is(32, 2).events(&[]).at(13, 0, 1);
+        // The whole walk: the same events, steps and end.
+        whole_of(&table, &[], &[1], 99).is(0, 6).events(&[[3, 1024, 7], [1, 5, 0]]).at(14, 0, 1);
+        whole_of(&table, &[], &[2, 9], 99).is(32, 4).events(&[[3, 1024, 7]]).at(13, 0, 1);
+    }
+
+    #[test]
+    fn numbers_30_and_31() {
+        paused_of(&[3, 5, 9], &[4], 9).is(30, 1).at(1, 0, 0);
+        paused_of(&[4, 4, 9], &[4], 9).is(31, 2).stopped(Reason::NoToken).at(2, 1, 0);
+        whole_of(&[4, 9], &[65535], &[], 9).is(0, 2).at(2, 1, 0);
+    }
+
+    #[test]
+    fn number_32() {
+        // setResult 6, choice without labels.
+        let table = [10, 6, 11, 1, 0, 12];
+        let run = whole_of(&table, &[], &[], 9);
+        run.is(32, 3).stopped(Reason::NoLabel).at(6, 0, 0);
+        assert_eq!(run.walk.result, 6);
+    }
+
+    #[test]
+    fn number_33_after_37() {
+        let mut walk = Walk { held: 64, ..Walk::fresh() };
+        whole_from(&walk, 60, &[8, 1, 9], &[], &[], 9).is(33, 1);
+        for target in [0, 4, 65535] {
+            whole_from(&walk, 60, &[8, target, 9], &[], &[], 9).is(37, 0);
+        }
+        walk.held = 63;
+        whole_from(&walk, 60, &[8, 1, 9], &[], &[], 9).is(33, 2);
+    }
+
+    #[test]
+    fn number_34() {
+        let table = [768, 768, 9];
+        let run = whole_of(&table, &[], &[5], 9);
+        run.is(34, 2).stopped(Reason::NoAnswer).events(&[[3, 768, 0]]).at(2, 0, 1);
+        assert_eq!(run.walk.result, 5);
+        // Of the same answers, a paused walk waits.
+        let first = paused_of(&table, &[], 9);
+        paused_from(&first.walk, 60, &table, &[], Some(5), 9).is(22, 1).waits().events(&[[3, 768, 0]]).at(3, 0, 1);
+        // The walk's own count of answers says which is next.
+        let walk = Walk { used: 1, ..Walk::fresh() };
+        let run = whole_from(&walk, 60, &[768, 9], &[], &[4, 8], 9);
+        run.is(0, 2).at(2, 0, 2);
+        assert_eq!(run.walk.result, 8);
+        // A final stop repeats, in a paused call too.
+        let stopped = whole_of(&table, &[], &[], 9);
+        paused_from(&stopped.walk, 60, &table, &[], None, 9).is(34, 0).events(&[]);
+    }
+
+    #[test]
+    fn number_35() {
+        let fresh = Walk::fresh();
+        for instruction in [5, 6] {
+            whole_from(&fresh, 5, &[instruction, 7, 9], &[], &[], 9).is(35, 0).goes().events(&[]).at(1, 0, 0);
+            whole_from(&fresh, 6, &[instruction, 7, 9], &[], &[], 9).is(0, 2).events(&[[instruction - 4, 7, 0]]);
+            whole_from(&fresh, 7, &[instruction, 7, 9], &[], &[], 1).is(36, 1).events(&[[instruction - 4, 7, 0]]);
+        }
+        // No room comes before no answer, and after the table's faults and the budget.
+        whole_from(&fresh, 5, &[768, 9], &[], &[], 9).is(35, 0).goes().events(&[]);
+        whole_from(&fresh, 6, &[768, 9], &[], &[], 9).is(34, 1).events(&[]);
+        paused_from(&fresh, 4, &[768, 9], &[], None, 9).is(35, 0).goes().events(&[]);
+        paused_from(&fresh, 6, &[768, 9], &[], None, 9).is(22, 1).events(&[[3, 768, 0]]);
+        whole_from(&fresh, 0, &[5], &[], &[], 9).is(37, 0);
+        whole_from(&fresh, 0, &[5, 1], &[], &[], 0).is(36, 0);
+        // Called on with another buffer, it goes on.
+        let run = whole_from(&fresh, 11, &[256, 512, 9], &[], &[], 9);
+        run.is(35, 1).events(&[[3, 256, 0]]);
+        whole_from(&run.walk, 11, &[256, 512, 9], &[], &[], 9).is(0, 2).events(&[[3, 512, 0]]);
+    }
+
+    #[test]
+    fn number_36() {
+        whole_of(&[9], &[], &[], 0).is(36, 0).goes();
+        whole_of(&[], &[], &[], 0).is(36, 0).goes();
+        let stopped = whole_of(&[3, 1], &[], &[], 9).walk;
+        whole_from(&stopped, 60, &[3, 1], &[1], &[], 0).is(30, 0).at(1, 0, 0);
+        // An operation handed out with the last step waits.
+        paused_of(&[768, 9], &[], 1).is(22, 1);
+        whole_of(&[768, 9], &[], &[1], 1).is(36, 1).at(2, 0, 1);
+    }
+
+    #[test]
+    fn number_37() {
+        let bad = |table: &[u16]| {
+            let run = whole_of(table, &[], &[], 9);
+            run.is(37, 0).stopped(Reason::Foreign).events(&[]).at(1, 0, 0);
+            let walk = run.walk.encode();
+            whole_from(&run.walk, 60, &[9], &[], &[], 9).is(37, 0);
+            assert_eq!(walk[4..], Walk::fresh().encode()[4..]);
+        };
+        bad(&[]);
+        for number in [0, 14, 15, 255, 1280, 65535] {
+            bad(&[number, 0, 9]);
+        }
+        for number in [1, 2, 3, 5, 6, 7, 8, 10, 11, 13] {
+            bad(&[number]);
+        }
+        bad(&[1, 2, 9]);
+        bad(&[1, 65535, 9]);
+        bad(&[2, 2, 9]);
+        bad(&[2, 65535, 9]);
+        bad(&[8, 0, 9]);
+        bad(&[8, 4, 9]);
+        // The count, the labels, the default.
+        for number in [7, 11] {
+            bad(&[number, 1]);
+            bad(&[number, 1, 1, 5]);
+            bad(&[number, 1, 65535, 5, 1]);
+            bad(&[number, 1, 0]);
+            bad(&[number, 1, 1, 5, 1]);
+        }
+        // An instruction at the table's end is done; the next is not.
+        whole_of(&[3, 1], &[1], &[], 9).is(37, 1).at(3, 1, 0);
+        whole_of(&[256], &[], &[], 9).is(37, 1).at(2, 0, 0).events(&[[3, 256, 0]]);
+        // A distance of 0 is the operand's own location, here 9 after a jump there.
+        whole_of(&[1, 0], &[], &[], 9).is(37, 1).at(2, 0, 0);
+        whole_of(&[2, 0], &[], &[], 9).is(37, 1).at(2, 0, 0);
+        // A return location is tested at the return.
+        whole_of(&[1, 3, 9, 9, 8, 3], &[], &[], 9).is(37, 2).at(3, 0, 0);
+        let walk = Walk { held: 1, ..Walk::fresh() };
+        let run = whole_from(&walk, 60, &[9], &[], &[], 9);
+        run.is(37, 0).at(1, 0, 0);
+        assert_eq!(run.walk.held, 1);
+    }
+
+    #[test]
+    fn only_the_way_taken_is_tested() {
+        // inputChoice; the label 2 goes outside, the label 3 to location 1.
+        let table = [7, 1, 2, 2, 6, 3, 6, 9];
+        whole_of(&table, &[3], &[], 1).is(36, 1).at(1, 1, 0);
+        let run = whole_of(&table, &[2], &[], 1);
+        run.is(37, 0).at(1, 0, 0);
+        assert_eq!(run.walk.result, 0);
+        // Without otherwise's first word the labels still work, and the default leaves the result.
+        whole_of(&table[..7], &[3], &[], 1).is(36, 1).at(1, 1, 0);
+        let run = whole_of(&table[..7], &[9], &[], 1);
+        run.is(37, 0).at(1, 0, 0);
+        assert_eq!(run.walk.result, 0);
+        // The whole choice table is tested first.
+        whole_of(&table[..6], &[3], &[], 1).is(37, 0);
+        // A label to its own distance's location.
+        whole_of(&[7, 1, 1, 5, 0, 9], &[5], &[], 1).is(36, 1).at(5, 1, 0);
+    }
+
+    #[test]
+    fn no_token_matches_no_label() {
+        // The result is 5, the label too; with no token left the default is taken.
+        let table = [10, 5, 7, 3, 1, 5, 1, 5, 2, 9];
+        let run = whole_of(&table, &[], &[], 3);
+        run.is(0, 3).at(10, 0, 0);
+        assert_eq!(run.walk.result, 5);
+        let run = whole_of(&table, &[6], &[], 3);
+        run.is(0, 3).at(10, 0, 0);
+        assert_eq!(run.walk.result, 6);
+    }
+
+    #[test]
+    fn parameters() {
+        let table = [13, 9, 256, 511, 512, 767, 768, 1023, 1024, 1279, 9];
+        let run = whole_of(&table, &[], &[1, 2, 3, 4], 99);
+        let numbers = [256, 511, 512, 767, 768, 1023, 1024, 1279];
+        run.is(0, 10).at(11, 0, 4).events(&[
+            [3, numbers[0], 0],
+            [3, numbers[1], 0],
+            [3, numbers[2], 9],
+            [3, numbers[3], 9],
+            [3, numbers[4], 0],
+            [3, numbers[5], 0],
+            [3, numbers[6], 9],
+            [3, numbers[7], 9],
+        ]);
+        assert_eq!((run.walk.result, run.walk.parameter), (4, 9));
+    }
+
+    #[test]
+    fn large_counts() {
+        let waiting = Walk { phase: Phase::Waiting, used: u64::MAX, ..Walk::fresh() };
+        let run = paused_from(&waiting, 60, &[9], &[], Some(3), 9);
+        run.is(0, 1).at(1, 0, u64::MAX);
+        assert_eq!(run.walk.result, 3);
+        for used in [1, 1 << 16, 1 << 32, 1 << 63, u64::MAX] {
+            whole_from(&Walk { used, ..Walk::fresh() }, 60, &[768, 9], &[], &[3], 9).is(34, 1).at(1, 0, used);
+        }
+        for read in [1, 1 << 16, 1 << 32, 1 << 63, u64::MAX] {
+            whole_from(&Walk { read, ..Walk::fresh() }, 60, &[4, 9], &[3], &[], 9).is(31, 1).at(1, read, 0);
+        }
+    }
+
+    #[test]
+    fn large_tables() {
+        let mut table = vec![0; 4097];
+        table[..2].copy_from_slice(&[1, 4094]);
+        table[4095] = 4;
+        table[4096] = 9;
+        // Location 4,096 is the last one, whatever is lent.
+        whole_of(&table, &[7], &[], 9).is(37, 2).at(4097, 1, 0);
+        table[1] = 4095;
+        whole_of(&table, &[7], &[], 9).is(37, 0).at(1, 0, 0);
+    }
+
+    #[test]
+    fn odd_last_bytes() {
+        let mut events = [FILL; 7];
+        let mut walk = Walk::fresh();
+        let done = whole(&[0, 4, 2, 0, 3, 0, 0], &[0, 1, 0], &[0, 5, 0], 9, &mut walk, &mut events);
+        assert_eq!(done, Done { number: 35, written: 1, steps: 2 });
+        assert_eq!(events, [0, 3, 2, 0, 0, 0, FILL]);
+        let done = whole(&[0, 4, 2, 0, 3, 0, 0], &[0, 1, 0], &[0, 5, 0], 9, &mut walk, &mut events);
+        assert_eq!(done, Done { number: 37, written: 1, steps: 1 });
+        assert_eq!(events, [0, 3, 3, 0, 0, 0, FILL]);
+        assert_eq!((walk.location, walk.used, walk.result), (4, 1, 5));
+    }
+}

@@ -12,3 +12,4 @@ pub mod BoundWalk
 pub mod Doubling
 pub mod MoreAnswers
 pub mod Theorem
+pub mod Pauses

@@ -30,6 +30,10 @@ withEvents es w = withIo (record { read = w .io .read; used = w .io .used; event
 unfoldable pub withEarlier : List Event → Walk → Walk
 withEarlier es w = withEvents (es ++ w .io .events) w
 
+pub writing-earlier : (es : List Event) (e : Event) (v : Walk) → withEarlier es (writing e v) ≡ writing e (withEarlier es v)
+unfolding withEarlier withEvents writing Walk.opened Events.wrote
+writing-earlier es e v = let a = append-assoc es (v .io .events) (e ∷ []) in λ i. withEvents (sym a i) v
+
 -- what an instruction does, with the events of earlier calls before its own
 unfoldable pub earlier : List Event → Next → Next
 earlier es goesOutside = goesOutside
@@ -96,9 +100,11 @@ module _ (es : List Event) where
     exec-earlier invalid w = refl
     exec-earlier (jump l) w = goTo-earlier l w
     exec-earlier (input t) w =
-        if-earlier (is t (present tokens (w .io))) (goes (moved (w .location + 2) (withIo (Events.took (w .io)) w))) (stops differs) _ _ refl refl
+        let on = goes (moved (w .location + 2) (withIo (Events.took (w .io)) w)) in
+        if-earlier (is t (present tokens (w .io))) on (stops differs) _ _ refl refl
     exec-earlier inputAny w =
-        if-earlier (given (present tokens (w .io))) (goes (moved (w .location + 1) (withIo (Events.took (w .io)) w))) (stops missing) _ _ refl refl
+        let on = goes (moved (w .location + 1) (withIo (Events.took (w .io)) w)) in
+        if-earlier (given (present tokens (w .io))) on (stops missing) _ _ refl refl
     exec-earlier (write e) w = refl
     exec-earlier (inputChoice c) w = inputChoosing-earlier (present tokens (w .io)) c w
     exec-earlier (callRule l) w = calling-earlier l w
@@ -348,7 +354,7 @@ used-enough answers c h =
     (λ f. let l = ltb-false c (2 ^ 64) f in past-end answers (min c (2 ^ 64 - 1)) (omega arith) ∙ sym (past-end answers c (omega arith)))
 
 -- of no more than 64 return locations all are read
-all64 : (rs : List ℕ) → length rs ≤ 64 → first64 rs ≡ rs
+pub all64 : (rs : List ℕ) → length rs ≤ 64 → first64 rs ≡ rs
 unfolding first64
 all64 rs h = let e : length rs - 64 ≡ 0 = omega arith in rw e
 
@@ -470,10 +476,6 @@ module _ (T tokens answers : List ℕ) where
     abbrev Ended : Called → Type 0
     Ended c = Where (c .walk) (es ++ c .events) (k + c .steps)
 
-    writing-earlier : (e : Event) (v : Walk) → withEarlier es (writing e v) ≡ writing e (withEarlier es v)
-    unfolding withEarlier withEvents writing Walk.opened Events.wrote
-    writing-earlier e v = let a = append-assoc es (v .io .events) (e ∷ []) in λ i. withEvents (sym a i) v
-
     within64 : (n : ℕ) (w : Walk) → Within n w → first64 (w .returns) ≡ w .returns
     unfolding withEarlier withEvents withIo
     within64 n w d = all64 (w .returns) (rw (← d) at (kept-after (k + n) .returns))
@@ -514,7 +516,7 @@ module _ (T tokens answers : List ℕ) where
     unfolding takes taking resume endsFor withEarlier withEvents Walk.opened Events.answered
     takes-ended b m n rest none room w e v d = rested _ (n + 1) (inPhase (stopped unanswered) w) (λ p. waiting-stopped p refl) (sym d)
     takes-ended b m n rest (some x) room w e v d =
-        rest (room - 3) (withAnswer x (writing e v)) refl (ap (withAnswer x) (writing-earlier e v) ∙ sym d)
+        rest (room - 3) (withAnswer x (writing e v)) refl (ap (withAnswer x) (writing-earlier es e v) ∙ sym d)
 
     -- a whole call takes the answer after as many as there are choice operations in all events
     takes-next : (given : List ℕ) → Given (whole given) → (n : ℕ) (w : Walk) → Within n w
@@ -544,7 +546,7 @@ module _ (T tokens answers : List ℕ) where
     turn-ended b m n rest gm room w (after-goes v keeps) g d s = rest room v (keeps .phase ∙ g) (sym (next-within n w (goes v) g d s))
     turn-ended b m n rest gm room w (after-tells e v c keeps) g d s =
         if-ended b m n (ltb room 3) (over (ends 35 n w)) (further (room - 3) (writing e v)) (rested 35 n w (going-waiting g) d)
-        (rest (room - 3) (writing e v) (keeps .phase ∙ g) (writing-earlier e v ∙ sym (next-within n w (tells e v) g d s)))
+        (rest (room - 3) (writing e v) (keeps .phase ∙ g) (writing-earlier es e v ∙ sym (next-within n w (tells e v) g d s)))
     turn-ended b m n rest gm room w (after-asks e v c past keeps) g d s =
         if-ended b m n (ltb room 3) (over (ends 35 n w)) (handsOut m room n w e v) (rested 35 n w (going-waiting g) d)
         (handsOut-ended b m n rest gm room w e v g d keeps s)
@@ -553,7 +555,8 @@ module _ (T tokens answers : List ℕ) where
     unfolding run
     run-ended zero m gm room n w g d = rested 36 n w (going-waiting g) d
     run-ended (suc b) m gm room n w g d =
-        rw (run-resume T tokens b m room n w) (turn-ended b m n (λ room v. run-ended b m gm room (n + 1) v) gm room w (step-after T tokens w) g d refl)
+        rw (run-resume T tokens b m room n w)
+        (turn-ended b m n (λ room v. run-ended b m gm room (n + 1) v) gm room w (step-after T tokens w) g d refl)
 
   -- A list of calls
 
@@ -669,14 +672,16 @@ module _ (T tokens answers : List ℕ) where
     turn-37 m room w (stops r) rest = ended-37 r (n + 1) w
     turn-37 m room w (goes v) rest = rest room v
     turn-37 m room w (tells e v) rest =
-        if-37 b m n (ltb room 3) (over (ends 35 n w)) (further (room - 3) (writing e v)) (λ z. absurd (omega arith)) (rest (room - 3) (writing e v))
+        if-37 b m n (ltb room 3) (over (ends 35 n w)) (further (room - 3) (writing e v)) (λ z. absurd (omega arith))
+        (rest (room - 3) (writing e v))
     turn-37 m room w (asks e v) rest =
         if-37 b m n (ltb room 3) (over (ends 35 n w)) (handsOut m room n w e v) (λ z. absurd (omega arith)) (handsOut-37 m room w e v rest)
 
   run-37 : (b : ℕ) (m : Mode) (room n : ℕ) (w : Walk) → Says (run T tokens b m room n w)
   unfolding run ends
   run-37 zero m room n w = λ z. absurd (omega arith)
-  run-37 (suc b) m room n w = rw (run-resume T tokens b m room n w) (turn-37 b n m room w (step T tokens w) (λ room v. run-37 b m room (n + 1) v))
+  run-37 (suc b) m room n w =
+      rw (run-resume T tokens b m room n w) (turn-37 b n m room w (step T tokens w) (λ room v. run-37 b m room (n + 1) v))
 
   in-phase-37 : (ph : Phase) (m : Mode) (budget room : ℕ) (w : Walk) → w .phase ≡ ph → Says (callIn T tokens ph m budget room w)
   unfolding callIn ends Walk.opened
