@@ -749,7 +749,7 @@ mod tests {
         // An instruction at the table's end is done; the next is not.
         whole_of(&[3, 1], &[1], &[], 9).is(37, 1).at(3, 1, 0);
         whole_of(&[256], &[], &[], 9).is(37, 1).at(2, 0, 0).events(&[[3, 256, 0]]);
-        // A distance of 0 is the operand's own location, here 9 after a jump there.
+        // A distance of 0 goes to the word that holds it.
         whole_of(&[1, 0], &[], &[], 9).is(37, 1).at(2, 0, 0);
         whole_of(&[2, 0], &[], &[], 9).is(37, 1).at(2, 0, 0);
         // A return location is tested at the return.

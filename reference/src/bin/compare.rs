@@ -1,1 +1,775 @@
-fn main() {}
+//! Compares the walker of this crate with the library, or with the plain C walker, call by call.
+//!
+//! compare [--against lib|c] [--exact] [--trace] [seeds [first seed]]
+//!
+//! `--exact` lends buffers without guard bytes around them, for a memory checker; `--trace` names each group and seed beforehand.
+#![forbid(unsafe_code)]
+
+use std::collections::BTreeMap;
+use std::fmt::Write;
+use std::process::ExitCode;
+
+use reference::ffi;
+use reference::random::{self, Rng};
+use reference::side::{Inputs, Reference, Side};
+use reference::tables::{assemble, bytes};
+use reference::walker::{Done, Phase, WALK_BYTES, Walk};
+
+const SEEDS: u64 = 3000;
+/// Mismatches that are shown in full.
+const SHOWN: u64 = 10;
+/// A walk that has not ended after so many steps is given no huge budget.
+const BOUND: u64 = 600;
+const HUGE: [u64; 6] = [1 << 16, 1 << 32, (1 << 63) - 1, 1 << 63, u64::MAX - 1, u64::MAX];
+
+/// Table, tokens and answers as they are lent, at even or odd addresses.
+#[derive(Clone, PartialEq)]
+struct Case {
+    table: Box<[u8]>,
+    tokens: Box<[u8]>,
+    answers: Box<[u8]>,
+    shifts: [usize; 3],
+}
+
+impl Case {
+    /// Now and then with an odd last byte.
+    fn new(rng: &mut Rng, table: &[u16], tokens: &[u16], answers: &[u16]) -> Case {
+        let mut shifts = [0; 3];
+        let mut lists = [table, tokens, answers].into_iter().zip(&mut shifts).map(|(words, shift)| {
+            *shift = rng.below(2);
+            let mut list = vec![0xC3; *shift];
+            list.extend(bytes(words));
+            if rng.once_in(3) {
+                list.push(rng.pick(&[0, 1, 9, 255]));
+            }
+            list.into_boxed_slice()
+        });
+        let mut next = || lists.next().unwrap_or_default();
+        let (table, tokens, answers) = (next(), next(), next());
+        Case { table, tokens, answers, shifts }
+    }
+
+    fn inputs(&self) -> Inputs<'_> {
+        let [table, tokens, answers] = self.shifts;
+        Inputs { table: &self.table[table..], tokens: &self.tokens[tokens..], answers: &self.answers[answers..] }
+    }
+
+    fn words(&self) -> usize {
+        self.inputs().table.len() / 2
+    }
+
+    fn made_up(&self, rng: &mut Rng) -> Walk {
+        let inputs = self.inputs();
+        random::made_up(rng, inputs.table.len() / 2, inputs.tokens.len() / 2, inputs.answers.len() / 2)
+    }
+
+    /// The k-th answer, if there is one.
+    fn answer(&self, k: u64) -> Option<u16> {
+        let answers = self.inputs().answers.as_chunks::<2>().0;
+        answers.get(usize::try_from(k).ok()?).copied().map(u16::from_be_bytes)
+    }
+}
+
+#[derive(Clone, Copy, Debug)]
+enum Kind {
+    Whole,
+    Paused { given: u16, answer: u16 },
+}
+
+const PLAIN: Kind = Kind::Paused { given: 0, answer: 0 };
+
+/// A call, but for what it reads.
+struct Call<'a> {
+    kind: Kind,
+    budget: u64,
+    walk: &'a [u8],
+    /// The bytes of the event buffer.
+    size: usize,
+}
+
+/// What a call leaves.
+#[derive(PartialEq)]
+struct Left {
+    done: Done,
+    walk: Vec<u8>,
+    events: Vec<u8>,
+}
+
+/// A lent buffer between guard bytes.
+struct Lent {
+    all: Vec<u8>,
+    from: usize,
+    to: usize,
+}
+
+impl Lent {
+    const GUARD: u8 = 0x5A;
+
+    fn new(contents: &[u8], before: usize, after: usize) -> Lent {
+        let mut all = Vec::with_capacity(before + contents.len() + after);
+        all.resize(before, Lent::GUARD);
+        all.extend_from_slice(contents);
+        all.resize(before + contents.len() + after, Lent::GUARD);
+        Lent { all, from: before, to: before + contents.len() }
+    }
+
+    fn bytes(&mut self) -> &mut [u8] {
+        &mut self.all[self.from..self.to]
+    }
+
+    /// The contents; `None` where a guard byte has changed.
+    fn back(mut self) -> Option<Vec<u8>> {
+        let guards = self.all[..self.from].iter().chain(&self.all[self.to..]);
+        if guards.into_iter().any(|byte| *byte != Lent::GUARD) {
+            return None;
+        }
+        self.all.truncate(self.to);
+        Some(self.all.split_off(self.from))
+    }
+}
+
+/// The bytes that an event buffer holds before a call.
+fn fill(size: usize) -> Vec<u8> {
+    (0..size).map(|i| (i as u8).wrapping_mul(37) ^ 0xB1).collect()
+}
+
+struct Harness<'a> {
+    other: &'a dyn Side,
+    exact: bool,
+    group: &'static str,
+    seed: u64,
+    passed: u64,
+    failed: u64,
+    shown: u64,
+    /// How often each number was answered.
+    numbers: BTreeMap<u16, u64>,
+}
+
+impl Harness<'_> {
+    /// One call of one side; `None` where it wrote outside its buffers.
+    fn run(&self, side: &dyn Side, case: &Case, call: &Call) -> Option<Left> {
+        let turn = self.passed as usize;
+        let (before, after) = if self.exact { (0, 0) } else { (8 + turn % 2, 24) };
+        let mut walk = Lent::new(call.walk, before, after);
+        let mut events = Lent::new(&fill(call.size), before + turn / 2 % 2, after);
+        let done = match call.kind {
+            Kind::Whole => side.whole(case.inputs(), call.budget, walk.bytes(), events.bytes()),
+            Kind::Paused { given, answer } => {
+                side.paused(case.inputs(), given, answer, call.budget, walk.bytes(), events.bytes())
+            }
+        };
+        Some(Left { done, walk: walk.back()?, events: events.back()? })
+    }
+
+    /// Compares one call on both sides; what this crate's walker left.
+    fn check(&mut self, case: &Case, call: &Call) -> Left {
+        let mine = self.run(&Reference, case, call);
+        let theirs = self.run(self.other, case, call);
+        if mine == theirs && mine.is_some() {
+            self.passed += 1;
+        } else {
+            self.fail(|| show(case, call, &mine, &theirs));
+        }
+        let mine = mine.unwrap_or(Left { done: Done { number: 0, written: 0, steps: 0 }, walk: vec![], events: vec![] });
+        *self.numbers.entry(mine.done.number).or_default() += 1;
+        mine
+    }
+
+    fn fail(&mut self, text: impl FnOnce() -> String) {
+        self.failed += 1;
+        self.shown += 1;
+        if self.shown <= SHOWN {
+            println!("mismatch in {}, seed {}\n{}", self.group, self.seed, text());
+        }
+    }
+
+    fn expect(&mut self, holds: bool, text: impl FnOnce() -> String) {
+        if holds {
+            self.passed += 1;
+        } else {
+            self.fail(text);
+        }
+    }
+
+    /// What is only read may not change.
+    fn unchanged(&mut self, case: &Case, before: &Case) {
+        self.expect(case == before, || "a table, tokens or answers were written to".to_string());
+    }
+}
+
+fn show(case: &Case, call: &Call, mine: &Option<Left>, theirs: &Option<Left>) -> String {
+    let inputs = case.inputs();
+    let mut text = String::new();
+    let mut line = |name: &str, value: String| {
+        let _ = writeln!(text, "  {name}: {value}");
+    };
+    line("call", format!("{:?}, budget {}, event buffer of {} bytes", call.kind, call.budget, call.size));
+    line("table", listed(inputs.table));
+    line("tokens", listed(inputs.tokens));
+    line("answers", listed(inputs.answers));
+    line("walk before", listed(call.walk));
+    for (name, left) in [("rust", mine), ("other", theirs)] {
+        match left {
+            None => line(name, "wrote outside its buffers".to_string()),
+            Some(left) => {
+                line(name, format!("{:?}", left.done));
+                line("  walk", listed(&left.walk));
+                line("  events", listed(&left.events));
+            }
+        }
+    }
+    text
+}
+
+/// Words of bytes, and an odd last byte.
+fn listed(bytes: &[u8]) -> String {
+    let (words, odd) = bytes.as_chunks::<2>();
+    let mut text = format!("{} bytes:", bytes.len());
+    for word in words {
+        let _ = write!(text, " {}", u16::from_be_bytes(*word));
+    }
+    if let [odd] = odd {
+        let _ = write!(text, " and byte {odd}");
+    }
+    text
+}
+
+/// The bytes of a buffer that most walks do not fill.
+const ROOMY: usize = 6 * BOUND as usize + 6;
+
+fn fresh() -> Vec<u8> {
+    Walk::fresh().encode().to_vec()
+}
+
+/// A case with a table of the sort, and tokens and answers that lead on in it.
+fn case_of(rng: &mut Rng, sort: usize) -> Case {
+    let table = match sort {
+        0 => random::structured(rng, 40),
+        1 => random::damaged(rng, 40),
+        _ => random::foreign(rng, 60),
+    };
+    let (tokens, answers) = random::lead(rng, &bytes(&table));
+    Case::new(rng, &table, &tokens, &answers)
+}
+
+/// The size of an event buffer: none, small, or enough; odd ones too.
+fn size(rng: &mut Rng) -> usize {
+    match rng.below(4) {
+        0 => rng.below(8),
+        1 => rng.below(40),
+        2 => rng.below(200),
+        _ => ROOMY,
+    }
+}
+
+fn budget(rng: &mut Rng) -> u64 {
+    match rng.below(3) {
+        0 => rng.below(6) as u64,
+        1 => rng.below(60) as u64,
+        _ => BOUND,
+    }
+}
+
+/// `given` for an answer: any number but 0.
+fn given(rng: &mut Rng) -> u16 {
+    rng.pick(&[1, 1, 1, 1, 2, 256, 32768, 65535])
+}
+
+/// A whole call with huge budgets, where the walk ends without.
+fn huge(h: &mut Harness, rng: &mut Rng, case: &Case, kind: Kind, walk: &[u8]) {
+    let left = h.check(case, &Call { kind, budget: BOUND, walk, size: ROOMY });
+    if left.done.number != 36 {
+        let budget = rng.pick(&HUGE);
+        h.check(case, &Call { kind, budget, walk, size: ROOMY });
+        h.check(case, &Call { kind, budget, walk, size: size(rng) });
+    }
+}
+
+/// A paused walk to its end, with budgets and buffers as they come.
+fn pauses(h: &mut Harness, rng: &mut Rng, case: &Case, from: &[u8]) {
+    let mut walk = from.to_vec();
+    for _ in 0..40 {
+        let state = Walk::decode(&walk);
+        let waits = state.as_ref().is_some_and(|walk| walk.phase == Phase::Waiting);
+        let kind = if waits {
+            let used = state.map_or(0, |walk| walk.used);
+            let answer = case.answer(used).unwrap_or_else(|| random::answer(rng));
+            Kind::Paused { given: given(rng), answer }
+        } else {
+            Kind::Paused { given: 0, answer: rng.word() }
+        };
+        let left = h.check(case, &Call { kind, budget: budget(rng), walk: &walk, size: size(rng) });
+        walk = left.walk;
+        if !matches!(left.done.number, 22 | 35 | 36) {
+            break;
+        }
+    }
+}
+
+fn explore(h: &mut Harness, rng: &mut Rng, sort: usize) {
+    let case = case_of(rng, sort);
+    let before = case.clone();
+    let start = fresh();
+    huge(h, rng, &case, Kind::Whole, &start);
+    huge(h, rng, &case, PLAIN, &start);
+    for _ in 0..12 {
+        h.check(&case, &Call { kind: Kind::Whole, budget: budget(rng), walk: &start, size: size(rng) });
+    }
+    for _ in 0..2 {
+        pauses(h, rng, &case, &start);
+    }
+    h.unchanged(&case, &before);
+}
+
+fn structured(h: &mut Harness, rng: &mut Rng) {
+    for _ in 0..4 {
+        explore(h, rng, 0);
+    }
+}
+
+fn damaged(h: &mut Harness, rng: &mut Rng) {
+    for _ in 0..6 {
+        explore(h, rng, 1);
+    }
+}
+
+fn foreign(h: &mut Harness, rng: &mut Rng) {
+    for _ in 0..12 {
+        explore(h, rng, 2);
+    }
+}
+
+/// Walks that no walker made, on all sorts of tables.
+fn made_up(h: &mut Harness, rng: &mut Rng) {
+    for sort in [0, 1, 2] {
+        let case = case_of(rng, sort);
+        let before = case.clone();
+        for _ in 0..60 {
+            let state = case.made_up(rng);
+            let walk = state.encode();
+            let right = state.phase == Phase::Waiting;
+            let given = if right != rng.once_in(8) { given(rng) } else { 0 };
+            let kind = if rng.once_in(2) { Kind::Whole } else { Kind::Paused { given, answer: random::answer(rng) } };
+            h.check(&case, &Call { kind, budget: budget(rng), walk: &walk, size: size(rng) });
+            if rng.once_in(6) {
+                huge(h, rng, &case, kind, &walk);
+            }
+        }
+        h.unchanged(&case, &before);
+    }
+}
+
+/// Every instruction at every place of a small table, with the walk on it.
+fn instructions(h: &mut Harness, rng: &mut Rng) {
+    let numbers = [0, 1, 2, 3, 4, 5, 6, 7, 8, 9, 10, 11, 12, 13, 14, 255, 256, 511, 512, 767, 768, 1023, 1024, 1279, 1280, 65535];
+    let words = rng.within(1, 9);
+    for at in 0..words {
+        for number in numbers {
+            let mut table: Vec<u16> = (0..words).map(|_| rng.below(6) as u16).collect();
+            table[at] = number;
+            if at + 1 < words && rng.once_in(3) {
+                table[at + 1] = rng.below(words + 3) as u16;
+            }
+            let tokens: Vec<u16> = (0..rng.below(3)).map(|_| rng.below(6) as u16).collect();
+            let answers: Vec<u16> = (0..rng.below(3)).map(|_| rng.below(6) as u16).collect();
+            let case = Case::new(rng, &table, &tokens, &answers);
+            let mut state = case.made_up(rng);
+            state.phase = Phase::Going;
+            state.location = at as u16 + 1;
+            let walk = state.encode();
+            let size = rng.pick(&[0, 5, 6, 7, 12]);
+            for kind in [Kind::Whole, PLAIN] {
+                for budget in [0, 1, 2] {
+                    h.check(&case, &Call { kind, budget, walk: &walk, size });
+                }
+            }
+        }
+    }
+}
+
+/// All budgets from 0 on.
+fn budgets(h: &mut Harness, rng: &mut Rng) {
+    let sort = rng.below(3);
+    let case = case_of(rng, sort);
+    let state = if rng.once_in(2) { Walk::fresh() } else { case.made_up(rng) };
+    let walk = state.encode();
+    let answer = Kind::Paused { given: 1, answer: random::answer(rng) };
+    let paused = if state.phase == Phase::Waiting { answer } else { PLAIN };
+    for kind in [Kind::Whole, paused] {
+        for budget in 0..=80 {
+            let left = h.check(&case, &Call { kind, budget, walk: &walk, size: ROOMY });
+            if budget > left.done.steps + 2 {
+                break;
+            }
+        }
+        huge(h, rng, &case, kind, &walk);
+    }
+}
+
+/// All sizes of event buffers from 0 bytes on.
+fn buffers(h: &mut Harness, rng: &mut Rng) {
+    let sort = rng.below(3);
+    let case = case_of(rng, sort);
+    let state = if rng.once_in(2) { Walk::fresh() } else { case.made_up(rng) };
+    let walk = state.encode();
+    let answer = Kind::Paused { given: 1, answer: random::answer(rng) };
+    let paused = if state.phase == Phase::Waiting { answer } else { PLAIN };
+    for kind in [Kind::Whole, paused] {
+        for size in 0..=90 {
+            let left = h.check(&case, &Call { kind, budget: BOUND, walk: &walk, size });
+            if size > 6 * left.done.written as usize + 8 {
+                break;
+            }
+        }
+    }
+}
+
+/// Lists of calls of both kinds, each on the walk that the last one gave back; now and then with another table.
+fn lists(h: &mut Harness, rng: &mut Rng) {
+    for _ in 0..8 {
+        let sort = rng.pick(&[0, 0, 0, 1, 2]);
+        let case = case_of(rng, sort);
+        let stranger = case_of(rng, 2);
+        let mut walk = if rng.once_in(4) { case.made_up(rng).encode().to_vec() } else { fresh() };
+        for _ in 0..rng.within(2, 24) {
+            let waits = Walk::decode(&walk).is_some_and(|walk| walk.phase == Phase::Waiting);
+            let right = !rng.once_in(10);
+            let answer = random::answer(rng);
+            let kind = match (waits == right, rng.once_in(2)) {
+                (true, _) => Kind::Paused { given: given(rng), answer },
+                (false, true) => Kind::Paused { given: 0, answer },
+                (false, false) => Kind::Whole,
+            };
+            let case = if rng.once_in(20) { &stranger } else { &case };
+            let left = h.check(case, &Call { kind, budget: budget(rng), walk: &walk, size: size(rng) });
+            walk = left.walk;
+        }
+    }
+}
+
+/// Tables around 4,096 words, and far longer ones; walks near the end.
+fn sizes(h: &mut Harness, rng: &mut Rng) {
+    for _ in 0..3 {
+        let words = if rng.once_in(8) { rng.within(65530, 70000) } else { rng.within(4088, 4104) };
+        let mut table = vec![0; words];
+        let end = words.min(4096);
+        let from = end - rng.within(4, 40);
+        for word in &mut table[from..] {
+            *word = match rng.below(8) {
+                0..=3 => random::instruction(rng),
+                4 | 5 => rng.below(10) as u16,
+                6 => rng.within(4085, 4100) as u16,
+                _ => rng.word(),
+            };
+            if words > 65000 {
+                *word = if rng.once_in(2) { 4 } else { 9 };
+            }
+        }
+        let program = assemble(&random::rules(rng, 40), 4096usize.saturating_sub(200));
+        if rng.once_in(2) {
+            // A program whose last word comes near 4,096.
+            let origin = (4096 + rng.below(5)).saturating_sub(program.len() + 1).min(words);
+            let program = assemble(&random::rules(rng, 40), origin + 1);
+            for (place, word) in table[origin..].iter_mut().zip(&program) {
+                *place = *word;
+            }
+            table[1] = (origin - 1) as u16;
+        } else {
+            table[1] = (from - 1 + rng.below(8)) as u16;
+        }
+        table[0] = 1;
+        let tokens: Vec<u16> = (0..rng.below(12)).map(|_| random::token(rng)).collect();
+        let answers: Vec<u16> = (0..rng.below(12)).map(|_| random::answer(rng)).collect();
+        let case = Case::new(rng, &table, &tokens, &answers);
+        let start = fresh();
+        huge(h, rng, &case, Kind::Whole, &start);
+        pauses(h, rng, &case, &start);
+        for _ in 0..24 {
+            let mut state = case.made_up(rng);
+            if !rng.once_in(4) {
+                state.location = rng.within(from.max(4080), 4100) as u16;
+                state.phase = Phase::Going;
+            }
+            let walk = state.encode();
+            let kind = if rng.once_in(2) { Kind::Whole } else { PLAIN };
+            let budget = rng.pick(&[1, 1, 2, 3, BOUND]);
+            h.check(&case, &Call { kind, budget, walk: &walk, size: size(rng) });
+        }
+        // Every short way of ending at each of the last locations.
+        let last = case.words().min(4096);
+        for location in last.saturating_sub(3)..=last + 2 {
+            let state = Walk { location: location as u16, ..Walk::fresh() };
+            h.check(&case, &Call { kind: Kind::Whole, budget: 1, walk: &state.encode(), size: 6 });
+        }
+    }
+}
+
+/// More than 65,536 tokens, answers, events and steps.
+fn long(h: &mut Harness, rng: &mut Rng) {
+    if !h.seed.is_multiple_of(16) {
+        return;
+    }
+    let count = rng.within(65530, 70000);
+    let tokens: Vec<u16> = (0..count).map(|_| random::token(rng)).collect();
+    let answers: Vec<u16> = (0..count).map(|_| rng.word()).collect();
+    // Reads a token, asks, emits, goes back.
+    let case = Case::new(rng, &[4, 768, 5, 7, 2, 5], &tokens, &answers);
+    let start = fresh();
+    let size = 12 * count + 12;
+    for budget in [rng.within(4 * 65530, 4 * 65540) as u64, u64::MAX] {
+        let left = h.check(&case, &Call { kind: Kind::Whole, budget, walk: &start, size });
+        h.check(&case, &Call { kind: Kind::Whole, budget: 9, walk: &left.walk, size });
+    }
+    let case = Case::new(rng, &[4, 256, 2, 3], &tokens, &[]);
+    for size in [6 * 65535, 6 * 65536 + 5, 6 * count + 12] {
+        h.check(&case, &Call { kind: PLAIN, budget: u64::MAX, walk: &start, size });
+    }
+}
+
+/// Bytes that are no walk, or hardly one: every word damaged, and other lengths.
+fn no_walk(h: &mut Harness, rng: &mut Rng) {
+    let case = case_of(rng, 0);
+    let good = case.made_up(rng).encode();
+    let call = |h: &mut Harness, rng: &mut Rng, walk: &[u8]| {
+        let kind = match rng.below(4) {
+            0 | 1 => Kind::Whole,
+            2 => PLAIN,
+            _ => Kind::Paused { given: 1, answer: 1 },
+        };
+        let left = h.check(&case, &Call { kind, budget: rng.below(4) as u64, walk, size: size(rng).min(100) });
+        let refused = left.done.number == 21;
+        h.expect(!refused || (left.walk == walk && left.events == fill(left.events.len())), || {
+            format!("the refusing walker of this crate changed a buffer: {}", listed(walk))
+        });
+        parts_of(h, walk);
+    };
+    for word in 0..WALK_BYTES / 2 {
+        for _ in 0..3 {
+            let mut walk = good;
+            let old = u16::from_be_bytes([walk[2 * word], walk[2 * word + 1]]);
+            let value = match rng.below(6) {
+                0 => rng.word(),
+                1 => rng.below(4) as u16,
+                2 => old ^ 1 << rng.below(16),
+                3 => rng.pick(&[21, 22, 29, 30, 34, 35, 36, 37, 38, 63, 64, 65, 256, 65535]),
+                4 => old.wrapping_add(1),
+                _ => 0,
+            };
+            walk[2 * word..2 * word + 2].copy_from_slice(&value.to_be_bytes());
+            call(h, rng, &walk);
+        }
+    }
+    // Every phase with every reason that is near.
+    for phase in 0..4u16 {
+        for reason in (0..2).chain(20..40).chain([255, 256, 286, 65535]) {
+            let mut walk = good;
+            walk[..4].copy_from_slice(&bytes(&[phase, reason]));
+            call(h, rng, &walk);
+        }
+    }
+    let long: Vec<u8> = good.iter().copied().cycle().take(400).collect();
+    for length in [0, 1, 2, 5, 27, 28, 78, 154, 155, 157, 158, 312, rng.below(400)] {
+        call(h, rng, &long[..length]);
+    }
+    for _ in 0..4 {
+        let walk: Vec<u8> = (0..WALK_BYTES).map(|_| if rng.once_in(3) { rng.word() as u8 } else { 0 }).collect();
+        call(h, rng, &walk);
+    }
+}
+
+/// Compares the readers of a walk's parts.
+fn parts_of(h: &mut Harness, walk: &[u8]) {
+    fn parts(side: &dyn Side, walk: &[u8]) -> (u16, u16, u16, u64, u64) {
+        (side.phase(walk), side.reason(walk), side.location(walk), side.read(walk), side.used(walk))
+    }
+    let lent: Box<[u8]> = walk.into();
+    let (mine, theirs) = (parts(&Reference, &lent), parts(h.other, &lent));
+    h.expect(mine == theirs && *lent == *walk, || format!("  walk: {}\n  rust: {mine:?}\n  other: {theirs:?}", listed(walk)));
+}
+
+/// The readers on walks, and the writer of fresh walks.
+fn parts(h: &mut Harness, rng: &mut Rng) {
+    for _ in 0..40 {
+        parts_of(h, &random::made_up(rng, 20, 20, 20).encode());
+    }
+    let near = rng.below(400);
+    for length in [0, 1, 2, 3, 6, 100, 154, 155, 156, 157, 158, 312, near] {
+        let (before, after) = if h.exact { (0, 0) } else { (8, 200) };
+        let mut mine = Lent::new(&fill(length), before, after);
+        let mut theirs = Lent::new(&fill(length), before, after);
+        let numbers = (Reference.fresh(mine.bytes()), h.other.fresh(theirs.bytes()));
+        let (mine, theirs) = (mine.back(), theirs.back());
+        let same = numbers.0 == numbers.1 && mine.is_some() && mine == theirs;
+        h.expect(same, || format!("  fresh of {length} bytes: rust {}, other {}", numbers.0, numbers.1));
+    }
+}
+
+/// What a run of calls leaves: the last number, the walk, all events, all steps.
+#[derive(PartialEq)]
+struct Run {
+    number: u16,
+    walk: Vec<u8>,
+    events: Vec<u8>,
+    steps: u64,
+}
+
+impl Run {
+    fn new(walk: &[u8]) -> Run {
+        Run { number: 36, walk: walk.to_vec(), events: vec![], steps: 0 }
+    }
+
+    /// One more call; false where it wrote outside its buffers.
+    fn go(&mut self, h: &Harness, side: &dyn Side, case: &Case, kind: Kind, budget: u64, size: usize) -> bool {
+        let Some(left) = h.run(side, case, &Call { kind, budget, walk: &self.walk, size }) else { return false };
+        let end = (6 * left.done.written as usize).min(left.events.len());
+        self.events.extend_from_slice(&left.events[..end]);
+        self.number = left.done.number;
+        self.walk = left.walk;
+        self.steps = self.steps.wrapping_add(left.done.steps);
+        true
+    }
+}
+
+/// On each side alone: one call does what its pieces do, and a whole walk agrees with a paused one fed the same answers.
+fn agreement(h: &mut Harness, rng: &mut Rng) {
+    let sort = rng.below(3);
+    let case = case_of(rng, sort);
+    let mut state = if rng.once_in(2) { Walk::fresh() } else { case.made_up(rng) };
+    if state.phase == Phase::Waiting {
+        state.phase = Phase::Going;
+    }
+    let start = state.encode();
+    let budget = rng.below(120) as u64;
+    let text = |what: &str, run: &Run, one: &Run| {
+        let inputs = case.inputs();
+        let lists = [("table", inputs.table), ("tokens", inputs.tokens), ("answers", inputs.answers), ("walk", &start)];
+        let mut text = format!("  {what}, budget {budget}\n");
+        for (name, bytes) in lists {
+            let _ = writeln!(text, "  {name}: {}", listed(bytes));
+        }
+        for run in [run, one] {
+            let _ = writeln!(text, "  number {}, steps {}\n    walk {}", run.number, run.steps, listed(&run.walk));
+            let _ = writeln!(text, "    events {}", listed(&run.events));
+        }
+        text
+    };
+    for side in [&Reference as &dyn Side, h.other] {
+        let mut one = Run::new(&start);
+        let mut fine = one.go(h, side, &case, Kind::Whole, budget, ROOMY);
+
+        let mut pieces = Run::new(&start);
+        loop {
+            let piece = (rng.below(9) as u64).min(budget.saturating_sub(pieces.steps));
+            let size = rng.below(20);
+            fine &= pieces.go(h, side, &case, Kind::Whole, piece, size);
+            let goes_on = matches!(pieces.number, 35) || (pieces.number == 36 && pieces.steps < budget);
+            if !goes_on || !fine {
+                break;
+            }
+        }
+        h.expect(fine && pieces == one, || text(&format!("{} in pieces", side.name()), &pieces, &one));
+
+        let mut paused = Run::new(&start);
+        let mut kind = PLAIN;
+        loop {
+            let left = budget.saturating_sub(paused.steps);
+            fine &= paused.go(h, side, &case, kind, left, ROOMY);
+            let used = Walk::decode(&paused.walk).map_or(0, |walk| walk.used);
+            match case.answer(used) {
+                Some(answer) if paused.number == 22 && fine => kind = Kind::Paused { given: 1, answer },
+                _ => break,
+            }
+        }
+        let agree = if one.number == 34 && state.phase == Phase::Going {
+            let counts = |run: &Run| Walk::decode(&run.walk).map(|walk| (walk.read, walk.used, walk.held));
+            let before = paused.events.len().saturating_sub(6);
+            paused.number == 22
+                && paused.steps == one.steps
+                && counts(&paused) == counts(&one)
+                && paused.events[..before] == one.events[..]
+        } else {
+            paused == one
+        };
+        h.expect(fine && agree, || text(&format!("{} paused and whole", side.name()), &paused, &one));
+    }
+}
+
+type Group = (&'static str, fn(&mut Harness, &mut Rng));
+
+const GROUPS: [Group; 13] = [
+    ("structured tables", structured),
+    ("damaged tables", damaged),
+    ("foreign tables", foreign),
+    ("made-up walks", made_up),
+    ("each instruction", instructions),
+    ("budgets", budgets),
+    ("event buffers", buffers),
+    ("lists of calls", lists),
+    ("table sizes", sizes),
+    ("long walks", long),
+    ("bytes that are no walk", no_walk),
+    ("parts", parts),
+    ("pieces and pauses", agreement),
+];
+
+fn main() -> ExitCode {
+    let mut against = None;
+    let (mut exact, mut trace) = (false, false);
+    let mut numbers = Vec::new();
+    let mut arguments = std::env::args().skip(1);
+    while let Some(argument) = arguments.next() {
+        match argument.as_str() {
+            "--against" => against = arguments.next(),
+            "--exact" => exact = true,
+            "--trace" => trace = true,
+            text => match text.parse::<u64>() {
+                Ok(number) => numbers.push(number),
+                Err(_) => return usage(),
+            },
+        }
+    }
+    let seeds = numbers.first().copied().unwrap_or(SEEDS);
+    let first = numbers.get(1).copied().unwrap_or(1);
+    let other = match (against.as_deref(), ffi::library()) {
+        (Some("c"), _) => &ffi::Plain,
+        (None | Some("lib"), Some(library)) => library,
+        (None, None) => &ffi::Plain,
+        (Some("lib"), None) => {
+            eprintln!("built without the library");
+            return ExitCode::from(2);
+        }
+        _ => return usage(),
+    };
+    println!("rust against {}, seeds {first} to {}", other.name(), first.saturating_add(seeds).saturating_sub(1));
+    let mut h = Harness {
+        other,
+        exact,
+        group: "",
+        seed: 0,
+        passed: 0,
+        failed: 0,
+        shown: 0,
+        numbers: BTreeMap::new(),
+    };
+    for (stream, (name, group)) in (1..).zip(GROUPS) {
+        let (passed, failed) = (h.passed, h.failed);
+        h.group = name;
+        for seed in first..first.saturating_add(seeds) {
+            if trace {
+                eprintln!("{name}, seed {seed}");
+            }
+            h.seed = seed;
+            group(&mut h, &mut Rng::new(seed, stream));
+        }
+        println!("{name}: {} passed, {} failed", h.passed - passed, h.failed - failed);
+    }
+    let seen: Vec<String> = h.numbers.iter().map(|(number, times)| format!("{number} {times} times")).collect();
+    println!("answered: {}", seen.join(", "));
+    println!("{} passed, {} failed", h.passed, h.failed);
+    if h.failed == 0 { ExitCode::SUCCESS } else { ExitCode::FAILURE }
+}
+
+fn usage() -> ExitCode {
+    eprintln!("compare [--against lib|c] [--exact] [--trace] [seeds [first seed]]");
+    ExitCode::from(2)
+}
