@@ -43,11 +43,24 @@ fn main() {
             fail(&format!("{}: not found; or build with --no-default-features", library.display()))
         };
         println!("cargo::rerun-if-changed={}", library.display());
-        if let Some(folder) = library.parent() {
-            println!("cargo::rustc-link-search=native={}", folder.display());
-        }
+        entries_only(&library, &out);
         println!("cargo::rustc-link-lib=static=firmware");
         println!("cargo::rustc-link-lib=dylib=m");
         println!("cargo::rustc-link-lib=dylib=c");
     }
+}
+
+/// Makes a libfirmware.a in `out` that shows nothing but the entries, so that what else the library holds cannot meet a namesake here.
+fn entries_only(library: &Path, out: &str) {
+    let object = format!("{out}/firmware.o");
+    let archive = format!("{out}/libfirmware.a");
+    let mut linker = Command::new("ld");
+    linker.args(["-r", "--force-group-allocation", "-o", &object]);
+    for entry in ["fresh", "whole", "paused", "phase", "reason", "location", "read", "used"] {
+        linker.args(["-u", &format!("sst_{entry}")]);
+    }
+    run(linker.arg(library));
+    run(Command::new("objcopy").args(["-R", ".llvmbc", "-R", ".llvmcmd", "--wildcard", "--keep-global-symbol=sst_*", &object]));
+    let _ = std::fs::remove_file(&archive);
+    run(Command::new("ar").args(["crs", &archive, &object]));
 }

@@ -136,6 +136,16 @@ macro_rules! side {
     };
 }
 
+unsafe extern "C" {
+    fn clock() -> std::ffi::c_long;
+}
+
+/// The seconds of processor time that this process has had, in units of a microsecond.
+pub fn cpu_seconds() -> f64 {
+    let ticks = unsafe { clock() };
+    ticks as f64 * 1e-6
+}
+
 /// What `*written` and `*steps` hold before a call; no call may leave it there.
 const UNSET: u64 = 0xDEAD_BEEF_DEAD_BEEF;
 

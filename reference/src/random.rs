@@ -68,9 +68,10 @@ pub fn rules(rng: &mut Rng, size: usize) -> Vec<Rule> {
     let procedures: Vec<bool> = (0..count).map(|i| i == 0 || !rng.once_in(3)).collect();
     let mut fuel = size;
     let mut rules = Vec::new();
-    for procedure in &procedures {
+    for (i, procedure) in procedures.iter().enumerate() {
         let mut maker = Maker { rng, procedures: &procedures, procedure: *procedure, fuel: &mut fuel };
-        let mut body = maker.actions(4, false);
+        let count = if i == 0 { maker.rng.within(3, 8) } else { maker.rng.within(0, 4) };
+        let mut body = maker.actions(4, false, count);
         if !procedure {
             let value = rng.below(VALUES) as u16;
             body.push(Action::Value(value));
@@ -88,9 +89,13 @@ struct Maker<'a> {
 }
 
 impl Maker<'_> {
-    fn actions(&mut self, depth: usize, cycle: bool) -> Actions {
-        let mut actions = Vec::new();
+    fn some(&mut self, depth: usize, cycle: bool) -> Actions {
         let count = self.rng.below(5);
+        self.actions(depth, cycle, count)
+    }
+
+    fn actions(&mut self, depth: usize, cycle: bool, count: usize) -> Actions {
+        let mut actions = Vec::new();
         for _ in 0..count {
             if *self.fuel == 0 {
                 break;
@@ -115,7 +120,7 @@ impl Maker<'_> {
                 None => Action::Any,
             },
             9 if cycle => Action::Exit,
-            10 if self.rng.once_in(3) => {
+            10 if self.rng.once_in(8) => {
                 if self.procedure {
                     Action::Return
                 } else {
@@ -124,7 +129,7 @@ impl Maker<'_> {
             }
             9 | 10 => Action::Emit(self.number()),
             11..=13 => {
-                let mut body = self.actions(depth - 1, true);
+                let mut body = self.some(depth - 1, true);
                 if !self.rng.once_in(4) {
                     body.push(self.choice(depth - 1, true));
                 }
@@ -161,10 +166,10 @@ impl Maker<'_> {
         while !labels.is_empty() {
             let cut = labels.len() - self.rng.within(1, labels.len().min(4));
             let of = labels.split_off(cut);
-            alternatives.push((of, self.actions(depth, cycle)));
+            alternatives.push((of, self.some(depth, cycle)));
         }
         let otherwise = (alternatives.is_empty() || self.rng.once_in(2)).then(|| {
-            let mut actions = self.actions(depth, cycle);
+            let mut actions = self.some(depth, cycle);
             if cycle && self.rng.once_in(2) {
                 actions.push(Action::Exit);
             }
@@ -189,6 +194,16 @@ impl Maker<'_> {
     }
 }
 
+/// A number that goes wrong where sums, differences or doubles are cut to 16 bits.
+pub fn wrapping(rng: &mut Rng) -> u16 {
+    let near = rng.below(12) as u16;
+    match rng.below(3) {
+        0 => u16::MAX - near,
+        1 => (1 << 15) + near,
+        _ => (1 << 15) - 1 - near,
+    }
+}
+
 /// The words of a random structured program.
 pub fn structured(rng: &mut Rng, size: usize) -> Vec<u16> {
     let rules = rules(rng, size);
@@ -207,12 +222,13 @@ pub fn damaged(rng: &mut Rng, size: usize) -> Vec<u16> {
 fn damage(rng: &mut Rng, words: &mut Vec<u16>) {
     let at = rng.below(words.len());
     let size = words.len();
-    let value = match rng.below(6) {
+    let value = match rng.below(7) {
         0 => rng.word(),
         1 => rng.below(16) as u16,
         2 => rng.below(size + 3) as u16,
         3 => instruction(rng),
-        4 => rng.pick(&[0, 14, 255, 256, 767, 768, 1279, 1280, 32767, 32768, 65535]),
+        4 => rng.pick(&[0, 14, 255, 256, 511, 512, 767, 768, 1023, 1024, 1279, 1280]),
+        5 => wrapping(rng),
         _ => words.get(at).map_or(0, |word| if rng.once_in(2) { word.wrapping_add(1) } else { word.wrapping_sub(1) }),
     };
     match rng.below(8) {
@@ -241,18 +257,66 @@ pub fn instruction(rng: &mut Rng) -> u16 {
     }
 }
 
-/// A foreign table: random words, most of them small.
+/// A foreign table: random words, most of them small, or instructions without structure.
 pub fn foreign(rng: &mut Rng, size: usize) -> Vec<u16> {
     let count = rng.below(size + 1);
+    if rng.once_in(2) {
+        return unstructured(rng, count);
+    }
     let span = rng.pick(&[3, 6, 14, 14, 14, 20]);
     let number = |rng: &mut Rng| match rng.below(16) {
         0..=8 => rng.below(span) as u16,
         9..=11 => rng.below(count + 2) as u16,
         12 | 13 => instruction(rng),
-        14 => 768 + rng.below(512) as u16,
+        14 => wrapping(rng),
         _ => rng.word(),
     };
     (0..count).map(|_| number(rng)).collect()
+}
+
+/// Instructions with operands that are good more often than not, one after the other; choice tables anywhere.
+fn unstructured(rng: &mut Rng, count: usize) -> Vec<u16> {
+    let mut words = Vec::new();
+    while words.len() < count {
+        let at = words.len() + 1;
+        let ahead = count.saturating_sub(at);
+        let number = instruction(rng);
+        words.push(number);
+        if matches!(number, 1 | 2 | 7 | 8 | 11) && rng.once_in(20) {
+            words.push(wrapping(rng));
+            continue;
+        }
+        match number {
+            1 => words.push(rng.below(ahead.min(9) + 1) as u16),
+            2 => words.push(rng.below(at.min(9) + 1) as u16),
+            3 | 5 | 6 | 10 | 13 => words.push(token(rng)),
+            8 => words.push(rng.below(count + 2) as u16),
+            7 | 11 => {
+                // The table follows at once, behind a few words, or wherever it may be.
+                let gap = rng.pick(&[1, 1, 1, 2, 3]);
+                if rng.once_in(5) {
+                    words.push(rng.below(ahead + 2) as u16);
+                    continue;
+                }
+                words.push(gap as u16);
+                words.extend((1..gap).map(|_| instruction(rng)));
+                let labels = rng.pick(&[0, 1, 2, 2, 3, 3, 4, 9]);
+                words.push(if rng.once_in(20) { wrapping(rng) } else { labels });
+                for _ in 0..labels {
+                    words.push(token(rng));
+                    let here = words.len() + 1;
+                    let bound = if rng.once_in(6) { here + 2 } else { here };
+                    let distance = rng.below(bound) as u16;
+                    words.push(if rng.once_in(20) { wrapping(rng) } else { distance });
+                }
+            }
+            _ => {}
+        }
+    }
+    if rng.once_in(2) {
+        words.push(9);
+    }
+    words
 }
 
 /// Tokens and answers that lead a walk on through the table: where it stops for want of one, that one is put in.

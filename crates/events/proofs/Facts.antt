@@ -6,7 +6,7 @@ use Prim.Native.Nat.{ℕ}
 use lib.Dec.{T, eqb}
 use Rattle.base.specs.Common.{if_then_else_, same}
 use Rattle.events.specs.Events
-use Rattle.events.specs.Events.{Event, output, signal, operation, operationWith, eventWords, Reason, finished, differs, missing, unlabelled, deep, unanswered, outside, reasonNumber, Io, present, answer, took, wrote, answered, is}
+use Rattle.events.specs.Events.{Event, output, signal, operation, operationWith, eventWords, Reason, finished, differs, missing, unlabelled, deep, unanswered, outside, reasonNumber, isChoice, choices, Io, present, answer, took, wrote, answered, is}
 
 -- Events and reasons
 
@@ -46,6 +46,13 @@ numbers (r ∷ rs) = reasonNumber r ∷ numbers rs
 pub reasons-number : T (same (numbers (finished ∷ differs ∷ missing ∷ unlabelled ∷ deep ∷ unanswered ∷ outside ∷ [])) (0 ∷ 30 ∷ 31 ∷ 32 ∷ 33 ∷ 34 ∷ 37 ∷ []))
 unfolding numbers Events.opened
 reasons-number = tt
+
+-- choice operations are those from 768 on: the others, output tokens and errors are none, whatever their numbers
+pub choices-counted : T (not (isChoice (operation 256)) && not (isChoice (operationWith 767 800)) && isChoice (operation 768) && isChoice (operationWith 1024 0)
+    && not (isChoice (output 768)) && not (isChoice (signal 1024)) && eqb (choices []) 0
+    && eqb (choices (operation 768 ∷ output 900 ∷ operationWith 512 768 ∷ operationWith 1279 3 ∷ signal 768 ∷ operation 1023 ∷ operation 511 ∷ [])) 3)
+unfolding Events.opened
+choices-counted = tt
 
 -- Tokens and answers
 

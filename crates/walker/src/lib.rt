@@ -1,4 +1,13 @@
 // The walker: whole and paused walks over a table of 16-bit words.
+ghost use mathlib.Core.Path.{_≡_};
+ghost use Prim.Native.Nat.{ℕ, _+_, _*_, _-_, _<_, _≤_, _^_};
+ghost use Rattle.machine.specs.Bytes.{count, wordAt};
+ghost use Rattle.machine.specs.Lengths.{lengthOf};
+ghost use Rattle.walker.specs.Shape.{size, setWord, putEvent, findFrom, numberOf};
+ghost use Rattle.walker.specs.Shape.{moved, readOne, answeredOne, withResult, withParameter, poppedTo, pushed, first64};
+ghost use Rattle.walker.specs.Shape.{otherwiseOf, labelOf, labelledOf, choiceOf, defaultOf, takeOther};
+ghost use Rattle.walker.specs.Shape.{forwardOf, backOf, inputOf, anyOf, tellOf, inputChoiceOf, callOf, backTo, returnOf, answerOf};
+ghost use Rattle.walker.specs.Shape.{actOf, operateOf, stepOf, goOf, wholeOf, pausedOf};
 
 // Why a walk has stopped for good.
 pub enum Reason {
@@ -74,4 +83,748 @@ pub struct Called {
     pub events: u64,
     pub steps: u64,
     pub number: u16,
+}
+
+// Words of a byte buffer
+
+fn wide(x: u8) -> u16
+    ensures { λ r. ⌜ (r ≡ x) × (r < 256) ⌝ }
+{
+    x as u16
+}
+
+fn location_of(x: u16) -> usize
+    ensures { λ r. ⌜ r ≡ x ⌝ }
+{
+    x as usize
+}
+
+// The words of a table.
+fn table_words(t: &[u8]) -> usize
+    ensures { λ r. ⌜ r ≡ size (now (t .entry)) ⌝ }
+{
+    let n = machine::count_words(t);
+    if n < 4096 { n } else { 4096 }
+}
+
+// The word at index i, from 0: `machine::word` without its test.
+fn word(s: &[u8], i: usize) -> u16
+    requires { ⌜ i < count (now s) ⌝ }
+    ensures { λ r. ⌜ r ≡ wordAt (now (s .entry)) i ⌝ }
+{
+    wide(s[2 * i]) * 256 + wide(s[2 * i + 1])
+}
+
+fn put_word(out: &mut [u8], i: usize, x: u16)
+    requires { ⌜ i < count (now out) ⌝ }
+    ensures { λ _. ⌜ now (out .exit) ≡ setWord (now (out .entry)) i x ⌝ }
+{
+    out[2 * i] = (x / 256) as u8;
+    out[2 * i + 1] = (x % 256) as u8;
+}
+
+fn put_three(out: &mut [u8], i: usize, a: u16, b: u16, d: u16)
+    requires { ⌜ i + 3 ≤ count (now out) ⌝ }
+    ensures { λ _. ⌜ now (out .exit) ≡ setWord (setWord (setWord (now (out .entry)) i a) (i + 1) b) (i + 2) d ⌝ }
+{
+    put_word(out, i, a);
+    put_word(out, i + 1, b);
+    put_word(out, i + 2, d);
+}
+
+fn put_event(out: &mut [u8], i: usize, e: Event)
+    requires { ⌜ i + 3 ≤ count (now out) ⌝ }
+    ensures { λ _. ⌜ now (out .exit) ≡ putEvent (now (out .entry)) i e ⌝ }
+{
+    match e {
+        Event::Output(t) => {
+            put_three(out, i, 1, t, 0);
+        }
+        Event::Error(n) => {
+            put_three(out, i, 2, n, 0);
+        }
+        Event::Plain(op) => {
+            put_three(out, i, 3, op, 0);
+        }
+        Event::With(op, v) => {
+            put_three(out, i, 3, op, v);
+        }
+    }
+}
+
+// The first of so many labels, at every second word from index b, that is x: as many if there is none.
+fn find(t: &[u8], b: usize, labels: usize, x: u16) -> usize
+    requires { ⌜ b + 2 * labels ≤ count (now t) ⌝ }
+    ensures { λ r. ⌜ r ≡ findFrom (now (t .entry)) b x labels 0 ⌝ }
+    ensures { λ r. ⌜ r ≤ labels ⌝ }
+{
+    let mut i = 0;
+    while i < labels {
+        if word(t, b + 2 * i) == x {
+            return i;
+        }
+        i += 1;
+    }
+    i
+}
+
+// The number of a call that leaves a walk stopped.
+fn number_of(why: Reason) -> u16
+    ensures { λ r. ⌜ r ≡ numberOf why ⌝ }
+{
+    match why {
+        Reason::Finished => 0,
+        Reason::Differs => 30,
+        Reason::Missing => 31,
+        Reason::Unlabelled => 32,
+        Reason::Deep => 33,
+        Reason::Unanswered => 34,
+        Reason::Outside => 37,
+    }
+}
+
+// One thing changed
+
+impl Registers {
+    fn moved(mut self, to: usize) -> Registers
+        ensures { λ r. ⌜ r ≡ moved self to ⌝ }
+    {
+        self.location = to;
+        self
+    }
+
+    fn read_token(mut self) -> Registers
+        requires { ⌜ self .read + 1 < 2 ^ 64 ⌝ }
+        ensures { λ r. ⌜ r ≡ readOne self ⌝ }
+    {
+        self.read += 1;
+        self
+    }
+
+    // Takes an answer: the result, and one more used, up to the greatest count.
+    fn give_answer(mut self, x: u16) -> Registers
+        ensures { λ r. ⌜ r ≡ answeredOne self x ⌝ }
+    {
+        self.result = x;
+        if self.used < 18446744073709551615 {
+            self.used += 1;
+        }
+        self
+    }
+
+    fn with_result(mut self, x: u16) -> Registers
+        ensures { λ r. ⌜ r ≡ withResult self x ⌝ }
+    {
+        self.result = x;
+        self
+    }
+
+    fn with_parameter(mut self, x: u16) -> Registers
+        ensures { λ r. ⌜ r ≡ withParameter self x ⌝ }
+    {
+        self.parameter = x;
+        self
+    }
+
+    // Goes back behind a call.
+    fn popped_to(mut self, to: usize) -> Registers
+        requires { ⌜ 0 < self .depth ⌝ }
+        ensures { λ r. ⌜ r ≡ poppedTo self to ⌝ }
+    {
+        self.depth -= 1;
+        self.location = to;
+        self
+    }
+
+    // More than 64 return locations are read as the first 64.
+    fn clipped(mut self) -> Registers
+        ensures { λ r. ⌜ r ≡ first64 self ⌝ }
+    {
+        if 64 < self.depth {
+            self.depth = 64;
+        }
+        self
+    }
+}
+
+// Choices
+
+// Where a choice goes that has no label for it: past its table.
+fn otherwise(n: usize, b: usize, labels: usize) -> Target
+    requires { ⌜ (n ≤ 4096) × (b + 2 * labels ≤ n) ⌝ }
+    ensures { λ r. ⌜ r ≡ otherwiseOf n b labels ⌝ }
+{
+    let to = b + 2 * labels + 1;
+    if to <= n {
+        Target::Otherwise(to)
+    } else {
+        Target::Outside
+    }
+}
+
+// The alternative of label i.
+fn label(t: &[u8], n: usize, b: usize, i: usize) -> Target
+    requires { ⌜ (n ≡ size (now t)) × (b + 2 * i + 2 ≤ n) ⌝ }
+    ensures { λ r. ⌜ r ≡ labelOf (now (t .entry)) b i ⌝ }
+{
+    let from = b + 2 * i + 2;
+    let d = word(t, b + 2 * i + 1) as usize;
+    if d < from {
+        Target::Label(from - d)
+    } else {
+        Target::Outside
+    }
+}
+
+fn labelled(t: &[u8], n: usize, b: usize, labels: usize, x: u16) -> Target
+    requires { ⌜ (n ≡ size (now t)) × (b + 2 * labels ≤ n) ⌝ }
+    ensures { λ r. ⌜ r ≡ labelledOf (now (t .entry)) b labels x ⌝ }
+{
+    let i = find(t, b, labels, x);
+    if i < labels {
+        label(t, n, b, i)
+    } else {
+        otherwise(n, b, labels)
+    }
+}
+
+// Where the choice at loc goes with x.
+fn choice_target(t: &[u8], n: usize, loc: usize, x: u16) -> Target
+    requires { ⌜ (n ≡ size (now t)) × (loc < n) ⌝ }
+    ensures { λ r. ⌜ r ≡ choiceOf (now (t .entry)) loc x ⌝ }
+{
+    let b = loc + 1 + word(t, loc) as usize;
+    if n < b {
+        return Target::Outside;
+    }
+    let labels = word(t, b - 1) as usize;
+    if n < b + 2 * labels {
+        return Target::Outside;
+    }
+    labelled(t, n, b, labels, x)
+}
+
+// Where the choice at loc goes with nothing to look for.
+fn default_target(t: &[u8], n: usize, loc: usize) -> Target
+    requires { ⌜ (n ≡ size (now t)) × (loc < n) ⌝ }
+    ensures { λ r. ⌜ r ≡ defaultOf (now (t .entry)) loc ⌝ }
+{
+    let b = loc + 1 + word(t, loc) as usize;
+    if n < b {
+        return Target::Outside;
+    }
+    let labels = word(t, b - 1) as usize;
+    if n < b + 2 * labels {
+        return Target::Outside;
+    }
+    otherwise(n, b, labels)
+}
+
+// Instructions
+
+impl Registers {
+    fn forward(self, t: &[u8], n: usize) -> Next
+        requires { ⌜ (n ≡ size (now t)) × (self .location < n) ⌝ }
+        ensures { λ r. ⌜ r ≡ forwardOf (now (t .entry)) self ⌝ }
+    {
+        let loc = self.location;
+        let to = loc + 1 + word(t, loc) as usize;
+        if to <= n {
+            Next::On(self.moved(to))
+        } else {
+            Next::Outside
+        }
+    }
+
+    fn back(self, t: &[u8], n: usize) -> Next
+        requires { ⌜ (n ≡ size (now t)) × (self .location < n) ⌝ }
+        ensures { λ r. ⌜ r ≡ backOf (now (t .entry)) self ⌝ }
+    {
+        let loc = self.location;
+        let d = word(t, loc) as usize;
+        if d <= loc {
+            Next::On(self.moved(loc + 1 - d))
+        } else {
+            Next::Outside
+        }
+    }
+
+    fn input(self, t: &[u8], n: usize, tokens: &[u8]) -> Next
+        requires { ⌜ (n ≡ size (now t)) × (self .location < n) ⌝ }
+        ensures { λ r. ⌜ r ≡ inputOf (now (t .entry)) (now (tokens .entry)) self ⌝ }
+    {
+        let loc = self.location;
+        let k = self.read as usize;
+        if k < machine::count_words(tokens) {
+            if word(tokens, k) == word(t, loc) {
+                Next::On(self.moved(loc + 2).read_token())
+            } else {
+                Next::Stop(Reason::Differs)
+            }
+        } else {
+            Next::Stop(Reason::Differs)
+        }
+    }
+
+    fn any(self, tokens: &[u8]) -> Next
+        requires { ⌜ self .location ≤ 4096 ⌝ }
+        ensures { λ r. ⌜ r ≡ anyOf (now (tokens .entry)) self ⌝ }
+    {
+        let loc = self.location;
+        let k = self.read as usize;
+        if k < machine::count_words(tokens) {
+            Next::On(self.moved(loc + 1).read_token())
+        } else {
+            Next::Stop(Reason::Missing)
+        }
+    }
+
+    // An event, and on to a location.
+    fn tell(self, room: usize, to: usize, e: Event) -> Next
+        ensures { λ r. ⌜ r ≡ tellOf room to e self ⌝ }
+    {
+        if 3 <= room {
+            Next::Tells(self.moved(to), e)
+        } else {
+            Next::Full
+        }
+    }
+
+    // A choice that reads no token.
+    fn take_other(self, g: Target) -> Next
+        ensures { λ r. ⌜ r ≡ takeOther self g ⌝ }
+    {
+        match g {
+            Target::Label(to) => Next::On(self.moved(to)),
+            Target::Otherwise(to) => Next::On(self.moved(to)),
+            Target::Outside => Next::Outside,
+        }
+    }
+
+    fn input_choice(self, t: &[u8], n: usize, tokens: &[u8]) -> Next
+        requires { ⌜ (n ≡ size (now t)) × (self .location < n) ⌝ }
+        ensures { λ r. ⌜ r ≡ inputChoiceOf (now (t .entry)) (now (tokens .entry)) self ⌝ }
+    {
+        let loc = self.location;
+        let k = self.read as usize;
+        if k < machine::count_words(tokens) {
+            let x = word(tokens, k);
+            let g = choice_target(t, n, loc, x);
+            match g {
+                Target::Label(to) => Next::On(self.with_result(x).moved(to).read_token()),
+                Target::Otherwise(to) => Next::On(self.with_result(x).moved(to)),
+                Target::Outside => Next::Outside,
+            }
+        } else {
+            self.take_other(default_target(t, n, loc))
+        }
+    }
+
+    fn call(self, t: &[u8], n: usize) -> Next
+        requires { ⌜ (n ≡ size (now t)) × (self .location < n) ⌝ }
+        ensures { λ r. ⌜ r ≡ callOf (now (t .entry)) self ⌝ }
+    {
+        let loc = self.location;
+        let to = word(t, loc) as usize;
+        if to == 0 {
+            return Next::Outside;
+        }
+        if to <= n {
+            if self.depth < 64 {
+                Next::Push(self.moved(to), (loc + 2) as u16)
+            } else {
+                Next::Stop(Reason::Deep)
+            }
+        } else {
+            Next::Outside
+        }
+    }
+
+    fn back_to(self, n: usize, to: usize, t: &[u8]) -> Next
+        requires { ⌜ (n ≡ size (now t)) × (0 < self .depth) ⌝ }
+        ensures { λ r. ⌜ r ≡ backTo (now (t .entry)) to self ⌝ }
+    {
+        if to == 0 {
+            return Next::Outside;
+        }
+        if to <= n {
+            Next::On(self.popped_to(to))
+        } else {
+            Next::Outside
+        }
+    }
+
+    fn ret(self, returns: &[u16; 64], t: &[u8], n: usize) -> Next
+        requires { ⌜ (n ≡ size (now t)) × (self .depth ≤ 64) ⌝ }
+        ensures { λ r. ⌜ r ≡ returnOf (now (returns .entry)) (now (t .entry)) self ⌝ }
+    {
+        let d = self.depth;
+        if d == 0 {
+            return Next::Stop(Reason::Finished);
+        }
+        self.back_to(n, location_of(returns[d - 1]), t)
+    }
+
+    // A choice operation: handed out by a paused walk, else with the next of the answers.
+    fn answer(self, room: usize, paused: bool, answers: &[u8], e: Event) -> Next
+        requires { ⌜ self .location ≤ 4096 ⌝ }
+        ensures { λ r. ⌜ r ≡ answerOf room paused (now (answers .entry)) e self ⌝ }
+    {
+        let loc = self.location;
+        let k = self.used as usize;
+        if room < 3 {
+            return Next::Full;
+        }
+        if paused {
+            return Next::Waits(self.moved(loc + 1), e);
+        }
+        if k < machine::count_words(answers) {
+            Next::Tells(self.moved(loc + 1).give_answer(word(answers, k)), e)
+        } else {
+            Next::Stop(Reason::Unanswered)
+        }
+    }
+}
+
+// Steps
+
+impl Registers {
+    // What instruction 1 to 13 does.
+    fn act(
+        self,
+        returns: &[u16; 64],
+        t: &[u8],
+        n: usize,
+        tokens: &[u8],
+        room: usize,
+        ins: u16,
+    ) -> Next
+        requires { ⌜ (ins < 14) × (n ≡ size (now t)) × (self .location ≤ n) × (self .location + lengthOf ins ≤ n + 1) × (self .depth ≤ 64) ⌝ }
+        ensures { λ r. ⌜ r ≡ actOf (now (returns .entry)) (now (t .entry)) (now (tokens .entry)) room ins self ⌝ }
+    {
+        let loc = self.location;
+        let at = loc;
+        match ins {
+            1 => self.forward(t, n),
+            2 => self.back(t, n),
+            3 => self.input(t, n, tokens),
+            4 => self.any(tokens),
+            5 => self.tell(room, loc + 2, Event::Output(word(t, at))),
+            6 => self.tell(room, loc + 2, Event::Error(word(t, at))),
+            7 => self.input_choice(t, n, tokens),
+            8 => self.call(t, n),
+            9 => self.ret(returns, t, n),
+            10 => Next::On(self.moved(loc + 2).with_result(word(t, at))),
+            11 => self.take_other(choice_target(t, n, at, self.result)),
+            12 => Next::Stop(Reason::Unlabelled),
+            13 => Next::On(self.moved(loc + 2).with_parameter(word(t, at))),
+            _ => Next::Outside,
+        }
+    }
+
+    // What an operation does.
+    fn operate(self, answers: &[u8], room: usize, paused: bool, ins: u16) -> Next
+        requires { ⌜ self .location ≤ 4096 ⌝ }
+        ensures { λ r. ⌜ r ≡ operateOf room paused (now (answers .entry)) ins self ⌝ }
+    {
+        let loc = self.location;
+        if ins < 256 {
+            Next::Outside
+        } else if ins < 512 {
+            self.tell(room, loc + 1, Event::Plain(ins))
+        } else if ins < 768 {
+            self.tell(room, loc + 1, Event::With(ins, self.parameter))
+        } else if ins < 1024 {
+            self.answer(room, paused, answers, Event::Plain(ins))
+        } else if ins < 1280 {
+            self.answer(room, paused, answers, Event::With(ins, self.parameter))
+        } else {
+            Next::Outside
+        }
+    }
+
+    // One step of a walk that goes on.
+    fn next(
+        self,
+        returns: &[u16; 64],
+        t: &[u8],
+        tokens: &[u8],
+        answers: &[u8],
+        room: usize,
+        paused: bool,
+    ) -> Next
+        requires { ⌜ self .depth ≤ 64 ⌝ }
+        ensures { λ r. ⌜ r ≡ stepOf (now (returns .entry)) (now (t .entry)) (now (tokens .entry)) (now (answers .entry)) room paused self ⌝ }
+    {
+        let n = table_words(t);
+        let at = self.location;
+        if at == 0 {
+            return Next::Outside;
+        }
+        if n < at {
+            return Next::Outside;
+        }
+        let ins = word(t, at - 1);
+        if ins < 14 {
+            let len = machine::instruction_length(ins);
+            if n + 1 < at + len {
+                return Next::Outside;
+            }
+            self.act(returns, t, n, tokens, room, ins)
+        } else {
+            self.operate(answers, room, paused, ins)
+        }
+    }
+
+    // One step of a walk that goes on, in any registers.
+    pub fn step(
+        self,
+        returns: &[u16; 64],
+        t: &[u8],
+        tokens: &[u8],
+        answers: &[u8],
+        room: usize,
+        paused: bool,
+    ) -> Next
+        ensures { λ r. ⌜ r ≡ stepOf (now (returns .entry)) (now (t .entry)) (now (tokens .entry)) (now (answers .entry)) room paused (first64 self) ⌝ }
+    {
+        self.clipped()
+            .next(returns, t, tokens, answers, room, paused)
+    }
+}
+
+// Calls
+
+impl Walk {
+    // Keeps a return location.
+    fn push(mut self, back: u16) -> Walk
+        requires { ⌜ self .at .depth < 64 ⌝ }
+        ensures { λ r. ⌜ r ≡ pushed self back ⌝ }
+    {
+        let d = self.at.depth;
+        self.returns[d] = back;
+        self.at.depth = d + 1;
+        self
+    }
+
+    // Its registers as they are read.
+    fn clipped(mut self) -> Walk
+        ensures { λ r. ⌜ (r .phase ≡ self .phase) × (r .at ≡ first64 (self .at)) × (r .returns ≡ self .returns) ⌝ }
+    {
+        let at = self.at.clipped();
+        self.at = at;
+        self
+    }
+
+    // Takes the answer that it waited for.
+    fn answered(mut self, x: u16) -> Walk
+        ensures { λ r. ⌜ (r .at ≡ answeredOne (self .at) x) × (r .returns ≡ self .returns) ⌝ }
+    {
+        let at = self.at.give_answer(x);
+        self.at = at;
+        self
+    }
+
+    // Up to budget steps of a walk that goes on.
+    fn go(
+        self,
+        t: &[u8],
+        tokens: &[u8],
+        answers: &[u8],
+        paused: bool,
+        budget: u64,
+        out: &mut [u8],
+    ) -> Called
+        requires { ⌜ self .at .depth ≤ 64 ⌝ }
+        ensures { λ r. ⌜ r .walk ≡ goOf (now (t .entry)) (now (tokens .entry)) (now (answers .entry)) paused budget (self .at) (self .returns) (now (out .entry)) 0 0 .walk ⌝ }
+        ensures { λ r. ⌜ r .events ≡ goOf (now (t .entry)) (now (tokens .entry)) (now (answers .entry)) paused budget (self .at) (self .returns) (now (out .entry)) 0 0 .events ⌝ }
+        ensures { λ r. ⌜ r .steps ≡ goOf (now (t .entry)) (now (tokens .entry)) (now (answers .entry)) paused budget (self .at) (self .returns) (now (out .entry)) 0 0 .steps ⌝ }
+        ensures { λ r. ⌜ r .number ≡ goOf (now (t .entry)) (now (tokens .entry)) (now (answers .entry)) paused budget (self .at) (self .returns) (now (out .entry)) 0 0 .number ⌝ }
+        ensures { λ _. ⌜ now (out .exit) ≡ goOf (now (t .entry)) (now (tokens .entry)) (now (answers .entry)) paused budget (self .at) (self .returns) (now (out .entry)) 0 0 .out ⌝ }
+    {
+        let mut at = self.at;
+        let mut returns = self.returns;
+        let mut events: usize = 0;
+        let mut done: u64 = 0;
+        let limit = machine::count_words(out);
+        while done < budget {
+            let x = at.next(&returns, t, tokens, answers, limit - 3 * events, paused);
+            let next = done + 1;
+            match x {
+                Next::Full => {
+                    return Called {
+                        walk: Walk {
+                            phase: Phase::Going,
+                            at,
+                            returns,
+                        },
+                        events: events as u64,
+                        steps: done,
+                        number: 35,
+                    };
+                }
+                Next::Outside => {
+                    return Called {
+                        walk: Walk {
+                            phase: Phase::Stopped(Reason::Outside),
+                            at,
+                            returns,
+                        },
+                        events: events as u64,
+                        steps: done,
+                        number: 37,
+                    };
+                }
+                Next::Stop(why) => {
+                    return Called {
+                        walk: Walk {
+                            phase: Phase::Stopped(why),
+                            at,
+                            returns,
+                        },
+                        events: events as u64,
+                        steps: next,
+                        number: number_of(why),
+                    };
+                }
+                Next::On(q) => {
+                    at = q;
+                }
+                Next::Tells(q, e) => {
+                    put_event(out, 3 * events, e);
+                    at = q;
+                    events += 1;
+                }
+                Next::Push(q, back) => {
+                    let w = Walk {
+                        phase: Phase::Going,
+                        at: q,
+                        returns,
+                    }.push(back);
+                    at = w.at;
+                    returns = w.returns;
+                }
+                Next::Waits(q, e) => {
+                    put_event(out, 3 * events, e);
+                    return Called {
+                        walk: Walk {
+                            phase: Phase::Waiting,
+                            at: q,
+                            returns,
+                        },
+                        events: events as u64 + 1,
+                        steps: next,
+                        number: 22,
+                    };
+                }
+            }
+            done = next;
+        }
+        Called {
+            walk: Walk {
+                phase: Phase::Going,
+                at,
+                returns,
+            },
+            events: events as u64,
+            steps: done,
+            number: 36,
+        }
+    }
+
+    // A whole walk's call: up to budget steps, with all answers given.
+    pub fn whole(
+        self,
+        table: &[u8],
+        tokens: &[u8],
+        answers: &[u8],
+        budget: u64,
+        events: &mut [u8],
+    ) -> Called
+        ensures { λ r. ⌜ r .walk ≡ wholeOf (now (table .entry)) (now (tokens .entry)) (now (answers .entry)) budget self (now (events .entry)) (self .phase) .walk ⌝ }
+        ensures { λ r. ⌜ r .events ≡ wholeOf (now (table .entry)) (now (tokens .entry)) (now (answers .entry)) budget self (now (events .entry)) (self .phase) .events ⌝ }
+        ensures { λ r. ⌜ r .steps ≡ wholeOf (now (table .entry)) (now (tokens .entry)) (now (answers .entry)) budget self (now (events .entry)) (self .phase) .steps ⌝ }
+        ensures { λ r. ⌜ r .number ≡ wholeOf (now (table .entry)) (now (tokens .entry)) (now (answers .entry)) budget self (now (events .entry)) (self .phase) .number ⌝ }
+        ensures { λ _. ⌜ now (events .exit) ≡ wholeOf (now (table .entry)) (now (tokens .entry)) (now (answers .entry)) budget self (now (events .entry)) (self .phase) .out ⌝ }
+    {
+        let phase = self.phase;
+        match phase {
+            Phase::Going => self.clipped()
+                .go(table, tokens, answers, false, budget, events),
+            Phase::Waiting => Called {
+                walk: self,
+                events: 0,
+                steps: 0,
+                number: 21,
+            },
+            Phase::Stopped(why) => Called {
+                walk: self.clipped(),
+                events: 0,
+                steps: 0,
+                number: number_of(why),
+            },
+        }
+    }
+
+    // A paused walk's call: with an answer if the walk waits for one. It looks at no answers, so that its tokens stand in for them.
+    pub fn paused(
+        self,
+        table: &[u8],
+        tokens: &[u8],
+        given: bool,
+        answer: u16,
+        budget: u64,
+        events: &mut [u8],
+    ) -> Called
+        ensures { λ r. ⌜ r .walk ≡ pausedOf (now (table .entry)) (now (tokens .entry)) given answer budget self (now (events .entry)) (self .phase) .walk ⌝ }
+        ensures { λ r. ⌜ r .events ≡ pausedOf (now (table .entry)) (now (tokens .entry)) given answer budget self (now (events .entry)) (self .phase) .events ⌝ }
+        ensures { λ r. ⌜ r .steps ≡ pausedOf (now (table .entry)) (now (tokens .entry)) given answer budget self (now (events .entry)) (self .phase) .steps ⌝ }
+        ensures { λ r. ⌜ r .number ≡ pausedOf (now (table .entry)) (now (tokens .entry)) given answer budget self (now (events .entry)) (self .phase) .number ⌝ }
+        ensures { λ _. ⌜ now (events .exit) ≡ pausedOf (now (table .entry)) (now (tokens .entry)) given answer budget self (now (events .entry)) (self .phase) .out ⌝ }
+    {
+        let phase = self.phase;
+        match phase {
+            Phase::Going => {
+                if given {
+                    return Called {
+                        walk: self,
+                        events: 0,
+                        steps: 0,
+                        number: 21,
+                    };
+                }
+                self.clipped()
+                    .go(table, tokens, tokens, true, budget, events)
+            }
+            Phase::Waiting => {
+                if given {
+                    return self.clipped()
+                        .answered(answer)
+                        .go(table, tokens, tokens, true, budget, events);
+                }
+                Called {
+                    walk: self,
+                    events: 0,
+                    steps: 0,
+                    number: 21,
+                }
+            }
+            Phase::Stopped(why) => {
+                if given {
+                    return Called {
+                        walk: self,
+                        events: 0,
+                        steps: 0,
+                        number: 21,
+                    };
+                }
+                Called {
+                    walk: self.clipped(),
+                    events: 0,
+                    steps: 0,
+                    number: number_of(why),
+                }
+            }
+        }
+    }
 }

@@ -13,7 +13,7 @@ use reference::ffi;
 use reference::random::{self, Rng};
 use reference::side::{Inputs, Reference, Side};
 use reference::tables::{assemble, bytes};
-use reference::walker::{Done, Phase, WALK_BYTES, Walk};
+use reference::walker::{self, Done, Phase, WALK_BYTES, Walk};
 
 const SEEDS: u64 = 3000;
 /// Mismatches that are shown in full.
@@ -22,45 +22,92 @@ const SHOWN: u64 = 10;
 const BOUND: u64 = 600;
 const HUGE: [u64; 6] = [1 << 16, 1 << 32, (1 << 63) - 1, 1 << 63, u64::MAX - 1, u64::MAX];
 
-/// Table, tokens and answers as they are lent, at even or odd addresses.
+/// Bytes that are only read, at an even or odd address.
+#[derive(Clone, PartialEq)]
+struct List {
+    all: Box<[u8]>,
+    from: usize,
+    to: usize,
+}
+
+impl List {
+    /// Now and then with an odd last byte. Around them stand words that do harm if they are read.
+    fn new(rng: &mut Rng, exact: bool, words: &[u16]) -> List {
+        let mut all = vec![];
+        for _ in 0..if exact { 0 } else { 4 } {
+            all.extend(rng.pick(&[4, 9, 256, 0u16]).to_be_bytes());
+        }
+        if rng.once_in(2) {
+            all.insert(0, 0);
+        }
+        let from = all.len();
+        all.extend(bytes(words));
+        if rng.once_in(3) {
+            all.push(rng.pick(&[0, 1, 9, 255]));
+        }
+        let to = all.len();
+        for _ in 0..if exact { 0 } else { 8 } {
+            all.extend(rng.pick(&[4, 9, 256, 0u16]).to_be_bytes());
+        }
+        List { all: all.into_boxed_slice(), from, to }
+    }
+
+    fn bytes(&self) -> &[u8] {
+        &self.all[self.from..self.to]
+    }
+}
+
+/// What a call reads.
 #[derive(Clone, PartialEq)]
 struct Case {
-    table: Box<[u8]>,
-    tokens: Box<[u8]>,
-    answers: Box<[u8]>,
-    shifts: [usize; 3],
+    table: List,
+    tokens: List,
+    answers: List,
 }
 
 impl Case {
-    /// Now and then with an odd last byte.
-    fn new(rng: &mut Rng, table: &[u16], tokens: &[u16], answers: &[u16]) -> Case {
-        let mut shifts = [0; 3];
-        let mut lists = [table, tokens, answers].into_iter().zip(&mut shifts).map(|(words, shift)| {
-            *shift = rng.below(2);
-            let mut list = vec![0xC3; *shift];
-            list.extend(bytes(words));
-            if rng.once_in(3) {
-                list.push(rng.pick(&[0, 1, 9, 255]));
-            }
-            list.into_boxed_slice()
-        });
-        let mut next = || lists.next().unwrap_or_default();
-        let (table, tokens, answers) = (next(), next(), next());
-        Case { table, tokens, answers, shifts }
+    fn new(h: &Harness, rng: &mut Rng, table: &[u16], tokens: &[u16], answers: &[u16]) -> Case {
+        let mut list = |words| List::new(rng, h.exact, words);
+        Case { table: list(table), tokens: list(tokens), answers: list(answers) }
     }
 
     fn inputs(&self) -> Inputs<'_> {
-        let [table, tokens, answers] = self.shifts;
-        Inputs { table: &self.table[table..], tokens: &self.tokens[tokens..], answers: &self.answers[answers..] }
+        Inputs { table: self.table.bytes(), tokens: self.tokens.bytes(), answers: self.answers.bytes() }
     }
 
     fn words(&self) -> usize {
         self.inputs().table.len() / 2
     }
 
+    /// A walk made up from nothing, or from one under way with some of its parts changed.
     fn made_up(&self, rng: &mut Rng) -> Walk {
         let inputs = self.inputs();
-        random::made_up(rng, inputs.table.len() / 2, inputs.tokens.len() / 2, inputs.answers.len() / 2)
+        let other = random::made_up(rng, inputs.table.len() / 2, inputs.tokens.len() / 2, inputs.answers.len() / 2);
+        if rng.once_in(3) {
+            return other;
+        }
+        let mut walk = Walk::fresh();
+        let budget = rng.below(60) as u64;
+        walker::whole(inputs.table, inputs.tokens, inputs.answers, budget, &mut walk, &mut [0; 360]);
+        if !rng.once_in(6) {
+            walk.phase = other.phase;
+        }
+        if rng.once_in(3) {
+            (walk.returns, walk.held) = (other.returns, other.held);
+        }
+        if rng.once_in(4) {
+            walk.result = other.result;
+        }
+        if rng.once_in(3) {
+            walk.parameter = other.parameter;
+        }
+        if rng.once_in(3) {
+            walk.read = other.read;
+        }
+        if rng.once_in(3) {
+            walk.used = other.used;
+        }
+        walk
     }
 
     /// The k-th answer, if there is one.
@@ -242,14 +289,14 @@ fn fresh() -> Vec<u8> {
 }
 
 /// A case with a table of the sort, and tokens and answers that lead on in it.
-fn case_of(rng: &mut Rng, sort: usize) -> Case {
+fn case_of(h: &Harness, rng: &mut Rng, sort: usize) -> Case {
     let table = match sort {
         0 => random::structured(rng, 40),
         1 => random::damaged(rng, 40),
         _ => random::foreign(rng, 60),
     };
     let (tokens, answers) = random::lead(rng, &bytes(&table));
-    Case::new(rng, &table, &tokens, &answers)
+    Case::new(h, rng, &table, &tokens, &answers)
 }
 
 /// The size of an event buffer: none, small, or enough; odd ones too.
@@ -307,7 +354,7 @@ fn pauses(h: &mut Harness, rng: &mut Rng, case: &Case, from: &[u8]) {
 }
 
 fn explore(h: &mut Harness, rng: &mut Rng, sort: usize) {
-    let case = case_of(rng, sort);
+    let case = case_of(h, rng, sort);
     let before = case.clone();
     let start = fresh();
     huge(h, rng, &case, Kind::Whole, &start);
@@ -342,7 +389,7 @@ fn foreign(h: &mut Harness, rng: &mut Rng) {
 /// Walks that no walker made, on all sorts of tables.
 fn made_up(h: &mut Harness, rng: &mut Rng) {
     for sort in [0, 1, 2] {
-        let case = case_of(rng, sort);
+        let case = case_of(h, rng, sort);
         let before = case.clone();
         for _ in 0..60 {
             let state = case.made_up(rng);
@@ -367,12 +414,16 @@ fn instructions(h: &mut Harness, rng: &mut Rng) {
         for number in numbers {
             let mut table: Vec<u16> = (0..words).map(|_| rng.below(6) as u16).collect();
             table[at] = number;
-            if at + 1 < words && rng.once_in(3) {
-                table[at + 1] = rng.below(words + 3) as u16;
+            for word in table.iter_mut().skip(at + 1).take(4) {
+                match rng.below(8) {
+                    0 | 1 => *word = rng.below(words + 3) as u16,
+                    2 => *word = random::wrapping(rng),
+                    _ => {}
+                }
             }
             let tokens: Vec<u16> = (0..rng.below(3)).map(|_| rng.below(6) as u16).collect();
             let answers: Vec<u16> = (0..rng.below(3)).map(|_| rng.below(6) as u16).collect();
-            let case = Case::new(rng, &table, &tokens, &answers);
+            let case = Case::new(h, rng, &table, &tokens, &answers);
             let mut state = case.made_up(rng);
             state.phase = Phase::Going;
             state.location = at as u16 + 1;
@@ -389,8 +440,8 @@ fn instructions(h: &mut Harness, rng: &mut Rng) {
 
 /// All budgets from 0 on.
 fn budgets(h: &mut Harness, rng: &mut Rng) {
-    let sort = rng.below(3);
-    let case = case_of(rng, sort);
+    let sort = rng.pick(&[0, 0, 0, 1, 2]);
+    let case = case_of(h, rng, sort);
     let state = if rng.once_in(2) { Walk::fresh() } else { case.made_up(rng) };
     let walk = state.encode();
     let answer = Kind::Paused { given: 1, answer: random::answer(rng) };
@@ -408,8 +459,8 @@ fn budgets(h: &mut Harness, rng: &mut Rng) {
 
 /// All sizes of event buffers from 0 bytes on.
 fn buffers(h: &mut Harness, rng: &mut Rng) {
-    let sort = rng.below(3);
-    let case = case_of(rng, sort);
+    let sort = rng.pick(&[0, 0, 0, 1, 2]);
+    let case = case_of(h, rng, sort);
     let state = if rng.once_in(2) { Walk::fresh() } else { case.made_up(rng) };
     let walk = state.encode();
     let answer = Kind::Paused { given: 1, answer: random::answer(rng) };
@@ -428,8 +479,8 @@ fn buffers(h: &mut Harness, rng: &mut Rng) {
 fn lists(h: &mut Harness, rng: &mut Rng) {
     for _ in 0..8 {
         let sort = rng.pick(&[0, 0, 0, 1, 2]);
-        let case = case_of(rng, sort);
-        let stranger = case_of(rng, 2);
+        let case = case_of(h, rng, sort);
+        let stranger = case_of(h, rng, 2);
         let mut walk = if rng.once_in(4) { case.made_up(rng).encode().to_vec() } else { fresh() };
         for _ in 0..rng.within(2, 24) {
             let waits = Walk::decode(&walk).is_some_and(|walk| walk.phase == Phase::Waiting);
@@ -465,13 +516,13 @@ fn sizes(h: &mut Harness, rng: &mut Rng) {
                 *word = if rng.once_in(2) { 4 } else { 9 };
             }
         }
-        let program = assemble(&random::rules(rng, 40), 4096usize.saturating_sub(200));
         if rng.once_in(2) {
             // A program whose last word comes near 4,096.
-            let origin = (4096 + rng.below(5)).saturating_sub(program.len() + 1).min(words);
-            let program = assemble(&random::rules(rng, 40), origin + 1);
-            for (place, word) in table[origin..].iter_mut().zip(&program) {
-                *place = *word;
+            let rules = random::rules(rng, 40);
+            let last = 4092 + rng.below(8);
+            let origin = last.saturating_sub(assemble(&rules, 1).len()).clamp(2, words);
+            for (place, word) in table[origin..].iter_mut().zip(assemble(&rules, origin + 1)) {
+                *place = word;
             }
             table[1] = (origin - 1) as u16;
         } else {
@@ -480,7 +531,7 @@ fn sizes(h: &mut Harness, rng: &mut Rng) {
         table[0] = 1;
         let tokens: Vec<u16> = (0..rng.below(12)).map(|_| random::token(rng)).collect();
         let answers: Vec<u16> = (0..rng.below(12)).map(|_| random::answer(rng)).collect();
-        let case = Case::new(rng, &table, &tokens, &answers);
+        let case = Case::new(h, rng, &table, &tokens, &answers);
         let start = fresh();
         huge(h, rng, &case, Kind::Whole, &start);
         pauses(h, rng, &case, &start);
@@ -513,14 +564,14 @@ fn long(h: &mut Harness, rng: &mut Rng) {
     let tokens: Vec<u16> = (0..count).map(|_| random::token(rng)).collect();
     let answers: Vec<u16> = (0..count).map(|_| rng.word()).collect();
     // Reads a token, asks, emits, goes back.
-    let case = Case::new(rng, &[4, 768, 5, 7, 2, 5], &tokens, &answers);
+    let case = Case::new(h, rng, &[4, 768, 5, 7, 2, 5], &tokens, &answers);
     let start = fresh();
     let size = 12 * count + 12;
     for budget in [rng.within(4 * 65530, 4 * 65540) as u64, u64::MAX] {
         let left = h.check(&case, &Call { kind: Kind::Whole, budget, walk: &start, size });
         h.check(&case, &Call { kind: Kind::Whole, budget: 9, walk: &left.walk, size });
     }
-    let case = Case::new(rng, &[4, 256, 2, 3], &tokens, &[]);
+    let case = Case::new(h, rng, &[4, 256, 2, 3], &tokens, &[]);
     for size in [6 * 65535, 6 * 65536 + 5, 6 * count + 12] {
         h.check(&case, &Call { kind: PLAIN, budget: u64::MAX, walk: &start, size });
     }
@@ -528,7 +579,7 @@ fn long(h: &mut Harness, rng: &mut Rng) {
 
 /// Bytes that are no walk, or hardly one: every word damaged, and other lengths.
 fn no_walk(h: &mut Harness, rng: &mut Rng) {
-    let case = case_of(rng, 0);
+    let case = case_of(h, rng, 0);
     let good = case.made_up(rng).encode();
     let call = |h: &mut Harness, rng: &mut Rng, walk: &[u8]| {
         let kind = match rng.below(4) {
@@ -632,8 +683,8 @@ impl Run {
 
 /// On each side alone: one call does what its pieces do, and a whole walk agrees with a paused one fed the same answers.
 fn agreement(h: &mut Harness, rng: &mut Rng) {
-    let sort = rng.below(3);
-    let case = case_of(rng, sort);
+    let sort = rng.pick(&[0, 0, 0, 1, 2]);
+    let case = case_of(h, rng, sort);
     let mut state = if rng.once_in(2) { Walk::fresh() } else { case.made_up(rng) };
     if state.phase == Phase::Waiting {
         state.phase = Phase::Going;

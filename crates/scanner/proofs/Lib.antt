@@ -1,0 +1,2 @@
+-- Laws of words, for the proofs of the code.
+pub mod WordLaws

@@ -1,0 +1,6 @@
+-- Laws of the verdict's definitions.
+pub mod Sets
+pub mod Scan
+pub mod Passing
+pub mod Table
+pub mod Laid

@@ -1,0 +1,33 @@
+-- `verdict::then` meets its contract: by cases of the test.
+use borrow.Author.Needs.{needs}
+use mathlib.Core.Path.{refl, _∙_}
+use Rattle.base.specs.Bools.{on-true, on-false, and-on, and-off}
+use Rattle.verdict.specs.Told.{member}
+use Rattle.verdict.proofs.then.Statement.{statement}
+use Rattle.verdict.proofs.then.Tie as tie
+
+union-requires : tie.Need-union-requires
+union-requires c κs = search needs
+
+returns : tie.Need-returns
+returns c = record {
+  end = and-on (c .before .before .before .before .before .before .before .before .before .before .args .w .end) (c .before .before .before .before .before .before .before .before .before .before .args .a .end) (c .before .before .before .before .before .before .before .if1 .taken);
+  exit = on-true (c .before .before .before .before .before .before .before .before .before .before .args .w .end) (c .before .before .before .before .before .before .before .before .before .before .args .w .exit) (c .before .before .before .before .before .before .before .before .before .before .args .a .exit) (c .before .before .before .before .before .before .before .if1 .taken);
+  ret = on-true (c .before .before .before .before .before .before .before .before .before .before .args .w .end) (c .before .before .before .before .before .before .before .before .before .before .args .w .ret) (c .before .before .before .before .before .before .before .before .before .before .args .a .ret) (c .before .before .before .before .before .before .before .if1 .taken);
+  calls = λ k. c .union .ensures k ∙ on-true (c .before .before .before .before .before .before .before .before .before .before .args .w .end) (member (c .before .before .before .before .before .before .before .before .before .before .args .w .calls) k) (member (c .before .before .before .before .before .before .before .before .before .before .args .a .calls) k) (c .before .before .before .before .before .before .before .if1 .taken);
+  loops = refl;
+  next = refl;
+}
+
+returns-2 : tie.Need-returns-2
+returns-2 c = record {
+  end = and-off (c .before .before .before .before .before .args .w .end) (c .before .before .before .before .before .args .a .end) (c .before .before .if1 .left);
+  exit = on-false (c .before .before .before .before .before .args .w .end) (c .before .before .before .before .before .args .w .exit) (c .before .before .before .before .before .args .a .exit) (c .before .before .if1 .left);
+  ret = on-false (c .before .before .before .before .before .args .w .end) (c .before .before .before .before .before .args .w .ret) (c .before .before .before .before .before .args .a .ret) (c .before .before .if1 .left);
+  calls = λ k. on-false (c .before .before .before .before .before .args .w .end) (member (c .before .before .before .before .before .args .w .calls) k) (member (c .before .before .before .before .before .args .a .calls) k) (c .before .before .if1 .left);
+  loops = refl;
+  next = refl;
+}
+
+pub then-spec : {M : Type 1} → statement M
+then-spec = tie.close (tie.spec union-requires returns returns-2)

@@ -1,0 +1,369 @@
+-- The calls of the code's definitions are those of the machine's.
+use mathlib.Core.Path.{_≡_, refl, sym, ap, _∙_}
+use mathlib.Core.Bool.{Bool, true, false}
+use mathlib.Core.List.{List, [], _∷_, _++_, reverse}
+use mathlib.Core.Option.{Option, none, some}
+use Prim.Native.Nat.{ℕ, zero, suc, _+_, _*_, _-_, _<_, _≤_}
+use native.Mathlib.Omega.{arith}
+use lib.Dec.{eqb, leb, ltb}
+use lib.ListN.{length, take, getD, set, length-set, length-append}
+use borrow.Author.Tests.{leb-true, ltb-true}
+use Rattle.base.specs.Common.{if_then_else_}
+use Rattle.events.specs.Events as events
+use Rattle.events.specs.Events.{reasonNumber}
+use Rattle.machine.specs.Bytes.{count, wordsOf, wordAt, tableOf, bytesOf, over}
+use Rattle.machine.specs.Lengths.{lengthOf}
+use Rattle.machine.specs.Walk as machine
+use Rattle.machine.specs.Call as calls
+use Rattle.machine.specs.Call.{whole, paused, Called, further, ends, endsFor, run, callIn, callWalk}
+use Rattle.machine.specs.Form.{eventsWords}
+use Rattle.walker.specs.declared.Event.{Event}
+use Rattle.walker.specs.declared.Event.the-variants.{Output, Plain, With}
+use Rattle.walker.specs.declared.Next.{Next}
+use Rattle.walker.specs.declared.Next.the-variants.{Full, Stop, On, Tells, Push, Waits}
+use Rattle.walker.specs.declared.Phase.{Phase}
+use Rattle.walker.specs.declared.Phase.the-variants.{Going, Waiting, Stopped}
+use Rattle.walker.specs.declared.Reason.{Reason}
+use Rattle.walker.specs.declared.Reason.the-variants.{Finished, Differs, Missing, Unlabelled, Deep, Unanswered}
+use Rattle.walker.specs.declared.Registers.{Registers}
+use Rattle.walker.specs.declared.Target.{Target}
+use Rattle.walker.specs.declared.Target.the-variants.{Label, Otherwise}
+use Rattle.walker.specs.declared.Walk.{Walk}
+use Rattle.walker.specs.View.{reasonOf, phaseOf, eventOf, walkIn, walkOf}
+use Rattle.walker.specs.Shape.{size, operand, tableAt, choiceOf, defaultOf, takeInput, takeOther, moved, readOne, withResult, withParameter, withDepth, answeredOne, poppedTo, forwardOf, backOf, inputOf, anyOf, tellOf, inputChoiceOf, callOf, backTo, returnOf, askOf, answerOf, actOf, operateOf, fetchedOf, stepOf, putEvent, Outcome, ended, numberOf, goOf, first64, refusedOf, wholeOf, pausedOf}
+use Rattle.walker.proofs.LinkWords.{length-returns, clip-returns, over-event, count-putEvent, one-more, one-more-fits}
+use Rattle.walker.proofs.LinkStep.{withEvents, inCall, turnOf, modeOf, step-turn}
+
+-- What a step keeps: at most 64 return locations, answers used within their width, and room for an event that is told
+
+-- registers that a call may hold
+pub record Held (r : Registers) : Type 0 where
+  pub depth : r .depth ≤ 64
+  pub used : r .used < 18446744073709551616
+
+data Keeps (room : ℕ) : Next → Type 0 where
+  full : Keeps room Full
+  out : Keeps room Next.Outside
+  stop : {x : Reason} → Keeps room (Stop x)
+  on : {v : Registers} → Held v → Keeps room (On v)
+  tell : {v : Registers} {e : Event} → Held v → 3 ≤ room → Keeps room (Tells v e)
+  push : {v : Registers} {l : ℕ} → Held v → v .depth < 64 → Keeps room (Push v l)
+  wait : {v : Registers} {e : Event} → 3 ≤ room → Keeps room (Waits v e)
+
+either : {room : ℕ} (b : Bool) (x y : Next) → (b ≡ true → Keeps room x) → (b ≡ false → Keeps room y) → Keeps room (if b then x else y)
+either true x y f g = f refl
+either false x y f g = g refl
+
+module _ (room : ℕ) (r : Registers) (held : Held r) where
+  -- registers with the same depth, and as many answers used
+  alike : (v : Registers) → v .depth ≡ r .depth → v .used ≡ r .used → Held v
+  alike v e f = record { depth = rw e (held .depth); used = rw f (held .used) }
+
+  goes-on : (v : Registers) → v .depth ≡ r .depth → v .used ≡ r .used → Keeps room (On v)
+  goes-on v e f = on (alike v e f)
+
+  other-keeps : (g : Target) → Keeps room (takeOther r g)
+  unfolding takeOther
+  other-keeps (Label l) = goes-on (moved r l) refl refl
+  other-keeps (Otherwise l) = goes-on (moved r l) refl refl
+  other-keeps Target.Outside = out
+
+  taken-keeps : (x : ℕ) (g : Target) → Keeps room (takeInput r x g)
+  unfolding takeInput
+  taken-keeps x (Label l) = goes-on (readOne (moved (withResult r x) l)) refl refl
+  taken-keeps x (Otherwise l) = goes-on (moved (withResult r x) l) refl refl
+  taken-keeps x Target.Outside = out
+
+  tell-keeps : (l : ℕ) (e : Event) → Keeps room (tellOf room l e r)
+  unfolding tellOf
+  tell-keeps l e = either (leb 3 room) _ _ (λ y. tell {e = e} (alike (moved r l) refl refl) (leb-true 3 room y)) (λ y. full)
+
+  ask-keeps : (q : Bool) (a : List ℕ) (e : Event) → 3 ≤ room → Keeps room (askOf q a e r)
+  unfolding askOf
+  ask-keeps true a e h = wait h
+  ask-keeps false a e h =
+      let v = answeredOne (moved r (r .location + 1)) (wordAt a (r .used)) in
+      let kept : Held v = record { depth = held .depth; used = one-more-fits (r .used) (held .used) } in
+      either (ltb (r .used) (count a)) (Tells v e) (Stop Unanswered) (λ y. tell kept h) (λ y. stop)
+
+  answer-keeps : (q : Bool) (a : List ℕ) (e : Event) → Keeps room (answerOf room q a e r)
+  unfolding answerOf
+  answer-keeps q a e = either (leb 3 room) _ _ (λ y. ask-keeps q a e (leb-true 3 room y)) (λ y. full)
+
+  operate-keeps : (q : Bool) (a : List ℕ) (i : ℕ) → Keeps room (operateOf room q a i r)
+  unfolding operateOf
+  operate-keeps q a i =
+      either (ltb i 256) _ _ (λ y. out) (λ y.
+      either (ltb i 512) _ _ (λ y. tell-keeps (r .location + 1) (Plain i)) (λ y.
+      either (ltb i 768) _ _ (λ y. tell-keeps (r .location + 1) (With i (r .parameter))) (λ y.
+      either (ltb i 1024) _ _ (λ y. answer-keeps q a (Plain i)) (λ y.
+      either (ltb i 1280) _ _ (λ y. answer-keeps q a (With i (r .parameter))) (λ y. out)))))
+
+  module _ (rs t k : List ℕ) where
+    forward-keeps : Keeps room (forwardOf t r)
+    unfolding forwardOf
+    forward-keeps = either (leb (tableAt t (r .location)) (size t)) _ _ (λ y. goes-on (moved r (tableAt t (r .location))) refl refl) (λ y. out)
+
+    back-keeps : Keeps room (backOf t r)
+    unfolding backOf
+    back-keeps =
+        let x = operand t (r .location) in
+        either (leb x (r .location)) _ _ (λ y. goes-on (moved r (r .location + 1 - x)) refl refl) (λ y. out)
+
+    input-keeps : Keeps room (inputOf t k r)
+    unfolding inputOf
+    input-keeps =
+        either (ltb (r .read) (count k)) _ _
+        (λ y. either (eqb (wordAt k (r .read)) (operand t (r .location))) _ _ (λ z. goes-on (readOne (moved r (r .location + 2))) refl refl) (λ z. stop {x = Differs}))
+        (λ y. stop {x = Differs})
+
+    any-keeps : Keeps room (anyOf k r)
+    unfolding anyOf
+    any-keeps = either (ltb (r .read) (count k)) _ _ (λ y. goes-on (readOne (moved r (r .location + 1))) refl refl) (λ y. stop {x = Missing})
+
+    inputChoice-keeps : Keeps room (inputChoiceOf t k r)
+    unfolding inputChoiceOf
+    inputChoice-keeps =
+        let x = wordAt k (r .read) in
+        either (ltb (r .read) (count k)) _ _ (λ y. taken-keeps x (choiceOf t (r .location) x)) (λ y. other-keeps (defaultOf t (r .location)))
+
+    call-keeps : Keeps room (callOf t r)
+    unfolding callOf
+    call-keeps =
+        let x = operand t (r .location) in
+        either (eqb x 0) _ _ (λ y. out) (λ y.
+        either (leb x (size t)) _ _ (λ y. either (ltb (r .depth) 64) _ _ (λ z. push {l = r .location + 2} (alike (moved r x) refl refl) (ltb-true (r .depth) 64 z)) (λ z. stop {x = Deep})) (λ y. out))
+
+    return-keeps : Keeps room (returnOf rs t r)
+    unfolding returnOf backTo
+    return-keeps =
+        let l = getD rs (r .depth - 1) 0 in
+        let b = held .depth in
+        let kept : Held (poppedTo r l) = record { depth = omega arith; used = held .used } in
+        either (eqb (r .depth) 0) _ _ (λ y. stop {x = Finished}) (λ y.
+        either (eqb l 0) _ _ (λ y. out) (λ y.
+        either (leb l (size t)) _ _ (λ y. on kept) (λ y. out)))
+
+    act-keeps : (i : ℕ) → Keeps room (actOf rs t k room i r)
+    unfolding actOf
+    act-keeps i =
+        let l = r .location in
+        let x = operand t l in
+        either (eqb i 1) _ _ (λ y. forward-keeps) (λ y.
+        either (eqb i 2) _ _ (λ y. back-keeps) (λ y.
+        either (eqb i 3) _ _ (λ y. input-keeps) (λ y.
+        either (eqb i 4) _ _ (λ y. any-keeps) (λ y.
+        either (eqb i 5) _ _ (λ y. tell-keeps (l + 2) (Output x)) (λ y.
+        either (eqb i 6) _ _ (λ y. tell-keeps (l + 2) (Event.Error x)) (λ y.
+        either (eqb i 7) _ _ (λ y. inputChoice-keeps) (λ y.
+        either (eqb i 8) _ _ (λ y. call-keeps) (λ y.
+        either (eqb i 9) _ _ (λ y. return-keeps) (λ y.
+        either (eqb i 10) _ _ (λ y. goes-on (withResult (moved r (l + 2)) x) refl refl) (λ y.
+        either (eqb i 11) _ _ (λ y. other-keeps (choiceOf t l (r .result))) (λ y.
+        either (eqb i 12) _ _ (λ y. stop {x = Unlabelled}) (λ y.
+        either (eqb i 13) _ _ (λ y. goes-on (withParameter (moved r (l + 2)) x) refl refl) (λ y. out)))))))))))))
+
+    step-keeps : (a : List ℕ) (q : Bool) → Keeps room (stepOf rs t k a room q r)
+    unfolding stepOf fetchedOf
+    step-keeps a q =
+        let i = wordAt t (r .location - 1) in
+        either (eqb (r .location) 0) _ _ (λ y. out) (λ y.
+        either (leb (r .location) (size t)) _ _ (λ y.
+        either (ltb i 14) _ _ (λ z. either (leb (r .location + lengthOf i) (size t + 1)) _ _ (λ u. act-keeps i) (λ u. out)) (λ z. operate-keeps q a i)) (λ y. out))
+
+-- What a call of the code's definitions gives is what the machine's gives, with s the event buffer before it
+pub record Agrees (s : List ℕ) (x : Outcome) (c : Called) : Type 0 where
+  pub number : x .number ≡ c .number
+  pub steps : x .steps ≡ c .steps
+  pub events : x .events ≡ length (c .events)
+  pub walk : walkOf (x .walk) ≡ c .walk
+  pub out : x .out ≡ over (bytesOf (eventsWords (c .events))) s
+
+number-reason : (x : Reason) → numberOf x ≡ reasonNumber (reasonOf x)
+unfolding numberOf reasonNumber reasonOf
+number-reason Finished = refl
+number-reason Differs = refl
+number-reason Missing = refl
+number-reason Unlabelled = refl
+number-reason Deep = refl
+number-reason Unanswered = refl
+number-reason Reason.Outside = refl
+
+-- a walk with 64 return locations at most is at rest but for its events
+rest-returns : (rs : List ℕ) (d : ℕ) → length rs ≡ 64 → machine.first64 (reverse (take d rs)) ≡ reverse (take d rs)
+unfolding machine.first64
+rest-returns rs d h =
+    let e = length-returns rs d in
+    let f : length (reverse (take d rs)) - 64 ≡ 0 = omega arith in
+    rw f
+
+at-rest : (ph : machine.Phase) (es : List events.Event) (r : Registers) (rs : List ℕ) → length rs ≡ 64
+    → walkIn ph r rs ≡ machine.atRest (machine.inPhase ph (inCall es r rs))
+unfolding withEvents walkIn machine.opened
+at-rest ph es r rs h = rw (rest-returns rs (r .depth) h)
+
+-- a call ends with the events es in its buffer
+ended-agrees : (s : List ℕ) (ph : Phase) (number steps e : ℕ) (es : List events.Event) (r : Registers) (rs o : List ℕ) → length rs ≡ 64 → length es ≡ e
+    → o ≡ over (bytesOf (eventsWords es)) s → Agrees s (ended ph r rs o e steps number) (ends number steps (machine.inPhase (phaseOf ph) (inCall es r rs)))
+unfolding ends walkOf withEvents walkIn machine.opened
+ended-agrees s ph number steps e es r rs o h l b = record {
+  number = refl;
+  steps = refl;
+  events = sym l;
+  walk = at-rest (phaseOf ph) es r rs h;
+  out = b;
+}
+
+-- Up to n steps
+
+module _ (t k a : List ℕ) (q : Bool) (s : List ℕ) where
+  -- n steps from the registers r and the return locations rs, with the events es written to the buffer o and d steps done
+  abbrev pub Runs : ℕ → Registers → List ℕ → List ℕ → ℕ → ℕ → List events.Event → Type 0
+  Runs n r rs o e d es = Agrees s (goOf t k a q n r rs o e d) (run (tableOf t) (wordsOf k) n (modeOf q a) (count o - 3 * e) d (inCall es r rs))
+
+  abbrev pub Goes : ℕ → Type 0
+  Goes n = (r : Registers) (rs o : List ℕ) (e d : ℕ) (es : List events.Event) → length rs ≡ 64 → Held r → length es ≡ e
+      → o ≡ over (bytesOf (eventsWords es)) s → Runs n r rs o e d es
+
+  module _ (n : ℕ) (ih : Goes n) (r : Registers) (rs o : List ℕ) (e d : ℕ) (es : List events.Event) (sized : length rs ≡ 64) (length-es : length es ≡ e)
+      (b : o ≡ over (bytesOf (eventsWords es)) s) where
+    -- one more event is written
+    told : (x : Event) → 3 ≤ count o - 3 * e → putEvent o (3 * e) x ≡ over (bytesOf (eventsWords (es ++ (eventOf x ∷ [])))) s
+    told x h =
+        let h₂ : 3 ≤ count (over (bytesOf (eventsWords es)) s) - 3 * e = rw b at h in
+        ap (λ (u : List ℕ). putEvent u (3 * e) x) b ∙ over-event es s (3 * e) x (omega arith) (omega arith)
+
+    more : (x : Event) → length (es ++ (eventOf x ∷ [])) ≡ e + 1
+    more x = length-append es (eventOf x ∷ []) ∙ omega arith
+
+    next : (x : Next) → Keeps (count o - 3 * e) x → Agrees s
+        (elim x as (λ y. Outcome) [
+          | Full ↦ ended Going r rs o e d 35
+          | Next.Outside ↦ ended (Stopped Reason.Outside) r rs o e d 37
+          | Stop x ↦ ended (Stopped x) r rs o e (d + 1) (numberOf x)
+          | On v ↦ goOf t k a q n v rs o e (d + 1)
+          | Tells v x ↦ goOf t k a q n v rs (putEvent o (3 * e) x) (e + 1) (d + 1)
+          | Push v l ↦ goOf t k a q n (withDepth v (v .depth + 1)) (set rs (v .depth) l) o e (d + 1)
+          | Waits v x ↦ ended Waiting v rs (putEvent o (3 * e) x) (e + 1) (d + 1) 22
+        ])
+        (elim (turnOf (count o - 3 * e) d es r rs x) as (λ y. Called) [ calls.over c ↦ c | further left v ↦ run (tableOf t) (wordsOf k) n (modeOf q a) left (d + 1) v ])
+    unfolding turnOf endsFor withEvents machine.inPhase machine.withIo walkIn phaseOf reasonOf reasonNumber
+    next Full full = ended-agrees s Going 35 d e es r rs o sized length-es b
+    next Next.Outside out = ended-agrees s (Stopped Reason.Outside) 37 d e es r rs o sized length-es b
+    next (Stop x) stop = rw (number-reason x) (ended-agrees s (Stopped x) (reasonNumber (reasonOf x)) (d + 1) e es r rs o sized length-es b)
+    next (On v) (on h) = ih v rs o e (d + 1) es sized h length-es b
+    next (Tells v x) (tell h h₂) =
+        let f : count (putEvent o (3 * e) x) - 3 * (e + 1) ≡ count o - 3 * e - 3 = rw (count-putEvent o (3 * e) x) (omega arith) in
+        rw f at (ih v rs (putEvent o (3 * e) x) (e + 1) (d + 1) (es ++ (eventOf x ∷ [])) sized h (more x) (told x h₂))
+    next (Push v l) (push h h₂) =
+        ih (withDepth v (v .depth + 1)) (set rs (v .depth) l) o e (d + 1) es (length-set rs (v .depth) l ∙ sized) (record { depth = omega arith; used = h .used }) length-es b
+    next (Waits v x) (wait h) = ended-agrees s Waiting 22 (d + 1) (e + 1) (es ++ (eventOf x ∷ [])) v rs (putEvent o (3 * e) x) sized (more x) (told x h)
+
+  -- up to n steps are the machine's
+  pub go-run : (n : ℕ) → Goes n
+  unfolding goOf run withEvents machine.inPhase machine.withIo walkIn phaseOf
+  go-run zero r rs o e d es h held l b = ended-agrees s Going 36 d e es r rs o h l b
+  go-run (suc n) r rs o e d es h held l b =
+      rw (step-turn t k a (count o - 3 * e) d q es r rs h (held .depth) (held .used), run)
+      (next n (go-run n) r rs o e d es h l b (stepOf rs t k a (count o - 3 * e) q r) (step-keeps (count o - 3 * e) r held rs t k a q))
+
+-- Calls: for every walk struct, whatever its depth, an array of 64 return locations and answers used within their width
+
+-- the answer of a paused call, or none
+abbrev pub handed : Bool → ℕ → Option ℕ
+handed false x = none
+handed true x = some x
+
+module _ (t k : List ℕ) (n : ℕ) (w : Walk) (o : List ℕ) (sized : length (w .returns) ≡ 64) (used : w .at .used < 18446744073709551616) where
+  -- the walk as a call begins with it
+  begins : (ph : Phase) → w .phase ≡ ph → machine.inPhase (phaseOf ph) (inCall [] (first64 (w .at)) (w .returns)) ≡ machine.atRest (walkOf w)
+  unfolding walkOf withEvents walkIn machine.opened
+  begins ph e = rw (rest-returns (w .returns) (w .at .depth) sized, clip-returns (w .returns) (w .at .depth) sized, e)
+
+  held : Held (first64 (w .at))
+  held = record { depth = omega arith; used = used }
+
+  nothing : o ≡ over (bytesOf (eventsWords [])) o
+  unfolding over bytesOf eventsWords
+  nothing = refl
+
+  -- from registers, with the whole buffer left
+  fresh-run : (a : List ℕ) (q : Bool) (r : Registers) → Held r
+      → Agrees o (goOf t k a q n r (w .returns) o 0 0) (run (tableOf t) (wordsOf k) n (modeOf q a) (count o) 0 (inCall [] r (w .returns)))
+  fresh-run a q r h =
+      let e : count o - 3 * 0 ≡ count o = omega arith in
+      rw e at (go-run t k a q o n r (w .returns) o 0 0 [] sized h refl nothing)
+
+  refused-agrees : Agrees o (refusedOf w o) (record { number = 21; walk = walkOf w; events = []; steps = 0 })
+  refused-agrees = record { number = refl; steps = refl; events = refl; walk = refl; out = nothing }
+
+  stopped-agrees : (r : Reason) → w .phase ≡ Stopped r
+      → Agrees o (ended (Stopped r) (first64 (w .at)) (w .returns) o 0 0 (numberOf r)) (ends (reasonNumber (reasonOf r)) 0 (machine.atRest (walkOf w)))
+  unfolding phaseOf
+  stopped-agrees r e = rw (← begins (Stopped r) e, number-reason r) (ended-agrees o (Stopped r) (reasonNumber (reasonOf r)) 0 0 [] (first64 (w .at)) (w .returns) o sized refl nothing)
+
+  going-run : (a : List ℕ) (q : Bool) → w .phase ≡ Going
+      → Agrees o (goOf t k a q n (first64 (w .at)) (w .returns) o 0 0) (run (tableOf t) (wordsOf k) n (modeOf q a) (count o) 0 (machine.atRest (walkOf w)))
+  unfolding withEvents walkIn phaseOf machine.inPhase machine.withIo
+  going-run a q e = rw (← begins Going e) (fresh-run a q (first64 (w .at)) held)
+
+  -- a waiting walk that is given its answer
+  answered-begins : (x : ℕ) → inCall [] (answeredOne (first64 (w .at)) x) (w .returns) ≡ machine.withAnswer x (machine.atRest (walkOf w))
+  unfolding walkOf withEvents walkIn machine.opened events.answered
+  answered-begins x = rw (rest-returns (w .returns) (w .at .depth) sized, clip-returns (w .returns) (w .at .depth) sized, one-more (w .at .used) used)
+
+  answered-run : (x : ℕ)
+      → Agrees o (goOf t k [] true n (answeredOne (first64 (w .at)) x) (w .returns) o 0 0) (run (tableOf t) (wordsOf k) n (paused none) (count o) 0 (machine.withAnswer x (machine.atRest (walkOf w))))
+  answered-run x =
+      let h : Held (answeredOne (first64 (w .at)) x) = record { depth = omega arith; used = one-more-fits (w .at .used) used } in
+      rw (← answered-begins x) (fresh-run [] true (answeredOne (first64 (w .at)) x) h)
+
+  whole-in : (a : List ℕ) (ph : Phase) → w .phase ≡ ph
+      → Agrees o (wholeOf t k a n w o ph) (callIn (tableOf t) (wordsOf k) (phaseOf ph) (whole (wordsOf a)) n (count o) (walkOf w))
+  unfolding wholeOf callIn phaseOf
+  whole-in a Going e = going-run a false e
+  whole-in a Waiting e = refused-agrees
+  whole-in a (Stopped r) e = stopped-agrees r e
+
+  paused-in : (g : Bool) (x : ℕ) (ph : Phase) → w .phase ≡ ph
+      → Agrees o (pausedOf t k g x n w o ph) (callIn (tableOf t) (wordsOf k) (phaseOf ph) (paused (handed g x)) n (count o) (walkOf w))
+  unfolding pausedOf callIn phaseOf
+  paused-in false x Going e = going-run [] true e
+  paused-in true x Going e = refused-agrees
+  paused-in false x Waiting e = refused-agrees
+  paused-in true x Waiting e = answered-run x
+  paused-in false x (Stopped r) e = stopped-agrees r e
+  paused-in true x (Stopped r) e = refused-agrees
+
+  -- a whole call
+  pub whole-call : (a : List ℕ) → Agrees o (wholeOf t k a n w o (w .phase)) (callWalk (tableOf t) (wordsOf k) (whole (wordsOf a)) n (count o) (walkOf w))
+  unfolding callWalk walkOf walkIn
+  whole-call a = whole-in a (w .phase) refl
+
+  -- a paused call, with an answer or none
+  pub paused-call : (g : Bool) (x : ℕ)
+      → Agrees o (pausedOf t k g x n w o (w .phase)) (callWalk (tableOf t) (wordsOf k) (paused (handed g x)) n (count o) (walkOf w))
+  unfolding callWalk walkOf walkIn
+  paused-call g x = paused-in g x (w .phase) refl
+
+-- A refused call leaves the very struct and the buffer as they were
+
+module _ (t k : List ℕ) (n : ℕ) (w : Walk) (o : List ℕ) where
+  pub whole-refused : (a : List ℕ) → w .phase ≡ Waiting → wholeOf t k a n w o (w .phase) ≡ refusedOf w o
+  unfolding wholeOf
+  whole-refused a e = rw e
+
+  -- a waiting walk, and no answer
+  pub unanswered-refused : (x : ℕ) → w .phase ≡ Waiting → pausedOf t k false x n w o (w .phase) ≡ refusedOf w o
+  unfolding pausedOf
+  unanswered-refused x e = rw e
+
+  answered-in : (x : ℕ) (ph : Phase) → (ph ≡ Waiting → ⊥) → pausedOf t k true x n w o ph ≡ refusedOf w o
+  unfolding pausedOf
+  answered-in x Going h = refl
+  answered-in x Waiting h = absurd (h refl)
+  answered-in x (Stopped r) h = refl
+
+  -- an answer, and no waiting walk
+  pub answered-refused : (x : ℕ) → (w .phase ≡ Waiting → ⊥) → pausedOf t k true x n w o (w .phase) ≡ refusedOf w o
+  answered-refused x h = answered-in x (w .phase) h

@@ -1,0 +1,45 @@
+use mathlib.Core.Path.{_≡_, refl, sym, ap, _∙_}
+use native.Mathlib.Omega.{arith}
+use Prim.Native.Nat.{ℕ, _+_, _*_, _-_, _≤_, _<_}
+use borrow.Author.Tests.{lt-ltb, le-ltb, le-leb, lt-leb, eq-eqb, ne-eqb}
+use Rattle.machine.specs.Bytes.{count, wordAt}
+use Rattle.walker.specs.Shape.{size, findFrom}
+use Rattle.walker.specs.Shape.{backOf}
+use borrow.Author.Needs.{needs}
+use Rattle.walker.proofs.Registers.back.Statement.{statement}
+use Rattle.walker.proofs.Registers.back.Tie as tie
+
+word-requires : tie.Need-word-requires
+word-requires c κs = search needs
+
+cast-d : tie.Need-cast-d
+cast-d c = search needs
+
+add-moved : tie.Need-add-moved
+add-moved c = search needs
+
+sub-moved : tie.Need-sub-moved
+sub-moved c = search needs
+
+moved-requires : tie.Need-moved-requires
+moved-requires c κs = search needs
+
+returns : tie.Need-returns
+unfolding backOf
+returns c =
+    let a = c .before .before .before .before .args in
+    let l = a .self .location in
+    let h : wordAt (a .t .now) l ≤ l = omega (arith, c .before .before .word .ensures) in
+    simp (le-leb _ _ h, c .moved .ensures, c .before .before .word .ensures)
+
+returns-2 : tie.Need-returns-2
+unfolding backOf
+returns-2 c =
+    let a = c .before .before .before .args in
+    let l = a .self .location in
+    let h : l < wordAt (a .t .now) l = omega (arith, c .before .word .ensures) in
+    simp (lt-leb _ _ h)
+
+pub back-spec : {M : Type 1} → statement M
+back-spec =
+    tie.close (tie.spec word-requires cast-d add-moved sub-moved moved-requires returns returns-2)

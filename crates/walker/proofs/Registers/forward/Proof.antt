@@ -1,0 +1,45 @@
+use mathlib.Core.Path.{_≡_, refl, sym, ap, _∙_}
+use native.Mathlib.Omega.{arith}
+use Prim.Native.Nat.{ℕ, _+_, _*_, _-_, _≤_, _<_}
+use borrow.Author.Tests.{lt-ltb, le-ltb, le-leb, lt-leb, eq-eqb, ne-eqb}
+use Rattle.machine.specs.Bytes.{count, wordAt}
+use Rattle.walker.specs.Shape.{size, findFrom}
+use Rattle.walker.specs.Shape.{forwardOf}
+use borrow.Author.Needs.{needs}
+use Rattle.walker.proofs.Registers.forward.Statement.{statement}
+use Rattle.walker.proofs.Registers.forward.Tie as tie
+
+add-to : tie.Need-add-to
+add-to c = search needs
+
+word-requires : tie.Need-word-requires
+word-requires c κs = search needs
+
+cast-to : tie.Need-cast-to
+cast-to c = search needs
+
+add-to-2 : tie.Need-add-to-2
+add-to-2 c = search needs
+
+moved-requires : tie.Need-moved-requires
+moved-requires c κs = search needs
+
+returns : tie.Need-returns
+unfolding forwardOf
+returns c =
+    let a = c .before .before .before .before .args in
+    let l = a .self .location in
+    let h : l + 1 + wordAt (a .t .now) l ≤ size (a .t .now) = omega (arith, c .before .before .word .ensures, c .before .before .before .before .pre .0) in
+    simp (le-leb _ _ h, c .moved .ensures, c .before .before .word .ensures)
+
+returns-2 : tie.Need-returns-2
+unfolding forwardOf
+returns-2 c =
+    let a = c .before .before .before .args in
+    let l = a .self .location in
+    let h : size (a .t .now) < l + 1 + wordAt (a .t .now) l = omega (arith, c .before .word .ensures, c .before .before .before .pre .0) in
+    simp (lt-leb _ _ h)
+
+pub forward-spec : {M : Type 1} → statement M
+forward-spec =
+    tie.close (tie.spec add-to word-requires cast-to add-to-2 moved-requires returns returns-2)

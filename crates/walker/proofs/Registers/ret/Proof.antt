@@ -1,0 +1,45 @@
+use mathlib.Core.Path.{_≡_, refl, sym, ap, _∙_}
+use native.Mathlib.Omega.{arith}
+use Prim.Native.Nat.{ℕ, _+_, _*_, _-_, _≤_, _<_}
+use borrow.Author.Tests.{lt-ltb, le-ltb, le-leb, lt-leb, eq-eqb, ne-eqb}
+use Rattle.machine.specs.Bytes.{count, wordAt}
+use Rattle.walker.specs.Shape.{size, findFrom}
+use Rattle.walker.specs.Shape.{returnOf}
+use borrow.Author.Needs.{needs}
+use Rattle.walker.proofs.Registers.ret.Statement.{statement}
+use Rattle.walker.proofs.Registers.ret.Tie as tie
+
+returns : tie.Need-returns
+unfolding returnOf
+returns c = simp (eq-eqb _ _ (c .if1 .taken))
+
+sub-location-of : tie.Need-sub-location-of
+sub-location-of c = search needs
+
+mul-location-of : tie.Need-mul-location-of
+mul-location-of c = search needs
+
+element-copy-out-location-of : tie.Need-element-copy-out-location-of
+element-copy-out-location-of c = search needs
+
+location-of-requires : tie.Need-location-of-requires
+location-of-requires c κs = search needs
+
+back-to-requires : tie.Need-back-to-requires
+back-to-requires c κs = search needs
+
+returns-2 : tie.Need-returns-2
+unfolding returnOf
+returns-2 c = simp (ne-eqb (c .before .before .before .before .before .args .self .depth) 0 (c .before .before .before .if1 .left), c .back-to .ensures, c .before .location-of .ensures)
+
+pub ret-spec : {M : Type 1} → statement M
+ret-spec =
+    tie.close
+    (tie.spec
+    returns
+    sub-location-of
+    mul-location-of
+    element-copy-out-location-of
+    location-of-requires
+    back-to-requires
+    returns-2)

@@ -1,0 +1,24 @@
+use mathlib.Core.Path.{_≡_, refl, sym, ap, _∙_}
+use native.Mathlib.Omega.{arith}
+use Prim.Native.Nat.{ℕ, _+_, _*_, _-_, _≤_, _<_}
+use borrow.Author.Tests.{lt-ltb, le-ltb, le-leb, lt-leb, eq-eqb, ne-eqb}
+use Rattle.machine.specs.Bytes.{count, wordAt}
+use Rattle.walker.specs.Shape.{size, findFrom}
+use Rattle.walker.specs.Shape.{tellOf}
+use borrow.Author.Needs.{needs}
+use Rattle.walker.proofs.Registers.tell.Statement.{statement}
+use Rattle.walker.proofs.Registers.tell.Tie as tie
+
+moved-requires : tie.Need-moved-requires
+moved-requires c κs = search needs
+
+returns : tie.Need-returns
+unfolding tellOf
+returns c = simp (le-leb _ _ (c .before .if1 .taken), c .moved .ensures)
+
+returns-2 : tie.Need-returns-2
+unfolding tellOf
+returns-2 c = simp (lt-leb _ _ (c .if1 .left))
+
+pub tell-spec : {M : Type 1} → statement M
+tell-spec = tie.close (tie.spec moved-requires returns returns-2)

@@ -1,0 +1,103 @@
+-- `Walk::paused` meets its contract, by phase and by whether an answer is given.
+use mathlib.Core.Path.{_≡_, ap, _∙_}
+use native.Mathlib.Omega.{arith}
+use Rattle.walker.specs.Shape.{answeredOne}
+use Rattle.walker.specs.declared.Registers.{Registers}
+use Rattle.walker.proofs.Go.{parts}
+use Rattle.walker.proofs.Calls.{retold, paused-goes, paused-answers, paused-stops, refused-going, refused-waiting, refused-stopped}
+use borrow.Author.Needs.{needs}
+use Rattle.walker.proofs.Walk.paused.Statement.{statement}
+use Rattle.walker.proofs.Walk.paused.Tie as tie
+
+enum-told : tie.Need-enum-told
+enum-told c = search needs
+
+returns : tie.Need-returns
+returns c =
+    let a = c .before .before .before .before .before .before .args in
+    parts (refused-going (a .table .now) (a .tokens .now) (a .budget) (a .self) (a .events .now) (a .given) (a .answer) (c .before .enum-told .given .1) (c .if1 .taken))
+
+clipped-requires : tie.Need-clipped-requires
+clipped-requires c κs = search needs
+
+go-requires : tie.Need-go-requires
+go-requires c κs = simp (c .before .clipped .ensures .1) (omega arith)
+
+enum-told-2 : tie.Need-enum-told-2
+enum-told-2 c = search needs
+
+clipped-requires-2 : tie.Need-clipped-requires-2
+clipped-requires-2 c κs = search needs
+
+answered-requires : tie.Need-answered-requires
+answered-requires c κs = search needs
+
+go-requires-2 : tie.Need-go-requires-2
+go-requires-2 c κs = simp (c .before .answered .ensures .0, c .before .before .clipped2 .ensures .1) (omega arith)
+
+same-length : tie.Need-same-length
+same-length c = search needs
+
+returns-2 : tie.Need-returns-2
+returns-2 c =
+    let a = c .before .before .before .before .before .before .before .before .before .before .before .before .args in
+    let e = c .before .before .before .before .before .clipped2 .ensures in
+    let f = c .before .before .before .before .answered .ensures in
+    retold (paused-answers (a .table .now) (a .tokens .now) (a .budget) (a .self) (a .events .now) (a .given) (a .answer) (a .tokens .now) (c .before .before .before .before .answered .result) (f .0 ∙ ap (λ (r : Registers). answeredOne r (a .answer)) (e .1)) (f .1 ∙ e .2) (c .before .before .before .before .before .before .before .enum-told2 .given .1) (c .before .before .before .before .before .before .if2 .taken)) (c .before .before .go2 .ensures)
+
+enum-known-phase : tie.Need-enum-known-phase
+enum-known-phase c = search needs
+
+returns-3 : tie.Need-returns-3
+returns-3 c =
+    let a = c .before .before .before .before .before .before .before .args in
+    parts (refused-stopped (a .table .now) (a .tokens .now) (a .budget) (a .self) (a .events .now) (a .given) (a .answer) _ (c .before .before .phase .given .1) (c .if3 .taken))
+
+clipped-requires-3 : tie.Need-clipped-requires-3
+clipped-requires-3 c κs = search needs
+
+number-of-requires : tie.Need-number-of-requires
+number-of-requires c κs = search needs
+
+same-length-2 : tie.Need-same-length-2
+same-length-2 c = search needs
+
+returns-4 : tie.Need-returns-4
+returns-4 c =
+    let a = c .before .before .before .before .before .before .before .before .before .before .before .args in
+    let e = c .before .before .before .before .clipped .ensures in
+    retold (paused-goes (a .table .now) (a .tokens .now) (a .budget) (a .self) (a .events .now) (a .given) (a .answer) (a .tokens .now) (c .before .before .before .before .clipped .result) (e .1) (e .2) (c .before .before .before .before .before .before .enum-told .given .1) (c .before .before .before .before .before .if1 .left)) (c .before .before .go .ensures)
+
+returns-5 : tie.Need-returns-5
+returns-5 c =
+    let a = c .before .before .before .before .before .before .args in
+    parts (refused-waiting (a .table .now) (a .tokens .now) (a .budget) (a .self) (a .events .now) (a .given) (a .answer) (c .before .enum-told2 .given .1) (c .if2 .left))
+
+returns-6 : tie.Need-returns-6
+returns-6 c =
+    let a = c .before .before .before .before .before .before .before .before .before .args in
+    let e = c .before .clipped3 .ensures in
+    parts (paused-stops (a .table .now) (a .tokens .now) (a .budget) (a .self) (a .events .now) (a .given) (a .answer) (c .before .clipped3 .result) _ (c .number-of .result) (record { phase = e .0; at = e .1; returns = e .2 }) (c .before .before .before .before .phase .given .1) (c .number-of .ensures) (c .before .before .if3 .left))
+
+pub paused-spec : {M : Type 1} → statement M
+paused-spec =
+    tie.close
+    (tie.spec
+    enum-told
+    returns
+    clipped-requires
+    go-requires
+    enum-told-2
+    clipped-requires-2
+    answered-requires
+    go-requires-2
+    same-length
+    returns-2
+    enum-known-phase
+    returns-3
+    clipped-requires-3
+    number-of-requires
+    same-length-2
+    returns-4
+    returns-5
+    returns-6)

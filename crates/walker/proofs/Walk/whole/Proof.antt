@@ -1,0 +1,63 @@
+-- `Walk::whole` meets its contract, by phase.
+use native.Mathlib.Omega.{arith}
+use Rattle.walker.proofs.Go.{parts}
+use Rattle.walker.proofs.Calls.{retold, whole-goes, whole-waits, whole-stops}
+use borrow.Author.Needs.{needs}
+use Rattle.walker.proofs.Walk.whole.Statement.{statement}
+use Rattle.walker.proofs.Walk.whole.Tie as tie
+
+enum-told : tie.Need-enum-told
+enum-told c = search needs
+
+clipped-requires : tie.Need-clipped-requires
+clipped-requires c κs = search needs
+
+go-requires : tie.Need-go-requires
+go-requires c κs = simp (c .before .clipped .ensures .1) (omega arith)
+
+enum-told-2 : tie.Need-enum-told-2
+enum-told-2 c = search needs
+
+enum-known-phase : tie.Need-enum-known-phase
+enum-known-phase c = search needs
+
+clipped-requires-2 : tie.Need-clipped-requires-2
+clipped-requires-2 c κs = search needs
+
+number-of-requires : tie.Need-number-of-requires
+number-of-requires c κs = search needs
+
+same-length : tie.Need-same-length
+same-length c = search needs
+
+returns : tie.Need-returns
+returns c =
+    let a = c .before .before .before .before .before .before .before .before .before .before .before .args in
+    retold (whole-goes (a .table .now) (a .tokens .now) (a .budget) (a .self) (a .events .now) (a .answers .now) (c .before .before .before .before .clipped .result) (c .before .before .before .before .clipped .ensures .1) (c .before .before .before .before .clipped .ensures .2) (c .before .before .before .before .before .enum-told .given .1)) (c .before .before .go .ensures)
+
+returns-2 : tie.Need-returns-2
+returns-2 c =
+    let a = c .before .before .before .before .before .before .args in
+    parts (whole-waits (a .table .now) (a .tokens .now) (a .budget) (a .self) (a .events .now) (a .answers .now) (c .enum-told2 .given .1))
+
+returns-3 : tie.Need-returns-3
+returns-3 c =
+    let a = c .before .before .before .before .before .before .before .before .before .args in
+    let e = c .before .clipped2 .ensures in
+    parts (whole-stops (a .table .now) (a .tokens .now) (a .budget) (a .self) (a .events .now) (a .answers .now) (c .before .clipped2 .result) _ (c .number-of .result) (record { phase = e .0; at = e .1; returns = e .2 }) (c .before .before .before .phase .given .1) (c .number-of .ensures))
+
+pub whole-spec : {M : Type 1} → statement M
+whole-spec =
+    tie.close
+    (tie.spec
+    enum-told
+    clipped-requires
+    go-requires
+    enum-told-2
+    enum-known-phase
+    clipped-requires-2
+    number-of-requires
+    same-length
+    returns
+    returns-2
+    returns-3)

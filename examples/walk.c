@@ -1,0 +1,126 @@
+/* Walks a table in pauses: each operation that wants an answer is handed out, done here, and its answer given to the next call.
+ *
+ *   cc -std=c99 -Iinclude examples/walk.c -L<folder of libfirmware.a> -lfirmware -o walk
+ *
+ * The table is that of
+ *
+ *   input: num = 1;  output: plus = 7 minus = 8;  error: bad = 5;
+ *   type sign: neg pos;
+ *   mechanism m: sign >> sign  note(sign);
+ *   rules
+ *     M: { [ | num: [ sign | neg: .minus | pos: .plus | *: #bad ] note(pos)
+ *            | *: > ] };
+ *   end
+ */
+#include <stdio.h>
+
+#include "sst.h"
+
+static const uint16_t table_words[] = {
+    7,   24,        /*  1 input choice, its table at 26 */
+    768,            /*  3 num: sign */
+    11,  9,         /*  4 choice, its table at 14 */
+    5,   8,         /*  6 neg: emit minus */
+    1,   12,        /*  8 to 21 */
+    5,   7,         /* 10 pos: emit plus */
+    1,   8,         /* 12 to 21 */
+    2,              /* 14 two labels */
+    0,   10,        /* 15 neg, back to 6 */
+    1,   8,         /* 17 pos, back to 10 */
+    6,   5,         /* 19 otherwise: error bad */
+    13,  1,         /* 21 parameter pos */
+    512,            /* 23 note */
+    1,   6,         /* 24 to 31 */
+    1,              /* 26 one label */
+    1,   25,        /* 27 num, back to 3 */
+    1,   3,         /* 29 otherwise: out of the cycle, to 33 */
+    2,   31,        /* 31 back to 1 */
+    9               /* 33 return */
+};
+static const uint16_t token_words[] = {1, 1, 1};
+
+/* What the operation `sign` looks at, one for each token. */
+static const int values[] = {5, -3, 0};
+
+#define COUNT(list) (sizeof(list) / sizeof((list)[0]))
+
+static uint8_t table[2 * COUNT(table_words)];
+static uint8_t tokens[2 * COUNT(token_words)];
+static uint8_t walk[SST_WALK_BYTES];
+static uint8_t events[12]; /* room for two */
+
+static void put_words(uint8_t *bytes, const uint16_t *words, size_t count)
+{
+    size_t i;
+    for (i = 0; i < count; i++) {
+        bytes[2 * i] = (uint8_t)(words[i] >> 8);
+        bytes[2 * i + 1] = (uint8_t)(words[i] & 255);
+    }
+}
+
+static unsigned get_word(const uint8_t *bytes, size_t i)
+{
+    return (unsigned)bytes[2 * i] << 8 | bytes[2 * i + 1];
+}
+
+static void show(unsigned number, uint64_t written, uint64_t steps)
+{
+    size_t i;
+    printf("answered %u after %lu steps\n", number, (unsigned long)steps);
+    for (i = 0; i < (size_t)written; i++) {
+        unsigned kind = get_word(events, 3 * i), value = get_word(events, 3 * i + 1), parameter = get_word(events, 3 * i + 2);
+        switch (kind) {
+        case 1:
+            printf("  output %u\n", value);
+            break;
+        case 2:
+            printf("  error %u\n", value);
+            break;
+        default:
+            printf("  operation %u, parameter %u\n", value, parameter);
+        }
+    }
+}
+
+int main(void)
+{
+    uint16_t number, given = 0, answer = 0;
+    uint64_t written, steps, all = 0;
+
+    put_words(table, table_words, COUNT(table_words));
+    put_words(tokens, token_words, COUNT(token_words));
+    sst_fresh(walk, sizeof walk);
+    do {
+        /* Small budgets and buffers: the walk is called on until it stops. */
+        number = sst_paused(table, sizeof table, tokens, sizeof tokens, given, answer, 5, walk, sizeof walk, events, sizeof events,
+                            &written, &steps);
+        show(number, written, steps);
+        all += steps;
+        given = number == 22;
+        if (given) {
+            int value = values[sst_used(walk, sizeof walk)];
+            answer = value < 0 ? 0 : value > 0 ? 1 : 2;
+            printf("  the answer for %d is %u\n", value, (unsigned)answer);
+        }
+    } while (number == 22 || number == 35 || number == 36);
+
+    printf("phase %u, reason %u, location %u, tokens read %lu, answers used %lu, steps %lu\n", (unsigned)sst_phase(walk, sizeof walk),
+           (unsigned)sst_reason(walk, sizeof walk), (unsigned)sst_location(walk, sizeof walk),
+           (unsigned long)sst_read(walk, sizeof walk), (unsigned long)sst_used(walk, sizeof walk), (unsigned long)all);
+
+    /* A walk that does not wait takes no answer. */
+    number = sst_paused(table, sizeof table, tokens, sizeof tokens, 1, 0, 5, walk, sizeof walk, events, sizeof events, &written, &steps);
+    printf("an answer too many: %u\n", (unsigned)number);
+
+    /* The same at once, with room for all events. */
+    {
+        static const uint16_t answer_words[] = {1, 0, 2};
+        static uint8_t answers[2 * COUNT(answer_words)], room[60];
+        put_words(answers, answer_words, COUNT(answer_words));
+        sst_fresh(walk, sizeof walk);
+        number = sst_whole(table, sizeof table, tokens, sizeof tokens, answers, sizeof answers, 1000, walk, sizeof walk, room,
+                           sizeof room, &written, &steps);
+        printf("whole: answered %u after %lu steps, %lu events\n", (unsigned)number, (unsigned long)steps, (unsigned long)written);
+    }
+    return number != 0;
+}

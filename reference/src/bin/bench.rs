@@ -1,0 +1,186 @@
+//! Times the walkers on three tables: the library (where it is linked), the walker of this crate and the plain C walker.
+//!
+//! bench [repetitions [budget of a call]]
+//!
+//! Each repetition walks each table once with each walker, on the same bytes, in turn. Reported is the median of
+//! the processor time.
+#![forbid(unsafe_code)]
+
+use std::hint::black_box;
+use std::process::ExitCode;
+
+use reference::ffi;
+use reference::random::Rng;
+use reference::side::{Inputs, Reference, Side};
+use reference::tables::{Action, Actions, Choice, Rule, Selector, assemble, bytes};
+use reference::walker::{WALK_BYTES, Walk};
+
+struct Work {
+    name: &'static str,
+    table: Vec<u8>,
+    tokens: Vec<u8>,
+    answers: Vec<u8>,
+}
+
+fn choice(selector: Selector, alternatives: Vec<(Vec<u16>, Actions)>, otherwise: Option<Actions>) -> Action {
+    Action::Choice(Choice { selector, alternatives, otherwise })
+}
+
+fn procedure(body: Actions) -> Rule {
+    Rule { procedure: true, body }
+}
+
+/// A scanner: letters, digits and blanks in cycles, an output token for each word, an error for anything else.
+fn scanner() -> Work {
+    let (end, blank, letter, digit, sign, illegal) = (0, 1, 2, 3, 4, 5);
+    let again = |labels: Vec<u16>| {
+        Action::Cycle(vec![choice(Selector::Input, vec![(labels, vec![])], Some(vec![Action::Exit]))])
+    };
+    let body = vec![Action::Cycle(vec![choice(
+        Selector::Input,
+        vec![
+            (vec![blank], vec![]),
+            (vec![letter], vec![again(vec![letter, digit]), Action::Emit(20)]),
+            (vec![digit], vec![again(vec![digit]), Action::Emit(21)]),
+            (vec![sign], vec![Action::Emit(22)]),
+            (vec![illegal], vec![Action::Error(10)]),
+            (vec![end], vec![Action::Exit]),
+        ],
+        Some(vec![Action::Error(11), Action::Any]),
+    )])];
+    let mut rng = Rng::new(1, 1);
+    let mut tokens = Vec::new();
+    while tokens.len() < 200_000 {
+        let (kind, length) = match rng.below(16) {
+            0..=5 => (letter, rng.within(1, 8)),
+            6..=7 => (digit, rng.within(1, 5)),
+            8..=9 => (sign, 1),
+            10 => (illegal, 1),
+            _ => (blank, rng.within(1, 3)),
+        };
+        tokens.extend(std::iter::repeat_n(kind, length));
+    }
+    tokens.push(end);
+    Work { name: "scanner", table: bytes(&assemble(&[procedure(body)], 1)), tokens: bytes(&tokens), answers: vec![] }
+}
+
+/// Choices in choices, with 40 to 64 labels each: by token, by token again, and by a rule's value.
+fn choices() -> Work {
+    let split = |count: u16, parts: u16| -> Vec<Vec<u16>> {
+        (0..parts).map(|part| (0..count).filter(|label| label % parts == part).collect()).collect()
+    };
+    let inner = |part: u16| {
+        let count = 40 + 8 * part;
+        let alternatives = split(count, 4).into_iter().map(|labels| (labels, vec![])).collect();
+        choice(Selector::Input, alternatives, Some(vec![Action::Any]))
+    };
+    let by_value = |count: u16| {
+        let alternatives = split(count, 2).into_iter().map(|labels| (labels, vec![])).collect();
+        choice(Selector::Rule(1), alternatives, None)
+    };
+    let outer = split(56, 4).into_iter().zip(0..);
+    let alternatives = outer.map(|(labels, part)| (labels, vec![inner(part), by_value(64)])).collect();
+    let body = vec![Action::Cycle(vec![choice(Selector::Input, alternatives, Some(vec![Action::Exit]))])];
+    let value = Rule { procedure: false, body: vec![Action::Value(47)] };
+    let mut rng = Rng::new(2, 1);
+    let mut tokens = Vec::new();
+    for _ in 0..60_000 {
+        tokens.push(rng.below(56) as u16);
+        tokens.push(rng.below(66) as u16);
+    }
+    Work { name: "choices", table: bytes(&assemble(&[procedure(body), value], 1)), tokens: bytes(&tokens), answers: vec![] }
+}
+
+/// A cycle of calls, two levels deep, with a token read a round.
+fn calls() -> Work {
+    let body = vec![Action::Cycle(vec![
+        Action::Call(1),
+        Action::Call(1),
+        choice(Selector::Input, vec![(vec![1], vec![])], Some(vec![Action::Exit])),
+    ])];
+    let rules = [procedure(body), procedure(vec![Action::Call(2), Action::Call(2), Action::Call(2)]), procedure(vec![])];
+    Work { name: "calls", table: bytes(&assemble(&rules, 1)), tokens: bytes(&[1; 40_000]), answers: vec![] }
+}
+
+/// What a walker leaves of a walk, to be the same for all.
+#[derive(PartialEq, Debug)]
+struct End {
+    number: u16,
+    steps: u64,
+    written: u64,
+    walk: [u8; WALK_BYTES],
+}
+
+/// Walks to the end, each call with this budget and the whole buffer.
+fn walk(side: &dyn Side, work: &Work, budget: u64, events: &mut [u8]) -> End {
+    let inputs = Inputs { table: &work.table, tokens: &work.tokens, answers: &work.answers };
+    let mut end = End { number: 36, steps: 0, written: 0, walk: Walk::fresh().encode() };
+    while matches!(end.number, 35 | 36) {
+        let done = side.whole(inputs, budget, &mut end.walk, events);
+        end.number = done.number;
+        end.steps += done.steps;
+        end.written += done.written;
+    }
+    end
+}
+
+fn median(times: &mut [f64]) -> f64 {
+    times.sort_by(f64::total_cmp);
+    times.get(times.len() / 2).copied().unwrap_or(f64::NAN)
+}
+
+fn main() -> ExitCode {
+    let mut numbers = std::env::args().skip(1).map(|argument| argument.parse::<u64>());
+    let (repetitions, budget) = match (numbers.next(), numbers.next()) {
+        (None, _) => (31, u64::MAX),
+        (Some(Ok(repetitions)), None) => (repetitions, u64::MAX),
+        (Some(Ok(repetitions)), Some(Ok(budget))) if budget > 0 => (repetitions, budget),
+        _ => {
+            eprintln!("bench [repetitions [budget of a call, from 1]]");
+            return ExitCode::from(2);
+        }
+    };
+    let mut sides: Vec<&dyn Side> = vec![&Reference, &ffi::Plain];
+    sides.extend(ffi::library());
+    println!("median of {repetitions} repetitions, budget of a call {budget}");
+    for work in [scanner(), choices(), calls()] {
+        let mut events = vec![0u8; work.tokens.len() * 3 + 6];
+        let mut wanted = vec![0u8; events.len()];
+        let first = walk(&Reference, &work, budget, &mut wanted);
+        println!(
+            "{}: table of {} words, {} tokens, {} steps, {} events, ends with {}",
+            work.name,
+            work.table.len() / 2,
+            work.tokens.len() / 2,
+            first.steps,
+            first.written,
+            first.number
+        );
+        let mut times = vec![Vec::new(); sides.len()];
+        for turn in 0..repetitions as usize {
+            for k in 0..sides.len() {
+                // Another one goes first each time.
+                let k = (k + turn) % sides.len();
+                events.fill(0);
+                let start = ffi::cpu_seconds();
+                let end = walk(black_box(sides[k]), black_box(&work), budget, black_box(&mut events));
+                times[k].push(ffi::cpu_seconds() - start);
+                if end != first || events != wanted {
+                    println!("  {} differs: {end:?}, wanted {first:?}", sides[k].name());
+                    return ExitCode::FAILURE;
+                }
+            }
+        }
+        let steps = first.steps as f64;
+        let each: Vec<f64> = times.iter_mut().map(|times| median(times) / steps).collect();
+        for (side, time) in sides.iter().zip(&each) {
+            println!("  {:<5}{:8.2} ns a step {:10.1} million steps a second", side.name(), time * 1e9, 1e-6 / time);
+        }
+        for (mine, other) in [(0, 1), (2, 0), (2, 1)] {
+            if mine < sides.len() {
+                println!("  {} over {}: {:.2}", sides[mine].name(), sides[other].name(), each[mine] / each[other]);
+            }
+        }
+    }
+    ExitCode::SUCCESS
+}
