@@ -1,2 +1,3 @@
 -- The tables of cases, each under one statement.
 pub mod Hold
+pub mod Agree

@@ -1,3 +1,4 @@
 pub mod Cases
 pub mod Refusals
 pub mod Acceptances
+pub mod Agreements

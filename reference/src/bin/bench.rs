@@ -120,6 +120,9 @@ fn walk(side: &dyn Side, work: &Work, budget: u64, events: &mut [u8]) -> End {
         end.number = done.number;
         end.steps += done.steps;
         end.written += done.written;
+        if done.steps == 0 {
+            break;
+        }
     }
     end
 }

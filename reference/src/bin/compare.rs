@@ -15,7 +15,7 @@ use reference::side::{Inputs, Reference, Side};
 use reference::tables::{assemble, bytes};
 use reference::walker::{self, Done, Phase, WALK_BYTES, Walk};
 
-const SEEDS: u64 = 3000;
+const SEEDS: u64 = 5000;
 /// Mismatches that are shown in full.
 const SHOWN: u64 = 10;
 /// A walk that has not ended after so many steps is given no huge budget.
@@ -369,21 +369,15 @@ fn explore(h: &mut Harness, rng: &mut Rng, sort: usize) {
 }
 
 fn structured(h: &mut Harness, rng: &mut Rng) {
-    for _ in 0..4 {
-        explore(h, rng, 0);
-    }
+    explore(h, rng, 0);
 }
 
 fn damaged(h: &mut Harness, rng: &mut Rng) {
-    for _ in 0..6 {
-        explore(h, rng, 1);
-    }
+    explore(h, rng, 1);
 }
 
 fn foreign(h: &mut Harness, rng: &mut Rng) {
-    for _ in 0..12 {
-        explore(h, rng, 2);
-    }
+    explore(h, rng, 2);
 }
 
 /// Walks that no walker made, on all sorts of tables.
@@ -477,81 +471,90 @@ fn buffers(h: &mut Harness, rng: &mut Rng) {
 
 /// Lists of calls of both kinds, each on the walk that the last one gave back; now and then with another table.
 fn lists(h: &mut Harness, rng: &mut Rng) {
-    for _ in 0..8 {
-        let sort = rng.pick(&[0, 0, 0, 1, 2]);
-        let case = case_of(h, rng, sort);
-        let stranger = case_of(h, rng, 2);
-        let mut walk = if rng.once_in(4) { case.made_up(rng).encode().to_vec() } else { fresh() };
-        for _ in 0..rng.within(2, 24) {
-            let waits = Walk::decode(&walk).is_some_and(|walk| walk.phase == Phase::Waiting);
-            let right = !rng.once_in(10);
-            let answer = random::answer(rng);
-            let kind = match (waits == right, rng.once_in(2)) {
-                (true, _) => Kind::Paused { given: given(rng), answer },
-                (false, true) => Kind::Paused { given: 0, answer },
-                (false, false) => Kind::Whole,
-            };
-            let case = if rng.once_in(20) { &stranger } else { &case };
-            let left = h.check(case, &Call { kind, budget: budget(rng), walk: &walk, size: size(rng) });
-            walk = left.walk;
-        }
+    let sort = rng.pick(&[0, 0, 0, 1, 2]);
+    let case = case_of(h, rng, sort);
+    let stranger = case_of(h, rng, 2);
+    let mut walk = if rng.once_in(4) { case.made_up(rng).encode().to_vec() } else { fresh() };
+    for _ in 0..rng.within(2, 24) {
+        let waits = Walk::decode(&walk).is_some_and(|walk| walk.phase == Phase::Waiting);
+        let right = !rng.once_in(10);
+        let answer = random::answer(rng);
+        let kind = match (waits == right, rng.once_in(2)) {
+            (true, _) => Kind::Paused { given: given(rng), answer },
+            (false, true) => Kind::Paused { given: 0, answer },
+            (false, false) => Kind::Whole,
+        };
+        let case = if rng.once_in(20) { &stranger } else { &case };
+        let left = h.check(case, &Call { kind, budget: budget(rng), walk: &walk, size: size(rng) });
+        walk = left.walk;
     }
 }
 
 /// Tables around 4,096 words, and far longer ones; walks near the end.
 fn sizes(h: &mut Harness, rng: &mut Rng) {
-    for _ in 0..3 {
-        let words = if rng.once_in(8) { rng.within(65530, 70000) } else { rng.within(4088, 4104) };
-        let mut table = vec![0; words];
-        let end = words.min(4096);
-        let from = end - rng.within(4, 40);
-        for word in &mut table[from..] {
-            *word = match rng.below(8) {
-                0..=3 => random::instruction(rng),
-                4 | 5 => rng.below(10) as u16,
-                6 => rng.within(4085, 4100) as u16,
-                _ => rng.word(),
-            };
-            if words > 65000 {
-                *word = if rng.once_in(2) { 4 } else { 9 };
-            }
+    let words = if rng.once_in(8) { rng.within(65530, 70000) } else { rng.within(4088, 4104) };
+    let mut table = vec![0; words];
+    let end = words.min(4096);
+    let from = end - rng.within(4, 40);
+    for word in &mut table[from..] {
+        *word = match rng.below(8) {
+            0..=3 => random::instruction(rng),
+            4 | 5 => rng.below(10) as u16,
+            6 => rng.within(4085, 4100) as u16,
+            _ => rng.word(),
+        };
+        if words > 65000 {
+            *word = if rng.once_in(2) { 4 } else { 9 };
         }
-        if rng.once_in(2) {
-            // A program whose last word comes near 4,096.
-            let rules = random::rules(rng, 40);
-            let last = 4092 + rng.below(8);
-            let origin = last.saturating_sub(assemble(&rules, 1).len()).clamp(2, words);
-            for (place, word) in table[origin..].iter_mut().zip(assemble(&rules, origin + 1)) {
-                *place = word;
-            }
-            table[1] = (origin - 1) as u16;
-        } else {
-            table[1] = (from - 1 + rng.below(8)) as u16;
+    }
+    if rng.once_in(2) {
+        // A program whose last word comes near 4,096.
+        let rules = random::rules(rng, 40);
+        let last = 4092 + rng.below(8);
+        let origin = last.saturating_sub(assemble(&rules, 1).len()).clamp(2, words);
+        for (place, word) in table[origin..].iter_mut().zip(assemble(&rules, origin + 1)) {
+            *place = word;
         }
-        table[0] = 1;
-        let tokens: Vec<u16> = (0..rng.below(12)).map(|_| random::token(rng)).collect();
-        let answers: Vec<u16> = (0..rng.below(12)).map(|_| random::answer(rng)).collect();
-        let case = Case::new(h, rng, &table, &tokens, &answers);
-        let start = fresh();
-        huge(h, rng, &case, Kind::Whole, &start);
-        pauses(h, rng, &case, &start);
-        for _ in 0..24 {
-            let mut state = case.made_up(rng);
-            if !rng.once_in(4) {
-                state.location = rng.within(from.max(4080), 4100) as u16;
-                state.phase = Phase::Going;
-            }
-            let walk = state.encode();
-            let kind = if rng.once_in(2) { Kind::Whole } else { PLAIN };
-            let budget = rng.pick(&[1, 1, 2, 3, BOUND]);
-            h.check(&case, &Call { kind, budget, walk: &walk, size: size(rng) });
+        table[1] = (origin - 1) as u16;
+    } else if rng.once_in(2) {
+        // A choice whose table, or default, comes near the last word.
+        let labels = rng.below(7);
+        let first = end + rng.below(4) - 2 * labels - 2;
+        let at = first - rng.within(3, 30);
+        let choice = [rng.pick(&[7, 11]), (first - at - 1) as u16];
+        table[at - 1..at + 1].copy_from_slice(&choice);
+        let pairs = (0..labels).flat_map(|label| [label as u16, rng.within(1, 40) as u16]);
+        let choice_table = std::iter::once(labels as u16).chain(pairs.collect::<Vec<u16>>());
+        for (place, word) in table[first - 1..].iter_mut().zip(choice_table) {
+            *place = word;
         }
-        // Every short way of ending at each of the last locations.
-        let last = case.words().min(4096);
-        for location in last.saturating_sub(3)..=last + 2 {
-            let state = Walk { location: location as u16, ..Walk::fresh() };
-            h.check(&case, &Call { kind: Kind::Whole, budget: 1, walk: &state.encode(), size: 6 });
+        table[1] = (at - 2) as u16;
+    } else {
+        table[1] = (from - 1 + rng.below(8)) as u16;
+    }
+    table[0] = 1;
+    let tokens: Vec<u16> = (0..rng.below(12)).map(|_| random::token(rng)).collect();
+    let answers: Vec<u16> = (0..rng.below(12)).map(|_| random::answer(rng)).collect();
+    let case = Case::new(h, rng, &table, &tokens, &answers);
+    let start = fresh();
+    huge(h, rng, &case, Kind::Whole, &start);
+    pauses(h, rng, &case, &start);
+    for _ in 0..24 {
+        let mut state = case.made_up(rng);
+        if !rng.once_in(4) {
+            state.location = rng.within(from.max(4080), 4100) as u16;
+            state.phase = Phase::Going;
         }
+        let walk = state.encode();
+        let kind = if rng.once_in(2) { Kind::Whole } else { PLAIN };
+        let budget = rng.pick(&[1, 1, 2, 3, BOUND]);
+        h.check(&case, &Call { kind, budget, walk: &walk, size: size(rng) });
+    }
+    // One step at each of the last locations, and past them.
+    let last = case.words().min(4096);
+    for location in last.saturating_sub(3)..=last + 2 {
+        let state = Walk { location: location as u16, ..Walk::fresh() };
+        h.check(&case, &Call { kind: Kind::Whole, budget: 1, walk: &state.encode(), size: 6 });
     }
 }
 
@@ -709,11 +712,11 @@ fn agreement(h: &mut Harness, rng: &mut Rng) {
         let mut fine = one.go(h, side, &case, Kind::Whole, budget, ROOMY);
 
         let mut pieces = Run::new(&start);
-        loop {
+        for _ in 0..2000 {
             let piece = (rng.below(9) as u64).min(budget.saturating_sub(pieces.steps));
             let size = rng.below(20);
             fine &= pieces.go(h, side, &case, Kind::Whole, piece, size);
-            let goes_on = matches!(pieces.number, 35) || (pieces.number == 36 && pieces.steps < budget);
+            let goes_on = pieces.number == 35 || (pieces.number == 36 && pieces.steps < budget);
             if !goes_on || !fine {
                 break;
             }
@@ -722,7 +725,7 @@ fn agreement(h: &mut Harness, rng: &mut Rng) {
 
         let mut paused = Run::new(&start);
         let mut kind = PLAIN;
-        loop {
+        for _ in 0..2000 {
             let left = budget.saturating_sub(paused.steps);
             fine &= paused.go(h, side, &case, kind, left, ROOMY);
             let used = Walk::decode(&paused.walk).map_or(0, |walk| walk.used);
@@ -745,22 +748,23 @@ fn agreement(h: &mut Harness, rng: &mut Rng) {
     }
 }
 
-type Group = (&'static str, fn(&mut Harness, &mut Rng));
+/// A name, a group, and how often a seed runs it.
+type Group = (&'static str, fn(&mut Harness, &mut Rng), usize);
 
 const GROUPS: [Group; 13] = [
-    ("structured tables", structured),
-    ("damaged tables", damaged),
-    ("foreign tables", foreign),
-    ("made-up walks", made_up),
-    ("each instruction", instructions),
-    ("budgets", budgets),
-    ("event buffers", buffers),
-    ("lists of calls", lists),
-    ("table sizes", sizes),
-    ("long walks", long),
-    ("bytes that are no walk", no_walk),
-    ("parts", parts),
-    ("pieces and pauses", agreement),
+    ("structured tables", structured, 6),
+    ("damaged tables", damaged, 6),
+    ("foreign tables", foreign, 10),
+    ("made-up walks", made_up, 1),
+    ("each instruction", instructions, 1),
+    ("budgets", budgets, 6),
+    ("event buffers", buffers, 6),
+    ("lists of calls", lists, 12),
+    ("table sizes", sizes, 3),
+    ("long walks", long, 1),
+    ("bytes that are no walk", no_walk, 1),
+    ("parts", parts, 1),
+    ("pieces and pauses", agreement, 12),
 ];
 
 fn main() -> ExitCode {
@@ -802,7 +806,7 @@ fn main() -> ExitCode {
         shown: 0,
         numbers: BTreeMap::new(),
     };
-    for (stream, (name, group)) in (1..).zip(GROUPS) {
+    for (stream, (name, group, times)) in (1..).zip(GROUPS) {
         let (passed, failed) = (h.passed, h.failed);
         h.group = name;
         for seed in first..first.saturating_add(seeds) {
@@ -810,7 +814,10 @@ fn main() -> ExitCode {
                 eprintln!("{name}, seed {seed}");
             }
             h.seed = seed;
-            group(&mut h, &mut Rng::new(seed, stream));
+            let mut rng = Rng::new(seed, stream);
+            for _ in 0..times {
+                group(&mut h, &mut rng);
+            }
         }
         println!("{name}: {} passed, {} failed", h.passed - passed, h.failed - failed);
     }
