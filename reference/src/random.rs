@@ -10,11 +10,11 @@ pub struct Rng(u64);
 impl Rng {
     pub fn new(seed: u64, stream: u64) -> Rng {
         let mut rng = Rng(seed ^ stream.wrapping_mul(0xD1B5_4A32_D192_ED03));
-        rng.next();
+        rng.draw();
         rng
     }
 
-    pub fn next(&mut self) -> u64 {
+    pub fn draw(&mut self) -> u64 {
         self.0 = self.0.wrapping_add(0x9E37_79B9_7F4A_7C15);
         let mut z = self.0;
         z = (z ^ (z >> 30)).wrapping_mul(0xBF58_476D_1CE4_E5B9);
@@ -24,7 +24,7 @@ impl Rng {
 
     /// A number below `bound`; 0 where that is 0.
     pub fn below(&mut self, bound: usize) -> usize {
-        ((u128::from(self.next()) * bound as u128) >> 64) as usize
+        ((u128::from(self.draw()) * bound as u128) >> 64) as usize
     }
 
     /// A number from `low` to `high`, both included.
@@ -38,7 +38,7 @@ impl Rng {
     }
 
     pub fn word(&mut self) -> u16 {
-        self.next() as u16
+        self.draw() as u16
     }
 
     /// One of the items, or the default of an empty list.
@@ -355,7 +355,7 @@ pub fn lead(rng: &mut Rng, table: &[u8]) -> (Vec<u16>, Vec<u16>) {
 /// A count near one of the places where counts go wrong.
 pub fn count(rng: &mut Rng, len: usize) -> u64 {
     let len = len as u64;
-    let near = rng.next() & 3;
+    let near = rng.draw() & 3;
     match rng.below(12) {
         0..=4 => rng.below(len as usize + 2) as u64,
         5 => len.wrapping_add(near).wrapping_sub(2),
@@ -364,7 +364,7 @@ pub fn count(rng: &mut Rng, len: usize) -> u64 {
         8 => (1 << 63) - 1 - near,
         9 => (1 << 32) + near,
         10 => (1 << 16) + near,
-        _ => rng.next(),
+        _ => rng.draw(),
     }
 }
 

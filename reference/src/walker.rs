@@ -88,16 +88,7 @@ impl Default for Walk {
 impl Walk {
     /// Going on at 1, the rest 0 or empty.
     pub fn fresh() -> Walk {
-        Walk {
-            phase: Phase::Going,
-            location: 1,
-            returns: [0; MAX_RETURNS],
-            held: 0,
-            result: 0,
-            parameter: 0,
-            read: 0,
-            used: 0,
-        }
+        Walk { phase: Phase::Going, location: 1, returns: [0; MAX_RETURNS], held: 0, result: 0, parameter: 0, read: 0, used: 0 }
     }
 
     /// The one byte form of the walk.
@@ -142,16 +133,7 @@ impl Walk {
         for (value, bytes) in returns.iter_mut().zip(&words[14..]) {
             *value = u16::from_be_bytes(*bytes);
         }
-        Some(Walk {
-            phase,
-            location: word(2),
-            returns,
-            held,
-            result: word(3),
-            parameter: word(4),
-            read: long(6),
-            used: long(10),
-        })
+        Some(Walk { phase, location: word(2), returns, held, result: word(3), parameter: word(4), read: long(6), used: long(10) })
     }
 }
 

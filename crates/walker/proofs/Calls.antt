@@ -3,7 +3,7 @@ use mathlib.Core.Path.{_≡_, refl, ap, _∙_}
 use mathlib.Core.Bool.{Bool, true, false}
 use mathlib.Core.List.{List, []}
 use Prim.Native.Nat.{ℕ}
-use Rattle.walker.specs.Shape.{Outcome, answeredOne, first64, refusedOf, numberOf, goOf, wholeOf, pausedOf}
+use Rattle.walker.specs.Shape.{Outcome, answeredOne, first64, numberOf, goOf, wholeOf, pausedOf}
 use Rattle.walker.specs.declared.Phase.{Phase}
 use Rattle.walker.specs.declared.Reason.{Reason}
 use Rattle.walker.specs.declared.Walk.{Walk}

@@ -2,14 +2,14 @@
 use mathlib.Core.Path.{_≡_, refl, ap, _∙_}
 use mathlib.Core.Bool.{Bool, true, false, _||_}
 use mathlib.Core.List.{List}
-use Prim.Native.Nat.{ℕ, zero, suc, _+_, _*_, _-_, _<_, _≤_}
+use Prim.Native.Nat.{ℕ, zero, suc, _+_, _*_, _<_, _≤_}
 use native.Mathlib.Omega.{arith}
 use lib.Dec.{eqb, T, eqb→eq}
 use borrow.Author.Tests.{eq-eqb, ne-eqb}
 use Rattle.base.specs.Common.{if_then_else_}
 use Rattle.machine.specs.Bytes.{wordAt}
 use Rattle.machine.specs.Lengths.{lengthRule, lengthOf}
-use Rattle.machine.proofs.Lengths.{length-rule, length-none}
+use Rattle.machine.proofs.Lengths.{length-rule}
 use Rattle.walker.specs.Shape.{findFrom}
 
 -- Labels

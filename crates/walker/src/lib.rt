@@ -2,7 +2,7 @@
 ghost use mathlib.Core.Path.{_≡_};
 ghost use Prim.Native.Nat.{ℕ, _+_, _*_, _-_, _<_, _≤_, _^_};
 ghost use Rattle.machine.specs.Bytes.{count, wordAt};
-ghost use Rattle.machine.specs.Lengths.{lengthOf};
+ghost use Rattle.machine.specs.Lengths.{lengths, lengthOf};
 ghost use Rattle.walker.specs.Shape.{size, setWord, putEvent, findFrom, numberOf};
 ghost use Rattle.walker.specs.Shape.{moved, readOne, answeredOne, withResult, withParameter, poppedTo, pushed, first64};
 ghost use Rattle.walker.specs.Shape.{otherwiseOf, labelOf, labelledOf, choiceOf, defaultOf, takeOther};
@@ -166,6 +166,18 @@ fn find(t: &[u8], b: usize, labels: usize, x: u16) -> usize
         i += 1;
     }
     i
+}
+
+// The words that instruction 0 to 13 takes, 0 for 0. The constant table is lent, so that a fetch does not make it anew.
+fn length_of(known: &[usize; 13], ins: u16) -> usize
+    requires { ⌜ (now known ≡ lengths) × (ins < 14) ⌝ }
+    ensures { λ r. ⌜ r ≡ lengthOf ins ⌝ }
+{
+    let n = ins as usize;
+    if n == 0 {
+        return 0;
+    }
+    known[n - 1]
 }
 
 // The number of a call that leaves a walk stopped.
@@ -546,6 +558,7 @@ impl Registers {
     // One step of a walk that goes on.
     fn next(
         self,
+        known: &[usize; 13],
         returns: &[u16; 64],
         t: &[u8],
         tokens: &[u8],
@@ -553,7 +566,7 @@ impl Registers {
         room: usize,
         paused: bool,
     ) -> Next
-        requires { ⌜ self .depth ≤ 64 ⌝ }
+        requires { ⌜ (now known ≡ lengths) × (self .depth ≤ 64) ⌝ }
         ensures { λ r. ⌜ r ≡ stepOf (now (returns .entry)) (now (t .entry)) (now (tokens .entry)) (now (answers .entry)) room paused self ⌝ }
     {
         let n = table_words(t);
@@ -566,7 +579,7 @@ impl Registers {
         }
         let ins = word(t, at - 1);
         if ins < 14 {
-            let len = machine::instruction_length(ins);
+            let len = length_of(known, ins);
             if n + 1 < at + len {
                 return Next::Outside;
             }
@@ -588,8 +601,9 @@ impl Registers {
     ) -> Next
         ensures { λ r. ⌜ r ≡ stepOf (now (returns .entry)) (now (t .entry)) (now (tokens .entry)) (now (answers .entry)) room paused (first64 self) ⌝ }
     {
+        let known = machine::LENGTHS;
         self.clipped()
-            .next(returns, t, tokens, answers, room, paused)
+            .next(&known, returns, t, tokens, answers, room, paused)
     }
 }
 
@@ -647,8 +661,17 @@ impl Walk {
         let mut events: usize = 0;
         let mut done: u64 = 0;
         let limit = machine::count_words(out);
+        let known = machine::LENGTHS;
         while done < budget {
-            let x = at.next(&returns, t, tokens, answers, limit - 3 * events, paused);
+            let x = at.next(
+                &known,
+                &returns,
+                t,
+                tokens,
+                answers,
+                limit - 3 * events,
+                paused,
+            );
             let next = done + 1;
             match x {
                 Next::Full => {
@@ -706,13 +729,14 @@ impl Walk {
                 }
                 Next::Waits(q, e) => {
                     put_event(out, 3 * events, e);
+                    let written = events as u64 + 1;
                     return Called {
                         walk: Walk {
                             phase: Phase::Waiting,
                             at: q,
                             returns,
                         },
-                        events: events as u64 + 1,
+                        events: written,
                         steps: next,
                         number: 22,
                     };

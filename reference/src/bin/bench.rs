@@ -33,9 +33,7 @@ fn procedure(body: Actions) -> Rule {
 /// A scanner: letters, digits and blanks in cycles, an output token for each word, an error for anything else.
 fn scanner() -> Work {
     let (end, blank, letter, digit, sign, illegal) = (0, 1, 2, 3, 4, 5);
-    let again = |labels: Vec<u16>| {
-        Action::Cycle(vec![choice(Selector::Input, vec![(labels, vec![])], Some(vec![Action::Exit]))])
-    };
+    let again = |labels: Vec<u16>| Action::Cycle(vec![choice(Selector::Input, vec![(labels, vec![])], Some(vec![Action::Exit]))]);
     let body = vec![Action::Cycle(vec![choice(
         Selector::Input,
         vec![

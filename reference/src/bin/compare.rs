@@ -796,16 +796,7 @@ fn main() -> ExitCode {
         _ => return usage(),
     };
     println!("rust against {}, seeds {first} to {}", other.name(), first.saturating_add(seeds).saturating_sub(1));
-    let mut h = Harness {
-        other,
-        exact,
-        group: "",
-        seed: 0,
-        passed: 0,
-        failed: 0,
-        shown: 0,
-        numbers: BTreeMap::new(),
-    };
+    let mut h = Harness { other, exact, group: "", seed: 0, passed: 0, failed: 0, shown: 0, numbers: BTreeMap::new() };
     for (stream, (name, group, times)) in (1..).zip(GROUPS) {
         let (passed, failed) = (h.passed, h.failed);
         h.group = name;

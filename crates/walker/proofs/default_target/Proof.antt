@@ -1,9 +1,10 @@
-use mathlib.Core.Path.{_≡_, refl, sym, ap, _∙_}
+-- `default_target` meets its contract.
+use mathlib.Core.Path.{_≡_, ap, _∙_}
 use native.Mathlib.Omega.{arith}
 use Prim.Native.Nat.{ℕ, _+_, _*_, _-_, _≤_, _<_}
-use borrow.Author.Tests.{lt-ltb, le-ltb, le-leb, lt-leb, eq-eqb, ne-eqb}
-use Rattle.machine.specs.Bytes.{count, wordAt}
-use Rattle.walker.specs.Shape.{size, findFrom}
+use borrow.Author.Tests.{le-leb, lt-leb}
+use Rattle.machine.specs.Bytes.{wordAt}
+use Rattle.walker.specs.Shape.{size}
 use Rattle.walker.specs.Shape.{insideTable, tableAt, labelsAt}
 use borrow.Author.Needs.{needs}
 use Rattle.walker.proofs.default_target.Statement.{statement}

@@ -1,8 +1,9 @@
+-- `find` meets its contract.
 use Prim.Native.Nat.{ℕ, _≤_, _-_, _+_}
-use mathlib.Core.Path.{_≡_, refl, sym, ap, _∙_}
+use mathlib.Core.Path.{_≡_, sym, ap, _∙_}
 use Rattle.walker.proofs.Laws.{find-end, find-hit, find-miss}
 use native.Mathlib.Omega.{arith}
-use Rattle.machine.specs.Bytes.{count, wordAt}
+use Rattle.machine.specs.Bytes.{count}
 use Rattle.walker.specs.Shape.{findFrom}
 use Rattle.walker.proofs.find.Statement.{statement}
 use Rattle.walker.proofs.find.Tie as tie

@@ -1,3 +1,4 @@
+-- `number_of` meets its contract.
 use borrow.Author.Needs.{needs}
 use Rattle.walker.specs.Shape.{numberOf}
 use Rattle.walker.proofs.number_of.Statement.{statement}

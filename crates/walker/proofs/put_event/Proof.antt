@@ -1,6 +1,5 @@
-use mathlib.Core.Path.{_≡_, sym, ap, _∙_}
+-- `put_event` meets its contract.
 use Rattle.walker.specs.Shape.{putEvent}
-use Rattle.walker.specs.declared.Event.{Event}
 use borrow.Author.Needs.{needs}
 use Rattle.walker.proofs.put_event.Statement.{statement}
 use Rattle.walker.proofs.put_event.Tie as tie
@@ -34,36 +33,28 @@ same-length c = search needs
 
 returns : tie.Need-returns
 unfolding putEvent
-returns c =
-    let entry = c .before .before .before .before .before .before .before .before in
-    c .before .before .put-three .ensures ∙ sym (ap (λ (e : Event). putEvent (entry .args .out .now) (entry .args .i) e) (c .before .before .before .before .before .e .given .1))
+returns c = rw (c .before .before .before .before .before .e .given .1) (c .before .before .put-three .ensures)
 
 same-length-2 : tie.Need-same-length-2
 same-length-2 c = search needs
 
 returns-2 : tie.Need-returns-2
 unfolding putEvent
-returns-2 c =
-    let entry = c .before .before .before .before .before .before .before .before in
-    c .before .before .put-three2 .ensures ∙ sym (ap (λ (e : Event). putEvent (entry .args .out .now) (entry .args .i) e) (c .before .before .before .before .before .e2 .given .1))
+returns-2 c = rw (c .before .before .before .before .before .e2 .given .1) (c .before .before .put-three2 .ensures)
 
 same-length-3 : tie.Need-same-length-3
 same-length-3 c = search needs
 
 returns-3 : tie.Need-returns-3
 unfolding putEvent
-returns-3 c =
-    let entry = c .before .before .before .before .before .before .before .before in
-    c .before .before .put-three3 .ensures ∙ sym (ap (λ (e : Event). putEvent (entry .args .out .now) (entry .args .i) e) (c .before .before .before .before .before .e3 .given .1))
+returns-3 c = rw (c .before .before .before .before .before .e3 .given .1) (c .before .before .put-three3 .ensures)
 
 same-length-4 : tie.Need-same-length-4
 same-length-4 c = search needs
 
 returns-4 : tie.Need-returns-4
 unfolding putEvent
-returns-4 c =
-    let entry = c .before .before .before .before .before .before .before .before in
-    c .before .before .put-three4 .ensures ∙ sym (ap (λ (e : Event). putEvent (entry .args .out .now) (entry .args .i) e) (c .before .before .before .before .before .e4 .given .1))
+returns-4 c = rw (c .before .before .before .before .before .e4 .given .1) (c .before .before .put-three4 .ensures)
 
 pub put-event-spec : {M : Type 1} → statement M
 put-event-spec =

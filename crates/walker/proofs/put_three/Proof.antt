@@ -1,3 +1,4 @@
+-- `put_three` meets its contract.
 use borrow.Author.Needs.{needs}
 use Rattle.machine.specs.Bytes.{count}
 use Rattle.walker.proofs.put_three.Statement.{statement}

@@ -1,3 +1,4 @@
+-- `put_word` meets its contract.
 use native.Mathlib.Omega.{arith}
 use lib.ListN.{length-set}
 use Rattle.machine.specs.Bytes.{count}

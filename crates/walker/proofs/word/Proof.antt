@@ -1,3 +1,4 @@
+-- `word` meets its contract.
 use native.Mathlib.Omega.{arith}
 use Rattle.machine.specs.Bytes.{count, wordAt}
 use borrow.Author.Needs.{needs}

@@ -1,9 +1,7 @@
-use mathlib.Core.Path.{_≡_, refl, sym, ap, _∙_}
+-- `Registers::act` meets its contract.
+use mathlib.Core.Path.{refl, ap, _∙_}
 use native.Mathlib.Omega.{arith}
-use Prim.Native.Nat.{ℕ, _+_, _*_, _-_, _≤_, _<_}
-use borrow.Author.Tests.{lt-ltb, le-ltb, le-leb, lt-leb, eq-eqb, ne-eqb}
-use Rattle.machine.specs.Bytes.{count, wordAt}
-use Rattle.walker.specs.Shape.{size, findFrom}
+use Prim.Native.Nat.{ℕ, _+_}
 use Rattle.walker.specs.Shape.{actOf, tellOf, takeOther}
 use Rattle.machine.specs.Lengths.{lengths, lengthOf}
 use Rattle.walker.specs.declared.Event.{Event}

@@ -1,9 +1,8 @@
-use mathlib.Core.Path.{_≡_, refl, sym, ap, _∙_}
+-- `Registers::back` meets its contract.
 use native.Mathlib.Omega.{arith}
-use Prim.Native.Nat.{ℕ, _+_, _*_, _-_, _≤_, _<_}
-use borrow.Author.Tests.{lt-ltb, le-ltb, le-leb, lt-leb, eq-eqb, ne-eqb}
-use Rattle.machine.specs.Bytes.{count, wordAt}
-use Rattle.walker.specs.Shape.{size, findFrom}
+use Prim.Native.Nat.{_≤_, _<_}
+use borrow.Author.Tests.{le-leb, lt-leb}
+use Rattle.machine.specs.Bytes.{wordAt}
 use Rattle.walker.specs.Shape.{backOf}
 use borrow.Author.Needs.{needs}
 use Rattle.walker.proofs.Registers.back.Statement.{statement}

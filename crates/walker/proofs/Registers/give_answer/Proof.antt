@@ -1,3 +1,4 @@
+-- `Registers::give_answer` meets its contract.
 use Rattle.walker.specs.Shape.{oneMore}
 use borrow.Author.Tests.{lt-ltb, le-ltb}
 use borrow.Author.Needs.{needs}

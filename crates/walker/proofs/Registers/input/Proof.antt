@@ -1,9 +1,9 @@
-use mathlib.Core.Path.{_≡_, refl, sym, ap, _∙_}
+-- `Registers::input` meets its contract.
+use mathlib.Core.Path.{_≡_, sym, _∙_}
 use native.Mathlib.Omega.{arith}
-use Prim.Native.Nat.{ℕ, _+_, _*_, _-_, _≤_, _<_}
-use borrow.Author.Tests.{lt-ltb, le-ltb, le-leb, lt-leb, eq-eqb, ne-eqb}
+use Prim.Native.Nat.{_≤_, _<_}
+use borrow.Author.Tests.{lt-ltb, le-ltb, eq-eqb, ne-eqb}
 use Rattle.machine.specs.Bytes.{count, wordAt}
-use Rattle.walker.specs.Shape.{size, findFrom}
 use Rattle.walker.specs.Shape.{inputOf}
 use borrow.Author.Needs.{needs}
 use Rattle.walker.proofs.Registers.input.Statement.{statement}

@@ -1,10 +1,10 @@
-use mathlib.Core.Path.{_≡_, refl, sym, ap, _∙_}
+-- `Registers::input_choice` meets its contract.
+use mathlib.Core.Path.{_≡_, sym, ap, _∙_}
 use native.Mathlib.Omega.{arith}
-use Prim.Native.Nat.{ℕ, _+_, _*_, _-_, _≤_, _<_}
-use borrow.Author.Tests.{lt-ltb, le-ltb, le-leb, lt-leb, eq-eqb, ne-eqb}
+use Prim.Native.Nat.{_≤_, _<_}
+use borrow.Author.Tests.{lt-ltb, le-ltb}
 use Rattle.machine.specs.Bytes.{count, wordAt}
-use Rattle.walker.specs.Shape.{size, findFrom}
-use Rattle.walker.specs.Shape.{inputChoiceOf, takeInput, takeOther, choiceOf, readOne, moved, withResult}
+use Rattle.walker.specs.Shape.{inputChoiceOf, takeInput, choiceOf, moved}
 use borrow.Author.Needs.{needs}
 use Rattle.walker.proofs.Registers.input_choice.Statement.{statement}
 use Rattle.walker.proofs.Registers.input_choice.Tie as tie

@@ -1,9 +1,10 @@
-use mathlib.Core.Path.{_≡_, refl, sym, ap, _∙_}
+-- `Registers::next` meets its contract.
+use mathlib.Core.Path.{_≡_, ap, _∙_}
 use native.Mathlib.Omega.{arith}
-use Prim.Native.Nat.{ℕ, _+_, _*_, _-_, _≤_, _<_}
+use Prim.Native.Nat.{_+_, _-_, _≤_, _<_}
 use borrow.Author.Tests.{lt-ltb, le-ltb, le-leb, lt-leb, eq-eqb, ne-eqb}
-use Rattle.machine.specs.Bytes.{count, wordAt}
-use Rattle.walker.specs.Shape.{size, findFrom}
+use Rattle.machine.specs.Bytes.{wordAt}
+use Rattle.walker.specs.Shape.{size}
 use Rattle.walker.specs.Shape.{stepOf, fetchedOf}
 use Rattle.machine.specs.Lengths.{lengthOf}
 use Rattle.walker.proofs.Laws.{at-most-two}
@@ -31,8 +32,8 @@ sub-word c = search needs
 word-requires : tie.Need-word-requires
 word-requires c κs = search needs
 
-instruction-length-requires : tie.Need-instruction-length-requires
-instruction-length-requires c κs = search needs
+length-of-requires : tie.Need-length-of-requires
+length-of-requires c κs = search needs
 
 add-if4 : tie.Need-add-if4
 add-if4 c = search needs
@@ -40,7 +41,7 @@ add-if4 c = search needs
 add-if4-2 : tie.Need-add-if4-2
 add-if4-2 c =
     let short = at-most-two _ (c .before .if3 .taken) in
-    omega (arith, c .instruction-length .ensures)
+    omega (arith, c .length-of .ensures)
 
 returns-3 : tie.Need-returns-3
 unfolding stepOf fetchedOf
@@ -49,7 +50,7 @@ returns-3 c =
     let ins = wordAt (a .t .now) (a .self .location - 1) in
     let h : a .self .location ≤ size (a .t .now) = omega (arith, c .before .before .before .before .before .before .table-words .ensures, c .before .before .before .before .if2 .left) in
     let i : ins < 14 = omega (arith, c .before .before .before .word .ensures, c .before .before .if3 .taken) in
-    let e : c .before .instruction-length .result ≡ lengthOf ins = c .before .instruction-length .ensures ∙ ap lengthOf (c .before .before .before .word .ensures) in
+    let e : c .before .length-of .result ≡ lengthOf ins = c .before .length-of .ensures ∙ ap lengthOf (c .before .before .before .word .ensures) in
     let g : size (a .t .now) + 1 < a .self .location + lengthOf ins = omega (arith, e, c .before .before .before .before .before .before .table-words .ensures, c .if4 .taken) in
     simp (ne-eqb (a .self .location) 0 (c .before .before .before .before .before .if1 .left), le-leb _ _ h, lt-ltb _ _ i, lt-leb _ _ g)
 
@@ -66,7 +67,7 @@ returns-4 c =
     let ins = wordAt (a .t .now) (a .self .location - 1) in
     let h : a .self .location ≤ size (a .t .now) = omega (arith, c .before .before .before .before .before .before .before .table-words .ensures, c .before .before .before .before .before .if2 .left) in
     let i : ins < 14 = omega (arith, c .before .before .before .before .word .ensures, c .before .before .before .if3 .taken) in
-    let e : c .before .before .instruction-length .result ≡ lengthOf ins = c .before .before .instruction-length .ensures ∙ ap lengthOf (c .before .before .before .before .word .ensures) in
+    let e : c .before .before .length-of .result ≡ lengthOf ins = c .before .before .length-of .ensures ∙ ap lengthOf (c .before .before .before .before .word .ensures) in
     let g : a .self .location + lengthOf ins ≤ size (a .t .now) + 1 = omega (arith, e, c .before .before .before .before .before .before .before .table-words .ensures, c .before .if4 .left) in
     simp (ne-eqb (a .self .location) 0 (c .before .before .before .before .before .before .if1 .left), le-leb _ _ h, lt-ltb _ _ i, le-leb _ _ g, c .act .ensures, c .before .before .before .before .word .ensures)
 
@@ -88,7 +89,7 @@ next-spec =
     returns-2
     sub-word
     word-requires
-    instruction-length-requires
+    length-of-requires
     add-if4
     add-if4-2
     returns-3

@@ -1,9 +1,5 @@
-use mathlib.Core.Path.{_≡_, refl, sym, ap, _∙_}
-use native.Mathlib.Omega.{arith}
-use Prim.Native.Nat.{ℕ, _+_, _*_, _-_, _≤_, _<_}
-use borrow.Author.Tests.{lt-ltb, le-ltb, le-leb, lt-leb, eq-eqb, ne-eqb}
-use Rattle.machine.specs.Bytes.{count, wordAt}
-use Rattle.walker.specs.Shape.{size, findFrom}
+-- `Registers::ret` meets its contract.
+use borrow.Author.Tests.{eq-eqb, ne-eqb}
 use Rattle.walker.specs.Shape.{returnOf}
 use borrow.Author.Needs.{needs}
 use Rattle.walker.proofs.Registers.ret.Statement.{statement}

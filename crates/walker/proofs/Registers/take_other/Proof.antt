@@ -1,10 +1,6 @@
+-- `Registers::take_other` meets its contract.
 use Rattle.walker.specs.declared.Next.{Next}
-use mathlib.Core.Path.{_≡_, refl, sym, ap, _∙_}
-use native.Mathlib.Omega.{arith}
-use Prim.Native.Nat.{ℕ, _+_, _*_, _-_, _≤_, _<_}
-use borrow.Author.Tests.{lt-ltb, le-ltb, le-leb, lt-leb, eq-eqb, ne-eqb}
-use Rattle.machine.specs.Bytes.{count, wordAt}
-use Rattle.walker.specs.Shape.{size, findFrom}
+use mathlib.Core.Path.{sym, ap, _∙_}
 use Rattle.walker.specs.Shape.{takeOther}
 use borrow.Author.Needs.{needs}
 use Rattle.walker.proofs.Registers.take_other.Statement.{statement}

@@ -1,38 +1,36 @@
 -- `Walk::go` meets its contract: the invariant carries `goOf` with what is left of the budget, and each case of `Next` has its law.
 use mathlib.Core.Path.{_≡_, refl, sym, ap, _∙_, subst}
 use mathlib.Core.List.{List}
-use Prim.Native.Nat.{ℕ, _+_, _*_, _-_, _≤_, _<_}
+use Prim.Native.Nat.{ℕ, _+_, _*_, _-_}
 use native.Mathlib.Omega.{arith}
 use lib.ListN.{length}
 use borrow.Author.Needs.{needs}
 use Rattle.machine.specs.Bytes.{count}
-use Rattle.walker.specs.Shape.{stepOf, goOf}
+use Rattle.machine.specs.Lengths.{lengths}
+use Rattle.walker.specs.Shape.{goOf}
 use Rattle.walker.proofs.Keeps.{Keeps, keeps}
 use Rattle.walker.proofs.Go.{Inv, parts, stepped, spent, full, outside, stops, waits, on, tells, pushes}
 use Rattle.walker.proofs.Walk.go.Statement.{statement}
 use Rattle.walker.proofs.Walk.go.Tie as tie
 
 abbrev Inv-loop : tie.InvT-loop
-Inv-loop t tokens answers paused budget out₀ at₀ returns₀ events₀ done₀ limit out at returns events done =
+Inv-loop t tokens answers paused budget out₀ at₀ returns₀ events₀ done₀ limit known out at returns events done =
     Inv t tokens answers paused budget at₀ returns₀ out₀ limit at returns out events done
 
 abbrev μ-loop : tie.MeasureT-loop
-μ-loop t tokens answers paused budget out₀ at₀ returns₀ events₀ done₀ limit out at returns events done = budget - done
+μ-loop t tokens answers paused budget out₀ at₀ returns₀ events₀ done₀ limit known out at returns events done = budget - done
 
 -- the step that was taken is that of `goOf`
-told : (c : tie.After-next Inv-loop μ-loop) → stepped (c .before .before .before .before .before .before .before .before .before .before .before .before .args .t .now) (c .before .before .before .before .before .before .before .before .before .before .before .before .args .tokens .now) (c .before .before .before .before .before .before .before .before .before .before .before .before .args .answers .now) (c .before .before .before .before .before .before .before .before .before .before .before .before .args .paused) (c .before .before .before .loop .at) (c .before .before .before .loop .returns) (c .before .before .before .loop .out) (c .before .before .before .loop .events) (c .before .before .before .loop .done) ≡ c .next .result
-told c =
-    let a = c .before .before .before .before .before .before .before .before .before .before .before .before .args in
-    let l = c .before .before .before .loop in
-    ap (λ (n : ℕ). stepOf (l .returns) (a .t .now) (a .tokens .now) (a .answers .now) (n - 3 * l .events) (a .paused) (l .at)) (sym (l .inv .limited)) ∙ sym (c .next .ensures)
+told : (c : tie.After-next Inv-loop μ-loop) → stepped (c .before .before .before .before .before .before .before .before .before .before .before .before .before .args .t .now) (c .before .before .before .before .before .before .before .before .before .before .before .before .before .args .tokens .now) (c .before .before .before .before .before .before .before .before .before .before .before .before .before .args .answers .now) (c .before .before .before .before .before .before .before .before .before .before .before .before .before .args .paused) (c .before .before .before .before .loop .at) (c .before .before .before .before .loop .returns) (c .before .before .before .before .loop .out) (c .before .before .before .before .loop .events) (c .before .before .before .before .loop .done) ≡ c .next .result
+told c = rw (c .next .ensures, c .before .before .before .before .loop .inv .limited) refl
 
 -- what it keeps
-kept : (c : tie.After-next Inv-loop μ-loop) → Keeps (c .before .before .before .before .count-words .result - 3 * c .before .before .before .loop .events) (c .next .result)
+kept : (c : tie.After-next Inv-loop μ-loop) → Keeps (c .before .before .before .before .before .count-words .result - 3 * c .before .before .before .before .loop .events) (c .next .result)
 kept c =
-    let a = c .before .before .before .before .before .before .before .before .before .before .before .before .args in
-    let l = c .before .before .before .loop in
-    let room = c .before .before .before .before .count-words .result - 3 * l .events in
-    subst (Keeps room) (sym (c .next .ensures)) (keeps room (l .at) (l .inv .deep) (l .returns) (a .t .now) (a .tokens .now) (a .answers .now) (a .paused))
+    let a = c .before .before .before .before .before .before .before .before .before .before .before .before .before .args in
+    let l = c .before .before .before .before .loop in
+    let room = c .before .before .before .before .before .count-words .result - 3 * l .events in
+    rw (c .next .ensures) (keeps room (l .at) (l .inv .deep) (l .returns) (a .t .now) (a .tokens .now) (a .answers .now) (a .paused))
 
 count-words-requires : tie.Need-count-words-requires Inv-loop μ-loop
 count-words-requires c κs = search needs
@@ -43,42 +41,43 @@ loop-holds c =
     record { deep = c .before .before .before .before .before .before .before .before .pre; room = omega arith; limited = c .count-words .ensures; as-long = refl; within = omega arith; same = ap (λ (n : ℕ). goOf (a .t .now) (a .tokens .now) (a .answers .now) (a .paused) n (a .self .at) (a .self .returns) (a .out .now) 0 0) (omega arith) }
 
 mul-next : tie.Need-mul-next Inv-loop μ-loop
-mul-next c = omega (arith, c .before .before .loop .inv .room)
+mul-next c = omega (arith, c .before .before .before .loop .inv .room)
 
 sub-next : tie.Need-sub-next Inv-loop μ-loop
-sub-next c = omega (arith, c .before .before .loop .inv .room)
+sub-next c = omega (arith, c .before .before .before .loop .inv .room)
 
 next-requires : tie.Need-next-requires Inv-loop μ-loop
-next-requires c κs = c .before .before .loop .inv .deep
+unfolding lengths
+next-requires c κs = (refl, c .before .before .before .loop .inv .deep)
 
 add-next : tie.Need-add-next Inv-loop μ-loop
-add-next c = omega (arith, c .before .before .before .loop .inv .within, c .before .before .loop-test .taken, c .before .before .before .before .before .before .before .before .before .before .before .before .fits .budget)
+add-next c = omega (arith, c .before .before .before .before .loop .inv .within, c .before .before .before .loop-test .taken, c .before .before .before .before .before .before .before .before .before .before .before .before .before .fits .budget)
 
 enum-told : tie.Need-enum-told Inv-loop μ-loop
 enum-told c = search needs
 
 same-length : tie.Need-same-length Inv-loop μ-loop
-same-length c = c .before .before .before .before .before .loop .inv .as-long
+same-length c = c .before .before .before .before .before .before .loop .inv .as-long
 
 returns : tie.Need-returns Inv-loop μ-loop
 returns c =
-    let a = c .before .before .before .before .before .before .before .before .before .before .before .before .before .before .args in
-    let l = c .before .before .before .before .before .loop in
+    let a = c .before .before .before .before .before .before .before .before .before .before .before .before .before .before .before .args in
+    let l = c .before .before .before .before .before .before .loop in
     let x = told (c .before .before) ∙ c .enum-told .given .1 in
-    parts (sym (full _ _ _ _ _ _ _ _ _ (a .budget - l .done) (omega (arith, c .before .before .before .before .loop-test .taken)) x) ∙ l .inv .same)
+    parts (sym (full _ _ _ _ _ _ _ _ _ (a .budget - l .done) (omega (arith, c .before .before .before .before .before .loop-test .taken)) x) ∙ l .inv .same)
 
 enum-told-2 : tie.Need-enum-told-2 Inv-loop μ-loop
 enum-told-2 c = search needs
 
 same-length-2 : tie.Need-same-length-2 Inv-loop μ-loop
-same-length-2 c = c .before .before .before .before .before .loop .inv .as-long
+same-length-2 c = c .before .before .before .before .before .before .loop .inv .as-long
 
 returns-2 : tie.Need-returns-2 Inv-loop μ-loop
 returns-2 c =
-    let a = c .before .before .before .before .before .before .before .before .before .before .before .before .before .before .args in
-    let l = c .before .before .before .before .before .loop in
+    let a = c .before .before .before .before .before .before .before .before .before .before .before .before .before .before .before .args in
+    let l = c .before .before .before .before .before .before .loop in
     let x = told (c .before .before) ∙ c .enum-told2 .given .1 in
-    parts (sym (outside _ _ _ _ _ _ _ _ _ (a .budget - l .done) (omega (arith, c .before .before .before .before .loop-test .taken)) x) ∙ l .inv .same)
+    parts (sym (outside _ _ _ _ _ _ _ _ _ (a .budget - l .done) (omega (arith, c .before .before .before .before .before .loop-test .taken)) x) ∙ l .inv .same)
 
 enum-known-x : tie.Need-enum-known-x Inv-loop μ-loop
 enum-known-x c = search needs
@@ -87,14 +86,14 @@ number-of-requires : tie.Need-number-of-requires Inv-loop μ-loop
 number-of-requires c κs = search needs
 
 same-length-3 : tie.Need-same-length-3 Inv-loop μ-loop
-same-length-3 c = c .before .before .before .before .before .before .before .loop .inv .as-long
+same-length-3 c = c .before .before .before .before .before .before .before .before .loop .inv .as-long
 
 returns-3 : tie.Need-returns-3 Inv-loop μ-loop
 returns-3 c =
-    let a = c .before .before .before .before .before .before .before .before .before .before .before .before .before .before .before .before .args in
-    let l = c .before .before .before .before .before .before .before .loop in
+    let a = c .before .before .before .before .before .before .before .before .before .before .before .before .before .before .before .before .before .args in
+    let l = c .before .before .before .before .before .before .before .before .loop in
     let x = told (c .before .before .before .before) ∙ c .before .before .x .given .1 in
-    let p = parts (sym (stops _ _ _ _ _ _ _ _ _ (a .budget - l .done) _ (omega (arith, c .before .before .before .before .before .before .loop-test .taken)) x) ∙ l .inv .same) in
+    let p = parts (sym (stops _ _ _ _ _ _ _ _ _ (a .budget - l .done) _ (omega (arith, c .before .before .before .before .before .before .before .loop-test .taken)) x) ∙ l .inv .same) in
     (p .0, (p .1 .0, (p .1 .1 .0, (c .number-of .ensures ∙ p .1 .1 .1 .0, p .1 .1 .1 .1))))
 
 enum-known-x-2 : tie.Need-enum-known-x-2 Inv-loop μ-loop
@@ -104,86 +103,86 @@ enum-known-x-3 : tie.Need-enum-known-x-3 Inv-loop μ-loop
 enum-known-x-3 c = search needs
 
 mul-put-event : tie.Need-mul-put-event Inv-loop μ-loop
-mul-put-event c = omega (arith, c .before .before .before .before .before .before .before .loop .inv .room)
+mul-put-event c = omega (arith, c .before .before .before .before .before .before .before .before .loop .inv .room)
 
 put-event-requires : tie.Need-put-event-requires Inv-loop μ-loop
 put-event-requires c κs =
-    let l = c .before .before .before .before .before .before .before .loop in
-    let k = subst (Keeps (c .before .before .before .before .before .before .before .before .count-words .result - 3 * l .events)) (c .before .before .x3 .given .1) (kept (c .before .before .before .before)) in
+    let l = c .before .before .before .before .before .before .before .before .loop in
+    let k = subst (Keeps (c .before .before .before .before .before .before .before .before .before .count-words .result - 3 * l .events)) (c .before .before .x3 .given .1) (kept (c .before .before .before .before)) in
     omega (arith, k .1, l .inv .room, l .inv .limited)
 
 add-events : tie.Need-add-events Inv-loop μ-loop
-add-events c = omega (arith, c .before .before .before .before .before .before .before .before .before .before .loop .inv .room)
+add-events c = omega (arith, c .before .before .before .before .before .before .before .before .before .before .before .loop .inv .room)
 
 enum-known-x-4 : tie.Need-enum-known-x-4 Inv-loop μ-loop
 enum-known-x-4 c = search needs
 
 push-requires : tie.Need-push-requires Inv-loop μ-loop
-push-requires c κs = subst (Keeps (c .before .before .before .before .before .before .before .count-words .result - 3 * c .before .before .before .before .before .before .loop .events)) (c .before .x4 .given .1) (kept (c .before .before .before))
+push-requires c κs = subst (Keeps (c .before .before .before .before .before .before .before .before .count-words .result - 3 * c .before .before .before .before .before .before .before .loop .events)) (c .before .x4 .given .1) (kept (c .before .before .before))
 
 enum-known-x-5 : tie.Need-enum-known-x-5 Inv-loop μ-loop
 enum-known-x-5 c = search needs
 
 mul-put-event-2 : tie.Need-mul-put-event-2 Inv-loop μ-loop
-mul-put-event-2 c = omega (arith, c .before .before .before .before .before .before .before .loop .inv .room)
+mul-put-event-2 c = omega (arith, c .before .before .before .before .before .before .before .before .loop .inv .room)
 
 put-event-requires-2 : tie.Need-put-event-requires-2 Inv-loop μ-loop
 put-event-requires-2 c κs =
-    let l = c .before .before .before .before .before .before .before .loop in
-    let k = subst (Keeps (c .before .before .before .before .before .before .before .before .count-words .result - 3 * l .events)) (c .before .before .x5 .given .1) (kept (c .before .before .before .before)) in
+    let l = c .before .before .before .before .before .before .before .before .loop in
+    let k = subst (Keeps (c .before .before .before .before .before .before .before .before .before .count-words .result - 3 * l .events)) (c .before .before .x5 .given .1) (kept (c .before .before .before .before)) in
     omega (arith, k, l .inv .room, l .inv .limited)
 
-add-t59 : tie.Need-add-t59 Inv-loop μ-loop
-add-t59 c = omega (arith, c .before .before .before .before .before .before .before .before .before .before .loop .inv .room)
+add-written : tie.Need-add-written Inv-loop μ-loop
+add-written c = omega (arith, c .before .before .before .before .before .before .before .before .before .before .before .loop .inv .room)
 
 same-length-4 : tie.Need-same-length-4 Inv-loop μ-loop
-same-length-4 c = c .before .before .put-event2 .kept .0 ∙ c .before .before .before .before .before .before .before .before .before .before .loop .inv .as-long
+same-length-4 c = c .before .before .put-event2 .kept .0 ∙ c .before .before .before .before .before .before .before .before .before .before .before .loop .inv .as-long
 
 returns-4 : tie.Need-returns-4 Inv-loop μ-loop
 returns-4 c =
-    let a = c .before .before .before .before .before .before .before .before .before .before .before .before .before .before .before .before .before .before .before .args in
-    let l = c .before .before .before .before .before .before .before .before .before .before .loop in
+    let a = c .before .before .before .before .before .before .before .before .before .before .before .before .before .before .before .before .before .before .before .before .args in
+    let l = c .before .before .before .before .before .before .before .before .before .before .before .loop in
     let x = told (c .before .before .before .before .before .before .before) ∙ c .before .before .before .before .before .x5 .given .1 in
-    let p = parts (sym (waits _ _ _ _ _ _ _ _ _ (a .budget - l .done) _ _ (omega (arith, c .before .before .before .before .before .before .before .before .before .loop-test .taken)) x) ∙ l .inv .same) in
+    let p = parts (sym (waits _ _ _ _ _ _ _ _ _ (a .budget - l .done) _ _ (omega (arith, c .before .before .before .before .before .before .before .before .before .before .loop-test .taken)) x) ∙ l .inv .same) in
     (p .0, (p .1 .0, (p .1 .1 .0, (p .1 .1 .1 .0, c .before .before .put-event2 .ensures ∙ p .1 .1 .1 .1))))
 
 loop-less : tie.Need-loop-less Inv-loop μ-loop
-loop-less c = omega (arith, c .before .before .before .before .before .loop-test .taken)
+loop-less c = omega (arith, c .before .before .before .before .before .before .loop-test .taken)
 
 loop-again : tie.Need-loop-again Inv-loop μ-loop
 loop-again c =
-    let a = c .before .before .before .before .before .before .before .before .before .before .before .before .before .before .before .args in
-    let l = c .before .before .before .before .before .before .loop in
+    let a = c .before .before .before .before .before .before .before .before .before .before .before .before .before .before .before .before .args in
+    let l = c .before .before .before .before .before .before .before .loop in
     let x = told (c .before .before .before) ∙ c .before .x2 .given .1 in
-    let k = subst (Keeps (c .before .before .before .before .before .before .before .count-words .result - 3 * l .events)) (c .before .x2 .given .1) (kept (c .before .before .before)) in
-    record { deep = k; room = l .inv .room; limited = l .inv .limited; as-long = l .inv .as-long; within = omega (arith, c .before .before .before .before .before .loop-test .taken); same = sym (on _ _ _ _ _ _ _ _ _ (a .budget - l .done) (a .budget - (l .done + 1)) _ (omega (arith, c .before .before .before .before .before .loop-test .taken)) x) ∙ l .inv .same }
+    let k = subst (Keeps (c .before .before .before .before .before .before .before .before .count-words .result - 3 * l .events)) (c .before .x2 .given .1) (kept (c .before .before .before)) in
+    record { deep = k; room = l .inv .room; limited = l .inv .limited; as-long = l .inv .as-long; within = omega (arith, c .before .before .before .before .before .before .loop-test .taken); same = sym (on _ _ _ _ _ _ _ _ _ (a .budget - l .done) (a .budget - (l .done + 1)) _ (omega (arith, c .before .before .before .before .before .before .loop-test .taken)) x) ∙ l .inv .same }
 
 loop-less-2 : tie.Need-loop-less-2 Inv-loop μ-loop
-loop-less-2 c = omega (arith, c .before .before .before .before .before .before .before .before .before .loop-test .taken)
+loop-less-2 c = omega (arith, c .before .before .before .before .before .before .before .before .before .before .loop-test .taken)
 
 loop-again-2 : tie.Need-loop-again-2 Inv-loop μ-loop
 unfolding count
 loop-again-2 c =
-    let a = c .before .before .before .before .before .before .before .before .before .before .before .before .before .before .before .before .before .before .before .args in
-    let l = c .before .before .before .before .before .before .before .before .before .before .loop in
+    let a = c .before .before .before .before .before .before .before .before .before .before .before .before .before .before .before .before .before .before .before .before .args in
+    let l = c .before .before .before .before .before .before .before .before .before .before .before .loop in
     let v = c .before .before .before .before .before .x3 .given .0 .0 in
     let x = told (c .before .before .before .before .before .before .before) ∙ c .before .before .before .before .before .x3 .given .1 in
-    let k = subst (Keeps (c .before .before .before .before .before .before .before .before .before .before .before .count-words .result - 3 * l .events)) (c .before .before .before .before .before .x3 .given .1) (kept (c .before .before .before .before .before .before .before)) in
-    let s = sym (tells _ _ _ _ _ _ _ _ _ (a .budget - l .done) (a .budget - (l .done + 1)) _ _ (omega (arith, c .before .before .before .before .before .before .before .before .before .loop-test .taken)) x) ∙ l .inv .same in
+    let k = subst (Keeps (c .before .before .before .before .before .before .before .before .before .before .before .before .count-words .result - 3 * l .events)) (c .before .before .before .before .before .x3 .given .1) (kept (c .before .before .before .before .before .before .before)) in
+    let s = sym (tells _ _ _ _ _ _ _ _ _ (a .budget - l .done) (a .budget - (l .done + 1)) _ _ (omega (arith, c .before .before .before .before .before .before .before .before .before .before .loop-test .taken)) x) ∙ l .inv .same in
     let long : length (c .before .before .put-event .last .0) ≡ length (l .out) = c .before .before .put-event .kept .0 in
-    record { deep = k .0; room = omega (arith, k .1, l .inv .room); limited = omega (arith, l .inv .limited, long); as-long = long ∙ l .inv .as-long; within = omega (arith, c .before .before .before .before .before .before .before .before .before .loop-test .taken); same = ap (λ (o : List ℕ). goOf (a .t .now) (a .tokens .now) (a .answers .now) (a .paused) (a .budget - (l .done + 1)) v (l .returns) o (l .events + 1) (l .done + 1)) (c .before .before .put-event .ensures) ∙ s }
+    record { deep = k .0; room = omega (arith, k .1, l .inv .room); limited = omega (arith, l .inv .limited, long); as-long = long ∙ l .inv .as-long; within = omega (arith, c .before .before .before .before .before .before .before .before .before .before .loop-test .taken); same = ap (λ (o : List ℕ). goOf (a .t .now) (a .tokens .now) (a .answers .now) (a .paused) (a .budget - (l .done + 1)) v (l .returns) o (l .events + 1) (l .done + 1)) (c .before .before .put-event .ensures) ∙ s }
 
 loop-less-3 : tie.Need-loop-less-3 Inv-loop μ-loop
-loop-less-3 c = omega (arith, c .before .before .before .before .before .before .before .before .loop-test .taken)
+loop-less-3 c = omega (arith, c .before .before .before .before .before .before .before .before .before .loop-test .taken)
 
 loop-again-3 : tie.Need-loop-again-3 Inv-loop μ-loop
 loop-again-3 c =
-    let a = c .before .before .before .before .before .before .before .before .before .before .before .before .before .before .before .before .before .before .args in
-    let l = c .before .before .before .before .before .before .before .before .before .loop in
+    let a = c .before .before .before .before .before .before .before .before .before .before .before .before .before .before .before .before .before .before .before .args in
+    let l = c .before .before .before .before .before .before .before .before .before .before .loop in
     let x = told (c .before .before .before .before .before .before) ∙ c .before .before .before .before .x4 .given .1 in
-    let k = subst (Keeps (c .before .before .before .before .before .before .before .before .before .before .count-words .result - 3 * l .events)) (c .before .before .before .before .x4 .given .1) (kept (c .before .before .before .before .before .before)) in
-    let s = sym (pushes _ _ _ _ _ _ _ _ _ (a .budget - l .done) (a .budget - (l .done + 1)) _ _ (omega (arith, c .before .before .before .before .before .before .before .before .loop-test .taken)) x) ∙ l .inv .same in
-    rw (c .before .before .push .ensures) (record { deep = omega (arith, k); room = l .inv .room; limited = l .inv .limited; as-long = l .inv .as-long; within = omega (arith, c .before .before .before .before .before .before .before .before .loop-test .taken); same = s })
+    let k = subst (Keeps (c .before .before .before .before .before .before .before .before .before .before .before .count-words .result - 3 * l .events)) (c .before .before .before .before .x4 .given .1) (kept (c .before .before .before .before .before .before)) in
+    let s = sym (pushes _ _ _ _ _ _ _ _ _ (a .budget - l .done) (a .budget - (l .done + 1)) _ _ (omega (arith, c .before .before .before .before .before .before .before .before .before .loop-test .taken)) x) ∙ l .inv .same in
+    rw (c .before .before .push .ensures) (record { deep = omega (arith, k); room = l .inv .room; limited = l .inv .limited; as-long = l .inv .as-long; within = omega (arith, c .before .before .before .before .before .before .before .before .before .loop-test .taken); same = s })
 
 same-length-5 : tie.Need-same-length-5 Inv-loop μ-loop
 same-length-5 c = c .before .loop .inv .as-long
@@ -226,7 +225,7 @@ go-spec =
     enum-known-x-5
     mul-put-event-2
     put-event-requires-2
-    add-t59
+    add-written
     same-length-4
     returns-4
     loop-less

@@ -1,5 +1,5 @@
 -- `Walk::paused` meets its contract, by phase and by whether an answer is given.
-use mathlib.Core.Path.{_≡_, ap, _∙_}
+use mathlib.Core.Path.{ap, _∙_}
 use native.Mathlib.Omega.{arith}
 use Rattle.walker.specs.Shape.{answeredOne}
 use Rattle.walker.specs.declared.Registers.{Registers}

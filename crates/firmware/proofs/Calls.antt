@@ -1,0 +1,101 @@
+-- A call of the walker's definitions on the walk that some bytes are gives what the call over bytes gives.
+use mathlib.Core.Bool.{Bool, true, false, not}
+use mathlib.Core.List.{List, [], _∷_}
+use mathlib.Core.Option.{none, some}
+use mathlib.Core.Path.{_≡_, refl, ap}
+use Prim.Native.Nat.{ℕ, zero, suc, _<_}
+use native.Mathlib.Omega.{arith}
+use lib.Dec.{eqb}
+use lib.ListN.{length, take, getD}
+use Rattle.base.specs.Common.{if_then_else_}
+use Rattle.machine.proofs.Bytes.{length-wordsOf, length-tableOf}
+use Rattle.machine.proofs.Form.{walkOf-fits}
+use Rattle.machine.proofs.Keeps.{Small, SmallMode, fits-call}
+use Rattle.machine.specs.Bytes.{count, wordsOf, tableOf}
+use Rattle.machine.specs.Call.{Mode, whole, paused, callWalk}
+use Rattle.machine.specs.Form as form
+use Rattle.walker.proofs.Link.{Agrees, handed, whole-call, paused-call}
+use Rattle.walker.specs.Shape as shape
+use Rattle.walker.specs.View as view
+use Rattle.walker.specs.declared.Walk.{Walk}
+use Rattle.firmware.specs.Entries.{handing}
+
+-- each number of the list is a byte
+abbrev pub Bytes : List ℕ → Type 0
+Bytes s = (i : ℕ) → getD s i 0 < 256
+
+small-words : (s : List ℕ) → Bytes s → Small (wordsOf s)
+unfolding wordsOf
+small-words [] b i = omega arith
+small-words (h ∷ []) b i = omega arith
+small-words (h ∷ l ∷ s) b zero = omega (arith, b 0, b 1)
+small-words (h ∷ l ∷ s) b (suc i) = small-words s (λ k. b (suc (suc k))) i
+
+small-take : (n : ℕ) (l : List ℕ) → Small l → Small (take n l)
+small-take zero l b i = omega arith
+small-take (suc n) [] b i = omega arith
+small-take (suc n) (x ∷ l) b zero = b 0
+small-take (suc n) (x ∷ l) b (suc i) = small-take n l (λ k. b (suc k)) i
+
+small-table : (s : List ℕ) → Bytes s → Small (tableOf s)
+unfolding tableOf
+small-table s b = small-take 4096 (wordsOf s) (small-words s b)
+
+-- what a call of the code's definitions gives, x, is what the call over bytes gives, y, and its walk can be written
+pub record Done (x : shape.Outcome) (y : form.Outcome) : Type 0 where
+  pub number : x .number ≡ y .number
+  pub walk : form.walkBytes (view.walkOf (x .walk)) ≡ y .walk
+  pub buffer : x .out ≡ y .buffer
+  pub events : x .events ≡ y .events
+  pub steps : x .steps ≡ y .steps
+  pub location : x .walk .at .location < 65536
+
+-- the location of a struct is that of its walk
+at-location : (w : Walk) → form.Fits (view.walkOf w) → w .at .location < 65536
+unfolding view.walkOf view.walkIn
+at-location w f = f .location
+
+at-used : (w : Walk) → form.Fits (view.walkOf w) → w .at .used < 18446744073709551616
+unfolding view.walkOf view.walkIn
+at-used w f = f .used
+
+-- an answer is handed where `given` is not 0
+handed-is : (b : Bool) (x : ℕ) → handed (not b) x ≡ (if b then none else some x)
+handed-is true x = refl
+handed-is false x = refl
+
+small-handed : (g : Bool) (x : ℕ) → x < 65536 → SmallMode (paused (handed g x))
+small-handed true x h = h
+small-handed false x h = tt
+
+module _ (table tokens : List ℕ) (budget : ℕ) (s buffer : List ℕ) (w : Walk) (small-t : Bytes table) (small-k : Bytes tokens) (small-s : Bytes s)
+    (long : length tokens < 18446744073709551616) (sized : length (w .returns) ≡ 64) (e : form.walkOf s ≡ some (view.walkOf w)) where
+  done : (m : Mode) → SmallMode m → (x : shape.Outcome) → Agrees buffer x (callWalk (tableOf table) (wordsOf tokens) m budget (count buffer) (view.walkOf w))
+      → Done x (form.callBytes table tokens m budget s buffer)
+  unfolding form.callBytes form.outcome count
+  done m sm x a =
+      let n = length-wordsOf tokens in
+      let f : form.Fits (callWalk (tableOf table) (wordsOf tokens) m budget (count buffer) (view.walkOf w) .walk) =
+      fits-call (tableOf table) (wordsOf tokens) m budget (count buffer) (view.walkOf w) (small-table table small-t) (small-words tokens small-k) sm (length-tableOf table) (omega arith) (walkOf-fits s (view.walkOf w) small-s e) in
+      rw e (record {
+        number = a .number;
+        walk = ap form.walkBytes (a .walk);
+        buffer = a .out;
+        events = a .events;
+        steps = a .steps;
+        location = at-location (x .walk) (rw (a .walk) f);
+      })
+
+  used : w .at .used < 18446744073709551616
+  used = at-used w (walkOf-fits s (view.walkOf w) small-s e)
+
+  pub whole-done : (answers : List ℕ) → Bytes answers
+      → Done (shape.wholeOf table tokens answers budget w buffer (w .phase)) (form.callBytes table tokens (whole (wordsOf answers)) budget s buffer)
+  whole-done answers small-a = done (whole (wordsOf answers)) (small-words answers small-a) _ (whole-call table tokens budget w buffer sized used answers)
+
+  pub paused-done : (given x : ℕ) → x < 65536
+      → Done (shape.pausedOf table tokens (not (eqb given 0)) x budget w buffer (w .phase)) (form.callBytes table tokens (handing given x) budget s buffer)
+  unfolding handing
+  paused-done given x h =
+      rw (handed-is (eqb given 0) x) at
+      (done (paused (handed (not (eqb given 0)) x)) (small-handed (not (eqb given 0)) x h) _ (paused-call table tokens budget w buffer sized used (not (eqb given 0)) x))

@@ -1,0 +1,4 @@
+-- Laws of the definitions.
+pub mod Laws
+pub mod Walks
+pub mod Calls

@@ -1,0 +1,470 @@
+// The C entries (include/sst.h): numbers and byte slices, the walk as its 156 bytes (docs/LAYOUT.md).
+ghost use mathlib.Core.List.{[], _∷_, reverse};
+ghost use mathlib.Core.Path.{_≡_};
+ghost use Prim.Native.Nat.{_+_, _*_, _<_, _≤_, min};
+ghost use lib.ListN.{length, take, drop, getD};
+ghost use Rattle.base.specs.Common.{same as sameBytes};
+ghost use Rattle.events.specs.Events.{reasonNumber};
+ghost use Rattle.machine.specs.Bytes.{wordsOf};
+ghost use Rattle.machine.specs.Walk.{fresh};
+ghost use Rattle.machine.specs.Call.{whole};
+ghost use Rattle.machine.specs.Form as form;
+ghost use Rattle.walker.specs.View as view;
+ghost use Rattle.firmware.specs.Writes.{puts, registerWords, registersIn, Holds};
+ghost use Rattle.firmware.specs.Entries.{phaseIn, reasonIn, phaseNumber, reasonOrNone, locationOr0, readOr0, usedOr0, freshNumber, freshIn, handing, gives};
+use walker::Called;
+use walker::Phase;
+use walker::Reason;
+use walker::Registers;
+use walker::Walk;
+
+// The bytes of a walk.
+const WALK_BYTES: usize = 156;
+
+// Whether some bytes are a walk, and which.
+struct Held {
+    ok: bool,
+    walk: Walk,
+}
+
+fn wide(x: u16) -> u64
+    ensures { λ r. ⌜ (r ≡ x) × (r < 65536) ⌝ }
+{
+    x as u64
+}
+
+// Writing words
+
+// The word x at index i, high byte first.
+fn put_word(out: &mut [u8], i: usize, x: u16)
+    requires { ⌜ 2 * i + 2 ≤ length (now out) ⌝ }
+    ensures { λ _. ⌜ now (out .exit) ≡ puts (now (out .entry)) i (x ∷ []) ⌝ }
+{
+    out[2 * i] = (x / 256) as u8;
+    out[2 * i + 1] = (x % 256) as u8;
+}
+
+fn put_two(out: &mut [u8], i: usize, a: u16, b: u16)
+    requires { ⌜ 2 * i + 4 ≤ length (now out) ⌝ }
+    ensures { λ _. ⌜ now (out .exit) ≡ puts (now (out .entry)) i (a ∷ b ∷ []) ⌝ }
+{
+    put_word(out, i, a);
+    put_word(out, i + 1, b);
+}
+
+fn put_four(out: &mut [u8], i: usize, a: u16, b: u16, d: u16, e: u16)
+    requires { ⌜ 2 * i + 8 ≤ length (now out) ⌝ }
+    ensures { λ _. ⌜ now (out .exit) ≡ puts (now (out .entry)) i (a ∷ b ∷ d ∷ e ∷ []) ⌝ }
+{
+    put_two(out, i, a, b);
+    put_two(out, i + 2, d, e);
+}
+
+// n as four words, the high word first.
+fn put_64(out: &mut [u8], i: usize, n: u64)
+    requires { ⌜ 2 * i + 8 ≤ length (now out) ⌝ }
+    ensures { λ _. ⌜ now (out .exit) ≡ puts (now (out .entry)) i (form.words64 n) ⌝ }
+{
+    let a = n / 281474976710656;
+    let b = n / 4294967296 % 65536;
+    let d = n / 65536 % 65536;
+    let e = n % 65536;
+    put_four(out, i, a as u16, b as u16, d as u16, e as u16);
+}
+
+// The number of a reason.
+fn reason_number(r: Reason) -> u16
+    ensures { λ n. ⌜ n ≡ reasonNumber (view.reasonOf r) ⌝ }
+{
+    match r {
+        Reason::Finished => 0,
+        Reason::Differs => 30,
+        Reason::Missing => 31,
+        Reason::Unlabelled => 32,
+        Reason::Deep => 33,
+        Reason::Unanswered => 34,
+        Reason::Outside => 37,
+    }
+}
+
+// Words 0 and 1 of a walk.
+fn put_phase(out: &mut [u8], p: Phase)
+    requires { ⌜ 4 ≤ length (now out) ⌝ }
+    ensures { λ _. ⌜ now (out .exit) ≡ puts (now (out .entry)) 0 (form.phaseWords (view.phaseOf p)) ⌝ }
+{
+    match p {
+        Phase::Going => put_two(out, 0, 0, 0),
+        Phase::Waiting => put_two(out, 0, 1, 0),
+        Phase::Stopped(r) => put_two(out, 0, 2, reason_number(r)),
+    }
+}
+
+// The return locations held: more than 64 are read as the first 64.
+fn held_of(depth: usize) -> u16
+    ensures { λ r. ⌜ r ≡ min depth 64 ⌝ }
+{
+    if depth < 64 { depth as u16 } else { 64 }
+}
+
+// Words 2 to 13.
+fn put_registers(out: &mut [u8], r: Registers)
+    requires { ⌜ (28 ≤ length (now out)) × (r .location < 65536) ⌝ }
+    ensures { λ _. ⌜ now (out .exit) ≡ puts (now (out .entry)) 2 (registerWords r) ⌝ }
+{
+    put_four(
+        out,
+        2,
+        r.location as u16,
+        r.result,
+        r.parameter,
+        held_of(r.depth),
+    );
+    put_64(out, 6, r.read);
+    put_64(out, 10, r.used);
+}
+
+// The word of the return location at index i: 0 if it is not held.
+fn return_at(returns: &[u16], depth: usize, i: usize) -> u16
+    requires { ⌜ (length (now returns) ≡ 64) × (i < 64) ⌝ }
+    ensures { λ r. ⌜ r ≡ getD (form.returnWords (reverse (take depth (now (returns .entry))))) i 0 ⌝ }
+{
+    if i < depth { returns[i] } else { 0 }
+}
+
+// Words 14 to 77.
+fn put_returns(out: &mut [u8], returns: &[u16], depth: usize)
+    requires { ⌜ (156 ≤ length (now out)) × (length (now returns) ≡ 64) ⌝ }
+    ensures { λ _. ⌜ now (out .exit) ≡ puts (now (out .entry)) 14 (form.returnWords (reverse (take depth (now (returns .entry))))) ⌝ }
+{
+    let mut i = 0;
+    while i < 64 {
+        put_word(out, 14 + i, return_at(returns, depth, i));
+        i += 1;
+    }
+}
+
+// The form of a walk: 78 words.
+fn put_walk(out: &mut [u8], w: Walk)
+    requires { ⌜ (length (now out) ≡ 156) × (w .at .location < 65536) ⌝ }
+    ensures { λ _. ⌜ now (out .exit) ≡ form.walkBytes (view.walkOf w) ⌝ }
+{
+    let phase = w.phase;
+    let at = w.at;
+    let returns = w.returns;
+    put_phase(out, phase);
+    put_registers(out, at);
+    put_returns(out, &returns, at.depth);
+}
+
+// Reading words
+
+fn reason_of(n: u16) -> Reason
+    ensures { λ r. ⌜ view.reasonOf r ≡ form.reasonOf n ⌝ }
+{
+    match n {
+        30 => Reason::Differs,
+        31 => Reason::Missing,
+        32 => Reason::Unlabelled,
+        33 => Reason::Deep,
+        34 => Reason::Unanswered,
+        37 => Reason::Outside,
+        _ => Reason::Finished,
+    }
+}
+
+fn phase_of(p: u16, n: u16) -> Phase
+    ensures { λ r. ⌜ view.phaseOf r ≡ form.phaseOf p n ⌝ }
+{
+    match p {
+        0 => Phase::Going,
+        1 => Phase::Waiting,
+        _ => Phase::Stopped(reason_of(n)),
+    }
+}
+
+// The word at index i.
+fn word(s: &[u8], i: usize) -> u64
+    ensures { λ r. ⌜ (r ≡ getD (wordsOf (now (s .entry))) i 0) × (r < 65536) ⌝ }
+{
+    wide(machine::word(s, i))
+}
+
+// The four words from index i on as one number.
+fn read_64(s: &[u8], i: usize) -> u64
+    requires { ⌜ i < 78 ⌝ }
+    ensures { λ r. ⌜ r ≡ form.number64 (drop i (wordsOf (now (s .entry)))) ⌝ }
+{
+    word(s, i) * 281474976710656
+        + word(s, i + 1) * 4294967296
+        + word(s, i + 2) * 65536
+        + word(s, i + 3)
+}
+
+// The registers by words 2 to 13.
+fn registers_of(s: &[u8]) -> Registers
+    ensures { λ r. ⌜ (r ≡ registersIn (wordsOf (now (s .entry)))) × (r .location < 65536) ⌝ }
+{
+    Registers {
+        location: word(s, 2) as usize,
+        depth: word(s, 5) as usize,
+        result: machine::word(s, 3),
+        parameter: machine::word(s, 4),
+        read: read_64(s, 6),
+        used: read_64(s, 10),
+    }
+}
+
+// The return locations by words 14 to 77.
+fn returns_of(s: &[u8]) -> [u16; 64]
+    requires { ⌜ length (now s) ≡ 156 ⌝ }
+    ensures { λ r. ⌜ r ≡ take 64 (drop 14 (wordsOf (now (s .entry)))) ⌝ }
+{
+    let mut returns = [0u16; 64];
+    let mut i = 0;
+    while i < 64 {
+        returns[i] = machine::word(s, 14 + i);
+        i += 1;
+    }
+    returns
+}
+
+// What the words name, if they are a walk's.
+fn named(s: &[u8]) -> Walk
+    requires { ⌜ length (now s) ≡ 156 ⌝ }
+    ensures { λ r. ⌜ (view.walkOf r ≡ form.walkNamed (wordsOf (now (s .entry)))) × (r .at .location < 65536) ⌝ }
+{
+    let phase = phase_of(machine::word(s, 0), machine::word(s, 1));
+    let at = registers_of(s);
+    let returns = returns_of(s);
+    Walk { phase, at, returns }
+}
+
+// Whether a and b have the same bytes.
+fn same(a: &[u8], b: &[u8]) -> bool
+    requires { ⌜ length (now a) ≡ length (now b) ⌝ }
+    ensures { λ r. ⌜ r ≡ sameBytes (now (a .entry)) (now (b .entry)) ⌝ }
+{
+    let mut i = 0;
+    while i < a.len() {
+        if a[i] != b[i] {
+            return false;
+        }
+        i += 1;
+    }
+    true
+}
+
+fn fresh_walk() -> Walk
+    ensures { λ r. ⌜ (view.walkOf r ≡ fresh) × (r .at .location < 65536) ⌝ }
+{
+    let at = Registers {
+        location: 1,
+        depth: 0,
+        result: 0,
+        parameter: 0,
+        read: 0,
+        used: 0,
+    };
+    Walk {
+        phase: Phase::Going,
+        at,
+        returns: [0u16; 64],
+    }
+}
+
+// The walk that the bytes are: what they name, if that is written so.
+fn read_walk(s: &[u8]) -> Held
+    ensures { λ r. ⌜ Holds (now (s .entry)) r ⌝ }
+{
+    if s.len() != WALK_BYTES {
+        return Held {
+            ok: false,
+            walk: fresh_walk(),
+        };
+    }
+    let walk = named(s);
+    let mut form = [0u8; 156];
+    put_walk(&mut form, walk);
+    let ok = same(&form, s);
+    Held { ok, walk }
+}
+
+// Entries
+
+// A fresh walk, in a buffer of the right length.
+#[no_mangle]
+pub extern "C" fn sst_fresh(walk: &mut [u8]) -> u16
+    ensures { λ r. ⌜ (r ≡ freshNumber (now (walk .entry))) × (now (walk .exit) ≡ freshIn (now (walk .entry))) ⌝ }
+{
+    if walk.len() == WALK_BYTES {
+        put_walk(walk, fresh_walk());
+        0
+    } else {
+        21
+    }
+}
+
+// A call is refused.
+fn refuse(written: &mut u64, steps: &mut u64) -> u16
+    ensures { λ n. ⌜ (n ≡ 21) × (now (written .exit) ≡ 0) × (now (steps .exit) ≡ 0) ⌝ }
+{
+    *written = 0;
+    *steps = 0;
+    21
+}
+
+// A call is done: the walk is written.
+fn give(r: Called, walk: &mut [u8], written: &mut u64, steps: &mut u64) -> u16
+    requires { ⌜ (length (now walk) ≡ 156) × (r .walk .at .location < 65536) ⌝ }
+    ensures { λ n. ⌜ (n ≡ r .number) × (now (walk .exit) ≡ form.walkBytes (view.walkOf (r .walk))) × (now (written .exit) ≡ r .events) × (now (steps .exit) ≡ r .steps) ⌝ }
+{
+    *written = r.events;
+    *steps = r.steps;
+    let w = r.walk;
+    put_walk(walk, w);
+    r.number
+}
+
+// A whole call, on bytes alone.
+#[no_mangle]
+pub extern "C" fn sst_whole(
+    table: &[u8],
+    tokens: &[u8],
+    answers: &[u8],
+    budget: u64,
+    walk: &mut [u8],
+    events: &mut [u8],
+    written: &mut u64,
+    steps: &mut u64,
+) -> u16
+    ensures { λ r. ⌜ gives r (now (walk .exit)) (now (events .exit)) (now (written .exit)) (now (steps .exit)) ≡ form.callBytes (now (table .entry)) (now (tokens .entry)) (whole (wordsOf (now (answers .entry)))) budget (now (walk .entry)) (now (events .entry)) ⌝ }
+{
+    let h = read_walk(walk);
+    if h.ok {
+        let w = h.walk;
+        let r = w.whole(table, tokens, answers, budget, events);
+        give(r, walk, written, steps)
+    } else {
+        refuse(written, steps)
+    }
+}
+
+// A paused call, on bytes alone.
+#[no_mangle]
+pub extern "C" fn sst_paused(
+    table: &[u8],
+    tokens: &[u8],
+    given: u16,
+    answer: u16,
+    budget: u64,
+    walk: &mut [u8],
+    events: &mut [u8],
+    written: &mut u64,
+    steps: &mut u64,
+) -> u16
+    ensures { λ r. ⌜ gives r (now (walk .exit)) (now (events .exit)) (now (written .exit)) (now (steps .exit)) ≡ form.callBytes (now (table .entry)) (now (tokens .entry)) (handing given answer) budget (now (walk .entry)) (now (events .entry)) ⌝ }
+{
+    let h = read_walk(walk);
+    if h.ok {
+        let w = h.walk;
+        let is_given = given != 0;
+        let r = w.paused(table, tokens, is_given, answer, budget, events);
+        give(r, walk, written, steps)
+    } else {
+        refuse(written, steps)
+    }
+}
+
+// The parts of a walk, of bytes that are none as include/sst.h says
+
+// 0 going on, 1 waiting, 2 stopped.
+fn phase_number(p: Phase) -> u16
+    ensures { λ n. ⌜ n ≡ phaseIn (view.phaseOf p) ⌝ }
+{
+    match p {
+        Phase::Going => 0,
+        Phase::Waiting => 1,
+        Phase::Stopped(_) => 2,
+    }
+}
+
+// The number of a stopped walk, 65535 of another.
+fn reason_or_none(p: Phase) -> u16
+    ensures { λ n. ⌜ n ≡ reasonIn (view.phaseOf p) ⌝ }
+{
+    match p {
+        Phase::Going => 65535,
+        Phase::Waiting => 65535,
+        Phase::Stopped(r) => reason_number(r),
+    }
+}
+
+#[no_mangle]
+pub extern "C" fn sst_phase(walk: &[u8]) -> u16
+    ensures { λ r. ⌜ r ≡ phaseNumber (form.walkOf (now (walk .entry))) ⌝ }
+{
+    let h = read_walk(walk);
+    if h.ok {
+        let w = h.walk;
+        let p = w.phase;
+        phase_number(p)
+    } else {
+        3
+    }
+}
+
+#[no_mangle]
+pub extern "C" fn sst_reason(walk: &[u8]) -> u16
+    ensures { λ r. ⌜ r ≡ reasonOrNone (form.walkOf (now (walk .entry))) ⌝ }
+{
+    let h = read_walk(walk);
+    if h.ok {
+        let w = h.walk;
+        let p = w.phase;
+        reason_or_none(p)
+    } else {
+        65535
+    }
+}
+
+#[no_mangle]
+pub extern "C" fn sst_location(walk: &[u8]) -> u16
+    ensures { λ r. ⌜ r ≡ locationOr0 (form.walkOf (now (walk .entry))) ⌝ }
+{
+    let h = read_walk(walk);
+    if h.ok {
+        let w = h.walk;
+        let at = w.at;
+        at.location as u16
+    } else {
+        0
+    }
+}
+
+#[no_mangle]
+pub extern "C" fn sst_read(walk: &[u8]) -> u64
+    ensures { λ r. ⌜ r ≡ readOr0 (form.walkOf (now (walk .entry))) ⌝ }
+{
+    let h = read_walk(walk);
+    if h.ok {
+        let w = h.walk;
+        let at = w.at;
+        at.read
+    } else {
+        0
+    }
+}
+
+#[no_mangle]
+pub extern "C" fn sst_used(walk: &[u8]) -> u64
+    ensures { λ r. ⌜ r ≡ usedOr0 (form.walkOf (now (walk .entry))) ⌝ }
+{
+    let h = read_walk(walk);
+    if h.ok {
+        let w = h.walk;
+        let at = w.at;
+        at.used
+    } else {
+        0
+    }
+}
