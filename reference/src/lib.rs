@@ -6,3 +6,7 @@ pub mod random;
 pub mod side;
 pub mod tables;
 pub mod walker;
+
+pub mod processor;
+pub mod rules;
+pub mod texts;

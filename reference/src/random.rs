@@ -288,6 +288,7 @@ fn unstructured(rng: &mut Rng, count: usize) -> Vec<u16> {
         }
         match number {
             1 => words.push(rng.below(ahead.min(9) + 1) as u16),
+            2 if rng.once_in(8) => words.push((at + rng.below(3)) as u16),
             2 => words.push(rng.below(at.min(9) + 1) as u16),
             3 | 5 | 6 | 10 | 13 => words.push(token(rng)),
             8 => words.push(rng.below(count + 2) as u16),
@@ -305,9 +306,8 @@ fn unstructured(rng: &mut Rng, count: usize) -> Vec<u16> {
                 for _ in 0..labels {
                     words.push(token(rng));
                     let here = words.len() + 1;
-                    let bound = if rng.once_in(6) { here + 2 } else { here };
-                    let distance = rng.below(bound) as u16;
-                    words.push(if rng.once_in(20) { wrapping(rng) } else { distance });
+                    let distance = if rng.once_in(8) { here + rng.below(3) - 1 } else { rng.below(here) };
+                    words.push(if rng.once_in(20) { wrapping(rng) } else { distance as u16 });
                 }
             }
             _ => {}

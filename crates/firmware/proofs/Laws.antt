@@ -13,6 +13,7 @@ use Rattle.base.specs.Common.{same}
 use Rattle.machine.proofs.Bytes.{length-bytesOf}
 use Rattle.machine.specs.Bytes.{bytesOf}
 use Rattle.machine.specs.Form.{returnWords}
+use Rattle.walker.proofs.LinkWords.{bytesOf-append}
 use Rattle.firmware.specs.Writes.{puts}
 
 -- Writing
@@ -22,11 +23,6 @@ sets-then l i [] b = rw add-zero
 sets-then l i (x ∷ a) b =
     let e : i + suc (length a) ≡ suc i + length a = omega arith in
     rw e (sets-then (set l i x) (suc i) a b)
-
-bytesOf-append : (a b : List ℕ) → bytesOf (a ++ b) ≡ bytesOf a ++ bytesOf b
-unfolding bytesOf
-bytesOf-append [] b = refl
-bytesOf-append (w ∷ a) b = λ i. w / 256 ∷ w % 256 ∷ bytesOf-append a b i
 
 pub puts-then : (s : List ℕ) (i : ℕ) (a b : List ℕ) (j : ℕ) → j ≡ i + length a → puts (puts s i a) j b ≡ puts s i (a ++ b)
 unfolding puts

@@ -62,10 +62,9 @@ pub parts : {x y : Outcome} → x ≡ y → (x .walk ≡ y .walk) × ((x .events
 parts p = (ap (λ (z : Outcome). z .walk) p, (ap (λ (z : Outcome). z .events) p, (ap (λ (z : Outcome). z .steps) p, (ap (λ (z : Outcome). z .number) p, ap (λ (z : Outcome). z .out) p))))
 
 -- what holds at the head of the loop of `go`
-pub record Inv (t k a : List ℕ) (paused : Bool) (budget : ℕ) (r₀ : Registers) (rs₀ o₀ : List ℕ) (limit : ℕ) (r : Registers) (rs o : List ℕ) (e d : ℕ) : Type 0 where
+pub record Inv (t k a : List ℕ) (paused : Bool) (budget : ℕ) (r₀ : Registers) (rs₀ o₀ : List ℕ) (r : Registers) (rs o : List ℕ) (e d room : ℕ) : Type 0 where
   pub deep : r .depth ≤ 64
-  pub room : 3 * e ≤ limit
-  pub limited : limit ≡ count o
+  pub left : 3 * e + room ≡ count o
   pub as-long : length o ≡ length o₀
   pub within : d ≤ budget
   pub same : goOf t k a paused (budget - d) r rs o e d ≡ goOf t k a paused budget r₀ rs₀ o₀ 0 0

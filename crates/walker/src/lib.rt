@@ -1,6 +1,6 @@
 // The walker: whole and paused walks over a table of 16-bit words.
 ghost use mathlib.Core.Path.{_≡_};
-ghost use Prim.Native.Nat.{ℕ, _+_, _*_, _-_, _<_, _≤_, _^_};
+ghost use Prim.Native.Nat.{_+_, _*_, _<_, _≤_, _^_};
 ghost use Rattle.machine.specs.Bytes.{count, wordAt};
 ghost use Rattle.machine.specs.Lengths.{lengths, lengthOf};
 ghost use Rattle.walker.specs.Shape.{size, setWord, putEvent, findFrom, numberOf};
@@ -660,18 +660,11 @@ impl Walk {
         let mut returns = self.returns;
         let mut events: usize = 0;
         let mut done: u64 = 0;
-        let limit = machine::count_words(out);
+        // words left for events
+        let mut room = machine::count_words(out);
         let known = machine::LENGTHS;
         while done < budget {
-            let x = at.next(
-                &known,
-                &returns,
-                t,
-                tokens,
-                answers,
-                limit - 3 * events,
-                paused,
-            );
+            let x = at.next(&known, &returns, t, tokens, answers, room, paused);
             let next = done + 1;
             match x {
                 Next::Full => {
@@ -717,6 +710,7 @@ impl Walk {
                     put_event(out, 3 * events, e);
                     at = q;
                     events += 1;
+                    room -= 3;
                 }
                 Next::Push(q, back) => {
                     let w = Walk {

@@ -15,7 +15,7 @@ use reference::side::{Inputs, Reference, Side};
 use reference::tables::{assemble, bytes};
 use reference::walker::{self, Done, Phase, WALK_BYTES, Walk};
 
-const SEEDS: u64 = 5000;
+const SEEDS: u64 = 6000;
 /// Mismatches that are shown in full.
 const SHOWN: u64 = 10;
 /// A walk that has not ended after so many steps is given no huge budget.
@@ -432,6 +432,55 @@ fn instructions(h: &mut Harness, rng: &mut Rng) {
     }
 }
 
+/// A choice whose labels lead to the table's ends and past them, in a table that ends near the choice table's end. Now and then the
+/// choice table stands before the choice, where only a distance cut to 16 bits leads, or its count is right only if doubled in 16 bits.
+fn labels(h: &mut Harness, rng: &mut Rng) {
+    let before = rng.below(4);
+    let count = rng.below(5);
+    let behind = rng.once_in(6);
+    let instruction = rng.pick(&[7, 11]);
+    let mut table: Vec<u16> = (0..before).map(|_| rng.pick(&[4, 9, 256])).collect();
+    if !behind {
+        table.extend([instruction, 1]);
+    }
+    let first = table.len() + 1;
+    table.push(count as u16 | if rng.once_in(8) { 1 << 15 } else { 0 });
+    for label in 0..count {
+        let here = table.len() + 2;
+        let distance = match rng.below(6) {
+            0 => here + 1,
+            1 => here,
+            2 => here - 1,
+            3 => rng.below(here),
+            4 => 0,
+            _ => usize::from(random::wrapping(rng)),
+        };
+        table.extend([label as u16, distance as u16]);
+    }
+    let mut location = before + 1;
+    if behind {
+        table.push(9);
+        location = table.len() + 1;
+        table.extend([instruction, (first as u16).wrapping_sub(location as u16 + 1)]);
+    } else {
+        let end = table.len();
+        table.extend([4, 9]);
+        table.truncate(end - rng.below(2) + rng.below(3));
+    }
+    let tokens = [rng.below(count + 1) as u16];
+    let case = Case::new(h, rng, &table, &tokens, &[]);
+    let mut state = case.made_up(rng);
+    state.phase = Phase::Going;
+    state.location = location as u16;
+    state.read = rng.below(2) as u64;
+    for result in 0..=count {
+        state.result = result as u16;
+        for budget in [1, 2, 5] {
+            h.check(&case, &Call { kind: Kind::Whole, budget, walk: &state.encode(), size: 60 });
+        }
+    }
+}
+
 /// All budgets from 0 on.
 fn budgets(h: &mut Harness, rng: &mut Rng) {
     let sort = rng.pick(&[0, 0, 0, 1, 2]);
@@ -577,6 +626,20 @@ fn long(h: &mut Harness, rng: &mut Rng) {
     let case = Case::new(h, rng, &[4, 256, 2, 3], &tokens, &[]);
     for size in [6 * 65535, 6 * 65536 + 5, 6 * count + 12] {
         h.check(&case, &Call { kind: PLAIN, budget: u64::MAX, walk: &start, size });
+    }
+    // One match, choice or operation far behind.
+    for _ in 0..40 {
+        let read = rng.within(65530, count + 2);
+        let token = tokens.get(read).copied().unwrap_or(3);
+        let table = match rng.below(4) {
+            0 => vec![3, token, 9],
+            1 => vec![7, 1, 1, token, 5, 9],
+            2 => vec![4, 9],
+            _ => vec![768, 9],
+        };
+        let case = Case::new(h, rng, &table, &tokens, &answers);
+        let state = Walk { read: read as u64, used: read as u64, ..Walk::fresh() };
+        h.check(&case, &Call { kind: Kind::Whole, budget: 1, walk: &state.encode(), size: 6 });
     }
 }
 
@@ -751,12 +814,13 @@ fn agreement(h: &mut Harness, rng: &mut Rng) {
 /// A name, a group, and how often a seed runs it.
 type Group = (&'static str, fn(&mut Harness, &mut Rng), usize);
 
-const GROUPS: [Group; 13] = [
+const GROUPS: [Group; 14] = [
     ("structured tables", structured, 6),
     ("damaged tables", damaged, 6),
     ("foreign tables", foreign, 10),
     ("made-up walks", made_up, 1),
     ("each instruction", instructions, 1),
+    ("labels", labels, 12),
     ("budgets", budgets, 6),
     ("event buffers", buffers, 6),
     ("lists of calls", lists, 12),

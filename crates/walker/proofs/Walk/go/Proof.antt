@@ -14,23 +14,25 @@ use Rattle.walker.proofs.Walk.go.Statement.{statement}
 use Rattle.walker.proofs.Walk.go.Tie as tie
 
 abbrev Inv-loop : tie.InvT-loop
-Inv-loop t tokens answers paused budget out₀ at₀ returns₀ events₀ done₀ limit known out at returns events done =
-    Inv t tokens answers paused budget at₀ returns₀ out₀ limit at returns out events done
+Inv-loop t tokens answers paused budget out₀ at₀ returns₀ events₀ done₀ room₀ known out at returns events done room =
+    Inv t tokens answers paused budget at₀ returns₀ out₀ at returns out events done room
 
 abbrev μ-loop : tie.MeasureT-loop
-μ-loop t tokens answers paused budget out₀ at₀ returns₀ events₀ done₀ limit known out at returns events done = budget - done
+μ-loop t tokens answers paused budget out₀ at₀ returns₀ events₀ done₀ room₀ known out at returns events done room = budget - done
 
 -- the step that was taken is that of `goOf`
 told : (c : tie.After-next Inv-loop μ-loop) → stepped (c .before .before .before .before .before .before .before .before .before .before .before .before .before .args .t .now) (c .before .before .before .before .before .before .before .before .before .before .before .before .before .args .tokens .now) (c .before .before .before .before .before .before .before .before .before .before .before .before .before .args .answers .now) (c .before .before .before .before .before .before .before .before .before .before .before .before .before .args .paused) (c .before .before .before .before .loop .at) (c .before .before .before .before .loop .returns) (c .before .before .before .before .loop .out) (c .before .before .before .before .loop .events) (c .before .before .before .before .loop .done) ≡ c .next .result
-told c = rw (c .next .ensures, c .before .before .before .before .loop .inv .limited) refl
+told c =
+    let l = c .before .before .before .before .loop in
+    let e : count (l .out) - 3 * l .events ≡ l .room = omega (arith, l .inv .left) in
+    rw (c .next .ensures, e) refl
 
 -- what it keeps
-kept : (c : tie.After-next Inv-loop μ-loop) → Keeps (c .before .before .before .before .before .count-words .result - 3 * c .before .before .before .before .loop .events) (c .next .result)
+kept : (c : tie.After-next Inv-loop μ-loop) → Keeps (c .before .before .before .before .loop .room) (c .next .result)
 kept c =
     let a = c .before .before .before .before .before .before .before .before .before .before .before .before .before .args in
     let l = c .before .before .before .before .loop in
-    let room = c .before .before .before .before .before .count-words .result - 3 * l .events in
-    rw (c .next .ensures) (keeps room (l .at) (l .inv .deep) (l .returns) (a .t .now) (a .tokens .now) (a .answers .now) (a .paused))
+    rw (c .next .ensures) (keeps (l .room) (l .at) (l .inv .deep) (l .returns) (a .t .now) (a .tokens .now) (a .answers .now) (a .paused))
 
 count-words-requires : tie.Need-count-words-requires Inv-loop μ-loop
 count-words-requires c κs = search needs
@@ -38,13 +40,7 @@ count-words-requires c κs = search needs
 loop-holds : tie.Need-loop-holds Inv-loop μ-loop
 loop-holds c =
     let a = c .before .before .before .before .before .before .before .before .args in
-    record { deep = c .before .before .before .before .before .before .before .before .pre; room = omega arith; limited = c .count-words .ensures; as-long = refl; within = omega arith; same = ap (λ (n : ℕ). goOf (a .t .now) (a .tokens .now) (a .answers .now) (a .paused) n (a .self .at) (a .self .returns) (a .out .now) 0 0) (omega arith) }
-
-mul-next : tie.Need-mul-next Inv-loop μ-loop
-mul-next c = omega (arith, c .before .before .before .loop .inv .room)
-
-sub-next : tie.Need-sub-next Inv-loop μ-loop
-sub-next c = omega (arith, c .before .before .before .loop .inv .room)
+    record { deep = c .before .before .before .before .before .before .before .before .pre; left = omega (arith, c .count-words .ensures); as-long = refl; within = omega arith; same = ap (λ (n : ℕ). goOf (a .t .now) (a .tokens .now) (a .answers .now) (a .paused) n (a .self .at) (a .self .returns) (a .out .now) 0 0) (omega arith) }
 
 next-requires : tie.Need-next-requires Inv-loop μ-loop
 unfolding lengths
@@ -103,37 +99,47 @@ enum-known-x-3 : tie.Need-enum-known-x-3 Inv-loop μ-loop
 enum-known-x-3 c = search needs
 
 mul-put-event : tie.Need-mul-put-event Inv-loop μ-loop
-mul-put-event c = omega (arith, c .before .before .before .before .before .before .before .before .loop .inv .room)
+unfolding count
+mul-put-event c = omega (arith, c .before .before .before .before .before .before .before .before .loop .inv .left, c .before .before .before .before .before .before .before .before .loop .inv .as-long, c .before .before .before .before .before .before .before .before .before .before .before .before .before .before .before .before .before .good)
 
 put-event-requires : tie.Need-put-event-requires Inv-loop μ-loop
 put-event-requires c κs =
     let l = c .before .before .before .before .before .before .before .before .loop in
-    let k = subst (Keeps (c .before .before .before .before .before .before .before .before .before .count-words .result - 3 * l .events)) (c .before .before .x3 .given .1) (kept (c .before .before .before .before)) in
-    omega (arith, k .1, l .inv .room, l .inv .limited)
+    let k = subst (Keeps (l .room)) (c .before .before .x3 .given .1) (kept (c .before .before .before .before)) in
+    omega (arith, k .1, l .inv .left)
 
 add-events : tie.Need-add-events Inv-loop μ-loop
-add-events c = omega (arith, c .before .before .before .before .before .before .before .before .before .before .before .loop .inv .room)
+unfolding count
+add-events c = omega (arith, c .before .before .before .before .before .before .before .before .before .before .before .loop .inv .left, c .before .before .before .before .before .before .before .before .before .before .before .loop .inv .as-long, c .before .before .before .before .before .before .before .before .before .before .before .before .before .before .before .before .before .before .before .before .good)
+
+sub-room : tie.Need-sub-room Inv-loop μ-loop
+sub-room c =
+    let l = c .before .before .before .before .before .before .before .before .before .before .before .loop in
+    let k = subst (Keeps (l .room)) (c .before .before .before .before .before .x3 .given .1) (kept (c .before .before .before .before .before .before .before)) in
+    omega (arith, k .1)
 
 enum-known-x-4 : tie.Need-enum-known-x-4 Inv-loop μ-loop
 enum-known-x-4 c = search needs
 
 push-requires : tie.Need-push-requires Inv-loop μ-loop
-push-requires c κs = subst (Keeps (c .before .before .before .before .before .before .before .before .count-words .result - 3 * c .before .before .before .before .before .before .before .loop .events)) (c .before .x4 .given .1) (kept (c .before .before .before))
+push-requires c κs = subst (Keeps (c .before .before .before .before .before .before .before .loop .room)) (c .before .x4 .given .1) (kept (c .before .before .before))
 
 enum-known-x-5 : tie.Need-enum-known-x-5 Inv-loop μ-loop
 enum-known-x-5 c = search needs
 
 mul-put-event-2 : tie.Need-mul-put-event-2 Inv-loop μ-loop
-mul-put-event-2 c = omega (arith, c .before .before .before .before .before .before .before .before .loop .inv .room)
+unfolding count
+mul-put-event-2 c = omega (arith, c .before .before .before .before .before .before .before .before .loop .inv .left, c .before .before .before .before .before .before .before .before .loop .inv .as-long, c .before .before .before .before .before .before .before .before .before .before .before .before .before .before .before .before .before .good)
 
 put-event-requires-2 : tie.Need-put-event-requires-2 Inv-loop μ-loop
 put-event-requires-2 c κs =
     let l = c .before .before .before .before .before .before .before .before .loop in
-    let k = subst (Keeps (c .before .before .before .before .before .before .before .before .before .count-words .result - 3 * l .events)) (c .before .before .x5 .given .1) (kept (c .before .before .before .before)) in
-    omega (arith, k, l .inv .room, l .inv .limited)
+    let k = subst (Keeps (l .room)) (c .before .before .x5 .given .1) (kept (c .before .before .before .before)) in
+    omega (arith, k, l .inv .left)
 
 add-written : tie.Need-add-written Inv-loop μ-loop
-add-written c = omega (arith, c .before .before .before .before .before .before .before .before .before .before .before .loop .inv .room)
+unfolding count
+add-written c = omega (arith, c .before .before .before .before .before .before .before .before .before .before .before .loop .inv .left, c .before .before .before .before .before .before .before .before .before .before .before .loop .inv .as-long, c .before .before .before .before .before .before .before .before .before .before .before .before .before .before .before .before .before .before .before .before .good)
 
 same-length-4 : tie.Need-same-length-4 Inv-loop μ-loop
 same-length-4 c = c .before .before .put-event2 .kept .0 ∙ c .before .before .before .before .before .before .before .before .before .before .before .loop .inv .as-long
@@ -154,8 +160,8 @@ loop-again c =
     let a = c .before .before .before .before .before .before .before .before .before .before .before .before .before .before .before .before .args in
     let l = c .before .before .before .before .before .before .before .loop in
     let x = told (c .before .before .before) ∙ c .before .x2 .given .1 in
-    let k = subst (Keeps (c .before .before .before .before .before .before .before .before .count-words .result - 3 * l .events)) (c .before .x2 .given .1) (kept (c .before .before .before)) in
-    record { deep = k; room = l .inv .room; limited = l .inv .limited; as-long = l .inv .as-long; within = omega (arith, c .before .before .before .before .before .before .loop-test .taken); same = sym (on _ _ _ _ _ _ _ _ _ (a .budget - l .done) (a .budget - (l .done + 1)) _ (omega (arith, c .before .before .before .before .before .before .loop-test .taken)) x) ∙ l .inv .same }
+    let k = subst (Keeps (l .room)) (c .before .x2 .given .1) (kept (c .before .before .before)) in
+    record { deep = k; left = l .inv .left; as-long = l .inv .as-long; within = omega (arith, c .before .before .before .before .before .before .loop-test .taken); same = sym (on _ _ _ _ _ _ _ _ _ (a .budget - l .done) (a .budget - (l .done + 1)) _ (omega (arith, c .before .before .before .before .before .before .loop-test .taken)) x) ∙ l .inv .same }
 
 loop-less-2 : tie.Need-loop-less-2 Inv-loop μ-loop
 loop-less-2 c = omega (arith, c .before .before .before .before .before .before .before .before .before .before .loop-test .taken)
@@ -167,10 +173,10 @@ loop-again-2 c =
     let l = c .before .before .before .before .before .before .before .before .before .before .before .loop in
     let v = c .before .before .before .before .before .x3 .given .0 .0 in
     let x = told (c .before .before .before .before .before .before .before) ∙ c .before .before .before .before .before .x3 .given .1 in
-    let k = subst (Keeps (c .before .before .before .before .before .before .before .before .before .before .before .before .count-words .result - 3 * l .events)) (c .before .before .before .before .before .x3 .given .1) (kept (c .before .before .before .before .before .before .before)) in
+    let k = subst (Keeps (l .room)) (c .before .before .before .before .before .x3 .given .1) (kept (c .before .before .before .before .before .before .before)) in
     let s = sym (tells _ _ _ _ _ _ _ _ _ (a .budget - l .done) (a .budget - (l .done + 1)) _ _ (omega (arith, c .before .before .before .before .before .before .before .before .before .before .loop-test .taken)) x) ∙ l .inv .same in
     let long : length (c .before .before .put-event .last .0) ≡ length (l .out) = c .before .before .put-event .kept .0 in
-    record { deep = k .0; room = omega (arith, k .1, l .inv .room); limited = omega (arith, l .inv .limited, long); as-long = long ∙ l .inv .as-long; within = omega (arith, c .before .before .before .before .before .before .before .before .before .before .loop-test .taken); same = ap (λ (o : List ℕ). goOf (a .t .now) (a .tokens .now) (a .answers .now) (a .paused) (a .budget - (l .done + 1)) v (l .returns) o (l .events + 1) (l .done + 1)) (c .before .before .put-event .ensures) ∙ s }
+    record { deep = k .0; left = omega (arith, k .1, l .inv .left, long); as-long = long ∙ l .inv .as-long; within = omega (arith, c .before .before .before .before .before .before .before .before .before .before .loop-test .taken); same = ap (λ (o : List ℕ). goOf (a .t .now) (a .tokens .now) (a .answers .now) (a .paused) (a .budget - (l .done + 1)) v (l .returns) o (l .events + 1) (l .done + 1)) (c .before .before .put-event .ensures) ∙ s }
 
 loop-less-3 : tie.Need-loop-less-3 Inv-loop μ-loop
 loop-less-3 c = omega (arith, c .before .before .before .before .before .before .before .before .before .loop-test .taken)
@@ -180,9 +186,9 @@ loop-again-3 c =
     let a = c .before .before .before .before .before .before .before .before .before .before .before .before .before .before .before .before .before .before .before .args in
     let l = c .before .before .before .before .before .before .before .before .before .before .loop in
     let x = told (c .before .before .before .before .before .before) ∙ c .before .before .before .before .x4 .given .1 in
-    let k = subst (Keeps (c .before .before .before .before .before .before .before .before .before .before .before .count-words .result - 3 * l .events)) (c .before .before .before .before .x4 .given .1) (kept (c .before .before .before .before .before .before)) in
+    let k = subst (Keeps (l .room)) (c .before .before .before .before .x4 .given .1) (kept (c .before .before .before .before .before .before)) in
     let s = sym (pushes _ _ _ _ _ _ _ _ _ (a .budget - l .done) (a .budget - (l .done + 1)) _ _ (omega (arith, c .before .before .before .before .before .before .before .before .before .loop-test .taken)) x) ∙ l .inv .same in
-    rw (c .before .before .push .ensures) (record { deep = omega (arith, k); room = l .inv .room; limited = l .inv .limited; as-long = l .inv .as-long; within = omega (arith, c .before .before .before .before .before .before .before .before .before .loop-test .taken); same = s })
+    rw (c .before .before .push .ensures) (record { deep = omega (arith, k); left = l .inv .left; as-long = l .inv .as-long; within = omega (arith, c .before .before .before .before .before .before .before .before .before .loop-test .taken); same = s })
 
 same-length-5 : tie.Need-same-length-5 Inv-loop μ-loop
 same-length-5 c = c .before .loop .inv .as-long
@@ -201,8 +207,6 @@ go-spec =
     μ-loop
     count-words-requires
     loop-holds
-    mul-next
-    sub-next
     next-requires
     add-next
     enum-told
@@ -220,6 +224,7 @@ go-spec =
     mul-put-event
     put-event-requires
     add-events
+    sub-room
     enum-known-x-4
     push-requires
     enum-known-x-5
