@@ -47,7 +47,7 @@ static const int values[] = {5, -3, 0};
 static uint8_t table[2 * COUNT(table_words)];
 static uint8_t tokens[2 * COUNT(token_words)];
 static uint8_t walk[SST_WALK_BYTES];
-static uint8_t events[12]; /* room for two */
+static uint8_t events[6]; /* room for one */
 
 static void put_words(uint8_t *bytes, const uint16_t *words, size_t count)
 {
@@ -66,7 +66,7 @@ static unsigned get_word(const uint8_t *bytes, size_t i)
 static void show(unsigned number, uint64_t written, uint64_t steps)
 {
     size_t i;
-    printf("answered %u after %lu steps\n", number, (unsigned long)steps);
+    printf("answered %u, steps %lu\n", number, (unsigned long)steps);
     for (i = 0; i < (size_t)written; i++) {
         unsigned kind = get_word(events, 3 * i), value = get_word(events, 3 * i + 1), parameter = get_word(events, 3 * i + 2);
         switch (kind) {
@@ -91,7 +91,7 @@ int main(void)
     put_words(tokens, token_words, COUNT(token_words));
     sst_fresh(walk, sizeof walk);
     do {
-        /* Small budgets and buffers: the walk is called on until it stops. */
+        /* A small budget and buffer: the walk is called on until it stops. */
         number = sst_paused(table, sizeof table, tokens, sizeof tokens, given, answer, 5, walk, sizeof walk, events, sizeof events,
                             &written, &steps);
         show(number, written, steps);
@@ -120,7 +120,7 @@ int main(void)
         sst_fresh(walk, sizeof walk);
         number = sst_whole(table, sizeof table, tokens, sizeof tokens, answers, sizeof answers, 1000, walk, sizeof walk, room,
                            sizeof room, &written, &steps);
-        printf("whole: answered %u after %lu steps, %lu events\n", (unsigned)number, (unsigned long)steps, (unsigned long)written);
+        printf("whole: answered %u, steps %lu, events %lu\n", (unsigned)number, (unsigned long)steps, (unsigned long)written);
     }
     return number != 0;
 }

@@ -7,7 +7,7 @@
  * The number that a walk call answers:
  *    0  the walk has stopped: it returned with nothing pending
  *   21  refused: an answer for a walk that is not waiting, none for one that is, a waiting one given to sst_whole, or bytes that are no
- *       walk. Walk and event buffer are unchanged
+ *       walk. Walk and event buffer are unchanged, no event and no step is counted
  *   22  the walk waits: the last event written is the operation that wants an answer
  *   30  stopped: the token differs from the one required, or there is none
  *   31  stopped: a token is required and there is none
@@ -44,7 +44,7 @@ uint16_t sst_whole(const uint8_t *table, size_t table_len, const uint8_t *tokens
 
 /* A paused call: as sst_whole, but an operation that wants an answer is handed out: its event is written, and the walk waits. The answer
  * is given to the next call: `given` 1 and the answer; `given` 0 otherwise (any other value counts as 1). Answers any number of the
- * list above but 34. */
+ * list above; 34 only where sst_whole had stopped the walk with it. */
 uint16_t sst_paused(const uint8_t *table, size_t table_len, const uint8_t *tokens, size_t tokens_len, uint16_t given, uint16_t answer,
                     uint64_t budget, uint8_t *walk, size_t walk_len, uint8_t *events, size_t events_len, uint64_t *written,
                     uint64_t *steps);

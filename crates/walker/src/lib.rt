@@ -4,7 +4,7 @@ ghost use Prim.Native.Nat.{_+_, _*_, _<_, _≤_, _^_};
 ghost use Rattle.machine.specs.Bytes.{count, wordAt};
 ghost use Rattle.machine.specs.Lengths.{lengths, lengthOf};
 ghost use Rattle.walker.specs.Shape.{size, setWord, putEvent, findFrom, numberOf};
-ghost use Rattle.walker.specs.Shape.{moved, readOne, answeredOne, withResult, withParameter, poppedTo, pushed, first64};
+ghost use Rattle.walker.specs.Shape.{moved, readOne, answeredOne, withResult, withParameter, poppedTo, withDepth, first64};
 ghost use Rattle.walker.specs.Shape.{otherwiseOf, labelOf, labelledOf, choiceOf, defaultOf, takeOther};
 ghost use Rattle.walker.specs.Shape.{forwardOf, backOf, inputOf, anyOf, tellOf, inputChoiceOf, callOf, backTo, returnOf, answerOf};
 ghost use Rattle.walker.specs.Shape.{actOf, operateOf, stepOf, goOf, wholeOf, pausedOf};
@@ -245,6 +245,15 @@ impl Registers {
     {
         self.depth -= 1;
         self.location = to;
+        self
+    }
+
+    // One more return location, which stands at the depth that it had.
+    fn push(mut self) -> Registers
+        requires { ⌜ self .depth < 64 ⌝ }
+        ensures { λ r. ⌜ r ≡ withDepth self (self .depth + 1) ⌝ }
+    {
+        self.depth += 1;
         self
     }
 
@@ -610,17 +619,6 @@ impl Registers {
 // Calls
 
 impl Walk {
-    // Keeps a return location.
-    fn push(mut self, back: u16) -> Walk
-        requires { ⌜ self .at .depth < 64 ⌝ }
-        ensures { λ r. ⌜ r ≡ pushed self back ⌝ }
-    {
-        let d = self.at.depth;
-        self.returns[d] = back;
-        self.at.depth = d + 1;
-        self
-    }
-
     // Its registers as they are read.
     fn clipped(mut self) -> Walk
         ensures { λ r. ⌜ (r .phase ≡ self .phase) × (r .at ≡ first64 (self .at)) × (r .returns ≡ self .returns) ⌝ }
@@ -713,13 +711,9 @@ impl Walk {
                     room -= 3;
                 }
                 Next::Push(q, back) => {
-                    let w = Walk {
-                        phase: Phase::Going,
-                        at: q,
-                        returns,
-                    }.push(back);
-                    at = w.at;
-                    returns = w.returns;
+                    let d = q.depth;
+                    returns[d] = back;
+                    at = q.push();
                 }
                 Next::Waits(q, e) => {
                     put_event(out, 3 * events, e);

@@ -116,8 +116,8 @@ fn walk(side: &dyn Side, work: &Work, budget: u64, events: &mut [u8]) -> End {
     while matches!(end.number, 35 | 36) {
         let done = side.whole(inputs, budget, &mut end.walk, events);
         end.number = done.number;
-        end.steps += done.steps;
-        end.written += done.written;
+        end.steps = end.steps.wrapping_add(done.steps);
+        end.written = end.written.wrapping_add(done.written);
         if done.steps == 0 {
             break;
         }

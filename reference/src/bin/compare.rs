@@ -738,7 +738,7 @@ impl Run {
     /// One more call; false where it wrote outside its buffers.
     fn go(&mut self, h: &Harness, side: &dyn Side, case: &Case, kind: Kind, budget: u64, size: usize) -> bool {
         let Some(left) = h.run(side, case, &Call { kind, budget, walk: &self.walk, size }) else { return false };
-        let end = (6 * left.done.written as usize).min(left.events.len());
+        let end = (left.done.written as usize).saturating_mul(6).min(left.events.len());
         self.events.extend_from_slice(&left.events[..end]);
         self.number = left.done.number;
         self.walk = left.walk;

@@ -121,6 +121,16 @@ sub-room c =
 enum-known-x-4 : tie.Need-enum-known-x-4 Inv-loop μ-loop
 enum-known-x-4 c = search needs
 
+mul-returns : tie.Need-mul-returns Inv-loop μ-loop
+mul-returns c =
+    let k = subst (Keeps (c .before .before .before .before .before .before .before .loop .room)) (c .before .x4 .given .1) (kept (c .before .before .before)) in
+    omega (arith, k)
+
+array-write-returns : tie.Need-array-write-returns Inv-loop μ-loop
+array-write-returns c =
+    let k = subst (Keeps (c .before .before .before .before .before .before .before .loop .room)) (c .before .x4 .given .1) (kept (c .before .before .before)) in
+    omega (arith, k)
+
 push-requires : tie.Need-push-requires Inv-loop μ-loop
 push-requires c κs = subst (Keeps (c .before .before .before .before .before .before .before .loop .room)) (c .before .x4 .given .1) (kept (c .before .before .before))
 
@@ -179,16 +189,16 @@ loop-again-2 c =
     record { deep = k .0; left = omega (arith, k .1, l .inv .left, long); as-long = long ∙ l .inv .as-long; within = omega (arith, c .before .before .before .before .before .before .before .before .before .before .loop-test .taken); same = ap (λ (o : List ℕ). goOf (a .t .now) (a .tokens .now) (a .answers .now) (a .paused) (a .budget - (l .done + 1)) v (l .returns) o (l .events + 1) (l .done + 1)) (c .before .before .put-event .ensures) ∙ s }
 
 loop-less-3 : tie.Need-loop-less-3 Inv-loop μ-loop
-loop-less-3 c = omega (arith, c .before .before .before .before .before .before .before .before .before .loop-test .taken)
+loop-less-3 c = omega (arith, c .before .before .before .before .before .before .before .loop-test .taken)
 
 loop-again-3 : tie.Need-loop-again-3 Inv-loop μ-loop
 loop-again-3 c =
-    let a = c .before .before .before .before .before .before .before .before .before .before .before .before .before .before .before .before .before .before .before .args in
-    let l = c .before .before .before .before .before .before .before .before .before .before .loop in
-    let x = told (c .before .before .before .before .before .before) ∙ c .before .before .before .before .x4 .given .1 in
-    let k = subst (Keeps (l .room)) (c .before .before .before .before .x4 .given .1) (kept (c .before .before .before .before .before .before)) in
-    let s = sym (pushes _ _ _ _ _ _ _ _ _ (a .budget - l .done) (a .budget - (l .done + 1)) _ _ (omega (arith, c .before .before .before .before .before .before .before .before .before .loop-test .taken)) x) ∙ l .inv .same in
-    rw (c .before .before .push .ensures) (record { deep = omega (arith, k); left = l .inv .left; as-long = l .inv .as-long; within = omega (arith, c .before .before .before .before .before .before .before .before .before .loop-test .taken); same = s })
+    let a = c .before .before .before .before .before .before .before .before .before .before .before .before .before .before .before .before .before .args in
+    let l = c .before .before .before .before .before .before .before .before .loop in
+    let x = told (c .before .before .before .before) ∙ c .before .before .x4 .given .1 in
+    let k = subst (Keeps (l .room)) (c .before .before .x4 .given .1) (kept (c .before .before .before .before)) in
+    let s = sym (pushes _ _ _ _ _ _ _ _ _ (a .budget - l .done) (a .budget - (l .done + 1)) _ _ (omega (arith, c .before .before .before .before .before .before .before .loop-test .taken)) x) ∙ l .inv .same in
+    rw (c .push .ensures) (record { deep = omega (arith, k); left = l .inv .left; as-long = l .inv .as-long; within = omega (arith, c .before .before .before .before .before .before .before .loop-test .taken); same = s })
 
 same-length-5 : tie.Need-same-length-5 Inv-loop μ-loop
 same-length-5 c = c .before .loop .inv .as-long
@@ -226,6 +236,8 @@ go-spec =
     add-events
     sub-room
     enum-known-x-4
+    mul-returns
+    array-write-returns
     push-requires
     enum-known-x-5
     mul-put-event-2
