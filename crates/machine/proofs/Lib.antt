@@ -5,3 +5,4 @@ pub mod Bytes
 pub mod Form
 pub mod Facts
 pub mod Keeps
+pub mod Refused
