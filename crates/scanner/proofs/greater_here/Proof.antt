@@ -1,3 +1,4 @@
+-- `scanner::greater_here` meets its contract.
 use mathlib.Core.Path.{refl, ap, sym, _∙_}
 use Prim.Native.Nat.{ℕ, _+_}
 use native.Mathlib.Nat.{add-zero}

@@ -1,3 +1,4 @@
+-- `scanner::in_class` meets its contract.
 use mathlib.Core.Path.{refl}
 use borrow.Author.Needs.{needs}
 use Rattle.base.specs.Common.{given}

@@ -1,3 +1,4 @@
+-- `scanner::is_blank` meets its contract.
 use borrow.Author.Tests.{ne-eqb, eq-eqb}
 use Rattle.words.specs.Words.{blank}
 use Rattle.scanner.proofs.is_blank.Statement.{statement}

@@ -1,3 +1,4 @@
+-- `scanner::is_digit` meets its contract.
 use borrow.Author.Tests.{lt-leb, le-leb}
 use Rattle.words.specs.Words.{digit}
 use Rattle.scanner.proofs.is_digit.Statement.{statement}

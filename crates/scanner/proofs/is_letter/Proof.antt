@@ -1,3 +1,4 @@
+-- `scanner::is_letter` meets its contract.
 use mathlib.Core.Bool.{or-false}
 use native.Mathlib.Omega.{arith}
 use borrow.Author.Tests.{lt-leb, le-leb}

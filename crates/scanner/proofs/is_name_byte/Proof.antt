@@ -1,3 +1,4 @@
+-- `scanner::is_name_byte` meets its contract.
 use mathlib.Core.Path.{refl, sym, _∙_}
 use borrow.Author.Needs.{needs}
 use Rattle.words.specs.Words.{nameByte}

@@ -1,3 +1,4 @@
+-- `scanner::is_string_byte` meets its contract.
 use borrow.Author.Tests.{ne-eqb, eq-eqb}
 use Rattle.words.specs.Words.{stringByte}
 use Rattle.scanner.proofs.is_string_byte.Statement.{statement}

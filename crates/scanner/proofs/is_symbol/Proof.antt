@@ -1,3 +1,4 @@
+-- `scanner::is_symbol` meets its contract.
 use Rattle.words.specs.Words.{symbol}
 use borrow.Author.Needs.{needs}
 use Rattle.scanner.proofs.is_symbol.Statement.{statement}

@@ -1,3 +1,4 @@
+-- `scanner::kind_of` meets its contract.
 use mathlib.Core.Path.{sym, _∙_}
 use lib.ListN.{take, drop}
 use borrow.Author.Needs.{needs}

@@ -1,3 +1,4 @@
+-- `scanner::kind_of_brackets` meets its contract.
 use mathlib.Core.Path.{refl, sym, _∙_}
 use borrow.Author.Needs.{needs}
 use Rattle.scanner.specs.Scanning.{brackets}

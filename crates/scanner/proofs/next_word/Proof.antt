@@ -1,3 +1,4 @@
+-- `scanner::next_word` meets its contract.
 use native.Mathlib.Omega.{arith}
 use borrow.Author.Needs.{needs}
 use Rattle.scanner.proofs.WordLaws.{ended, at-word, earlier}

@@ -1,3 +1,4 @@
+-- `scanner::number_here` meets its contract.
 use Prim.Native.Nat.{_+_}
 use native.Mathlib.Omega.{arith}
 use lib.ListN.{drop}

@@ -1,3 +1,4 @@
+-- `scanner::symbol_here` meets its contract.
 use mathlib.Core.Path.{ap, sym, _∙_}
 use Prim.Native.Nat.{ℕ}
 use native.Mathlib.Omega.{arith}

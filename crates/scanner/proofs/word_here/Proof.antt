@@ -1,3 +1,4 @@
+-- `scanner::word_here` meets its contract.
 use mathlib.Core.Path.{sym, _∙_}
 use Prim.Native.Nat.{_+_}
 use lib.ListN.{getD, drop}

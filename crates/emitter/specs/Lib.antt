@@ -1,0 +1,5 @@
+pub mod Words
+pub mod Stands
+pub mod Heads
+pub mod Work
+pub mod Emitted

@@ -1,0 +1,3 @@
+-- Laws of readings, for the proofs of the code.
+pub mod Laws
+pub mod SectionLaws

@@ -1,0 +1,394 @@
+-- Laws of sections and operations, for the proofs of the code.
+use mathlib.Core.Bool.{Bool, true, false}
+use mathlib.Core.List.{List, [], _∷_, _++_}
+use mathlib.Core.Option.{Option}
+use mathlib.Core.Path.{_≡_, refl, sym, _∙_}
+use Prim.Native.Nat.{ℕ, _+_, _*_, _-_, _≤_, _<_, max, min}
+use native.Mathlib.Nat.{zero-add}
+use native.Mathlib.Numerals.{add-one}
+use native.Mathlib.Omega.{arith}
+use lib.Dec.{eqb}
+use lib.ListN.{length, getD, take, drop, drop-of-length-le, length-drop, length-take}
+use lib.Seq.{drop-cons, getD-drop, getD-take}
+use borrow.Author.Tests.{ne-eqb, lt-leb, le-leb, lt-ltb, le-ltb, eq-eqb}
+use Rattle.base.specs.Common.{given}
+use Rattle.reader.proofs.Laws.{any-value, at-word, ends-with, faults, gives-with, no, no-with, overs, passes-with, says-off, says-on, shorts, word-length, yes-with, one-or-two-not, refuses}
+use Rattle.reader.specs.Answers.{Brings, Faulty, Here, Holds, Tells, failed, held, told, void, went, refusal}
+use Rattle.reader.specs.Counting.{Adds, Decides, Kinds, countOf, listed, oneMore, wrong, Entered, Operated, Keeps, ending, fine}
+use Rattle.scanner.specs.Next.{asWord}
+use Rattle.syntax.specs.Parse.{parse, endOf, program, someRules}
+use Rattle.syntax.specs.Reading.{Read, Reader, aName, aNumber, expect, fault, got, onward, optional, pass, peek, short, small, within, on_then_else_, oneName}
+use Rattle.syntax.specs.Sections.{aCount, entries, firstOf, nextOf, numbered, ofKind, after, instructions, nothing, Sofar, someOperations}
+use Rattle.syntax.specs.Written.{Entry, Section, both, Operation, errors, inputs, operations, outputs, values}
+use Rattle.words.specs.Words.{Word, wordsAt, value, words}
+use Rattle.reader.specs.declared.State.{State}
+use Rattle.reader.specs.declared.Out.{Out}
+use Rattle.reader.specs.declared.Seen.{Seen}
+use Rattle.scanner.specs.declared.WordAt.{WordAt}
+
+-- a property follows from another
+mapped : {A : Type 0} {P Q : A → Type 0} (m : Read A) → Holds P m → ((a : A) → P a → Q a) → Holds Q m
+mapped (got a ws) (held p) f = held (f a p)
+mapped (fault n w) void f = void
+
+pub so : {A : Type 0} {P Q : A → Type 0} {m : Read A} {text : List ℕ} {r : Out} → Brings P m text r → ((a : A) → P a → Q a) → Brings Q m text r
+so {m = m} b f = record { tells = b .tells; holds = mapped m (b .holds) f }
+
+-- Names
+
+pub under-with : {A : Type 0} {P : A → Type 0} (left : ℕ) (m : Reader A) {text : List ℕ} (at : ℕ) {s : Out} → (left ≡ 0 → ⊥)
+    → Brings P (m (wordsAt text at)) text s → Brings P (within left m (wordsAt text at)) text s
+unfolding within
+under-with left m at e t = rw (ne-eqb left 0 e) t
+
+short-is : {text : List ℕ} {at : ℕ} {w : WordAt} → Here text at w → 2 ≤ w .kind → w .len ≤ 32
+    → short (wordsAt text at) ≡ got (asWord text w) (wordsAt text (w .next))
+unfolding short pass
+short-is {w = w} n k h = rw (n .head, word-length n, le-ltb 32 (w .len) h, n .more k)
+
+pub shorts-with : {text : List ℕ} {at : ℕ} {w : WordAt} {r : Out} → Here text at w → 2 ≤ w .kind → w .len ≤ 32 → r .fault ≡ 0 → r .at ≡ w .next
+    → Brings (λ a. a ≡ peek (wordsAt text at)) (short (wordsAt text at)) text r
+shorts-with n k h e f = record { tells = shorts n k h e f; holds = rw (short-is n k h) (held (sym (n .head))) }
+
+-- Numbers
+
+pub value-go : (n : ℕ) (bs : List ℕ) (i : ℕ) → i < length bs → value n (drop i bs) ≡ value (n * 10 + (getD bs i 0 - 48)) (drop (i + 1) bs)
+unfolding value
+value-go n bs i h = rw (add-one, drop-cons bs i 0)
+
+pub value-end : (n : ℕ) (bs : List ℕ) (i : ℕ) → length bs ≤ i → value n (drop i bs) ≡ n
+unfolding value
+value-end n bs i h = rw (drop-of-length-le bs h)
+
+pub value-low : (n : ℕ) (bs : List ℕ) → n ≤ value n bs
+unfolding value
+value-low n [] = omega arith
+value-low n (d ∷ ds) = omega (arith, value-low (n * 10 + (d - 48)) ds)
+
+pub part-size : (text : List ℕ) (start len : ℕ) → start + len ≤ length text → length (take len (drop start text)) ≡ len
+part-size text start len h = simp (length-take, length-drop) (omega arith)
+
+part-at : (text : List ℕ) (start len i : ℕ) → i < len → getD (take len (drop start text)) i 0 ≡ getD text (start + i) 0
+part-at text start len i h = rw (getD-take, getD-drop) refl
+
+-- one more digit
+pub number-on : (text : List ℕ) (start len n i d : ℕ) → start + len ≤ length text → i < len → d ≡ getD text (start + i) 0 - 48
+    → value n (drop i (take len (drop start text))) ≡ value 0 (take len (drop start text))
+    → value (n * 10 + d) (drop (i + 1) (take len (drop start text))) ≡ value 0 (take len (drop start text))
+number-on text start len n i d h g e f =
+    rw (e, ← part-at text start len i g) (sym (value-go n (take len (drop start text)) i (omega (arith, part-size text start len h)))) ∙ f
+
+pub number-past : (text : List ℕ) (start len n i d : ℕ) → start + len ≤ length text → i < len → d ≡ getD text (start + i) 0 - 48 → 65535 < n * 10 + d
+    → value n (drop i (take len (drop start text))) ≡ value 0 (take len (drop start text)) → 65535 < value 0 (take len (drop start text))
+number-past text start len n i d h g e m f =
+    omega (arith, value-low (n * 10 + d) (drop (i + 1) (take len (drop start text))), number-on text start len n i d h g e f)
+
+pub small-over : {text : List ℕ} {at : ℕ} {w : WordAt} {r : Out} → Here text at w → 65535 < value 0 (take (w .len) (drop (w .start) text)) → Faulty 9 w r
+    → Tells (small (wordsAt text at)) text r
+unfolding small
+small-over {text} {w = w} n h f = rw (n .head, lt-ltb 65535 (value 0 (take (w .len) (drop (w .start) text))) h) (overs n f)
+
+pub small-got : {text : List ℕ} {at : ℕ} {w : WordAt} {r : Out} (v : ℕ) → Here text at w → 2 ≤ w .kind → value 0 (take (w .len) (drop (w .start) text)) ≡ v → v ≤ 65535
+    → r .fault ≡ 0 → r .at ≡ w .next → Brings (λ n. n ≡ v) (small (wordsAt text at)) text r
+unfolding small pass onward
+small-got {text} {w = w} v n k p h e f = rw (n .head, p, le-ltb 65535 v h, n .more k, ← f) (gives-with e refl)
+
+-- Entries
+
+pub count-set : {P : ℕ → Type 0} (w : Word) (v : ℕ) {text : List ℕ} {at : ℕ} {y : WordAt} {r : Out} → Here text at y → y .kind ≡ 61
+    → Brings P (aNumber (wordsAt text (y .next))) text r → Brings P (aCount w v (wordsAt text at)) text r
+unfolding aCount
+count-set w v n e b = yes-with _ _ _ n e (passes-with _ n (omega arith) b)
+
+pub count-on : (w : Word) (v : ℕ) {text : List ℕ} {at : ℕ} {y : WordAt} {r : Out} → Here text at y → (y .kind ≡ 61 → ⊥) → v ≤ 65535 → r .fault ≡ 0 → r .at ≡ at
+    → Brings (λ n. n ≡ v) (aCount w v (wordsAt text at)) text r
+unfolding aCount
+count-on w v n e h z f = no-with _ _ _ n e (rw (le-ltb 65535 v h, ← f) (gives-with z refl))
+
+pub count-over : (w : Word) (v : ℕ) {text : List ℕ} {at from : ℕ} {x y : WordAt} {r : Out} → Here text at y → (y .kind ≡ 61 → ⊥) → 65535 < v
+    → w ≡ peek (wordsAt text from) → Here text from x → Faulty 9 x r → Tells (aCount w v (wordsAt text at)) text r
+unfolding aCount
+count-over w v n e h d m f = no _ _ _ n e (rw (lt-ltb 65535 v h, d) (faults m (omega arith) f))
+
+-- the last entry, and one before others
+pub entered-one : (left top v t : ℕ) (e : Entry) (es : List Entry) → e .value ≡ v → es ≡ [] → t ≡ max top (v + 1) → Entered left top (left - 1) t (e ∷ es)
+unfolding nextOf
+entered-one left top v t e es h z f = rw (z, f, ← h) (record { less = omega arith; most = refl })
+
+pub entered-more : (left top v u n t : ℕ) (e : Entry) (es : List Entry) → e .value ≡ v → u ≡ max top (v + 1) → Entered (left - 1) u n t es → Entered left top n t (e ∷ es)
+unfolding nextOf
+entered-more left top v u n t e es h f g = record { less = omega (arith, g .less); most = rw (h, ← f) (g .most) }
+
+assoc : {A B C : Type 0} (m : Read A) (f : A → Reader B) (g : B → Reader C) → onward (onward m f) g ≡ onward m (λ a ws. onward (f a ws) g)
+unfolding onward
+assoc (got a ws) f g = refl
+assoc (fault n w) f g = refl
+
+pub listed-made : {P : List Entry → Type 0} {Q : Section → Type 0} (k left : ℕ) (strings : Bool) (v : ℕ) (f : List Entry → Section) {text : List ℕ} (at : ℕ) {r : Out}
+    → Brings P (listed k left strings v (wordsAt text at)) text r → ((es : List Entry) → P es → Q (f es))
+    → Brings Q (onward (expect 58 (wordsAt text at)) (λ _ ws. onward (entries k left strings v ws) (λ es ws. got (f es) ws))) text r
+unfolding listed
+listed-made k left strings v f {text} at b g = rw (← assoc (expect 58 (wordsAt text at)) (λ _ ws. entries k left strings v ws) (λ es ws. got (f es) ws)) (ends-with f b g)
+
+listed-as : {P : List Entry → Type 0} (k left left′ : ℕ) (strings : Bool) (v v′ : ℕ) {text : List ℕ} (at : ℕ) {r : Out} → left ≡ left′ → v ≡ v′
+    → Brings P (listed k left strings v (wordsAt text at)) text r → Brings P (listed k left′ strings v′ (wordsAt text at)) text r
+listed-as k left left′ strings v v′ at e f b = rw (← e, ← f) b
+
+pub next-max : (n : ℕ) (es : List Entry) → nextOf n es ≡ max n (nextOf 0 es)
+unfolding nextOf
+next-max n [] = omega arith
+next-max n (e ∷ es) = omega (arith, next-max (max n (e .value + 1)) es, next-max (max 0 (e .value + 1)) es)
+
+-- Operations
+
+kind-in : (b i : ℕ) (is : List ℕ) → b ≤ i → i < b + 256 → ofKind b (i ∷ is) ≡ 1 + ofKind b is
+unfolding ofKind
+kind-in b i is h g = rw (le-leb b i h, lt-ltb i (b + 256) g)
+
+kind-below : (b i : ℕ) (is : List ℕ) → i < b → ofKind b (i ∷ is) ≡ ofKind b is
+unfolding ofKind
+kind-below b i is h = rw (lt-leb b i h) (zero-add (ofKind b is))
+
+kind-above : (b i : ℕ) (is : List ℕ) → b + 256 ≤ i → ofKind b (i ∷ is) ≡ ofKind b is
+unfolding ofKind
+kind-above b i is h = rw (le-leb b i (omega arith), le-ltb i (b + 256) h) (zero-add (ofKind b is))
+
+kind-none : (b : ℕ) → ofKind b [] ≡ 0
+unfolding ofKind
+kind-none b = refl
+
+pub count-is : (is : List ℕ) (s : Seen) (x y : Bool) → Kinds is s → countOf s x y ≡ ofKind (firstOf x y) is
+unfolding firstOf
+count-is is s false false k = k .plain
+count-is is s true false k = k .taking
+count-is is s false true k = k .giving
+count-is is s true true k = k .both
+
+pub adds-one : (s : Seen) (x y : Bool) (n : ℕ) → n < 256 → Adds ((firstOf x y + n) ∷ []) s (oneMore s x y)
+unfolding firstOf
+adds-one s false false n h = record {
+  plain = omega (arith, kind-in 256 (256 + n) [] (omega arith) (omega arith), kind-none 256);
+  taking = omega (arith, kind-below 512 (256 + n) [] (omega arith), kind-none 512);
+  giving = omega (arith, kind-below 768 (256 + n) [] (omega arith), kind-none 768);
+  both = omega (arith, kind-below 1024 (256 + n) [] (omega arith), kind-none 1024);
+}
+adds-one s true false n h = record {
+  plain = omega (arith, kind-above 256 (512 + n) [] (omega arith), kind-none 256);
+  taking = omega (arith, kind-in 512 (512 + n) [] (omega arith) (omega arith), kind-none 512);
+  giving = omega (arith, kind-below 768 (512 + n) [] (omega arith), kind-none 768);
+  both = omega (arith, kind-below 1024 (512 + n) [] (omega arith), kind-none 1024);
+}
+adds-one s false true n h = record {
+  plain = omega (arith, kind-above 256 (768 + n) [] (omega arith), kind-none 256);
+  taking = omega (arith, kind-above 512 (768 + n) [] (omega arith), kind-none 512);
+  giving = omega (arith, kind-in 768 (768 + n) [] (omega arith) (omega arith), kind-none 768);
+  both = omega (arith, kind-below 1024 (768 + n) [] (omega arith), kind-none 1024);
+}
+adds-one s true true n h = record {
+  plain = omega (arith, kind-above 256 (1024 + n) [] (omega arith), kind-none 256);
+  taking = omega (arith, kind-above 512 (1024 + n) [] (omega arith), kind-none 512);
+  giving = omega (arith, kind-above 768 (1024 + n) [] (omega arith), kind-none 768);
+  both = omega (arith, kind-in 1024 (1024 + n) [] (omega arith) (omega arith), kind-none 1024);
+}
+
+kind-append : (b : ℕ) (is js : List ℕ) → ofKind b (is ++ js) ≡ ofKind b is + ofKind b js
+unfolding ofKind
+kind-append b [] js = omega arith
+kind-append b (i ∷ is) js = omega (arith, kind-append b is js)
+
+-- one more, then others
+pub adds-then : (i : ℕ) (is : List ℕ) (s t u : Seen) → Adds (i ∷ []) s t → Adds is t u → Adds (i ∷ is) s u
+adds-then i is s t u a b = record {
+  plain = omega (arith, kind-append 256 (i ∷ []) is);
+  taking = omega (arith, kind-append 512 (i ∷ []) is);
+  giving = omega (arith, kind-append 768 (i ∷ []) is);
+  both = omega (arith, kind-append 1024 (i ∷ []) is);
+}
+
+pub kinds-then : (is js : List ℕ) (s t : Seen) → Kinds js s → Adds is s t → Kinds (is ++ js) t
+kinds-then is js s t k a = record {
+  plain = omega (arith, kind-append 256 is js);
+  taking = omega (arith, kind-append 512 is js);
+  giving = omega (arith, kind-append 768 is js);
+  both = omega (arith, kind-append 1024 is js);
+}
+
+pub numbered-over : (name : Word) (t : Option Word) (b n : ℕ) {text : List ℕ} (ws : List Word) {w : WordAt} {r : Out} → 256 ≤ n → name ≡ asWord text w
+    → w .start + w .len ≤ length text → Faulty 9 w r → Tells (numbered name t b n ws) text r
+unfolding numbered
+numbered-over name t b n {text} ws {w} h e i f = rw (le-ltb n 256 h, e) (at-word 9 (omega arith) i f)
+
+pub numbered-got : (name : Word) (t : Option Word) (b n : ℕ) {text : List ℕ} (ws : List Word) {r : Out} → n < 256 → Tells (optional 256 aName ws) text r
+    → Brings (λ (o : Operation). o .instruction ≡ b + n) (numbered name t b n ws) text r
+unfolding numbered
+numbered-got name t b n ws h e = rw (lt-ltb n 256 h) (ends-with _ (any-value e) (λ g _. refl))
+
+-- what the kind of the next word is
+pub that-kind : {text : List ℕ} {at : ℕ} {w : WordAt} (k : ℕ) → Here text at w → w .kind ≡ k → eqb (peek (wordsAt text at) .kind) k ≡ true
+that-kind {w = w} k n e = rw (n .head) (eq-eqb (w .kind) k e)
+
+pub other-kind : {text : List ℕ} {at : ℕ} {w : WordAt} (k : ℕ) → Here text at w → (w .kind ≡ k → ⊥) → eqb (peek (wordsAt text at) .kind) k ≡ false
+other-kind {w = w} k n e = rw (n .head) (ne-eqb (w .kind) k e)
+
+-- an operation past the 256 of its kind, or the next one
+pub numbers-over : (name : Word) (t : Option Word) (is : List ℕ) {text : List ℕ} {at : ℕ} {g w : WordAt} (takes : Bool) (seen : Seen) (n : ℕ) {r : Out}
+    → Here text at g → given t ≡ takes → Kinds is seen → n ≡ countOf seen takes (eqb (g .kind) 256) → 256 ≤ n → name ≡ asWord text w
+    → w .start + w .len ≤ length text → Faulty 9 w r
+    → Tells (numbered name t (firstOf (given t) (eqb (peek (wordsAt text at) .kind) 256)) (ofKind (firstOf (given t) (eqb (peek (wordsAt text at) .kind) 256)) is) (wordsAt text at)) text r
+numbers-over name t is {text} {at} {g} takes seen n h e k f b d i v =
+    rw (e, h .head) (numbered-over name t (firstOf takes (eqb (g .kind) 256)) (ofKind (firstOf takes (eqb (g .kind) 256)) is) (wordsAt text at)
+    (omega (arith, count-is is seen takes (eqb (g .kind) 256) k)) d i v)
+
+pub numbers-got : (name : Word) (t : Option Word) (is : List ℕ) {text : List ℕ} {at : ℕ} {g : WordAt} (takes : Bool) (seen after : Seen) (n : ℕ) {r : Out}
+    → Here text at g → given t ≡ takes → Kinds is seen → n ≡ countOf seen takes (eqb (g .kind) 256) → n < 256 → after ≡ oneMore seen takes (eqb (g .kind) 256)
+    → Tells (optional 256 aName (wordsAt text at)) text r
+    → Brings (λ (o : Operation). Adds (o .instruction ∷ []) seen after)
+    (numbered name t (firstOf (given t) (eqb (peek (wordsAt text at) .kind) 256)) (ofKind (firstOf (given t) (eqb (peek (wordsAt text at) .kind) 256)) is) (wordsAt text at)) text r
+numbers-got name t is {text} {at} {g} takes seen after n h e k f b d v =
+    let c = count-is is seen takes (eqb (g .kind) 256) k in
+    rw (e, h .head) (so (numbered-got name t (firstOf takes (eqb (g .kind) 256)) (ofKind (firstOf takes (eqb (g .kind) 256)) is) (wordsAt text at) (omega (arith, c)) v)
+    (λ o z. rw (z, d) (adds-one seen takes (eqb (g .kind) 256) (ofKind (firstOf takes (eqb (g .kind) 256)) is) (omega (arith, c)))))
+
+pub operated-one : (left : ℕ) (s t : Seen) (o : Operation) (os : List Operation) → Adds (o .instruction ∷ []) s t → os ≡ [] → Operated left (left - 1) s t (o ∷ os)
+unfolding instructions
+operated-one left s t o os a e = rw e (record { less = omega arith; adds = a })
+
+pub operated-more : (left n : ℕ) (s t u : Seen) (o : Operation) (os : List Operation) → Adds (o .instruction ∷ []) s t → Operated (left - 1) n t u os
+    → Operated left n s u (o ∷ os)
+unfolding instructions
+operated-more left n s t u o os a b = record { less = omega (arith, b .less); adds = adds-then (o .instruction) (instructions os) s t u a (b .adds) }
+
+-- Sections: the state after each
+
+kept-inputs : (s : Sofar) (t : State) (n m i : ℕ) (es : List Entry) → Keeps s t → Entered (t .left) 0 n m es → i ≡ max (t .input) m
+    → Keeps (after s (inputs es)) (record { left = n; input = i; output = t .output; error = t .error; seen = t .seen })
+unfolding after
+kept-inputs s t n m i es q z e = record { left = omega (arith, z .less); input = omega (arith, z .most, next-max (s .input) es); output = q .output; error = q .error; kinds = q .kinds }
+
+kept-outputs : (s : Sofar) (t : State) (n m o : ℕ) (es : List Entry) → Keeps s t → Entered (t .left) 0 n m es → o ≡ max (t .output) m
+    → Keeps (after s (outputs es)) (record { left = n; input = t .input; output = o; error = t .error; seen = t .seen })
+unfolding after
+kept-outputs s t n m o es q z e = record { left = omega (arith, z .less); input = q .input; output = omega (arith, z .most, next-max (s .output) es); error = q .error; kinds = q .kinds }
+
+kept-both : (s : Sofar) (t : State) (n m i o : ℕ) (es : List Entry) → Keeps s t → Entered (t .left) 0 n m es → i ≡ max (t .input) m → o ≡ max (t .output) m
+    → Keeps (after s (both es)) (record { left = n; input = i; output = o; error = t .error; seen = t .seen })
+unfolding after
+kept-both s t n m i o es q z e f = record { left = omega (arith, z .less); input = omega (arith, z .most, next-max (s .input) es); output = omega (arith, z .most, next-max (s .output) es); error = q .error; kinds = q .kinds }
+
+kept-errors : (s : Sofar) (t : State) (n m e : ℕ) (es : List Entry) → Keeps s t → Entered (t .left) 0 n m es → e ≡ max (t .error) m
+    → Keeps (after s (errors es)) (record { left = n; input = t .input; output = t .output; error = e; seen = t .seen })
+unfolding after
+kept-errors s t n m e es q z f = record { left = omega (arith, z .less); input = q .input; output = q .output; error = omega (arith, z .most, next-max (s .error) es); kinds = q .kinds }
+
+kept-values : (s : Sofar) (t : State) (n m : ℕ) (w : Word) (es : List Entry) → Keeps s t → Entered (t .left - 1) 0 n m es
+    → Keeps (after s (values w es)) (record { left = n; input = t .input; output = t .output; error = t .error; seen = t .seen })
+unfolding after
+kept-values s t n m w es q z = record { left = omega (arith, z .less); input = q .input; output = q .output; error = q .error; kinds = q .kinds }
+
+pub kept-operations : (s : Sofar) (t : State) (n : ℕ) (u : Seen) (os : List Operation) → Keeps s t → Operated (t .left) n (t .seen) u os
+    → Keeps (after s (operations os)) (record { left = n; input = t .input; output = t .output; error = t .error; seen = u })
+unfolding after
+kept-operations s t n u os q z = record { left = omega (arith, z .less); input = q .input; output = q .output; error = q .error; kinds = kinds-then (instructions os) (s .seen) (t .seen) u (q .kinds) (z .adds) }
+
+-- a section of entries, from what its list of entries brings
+pub inputs-read : (s : Sofar) (t : State) (k n m i : ℕ) {text : List ℕ} (at : ℕ) {r : Out} → Keeps s t → i ≡ max (t .input) m
+    → Brings (Entered (t .left) 0 n m) (listed k (t .left) true (t .input) (wordsAt text at)) text r
+    → Brings (λ x. Keeps (after s x) (record { left = n; input = i; output = t .output; error = t .error; seen = t .seen }))
+    (onward (expect 58 (wordsAt text at)) (λ _ ws. onward (entries k (s .left) true (s .input) ws) (λ es ws. got (inputs es) ws))) text r
+inputs-read s t k n m i at q e b = listed-made k (s .left) true (s .input) inputs at (listed-as k _ _ true _ _ at (q .left) (q .input) b) (λ es z. kept-inputs s t n m i es q z e)
+
+pub outputs-read : (s : Sofar) (t : State) (k n m o : ℕ) {text : List ℕ} (at : ℕ) {r : Out} → Keeps s t → o ≡ max (t .output) m
+    → Brings (Entered (t .left) 0 n m) (listed k (t .left) true (t .output) (wordsAt text at)) text r
+    → Brings (λ x. Keeps (after s x) (record { left = n; input = t .input; output = o; error = t .error; seen = t .seen }))
+    (onward (expect 58 (wordsAt text at)) (λ _ ws. onward (entries k (s .left) true (s .output) ws) (λ es ws. got (outputs es) ws))) text r
+outputs-read s t k n m o at q e b = listed-made k (s .left) true (s .output) outputs at (listed-as k _ _ true _ _ at (q .left) (q .output) b) (λ es z. kept-outputs s t n m o es q z e)
+
+pub both-read : (s : Sofar) (t : State) (k v n m i o : ℕ) {text : List ℕ} (at : ℕ) {r : Out} → Keeps s t → v ≡ max (t .input) (t .output) → i ≡ max (t .input) m → o ≡ max (t .output) m
+    → Brings (Entered (t .left) 0 n m) (listed k (t .left) true v (wordsAt text at)) text r
+    → Brings (λ x. Keeps (after s x) (record { left = n; input = i; output = o; error = t .error; seen = t .seen }))
+    (onward (expect 58 (wordsAt text at)) (λ _ ws. onward (entries k (s .left) true (max (s .input) (s .output)) ws) (λ es ws. got (both es) ws))) text r
+both-read s t k v n m i o at q d e f b =
+    listed-made k (s .left) true (max (s .input) (s .output)) both at (listed-as k _ _ true _ _ at (q .left) (omega arith) b) (λ es z. kept-both s t n m i o es q z e f)
+
+pub errors-read : (s : Sofar) (t : State) (k n m e : ℕ) {text : List ℕ} (at : ℕ) {r : Out} → Keeps s t → e ≡ max (t .error) m
+    → Brings (Entered (t .left) 0 n m) (listed k (t .left) false (t .error) (wordsAt text at)) text r
+    → Brings (λ x. Keeps (after s x) (record { left = n; input = t .input; output = t .output; error = e; seen = t .seen }))
+    (onward (expect 58 (wordsAt text at)) (λ _ ws. onward (entries k (s .left) false (s .error) ws) (λ es ws. got (errors es) ws))) text r
+errors-read s t k n m e at q f b = listed-made k (s .left) false (s .error) errors at (listed-as k _ _ false _ _ at (q .left) (q .error) b) (λ es z. kept-errors s t n m e es q z f)
+
+pub values-read : (s : Sofar) (t : State) (k n m : ℕ) (w : Word) {text : List ℕ} (at : ℕ) {r : Out} → Keeps s t
+    → Brings (Entered (t .left - 1) 0 n m) (listed k (t .left - 1) false 0 (wordsAt text at)) text r
+    → Brings (λ x. Keeps (after s x) (record { left = n; input = t .input; output = t .output; error = t .error; seen = t .seen }))
+    (onward (expect 58 (wordsAt text at)) (λ _ ws. onward (entries k (s .left - 1) false 0 ws) (λ es ws. got (values w es) ws))) text r
+values-read s t k n m w at q b = listed-made k (s .left - 1) false 0 (values w) at (listed-as k _ _ false _ _ at (omega arith) refl b) (λ es z. kept-values s t n m w es q z)
+
+-- The sections and the rules of a program
+
+pub operations-as : {P : List Operation → Type 0} (k left left′ : ℕ) (is : List ℕ) {text : List ℕ} (at : ℕ) {r : Out} → left ≡ left′
+    → Brings P (someOperations k left is (wordsAt text at)) text r → Brings P (someOperations k left′ is (wordsAt text at)) text r
+operations-as k left left′ is at e b = rw (← e) b
+
+pub name-as : {P : Word → Type 0} (left left′ : ℕ) {text : List ℕ} (at : ℕ) {r : Out} → left ≡ left′
+    → Brings P (oneName left (wordsAt text at)) text r → Brings P (oneName left′ (wordsAt text at)) text r
+name-as left left′ at e b = rw (← e) b
+
+pub rules-as : (k m l n : ℕ) {text : List ℕ} (at : ℕ) {r : Out} → m ≡ min 128 n → l ≡ n → Tells (someRules k m (wordsAt text at)) text r
+    → Tells (someRules k (min 128 l) (wordsAt text at)) text r
+rules-as k m l n at e f t = rw (f, ← e) t
+
+pub start-kept : Keeps nothing (record { left = 512; input = 0; output = 0; error = 0; seen = record { plain = 0; taking = 0; giving = 0; both = 0 } })
+unfolding nothing ofKind
+start-kept = record { left = refl; input = refl; output = refl; error = refl; kinds = record { plain = refl; taking = refl; giving = refl; both = refl } }
+
+-- The whole
+
+decide-on : {A B : Type 0} {P : A → Type 0} (m : Read A) (f : A → Reader B) (ws : List Word) (r : Out)
+    → told m ≡ went ws → Holds P m → ((a : A) → P a → Decides r (f a ws)) → Decides r (onward m f)
+unfolding onward
+decide-on (got a vs) f ws r e (held p) h = let same : vs ≡ ws = cc in rw same (h a p)
+decide-on (fault n w) f ws r e void h = let y : _≡_ {A = ℕ} 0 1 = cc in absurd (omega arith)
+
+pub decides-on : {A B : Type 0} {P : A → Type 0} {m : Read A} (f : A → Reader B) {text : List ℕ} {r s : Out}
+    → Brings P m text r → r .fault ≡ 0 → ((a : A) → P a → Decides s (f a (wordsAt text (r .at)))) → Decides s (onward m f)
+decides-on {m = m} f {text} {r} {s} b h g = decide-on m f (wordsAt text (r .at)) s (b .tells .same ∙ says-on text r h) (b .holds) g
+
+decide-off : {A : Type 0} (m : Read A) (r : Out) → (r .fault ≡ 0 → ⊥) → told m ≡ failed (r .fault) (r .at) (r .len) → Decides r m
+decide-off (got a vs) r h e = let y : _≡_ {A = ℕ} 0 1 = cc in absurd (omega arith)
+decide-off (fault n w) r h e =
+    let d : n ≡ r .fault = cc in
+    wrong {w = w} (λ z. h (sym d ∙ z)) (sym d) (cc) (cc)
+
+pub decides-off : {A : Type 0} {m : Read A} {text : List ℕ} {r : Out} → Tells m text r → (r .fault ≡ 0 → ⊥) → Decides r m
+decides-off {m = m} {text} {r} e h = decide-off m r h (e .same ∙ says-off text r h)
+
+-- `end`, then the end of the text
+pub last-word : {text : List ℕ} {at : ℕ} {w : WordAt} {r : Out} → Here text at w → w .kind ≡ 1 → r .fault ≡ 0 → Decides r (expect 1 (wordsAt text at))
+unfolding expect on_then_else_ pass
+last-word {w = w} n e f = rw (n .head, eq-eqb (w .kind) 1 e, n .final (omega arith)) (fine f)
+
+pub no-last : {text : List ℕ} {at : ℕ} {w : WordAt} {r : Out} → Here text at w → (w .kind ≡ 1 → ⊥) → Faulty (refusal (w .kind)) w r → Decides r (expect 1 (wordsAt text at))
+unfolding expect
+no-last {w = w} n e f = decides-off (no _ _ _ n e (refuses n f)) (λ z. one-or-two-not (w .kind) (sym (f .number) ∙ z))
+
+-- a value is made of what was read
+decides-made : {A B : Type 0} (m : Read A) (f : A → B) {r : Out} → Decides r m → Decides r (onward m (λ a ws. got (f a) ws))
+unfolding onward
+decides-made (got a ws) f (fine e) = fine e
+decides-made (fault n w) f (wrong z a b c) = wrong z a b c
+
+pub ends-whole : {B : Type 0} (p : B) (ws : List Word) {r : Out} → Decides r (ending ws) → Decides r (onward (expect 266 ws) (λ _ ws. onward (expect 1 ws) (λ _ ws. got p ws)))
+unfolding ending
+ends-whole p ws d = rw (← assoc (expect 266 ws) (λ _ ws. expect 1 ws) (λ _ ws. got p ws)) (decides-made _ (λ _. p) d)
+
+-- the whole text
+pub from-start : (text : List ℕ) → words text ≡ wordsAt text 0
+unfolding words wordsAt
+from-start text = refl
+
+pub too-long : (text : List ℕ) {r : Out} → 32768 < length text → r .fault ≡ 9 → r .at ≡ length text → r .len ≡ 0 → Decides r (parse text)
+unfolding parse endOf
+too-long text h a b c = rw (lt-ltb 32768 (length text) h) (wrong (λ z. let y : _≡_ {A = ℕ} 9 0 = z in omega arith) a b c)
+
+pub not-long : (text : List ℕ) {r : Out} → length text ≤ 32768 → Decides r (program (length text + 1) (words text)) → Decides r (parse text)
+unfolding parse
+not-long text h d = rw (le-ltb 32768 (length text) h) d

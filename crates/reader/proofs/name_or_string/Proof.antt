@@ -1,0 +1,25 @@
+-- `reader::name_or_string` meets its contract.
+use mathlib.Core.Path.{refl}
+use native.Mathlib.Omega.{arith}
+use borrow.Author.Needs.{needs}
+use Rattle.reader.proofs.Laws.{no, passed, yes}
+use Rattle.syntax.specs.Reading.{nameOrString}
+use Rattle.reader.proofs.name_or_string.Statement.{statement}
+use Rattle.reader.proofs.name_or_string.Tie as tie
+
+look-requires : tie.Need-look-requires
+look-requires c κs = search needs
+
+returns : tie.Need-returns
+unfolding nameOrString
+returns c = record { reads = record { low = omega arith; high = omega arith; tells = λ k h. yes _ _ _ (c .before .before .look .ensures) (c .if1 .taken) (passed (c .before .before .look .ensures) (omega arith) refl refl) }; past = λ e. omega (arith, c .before .before .look .ensures .moves (omega arith)) }
+
+read-name-requires : tie.Need-read-name-requires
+read-name-requires c κs = search needs
+
+returns-2 : tie.Need-returns-2
+unfolding nameOrString
+returns-2 c = record { reads = record { low = omega arith; high = omega arith; tells = λ k h. no _ _ _ (c .before .before .before .look .ensures) (c .before .if1 .left) (c .read-name .ensures .reads .tells k h) }; past = λ e. c .read-name .ensures .past e }
+
+pub name-or-string-spec : {M : Type 1} → statement M
+name-or-string-spec = tie.close (tie.spec look-requires returns read-name-requires returns-2)
