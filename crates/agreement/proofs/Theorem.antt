@@ -171,10 +171,10 @@ over-stops : {s : Own} {w : Walk} → Over s → Same s w → (r : Reason) × (w
 over-stops (over-stopped {r = r}) h = (r, stopped-same h refl)
 over-stops over-nowhere h = absurd (not-nowhere h)
 
-finishes-with : (prog : List Rule) (more : List ℕ) → Accepted prog → Finishing prog → Finishes prog (table prog ++ more)
-finishes-with prog more a f count = (
+finishes-with : (prog : List Rule) → Accepted prog → Finishing prog → Finishes prog (table prog)
+finishes-with prog a f count = (
   2 * budget prog count + 1,
-  λ tokens answers e.
+  λ more tokens answers e.
       let o = finishes prog tokens answers a f in
       let x = agree-stop prog more tokens answers a (o .0) in
       let y = over-stops (o .2) (x .2) in
@@ -191,7 +191,7 @@ agreement text room words verdict e = claim (accepted-table text room words verd
       prog = t .prog;
       means = t .means;
       agrees = λ more tokens answers. rw (t .words-are) (agrees (t .prog) more tokens answers (t .accepts));
-      finishes = λ v more. rw (t .words-are) (finishes-with (t .prog) more (t .accepts) (finishing-sound (t .prog) (sym (t .verdict-is) ∙ v)));
+      finishes = λ v. rw (t .words-are) (finishes-with (t .prog) (t .accepts) (finishing-sound (t .prog) (sym (t .verdict-is) ∙ v)));
       sound = λ v. finishing-sound (t .prog) (sym (t .verdict-is) ∙ v);
       complete = λ f. t .verdict-is ∙ finishing-complete (t .prog) f;
     }

@@ -93,16 +93,16 @@ pub record Agrees (prog : List Rule) (T tokens answers : List ℕ) : Type 0 wher
   -- where the rules stop, one budget suffices
   pub budget : {r : Reason} {io : Io} → RulesStop prog tokens answers r io → (b : ℕ) × Suffices prog T tokens answers b
 
--- one budget, fixed by the program and the number of tokens, suffices whatever the tokens, the answers and the lists
+-- one budget, fixed by the program and the number of tokens, suffices whatever the tokens, the answers, the lists and what stands behind the table
 abbrev pub Finishes : List Rule → List ℕ → Type 0
-Finishes prog T = (count : ℕ) → (b : ℕ) × ((tokens answers : List ℕ) → length tokens ≡ count → Suffices prog T tokens answers b)
+Finishes prog words = (count : ℕ) → (b : ℕ) × ((more tokens answers : List ℕ) → length tokens ≡ count → Suffices prog (words ++ more) tokens answers b)
 
 -- the whole claim for a text that `process` accepts with these words and this verdict; the table may stand at the start of a longer buffer
 pub record Demand3 (text words : List ℕ) (verdict : Bool) : Type 0 where
   pub prog : List Rule
   pub means : understood text ≡ meaning prog
   pub agrees : (more tokens answers : List ℕ) → Agrees prog (words ++ more) tokens answers
-  pub finishes : verdict ≡ true → (more : List ℕ) → Finishes prog (words ++ more)
+  pub finishes : verdict ≡ true → Finishes prog words
   -- the verdict is the definition's
   pub sound : verdict ≡ true → Finishing prog
   pub complete : Finishing prog → verdict ≡ true
