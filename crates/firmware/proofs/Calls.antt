@@ -6,7 +6,7 @@ use mathlib.Core.Path.{_≡_, refl, ap}
 use Prim.Native.Nat.{ℕ, zero, suc, _<_}
 use native.Mathlib.Omega.{arith}
 use lib.Dec.{eqb}
-use lib.ListN.{length, take, getD}
+use lib.ListN.{length, take}
 use Rattle.base.specs.Common.{if_then_else_}
 use Rattle.machine.proofs.Bytes.{length-wordsOf, length-tableOf}
 use Rattle.machine.proofs.Form.{walkOf-fits}
@@ -14,17 +14,14 @@ use Rattle.machine.proofs.Keeps.{Small, SmallMode, fits-call}
 use Rattle.machine.specs.Bytes.{count, wordsOf, tableOf}
 use Rattle.machine.specs.Call.{Mode, whole, paused, callWalk}
 use Rattle.machine.specs.Form as form
+use Rattle.walker.proofs.LinkWords.{Bytes}
 use Rattle.walker.proofs.Link.{Agrees, handed, whole-call, paused-call}
 use Rattle.walker.specs.Shape as shape
 use Rattle.walker.specs.View as view
 use Rattle.walker.specs.declared.Walk.{Walk}
 use Rattle.firmware.specs.Entries.{handing}
 
--- each number of the list is a byte
-abbrev pub Bytes : List ℕ → Type 0
-Bytes s = (i : ℕ) → getD s i 0 < 256
-
-small-words : (s : List ℕ) → Bytes s → Small (wordsOf s)
+pub small-words : (s : List ℕ) → Bytes s → Small (wordsOf s)
 unfolding wordsOf
 small-words [] b i = omega arith
 small-words (h ∷ []) b i = omega arith
@@ -91,11 +88,11 @@ module _ (table tokens : List ℕ) (budget : ℕ) (s buffer : List ℕ) (w : Wal
 
   pub whole-done : (answers : List ℕ) → Bytes answers
       → Done (shape.wholeOf table tokens answers budget w buffer (w .phase)) (form.callBytes table tokens (whole (wordsOf answers)) budget s buffer)
-  whole-done answers small-a = done (whole (wordsOf answers)) (small-words answers small-a) _ (whole-call table tokens budget w buffer sized used answers)
+  whole-done answers small-a = done (whole (wordsOf answers)) (small-words answers small-a) _ (whole-call table tokens budget w buffer sized used small-t small-k answers small-a)
 
   pub paused-done : (given x : ℕ) → x < 65536
       → Done (shape.pausedOf table tokens (not (eqb given 0)) x budget w buffer (w .phase)) (form.callBytes table tokens (handing given x) budget s buffer)
   unfolding handing
   paused-done given x h =
       rw (handed-is (eqb given 0) x) at
-      (done (paused (handed (not (eqb given 0)) x)) (small-handed (not (eqb given 0)) x h) _ (paused-call table tokens budget w buffer sized used (not (eqb given 0)) x))
+      (done (paused (handed (not (eqb given 0)) x)) (small-handed (not (eqb given 0)) x h) _ (paused-call table tokens budget w buffer sized used small-t small-k (not (eqb given 0)) x h))

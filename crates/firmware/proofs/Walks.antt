@@ -2,8 +2,8 @@
 use mathlib.Core.Bool.{true, false}
 use mathlib.Core.List.{List, [], _++_, append-assoc, reverse}
 use mathlib.Core.Option.{Option, none, some}
-use mathlib.Core.Path.{_≡_, refl}
-use Prim.Native.Nat.{ℕ, _+_, _<_, min}
+use mathlib.Core.Path.{_≡_, refl, ap, _∙_}
+use Prim.Native.Nat.{ℕ, _+_, _%_, _<_, min}
 use native.Mathlib.Omega.{arith}
 use lib.ListN.{length, take, drop, getD, length-append, length-take, length-reverse}
 use Rattle.base.specs.Common.{same}
@@ -53,16 +53,19 @@ walk-written s w e n =
 
 -- what words name, part by part
 pub named-is : (ph : Phase) (at : Registers) (rs ws : List ℕ) → view.phaseOf ph ≡ form.phaseOf (getD ws 0 0) (getD ws 1 0) → at ≡ registersIn ws
-    → rs ≡ take 64 (drop 14 ws) → view.walkOf (record { phase = ph; at = at; returns = rs }) ≡ form.walkNamed ws
+    → rs ≡ take 64 (drop 14 ws) → ((i : ℕ) → getD ws i 0 < 65536) → view.walkOf (record { phase = ph; at = at; returns = rs }) ≡ form.walkNamed ws
 unfolding view.walkOf view.walkIn registersIn form.walkNamed
-named-is ph at rs ws p e f = λ i. record {
-  phase = p i;
-  location = e i .location;
-  returns = reverse (take (e i .depth) (f i));
-  result = e i .result;
-  parameter = e i .parameter;
-  io = record { read = e i .read; used = e i .used; events = [] };
-}
+named-is ph at rs ws p e f small =
+    let result : at .result % 65536 ≡ getD ws 3 0 = ap (λ (r : Registers). r .result % 65536) e ∙ omega (arith, small 3) in
+    let parameter : at .parameter % 65536 ≡ getD ws 4 0 = ap (λ (r : Registers). r .parameter % 65536) e ∙ omega (arith, small 4) in
+    λ i. record {
+      phase = p i;
+      location = e i .location;
+      returns = reverse (take (e i .depth) (f i));
+      result = result i;
+      parameter = parameter i;
+      io = record { read = e i .read; used = e i .used; events = [] };
+    }
 
 -- only 156 bytes are a walk
 pub no-walk : (s : List ℕ) → ((i : ℕ) → getD s i 0 < 256) → (length s ≡ 156 → ⊥) → form.walkOf s ≡ none

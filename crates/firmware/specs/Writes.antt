@@ -3,7 +3,7 @@ use mathlib.Core.Bool.{Bool, true, false}
 use mathlib.Core.List.{List, _∷_, _++_}
 use mathlib.Core.Option.{none, some}
 use mathlib.Core.Path.{_≡_}
-use Prim.Native.Nat.{ℕ, _*_, _<_, min}
+use Prim.Native.Nat.{ℕ, _*_, _%_, _<_, min}
 use lib.ListN.{length, getD, drop}
 use lib.Seq.{sets}
 use Rattle.machine.specs.Bytes.{bytesOf}
@@ -18,7 +18,7 @@ puts s i ws = sets s (2 * i) (bytesOf ws)
 
 -- words 2 to 13 of a walk
 unfoldable pub registerWords : Registers → List ℕ
-registerWords r = r .location ∷ r .result ∷ r .parameter ∷ min (r .depth) 64 ∷ (form.words64 (r .read) ++ form.words64 (r .used))
+registerWords r = r .location ∷ r .result % 65536 ∷ r .parameter % 65536 ∷ min (r .depth) 64 ∷ (form.words64 (r .read) ++ form.words64 (r .used))
 
 -- the registers that a walk's words name
 unfoldable pub registersIn : List ℕ → Registers

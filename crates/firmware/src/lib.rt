@@ -1,7 +1,7 @@
 // The C entries (include/sst.h): numbers and byte slices, the walk as its 156 bytes (docs/LAYOUT.md).
 ghost use mathlib.Core.List.{[], _∷_, reverse};
 ghost use mathlib.Core.Path.{_≡_};
-ghost use Prim.Native.Nat.{_+_, _*_, _<_, _≤_, min};
+ghost use Prim.Native.Nat.{_+_, _*_, _%_, _<_, _≤_, min};
 ghost use lib.ListN.{length, take, drop, getD};
 ghost use Rattle.base.specs.Common.{same as sameBytes};
 ghost use Rattle.events.specs.Events.{reasonNumber};
@@ -31,6 +31,12 @@ fn wide(x: u16) -> u64
     ensures { λ r. ⌜ (r ≡ x) × (r < 65536) ⌝ }
 {
     x as u64
+}
+
+fn narrow(x: u64) -> u16
+    ensures { λ r. ⌜ r ≡ x % 65536 ⌝ }
+{
+    (x % 65536) as u16
 }
 
 // Writing words
@@ -115,8 +121,8 @@ fn put_registers(out: &mut [u8], r: Registers)
         out,
         2,
         r.location as u16,
-        r.result,
-        r.parameter,
+        narrow(r.result),
+        narrow(r.parameter),
         held_of(r.depth),
     );
     put_64(out, 6, r.read);
@@ -207,8 +213,8 @@ fn registers_of(s: &[u8]) -> Registers
     Registers {
         location: word(s, 2) as usize,
         depth: word(s, 5) as usize,
-        result: machine::word(s, 3),
-        parameter: machine::word(s, 4),
+        result: word(s, 3),
+        parameter: word(s, 4),
         read: read_64(s, 6),
         used: read_64(s, 10),
     }

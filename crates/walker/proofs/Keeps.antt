@@ -3,7 +3,7 @@
 use mathlib.Core.Path.{_≡_, refl}
 use mathlib.Core.Bool.{Bool, true, false}
 use mathlib.Core.List.{List}
-use Prim.Native.Nat.{ℕ, _+_, _-_, _<_, _≤_}
+use Prim.Native.Nat.{ℕ, _+_, _-_, _%_, _<_, _≤_}
 use native.Mathlib.Omega.{arith}
 use lib.Dec.{eqb, ltb, leb}
 use lib.ListN.{getD}
@@ -118,7 +118,7 @@ module _ (room : ℕ) (r : Registers) (deep : r .depth ≤ 64) where
         either room _ _ (eqb i 8) (λ _. calls) (λ _.
         either room _ _ (eqb i 9) (λ _. returns) (λ _.
         either room _ _ (eqb i 10) (λ _. deep) (λ _.
-        either room _ _ (eqb i 11) (λ _. other-to (choiceOf t (r .location) (r .result))) (λ _.
+        either room _ _ (eqb i 11) (λ _. other-to (choiceOf t (r .location) (r .result % 65536))) (λ _.
         either room _ _ (eqb i 12) (λ _. tt) (λ _.
         either room _ _ (eqb i 13) (λ _. deep) (λ _. tt)))))))))))))
 

@@ -1,16 +1,17 @@
 -- Laws of the walker's definitions that the proofs of several functions cite. Assumes nothing.
-use mathlib.Core.Path.{_≡_, refl, ap, _∙_}
-use mathlib.Core.Bool.{Bool, true, false, _||_}
+use mathlib.Core.Path.{_≡_, refl, sym, ap, _∙_}
+use mathlib.Core.Bool.{Bool, true, false}
 use mathlib.Core.List.{List}
-use Prim.Native.Nat.{ℕ, zero, suc, _+_, _*_, _<_, _≤_}
+use Prim.Native.Nat.{ℕ, zero, suc, _+_, _*_, _-_, _<_, _≤_}
 use native.Mathlib.Omega.{arith}
-use lib.Dec.{eqb, T, eqb→eq}
-use borrow.Author.Tests.{eq-eqb, ne-eqb}
-use Rattle.base.specs.Common.{if_then_else_}
+use lib.Dec.{leb, ltb}
+use borrow.Author.Tests.{eq-eqb, ne-eqb, le-leb, lt-leb, lt-ltb, le-ltb, ltb-true}
+use Rattle.base.specs.Bools.{split}
 use Rattle.machine.specs.Bytes.{wordAt}
-use Rattle.machine.specs.Lengths.{lengthRule, lengthOf}
-use Rattle.machine.proofs.Lengths.{length-rule}
-use Rattle.walker.specs.Shape.{findFrom}
+use Rattle.machine.specs.Lengths.{lengths, lengthOf}
+use Rattle.walker.specs.Shape.{size, swapped, findFrom, labelOf, otherwiseOf, labelledOf, actOf, operateOf, fetchedOf}
+use Rattle.walker.specs.declared.Next.{Next}
+use Rattle.walker.specs.declared.Registers.{Registers}
 
 -- Labels
 
@@ -30,6 +31,49 @@ find-miss t b x (suc k) j i h e =
     let same : k ≡ j = omega arith in
     rw (ne-eqb (wordAt t (b + 2 * i)) x e, findFrom) (ap (λ (n : ℕ). findFrom t b x n (i + 1)) same)
 
+-- two words are the same if they are with their bytes exchanged
+pub swapped-same : (x y : ℕ) → x < 65536 → y < 65536 → swapped x ≡ swapped y → x ≡ y
+unfolding swapped
+swapped-same x y h k e = omega arith
+
+-- index at is that of label i, and none before it is x
+pub record Sought (t : List ℕ) (b labels x at : ℕ) : Type 0 where
+  pub i : ℕ
+  pub place : at ≡ b + 2 * i
+  pub within : i ≤ labels
+  pub same : findFrom t b x (labels - i) i ≡ findFrom t b x labels 0
+
+module _ (t : List ℕ) (b labels x at : ℕ) (s : Sought t b labels x at) where
+  word-at : wordAt t at ≡ wordAt t (b + 2 * s .i)
+  word-at = ap (wordAt t) (s .place)
+
+  pub sought-hit : at < b + 2 * labels → wordAt t at ≡ x → labelOf t at ≡ labelledOf t b labels x
+  unfolding labelledOf
+  sought-hit h e =
+      let p = s .place in
+      let f : findFrom t b x labels 0 ≡ s .i = sym (s .same) ∙ find-hit t b x (labels - s .i) (s .i) (omega arith) (sym word-at ∙ e) in
+      let g : s .i < labels = omega arith in
+      rw (f, lt-ltb (s .i) labels g) (ap (labelOf t) (s .place))
+
+  pub sought-next : at < b + 2 * labels → (wordAt t at ≡ x → ⊥) → Sought t b labels x (at + 2)
+  sought-next h e =
+      let p = s .place in
+      record {
+        i = s .i + 1;
+        place = omega arith;
+        within = omega arith;
+        same = sym (find-miss t b x (labels - s .i) (labels - (s .i + 1)) (s .i) (omega arith) (λ q. e (word-at ∙ q))) ∙ s .same;
+      }
+
+  pub sought-none : b + 2 * labels ≤ at → otherwiseOf (size t) (b + 2 * labels) ≡ labelledOf t b labels x
+  unfolding labelledOf
+  sought-none h =
+      let p = s .place in
+      let w = s .within in
+      let f : findFrom t b x labels 0 ≡ s .i = sym (s .same) ∙ find-end t b x (labels - s .i) (s .i) (omega arith) in
+      let g : labels ≤ s .i = omega arith in
+      rw (f, le-ltb (s .i) labels g)
+
 -- The numbers 0 to 13
 
 -- a number below k + 1 that is not k is below k
@@ -39,18 +83,23 @@ less k h ne = omega arith
 pub zero-of : {n : ℕ} → n < 1 → n ≡ 0
 zero-of h = omega arith
 
-one-or-two : (b : Bool) → (if b then 1 else 2) ≤ 2
-one-or-two true = omega arith
-one-or-two false = omega arith
+-- an instruction of two words whose second is in the table of s words, or is not
+pub inside : {n len s : ℕ} (l : ℕ) → l + len - 1 ≤ n → n ≡ s → len ≡ 2 → leb (l + 2) (s + 1) ≡ true
+inside {n} {len} {s} l h e two = le-leb (l + 2) (s + 1) (omega arith)
 
--- no instruction below 14 is longer than two words
-pub at-most-two : (i : ℕ) → i < 14 → lengthOf i ≤ 2
-unfolding lengthOf lengthRule
-at-most-two zero h = omega arith
-at-most-two (suc k) h = rw (length-rule (suc k) (omega arith) (omega arith)) (one-or-two (eqb (suc k) 4 || eqb (suc k) 9 || eqb (suc k) 12))
+pub behind : {n len s : ℕ} (l : ℕ) → n < l + len - 1 → n ≡ s → len ≡ 2 → leb (l + 2) (s + 1) ≡ false
+behind {n} {len} {s} l h e two = lt-leb (l + 2) (s + 1) (omega arith)
 
--- an instruction k whose length is 2, as antt computes it, has its operand inside
-pub operand-inside : {n l i : ℕ} (k : ℕ) → l + lengthOf i ≤ n + 1 → i ≡ k → T (eqb (lengthOf k) 2) → l < n
-operand-inside {n} {l} {i} k w e two =
-    let length : lengthOf i ≡ 2 = ap lengthOf e ∙ eqb→eq (lengthOf k) 2 two in
-    omega arith
+-- an instruction of one word that was fetched is in the table
+pub here : {n l s : ℕ} → l ≤ n → n ≡ s → leb (l + 1) (s + 1) ≡ true
+here {n} {l} {s} h e = le-leb (l + 1) (s + 1) (omega arith)
+
+-- 0 is no instruction
+pub nothing : (rs t k a : List ℕ) (room : ℕ) (q : Bool) (r : Registers) → Next.Outside ≡ fetchedOf rs t k a room q 0 r
+unfolding fetchedOf actOf lengths lengthOf
+nothing rs t k a room q r = split (leb (r .location + 0) (size t + 1)) (λ u. rw u) (λ u. rw u)
+
+-- a number above 13 is an operation's, or none at all
+pub above : (rs t k a : List ℕ) (room : ℕ) (q : Bool) (i : ℕ) (r : Registers) → (i < 14 → ⊥) → operateOf room q a i r ≡ fetchedOf rs t k a room q i r
+unfolding fetchedOf
+above rs t k a room q i r h = split (ltb i 14) (λ y. absurd (h (ltb-true i 14 y))) (λ y. rw y)

@@ -3,7 +3,7 @@ use mathlib.Core.Path.{_≡_, refl, sym, ap, _∙_}
 use mathlib.Core.Bool.{Bool, true, false}
 use mathlib.Core.List.{List, [], _∷_, _++_, reverse}
 use mathlib.Core.Option.{Option, none, some}
-use Prim.Native.Nat.{ℕ, zero, suc, _+_, _*_, _-_, _<_, _≤_}
+use Prim.Native.Nat.{ℕ, zero, suc, _+_, _*_, _-_, _%_, _<_, _≤_}
 use native.Mathlib.Omega.{arith}
 use lib.Dec.{eqb, leb, ltb}
 use lib.ListN.{length, take, getD, set, length-set, length-append}
@@ -31,7 +31,7 @@ use Rattle.walker.specs.declared.Target.the-variants.{Label, Otherwise}
 use Rattle.walker.specs.declared.Walk.{Walk}
 use Rattle.walker.specs.View.{reasonOf, phaseOf, eventOf, walkIn, walkOf}
 use Rattle.walker.specs.Shape.{size, operand, tableAt, choiceOf, defaultOf, takeInput, takeOther, moved, readOne, withResult, withParameter, withDepth, answeredOne, poppedTo, forwardOf, backOf, inputOf, anyOf, tellOf, inputChoiceOf, callOf, backTo, returnOf, askOf, answerOf, actOf, operateOf, fetchedOf, stepOf, putEvent, Outcome, ended, numberOf, goOf, first64, refusedOf, wholeOf, pausedOf}
-use Rattle.walker.proofs.LinkWords.{length-returns, clip-returns, over-event, count-putEvent, one-more, one-more-fits}
+use Rattle.walker.proofs.LinkWords.{Bytes, length-returns, clip-returns, over-event, count-putEvent, one-more, one-more-fits}
 use Rattle.walker.proofs.LinkStep.{withEvents, inCall, turnOf, modeOf, step-turn}
 
 -- What a step keeps: at most 64 return locations, answers used within their width, and room for an event that is told
@@ -95,9 +95,9 @@ module _ (room : ℕ) (r : Registers) (held : Held r) where
   operate-keeps q a i =
       either (ltb i 256) _ _ (λ y. out) (λ y.
       either (ltb i 512) _ _ (λ y. tell-keeps (r .location + 1) (Plain i)) (λ y.
-      either (ltb i 768) _ _ (λ y. tell-keeps (r .location + 1) (With i (r .parameter))) (λ y.
+      either (ltb i 768) _ _ (λ y. tell-keeps (r .location + 1) (With i (r .parameter % 65536))) (λ y.
       either (ltb i 1024) _ _ (λ y. answer-keeps q a (Plain i)) (λ y.
-      either (ltb i 1280) _ _ (λ y. answer-keeps q a (With i (r .parameter))) (λ y. out)))))
+      either (ltb i 1280) _ _ (λ y. answer-keeps q a (With i (r .parameter % 65536))) (λ y. out)))))
 
   module _ (rs t k : List ℕ) where
     forward-keeps : Keeps room (forwardOf t r)
@@ -159,7 +159,7 @@ module _ (room : ℕ) (r : Registers) (held : Held r) where
         either (eqb i 8) _ _ (λ y. call-keeps) (λ y.
         either (eqb i 9) _ _ (λ y. return-keeps) (λ y.
         either (eqb i 10) _ _ (λ y. goes-on (withResult (moved r (l + 2)) x) refl refl) (λ y.
-        either (eqb i 11) _ _ (λ y. other-keeps (choiceOf t l (r .result))) (λ y.
+        either (eqb i 11) _ _ (λ y. other-keeps (choiceOf t l (r .result % 65536))) (λ y.
         either (eqb i 12) _ _ (λ y. stop {x = Unlabelled}) (λ y.
         either (eqb i 13) _ _ (λ y. goes-on (withParameter (moved r (l + 2)) x) refl refl) (λ y. out)))))))))))))
 
@@ -216,7 +216,7 @@ ended-agrees s ph number steps e es r rs o h l b = record {
 
 -- Up to n steps
 
-module _ (t k a : List ℕ) (q : Bool) (s : List ℕ) where
+module _ (t k a : List ℕ) (q : Bool) (s : List ℕ) (small-t : Bytes t) (small-k : Bytes k) (small-a : Bytes a) where
   -- n steps from the registers r and the return locations rs, with the events es written to the buffer o and d steps done
   abbrev pub Runs : ℕ → Registers → List ℕ → List ℕ → ℕ → ℕ → List events.Event → Type 0
   Runs n r rs o e d es = Agrees s (goOf t k a q n r rs o e d) (run (tableOf t) (wordsOf k) n (modeOf q a) (count o - 3 * e) d (inCall es r rs))
@@ -264,17 +264,18 @@ module _ (t k a : List ℕ) (q : Bool) (s : List ℕ) where
   unfolding goOf run withEvents machine.inPhase machine.withIo walkIn phaseOf
   go-run zero r rs o e d es h held l b = ended-agrees s Going 36 d e es r rs o h l b
   go-run (suc n) r rs o e d es h held l b =
-      rw (step-turn t k a (count o - 3 * e) d q es r rs h (held .depth) (held .used), run)
+      rw (step-turn t k a (count o - 3 * e) d q es r rs h (held .depth) (held .used) small-t small-k small-a, run)
       (next n (go-run n) r rs o e d es h l b (stepOf rs t k a (count o - 3 * e) q r) (step-keeps (count o - 3 * e) r held rs t k a q))
 
--- Calls: for every walk struct, whatever its depth, an array of 64 return locations and answers used within their width
+-- Calls over bytes: for every walk struct, whatever its depth, an array of 64 return locations and answers used within their width
 
 -- the answer of a paused call, or none
 abbrev pub handed : Bool → ℕ → Option ℕ
 handed false x = none
 handed true x = some x
 
-module _ (t k : List ℕ) (n : ℕ) (w : Walk) (o : List ℕ) (sized : length (w .returns) ≡ 64) (used : w .at .used < 18446744073709551616) where
+module _ (t k : List ℕ) (n : ℕ) (w : Walk) (o : List ℕ) (sized : length (w .returns) ≡ 64) (used : w .at .used < 18446744073709551616)
+    (small-t : Bytes t) (small-k : Bytes k) where
   -- the walk as a call begins with it
   begins : (ph : Phase) → w .phase ≡ ph → machine.inPhase (phaseOf ph) (inCall [] (first64 (w .at)) (w .returns)) ≡ machine.atRest (walkOf w)
   unfolding walkOf withEvents walkIn machine.opened
@@ -288,11 +289,11 @@ module _ (t k : List ℕ) (n : ℕ) (w : Walk) (o : List ℕ) (sized : length (w
   nothing = refl
 
   -- from registers, with the whole buffer left
-  fresh-run : (a : List ℕ) (q : Bool) (r : Registers) → Held r
+  fresh-run : (a : List ℕ) (q : Bool) (r : Registers) → Bytes a → Held r
       → Agrees o (goOf t k a q n r (w .returns) o 0 0) (run (tableOf t) (wordsOf k) n (modeOf q a) (count o) 0 (inCall [] r (w .returns)))
-  fresh-run a q r h =
+  fresh-run a q r small-a h =
       let e : count o - 3 * 0 ≡ count o = omega arith in
-      rw e at (go-run t k a q o n r (w .returns) o 0 0 [] sized h refl nothing)
+      rw e at (go-run t k a q o small-t small-k small-a n r (w .returns) o 0 0 [] sized h refl nothing)
 
   refused-agrees : Agrees o (refusedOf w o) (record { number = 21; walk = walkOf w; events = []; steps = 0 })
   refused-agrees = record { number = refl; steps = refl; events = refl; walk = refl; out = nothing }
@@ -302,49 +303,54 @@ module _ (t k : List ℕ) (n : ℕ) (w : Walk) (o : List ℕ) (sized : length (w
   unfolding phaseOf
   stopped-agrees r e = rw (← begins (Stopped r) e, number-reason r) (ended-agrees o (Stopped r) (reasonNumber (reasonOf r)) 0 0 [] (first64 (w .at)) (w .returns) o sized refl nothing)
 
-  going-run : (a : List ℕ) (q : Bool) → w .phase ≡ Going
+  going-run : (a : List ℕ) (q : Bool) → Bytes a → w .phase ≡ Going
       → Agrees o (goOf t k a q n (first64 (w .at)) (w .returns) o 0 0) (run (tableOf t) (wordsOf k) n (modeOf q a) (count o) 0 (machine.atRest (walkOf w)))
   unfolding withEvents walkIn phaseOf machine.inPhase machine.withIo
-  going-run a q e = rw (← begins Going e) (fresh-run a q (first64 (w .at)) held)
+  going-run a q small-a e = rw (← begins Going e) (fresh-run a q (first64 (w .at)) small-a held)
+
+  no-bytes : Bytes []
+  no-bytes i = omega arith
 
   -- a waiting walk that is given its answer
-  answered-begins : (x : ℕ) → inCall [] (answeredOne (first64 (w .at)) x) (w .returns) ≡ machine.withAnswer x (machine.atRest (walkOf w))
+  answered-begins : (x : ℕ) → x < 65536 → inCall [] (answeredOne (first64 (w .at)) x) (w .returns) ≡ machine.withAnswer x (machine.atRest (walkOf w))
   unfolding walkOf withEvents walkIn machine.opened events.answered
-  answered-begins x = rw (rest-returns (w .returns) (w .at .depth) sized, clip-returns (w .returns) (w .at .depth) sized, one-more (w .at .used) used)
+  answered-begins x h =
+      let e : x % 65536 ≡ x = omega arith in
+      rw (e, rest-returns (w .returns) (w .at .depth) sized, clip-returns (w .returns) (w .at .depth) sized, one-more (w .at .used) used)
 
-  answered-run : (x : ℕ)
+  answered-run : (x : ℕ) → x < 65536
       → Agrees o (goOf t k [] true n (answeredOne (first64 (w .at)) x) (w .returns) o 0 0) (run (tableOf t) (wordsOf k) n (paused none) (count o) 0 (machine.withAnswer x (machine.atRest (walkOf w))))
-  answered-run x =
+  answered-run x small =
       let h : Held (answeredOne (first64 (w .at)) x) = record { depth = omega arith; used = one-more-fits (w .at .used) used } in
-      rw (← answered-begins x) (fresh-run [] true (answeredOne (first64 (w .at)) x) h)
+      rw (← answered-begins x small) (fresh-run [] true (answeredOne (first64 (w .at)) x) no-bytes h)
 
-  whole-in : (a : List ℕ) (ph : Phase) → w .phase ≡ ph
+  whole-in : (a : List ℕ) (ph : Phase) → Bytes a → w .phase ≡ ph
       → Agrees o (wholeOf t k a n w o ph) (callIn (tableOf t) (wordsOf k) (phaseOf ph) (whole (wordsOf a)) n (count o) (walkOf w))
   unfolding wholeOf callIn phaseOf
-  whole-in a Going e = going-run a false e
-  whole-in a Waiting e = refused-agrees
-  whole-in a (Stopped r) e = stopped-agrees r e
+  whole-in a Going small-a e = going-run a false small-a e
+  whole-in a Waiting small-a e = refused-agrees
+  whole-in a (Stopped r) small-a e = stopped-agrees r e
 
-  paused-in : (g : Bool) (x : ℕ) (ph : Phase) → w .phase ≡ ph
+  paused-in : (g : Bool) (x : ℕ) (ph : Phase) → x < 65536 → w .phase ≡ ph
       → Agrees o (pausedOf t k g x n w o ph) (callIn (tableOf t) (wordsOf k) (phaseOf ph) (paused (handed g x)) n (count o) (walkOf w))
   unfolding pausedOf callIn phaseOf
-  paused-in false x Going e = going-run [] true e
-  paused-in true x Going e = refused-agrees
-  paused-in false x Waiting e = refused-agrees
-  paused-in true x Waiting e = answered-run x
-  paused-in false x (Stopped r) e = stopped-agrees r e
-  paused-in true x (Stopped r) e = refused-agrees
+  paused-in false x Going h e = going-run [] true no-bytes e
+  paused-in true x Going h e = refused-agrees
+  paused-in false x Waiting h e = refused-agrees
+  paused-in true x Waiting h e = answered-run x h
+  paused-in false x (Stopped r) h e = stopped-agrees r e
+  paused-in true x (Stopped r) h e = refused-agrees
 
   -- a whole call
-  pub whole-call : (a : List ℕ) → Agrees o (wholeOf t k a n w o (w .phase)) (callWalk (tableOf t) (wordsOf k) (whole (wordsOf a)) n (count o) (walkOf w))
+  pub whole-call : (a : List ℕ) → Bytes a → Agrees o (wholeOf t k a n w o (w .phase)) (callWalk (tableOf t) (wordsOf k) (whole (wordsOf a)) n (count o) (walkOf w))
   unfolding callWalk walkOf walkIn
-  whole-call a = whole-in a (w .phase) refl
+  whole-call a small-a = whole-in a (w .phase) small-a refl
 
   -- a paused call, with an answer or none
-  pub paused-call : (g : Bool) (x : ℕ)
+  pub paused-call : (g : Bool) (x : ℕ) → x < 65536
       → Agrees o (pausedOf t k g x n w o (w .phase)) (callWalk (tableOf t) (wordsOf k) (paused (handed g x)) n (count o) (walkOf w))
   unfolding callWalk walkOf walkIn
-  paused-call g x = paused-in g x (w .phase) refl
+  paused-call g x h = paused-in g x (w .phase) h refl
 
 -- A refused call leaves the very struct and the buffer as they were
 

@@ -3,7 +3,7 @@ use mathlib.Core.Path.{_≡_, refl, sym, ap, subst, _∙_}
 use mathlib.Core.Bool.{Bool, true, false}
 use mathlib.Core.List.{List, [], _∷_, _++_, reverse}
 use mathlib.Core.Option.{Option, none, some}
-use Prim.Native.Nat.{ℕ, zero, suc, _+_, _*_, _-_, _<_, _≤_}
+use Prim.Native.Nat.{ℕ, zero, suc, _+_, _*_, _-_, _%_, _<_, _≤_}
 use native.Mathlib.Numerals.{add-one}
 use native.Mathlib.Omega.{arith}
 use lib.Dec.{eqb, leb, ltb}
@@ -33,7 +33,7 @@ use Rattle.walker.specs.declared.Target.{Target}
 use Rattle.walker.specs.declared.Target.the-variants.{Label, Otherwise}
 use Rattle.walker.specs.View.{reasonOf, eventOf, walkIn}
 use Rattle.walker.specs.Shape.{size, findFrom, operand, otherwiseOf, labelOf, labelledOf, tableAt, labelsAt, insideTable, choiceOf, defaultOf, takeInput, takeOther, moved, withResult, withParameter, withDepth, forwardOf, backOf, inputOf, anyOf, tellOf, inputChoiceOf, callOf, backTo, returnOf, askOf, answerOf, actOf, operateOf, fetchedOf, stepOf}
-use Rattle.walker.proofs.LinkWords.{word-in, word-out, length-table, fetch-in, fetch-at, fetch-zero, fetch-behind, fetch-out, push-returns, pop-returns, length-returns, eqb-comm, one-more}
+use Rattle.walker.proofs.LinkWords.{Bytes, word-small, word-in, word-out, length-table, fetch-in, fetch-at, fetch-zero, fetch-behind, fetch-out, push-returns, pop-returns, length-returns, eqb-comm, one-more}
 
 -- the walk of the machine inside a call that has written the events es
 unfoldable pub withEvents : List events.Event → machine.Walk → machine.Walk
@@ -88,7 +88,7 @@ module _ (t K : List ℕ) where
       (λ y. rw (g, y, eqb-comm x (wordAt t (b + 2 * i)) ∙ y) (seek-find b c x left (i + 1) (l + 2) (omega arith) h (omega arith)))
 
   label-lands : (b c i : ℕ) (taken w : machine.Walk) → i < c → b + 2 * c ≤ size t
-      → landed (tableOf t) K (some (b + 2 * i + 2)) (b + 1 + 2 * c) taken w ≡ landOf (labelOf t b i) taken w
+      → landed (tableOf t) K (some (b + 2 * i + 2)) (b + 1 + 2 * c) taken w ≡ landOf (labelOf t (b + 2 * i)) taken w
   unfolding landed labelOf landOf
   label-lands b c i taken w h f =
       let x = wordAt t (b + 2 * i + 1) in
@@ -98,7 +98,7 @@ module _ (t K : List ℕ) where
       (λ y. let z = ltb-true x (b + 2 * i + 2) y in rw (g, landed, y) (go-in (b + 2 * i + 2 - x) taken (omega arith) (omega arith)))
       (λ y. let z = ltb-false x (b + 2 * i + 2) y in let o : b + 2 * i + 2 - x ≡ 0 = omega arith in rw (g, landed, y, o) (go-zero taken))
 
-  otherwise-lands : (b c : ℕ) (taken w : machine.Walk) → landed (tableOf t) K none (b + 1 + 2 * c) taken w ≡ landOf (otherwiseOf (size t) b c) taken w
+  otherwise-lands : (b c : ℕ) (taken w : machine.Walk) → landed (tableOf t) K none (b + 1 + 2 * c) taken w ≡ landOf (otherwiseOf (size t) (b + 2 * c)) taken w
   unfolding landed otherwiseOf landOf
   otherwise-lands b c taken w =
       let e : b + 1 + 2 * c ≡ b + 2 * c + 1 = omega arith in
@@ -137,7 +137,7 @@ module _ (t K : List ℕ) where
   default-lands : (l : ℕ) (taken w : machine.Walk)
       → branched (tableOf t) K (fetch (tableOf t) (tableAt t l)) none (tableAt t l) taken w ≡ landOf (defaultOf t l) taken w
   unfolding seekBy
-  default-lands l taken w = inside-lands l none (otherwiseOf (size t) (tableAt t l) (labelsAt t l)) taken w (λ f. otherwise-lands (tableAt t l) (labelsAt t l) taken w)
+  default-lands l taken w = inside-lands l none (otherwiseOf (size t) (tableAt t l + 2 * labelsAt t l)) taken w (λ f. otherwise-lands (tableAt t l) (labelsAt t l) taken w)
 
 -- Instructions: r and rs at a call that has written es and has done n steps, with so much room left
 
@@ -199,24 +199,24 @@ module _ (t k : List ℕ) (m : Mode) (room n : ℕ) (es : List events.Event) (r 
   other-same (Otherwise l) = refl
   other-same Target.Outside = refl
 
-  taken-same : (x : ℕ) (g : Target) → Same (landOf g (machine.withIo (took (inCall es r rs .io)) (machine.withResult x (inCall es r rs))) (machine.withResult x (inCall es r rs))) (takeInput r x g)
+  taken-same : (x : ℕ) (g : Target) → x % 65536 ≡ x → Same (landOf g (machine.withIo (took (inCall es r rs .io)) (machine.withResult x (inCall es r rs))) (machine.withResult x (inCall es r rs))) (takeInput r x g)
   unfolding turn turnOf takeInput withEvents walkIn machine.opened landOf took
-  taken-same x (Label l) = refl
-  taken-same x (Otherwise l) = refl
-  taken-same x Target.Outside = refl
+  taken-same x (Label l) e = rw e
+  taken-same x (Otherwise l) e = rw e
+  taken-same x Target.Outside e = refl
 
-  choice-same : Same (exec (tableOf t) (wordsOf k) (decoding.choice (tableAt t (r .location))) (inCall es r rs)) (takeOther r (choiceOf t (r .location) (r .result)))
+  choice-same : Same (exec (tableOf t) (wordsOf k) (decoding.choice (tableAt t (r .location))) (inCall es r rs)) (takeOther r (choiceOf t (r .location) (r .result % 65536)))
   unfolding exec withEvents walkIn machine.withIo
-  choice-same = ap (turn m room n (inCall es r rs)) (choice-lands t (wordsOf k) (r .location) (r .result) (inCall es r rs) (inCall es r rs)) ∙ other-same (choiceOf t (r .location) (r .result))
+  choice-same = ap (turn m room n (inCall es r rs)) (choice-lands t (wordsOf k) (r .location) (r .result % 65536) (inCall es r rs) (inCall es r rs)) ∙ other-same (choiceOf t (r .location) (r .result % 65536))
 
-  inputChoice-same : Same (exec (tableOf t) (wordsOf k) (decoding.inputChoice (tableAt t (r .location))) (inCall es r rs)) (inputChoiceOf t k r)
+  inputChoice-same : Bytes k → Same (exec (tableOf t) (wordsOf k) (decoding.inputChoice (tableAt t (r .location))) (inCall es r rs)) (inputChoiceOf t k r)
   unfolding exec inputChoosing inputChoiceOf
-  inputChoice-same =
+  inputChoice-same small =
       let w = inCall es r rs in
       let x = wordAt k (r .read) in
       split (ltb (r .read) (count k))
       (λ y. rw (present-in (ltb-true (r .read) (count k) y), y)
-      (ap (turn m room n w) (choice-lands t (wordsOf k) (r .location) x (machine.withIo (took (w .io)) (machine.withResult x w)) (machine.withResult x w)) ∙ taken-same x (choiceOf t (r .location) x)))
+      (ap (turn m room n w) (choice-lands t (wordsOf k) (r .location) x (machine.withIo (took (w .io)) (machine.withResult x w)) (machine.withResult x w)) ∙ taken-same x (choiceOf t (r .location) x) (word-small k small (r .read))))
       (λ y. rw (present-out (ltb-false (r .read) (count k) y), y)
       (ap (turn m room n w) (default-lands t (wordsOf k) (r .location) w w) ∙ other-same (defaultOf t (r .location))))
 
@@ -267,14 +267,14 @@ module _ (t k a : List ℕ) (room n : ℕ) (es : List events.Event) (r : Registe
       (λ y. rw (y, le-ltb room 3 (leb-true 3 room y)))
       (λ y. rw (y, lt-ltb room 3 (leb-false 3 room y)))
 
-  takes-same : (e : Event) → r .used < 18446744073709551616
+  takes-same : (e : Event) → Bytes a → r .used < 18446744073709551616
       → Same t k (whole (wordsOf a)) room n es r rs (asks (eventOf e) (machine.moved (r .location + 1) (inCall es r rs))) (answerOf room false a e r)
   unfolding turn turnOf answerOf askOf withEvents walkIn machine.opened writing events.wrote events.answered handsOut takes answer reasonOf
-  takes-same e h =
+  takes-same e small h =
       split (leb 3 room)
       (λ y. rw (y, le-ltb room 3 (leb-true 3 room y))
       (split (ltb (r .used) (count a))
-      (λ z. rw (z, word-in a (r .used) (ltb-true (r .used) (count a) z), one-more (r .used) h))
+      (λ z. rw (z, word-in a (r .used) (ltb-true (r .used) (count a) z), one-more (r .used) h, word-small a small (r .used)))
       (λ z. rw (z, word-out a (r .used) (ltb-false (r .used) (count a) z)))))
       (λ y. rw (y, lt-ltb room 3 (leb-false 3 room y)))
 
@@ -293,7 +293,7 @@ or-above P n p above i h =
     (λ y. let ne : i ≡ n → ⊥ = eqb-false i n y in above i (omega arith))
 
 module _ (t k a : List ℕ) (room n : ℕ) (q : Bool) (es : List events.Event) (r : Registers) (rs : List ℕ) (sized : length rs ≡ 64)
-    (shallow : r .depth ≤ 64) (fits : r .used < 18446744073709551616) (inside : r .location ≤ size t) where
+    (shallow : r .depth ≤ 64) (fits : r .used < 18446744073709551616) (inside : r .location ≤ size t) (small-t : Bytes t) (small-k : Bytes k) (small-a : Bytes a) where
   -- the machine's instruction and the code's next are the same turn of the call
   abbrev Does : decoding.Instruction → Next → Type 0
   Does i y = Same t k (modeOf q a) room n es r rs (exec (tableOf t) (wordsOf k) i (inCall es r rs)) y
@@ -355,13 +355,13 @@ module _ (t k a : List ℕ) (room n : ℕ) (q : Bool) (es : List events.Event) (
       (λ b₂. let h₂ = ltb-true i 512 b₂ in operation-same i (tellOf room (r .location + 1) (Plain i) r) h₁ (omega arith) (rw (b₁, b₂)) (rw b₂ (tell (r .location + 1) (Plain i))))
       (λ b₂. let h₂ = ltb-false i 512 b₂ in
       split (ltb i 768)
-      (λ b₃. let h₃ = ltb-true i 768 b₃ in operation-same i (tellOf room (r .location + 1) (With i (r .parameter)) r) h₁ (omega arith) (rw (b₁, b₂, b₃)) (rw (b₂, b₃) (tell (r .location + 1) (With i (r .parameter)))))
+      (λ b₃. let h₃ = ltb-true i 768 b₃ in operation-same i (tellOf room (r .location + 1) (With i (r .parameter % 65536)) r) h₁ (omega arith) (rw (b₁, b₂, b₃)) (rw (b₂, b₃) (tell (r .location + 1) (With i (r .parameter % 65536)))))
       (λ b₃. let h₃ = ltb-false i 768 b₃ in
       split (ltb i 1024)
       (λ b₄. let h₄ = ltb-true i 1024 b₄ in operation-same i (answerOf room q a (Plain i) r) h₁ (omega arith) (rw (b₁, b₂, b₃, b₄)) (rw (b₂, b₃, b₄) (asks-same q (Plain i))))
       (λ b₄. let h₄ = ltb-false i 1024 b₄ in
       split (ltb i 1280)
-      (λ b₅. let h₅ = ltb-true i 1280 b₅ in operation-same i (answerOf room q a (With i (r .parameter)) r) h₁ h₅ (rw (b₁, b₂, b₃, b₄, b₅)) (rw (b₂, b₃, b₄) (asks-same q (With i (r .parameter)))))
+      (λ b₅. let h₅ = ltb-true i 1280 b₅ in operation-same i (answerOf room q a (With i (r .parameter % 65536)) r) h₁ h₅ (rw (b₁, b₂, b₃, b₄, b₅)) (rw (b₂, b₃, b₄) (asks-same q (With i (r .parameter % 65536)))))
       (λ b₅. let h₅ = ltb-false i 1280 b₅ in none-same i (length-above i h₅) (rw (le-ltb i 14 (omega arith), b₁, b₂, b₃, b₄, b₅)))))))
     where
       tell : (l : ℕ) (e : Event) → Same t k (modeOf q a) room n es r rs (tells (eventOf e) (machine.moved l (inCall es r rs))) (tellOf room l e r)
@@ -369,7 +369,7 @@ module _ (t k a : List ℕ) (room n : ℕ) (q : Bool) (es : List events.Event) (
 
       asks-same : (p : Bool) (e : Event) → Same t k (modeOf p a) room n es r rs (asks (eventOf e) (machine.moved (r .location + 1) (inCall es r rs))) (answerOf room p a e r)
       asks-same true e = waits-same t k a room n es r rs e
-      asks-same false e = takes-same t k a room n es r rs e fits
+      asks-same false e = takes-same t k a room n es r rs e small-a fits
 
   numbers-same : (i : ℕ) → Number i
   unfolding turn turnOf exec actOf decodeOne decodeTwo lengthOf lengths withEvents walkIn machine.opened eventOf reasonOf
@@ -381,13 +381,13 @@ module _ (t k a : List ℕ) (room n : ℕ) (q : Bool) (es : List events.Event) (
       (or-above Number 4 (single-same 4 (anyOf k r) refl refl refl (any-same t k m room n es r rs))
       (or-above Number 5 (two-same 5 (tellOf room (r .location + 2) (Output x) r) refl refl refl (λ h. tell-same t k m room n es r rs (r .location + 2) (Output x)))
       (or-above Number 6 (two-same 6 (tellOf room (r .location + 2) (Event.Error x) r) refl refl refl (λ h. tell-same t k m room n es r rs (r .location + 2) (Event.Error x)))
-      (or-above Number 7 (two-same 7 (inputChoiceOf t k r) refl refl refl (λ h. inputChoice-same t k m room n es r rs))
+      (or-above Number 7 (two-same 7 (inputChoiceOf t k r) refl refl refl (λ h. inputChoice-same t k m room n es r rs small-k))
       (or-above Number 8 (two-same 8 (callOf t r) refl refl refl (λ h. call-same t k m room n es r rs sized))
       (or-above Number 9 (single-same 9 (returnOf rs t r) refl refl refl (return-same t k m room n es r rs sized shallow))
-      (or-above Number 10 (two-same 10 (On (withResult (moved r (r .location + 2)) x)) refl refl refl (λ h. refl))
-      (or-above Number 11 (two-same 11 (takeOther r (choiceOf t (r .location) (r .result))) refl refl refl (λ h. choice-same t k m room n es r rs))
+      (or-above Number 10 (two-same 10 (On (withResult (moved r (r .location + 2)) x)) refl refl refl (λ h. rw (word-small t small-t (r .location))))
+      (or-above Number 11 (two-same 11 (takeOther r (choiceOf t (r .location) (r .result % 65536))) refl refl refl (λ h. choice-same t k m room n es r rs))
       (or-above Number 12 (single-same 12 (Stop Unlabelled) refl refl refl refl)
-      (or-above Number 13 (two-same 13 (On (withParameter (moved r (r .location + 2)) x)) refl refl refl (λ h. refl))
+      (or-above Number 13 (two-same 13 (On (withParameter (moved r (r .location + 2)) x)) refl refl refl (λ h. rw (word-small t small-t (r .location))))
       operations-same))))))))))))) i (omega arith)
     where
       m : Mode
@@ -398,15 +398,15 @@ module _ (t k a : List ℕ) (room n : ℕ) (q : Bool) (es : List events.Event) (
 
 -- A step of the code's definitions is a turn of the machine's: `paused` for q true, `whole` over the answers a for q false
 pub step-turn : (t k a : List ℕ) (room n : ℕ) (q : Bool) (es : List events.Event) (r : Registers) (rs : List ℕ)
-    → length rs ≡ 64 → r .depth ≤ 64 → r .used < 18446744073709551616
+    → length rs ≡ 64 → r .depth ≤ 64 → r .used < 18446744073709551616 → Bytes t → Bytes k → Bytes a
     → turn (modeOf q a) room n (inCall es r rs) (step (tableOf t) (wordsOf k) (inCall es r rs)) ≡ turnOf room n es r rs (stepOf rs t k a room q r)
 unfolding turn turnOf step exec decoding.decode decoding.decodeAt stepOf withEvents walkIn machine.withIo
-step-turn t k a room n q es r rs s d f =
+step-turn t k a room n q es r rs s d f small-t small-k small-a =
     let l = r .location in
     split (eqb l 0)
     (λ y. rw (ap (fetch (tableOf t)) (eqb-true l 0 y) ∙ fetch-zero t, y))
     (λ y. let ne : l ≡ 0 → ⊥ = eqb-false l 0 y in
     split (leb l (size t))
     (λ z. let b = leb-true l (size t) z in
-    rw (fetch-at t l (omega arith) b, y, z) (numbers-same t k a room n q es r rs s d f b (wordAt t (l - 1))))
+    rw (fetch-at t l (omega arith) b, y, z) (numbers-same t k a room n q es r rs s d f b small-t small-k small-a (wordAt t (l - 1))))
     (λ z. rw (fetch-out t l (leb-false l (size t) z), y, z)))

@@ -39,6 +39,18 @@ word-in s i h = elem-in (wordsOf s) i (rw (length-wordsOf s) h) ∙ ap some (get
 pub word-out : (s : List ℕ) (i : ℕ) → count s ≤ i → getElem? (wordsOf s) i ≡ none
 word-out s i h = elem-out (wordsOf s) i (rw (length-wordsOf s) h)
 
+-- each number of the list is a byte
+abbrev pub Bytes : List ℕ → Type 0
+Bytes s = (i : ℕ) → getD s i 0 < 256
+
+pub word-below : (s : List ℕ) → Bytes s → (i : ℕ) → wordAt s i < 65536
+unfolding wordAt
+word-below s b i = omega (arith, b (2 * i), b (2 * i + 1))
+
+-- a word of bytes is its 16 bits
+pub word-small : (s : List ℕ) → Bytes s → (i : ℕ) → wordAt s i % 65536 ≡ wordAt s i
+word-small s b i = omega (arith, word-below s b i)
+
 -- Words of a table
 
 pub length-table : (t : List ℕ) → length (tableOf t) ≡ size t

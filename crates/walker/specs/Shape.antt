@@ -38,6 +38,10 @@ putEvent o i (Event.Error n) = setWord (setWord (setWord o i 2) (i + 1) n) (i + 
 putEvent o i (Plain op) = setWord (setWord (setWord o i 3) (i + 1) op) (i + 2) 0
 putEvent o i (With op v) = setWord (setWord (setWord o i 3) (i + 1) op) (i + 2) v
 
+-- the word x with its bytes exchanged
+unfoldable pub swapped : ℕ → ℕ
+swapped x = x % 256 * 256 + x / 256
+
 -- the index of the first of the left labels from i on that is x, or i + left; labels stand at every second word from b
 unfoldable pub findFrom : List ℕ → ℕ → ℕ → ℕ → ℕ → ℕ
 findFrom t b x zero i = i
@@ -80,16 +84,17 @@ pushed w l = record { phase = w .phase; at = withDepth (w .at) (w .at .depth + 1
 abbrev pub operand : List ℕ → ℕ → ℕ
 operand t l = wordAt t l
 
--- where a choice goes whose table has c labels after its count at location b: past it
-unfoldable pub otherwiseOf : ℕ → ℕ → ℕ → Target
-otherwiseOf n b c = if leb (b + 2 * c + 1) n then Otherwise (b + 2 * c + 1) else Target.Outside
+-- where a choice goes whose table ends with location e: past it
+unfoldable pub otherwiseOf : ℕ → ℕ → Target
+otherwiseOf n e = if leb (e + 1) n then Otherwise (e + 1) else Target.Outside
 
--- to the alternative of the label at index i
-unfoldable pub labelOf : List ℕ → ℕ → ℕ → Target
-labelOf t b i = if ltb (wordAt t (b + 2 * i + 1)) (b + 2 * i + 2) then Label (b + 2 * i + 2 - wordAt t (b + 2 * i + 1)) else Target.Outside
+-- to the alternative of the label at index p
+unfoldable pub labelOf : List ℕ → ℕ → Target
+labelOf t p = if ltb (wordAt t (p + 1)) (p + 2) then Label (p + 2 - wordAt t (p + 1)) else Target.Outside
 
+-- with x, by the c labels from index b on
 unfoldable pub labelledOf : List ℕ → ℕ → ℕ → ℕ → Target
-labelledOf t b c x = if ltb (findFrom t b x c 0) c then labelOf t b (findFrom t b x c 0) else otherwiseOf (size t) b c
+labelledOf t b c x = if ltb (findFrom t b x c 0) c then labelOf t (b + 2 * findFrom t b x c 0) else otherwiseOf (size t) (b + 2 * c)
 
 -- the location of the choice table of the instruction at l, and its count
 abbrev pub tableAt : List ℕ → ℕ → ℕ
@@ -106,7 +111,7 @@ abbrev pub choiceOf : List ℕ → ℕ → ℕ → Target
 choiceOf t l x = insideTable t l (labelledOf t (tableAt t l) (labelsAt t l) x)
 
 abbrev pub defaultOf : List ℕ → ℕ → Target
-defaultOf t l = insideTable t l (otherwiseOf (size t) (tableAt t l) (labelsAt t l))
+defaultOf t l = insideTable t l (otherwiseOf (size t) (tableAt t l + 2 * labelsAt t l))
 
 -- an input choice with the present token x
 unfoldable pub takeInput : Registers → ℕ → Target → Next
@@ -182,7 +187,7 @@ actOf rs t k room i r =
     else if eqb i 8 then callOf t r
     else if eqb i 9 then returnOf rs t r
     else if eqb i 10 then On (withResult (moved r (r .location + 2)) (operand t (r .location)))
-    else if eqb i 11 then takeOther r (choiceOf t (r .location) (r .result))
+    else if eqb i 11 then takeOther r (choiceOf t (r .location) (r .result % 65536))
     else if eqb i 12 then Stop Unlabelled
     else if eqb i 13 then On (withParameter (moved r (r .location + 2)) (operand t (r .location)))
     else Next.Outside
@@ -192,16 +197,20 @@ unfoldable pub operateOf : ℕ → Bool → List ℕ → ℕ → Registers → N
 operateOf room paused a i r =
     if ltb i 256 then Next.Outside
     else if ltb i 512 then tellOf room (r .location + 1) (Plain i) r
-    else if ltb i 768 then tellOf room (r .location + 1) (With i (r .parameter)) r
+    else if ltb i 768 then tellOf room (r .location + 1) (With i (r .parameter % 65536)) r
     else if ltb i 1024 then answerOf room paused a (Plain i) r
-    else if ltb i 1280 then answerOf room paused a (With i (r .parameter)) r
+    else if ltb i 1280 then answerOf room paused a (With i (r .parameter % 65536)) r
     else Next.Outside
+
+-- x, if the table has the whole instruction at r, of so many words
+abbrev pub inFull : List ℕ → ℕ → Registers → Next → Next
+inFull t len r x = if leb (r .location + len) (size t + 1) then x else Next.Outside
 
 -- the instruction i was fetched at r
 unfoldable pub fetchedOf : List ℕ → List ℕ → List ℕ → List ℕ → ℕ → Bool → ℕ → Registers → Next
 fetchedOf rs t k a room paused i r =
     if ltb i 14
-    then (if leb (r .location + lengthOf i) (size t + 1) then actOf rs t k room i r else Next.Outside)
+    then inFull t (lengthOf i) r (actOf rs t k room i r)
     else operateOf room paused a i r
 
 -- one step of a walk that goes on

@@ -1,6 +1,6 @@
 -- The walker's structs and enums as the machine's definitions have them.
 use mathlib.Core.List.{List, [], _∷_, reverse}
-use Prim.Native.Nat.{ℕ}
+use Prim.Native.Nat.{ℕ, _%_}
 use lib.ListN.{take}
 use Rattle.events.specs.Events as events
 use Rattle.machine.specs.Walk as machine
@@ -33,14 +33,14 @@ eventOf (Event.Error n) = events.signal n
 eventOf (Plain op) = events.operation op
 eventOf (With op v) = events.operationWith op v
 
--- registers and return locations in a phase: "more than 64 return locations are read as the first 64", the array having no more
+-- registers and return locations in a phase, words by their 16 bits: "more than 64 return locations are read as the first 64", the array having no more
 unfoldable pub walkIn : machine.Phase → Registers → List ℕ → machine.Walk
 walkIn ph r returns = record {
   phase = ph;
   location = r .location;
   returns = reverse (take (r .depth) returns);
-  result = r .result;
-  parameter = r .parameter;
+  result = r .result % 65536;
+  parameter = r .parameter % 65536;
   io = record { read = r .read; used = r .used; events = [] };
 }
 

@@ -1,13 +1,13 @@
 // The walker: whole and paused walks over a table of 16-bit words.
 ghost use mathlib.Core.Path.{_≡_};
-ghost use Prim.Native.Nat.{_+_, _*_, _<_, _≤_, _^_};
+ghost use Prim.Native.Nat.{_+_, _*_, _%_, _<_, _≤_, _^_};
 ghost use Rattle.machine.specs.Bytes.{count, wordAt};
 ghost use Rattle.machine.specs.Lengths.{lengths, lengthOf};
-ghost use Rattle.walker.specs.Shape.{size, setWord, putEvent, findFrom, numberOf};
+ghost use Rattle.walker.specs.Shape.{size, setWord, putEvent, swapped, numberOf};
 ghost use Rattle.walker.specs.Shape.{moved, readOne, answeredOne, withResult, withParameter, poppedTo, withDepth, first64};
 ghost use Rattle.walker.specs.Shape.{otherwiseOf, labelOf, labelledOf, choiceOf, defaultOf, takeOther};
 ghost use Rattle.walker.specs.Shape.{forwardOf, backOf, inputOf, anyOf, tellOf, inputChoiceOf, callOf, backTo, returnOf, answerOf};
-ghost use Rattle.walker.specs.Shape.{actOf, operateOf, stepOf, goOf, wholeOf, pausedOf};
+ghost use Rattle.walker.specs.Shape.{inFull, operateOf, fetchedOf, stepOf, goOf, wholeOf, pausedOf};
 
 // Why a walk has stopped for good.
 pub enum Reason {
@@ -40,8 +40,9 @@ pub struct Registers {
     pub location: usize,
     // return locations held; more than 64 are read as the first 64
     pub depth: usize,
-    pub result: u16,
-    pub parameter: u16,
+    // words, read modulo 65,536; wide, as two narrow fields that share a machine word make each step wait for its stores
+    pub result: u64,
+    pub parameter: u64,
     // tokens read, answers used
     pub read: u64,
     pub used: u64,
@@ -91,6 +92,12 @@ fn wide(x: u8) -> u16
     ensures { λ r. ⌜ (r ≡ x) × (r < 256) ⌝ }
 {
     x as u16
+}
+
+fn narrow(x: u64) -> u16
+    ensures { λ r. ⌜ r ≡ x % 65536 ⌝ }
+{
+    (x % 65536) as u16
 }
 
 fn location_of(x: u16) -> usize
@@ -152,32 +159,26 @@ fn put_event(out: &mut [u8], i: usize, e: Event)
     }
 }
 
-// The first of so many labels, at every second word from index b, that is x: as many if there is none.
-fn find(t: &[u8], b: usize, labels: usize, x: u16) -> usize
-    requires { ⌜ b + 2 * labels ≤ count (now t) ⌝ }
-    ensures { λ r. ⌜ r ≡ findFrom (now (t .entry)) b x labels 0 ⌝ }
-    ensures { λ r. ⌜ r ≤ labels ⌝ }
+fn swap_bytes(x: u16) -> u16
+    ensures { λ r. ⌜ r ≡ swapped x ⌝ }
 {
-    let mut i = 0;
-    while i < labels {
-        if word(t, b + 2 * i) == x {
-            return i;
-        }
-        i += 1;
-    }
-    i
+    x % 256 * 256 + x / 256
 }
 
-// The words that instruction 0 to 13 takes, 0 for 0. The constant table is lent, so that a fetch does not make it anew.
+// The word at index i with its bytes exchanged: to the processor one load, where `word` is a load and an exchange.
+fn swapped_word(s: &[u8], i: usize) -> u16
+    requires { ⌜ i < count (now s) ⌝ }
+    ensures { λ r. ⌜ r ≡ swapped (wordAt (now (s .entry)) i) ⌝ }
+{
+    wide(s[2 * i]) + wide(s[2 * i + 1]) * 256
+}
+
+// The words that instruction 1 to 13 takes. The constant table is lent, so that a fetch does not make it anew.
 fn length_of(known: &[usize; 13], ins: u16) -> usize
-    requires { ⌜ (now known ≡ lengths) × (ins < 14) ⌝ }
+    requires { ⌜ (now known ≡ lengths) × (0 < ins) × (ins < 14) ⌝ }
     ensures { λ r. ⌜ r ≡ lengthOf ins ⌝ }
 {
-    let n = ins as usize;
-    if n == 0 {
-        return 0;
-    }
-    known[n - 1]
+    known[ins as usize - 1]
 }
 
 // The number of a call that leaves a walk stopped.
@@ -217,7 +218,7 @@ impl Registers {
     fn give_answer(mut self, x: u16) -> Registers
         ensures { λ r. ⌜ r ≡ answeredOne self x ⌝ }
     {
-        self.result = x;
+        self.result = x as u64;
         if self.used < 18446744073709551615 {
             self.used += 1;
         }
@@ -227,14 +228,14 @@ impl Registers {
     fn with_result(mut self, x: u16) -> Registers
         ensures { λ r. ⌜ r ≡ withResult self x ⌝ }
     {
-        self.result = x;
+        self.result = x as u64;
         self
     }
 
     fn with_parameter(mut self, x: u16) -> Registers
         ensures { λ r. ⌜ r ≡ withParameter self x ⌝ }
     {
-        self.parameter = x;
+        self.parameter = x as u64;
         self
     }
 
@@ -270,26 +271,25 @@ impl Registers {
 
 // Choices
 
-// Where a choice goes that has no label for it: past its table.
-fn otherwise(n: usize, b: usize, labels: usize) -> Target
-    requires { ⌜ (n ≤ 4096) × (b + 2 * labels ≤ n) ⌝ }
-    ensures { λ r. ⌜ r ≡ otherwiseOf n b labels ⌝ }
+// Where a choice goes that has no label for it: past its table, whose last word is the one at location end.
+fn otherwise(n: usize, end: usize) -> Target
+    requires { ⌜ (n ≤ 4096) × (end ≤ n) ⌝ }
+    ensures { λ r. ⌜ r ≡ otherwiseOf n end ⌝ }
 {
-    let to = b + 2 * labels + 1;
-    if to <= n {
-        Target::Otherwise(to)
+    if end < n {
+        Target::Otherwise(end + 1)
     } else {
         Target::Outside
     }
 }
 
-// The alternative of label i.
-fn label(t: &[u8], n: usize, b: usize, i: usize) -> Target
-    requires { ⌜ (n ≡ size (now t)) × (b + 2 * i + 2 ≤ n) ⌝ }
-    ensures { λ r. ⌜ r ≡ labelOf (now (t .entry)) b i ⌝ }
+// The alternative of the label at index at.
+fn label(t: &[u8], at: usize) -> Target
+    requires { ⌜ at + 2 ≤ size (now t) ⌝ }
+    ensures { λ r. ⌜ r ≡ labelOf (now (t .entry)) at ⌝ }
 {
-    let from = b + 2 * i + 2;
-    let d = word(t, b + 2 * i + 1) as usize;
+    let from = at + 2;
+    let d = word(t, at + 1) as usize;
     if d < from {
         Target::Label(from - d)
     } else {
@@ -297,16 +297,21 @@ fn label(t: &[u8], n: usize, b: usize, i: usize) -> Target
     }
 }
 
+// Where a choice goes with x: its labels stand at every second word from index b. They are compared with their bytes exchanged, which spares one each.
 fn labelled(t: &[u8], n: usize, b: usize, labels: usize, x: u16) -> Target
     requires { ⌜ (n ≡ size (now t)) × (b + 2 * labels ≤ n) ⌝ }
     ensures { λ r. ⌜ r ≡ labelledOf (now (t .entry)) b labels x ⌝ }
 {
-    let i = find(t, b, labels, x);
-    if i < labels {
-        label(t, n, b, i)
-    } else {
-        otherwise(n, b, labels)
+    let y = swap_bytes(x);
+    let end = b + 2 * labels;
+    let mut at = b;
+    while at < end {
+        if swapped_word(t, at) == y {
+            return label(t, at);
+        }
+        at += 2;
     }
+    otherwise(n, end)
 }
 
 // Where the choice at loc goes with x.
@@ -338,17 +343,22 @@ fn default_target(t: &[u8], n: usize, loc: usize) -> Target
     if n < b + 2 * labels {
         return Target::Outside;
     }
-    otherwise(n, b, labels)
+    otherwise(n, b + 2 * labels)
 }
 
 // Instructions
+//
+// One of two words tests for itself that the table has both: a test before the branch by number would be one more.
 
 impl Registers {
-    fn forward(self, t: &[u8], n: usize) -> Next
-        requires { ⌜ (n ≡ size (now t)) × (self .location < n) ⌝ }
-        ensures { λ r. ⌜ r ≡ forwardOf (now (t .entry)) self ⌝ }
+    fn forward(self, t: &[u8], n: usize, len: usize) -> Next
+        requires { ⌜ (n ≡ size (now t)) × (self .location ≤ n) × (len ≡ 2) ⌝ }
+        ensures { λ r. ⌜ r ≡ inFull (now (t .entry)) 2 self (forwardOf (now (t .entry)) self) ⌝ }
     {
         let loc = self.location;
+        if n < loc + len - 1 {
+            return Next::Outside;
+        }
         let to = loc + 1 + word(t, loc) as usize;
         if to <= n {
             Next::On(self.moved(to))
@@ -357,11 +367,14 @@ impl Registers {
         }
     }
 
-    fn back(self, t: &[u8], n: usize) -> Next
-        requires { ⌜ (n ≡ size (now t)) × (self .location < n) ⌝ }
-        ensures { λ r. ⌜ r ≡ backOf (now (t .entry)) self ⌝ }
+    fn back(self, t: &[u8], n: usize, len: usize) -> Next
+        requires { ⌜ (n ≡ size (now t)) × (self .location ≤ n) × (len ≡ 2) ⌝ }
+        ensures { λ r. ⌜ r ≡ inFull (now (t .entry)) 2 self (backOf (now (t .entry)) self) ⌝ }
     {
         let loc = self.location;
+        if n < loc + len - 1 {
+            return Next::Outside;
+        }
         let d = word(t, loc) as usize;
         if d <= loc {
             Next::On(self.moved(loc + 1 - d))
@@ -370,11 +383,14 @@ impl Registers {
         }
     }
 
-    fn input(self, t: &[u8], n: usize, tokens: &[u8]) -> Next
-        requires { ⌜ (n ≡ size (now t)) × (self .location < n) ⌝ }
-        ensures { λ r. ⌜ r ≡ inputOf (now (t .entry)) (now (tokens .entry)) self ⌝ }
+    fn input(self, t: &[u8], n: usize, len: usize, tokens: &[u8]) -> Next
+        requires { ⌜ (n ≡ size (now t)) × (self .location ≤ n) × (len ≡ 2) ⌝ }
+        ensures { λ r. ⌜ r ≡ inFull (now (t .entry)) 2 self (inputOf (now (t .entry)) (now (tokens .entry)) self) ⌝ }
     {
         let loc = self.location;
+        if n < loc + len - 1 {
+            return Next::Outside;
+        }
         let k = self.read as usize;
         if k < machine::count_words(tokens) {
             if word(tokens, k) == word(t, loc) {
@@ -411,6 +427,50 @@ impl Registers {
         }
     }
 
+    fn output(self, t: &[u8], n: usize, len: usize, room: usize) -> Next
+        requires { ⌜ (n ≡ size (now t)) × (self .location ≤ n) × (len ≡ 2) ⌝ }
+        ensures { λ r. ⌜ r ≡ inFull (now (t .entry)) 2 self (tellOf room (self .location + 2) (Event.Output (wordAt (now (t .entry)) (self .location))) self) ⌝ }
+    {
+        let loc = self.location;
+        if n < loc + len - 1 {
+            return Next::Outside;
+        }
+        self.tell(room, loc + 2, Event::Output(word(t, loc)))
+    }
+
+    fn error(self, t: &[u8], n: usize, len: usize, room: usize) -> Next
+        requires { ⌜ (n ≡ size (now t)) × (self .location ≤ n) × (len ≡ 2) ⌝ }
+        ensures { λ r. ⌜ r ≡ inFull (now (t .entry)) 2 self (tellOf room (self .location + 2) (Event.Error (wordAt (now (t .entry)) (self .location))) self) ⌝ }
+    {
+        let loc = self.location;
+        if n < loc + len - 1 {
+            return Next::Outside;
+        }
+        self.tell(room, loc + 2, Event::Error(word(t, loc)))
+    }
+
+    fn set_result(self, t: &[u8], n: usize, len: usize) -> Next
+        requires { ⌜ (n ≡ size (now t)) × (self .location ≤ n) × (len ≡ 2) ⌝ }
+        ensures { λ r. ⌜ r ≡ inFull (now (t .entry)) 2 self (Next.On (withResult (moved self (self .location + 2)) (wordAt (now (t .entry)) (self .location)))) ⌝ }
+    {
+        let loc = self.location;
+        if n < loc + len - 1 {
+            return Next::Outside;
+        }
+        Next::On(self.moved(loc + 2).with_result(word(t, loc)))
+    }
+
+    fn set_parameter(self, t: &[u8], n: usize, len: usize) -> Next
+        requires { ⌜ (n ≡ size (now t)) × (self .location ≤ n) × (len ≡ 2) ⌝ }
+        ensures { λ r. ⌜ r ≡ inFull (now (t .entry)) 2 self (Next.On (withParameter (moved self (self .location + 2)) (wordAt (now (t .entry)) (self .location)))) ⌝ }
+    {
+        let loc = self.location;
+        if n < loc + len - 1 {
+            return Next::Outside;
+        }
+        Next::On(self.moved(loc + 2).with_parameter(word(t, loc)))
+    }
+
     // A choice that reads no token.
     fn take_other(self, g: Target) -> Next
         ensures { λ r. ⌜ r ≡ takeOther self g ⌝ }
@@ -422,11 +482,25 @@ impl Registers {
         }
     }
 
-    fn input_choice(self, t: &[u8], n: usize, tokens: &[u8]) -> Next
-        requires { ⌜ (n ≡ size (now t)) × (self .location < n) ⌝ }
-        ensures { λ r. ⌜ r ≡ inputChoiceOf (now (t .entry)) (now (tokens .entry)) self ⌝ }
+    fn choice(self, t: &[u8], n: usize, len: usize) -> Next
+        requires { ⌜ (n ≡ size (now t)) × (self .location ≤ n) × (len ≡ 2) ⌝ }
+        ensures { λ r. ⌜ r ≡ inFull (now (t .entry)) 2 self (takeOther self (choiceOf (now (t .entry)) (self .location) (self .result % 65536))) ⌝ }
     {
         let loc = self.location;
+        if n < loc + len - 1 {
+            return Next::Outside;
+        }
+        self.take_other(choice_target(t, n, loc, narrow(self.result)))
+    }
+
+    fn input_choice(self, t: &[u8], n: usize, len: usize, tokens: &[u8]) -> Next
+        requires { ⌜ (n ≡ size (now t)) × (self .location ≤ n) × (len ≡ 2) ⌝ }
+        ensures { λ r. ⌜ r ≡ inFull (now (t .entry)) 2 self (inputChoiceOf (now (t .entry)) (now (tokens .entry)) self) ⌝ }
+    {
+        let loc = self.location;
+        if n < loc + len - 1 {
+            return Next::Outside;
+        }
         let k = self.read as usize;
         if k < machine::count_words(tokens) {
             let x = word(tokens, k);
@@ -441,11 +515,14 @@ impl Registers {
         }
     }
 
-    fn call(self, t: &[u8], n: usize) -> Next
-        requires { ⌜ (n ≡ size (now t)) × (self .location < n) ⌝ }
-        ensures { λ r. ⌜ r ≡ callOf (now (t .entry)) self ⌝ }
+    fn call(self, t: &[u8], n: usize, len: usize) -> Next
+        requires { ⌜ (n ≡ size (now t)) × (self .location ≤ n) × (len ≡ 2) ⌝ }
+        ensures { λ r. ⌜ r ≡ inFull (now (t .entry)) 2 self (callOf (now (t .entry)) self) ⌝ }
     {
         let loc = self.location;
+        if n < loc + len - 1 {
+            return Next::Outside;
+        }
         let to = word(t, loc) as usize;
         if to == 0 {
             return Next::Outside;
@@ -510,36 +587,38 @@ impl Registers {
 // Steps
 
 impl Registers {
-    // What instruction 1 to 13 does.
+    // What the instruction of this number does, at a location of the table. 0 has an arm so that the branch by number begins there.
     fn act(
         self,
+        known: &[usize; 13],
         returns: &[u16; 64],
         t: &[u8],
         n: usize,
         tokens: &[u8],
+        answers: &[u8],
         room: usize,
+        paused: bool,
         ins: u16,
     ) -> Next
-        requires { ⌜ (ins < 14) × (n ≡ size (now t)) × (self .location ≤ n) × (self .location + lengthOf ins ≤ n + 1) × (self .depth ≤ 64) ⌝ }
-        ensures { λ r. ⌜ r ≡ actOf (now (returns .entry)) (now (t .entry)) (now (tokens .entry)) room ins self ⌝ }
+        requires { ⌜ (now known ≡ lengths) × (n ≡ size (now t)) × (self .location ≤ n) × (self .depth ≤ 64) ⌝ }
+        ensures { λ r. ⌜ r ≡ fetchedOf (now (returns .entry)) (now (t .entry)) (now (tokens .entry)) (now (answers .entry)) room paused ins self ⌝ }
     {
-        let loc = self.location;
-        let at = loc;
         match ins {
-            1 => self.forward(t, n),
-            2 => self.back(t, n),
-            3 => self.input(t, n, tokens),
+            1 => self.forward(t, n, length_of(known, 1)),
+            2 => self.back(t, n, length_of(known, 2)),
+            3 => self.input(t, n, length_of(known, 3), tokens),
             4 => self.any(tokens),
-            5 => self.tell(room, loc + 2, Event::Output(word(t, at))),
-            6 => self.tell(room, loc + 2, Event::Error(word(t, at))),
-            7 => self.input_choice(t, n, tokens),
-            8 => self.call(t, n),
+            5 => self.output(t, n, length_of(known, 5), room),
+            6 => self.error(t, n, length_of(known, 6), room),
+            7 => self.input_choice(t, n, length_of(known, 7), tokens),
+            8 => self.call(t, n, length_of(known, 8)),
             9 => self.ret(returns, t, n),
-            10 => Next::On(self.moved(loc + 2).with_result(word(t, at))),
-            11 => self.take_other(choice_target(t, n, at, self.result)),
+            10 => self.set_result(t, n, length_of(known, 10)),
+            11 => self.choice(t, n, length_of(known, 11)),
             12 => Next::Stop(Reason::Unlabelled),
-            13 => Next::On(self.moved(loc + 2).with_parameter(word(t, at))),
-            _ => Next::Outside,
+            13 => self.set_parameter(t, n, length_of(known, 13)),
+            0 => Next::Outside,
+            _ => self.operate(answers, room, paused, ins),
         }
     }
 
@@ -554,11 +633,16 @@ impl Registers {
         } else if ins < 512 {
             self.tell(room, loc + 1, Event::Plain(ins))
         } else if ins < 768 {
-            self.tell(room, loc + 1, Event::With(ins, self.parameter))
+            self.tell(room, loc + 1, Event::With(ins, narrow(self.parameter)))
         } else if ins < 1024 {
             self.answer(room, paused, answers, Event::Plain(ins))
         } else if ins < 1280 {
-            self.answer(room, paused, answers, Event::With(ins, self.parameter))
+            self.answer(
+                room,
+                paused,
+                answers,
+                Event::With(ins, narrow(self.parameter)),
+            )
         } else {
             Next::Outside
         }
@@ -586,16 +670,17 @@ impl Registers {
         if n < at {
             return Next::Outside;
         }
-        let ins = word(t, at - 1);
-        if ins < 14 {
-            let len = length_of(known, ins);
-            if n + 1 < at + len {
-                return Next::Outside;
-            }
-            self.act(returns, t, n, tokens, room, ins)
-        } else {
-            self.operate(answers, room, paused, ins)
-        }
+        self.act(
+            known,
+            returns,
+            t,
+            n,
+            tokens,
+            answers,
+            room,
+            paused,
+            word(t, at - 1),
+        )
     }
 
     // One step of a walk that goes on, in any registers.

@@ -1,6 +1,7 @@
 -- `firmware::named` meets its contract: part by part.
 use borrow.Author.Needs.{needs}
 use Rattle.machine.specs.Bytes.{wordsOf}
+use Rattle.firmware.proofs.Calls.{small-words}
 use Rattle.firmware.proofs.Walks.{named-is}
 use Rattle.firmware.proofs.named.Statement.{statement}
 use Rattle.firmware.proofs.named.Tie as tie
@@ -26,8 +27,11 @@ returns c =
     let at = c .before .registers-of in
     let rs = c .returns-of in
     let first = c .before .before .before .before .word .ensures in
-    let second = c .before .before .before .word2 .ensures in
-    (named-is (p .result) (at .result) (rs .result) (wordsOf (c .before .before .before .before .before .before .args .s .now)) (rw (first, second) at (p .ensures)) (at .ensures .0) (rs .ensures), at .ensures .1)
+    let second = c .before .before .before .word2 .ensures in (
+      named-is (p .result) (at .result) (rs .result) (wordsOf (c .before .before .before .before .before .before .args .s .now)) (rw (first, second) at (p .ensures)) (at .ensures .0) (rs .ensures)
+          (small-words _ (λ i. c .before .before .before .before .before .shared-slice-known .given i .fits)),
+      at .ensures .1,
+    )
 
 pub named-spec : {M : Type 1} → statement M
 named-spec =

@@ -1,7 +1,7 @@
 -- `firmware::put_registers` meets its contract: three writes, one after the other.
 use mathlib.Core.List.{[], _∷_, _++_}
 use mathlib.Core.Path.{refl, ap, _∙_}
-use Prim.Native.Nat.{min}
+use Prim.Native.Nat.{_%_, min}
 use borrow.Author.Needs.{needs}
 use Rattle.machine.specs.Form as form
 use Rattle.firmware.specs.Writes.{puts, registerWords}
@@ -11,6 +11,12 @@ use Rattle.firmware.proofs.put_registers.Tie as tie
 
 cast-put-four : tie.Need-cast-put-four
 cast-put-four c = search needs
+
+narrow-requires : tie.Need-narrow-requires
+narrow-requires c κs = search needs
+
+narrow-requires-2 : tie.Need-narrow-requires-2
+narrow-requires-2 c κs = search needs
 
 held-of-requires : tie.Need-held-of-requires
 held-of-requires c κs = search needs
@@ -30,15 +36,17 @@ same-length c = search needs
 returns : tie.Need-returns
 unfolding registerWords form.words64
 returns c =
-    let a = c .before .before .before .before .before .before .before .before .before .before .before .before .before .before .before .args in
+    let a = c .before .before .before .before .before .before .before .before .before .before .before .before .before .before .before .before .before .args in
     let s = a .out .now in
     let r = a .r in
-    let first = r .location ∷ r .result ∷ r .parameter ∷ min (r .depth) 64 ∷ [] in
+    let first = r .location ∷ r .result % 65536 ∷ r .parameter % 65536 ∷ min (r .depth) 64 ∷ [] in
     let read = form.words64 (r .read) in
     let used = form.words64 (r .used) in
     let four = c .before .before .before .before .before .before .before .before .before .before .put-four .ensures in
     let held = c .before .before .before .before .before .before .before .before .before .before .before .held-of .ensures in
-    c .before .before .put-642 .ensures ∙ rw (c .before .before .before .before .before .before .put-64 .ensures, four, held)
+    let result = c .before .before .before .before .before .before .before .before .before .before .before .before .before .narrow .ensures in
+    let parameter = c .before .before .before .before .before .before .before .before .before .before .before .before .narrow2 .ensures in
+    c .before .before .put-642 .ensures ∙ rw (c .before .before .before .before .before .before .put-64 .ensures, four, held, result, parameter)
     (ap (λ t. puts t 10 used) (puts-then s 2 first read 6 refl) ∙ puts-then s 2 (first ++ read) used 10 refl)
 
 pub put-registers-spec : {M : Type 1} → statement M
@@ -46,6 +54,8 @@ put-registers-spec =
     tie.close
     (tie.spec
     cast-put-four
+    narrow-requires
+    narrow-requires-2
     held-of-requires
     put-four-requires
     put-64-requires

@@ -31,7 +31,7 @@ returns c =
     let parameter = c .before .before .word4 .ensures in
     let read = c .before .read-64 .ensures in
     let used = c .read-642 .ensures in
-    (λ i. record { location = location .0 i; depth = depth .0 i; result = result i; parameter = parameter i; read = read i; used = used i }, location .1)
+    (λ i. record { location = location .0 i; depth = depth .0 i; result = result .0 i; parameter = parameter .0 i; read = read i; used = used i }, location .1)
 
 pub registers-of-spec : {M : Type 1} → statement M
 registers-of-spec =

@@ -53,6 +53,12 @@ returns-2 c =
     let g : size (a .t .now) < tableAt (a .t .now) (a .loc) + 2 * labelsAt (a .t .now) (a .loc) = omega (arith, c .before .before .before .word .ensures, c .before .before .before .before .before .pre .0) in
     simp (le-leb _ _ h, lt-leb _ _ g)
 
+mul-otherwise : tie.Need-mul-otherwise
+mul-otherwise c = search needs
+
+add-otherwise : tie.Need-add-otherwise
+add-otherwise c = search needs
+
 otherwise-requires : tie.Need-otherwise-requires
 otherwise-requires c κs = search needs
 
@@ -80,5 +86,7 @@ default-target-spec =
     mul-if2
     add-if2
     returns-2
+    mul-otherwise
+    add-otherwise
     otherwise-requires
     returns-3)

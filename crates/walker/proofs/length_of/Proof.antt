@@ -5,12 +5,9 @@ use Prim.Native.Nat.{ℕ, _-_}
 use native.Mathlib.Omega.{arith}
 use lib.ListN.{getD}
 use borrow.Author.Needs.{needs}
-use Rattle.machine.proofs.Lengths.{length-none, length-entry}
+use Rattle.machine.proofs.Lengths.{length-entry}
 use Rattle.walker.proofs.length_of.Statement.{statement}
 use Rattle.walker.proofs.length_of.Tie as tie
-
-returns : tie.Need-returns
-returns c = sym (length-none _ (omega arith))
 
 sub-result : tie.Need-sub-result
 sub-result c = search needs
@@ -21,10 +18,10 @@ mul-result c = search needs
 element-copy-out-result : tie.Need-element-copy-out-result
 element-copy-out-result c = search needs
 
-returns-2 : tie.Need-returns-2
-returns-2 c =
-    let a = c .before .before .args in
-    ap (λ (l : List ℕ). getD l (a .ins - 1) 0) (c .before .before .pre .0) ∙ sym (length-entry (a .ins) (omega arith) (omega arith))
+returns : tie.Need-returns
+returns c =
+    let a = c .before .args in
+    ap (λ (l : List ℕ). getD l (a .ins - 1) 0) (c .before .pre .0) ∙ sym (length-entry (a .ins) (omega arith) (omega arith))
 
 pub length-of-spec : {M : Type 1} → statement M
-length-of-spec = tie.close (tie.spec returns sub-result mul-result element-copy-out-result returns-2)
+length-of-spec = tie.close (tie.spec sub-result mul-result element-copy-out-result returns)

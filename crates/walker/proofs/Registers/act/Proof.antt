@@ -1,177 +1,176 @@
 -- `Registers::act` meets its contract.
-use mathlib.Core.Path.{refl, ap, _∙_}
-use native.Mathlib.Omega.{arith}
-use Prim.Native.Nat.{ℕ, _+_}
-use Rattle.walker.specs.Shape.{actOf, tellOf, takeOther}
+use mathlib.Core.Path.{refl, _∙_}
 use Rattle.machine.specs.Lengths.{lengths, lengthOf}
-use Rattle.walker.specs.declared.Event.{Event}
-use Rattle.walker.proofs.Laws.{operand-inside, less, zero-of}
+use Rattle.walker.specs.Shape.{actOf, fetchedOf}
+use Rattle.walker.proofs.Laws.{here, nothing, above, less, zero-of}
 use borrow.Author.Needs.{needs}
 use Rattle.walker.proofs.Registers.act.Statement.{statement}
 use Rattle.walker.proofs.Registers.act.Tie as tie
 
+length-of-requires : tie.Need-length-of-requires
+length-of-requires c κs = search needs
+
 forward-requires : tie.Need-forward-requires
 unfolding lengths lengthOf
-forward-requires c κs = (c .before .before .before .pre .1, operand-inside 1 (c .before .before .before .pre .3) (c .match .keys1) tt)
+forward-requires c κs = (c .before .before .before .before .before .pre .1, c .before .before .before .before .before .pre .2, c .length-of .ensures)
+
+length-of-requires-2 : tie.Need-length-of-requires-2
+length-of-requires-2 c κs = search needs
 
 back-requires : tie.Need-back-requires
 unfolding lengths lengthOf
-back-requires c κs = (c .before .before .before .pre .1, operand-inside 2 (c .before .before .before .pre .3) (c .match .keys2) tt)
+back-requires c κs = (c .before .before .before .before .before .pre .1, c .before .before .before .before .before .pre .2, c .length-of2 .ensures)
+
+length-of-requires-3 : tie.Need-length-of-requires-3
+length-of-requires-3 c κs = search needs
 
 input-requires : tie.Need-input-requires
 unfolding lengths lengthOf
-input-requires c κs = (c .before .before .before .pre .1, operand-inside 3 (c .before .before .before .pre .3) (c .match .keys3) tt)
+input-requires c κs = (c .before .before .before .before .before .pre .1, c .before .before .before .before .before .pre .2, c .length-of3 .ensures)
 
 any-requires : tie.Need-any-requires
 any-requires c κs = search needs
 
-add-tell : tie.Need-add-tell
-add-tell c = search needs
+length-of-requires-4 : tie.Need-length-of-requires-4
+length-of-requires-4 c κs = search needs
 
-word-requires : tie.Need-word-requires
+output-requires : tie.Need-output-requires
 unfolding lengths lengthOf
-word-requires c κs = omega (arith, operand-inside 5 (c .before .before .before .pre .3) (c .match .keys5) tt)
+output-requires c κs = (c .before .before .before .before .before .pre .1, c .before .before .before .before .before .pre .2, c .length-of4 .ensures)
 
-tell-requires : tie.Need-tell-requires
-tell-requires c κs = search needs
+length-of-requires-5 : tie.Need-length-of-requires-5
+length-of-requires-5 c κs = search needs
 
-add-tell-2 : tie.Need-add-tell-2
-add-tell-2 c = search needs
-
-word-requires-2 : tie.Need-word-requires-2
+error-requires : tie.Need-error-requires
 unfolding lengths lengthOf
-word-requires-2 c κs = omega (arith, operand-inside 6 (c .before .before .before .pre .3) (c .match .keys6) tt)
+error-requires c κs = (c .before .before .before .before .before .pre .1, c .before .before .before .before .before .pre .2, c .length-of5 .ensures)
 
-tell-requires-2 : tie.Need-tell-requires-2
-tell-requires-2 c κs = search needs
+length-of-requires-6 : tie.Need-length-of-requires-6
+length-of-requires-6 c κs = search needs
 
 input-choice-requires : tie.Need-input-choice-requires
 unfolding lengths lengthOf
-input-choice-requires c κs = (c .before .before .before .pre .1, operand-inside 7 (c .before .before .before .pre .3) (c .match .keys7) tt)
+input-choice-requires c κs = (c .before .before .before .before .before .pre .1, c .before .before .before .before .before .pre .2, c .length-of6 .ensures)
+
+length-of-requires-7 : tie.Need-length-of-requires-7
+length-of-requires-7 c κs = search needs
 
 call-requires : tie.Need-call-requires
 unfolding lengths lengthOf
-call-requires c κs = (c .before .before .before .pre .1, operand-inside 8 (c .before .before .before .pre .3) (c .match .keys8) tt)
+call-requires c κs = (c .before .before .before .before .before .pre .1, c .before .before .before .before .before .pre .2, c .length-of7 .ensures)
 
 ret-requires : tie.Need-ret-requires
 ret-requires c κs = search needs
 
-add-moved : tie.Need-add-moved
-add-moved c = search needs
+length-of-requires-8 : tie.Need-length-of-requires-8
+length-of-requires-8 c κs = search needs
 
-moved-requires : tie.Need-moved-requires
-moved-requires c κs = search needs
-
-word-requires-3 : tie.Need-word-requires-3
+set-result-requires : tie.Need-set-result-requires
 unfolding lengths lengthOf
-word-requires-3 c κs = omega (arith, operand-inside 10 (c .before .before .before .before .pre .3) (c .before .match .keys10) tt)
+set-result-requires c κs = (c .before .before .before .before .before .pre .1, c .before .before .before .before .before .pre .2, c .length-of8 .ensures)
 
-with-result-requires : tie.Need-with-result-requires
-with-result-requires c κs = search needs
+length-of-requires-9 : tie.Need-length-of-requires-9
+length-of-requires-9 c κs = search needs
 
-choice-target-requires : tie.Need-choice-target-requires
+choice-requires : tie.Need-choice-requires
 unfolding lengths lengthOf
-choice-target-requires c κs = (c .before .before .before .pre .1, operand-inside 11 (c .before .before .before .pre .3) (c .match .keys11) tt)
+choice-requires c κs = (c .before .before .before .before .before .pre .1, c .before .before .before .before .before .pre .2, c .length-of9 .ensures)
 
-take-other-requires : tie.Need-take-other-requires
-take-other-requires c κs = search needs
+length-of-requires-10 : tie.Need-length-of-requires-10
+length-of-requires-10 c κs = search needs
 
-add-moved-2 : tie.Need-add-moved-2
-add-moved-2 c = search needs
-
-moved-requires-2 : tie.Need-moved-requires-2
-moved-requires-2 c κs = search needs
-
-word-requires-4 : tie.Need-word-requires-4
+set-parameter-requires : tie.Need-set-parameter-requires
 unfolding lengths lengthOf
-word-requires-4 c κs = omega (arith, operand-inside 13 (c .before .before .before .before .pre .3) (c .before .match .keys13) tt)
+set-parameter-requires c κs = (c .before .before .before .before .before .pre .1, c .before .before .before .before .before .pre .2, c .length-of10 .ensures)
 
-with-parameter-requires : tie.Need-with-parameter-requires
-with-parameter-requires c κs = search needs
+operate-requires : tie.Need-operate-requires
+operate-requires c κs = search needs
 
 returns : tie.Need-returns
-unfolding actOf
-returns c = rw (c .before .match .keys1) (c .forward .ensures)
+unfolding fetchedOf actOf lengths lengthOf
+returns c = rw (c .before .before .match .keys1) (c .forward .ensures)
 
 returns-2 : tie.Need-returns-2
-unfolding actOf
-returns-2 c = rw (c .before .match .keys2) (c .back .ensures)
+unfolding fetchedOf actOf lengths lengthOf
+returns-2 c = rw (c .before .before .match .keys2) (c .back .ensures)
 
 returns-3 : tie.Need-returns-3
-unfolding actOf
-returns-3 c = rw (c .before .match .keys3) (c .input .ensures)
+unfolding fetchedOf actOf lengths lengthOf
+returns-3 c = rw (c .before .before .match .keys3) (c .input .ensures)
 
 returns-4 : tie.Need-returns-4
-unfolding actOf
-returns-4 c = rw (c .before .match .keys4) (c .any .ensures)
+unfolding fetchedOf actOf lengths lengthOf
+returns-4 c = rw (c .before .match .keys4, here (c .before .before .before .before .before .pre .2) (c .before .before .before .before .before .pre .1)) (c .any .ensures)
 
 returns-5 : tie.Need-returns-5
-unfolding actOf
-returns-5 c = rw (c .before .before .match .keys5) (c .tell .ensures ∙ ap (λ (x : ℕ). tellOf (c .before .before .before .before .before .args .room) (c .before .before .before .before .before .args .self .location + 2) (Event.Output x) (c .before .before .before .before .before .args .self)) (c .before .word .ensures))
+unfolding fetchedOf actOf lengths lengthOf
+returns-5 c = rw (c .before .before .match .keys5) (c .output .ensures)
 
 returns-6 : tie.Need-returns-6
-unfolding actOf
-returns-6 c = rw (c .before .before .match .keys6) (c .tell2 .ensures ∙ ap (λ (x : ℕ). tellOf (c .before .before .before .before .before .args .room) (c .before .before .before .before .before .args .self .location + 2) (Event.Error x) (c .before .before .before .before .before .args .self)) (c .before .word2 .ensures))
+unfolding fetchedOf actOf lengths lengthOf
+returns-6 c = rw (c .before .before .match .keys6) (c .error .ensures)
 
 returns-7 : tie.Need-returns-7
-unfolding actOf
-returns-7 c = rw (c .before .match .keys7) (c .input-choice .ensures)
+unfolding fetchedOf actOf lengths lengthOf
+returns-7 c = rw (c .before .before .match .keys7) (c .input-choice .ensures)
 
 returns-8 : tie.Need-returns-8
-unfolding actOf
-returns-8 c = rw (c .before .match .keys8) (c .call .ensures)
+unfolding fetchedOf actOf lengths lengthOf
+returns-8 c = rw (c .before .before .match .keys8) (c .call .ensures)
 
 returns-9 : tie.Need-returns-9
-unfolding actOf
-returns-9 c = rw (c .before .match .keys9) (c .ret .ensures)
+unfolding fetchedOf actOf lengths lengthOf
+returns-9 c = rw (c .before .match .keys9, here (c .before .before .before .before .before .pre .2) (c .before .before .before .before .before .pre .1)) (c .ret .ensures)
 
 returns-10 : tie.Need-returns-10
-unfolding actOf
-returns-10 c = rw (c .before .before .before .match .keys10) (simp (c .with-result .ensures, c .before .word3 .ensures, c .before .before .moved .ensures))
+unfolding fetchedOf actOf lengths lengthOf
+returns-10 c = rw (c .before .before .match .keys10) (c .set-result .ensures)
 
 returns-11 : tie.Need-returns-11
-unfolding actOf
-returns-11 c = rw (c .before .before .match .keys11) (c .take-other .ensures ∙ ap (takeOther (c .before .before .before .before .before .args .self)) (c .before .choice-target .ensures))
+unfolding fetchedOf actOf lengths lengthOf
+returns-11 c = rw (c .before .before .match .keys11) (c .choice .ensures)
 
 returns-12 : tie.Need-returns-12
-unfolding actOf
-returns-12 c = rw (c .match .keys12) refl
+unfolding fetchedOf actOf lengths lengthOf
+returns-12 c = rw (c .match .keys12, here (c .before .before .before .before .pre .2) (c .before .before .before .before .pre .1)) refl
 
 returns-13 : tie.Need-returns-13
-unfolding actOf
-returns-13 c = rw (c .before .before .before .match .keys13) (simp (c .with-parameter .ensures, c .before .word4 .ensures, c .before .before .moved2 .ensures))
+unfolding fetchedOf actOf lengths lengthOf
+returns-13 c = rw (c .before .before .match .keys13) (c .set-parameter .ensures)
 
 returns-14 : tie.Need-returns-14
-unfolding actOf
-returns-14 c = rw (zero-of (less 1 (less 2 (less 3 (less 4 (less 5 (less 6 (less 7 (less 8 (less 9 (less 10 (less 11 (less 12 (less 13 (c .before .before .before .pre .0) (c .match .rest .1)) (c .match .rest .0 .1)) (c .match .rest .0 .0 .1)) (c .match .rest .0 .0 .0 .1)) (c .match .rest .0 .0 .0 .0 .1)) (c .match .rest .0 .0 .0 .0 .0 .1)) (c .match .rest .0 .0 .0 .0 .0 .0 .1)) (c .match .rest .0 .0 .0 .0 .0 .0 .0 .1)) (c .match .rest .0 .0 .0 .0 .0 .0 .0 .0 .1)) (c .match .rest .0 .0 .0 .0 .0 .0 .0 .0 .0 .1)) (c .match .rest .0 .0 .0 .0 .0 .0 .0 .0 .0 .0 .1)) (c .match .rest .0 .0 .0 .0 .0 .0 .0 .0 .0 .0 .0 .1)) (c .match .rest .0 .0 .0 .0 .0 .0 .0 .0 .0 .0 .0 .0 .1))) refl
+returns-14 c = rw (c .match .keys14) (nothing _ _ _ _ _ _ _)
+
+returns-15 : tie.Need-returns-15
+returns-15 c = c .operate .ensures ∙ above _ _ _ _ _ _ _ _ (λ h. c .before .match .rest .1 (zero-of (less 1 (less 2 (less 3 (less 4 (less 5 (less 6 (less 7 (less 8 (less 9 (less 10 (less 11 (less 12 (less 13 h (c .before .match .rest .0 .1)) (c .before .match .rest .0 .0 .1)) (c .before .match .rest .0 .0 .0 .1)) (c .before .match .rest .0 .0 .0 .0 .1)) (c .before .match .rest .0 .0 .0 .0 .0 .1)) (c .before .match .rest .0 .0 .0 .0 .0 .0 .1)) (c .before .match .rest .0 .0 .0 .0 .0 .0 .0 .1)) (c .before .match .rest .0 .0 .0 .0 .0 .0 .0 .0 .1)) (c .before .match .rest .0 .0 .0 .0 .0 .0 .0 .0 .0 .1)) (c .before .match .rest .0 .0 .0 .0 .0 .0 .0 .0 .0 .0 .1)) (c .before .match .rest .0 .0 .0 .0 .0 .0 .0 .0 .0 .0 .0 .1)) (c .before .match .rest .0 .0 .0 .0 .0 .0 .0 .0 .0 .0 .0 .0 .1)) (c .before .match .rest .0 .0 .0 .0 .0 .0 .0 .0 .0 .0 .0 .0 .0 .1))))
 
 pub act-spec : {M : Type 1} → statement M
 act-spec =
     tie.close
     (tie.spec
+    length-of-requires
     forward-requires
+    length-of-requires-2
     back-requires
+    length-of-requires-3
     input-requires
     any-requires
-    add-tell
-    word-requires
-    tell-requires
-    add-tell-2
-    word-requires-2
-    tell-requires-2
+    length-of-requires-4
+    output-requires
+    length-of-requires-5
+    error-requires
+    length-of-requires-6
     input-choice-requires
+    length-of-requires-7
     call-requires
     ret-requires
-    add-moved
-    moved-requires
-    word-requires-3
-    with-result-requires
-    choice-target-requires
-    take-other-requires
-    add-moved-2
-    moved-requires-2
-    word-requires-4
-    with-parameter-requires
+    length-of-requires-8
+    set-result-requires
+    length-of-requires-9
+    choice-requires
+    length-of-requires-10
+    set-parameter-requires
+    operate-requires
     returns
     returns-2
     returns-3
@@ -185,4 +184,5 @@ act-spec =
     returns-11
     returns-12
     returns-13
-    returns-14)
+    returns-14
+    returns-15)

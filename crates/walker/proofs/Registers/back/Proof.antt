@@ -4,9 +4,19 @@ use Prim.Native.Nat.{_≤_, _<_}
 use borrow.Author.Tests.{le-leb, lt-leb}
 use Rattle.machine.specs.Bytes.{wordAt}
 use Rattle.walker.specs.Shape.{backOf}
+use Rattle.walker.proofs.Laws.{inside, behind}
 use borrow.Author.Needs.{needs}
 use Rattle.walker.proofs.Registers.back.Statement.{statement}
 use Rattle.walker.proofs.Registers.back.Tie as tie
+
+add-if1 : tie.Need-add-if1
+add-if1 c = search needs
+
+sub-if1 : tie.Need-sub-if1
+sub-if1 c = search needs
+
+returns : tie.Need-returns
+returns c = simp (behind (c .before .before .args .self .location) (c .if1 .taken) (c .before .before .pre .0) (c .before .before .pre .2))
 
 word-requires : tie.Need-word-requires
 word-requires c κs = search needs
@@ -23,22 +33,33 @@ sub-moved c = search needs
 moved-requires : tie.Need-moved-requires
 moved-requires c κs = search needs
 
-returns : tie.Need-returns
-unfolding backOf
-returns c =
-    let a = c .before .before .before .before .args in
-    let l = a .self .location in
-    let h : wordAt (a .t .now) l ≤ l = omega (arith, c .before .before .word .ensures) in
-    simp (le-leb _ _ h, c .moved .ensures, c .before .before .word .ensures)
-
 returns-2 : tie.Need-returns-2
 unfolding backOf
 returns-2 c =
-    let a = c .before .before .before .args in
+    let a = c .before .before .before .before .before .args in
+    let l = a .self .location in
+    let h : wordAt (a .t .now) l ≤ l = omega (arith, c .before .before .word .ensures) in
+    simp (inside (c .before .before .before .before .before .args .self .location) (c .before .before .before .if1 .left) (c .before .before .before .before .before .pre .0) (c .before .before .before .before .before .pre .2), le-leb _ _ h, c .moved .ensures, c .before .before .word .ensures)
+
+returns-3 : tie.Need-returns-3
+unfolding backOf
+returns-3 c =
+    let a = c .before .before .before .before .args in
     let l = a .self .location in
     let h : l < wordAt (a .t .now) l = omega (arith, c .before .word .ensures) in
-    simp (lt-leb _ _ h)
+    simp (inside (c .before .before .before .before .args .self .location) (c .before .before .if1 .left) (c .before .before .before .before .pre .0) (c .before .before .before .before .pre .2), lt-leb _ _ h)
 
 pub back-spec : {M : Type 1} → statement M
 back-spec =
-    tie.close (tie.spec word-requires cast-d add-moved sub-moved moved-requires returns returns-2)
+    tie.close
+    (tie.spec
+    add-if1
+    sub-if1
+    returns
+    word-requires
+    cast-d
+    add-moved
+    sub-moved
+    moved-requires
+    returns-2
+    returns-3)

@@ -23,6 +23,12 @@ answer-requires c κs = search needs
 answer-requires-2 : tie.Need-answer-requires-2
 answer-requires-2 c κs = search needs
 
+narrow-requires : tie.Need-narrow-requires
+narrow-requires c κs = search needs
+
+narrow-requires-2 : tie.Need-narrow-requires-2
+narrow-requires-2 c κs = search needs
+
 returns : tie.Need-returns
 unfolding operateOf
 returns c = simp (lt-ltb _ _ (c .if1 .taken))
@@ -33,7 +39,7 @@ returns-2 c = simp (le-ltb _ _ (c .before .before .if1 .left), lt-ltb _ _ (c .be
 
 returns-3 : tie.Need-returns-3
 unfolding operateOf
-returns-3 c = simp (le-ltb _ _ (c .before .before .before .if1 .left), le-ltb _ _ (c .before .before .if2 .left), lt-ltb _ _ (c .before .if3 .taken)) (c .tell2 .ensures)
+returns-3 c = simp (le-ltb _ _ (c .before .before .before .before .if1 .left), le-ltb _ _ (c .before .before .before .if2 .left), lt-ltb _ _ (c .before .before .if3 .taken), c .tell2 .ensures, c .before .narrow .ensures)
 
 returns-4 : tie.Need-returns-4
 unfolding operateOf
@@ -41,7 +47,7 @@ returns-4 c = simp (le-ltb _ _ (c .before .before .before .before .if1 .left), l
 
 returns-5 : tie.Need-returns-5
 unfolding operateOf
-returns-5 c = simp (le-ltb _ _ (c .before .before .before .before .before .if1 .left), le-ltb _ _ (c .before .before .before .before .if2 .left), le-ltb _ _ (c .before .before .before .if3 .left), le-ltb _ _ (c .before .before .if4 .left), lt-ltb _ _ (c .before .if5 .taken)) (c .answer2 .ensures)
+returns-5 c = simp (le-ltb _ _ (c .before .before .before .before .before .before .if1 .left), le-ltb _ _ (c .before .before .before .before .before .if2 .left), le-ltb _ _ (c .before .before .before .before .if3 .left), le-ltb _ _ (c .before .before .before .if4 .left), lt-ltb _ _ (c .before .before .if5 .taken), c .answer2 .ensures, c .before .narrow2 .ensures)
 
 returns-6 : tie.Need-returns-6
 unfolding operateOf
@@ -54,8 +60,10 @@ operate-spec =
     add-tell
     tell-requires
     add-tell-2
+    narrow-requires
     tell-requires-2
     answer-requires
+    narrow-requires-2
     answer-requires-2
     returns
     returns-2
