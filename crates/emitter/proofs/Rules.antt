@@ -238,7 +238,7 @@ places-end cs sorts rules starts q w r i f prog h =
 
 -- The lent bytes
 
-zeros : (s : List ℕ) (t : List ℕ) → t ≡ puts s 0 (replicate (words s - 0) 0) → t ≡ bytesOf (replicate (words s) 0) ++ drop (2 * words s) s
+pub zeros : (s : List ℕ) (t : List ℕ) → t ≡ puts s 0 (replicate (words s - 0) 0) → t ≡ bytesOf (replicate (words s) 0) ++ drop (2 * words s) s
 zeros s t e =
     let z : words s - 0 ≡ words s = omega arith in
     whole s [] t (omega arith) (e ∙ ap (λ (u : List ℕ). puts u 0 (replicate {A = ℕ} (words s - 0) 0)) (nothing s 0)) ∙ ap (λ (k : ℕ). bytesOf (replicate {A = ℕ} k 0) ++ drop (2 * words s) s) z

@@ -64,6 +64,10 @@ emittedWords prog n = if fits prog n then table prog ++ replicate (n - length (t
 unfoldable pub emittedBytes : List Rule → List ℕ → List ℕ
 emittedBytes prog lent = bytesOf (emittedWords prog (count lent)) ++ drop (2 * count lent) lent
 
+-- the lent bytes of a refusal
+unfoldable pub zeroedBytes : List ℕ → List ℕ
+zeroedBytes lent = bytesOf (replicate (count lent) 0) ++ drop (2 * count lent) lent
+
 unfoldable pub faultOf : List Rule → ℕ → ℕ
 faultOf prog room = if fits prog room then 0 else 20
 

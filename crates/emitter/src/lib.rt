@@ -8,7 +8,7 @@ ghost use Rattle.program.specs.Table.{rulesWords};
 ghost use Rattle.emitter.specs.Words.{words, setWord, puts, cut};
 ghost use Rattle.emitter.specs.Heads.{firsts, plainOf, plainAt, chooses, insOf, selOf, selAt, labelsIn, labelsAt, cellsOf, wordsOf, openAfter, startOf};
 ghost use Rattle.emitter.specs.Work.{Room, Moved, Passed, Scanned, AltsScanned, OtherScanned, ItemDone, ListDone, ActDone, CycleDone, LabelsDone, TableDone, AltsDone, OtherDone, AbsentDone};
-ghost use Rattle.emitter.specs.Emitted.{Emits, Locates, RuleDone, RulesDone};
+ghost use Rattle.emitter.specs.Emitted.{Emits, Locates, RuleDone, RulesDone, zeroedBytes};
 
 // Writing words: past the last whole word nothing is written.
 
@@ -650,6 +650,13 @@ fn zero_from(out: &mut [u8], at: usize)
         put_word(out, i, 0);
         i += 1;
     }
+}
+
+// Every word zero, as on a refusal.
+pub fn zero(table: &mut [u8])
+    ensures { λ _. ⌜ now (table .exit) ≡ zeroedBytes (now (table .entry)) ⌝ }
+{
+    zero_from(table, 0);
 }
 
 // The rules.

@@ -1,0 +1,110 @@
+-- The next word, as the code finds it and as the families of crate grammar take it.
+use mathlib.Core.Bool.{Bool, true, false, not, _&&_}
+use mathlib.Core.List.{List, [], _∷_}
+use mathlib.Core.Option.{none, some}
+use mathlib.Core.Path.{_≡_, refl, sym, ap, _∙_}
+use Prim.Native.Char.{code}
+use Prim.Native.Nat.{ℕ, zero, suc, _-_, _≤_, _<_}
+use native.Mathlib.Omega.{arith}
+use lib.Dec.{eqb, leb}
+use lib.ListN.{length, getD, take, drop, length-take}
+use borrow.Author.Tests.{ne-eqb}
+use Rattle.base.specs.Common.{if_then_else_}
+use Rattle.collector.specs.Collecting.{optionIn}
+use Rattle.collector.specs.declared.Part.{Part}
+use Rattle.grammar.specs.Derived.{Took, Not}
+use Rattle.reader.proofs.Laws.{word-length}
+use Rattle.reader.specs.Answers.{Here}
+use Rattle.scanner.specs.Next.{asWord}
+use Rattle.scanner.specs.declared.WordAt.{WordAt}
+use Rattle.symbols.specs.Rows.{wordOf, optionOf}
+use Rattle.syntax.specs.Reading.{peek}
+use Rattle.words.specs.Words.{Word, Found, digit, run, stringByte, stringHere, symbol, letter, wordHere, wordsFrom, wordsAt, blank}
+
+-- Words have at least one byte, but for the end
+
+abbrev Some : Found → Type 0
+Some f = 0 < f .size
+
+some-if : (c : Bool) (x y : Found) → Some x → Some y → Some (if c then x else y)
+some-if true x y p q = p
+some-if false x y p q = q
+
+string-some : (s : List ℕ) → Some (stringHere s)
+unfolding stringHere
+string-some s = some-if (leb 1 (run stringByte s) && leb (run stringByte s) 32 && eqb (getD s (run stringByte s) 0) 39) _ _ (omega arith) (omega arith)
+
+here-some : (b : ℕ) (s : List ℕ) → Some (wordHere b s)
+unfolding wordHere
+here-some b s =
+    some-if (letter b) _ _ (omega arith)
+    (some-if (digit b) _ _ (omega arith)
+    (some-if (eqb b 39) _ _ (string-some s)
+    (some-if (eqb b 62 && eqb (getD s 0 0) 62) _ _ (omega arith)
+    (some-if (eqb b 33) _ _ (omega arith)
+    (some-if (symbol b) _ _ (omega arith) (omega arith))))))
+
+abbrev Solid : List Word → Type 0
+Solid ws = 2 ≤ peek ws .kind → 0 < length (peek ws .text)
+
+solid-if : (c : Bool) (x y : List Word) → Solid x → Solid y → Solid (if c then x else y)
+solid-if true x y p q = p
+solid-if false x y p q = q
+
+solid-word : (k at n b : ℕ) (s : List ℕ) (ws : List Word) → 0 < n → Solid (record { kind = k; start = at; text = take n (b ∷ s) } ∷ ws)
+unfolding peek
+solid-word k at n b s ws h e = simp length-take (omega arith)
+
+solid : (skip at : ℕ) (s : List ℕ) → Solid (wordsFrom skip at s)
+unfolding wordsFrom peek
+solid skip at [] = λ h. absurd (omega arith)
+solid zero at (b ∷ s) =
+    solid-if (blank b) _ _ (solid 0 (suc at) s)
+    (solid-if (eqb b 37) _ _ (solid (run (λ c. not (eqb c 10)) s) (suc at) s)
+    (solid-if (eqb (wordHere b s .kind) 0) _ _ (solid-word (wordHere b s .kind) at (wordHere b s .size) b s [] (here-some b s))
+    (solid-word (wordHere b s .kind) at (wordHere b s .size) b s (wordsFrom (wordHere b s .size - 1) (suc at) s) (here-some b s))))
+solid (suc n) at (b ∷ s) = solid n (suc at) s
+
+pub some-len : {text : List ℕ} {at : ℕ} {w : WordAt} → Here text at w → 2 ≤ w .kind → 0 < w .len
+unfolding wordsAt
+some-len {text} {at} {w} n h = rw (n .head, word-length n) at (solid 0 at (drop at text)) h
+
+-- What a family takes
+
+taken : {text : List ℕ} {at k : ℕ} {w : WordAt} {v : Word} {ws′ : List Word} → Here text at w → Took k (wordsAt text at) v ws′ → asWord text w ≡ v
+unfolding peek
+taken n t = sym (n .head) ∙ ap peek (t .here)
+
+pub took-kind : {text : List ℕ} {at k : ℕ} {w : WordAt} {v : Word} {ws′ : List Word} → Here text at w → Took k (wordsAt text at) v ws′ → w .kind ≡ k
+took-kind n t = ap (λ (x : Word). x .kind) (taken n t) ∙ t .kind
+
+pub took-word : {text : List ℕ} {at k : ℕ} {w : WordAt} {v : Word} {ws′ : List Word} → Here text at w → Took k (wordsAt text at) v ws′ → v ≡ wordOf text k (w .start) (w .len)
+took-word {text} {w = w} n t = sym (taken n t) ∙ ap (λ (i : ℕ). wordOf text i (w .start) (w .len)) (took-kind n t)
+
+pub took-rest : {text : List ℕ} {at k : ℕ} {w : WordAt} {v : Word} {ws′ : List Word} → Here text at w → 2 ≤ k → Took k (wordsAt text at) v ws′ → ws′ ≡ wordsAt text (w .next)
+took-rest n h t = let m = n .more (omega (arith, took-kind n t)) in let g = t .here in cc
+
+pub took-past : {text : List ℕ} {at k : ℕ} {w : WordAt} {v : Word} {ws′ : List Word} → Here text at w → 2 ≤ k → Took k (wordsAt text at) v ws′ → at < w .next
+took-past n h t = n .moves (omega (arith, took-kind n t))
+
+pub not-kind : {text : List ℕ} {at : ℕ} (k : ℕ) {w : WordAt} → Here text at w → Not k (wordsAt text at) → w .kind ≡ k → ⊥
+not-kind k n m e = m (ap (λ (x : Word). x .kind) (n .head) ∙ e)
+
+pub next-kind : {text : List ℕ} {at : ℕ} (k : ℕ) {w : WordAt} → Here text at w → peek (wordsAt text at) .kind ≡ k → w .kind ≡ k
+next-kind k n e = sym (ap (λ (x : Word). x .kind) (n .head)) ∙ e
+
+-- the same from a list of words that is known to be that
+pub took-at : {k : ℕ} {ws vs : List Word} {v : Word} {ws′ : List Word} → ws ≡ vs → Took k ws v ws′ → Took k vs v ws′
+took-at {k} {v = v} {ws′} e t = rw (← e) t
+
+-- Words that may be there
+
+pub option-some : {text : List ℕ} {at k : ℕ} {w : WordAt} {v : Word} {ws′ : List Word} (p : Part) → Here text at w → 2 ≤ k → Took k (wordsAt text at) v ws′
+    → p .start ≡ w .start → p .len ≡ w .len → some v ≡ optionIn text k p
+unfolding optionOf
+option-some {text} {k = k} {w} p n h t e f =
+    rw (e, f, ne-eqb (w .len) 0 (λ z. omega (arith, some-len n (omega (arith, took-kind n t))))) (ap some (took-word n t))
+
+pub option-none : (text : List ℕ) (k : ℕ) (p : Part) → p .len ≡ 0 → none ≡ optionIn text k p
+unfolding optionOf
+option-none text k p e = rw e refl

@@ -1,0 +1,1 @@
+// A program's declarations in one row, as definitions and laws; this crate has no code.

@@ -1,0 +1,2 @@
+-- Laws of the faults of declarations, for the proofs of the code.
+pub mod FaultLaws

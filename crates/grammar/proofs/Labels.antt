@@ -1,0 +1,43 @@
+-- "64 labels a choice": what a derivation tells of the labels of a tree.
+use mathlib.Core.List.{List, []}
+use Prim.Native.Nat.{ℕ, _<_, _≤_}
+use lib.ListN.{length}
+use native.Mathlib.Omega.{arith}
+use Rattle.grammar.specs.Derived.{LabelsIn, last-label, more-labels, ActIn, plain-in, cycle-in, choice-in, ActsIn, none-in, more-in, AltsIn, other-in, last-in, next-in, RuleIn, a-rule, RulesIn, last-rule, more-rules, ProgramIn, a-program}
+use Rattle.grammar.specs.Labels.{Labelled, LabelledAll, LabelledAlts, LabelledOther, LabelledRules}
+use Rattle.syntax.specs.Written.{Act, Acts, Alts, Other, Rule, Program}
+use Rattle.words.specs.Words.{Word}
+
+-- labels are one or more
+some-label : {ws rest ls : List Word} → LabelsIn ws rest ls → 0 < length ls
+some-label (last-label r n) = omega arith
+some-label (more-labels r t m) = omega arith
+
+mutual
+  unfolding Labelled
+
+  pub act-labelled : {ws ws′ : List Word} {a : Act} → ActIn ws ws′ a → Labelled a
+  act-labelled (plain-in t) = tt
+  act-labelled (cycle-in t q u) = acts-labelled q
+  act-labelled (choice-in t u v m) = alts-labelled m (omega arith)
+
+  pub acts-labelled : {ws ws′ : List Word} {q : Acts} → ActsIn ws ws′ q → LabelledAll q
+  acts-labelled (none-in t d) = tt
+  acts-labelled (more-in t x y) = (act-labelled x, acts-labelled y)
+
+  -- the room begins at 64 and only falls
+  pub alts-labelled : {ws ws′ : List Word} {room : ℕ} {q : Alts} {o : Other} → AltsIn ws ws′ room q o → room ≤ 64 → LabelledAlts q × LabelledOther o
+  alts-labelled (other-in t u q v) h = (tt, acts-labelled q)
+  alts-labelled (last-in l few t q u) h = ((some-label l, omega arith, acts-labelled q, tt), tt)
+  alts-labelled (next-in l few t x u m) h = let r = alts-labelled m (omega arith) in ((some-label l, omega arith, acts-labelled x, r .0), r .1)
+
+rule-labelled : {ws ws′ : List Word} {r : Rule} → RuleIn ws ws′ r → LabelledAll (r .body)
+rule-labelled (a-rule t g u b v) = acts-labelled b
+
+pub rules-labelled : {ws ws′ : List Word} {rs : List Rule} → RulesIn ws ws′ rs → LabelledRules rs
+unfolding LabelledRules
+rules-labelled (last-rule r n) = (rule-labelled r, tt)
+rules-labelled (more-rules r d m) = (rule-labelled r, rules-labelled m)
+
+pub program-labelled : {ws : List Word} {p : Program} → ProgramIn ws p → LabelledRules (p .rules)
+program-labelled (a-program s t r d n m) = rules-labelled r

@@ -1,0 +1,257 @@
+-- What the readers of sections give has a derivation from the words that they read, and declares no more names than are left.
+use mathlib.Core.Bool.{Bool, true, false}
+use mathlib.Core.List.{List, [], _∷_}
+use mathlib.Core.Option.{Option, none, some}
+use mathlib.Core.Path.{_≡_, refl, sym, ap, _∙_}
+use Prim.Native.Char.{code}
+use Prim.Native.Nat.{ℕ, zero, suc, _+_, _-_, _<_, _≤_, max}
+use lib.Dec.{eqb, ltb}
+use lib.ListN.{length}
+use borrow.Author.Tests.{ltb-true, ltb-false, eq-eqb, ne-eqb}
+use native.Mathlib.Omega.{arith}
+use Rattle.base.specs.Common.{if_then_else_, given}
+use Rattle.grammar.specs.Derived.{Took, Not, SpellingIn, no-strings, no-spelling, a-spelling, CountIn, a-number, counted, EntryIn, an-entry, EntriesIn, last-entry, more-entries, GivesIn, gives-none, gives-some, TakesIn, takes-none, takes-some, OperationIn, an-operation, OperationsIn, last-operation, more-operations, ListedIn, listed-in, SectionIn, inputs-in, both-in, outputs-in, errors-in, values-in, operations-in, SectionsIn, no-section, more-sections, namesIn, namesInAll}
+use Rattle.grammar.proofs.Laws.{From, no-got, bind, next, gives, refuses, either, on-kind, weaken, passes, expects, a-name, Named, one-name}
+use Rattle.syntax.specs.Reading.{got, fault, onward, _>>=_, _>>_, pure, peek, pass, refuse, over, on_then_else_, expect, aName, oneName, small, aNumber, optional}
+use Rattle.syntax.specs.Sections.{aSpelling, aCount, anEntry, entries, firstOf, ofKind, aParameter, numbered, anOperation, someOperations, Sofar, after, tokenSection, aSection, Sections, someSections}
+use Rattle.syntax.specs.Written.{Entry, Operation, Section, inputs, outputs, both, errors, values, operations}
+use Rattle.words.specs.Words.{Word, twice, number, string, input, output, error, type, mechanism, rules, value}
+
+-- Entries
+
+spelling-in : {ws : List Word} (strings : Bool) → From ws (aSpelling strings) (λ rest s. SpellingIn strings ws rest s)
+unfolding aSpelling
+spelling-in false = gives none (no-strings refl refl)
+spelling-in true =
+    on-kind string _ _ (λ d. bind pass _ (passes 259 refl d) (λ ws₁ w t. gives (some w) (a-spelling refl t)))
+    (λ n. gives none (no-spelling refl n refl))
+
+-- a number and its value
+record Number (ws rest : List Word) (n : ℕ) : Type 0 where
+  pub digits : Word
+  pub word : Took 258 ws digits rest
+  pub same : n ≡ value 0 (digits .text)
+  pub low : n ≤ 65535
+
+-- the next word is the one that was taken
+peek-took : {k : ℕ} {ws rest : List Word} {w : Word} → Took k ws w rest → peek ws ≡ w
+unfolding peek
+peek-took {w = w} t = rw (t .here) refl
+
+small-in : {ws : List Word} → peek ws .kind ≡ 258 → From ws small (λ rest n. Number ws rest n)
+unfolding small over
+small-in {ws} d = record { holds = λ rest n e. go rest n (ltb 65535 v) refl e }
+  where
+    v : ℕ
+    v = value 0 (peek ws .text)
+
+    read : v ≤ 65535 → From ws (_>>=_ pass (λ w. pure v)) (λ rest n. Number ws rest n)
+    read h = bind pass _ (passes 258 refl d) (λ ws₁ w t. gives v (record { digits = w; word = t; same = ap (λ u. value 0 (u .text)) (peek-took t); low = h }))
+
+    go : (rest : List Word) (n : ℕ) (t : Bool) → ltb 65535 v ≡ t → (if t then over ws else onward (pass ws) (λ w. pure v)) ≡ got n rest → Number ws rest n
+    go rest n true t e = no-got e
+    go rest n false t e = read (let h = ltb-false 65535 v t in omega arith) .holds rest n e
+
+number-in : {ws : List Word} → From ws aNumber (λ rest n. Number ws rest n)
+unfolding aNumber
+number-in = on-kind number small refuse (λ d. small-in d) (λ _. refuses)
+
+count-in : {ws : List Word} (w : Word) (v : ℕ) → From ws (aCount w v) (λ rest n. CountIn v ws rest n)
+unfolding aCount
+count-in {ws} w v =
+    on-kind (code "=") _ _
+    (λ d. next pass _ (passes 61 refl d) (λ ws₁ sign t. weaken number-in (λ rest n m. a-number t (m .word) (m .same) (m .low))))
+    (λ n. record { holds = λ rest a e. go n rest a (ltb 65535 v) refl e })
+  where
+    go : Not 61 ws → (rest : List Word) (a : ℕ) (t : Bool) → ltb 65535 v ≡ t → (if t then fault 9 w else got v ws) ≡ got a rest → CountIn v ws rest a
+    go n rest a true t e = no-got e
+    go n rest a false t e =
+        let h = ltb-false 65535 v t in let x : v ≡ a = cc in let y : ws ≡ rest = cc in
+        counted n (sym y) (sym x) (omega arith)
+
+-- an entry, where `left` more names may be declared
+record OneEntry (strings : Bool) (v left : ℕ) (ws rest : List Word) (e : Entry) : Type 0 where
+  pub entry : EntryIn strings v ws rest e
+  pub some-left : 0 < left
+
+entry-in : {ws : List Word} (left : ℕ) (strings : Bool) (v : ℕ) → From ws (anEntry left strings v) (λ rest e. OneEntry strings v left ws rest e)
+unfolding anEntry
+entry-in left strings v =
+    bind (oneName left) _ (one-name left) (λ ws₁ w t.
+    bind (aSpelling strings) _ (spelling-in strings) (λ ws₂ s u.
+    bind (aCount w v) _ (count-in w v) (λ ws₃ n m.
+    gives (record { entry = w; spelt = s; value = n }) (record { entry = an-entry (t .word) u m; some-left = t .some-left }))))
+
+-- entries and how many
+record SomeEntries (strings : Bool) (v left : ℕ) (ws rest : List Word) (es : List Entry) : Type 0 where
+  pub entries : EntriesIn strings v ws rest es
+  pub few : length es ≤ left
+
+-- what stands behind an entry
+data BehindEntry (strings : Bool) (v left : ℕ) (ws rest : List Word) : List Entry → Type 0 where
+  entry-last : {w : Word} → Took 59 ws w rest → BehindEntry strings v left ws rest []
+  entry-more : {es : List Entry} → Not 59 ws → SomeEntries strings v left ws rest es → BehindEntry strings v left ws rest es
+
+with-entry : {strings : Bool} {v left : ℕ} {ws ws₁ rest : List Word} {e : Entry} {es : List Entry}
+    → OneEntry strings v left ws ws₁ e → BehindEntry strings (e .value + 1) (left - 1) ws₁ rest es → SomeEntries strings v left ws rest (e ∷ es)
+with-entry x (entry-last t) = record { entries = last-entry (x .entry) t; few = let h = x .some-left in omega arith }
+with-entry x (entry-more n m) = record { entries = more-entries (x .entry) n (m .entries); few = let h = x .some-left in let g = m .few in omega arith }
+
+entries-in : {ws : List Word} (k left : ℕ) (strings : Bool) (v : ℕ) → From ws (entries k left strings v) (λ rest es. SomeEntries strings v left ws rest es)
+unfolding entries
+entries-in zero left strings v = refuses
+entries-in (suc k) left strings v =
+    bind (anEntry left strings v) _ (entry-in left strings v) (λ ws₁ e x.
+    bind (on code ";" then (_>>_ pass (pure [])) else entries k (left - 1) strings (e .value + 1)) _
+    (on-kind (code ";") _ _ (λ d. next pass _ (passes 59 refl d) (λ ws₂ w t. gives [] (entry-last t)))
+    (λ n. weaken (entries-in k (left - 1) strings (e .value + 1)) (λ rest es m. entry-more n m)))
+    (λ ws₂ es b. gives (e ∷ es) (with-entry x b)))
+
+-- Operations
+
+takes-in : {ws : List Word} → From ws aParameter (λ rest t. TakesIn ws rest t)
+unfolding aParameter
+takes-in =
+    on-kind (code "(") _ _
+    (λ d. next pass _ (passes 40 refl d) (λ ws₁ opening t.
+    bind aName _ a-name (λ ws₂ w u.
+    next (expect (code ")")) _ (expects 41 refl) (λ ws₃ close v. gives (some w) (takes-some t u v)))))
+    (λ n. gives none (takes-none n refl))
+
+pub gives-in : {ws : List Word} → From ws (optional twice aName) (λ rest g. GivesIn ws rest g)
+unfolding optional
+gives-in =
+    on-kind twice _ _ (λ d. next pass _ (passes 256 refl d) (λ ws₁ sign t. bind aName _ a-name (λ ws₂ w u. gives (some w) (gives-some t u))))
+    (λ n. gives none (gives-none n refl))
+
+-- the type is there exactly if `>>` is
+given-in : {ws rest : List Word} {g : Option Word} → GivesIn ws rest g → given g ≡ eqb (peek ws .kind) twice
+given-in {ws} (gives-none n d) = sym (ne-eqb (peek ws .kind) 256 n)
+given-in {ws} (gives-some t u) = sym (eq-eqb (peek ws .kind) 256 (ap (λ w. w .kind) (peek-took t) ∙ t .kind))
+
+-- an operation, where `left` more names may be declared
+record OneOperation (seen : List ℕ) (left : ℕ) (ws rest : List Word) (o : Operation) : Type 0 where
+  pub operation : OperationIn seen ws rest o
+  pub some-left : 0 < left
+
+-- the instruction number, by the kind
+numbered-from : {ws ws₁ ws₂ ws₃ : List Word} {w : Word} {t g : Option Word} {left b : ℕ} (seen : List ℕ) → Named left ws ws₁ w → TakesIn ws₁ ws₂ t → GivesIn ws₂ ws₃ g
+    → b ≡ firstOf (given t) (eqb (peek ws₂ .kind) twice) → ofKind b seen < 256
+    → OneOperation seen left ws ws₃ (record { operation = w; takes = t; gives = g; instruction = b + ofKind b seen })
+numbered-from {t = t} {g = g} {b = b} seen x y z d h =
+    let same : b ≡ firstOf (given t) (given g) = d ∙ ap (firstOf (given t)) (sym (given-in z)) in
+    record
+    { operation = an-operation (x .word) y z (ap (λ c. c + ofKind c seen) same) (rw same at (let u : ofKind b seen ≤ 255 = omega arith in u)); some-left = x .some-left }
+
+numbered-in : {ws ws₁ ws₂ : List Word} {w : Word} {t : Option Word} {left : ℕ} (seen : List ℕ) (b : ℕ) → Named left ws ws₁ w → TakesIn ws₁ ws₂ t
+    → b ≡ firstOf (given t) (eqb (peek ws₂ .kind) twice) → From ws₂ (numbered w t b (ofKind b seen)) (λ rest o. OneOperation seen left ws rest o)
+unfolding numbered
+numbered-in {w = w} {t = t} seen b x y d =
+    either (ltb (ofKind b seen) 256) _ (λ _. fault 9 w)
+    (λ u. bind (optional twice aName) _ gives-in (λ ws₃ g z.
+    gives (record { operation = w; takes = t; gives = g; instruction = b + ofKind b seen }) (numbered-from seen x y z d (ltb-true (ofKind b seen) 256 u))))
+    (λ _. record { holds = λ rest o e. no-got e })
+
+operation-in : {ws : List Word} (left : ℕ) (seen : List ℕ) → From ws (anOperation left seen) (λ rest o. OneOperation seen left ws rest o)
+unfolding anOperation
+operation-in left seen =
+    bind (oneName left) _ (one-name left) (λ ws₁ w x.
+    bind aParameter _ takes-in (λ ws₂ t y.
+    record { holds = numbered-in seen _ x y refl .holds }))
+
+-- operations and how many
+record SomeOperations (seen : List ℕ) (left : ℕ) (ws rest : List Word) (os : List Operation) : Type 0 where
+  pub operations : OperationsIn seen ws rest os
+  pub few : length os ≤ left
+
+-- what stands behind an operation
+data BehindOperation (seen : List ℕ) (left : ℕ) (ws rest : List Word) : List Operation → Type 0 where
+  operation-last : {w : Word} → Took 59 ws w rest → BehindOperation seen left ws rest []
+  operation-more : {os : List Operation} → Not 59 ws → SomeOperations seen left ws rest os → BehindOperation seen left ws rest os
+
+with-operation : {seen : List ℕ} {left : ℕ} {ws ws₁ rest : List Word} {o : Operation} {os : List Operation}
+    → OneOperation seen left ws ws₁ o → BehindOperation (o .instruction ∷ seen) (left - 1) ws₁ rest os → SomeOperations seen left ws rest (o ∷ os)
+with-operation x (operation-last t) = record { operations = last-operation (x .operation) t; few = let h = x .some-left in omega arith }
+with-operation x (operation-more n m) = record { operations = more-operations (x .operation) n (m .operations); few = let h = x .some-left in let g = m .few in omega arith }
+
+some-operations-in : {ws : List Word} (k left : ℕ) (seen : List ℕ) → From ws (someOperations k left seen) (λ rest os. SomeOperations seen left ws rest os)
+unfolding someOperations
+some-operations-in zero left seen = refuses
+some-operations-in (suc k) left seen =
+    bind (anOperation left seen) _ (operation-in left seen) (λ ws₁ o x.
+    bind (on code ";" then (_>>_ pass (pure [])) else someOperations k (left - 1) (o .instruction ∷ seen)) _
+    (on-kind (code ";") _ _ (λ d. next pass _ (passes 59 refl d) (λ ws₂ w t. gives [] (operation-last t)))
+    (λ n. weaken (some-operations-in k (left - 1) (o .instruction ∷ seen)) (λ rest os m. operation-more n m)))
+    (λ ws₂ os b. gives (o ∷ os) (with-operation x b)))
+
+-- Sections
+
+-- a section, where `s .left` more names may be declared
+record OneSection (s : Sofar) (ws rest : List Word) (x : Section) : Type 0 where
+  pub section : SectionIn s ws rest x
+  pub few : namesIn x ≤ s .left
+
+-- a colon and entries, and how many
+record Listed (strings : Bool) (v left : ℕ) (ws rest : List Word) (es : List Entry) : Type 0 where
+  pub listed : ListedIn strings v ws rest es
+  pub few : length es ≤ left
+
+-- a colon, entries, and a section made of them
+listed-from : {P : List Word → Section → Type 0} {ws : List Word} (k left : ℕ) (strings : Bool) (v : ℕ) (make : List Entry → Section)
+    → ((rest : List Word) (es : List Entry) → Listed strings v left ws rest es → P rest (make es))
+    → From ws (_>>_ (expect (code ":")) (_>>=_ (entries k left strings v) (λ es. pure (make es)))) P
+listed-from k left strings v make h =
+    next (expect (code ":")) _ (expects 58 refl) (λ ws₁ colon t.
+    bind (entries k left strings v) _ (entries-in k left strings v) (λ ws₂ es m.
+    gives (make es) (h ws₂ es (record { listed = listed-in t (m .entries); few = m .few }))))
+
+tokens-in : {ws ws₁ : List Word} {head : Word} (k : ℕ) (s : Sofar) → Took 260 ws head ws₁ → From ws₁ (tokenSection k s) (λ rest x. OneSection s ws rest x)
+unfolding tokenSection namesIn
+tokens-in k s t =
+    on-kind output _ _
+    (λ d. next pass _ (passes 261 refl d) (λ ws₂ second u.
+    listed-from k (s .left) true (max (s .input) (s .output)) both (λ rest es m. record { section = both-in t u (m .listed); few = m .few })))
+    (λ n. listed-from k (s .left) true (s .input) inputs (λ rest es m. record { section = inputs-in t n (m .listed); few = m .few }))
+
+section-in : {ws : List Word} (k : ℕ) (s : Sofar) → From ws (aSection k s) (λ rest x. OneSection s ws rest x)
+unfolding aSection namesIn
+section-in k s =
+    on-kind input _ _ (λ d. next pass _ (passes 260 refl d) (λ ws₁ head t. tokens-in k s t))
+    (λ _. on-kind output _ _ (λ d. next pass _ (passes 261 refl d) (λ ws₁ head t.
+    listed-from k (s .left) true (s .output) outputs (λ rest es m. record { section = outputs-in t (m .listed); few = m .few })))
+    (λ _. on-kind error _ _ (λ d. next pass _ (passes 262 refl d) (λ ws₁ head t.
+    listed-from k (s .left) false (s .error) errors (λ rest es m. record { section = errors-in t (m .listed); few = m .few })))
+    (λ _. on-kind type _ _ (λ d. next pass _ (passes 263 refl d) (λ ws₁ head t.
+    bind (oneName (s .left)) _ (one-name (s .left)) (λ ws₂ w u.
+    listed-from k (s .left - 1) false 0 (values w) (λ rest es m.
+    record { section = values-in t (u .word) (m .listed); few = let h = u .some-left in let g = m .few in omega arith }))))
+    (λ _. next (expect mechanism) _ (expects 264 refl) (λ ws₁ head t.
+    next aName _ a-name (λ ws₂ w u.
+    next (expect (code ":")) _ (expects 58 refl) (λ ws₃ colon v.
+    bind (someOperations k (s .left) (s .seen)) _ (some-operations-in k (s .left) (s .seen)) (λ ws₄ os m.
+    gives (operations os) (record { section = operations-in t u v (m .operations); few = m .few })))))))))
+
+-- each section's names are taken from those left
+after-left : (s : Sofar) (x : Section) → after s x .left ≡ s .left - namesIn x
+unfolding after namesIn
+after-left s (inputs es) = refl
+after-left s (outputs es) = refl
+after-left s (both es) = refl
+after-left s (errors es) = refl
+after-left s (values w es) = omega arith
+after-left s (operations os) = refl
+
+-- the sections, and the names that they leave
+pub record AllSections (s : Sofar) (ws rest : List Word) (x : Sections) : Type 0 where
+  pub sections-in : SectionsIn s ws rest (x .sections)
+  pub few : namesInAll (x .sections) + x .left ≡ s .left
+
+pub some-sections-in : {ws : List Word} (k : ℕ) (s : Sofar) → From ws (someSections k s) (λ rest x. AllSections s ws rest x)
+unfolding someSections namesInAll
+some-sections-in zero s = refuses
+some-sections-in (suc k) s =
+    on-kind rules _ _ (λ d. gives (record { sections = []; left = s .left }) (record { sections-in = no-section d refl; few = omega arith }))
+    (λ n. bind (aSection k s) _ (section-in k s) (λ ws₁ x m.
+    bind (someSections k (after s x)) _ (some-sections-in k (after s x)) (λ ws₂ r ms.
+    gives (record { sections = x ∷ r .sections; left = r .left })
+    (record { sections-in = more-sections n (m .section) (ms .sections-in); few = let h = after-left s x in let g = m .few in let f = ms .few in omega arith }))))

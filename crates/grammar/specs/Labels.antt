@@ -1,0 +1,34 @@
+-- "64 labels a choice": every alternative of a tree as written has a label and at most 64.
+use mathlib.Core.List.{List, [], _∷_}
+use Prim.Native.Nat.{ℕ, _<_, _≤_}
+use lib.ListN.{length}
+use Rattle.base.specs.Tree.{Action, plain, cycle, choice, Actions, done, _▸_, Alternatives, nil, alternative, Otherwise, absent, otherwise}
+use Rattle.syntax.specs.Written.{Act, Acts, Alts, Other, Rule}
+
+unfoldable mutual
+  pub Labelled : Act → Type 0
+  Labelled (plain p) = Unit {0}
+  Labelled (cycle b) = LabelledAll b
+  Labelled (choice s q o) = LabelledAlts q × LabelledOther o
+
+  pub LabelledAll : Acts → Type 0
+  LabelledAll done = Unit {0}
+  LabelledAll (a ▸ q) = Labelled a × LabelledAll q
+
+  pub LabelledAlts : Alts → Type 0
+  LabelledAlts nil = Unit {0}
+  LabelledAlts (alternative ls b q) = (0 < length ls) × (length ls ≤ 64) × LabelledAll b × LabelledAlts q
+
+  pub LabelledOther : Other → Type 0
+  LabelledOther absent = Unit {0}
+  LabelledOther (otherwise b) = LabelledAll b
+
+-- each rule's actions
+unfoldable pub LabelledRules : List Rule → Type 0
+LabelledRules [] = Unit {0}
+LabelledRules (r ∷ rs) = LabelledAll (r .body) × LabelledRules rs
+
+-- all of this file computes where this is unfolded
+unfoldable pub opened : Unit {0}
+unfolding Labelled LabelledRules
+opened = tt

@@ -1,0 +1,363 @@
+// Lookups in the row of declarations. Nothing is asked of the text or of the row: a number past its end is read as 0, and a part of
+// the text that reaches past the text's end is cut there.
+ghost use mathlib.Core.Path.{_≡_};
+ghost use mathlib.Core.List.{List};
+ghost use Prim.Native.Nat.{ℕ, _+_, _*_, _-_, _<_, _≤_};
+ghost use lib.ListN.{length, getD};
+ghost use Rattle.base.specs.Common.{same, member, given};
+ghost use Rattle.names.specs.Known.{find, isWord};
+ghost use Rattle.names.specs.Declare.{valuesOf};
+ghost use Rattle.declarations.specs.Decls.{knownsIn, indexOf, declaredIn, elsewhereIn, lookupIn, typeIn};
+ghost use Rattle.symbols.specs.Rows.{wordOf, declAt, held, numberOf, operationIn, ruleIn, Looks};
+ghost use Rattle.symbols.specs.Search.{part, serves, knows, named, declares, counts, Tells};
+
+// Parts of the text
+
+// The length of a part.
+pub fn part_len(text: &[u8], start: usize, len: usize) -> usize
+    ensures { λ r. ⌜ r ≡ length (part (now (text .entry)) start len) ⌝ }
+{
+    if text.len() <= start {
+        return 0;
+    }
+    if len <= text.len() - start {
+        return len;
+    }
+    text.len() - start
+}
+
+// The n bytes at a and those at b are the same.
+fn same_bytes(text: &[u8], a: usize, b: usize, n: usize) -> bool
+    requires { ⌜ (n ≤ length (now text) - a) × (n ≤ length (now text) - b) ⌝ }
+    ensures { λ r. ⌜ r ≡ same (part (now (text .entry)) a n) (part (now (text .entry)) b n) ⌝ }
+{
+    let mut i = 0;
+    while i < n {
+        if text[a + i] != text[b + i] {
+            return false;
+        }
+        i += 1;
+    }
+    true
+}
+
+pub fn same_part(text: &[u8], a: usize, alen: usize, b: usize, blen: usize) -> bool
+    ensures { λ r. ⌜ r ≡ same (part (now (text .entry)) a alen) (part (now (text .entry)) b blen) ⌝ }
+{
+    let n = part_len(text, a, alen);
+    if n != part_len(text, b, blen) {
+        return false;
+    }
+    same_bytes(text, a, b, n)
+}
+
+// One declaration
+
+fn wide(x: u16) -> usize
+    ensures { λ r. ⌜ (r ≡ x) × (r < 65536) ⌝ }
+{
+    x as usize
+}
+
+// The number at i, 0 past the end.
+pub fn number(rows: &[u16], i: usize) -> usize
+    ensures { λ r. ⌜ (r ≡ getD (now (rows .entry)) i 0) × (r < 65536) ⌝ }
+{
+    if i < rows.len() {
+        return wide(rows[i]);
+    }
+    0
+}
+
+// A declaration of class d feeds the class c.
+fn serves(c: usize, d: usize) -> bool
+    ensures { λ r. ⌜ r ≡ serves c d ⌝ }
+{
+    if d == c {
+        return true;
+    }
+    if d != 3 {
+        return false;
+    }
+    if c == 1 {
+        return true;
+    }
+    c == 2
+}
+
+// The part is the name of declaration i.
+fn is_name(text: &[u8], rows: &[u16], i: usize, start: usize, len: usize) -> bool
+    requires { ⌜ i ≤ 512 ⌝ }
+    ensures { λ r. ⌜ r ≡ same (part (now (text .entry)) start len) (declAt (now (text .entry)) (now (rows .entry)) i .name .text) ⌝ }
+{
+    same_part(
+        text,
+        start,
+        len,
+        number(rows, 8 * i + 2),
+        number(rows, 8 * i + 3),
+    )
+}
+
+// The part is the second word of declaration i.
+fn is_second(text: &[u8], rows: &[u16], i: usize, start: usize, len: usize) -> bool
+    requires { ⌜ i ≤ 512 ⌝ }
+    ensures { λ r. ⌜ r ≡ isWord (part (now (text .entry)) start len) (declAt (now (text .entry)) (now (rows .entry)) i .second) ⌝ }
+{
+    let n = number(rows, 8 * i + 5);
+    if n == 0 {
+        return false;
+    }
+    same_part(text, start, len, number(rows, 8 * i + 4), n)
+}
+
+// The part is its name or its string, in the class.
+fn knows(text: &[u8], rows: &[u16], i: usize, class: usize, start: usize, len: usize) -> bool
+    requires { ⌜ i ≤ 512 ⌝ }
+    ensures { λ r. ⌜ r ≡ knows class (part (now (text .entry)) start len) (declAt (now (text .entry)) (now (rows .entry)) i) ⌝ }
+{
+    if !serves(class, number(rows, 8 * i)) {
+        return false;
+    }
+    if is_name(text, rows, i, start, len) {
+        return true;
+    }
+    is_second(text, rows, i, start, len)
+}
+
+// The part is its name, and this is its class.
+fn named(text: &[u8], rows: &[u16], i: usize, class: usize, start: usize, len: usize) -> bool
+    requires { ⌜ i ≤ 512 ⌝ }
+    ensures { λ r. ⌜ r ≡ named class (part (now (text .entry)) start len) (declAt (now (text .entry)) (now (rows .entry)) i) ⌝ }
+{
+    if number(rows, 8 * i) != class {
+        return false;
+    }
+    is_name(text, rows, i, start, len)
+}
+
+// The part is declared by it.
+fn declares(text: &[u8], rows: &[u16], i: usize, start: usize, len: usize) -> bool
+    requires { ⌜ i ≤ 512 ⌝ }
+    ensures { λ r. ⌜ r ≡ declares (part (now (text .entry)) start len) (declAt (now (text .entry)) (now (rows .entry)) i) ⌝ }
+{
+    if is_name(text, rows, i, start, len) {
+        return true;
+    }
+    if number(rows, 8 * i) == 6 {
+        return false;
+    }
+    is_second(text, rows, i, start, len)
+}
+
+// It has the value in the class.
+fn counts(rows: &[u16], i: usize, class: usize, v: usize) -> bool
+    requires { ⌜ i ≤ 512 ⌝ }
+    ensures { λ r. ⌜ r ≡ counts class v (getD (now (rows .entry)) (8 * i) 0) (getD (now (rows .entry)) (8 * i + 1) 0) ⌝ }
+{
+    if !serves(class, number(rows, 8 * i)) {
+        return false;
+    }
+    v == number(rows, 8 * i + 1)
+}
+
+// The row
+
+// The value of a part in a class, 65,536 where it has none.
+pub fn find_value(
+    text: &[u8],
+    rows: &[u16],
+    n: usize,
+    class: usize,
+    start: usize,
+    len: usize,
+) -> usize
+    requires { ⌜ n ≤ 512 ⌝ }
+    ensures same { λ r. ⌜ r ≡ numberOf (find (part (now (text .entry)) start len) (knownsIn class (held (now (text .entry)) (now (rows .entry)) n))) ⌝ }
+    ensures tells { λ r. ⌜ Tells r (find (part (now (text .entry)) start len) (knownsIn class (held (now (text .entry)) (now (rows .entry)) n))) ⌝ }
+{
+    let mut i = 0;
+    while i < n {
+        if knows(text, rows, i, class, start, len) {
+            return number(rows, 8 * i + 1);
+        }
+        i += 1;
+    }
+    65536
+}
+
+// The first declaration of the class that has the part as its name, 65,536 where there is none.
+pub fn find_row(
+    text: &[u8],
+    rows: &[u16],
+    n: usize,
+    class: usize,
+    start: usize,
+    len: usize,
+) -> usize
+    requires { ⌜ n ≤ 512 ⌝ }
+    ensures same { λ r. ⌜ r ≡ numberOf (indexOf class (part (now (text .entry)) start len) 0 (held (now (text .entry)) (now (rows .entry)) n)) ⌝ }
+    ensures tells { λ r. ⌜ Tells r (indexOf class (part (now (text .entry)) start len) 0 (held (now (text .entry)) (now (rows .entry)) n)) ⌝ }
+    ensures below { λ r. ⌜ (r < 65536 → r < n) ⌝ }
+{
+    let mut i = 0;
+    while i < n {
+        if named(text, rows, i, class, start, len) {
+            return i;
+        }
+        i += 1;
+    }
+    65536
+}
+
+// The class has the part as a name or string.
+pub fn is_known(text: &[u8], rows: &[u16], n: usize, class: usize, start: usize, len: usize) -> bool
+    requires { ⌜ n ≤ 512 ⌝ }
+    ensures { λ r. ⌜ r ≡ given (find (part (now (text .entry)) start len) (knownsIn class (held (now (text .entry)) (now (rows .entry)) n))) ⌝ }
+{
+    find_value(text, rows, n, class, start, len) < 65536
+}
+
+// There is a declaration of the class that has the part as its name.
+pub fn has_row(text: &[u8], rows: &[u16], n: usize, class: usize, start: usize, len: usize) -> bool
+    requires { ⌜ n ≤ 512 ⌝ }
+    ensures { λ r. ⌜ r ≡ given (indexOf class (part (now (text .entry)) start len) 0 (held (now (text .entry)) (now (rows .entry)) n)) ⌝ }
+{
+    find_row(text, rows, n, class, start, len) < 65536
+}
+
+// The part is declared in some class.
+pub fn is_declared(text: &[u8], rows: &[u16], n: usize, start: usize, len: usize) -> bool
+    requires { ⌜ n ≤ 512 ⌝ }
+    ensures { λ r. ⌜ r ≡ declaredIn (part (now (text .entry)) start len) (held (now (text .entry)) (now (rows .entry)) n) ⌝ }
+{
+    let mut i = 0;
+    while i < n {
+        if declares(text, rows, i, start, len) {
+            return true;
+        }
+        i += 1;
+    }
+    false
+}
+
+// The class has the value, whatever the text.
+pub fn has_value(rows: &[u16], n: usize, class: usize, v: usize) -> bool
+    requires { ⌜ n ≤ 512 ⌝ }
+    ensures { λ r. ⌜ ((text : List ℕ) → r ≡ member v (valuesOf (knownsIn class (held text (now (rows .entry)) n)))) ⌝ }
+{
+    let mut i = 0;
+    while i < n {
+        if counts(rows, i, class, v) {
+            return true;
+        }
+        i += 1;
+    }
+    false
+}
+
+// Words looked up
+
+// A fault, or 0 and a value.
+pub struct Looked {
+    pub fault: u16,
+    pub value: usize,
+}
+
+// The fault of a part that is not in the class wanted.
+fn elsewhere(text: &[u8], rows: &[u16], n: usize, start: usize, len: usize) -> u16
+    requires { ⌜ n ≤ 512 ⌝ }
+    ensures { λ r. ⌜ r ≡ elsewhereIn (held (now (text .entry)) (now (rows .entry)) n) (part (now (text .entry)) start len) ⌝ }
+{
+    if is_declared(text, rows, n, start, len) {
+        return 5;
+    }
+    3
+}
+
+// The value of a word in a class.
+pub fn value_of(
+    text: &[u8],
+    rows: &[u16],
+    n: usize,
+    class: usize,
+    start: usize,
+    len: usize,
+) -> Looked
+    requires { ⌜ n ≤ 512 ⌝ }
+    ensures looks { λ r. ⌜ ((kind : ℕ) → Looks (r .fault) (r .value) (lookupIn (held (now (text .entry)) (now (rows .entry)) n) class (wordOf (now (text .entry)) kind start len))) ⌝ }
+    ensures low { λ r. ⌜ r .value < 65536 ⌝ }
+{
+    let v = find_value(text, rows, n, class, start, len);
+    if v < 65536 {
+        return Looked { fault: 0, value: v };
+    }
+    Looked {
+        fault: elsewhere(text, rows, n, start, len),
+        value: 0,
+    }
+}
+
+// The declaration of an operation.
+pub fn operation_of(text: &[u8], rows: &[u16], n: usize, start: usize, len: usize) -> Looked
+    requires { ⌜ n ≤ 512 ⌝ }
+    ensures looks { λ r. ⌜ ((kind : ℕ) → Looks (r .fault) (r .value) (operationIn (held (now (text .entry)) (now (rows .entry)) n) (wordOf (now (text .entry)) kind start len))) ⌝ }
+    ensures low { λ r. ⌜ (r .fault ≡ 0 → r .value < n) ⌝ }
+{
+    let i = find_row(text, rows, n, 6, start, len);
+    if i < 65536 {
+        return Looked { fault: 0, value: i };
+    }
+    Looked {
+        fault: elsewhere(text, rows, n, start, len),
+        value: 0,
+    }
+}
+
+// The declaration of a rule.
+pub fn rule_of(text: &[u8], rows: &[u16], n: usize, start: usize, len: usize) -> Looked
+    requires { ⌜ n ≤ 512 ⌝ }
+    ensures looks { λ r. ⌜ ((kind : ℕ) → Looks (r .fault) (r .value) (ruleIn (held (now (text .entry)) (now (rows .entry)) n) (wordOf (now (text .entry)) kind start len))) ⌝ }
+    ensures low { λ r. ⌜ (r .fault ≡ 0 → r .value < n) ⌝ }
+{
+    if has_row(text, rows, n, 6, start, len) {
+        return Looked { fault: 5, value: 0 };
+    }
+    let i = find_row(text, rows, n, 7, start, len);
+    if i < 65536 {
+        return Looked { fault: 0, value: i };
+    }
+    Looked {
+        fault: elsewhere(text, rows, n, start, len),
+        value: 0,
+    }
+}
+
+// The class of a type that is one of the first `before` declarations.
+pub fn type_of(
+    text: &[u8],
+    rows: &[u16],
+    n: usize,
+    before: usize,
+    start: usize,
+    len: usize,
+) -> Looked
+    requires { ⌜ (n ≤ 512) × (before ≤ n) ⌝ }
+    ensures looks { λ r. ⌜ ((kind : ℕ) → Looks (r .fault) (r .value) (typeIn (held (now (text .entry)) (now (rows .entry)) n) (held (now (text .entry)) (now (rows .entry)) before) (wordOf (now (text .entry)) kind start len))) ⌝ }
+    ensures low { λ r. ⌜ (r .fault ≡ 0 → r .value < 8 + before) ⌝ }
+{
+    let i = find_row(text, rows, before, 5, start, len);
+    if i < 65536 {
+        return Looked {
+            fault: 0,
+            value: 8 + i,
+        };
+    }
+    if has_row(text, rows, n, 5, start, len) {
+        return Looked { fault: 3, value: 0 };
+    }
+    Looked {
+        fault: elsewhere(text, rows, n, start, len),
+        value: 0,
+    }
+}
