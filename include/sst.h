@@ -1,4 +1,4 @@
-/* S/SL tables: walking a table, whole or in pauses.
+/* S/SL tables: from a program's text to its table and verdict, and walking a table, whole or in pauses.
  *
  * Words are 16 bits, high byte first; an odd last byte of a buffer counts for nothing and is never touched. A buffer is a pointer and
  * its length in bytes; the pointer is not null, also where the length is 0. Buffers of one call do not overlap. Nothing is kept between
@@ -18,6 +18,19 @@
  *   36  the budget is done: call again
  *   37  stopped: the table is no table of the processor's
  * Only 22, 35 and 36 leave a walk that can be called on; the other stops are final, and repeat.
+ *
+ * The number that sst_process answers (docs/FAULTS.md has a bad and a mended text for each):
+ *    0  accepted
+ *    1  a byte or a quote that makes no word
+ *    2  a word that is not allowed here, or the text ends early
+ *    3  a name or string that is declared nowhere, or a type that is not yet declared
+ *    4  declared twice, or a value repeated
+ *    5  declared, but not in the class wanted here
+ *    6  a label repeated
+ *    7  `>` outside a cycle
+ *    8  a choice rule that reaches its semicolon, `>>` without its value, or with one in a procedure rule
+ *    9  over a limit
+ *   20  the table passes the lent buffer or 4,096 words
  */
 #ifndef SST_H
 #define SST_H
@@ -28,6 +41,13 @@
 #ifdef __cplusplus
 extern "C" {
 #endif
+
+/* Translates a program. Read: text, any bytes. Lent: table, every whole word of which is written: the table's words and then zeros, or zeros
+ * alone on a refusal. `*start` and `*len` become the part of the text at fault (0 and 0 on acceptance; the empty part at the end for 20
+ * and for a text over 32,768 bytes), `*words` the number of the table's words, `*finishing` 1 where the verdict is "finishing" (both 0 on a
+ * refusal). Answers any number of the second list above. */
+uint16_t sst_process(const uint8_t *text, size_t text_len, uint8_t *table, size_t table_len, uint64_t *start, uint64_t *len,
+                     uint64_t *words, uint64_t *finishing);
 
 /* The bytes of a walk. */
 #define SST_WALK_BYTES 156

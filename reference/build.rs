@@ -1,4 +1,4 @@
-//! Compiles c/walker.c and, with the feature `lib`, links libfirmware.a.
+//! Compiles the files of c/ and, with the feature `lib`, links libfirmware.a.
 
 use std::env;
 use std::path::Path;
@@ -20,16 +20,27 @@ fn run(command: &mut Command) {
 fn main() {
     let Ok(out) = env::var("OUT_DIR") else { fail("OUT_DIR is not set") };
     let compiler = env::var("CC").unwrap_or_else(|_| "gcc".to_string());
-    let object = format!("{out}/walker.o");
     let archive = format!("{out}/libcwalker.a");
     println!("cargo::rerun-if-env-changed=CC");
     println!("cargo::rerun-if-changed=build.rs");
-    println!("cargo::rerun-if-changed=c/walker.c");
-    run(Command::new(compiler)
-        .args(["-std=c99", "-O2", "-Wall", "-Wextra", "-pedantic", "-fPIC", "-c", "c/walker.c", "-o"])
-        .arg(&object));
     let _ = std::fs::remove_file(&archive);
-    run(Command::new("ar").arg("crs").arg(&archive).arg(&object));
+    for name in ["walker", "stack"] {
+        let (source, object) = (format!("c/{name}.c"), format!("{out}/{name}.o"));
+        println!("cargo::rerun-if-changed={source}");
+        run(Command::new(&compiler).args([
+            "-std=c99",
+            "-O2",
+            "-Wall",
+            "-Wextra",
+            "-pedantic",
+            "-fPIC",
+            "-c",
+            &source,
+            "-o",
+            &object,
+        ]));
+        run(Command::new("ar").args(["crs", &archive, &object]));
+    }
     println!("cargo::rustc-link-search=native={out}");
     println!("cargo::rustc-link-lib=static=cwalker");
 
@@ -56,7 +67,7 @@ fn entries_only(library: &Path, out: &str) {
     let archive = format!("{out}/libfirmware.a");
     let mut linker = Command::new("ld");
     linker.args(["-r", "--force-group-allocation", "-o", &object]);
-    for entry in ["fresh", "whole", "paused", "phase", "reason", "location", "read", "used"] {
+    for entry in ["fresh", "whole", "paused", "phase", "reason", "location", "read", "used", "process"] {
         linker.args(["-u", &format!("sst_{entry}")]);
     }
     run(linker.arg(library));

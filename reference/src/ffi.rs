@@ -1,8 +1,9 @@
 //! The C entries: of the library (`include/sst.h`, feature `lib`) and of the plain C walker (`c/walker.c`).
 #![allow(unsafe_code)]
 
-use crate::side::{Inputs, Side};
+use crate::side::{Inputs, Processor, Side};
 use crate::walker::Done;
+use std::ffi::c_void;
 
 macro_rules! side {
     ($(#[$doc:meta])* $side:ident $name:literal $fresh:ident $whole:ident $paused:ident
@@ -146,7 +147,7 @@ pub fn cpu_seconds() -> f64 {
     ticks as f64 * 1e-6
 }
 
-/// What `*written` and `*steps` hold before a call; no call may leave it there.
+/// What the numbers to be written hold before a call; no call may leave it there.
 const UNSET: u64 = 0xDEAD_BEEF_DEAD_BEEF;
 
 side! {
@@ -158,6 +159,77 @@ side! {
 side! {
     /// The library.
     Library "lib" sst_fresh sst_whole sst_paused sst_phase sst_reason sst_location sst_read sst_used
+}
+
+#[cfg(feature = "lib")]
+mod process {
+    use super::{Library, UNSET};
+    use crate::side::{Processed, Processor};
+
+    unsafe extern "C" {
+        fn sst_process(
+            text: *const u8,
+            text_len: usize,
+            table: *mut u8,
+            table_len: usize,
+            start: *mut u64,
+            len: *mut u64,
+            words: *mut u64,
+            finishing: *mut u64,
+        ) -> u16;
+    }
+
+    impl Processor for Library {
+        fn name(&self) -> &'static str {
+            "lib"
+        }
+
+        fn process(&self, text: &[u8], table: &mut [u8]) -> Processed {
+            let [mut start, mut len, mut words, mut finishing] = [UNSET; 4];
+            // Each pointer comes with the length of its own slice and is not null; the slices and numbers do not overlap.
+            let number = unsafe {
+                sst_process(
+                    text.as_ptr(),
+                    text.len(),
+                    table.as_mut_ptr(),
+                    table.len(),
+                    &mut start,
+                    &mut len,
+                    &mut words,
+                    &mut finishing,
+                )
+            };
+            Processed { number, start, len, words, finishing }
+        }
+    }
+}
+
+/// The library's processor, where it is linked.
+#[cfg(feature = "lib")]
+pub fn processor() -> Option<&'static (dyn Processor + Sync)> {
+    Some(&Library)
+}
+
+/// The library's processor, where it is linked.
+#[cfg(not(feature = "lib"))]
+pub fn processor() -> Option<&'static (dyn Processor + Sync)> {
+    None
+}
+
+unsafe extern "C" {
+    fn cs_used(run: extern "C" fn(*mut c_void), context: *mut c_void, stack: *mut u8, size: usize) -> u64;
+}
+
+/// The bytes of stack that a function needs, measured in a thread of its own with a painted stack of that size.
+pub fn stack_used<F: FnMut() + Send>(mut function: F, size: usize) -> Option<u64> {
+    extern "C" fn run<F: FnMut()>(context: *mut c_void) {
+        // The thread ends before `stack_used` does, and nothing else uses the function meanwhile.
+        let function = unsafe { &mut *context.cast::<F>() };
+        function();
+    }
+    let mut stack = vec![0u8; size];
+    let used = unsafe { cs_used(run::<F>, (&raw mut function).cast(), stack.as_mut_ptr(), stack.len()) };
+    (used != 0).then_some(used)
 }
 
 /// The library, where it is linked.

@@ -1,4 +1,5 @@
-//! A second walker for S/SL tables, written from the papers, with what is needed to compare it with the library and to time both.
+//! A second walker and a second processor for S/SL, written from the papers, with what is needed to compare them with the library
+//! and to time both.
 #![deny(unsafe_code)]
 
 pub mod ffi;
@@ -9,4 +10,8 @@ pub mod walker;
 
 pub mod processor;
 pub mod rules;
+
+pub mod faults;
+pub mod limits;
+pub mod programs;
 pub mod texts;

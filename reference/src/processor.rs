@@ -1,8 +1,10 @@
 //! A second processor: from a program's text to its table and its verdict, in separate passes over the whole text.
 //!
-//! 1. `words` cuts the text; 2. `Parser` makes a tree and finds the first of the numbers 1, 2 and 9; 3. `Names` finds all of the
-//! numbers 3 to 8 and takes the least by place, then number; 4. `assemble` writes the words and patches the distances afterwards;
-//! 5. `finishing` looks for quiet ways in a graph of the program's points.
+//! 1. `words` cuts the text
+//! 2. `Parser` makes a tree and finds the first of the numbers 1, 2 and 9
+//! 3. `Names` finds all of the numbers 3 to 8 and takes the least by place, then number
+//! 4. `assemble` writes the words and patches the distances afterwards
+//! 5. `finishing` looks for quiet ways in a graph of the program's points
 
 use std::collections::{HashMap, HashSet};
 
@@ -472,16 +474,15 @@ impl Parser<'_> {
         loop {
             let otherwise = self.takes("*");
             let mut labels = Vec::new();
-            while !otherwise {
+            let mut more = !otherwise;
+            while more {
                 let label = self.reference()?;
                 count += 1;
                 if count > MAX_LABELS {
                     self.over.push(label);
                 }
                 labels.push(label);
-                if !self.takes(",") {
-                    break;
-                }
+                more = self.takes(",");
             }
             self.must(":")?;
             alternatives.push(Alternative { otherwise, labels, nodes: self.actions(depth)? });
@@ -1002,7 +1003,8 @@ impl Assembly {
         self.words.len()
     }
 
-    fn to_here(&mut self, hole: usize) {
+    /// The distance at a hole leads to the next word.
+    fn patch(&mut self, hole: usize) {
         self.words[hole - 1] = self.here() - hole;
     }
 
@@ -1031,7 +1033,7 @@ impl Assembly {
                     let mut own = Vec::new();
                     self.acts(acts, &mut own);
                     self.back(start);
-                    own.into_iter().for_each(|hole| self.to_here(hole));
+                    own.into_iter().for_each(|hole| self.patch(hole));
                 }
                 Act::Exit => {
                     let hole = self.hole(1);
@@ -1075,7 +1077,7 @@ impl Assembly {
             self.acts(acts, exits);
             ends.push(self.hole(1));
         }
-        self.to_here(to_table);
+        self.patch(to_table);
         self.words.push(entries.len());
         for (label, start) in &entries {
             self.words.push(*label);
@@ -1090,7 +1092,7 @@ impl Assembly {
             }
             None => self.words.push(12),
         }
-        ends.into_iter().for_each(|hole| self.to_here(hole));
+        ends.into_iter().for_each(|hole| self.patch(hole));
     }
 }
 

@@ -36,15 +36,20 @@ struct Walk<'a> {
 
 /// Walks a program from its first rule's start, at most so many steps.
 pub fn walk(program: &Program, tokens: &[u16], answers: &[u16], steps: usize) -> End {
+    follow(program, tokens, answers, steps, |_| ()).0
+}
+
+/// Such a walk, looked at after each step; with its end, the steps done.
+pub fn follow(program: &Program, tokens: &[u16], answers: &[u16], steps: usize, mut look: impl FnMut(&End)) -> (End, usize) {
     let end = End { reason: None, events: Vec::new(), read: 0, used: 0 };
     let mut walk = Walk { program, tokens, answers, places: vec![vec![Rest::List(&program.rules[0].acts)]], end };
-    for _ in 0..steps {
-        if let Err(reason) = walk.step() {
-            walk.end.reason = Some(reason);
-            break;
-        }
+    let mut done = 0;
+    while done < steps && walk.end.reason.is_none() {
+        walk.end.reason = walk.step().err();
+        done += 1;
+        look(&walk.end);
     }
-    walk.end
+    (walk.end, done)
 }
 
 impl<'a> Walk<'a> {

@@ -1,5 +1,6 @@
-//! The entries of the C interface, as one trait for all walkers, and this crate's own walker behind it.
+//! The entries of the C interface, as a trait for all walkers and one for all processors, and this crate's own behind them.
 
+use crate::processor::{self, Answer};
 use crate::walker::{self, Done, Phase, REFUSED, Walk};
 
 /// What a call reads.
@@ -23,8 +24,43 @@ pub trait Side {
     fn used(&self, walk: &[u8]) -> u64;
 }
 
-/// The walker of this crate.
+/// What a call of the processor answers, the lent bytes apart.
+#[derive(Clone, Copy, PartialEq, Eq, Debug)]
+pub struct Processed {
+    pub number: u16,
+    pub start: u64,
+    pub len: u64,
+    pub words: u64,
+    pub finishing: u64,
+}
+
+/// The entry `sst_process`.
+pub trait Processor {
+    fn name(&self) -> &'static str;
+    fn process(&self, text: &[u8], table: &mut [u8]) -> Processed;
+}
+
+/// The walker and the processor of this crate.
 pub struct Reference;
+
+impl Processor for Reference {
+    fn name(&self) -> &'static str {
+        "rust"
+    }
+
+    fn process(&self, text: &[u8], table: &mut [u8]) -> Processed {
+        let answer = processor::process(text, table.len() / 2);
+        processor::lent(&answer, table);
+        match answer {
+            Answer::Accepted { table, finishing } => {
+                Processed { number: 0, start: 0, len: 0, words: table.len() as u64, finishing: u64::from(finishing) }
+            }
+            Answer::Refused { number, start, len } => {
+                Processed { number, start: start as u64, len: len as u64, words: 0, finishing: 0 }
+            }
+        }
+    }
+}
 
 const REFUSAL: Done = Done { number: REFUSED, written: 0, steps: 0 };
 

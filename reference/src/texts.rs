@@ -1,4 +1,4 @@
-//! Texts of programs from a seed: good ones of every shape, damaged ones, and ones around the limits.
+//! Texts of programs from a seed: good ones of every shape and damaged ones.
 
 use crate::processor::{Act, By, Program};
 use crate::rules;
@@ -10,27 +10,38 @@ pub struct Seed(u64);
 impl Seed {
     pub fn new(seed: u64) -> Seed {
         let mut seed = Seed(seed.wrapping_mul(0x9E37_79B9_7F4A_7C15) ^ 0x5851_F42D_4C95_7F2D);
-        (0..4).for_each(|_| _ = seed.next());
+        (0..4).for_each(|_| _ = seed.draw());
         seed
     }
 
-    fn next(&mut self) -> u64 {
+    pub fn draw(&mut self) -> u64 {
         self.0 = self.0.wrapping_mul(6_364_136_223_846_793_005).wrapping_add(1_442_695_040_888_963_407);
         let mixed = (self.0 ^ (self.0 >> 29)).wrapping_mul(0xBF58_476D_1CE4_E5B9);
         mixed ^ (mixed >> 32)
     }
 
     pub fn below(&mut self, bound: usize) -> usize {
-        if bound == 0 { 0 } else { (self.next() % bound as u64) as usize }
+        if bound == 0 { 0 } else { (self.draw() % bound as u64) as usize }
     }
 
     pub fn one_in(&mut self, n: usize) -> bool {
         self.below(n) == 0
     }
 
-    fn of<'a, T>(&mut self, items: &'a [T]) -> &'a T {
+    /// A number from `low` to `high`, both included.
+    pub fn within(&mut self, low: usize, high: usize) -> usize {
+        low + self.below(high - low + 1)
+    }
+
+    pub fn of<'a, T>(&mut self, items: &'a [T]) -> &'a T {
         let index = self.below(items.len());
         &items[index]
+    }
+
+    pub fn fill(&mut self, bytes: &mut [u8]) {
+        for chunk in bytes.chunks_mut(8) {
+            chunk.copy_from_slice(&self.draw().to_le_bytes()[..chunk.len()]);
+        }
     }
 }
 
@@ -38,7 +49,7 @@ pub type Words = Vec<Vec<u8>>;
 
 const NAMES: [&str; 16] = ["a", "b", "c", "d", "e", "f", "g", "x", "y", "t", "u", "M", "N", "R", "a1", "B_"];
 const STRINGS: [&str; 7] = ["'a'", "'b'", "'x'", "';'", "'>>'", "'if'", "' '"];
-const VOCABULARY: [&str; 46] = [
+pub const VOCABULARY: [&str; 46] = [
     ":",
     ";",
     ",",
@@ -111,6 +122,20 @@ struct Maker<'a> {
     fuel: usize,
 }
 
+/// A word, now and then in its other spelling.
+pub fn spelled(seed: &mut Seed, word: &str) -> Vec<u8> {
+    let other = match word {
+        "{" => "do",
+        "}" => "od",
+        "[" => "if",
+        "]" => "fi",
+        "|" => "!",
+        _ => word,
+    };
+    let word = if seed.one_in(12) { other } else { word };
+    word.as_bytes().to_vec()
+}
+
 /// The words of a good program; `size` is about the number of its actions.
 pub fn good(seed: &mut Seed, size: usize) -> Words {
     let mut maker = Maker {
@@ -134,16 +159,8 @@ pub fn good(seed: &mut Seed, size: usize) -> Words {
 
 impl Maker<'_> {
     fn put(&mut self, word: &str) {
-        let other = match word {
-            "{" => "do",
-            "}" => "od",
-            "[" => "if",
-            "]" => "fi",
-            "|" => "!",
-            _ => word,
-        };
-        let word = if self.seed.one_in(12) { other } else { word };
-        self.words.push(word.as_bytes().to_vec());
+        let word = spelled(self.seed, word);
+        self.words.push(word);
     }
 
     /// A name that is none of those.
@@ -570,7 +587,7 @@ pub fn damage(seed: &mut Seed, text: &mut Vec<u8>) {
     for _ in 0..1 + seed.below(2) {
         let at = seed.below(text.len() + 1);
         let byte = match seed.below(3) {
-            0 => seed.next() as u8,
+            0 => seed.draw() as u8,
             _ => *seed.of(b"'%_$\n\r\t \0\"\\+<>!*:;|aZ09\x0c\xff"),
         };
         match seed.below(4) {
@@ -584,7 +601,13 @@ pub fn damage(seed: &mut Seed, text: &mut Vec<u8>) {
 
 /// The words with something between them where that is needed, and now and then where it is not.
 pub fn join(seed: &mut Seed, words: &Words) -> Vec<u8> {
+    placed(seed, words).0
+}
+
+/// Such a text, with the place of each word.
+pub fn placed(seed: &mut Seed, words: &Words) -> (Vec<u8>, Vec<usize>) {
     let mut text: Vec<u8> = Vec::new();
+    let mut places = Vec::new();
     let loose = 2 + seed.below(30);
     for word in words {
         let last = text.last().copied().unwrap_or(b' ');
@@ -594,12 +617,13 @@ pub fn join(seed: &mut Seed, words: &Words) -> Vec<u8> {
             let gaps = [" ", " ", " ", " ", "\n", "\t", "\r", "%'\n", "% end\r\n", " \n "];
             text.extend_from_slice(seed.of(&gaps).as_bytes());
         }
+        places.push(text.len());
         text.extend_from_slice(word);
     }
     if seed.one_in(8) {
         text.extend_from_slice(seed.of(&["\n", " ", "%", "%end"]).as_bytes());
     }
-    text
+    (text, places)
 }
 
 /// A text: good, with words changed, or with bytes changed.
@@ -614,55 +638,6 @@ pub fn text(seed: &mut Seed, size: usize) -> Vec<u8> {
         damage(seed, &mut text);
     }
     text
-}
-
-/// Texts around the limits, with the number each is refused with, or none.
-pub fn limits() -> Vec<(Vec<u8>, Option<u16>)> {
-    let list = |stem: &str, n: usize, tail: &str| (0..n).map(|i| format!("{stem}{i}{tail} ")).collect::<String>();
-    let mut out: Vec<(String, Option<u16>)> = Vec::new();
-    let mut both = |make: &dyn Fn(usize) -> String, most: usize, number: u16| {
-        out.push((make(most - 1), None));
-        out.push((make(most), None));
-        out.push((make(most + 1), Some(number)));
-    };
-    both(&|n| format!("rules M: {} {}; end", "{".repeat(n), "}".repeat(n)), 32, 9);
-    both(&|n| format!("rules M: {} {}; end", "[|*:".repeat(n), "]".repeat(n)), 32, 9);
-    both(
-        &|n| {
-            format!(
-                "rules M: ; N: {}? {}; end",
-                "do if|*:".repeat(n / 2) + ["", "{"][n % 2],
-                ["", "}"][n % 2].to_string() + &"] }".repeat(n / 2)
-            )
-        },
-        32,
-        9,
-    );
-    both(
-        &|n| format!("input: {}; rules M: [|{}: ]; end", list("a", 70, ""), list("a", n, ",").trim_end_matches([',', ' '])),
-        64,
-        9,
-    );
-    both(&|n| format!("type t: {}; rules M: [@N {}]; N>>t: >>a0; end", list("a", 70, ""), list("|a", n, ":?")), 64, 9);
-    both(&|n| format!("rules {}end", list("r", n, ":;")), 128, 9);
-    both(&|n| format!("input: {}; rules M:; end", list("a", n - 1, "")), 512, 9);
-    both(&|n| format!("output: {}; type t:v; rules M:; N:; end", list("a", n - 4, "")), 512, 9);
-    for tail in ["", "(t)", ">>t", "(t)>>t"] {
-        both(&|n| format!("type t: v; mechanism m: {}; rules M:; end", list("f", n, tail)), 256, 9);
-    }
-    both(&|n| format!("input: a = {n}; rules M: a; end"), 65_535, 9);
-    both(&|n| format!("error: a = {} b; rules M: #b; end", n - 1), 65_535, 9);
-    both(&|n| format!("input: a = {}; output: b; input output: c; rules M: .c; end", n - 1), 65_535, 9);
-    both(&|n| format!("rules {}: ; end", "n".repeat(n)), 32, 9);
-    both(&|n| format!("mechanism {}: f; rules M: ; end", "n".repeat(n)), 32, 9);
-    both(&|n| format!("input: a '{}'; rules M: a; end", "n".repeat(n)), 32, 1);
-    both(&|n| format!("rules M: {}; end", "?".repeat(n - 1)), 4_096, 20);
-    both(&|n| format!("input: a; rules M: {{[|a:|*:{}]}}; end", "> ".repeat((n - 10) / 2) + ["", "?"][n % 2]), 4_096, 20);
-    both(&|n| format!("rules M: ; end{}", " ".repeat(n - 14)), 32_768, 9);
-    both(&|n| format!("rules M: ; end{}", "%".repeat(n - 14)), 32_768, 9);
-    out.push((format!("input: a; rules M: {}; end", "[|a:]".repeat(6_500)), Some(20)));
-    out.push((format!("rules M: {}; end", "{".repeat(32_000)), Some(9)));
-    out.into_iter().map(|(text, number)| (text.into_bytes(), number)).collect()
 }
 
 /// Tokens and answers that lead the rules' own walk on: where it stops for want of one, that one is found or made up.
@@ -768,17 +743,6 @@ mod tests {
         }
         let numbers: Vec<u16> = met.keys().copied().collect();
         assert_eq!(numbers, [1, 2, 3, 4, 5, 6, 7, 8, 9, 20, 100, 101], "{met:?}");
-    }
-
-    #[test]
-    fn around_the_limits() {
-        for (text, expected) in limits() {
-            let number = match process(&text, 70_000) {
-                Answer::Accepted { .. } => None,
-                Answer::Refused { number, .. } => Some(number),
-            };
-            assert_eq!(number, expected, "{} bytes: {}", text.len(), String::from_utf8_lossy(&text[..text.len().min(80)]));
-        }
     }
 
     /// The rules' own walk and the walker over the table give the same reason, events, tokens read and answers used.

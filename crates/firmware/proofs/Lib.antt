@@ -2,3 +2,4 @@
 pub mod Laws
 pub mod Walks
 pub mod Calls
+pub mod Processing

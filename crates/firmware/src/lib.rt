@@ -5,10 +5,12 @@ ghost use Prim.Native.Nat.{_+_, _*_, _%_, _<_, _≤_, min};
 ghost use lib.ListN.{length, take, drop, getD};
 ghost use Rattle.base.specs.Common.{same as sameBytes};
 ghost use Rattle.events.specs.Events.{reasonNumber};
-ghost use Rattle.machine.specs.Bytes.{wordsOf};
+ghost use Rattle.machine.specs.Bytes.{wordsOf, count};
 ghost use Rattle.machine.specs.Walk.{fresh};
 ghost use Rattle.machine.specs.Call.{whole};
 ghost use Rattle.machine.specs.Form as form;
+ghost use Rattle.processor.specs.Process.{process, lentBytes};
+ghost use Rattle.firmware.specs.Processing.{flagOf, numbersOf, tells};
 ghost use Rattle.walker.specs.View as view;
 ghost use Rattle.firmware.specs.Writes.{puts, registerWords, registersIn, Holds};
 ghost use Rattle.firmware.specs.Entries.{phaseIn, reasonIn, phaseNumber, reasonOrNone, locationOr0, readOr0, usedOr0, freshNumber, freshIn, handing, gives};
@@ -473,4 +475,31 @@ pub extern "C" fn sst_used(walk: &[u8]) -> u64
     } else {
         0
     }
+}
+
+fn flag(b: bool) -> u64
+    ensures { λ r. ⌜ r ≡ flagOf b ⌝ }
+{
+    if b { 1 } else { 0 }
+}
+
+// The processor, on bytes and numbers alone.
+#[no_mangle]
+pub extern "C" fn sst_process(
+    text: &[u8],
+    table: &mut [u8],
+    start: &mut u64,
+    len: &mut u64,
+    words: &mut u64,
+    finishing: &mut u64,
+) -> u16
+    ensures { λ r. ⌜ tells r (now (start .exit)) (now (len .exit)) (now (words .exit)) (now (finishing .exit)) ≡ numbersOf (process (now (text .entry)) (count (now (table .entry)))) ⌝ }
+    ensures lent { λ _. ⌜ now (table .exit) ≡ lentBytes (process (now (text .entry)) (count (now (table .entry)))) (now (table .entry)) ⌝ }
+{
+    let a = translator::process(text, table);
+    *start = a.start as u64;
+    *len = a.len as u64;
+    *words = a.words as u64;
+    *finishing = flag(a.finishing);
+    a.number
 }

@@ -1,0 +1,9 @@
+pub mod Building
+pub mod Choosing
+pub mod Declared
+pub mod Encoding
+pub mod Heading
+pub mod Labelling
+pub mod Laws
+pub mod Ruling
+pub mod Whole

@@ -1,0 +1,4 @@
+pub mod Heads
+pub mod Parts
+pub mod Row
+pub mod Rules

@@ -1,0 +1,42 @@
+-- What the function that resolves the rules promises: their cells one after the other, where each begins, and what sort it is.
+use mathlib.Core.Bool.{Bool, true, false}
+use mathlib.Core.List.{List, [], _∷_}
+use mathlib.Core.Path.{_≡_}
+use Prim.Native.Nat.{ℕ, _+_, _<_, _≤_}
+use lib.ListN.{length, getD}
+use Rattle.builder.specs.declared.Rules.{Rules}
+use Rattle.cells.specs.Cells.{rulesCells, cellsStart}
+use Rattle.declarations.specs.Decls.{Agrees, declsOf, sectionsDecls}
+use Rattle.grammar.specs.Derived.{RulesIn}
+use Rattle.names.specs.Declare.{knownRules}
+use Rattle.names.specs.Known.{Checked, good, wrong, KnownRule, Names}
+use Rattle.names.specs.Understand.{rulesMean}
+use Rattle.program.specs.Program.{Rule, ruleOf}
+use Rattle.resolver.specs.Resolved.{Appends}
+use Rattle.symbols.specs.Rows.{held}
+use Rattle.syntax.specs.Written.{Program}
+use Rattle.words.specs.Words.{Word, wordsAt}
+
+-- 1 a choice rule, 0 a procedure rule
+unfoldable pub sortOf : Bool → ℕ
+sortOf true = 1
+sortOf false = 0
+
+-- the code's answer tells what the rules mean
+pub data RulesEnd (cs cs′ starts sorts : List ℕ) (r : Rules) : Checked (List Rule) → Type 0 where
+  built : {prog : List Rule} → r .fault ≡ 0 → r .rules ≡ length prog → Appends cs 0 (rulesCells prog) cs′ (r .count)
+      → ((k : ℕ) → k < length prog → getD sorts k 0 ≡ sortOf (ruleOf prog k .valued))
+      → (r .count ≤ length cs → (k : ℕ) → k < length prog → getD starts k 0 ≡ cellsStart 0 prog k)
+      → RulesEnd cs cs′ starts sorts r (good prog)
+  faulty : {n : ℕ} {w : Word} → r .fault ≡ n → (n ≡ 0 → ⊥) → r .at ≡ w .start → r .len ≡ length (w .text) → RulesEnd cs cs′ starts sorts r (wrong n w)
+
+-- n declarations, the first rule's being declaration `first`, and the rules from the place `at` on
+pub record RulesDone (text rows : List ℕ) (n first at : ℕ) (cs cs′ starts′ sorts′ : List ℕ) (r : Rules) : Type 0 where
+  pub done : (p : Program) (names : Names) → held text rows n ≡ declsOf p → first ≡ length (sectionsDecls 0 (p .sections)) → Agrees p names (knownRules 0 (p .rules)) (declsOf p)
+      → (ws : List Word) → RulesIn (wordsAt text at) ws (p .rules) → length (p .rules) ≤ 128
+      → RulesEnd cs cs′ starts′ sorts′ r (rulesMean p names (knownRules 0 (p .rules)) [] (p .rules))
+
+-- all of this file computes where this is unfolded
+unfoldable pub opened : Unit {0}
+unfolding sortOf
+opened = tt

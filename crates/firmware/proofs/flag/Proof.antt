@@ -1,0 +1,19 @@
+-- `firmware::flag` meets its contract.
+use mathlib.Core.Path.{_≡_, refl, sym, ap, _∙_, subst}
+use native.Mathlib.Omega.{arith}
+use Rattle.firmware.specs.Processing.{flagOf}
+use Rattle.firmware.proofs.flag.Statement.{statement}
+use Rattle.firmware.proofs.flag.Tie as tie
+use Rattle.firmware.proofs.flag.Reads as reads
+use Rattle.firmware.proofs.flag.Lts as lts
+
+returns : tie.Need-returns
+unfolding flagOf
+returns c = ap flagOf (sym (c .if1 .taken))
+
+returns-2 : tie.Need-returns-2
+unfolding flagOf
+returns-2 c = ap flagOf (sym (c .if1 .left))
+
+pub flag-spec : {M : Type 1} → statement M
+flag-spec = tie.close (tie.spec returns returns-2)

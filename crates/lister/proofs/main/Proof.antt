@@ -1,0 +1,67 @@
+-- `lister::main` is safe and ends.
+use borrow.Author.Needs.{needs}
+use native.Mathlib.Omega.{arith}
+use Rattle.lister.proofs.Steps.{line-most}
+use Rattle.lister.proofs.main.Statement.{statement}
+use Rattle.lister.proofs.main.Tie as tie
+
+slice-aggregate-read-full : tie.Need-slice-aggregate-read-full
+slice-aggregate-read-full c = search needs
+
+read-full-requires : tie.Need-read-full-requires
+read-full-requires c κs = search needs
+
+array-share-prefix-text : tie.Need-array-share-prefix-text
+array-share-prefix-text c = search needs
+
+slice-aggregate-lines-before : tie.Need-slice-aggregate-lines-before
+slice-aggregate-lines-before c = search needs
+
+lines-before-requires : tie.Need-lines-before-requires
+lines-before-requires c κs = search needs
+
+count-on-requires : tie.Need-count-on-requires
+count-on-requires c κs = omega (arith, line-most _ _ (c .before .lines-before .ensures))
+
+array-share-prefix-text-2 : tie.Need-array-share-prefix-text-2
+array-share-prefix-text-2 c = search needs
+
+slice-aggregate-list : tie.Need-slice-aggregate-list
+slice-aggregate-list c = search needs
+
+slice-aggregate-list-2 : tie.Need-slice-aggregate-list-2
+slice-aggregate-list-2 c = search needs
+
+list-requires : tie.Need-list-requires
+list-requires c κs = search needs
+
+array-share-prefix-out : tie.Need-array-share-prefix-out
+array-share-prefix-out c = search needs
+
+slice-aggregate-write-all : tie.Need-slice-aggregate-write-all
+slice-aggregate-write-all c = search needs
+
+write-all-requires : tie.Need-write-all-requires
+write-all-requires c κs = search needs
+
+returns : tie.Need-returns
+returns c = search needs
+
+pub main-spec : {M : Type 1} → statement M
+main-spec =
+    tie.close
+    (tie.spec
+    slice-aggregate-read-full
+    read-full-requires
+    array-share-prefix-text
+    slice-aggregate-lines-before
+    lines-before-requires
+    count-on-requires
+    array-share-prefix-text-2
+    slice-aggregate-list
+    slice-aggregate-list-2
+    list-requires
+    array-share-prefix-out
+    slice-aggregate-write-all
+    write-all-requires
+    returns)

@@ -1,0 +1,151 @@
+// The listing of the processor's answer, written into a lent buffer.
+ghost use mathlib.Core.Path.{_≡_};
+ghost use mathlib.Core.List.{[], _∷_};
+ghost use Prim.Native.Nat.{ℕ, _+_, _*_, _%_, _<_, _≤_, min};
+ghost use lib.ListN.{length, take};
+ghost use Rattle.machine.specs.Bytes.{wordsOf};
+ghost use Rattle.listing.specs.Listing.{decimal, lineAt, wordLine, wordLines, verdictEnd, heading, tableListing, refusalListing};
+ghost use Rattle.listing.specs.Written.{Puts, Listed};
+
+fn least(a: usize, b: usize) -> usize
+    ensures { λ r. ⌜ r ≡ min a b ⌝ }
+{
+    if a < b { a } else { b }
+}
+
+// The line, from 1, of the word that starts there.
+pub fn lines_before(text: &[u8], start: usize) -> usize
+    ensures { λ r. ⌜ r ≡ lineAt (now (text .entry)) start ⌝ }
+{
+    let end = least(start, text.len());
+    let mut line = 1;
+    let mut i = 0;
+    while i < end {
+        if text[i] == b'\n' {
+            line += 1;
+        }
+        i += 1;
+    }
+    line
+}
+
+// Writing: each function gives the next place. Past the buffer's end nothing is written.
+
+fn put_byte(out: &mut [u8], at: usize, b: u8) -> usize
+    requires { ⌜ at < 1000000 ⌝ }
+    ensures { λ r. ⌜ Puts (b ∷ []) (now (out .entry)) at (now (out .exit)) r ⌝ }
+{
+    if at < out.len() {
+        out[at] = b;
+    }
+    at + 1
+}
+
+fn put_bytes(out: &mut [u8], at: usize, s: &[u8]) -> usize
+    requires { ⌜ (at < 100000) × (length (now s) ≤ 100) ⌝ }
+    ensures { λ r. ⌜ Puts (now (s .entry)) (now (out .entry)) at (now (out .exit)) r ⌝ }
+{
+    let mut i = 0;
+    let mut next = at;
+    while i < s.len() {
+        next = put_byte(out, next, s[i]);
+        i += 1;
+    }
+    next
+}
+
+// The digit for the last place.
+fn digit(n: usize) -> u8
+    ensures { λ r. ⌜ r ≡ 48 + n % 10 ⌝ }
+{
+    48 + (n % 10) as u8
+}
+
+// A number in decimal: what stands before its last digit, then that.
+fn put_decimal(out: &mut [u8], at: usize, n: usize) -> usize
+    requires { ⌜ at < 100000 ⌝ }
+    ensures { λ r. ⌜ Puts (decimal n) (now (out .entry)) at (now (out .exit)) r ⌝ }
+    ensures { λ r. ⌜ r ≤ at + 20 ⌝ }
+{
+    if n < 10 {
+        return put_byte(out, at, digit(n));
+    }
+    let next = put_decimal(out, at, n / 10);
+    put_byte(out, next, digit(n))
+}
+
+// The line of a location and its word.
+fn put_line(out: &mut [u8], at: usize, location: usize, word: usize) -> usize
+    requires { ⌜ at < 90000 ⌝ }
+    ensures { λ r. ⌜ Puts (wordLine location word) (now (out .entry)) at (now (out .exit)) r ⌝ }
+{
+    let a = put_decimal(out, at, location);
+    let b = put_byte(out, a, b' ');
+    let d = put_decimal(out, b, word);
+    put_byte(out, d, b'\n')
+}
+
+fn wide(x: u16) -> usize
+    ensures { λ r. ⌜ (r ≡ x) × (r < 65536) ⌝ }
+{
+    x as usize
+}
+
+// The lines of the table's first words.
+fn put_words(table: &[u8], words: usize, out: &mut [u8], at: usize) -> usize
+    requires { ⌜ (words ≤ 4096) × (2 * words ≤ length (now table)) × (at ≤ 50) ⌝ }
+    ensures { λ r. ⌜ Puts (wordLines 1 (take words (wordsOf (now (table .entry))))) (now (out .entry)) at (now (out .exit)) r ⌝ }
+    ensures { λ r. ⌜ r ≤ at + 11 * words ⌝ }
+{
+    let mut i = 0;
+    let mut next = at;
+    while i < words {
+        let word = wide(machine::word(table, i));
+        next = put_line(out, next, i + 1, word);
+        i += 1;
+    }
+    next
+}
+
+fn put_verdict(out: &mut [u8], at: usize, finishing: bool) -> usize
+    requires { ⌜ at < 1000 ⌝ }
+    ensures { λ r. ⌜ Puts (verdictEnd finishing) (now (out .entry)) at (now (out .exit)) r ⌝ }
+    ensures { λ r. ⌜ r ≤ at + 4 ⌝ }
+{
+    if finishing {
+        return put_bytes(out, at, b"yes\n");
+    }
+    put_bytes(out, at, b"no\n")
+}
+
+// The first line of an accepted text's listing.
+fn put_heading(out: &mut [u8], words: usize, finishing: bool) -> usize
+    ensures { λ r. ⌜ Puts (heading words finishing) (now (out .entry)) 0 (now (out .exit)) r ⌝ }
+    ensures { λ r. ⌜ r ≤ 50 ⌝ }
+{
+    let a = put_bytes(out, 0, b"table ");
+    let b = put_decimal(out, a, words);
+    let d = put_bytes(out, b, b" finishing ");
+    put_verdict(out, d, finishing)
+}
+
+// The listing of a table of so many words, high byte first, and its verdict.
+pub fn list_table(table: &[u8], words: usize, finishing: bool, out: &mut [u8]) -> usize
+    requires { ⌜ (words ≤ 4096) × (2 * words ≤ length (now table)) × (49152 ≤ length (now out)) ⌝ }
+    ensures { λ r. ⌜ Listed (tableListing (take words (wordsOf (now (table .entry)))) finishing) (now (out .entry)) (now (out .exit)) r ⌝ }
+{
+    let at = put_heading(out, words, finishing);
+    put_words(table, words, out, at)
+}
+
+// The listing of a refusal.
+pub fn list_refusal(number: u16, line: usize, out: &mut [u8]) -> usize
+    requires { ⌜ 49152 ≤ length (now out) ⌝ }
+    ensures { λ r. ⌜ Listed (refusalListing number line) (now (out .entry)) (now (out .exit)) r ⌝ }
+{
+    let a = put_bytes(out, 0, b"refused ");
+    let b = put_decimal(out, a, wide(number));
+    let d = put_bytes(out, b, b" line ");
+    let e = put_decimal(out, d, line);
+    put_byte(out, e, b'\n')
+}

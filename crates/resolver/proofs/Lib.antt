@@ -1,0 +1,7 @@
+pub mod Appending
+pub mod Looking
+pub mod Outcomes
+pub mod Rests
+pub mod Plains
+pub mod Choosing
+pub mod Labelling

@@ -1,0 +1,150 @@
+-- What the lookups of crate symbols tell of those of crate names.
+use mathlib.Core.Bool.{Bool, true, false}
+use mathlib.Core.List.{List}
+use mathlib.Core.Option.{Option, none, some}
+use mathlib.Core.Path.{_≡_, refl, sym, ap, _∙_}
+use Prim.Native.Nat.{ℕ, zero, suc, _+_, _*_, _<_, _≤_}
+use native.Mathlib.Omega.{arith}
+use borrow.Author.Tests.{eq-eqb, ne-eqb}
+use Rattle.base.specs.Common.{if_then_else_, given}
+use Rattle.declarations.specs.Decls.{Decl, Agrees, knownsIn, indexOf, declOf, typeClass, classNamed, operationFrom, ruleFrom, mapped, elsewhereIn, lookupIn}
+use Rattle.declarations.proofs.Uses.{uses-elsewhere}
+use Rattle.names.specs.Known.{Checked, good, wrong, _>>=_, KnownOperation, KnownRule, Names, find, findOperation, findRule, elsewhere}
+use Rattle.names.specs.Resolve.{operationOf, ruleNamed}
+use Rattle.symbols.specs.Rows.{wordOf, optionOf, declAt, heldFrom, held, operationIn, ruleIn, givesOf, Looks, found, missing}
+use Rattle.symbols.specs.Search.{Tells, there, nowhere}
+use Rattle.syntax.specs.Written.{Program}
+use Rattle.words.specs.Words.{Word}
+
+-- Outcomes
+
+-- good, or wrong at the word w
+pub data About {A : Type 0} (w : Word) : Checked A → Type 0 where
+  fine : {a : A} → About w (good a)
+  faulty : {n : ℕ} → About w (wrong n w)
+
+pub looks-good : {f v : ℕ} {m : Checked ℕ} → Looks f v m → f ≡ 0 → m ≡ good v
+looks-good (found e q) z = ap good (sym q)
+looks-good (missing e q) z = absurd (q (sym e ∙ z))
+
+pub looks-wrong : {f v : ℕ} {w : Word} {m : Checked ℕ} → About w m → Looks f v m → (f ≡ 0 → ⊥) → m ≡ wrong f w
+looks-wrong fine (found e q) z = absurd (z e)
+looks-wrong {w = w} faulty (missing e q) z = ap (λ (k : ℕ). wrong k w) (sym e)
+
+pub after-good : {A B : Type 0} {m : Checked A} (f : A → Checked B) (a : A) → m ≡ good a → _>>=_ m f ≡ f a
+after-good f a e = ap (λ m. _>>=_ m f) e
+
+pub after-wrong : {A B : Type 0} {m : Checked A} (f : A → Checked B) (n : ℕ) (w : Word) → m ≡ wrong n w → _>>=_ m f ≡ wrong n w
+after-wrong f n w e = ap (λ m. _>>=_ m f) e
+
+pub lookup-about : (ds : List Decl) (c : ℕ) (w : Word) → About w (lookupIn ds c w)
+unfolding lookupIn
+lookup-about ds c w = go (find (w .text) (knownsIn c ds))
+  where
+    go : (x : Option ℕ) → About {A = ℕ} w (elim x as (λ _. Checked ℕ) [ some v ↦ good v | none ↦ wrong (elsewhereIn ds (w .text)) w ])
+    go none = faulty
+    go (some v) = fine
+
+pub operation-about : (ds : List Decl) (w : Word) → About w (operationIn ds w)
+unfolding operationIn
+operation-about ds w = go (indexOf 6 (w .text) 0 ds)
+  where
+    go : (x : Option ℕ) → About {A = ℕ} w (elim x as (λ _. Checked ℕ) [ some v ↦ good v | none ↦ wrong (elsewhereIn ds (w .text)) w ])
+    go none = faulty
+    go (some v) = fine
+
+pub rule-about : (ds : List Decl) (w : Word) → About w (ruleIn ds w)
+unfolding ruleIn
+rule-about ds w = go (given (indexOf 6 (w .text) 0 ds)) (indexOf 7 (w .text) 0 ds)
+  where
+    go : (b : Bool) (x : Option ℕ) → About {A = ℕ} w (if b then wrong 5 w else elim x as (λ _. Checked ℕ) [ some v ↦ good v | none ↦ wrong (elsewhereIn ds (w .text)) w ])
+    go true x = faulty
+    go false none = faulty
+    go false (some v) = fine
+
+-- Names by the row
+
+module _ {p : Program} {names : Names} {rs : List KnownRule} {ds : List Decl} (ag : Agrees p names rs ds) where
+  pub operation-is : (w : Word) → operationOf p names rs w ≡ _>>=_ (operationIn ds w) (λ i. good (operationFrom ds (declOf ds i)))
+  unfolding operationOf operationIn
+  operation-is w = ap (λ x. elim x as (λ _. Checked KnownOperation) [ some o ↦ good o | none ↦ elsewhere p w ]) (ag .operations (w .text)) ∙ go (indexOf 6 (w .text) 0 ds)
+    where
+      go : (x : Option ℕ) → elim (mapped (λ i. operationFrom ds (declOf ds i)) x) as (λ _. Checked KnownOperation) [ some o ↦ good o | none ↦ elsewhere p w ]
+          ≡ _>>=_ (elim x as (λ _. Checked ℕ) [ some i ↦ good i | none ↦ wrong (elsewhereIn ds (w .text)) w ]) (λ i. good (operationFrom ds (declOf ds i)))
+      go none = uses-elsewhere ag w
+      go (some i) = refl
+
+  given-is : (w : List ℕ) → given (findOperation w (names .operations)) ≡ given (indexOf 6 w 0 ds)
+  given-is w = ap given (ag .operations w) ∙ go (indexOf 6 w 0 ds)
+    where
+      go : (x : Option ℕ) → given (mapped (λ i. operationFrom ds (declOf ds i)) x) ≡ given x
+      go none = refl
+      go (some i) = refl
+
+  pub rule-is : (w : Word) → ruleNamed p names rs w ≡ _>>=_ (ruleIn ds w) (λ i. good (ruleFrom (declOf ds i)))
+  unfolding ruleNamed ruleIn
+  rule-is w =
+      ap (λ b. if b then wrong 5 w else elim (findRule (w .text) rs) as (λ _. Checked KnownRule) [ some r ↦ good r | none ↦ elsewhere p w ]) (given-is (w .text))
+      ∙ ap (λ x. if given (indexOf 6 (w .text) 0 ds) then wrong 5 w else elim x as (λ _. Checked KnownRule) [ some r ↦ good r | none ↦ elsewhere p w ]) (ag .rules (w .text))
+      ∙ go (given (indexOf 6 (w .text) 0 ds)) (indexOf 7 (w .text) 0 ds)
+    where
+      go : (b : Bool) (x : Option ℕ) → (if b then wrong 5 w else elim (mapped (λ i. ruleFrom (declOf ds i)) x) as (λ _. Checked KnownRule) [ some r ↦ good r | none ↦ elsewhere p w ])
+          ≡ _>>=_ (if b then wrong 5 w else elim x as (λ _. Checked ℕ) [ some i ↦ good i | none ↦ wrong (elsewhereIn ds (w .text)) w ]) (λ i. good (ruleFrom (declOf ds i)))
+      go true x = refl
+      go false none = uses-elsewhere ag w
+      go false (some i) = refl
+
+-- The class of a type
+
+pub class-there : (ds : List Decl) (w : List ℕ) (i : ℕ) → Tells i (indexOf 5 w 0 ds) → i < 65536 → 8 + i ≡ classNamed ds w
+unfolding classNamed
+class-there ds w i t h = go (indexOf 5 w 0 ds) t
+  where
+    go : (x : Option ℕ) → Tells i x → 8 + i ≡ typeClass x
+    go none (nowhere e) = absurd (omega arith)
+    go (some v) (there e q) = ap (λ (k : ℕ). 8 + k) e
+
+pub class-nowhere : (ds : List Decl) (w : List ℕ) (i : ℕ) → Tells i (indexOf 5 w 0 ds) → 65536 ≤ i → 0 ≡ classNamed ds w
+unfolding classNamed
+class-nowhere ds w i t h = go (indexOf 5 w 0 ds) t
+  where
+    go : (x : Option ℕ) → Tells i x → 0 ≡ typeClass x
+    go none (nowhere e) = refl
+    go (some v) (there e q) = absurd (omega arith)
+
+-- a value that was found, or none
+pub tells-there : {i : ℕ} {x : Option ℕ} → Tells i x → i < 65536 → x ≡ some i
+tells-there (there e q) h = ap some (sym e)
+tells-there (nowhere e) h = absurd (omega arith)
+
+pub tells-none : {i : ℕ} {x : Option ℕ} → Tells i x → 65536 ≤ i → x ≡ none
+tells-none (there e q) h = absurd (omega arith)
+tells-none (nowhere e) h = refl
+
+-- Declarations of the row
+
+heldFrom-at : (text rows : List ℕ) (k n i : ℕ) → i < n → declOf (heldFrom text rows k n) i ≡ declAt text rows (k + i)
+unfolding heldFrom declOf
+heldFrom-at text rows k zero i h = absurd (omega arith)
+heldFrom-at text rows k (suc n) zero h = ap (declAt text rows) (omega arith)
+heldFrom-at text rows k (suc n) (suc i) h = heldFrom-at text rows (suc k) n i (omega arith) ∙ ap (declAt text rows) (omega arith)
+
+pub held-at : (text rows : List ℕ) (n i : ℕ) → i < n → declOf (held text rows n) i ≡ declAt text rows i
+unfolding held
+held-at text rows n i h = heldFrom-at text rows 0 n i h ∙ ap (declAt text rows) (omega arith)
+
+pub option-none : (text : List ℕ) (kind start len : ℕ) → len ≡ 0 → optionOf text kind start len ≡ none
+unfolding optionOf
+option-none text kind start len e = rw (eq-eqb len 0 e)
+
+pub option-some : (text : List ℕ) (kind start len : ℕ) → (len ≡ 0 → ⊥) → optionOf text kind start len ≡ some (wordOf text kind start len)
+unfolding optionOf
+option-some text kind start len e = rw (ne-eqb len 0 e)
+
+pub gives-none : (ds : List Decl) (class : ℕ) → class ≡ 0 → givesOf ds class ≡ none
+unfolding givesOf
+gives-none ds class e = rw (eq-eqb class 0 e)
+
+pub gives-some : (ds : List Decl) (class : ℕ) → (class ≡ 0 → ⊥) → givesOf ds class ≡ some (knownsIn class ds)
+unfolding givesOf
+gives-some ds class e = rw (ne-eqb class 0 e)

@@ -1,0 +1,672 @@
+// The parts of a rule that hold no actions: plain actions, selectors and labels, resolved and appended as cells.
+ghost use mathlib.Core.Path.{_≡_};
+ghost use mathlib.Core.List.{List, [], _∷_};
+ghost use Prim.Native.Nat.{ℕ, _+_, _*_, _<_, _≤_};
+ghost use lib.ListN.{length, getD, take};
+ghost use Rattle.base.specs.Common.{member};
+ghost use Rattle.declarations.specs.Decls.{classNamed};
+ghost use Rattle.program.specs.Program.{Plain};
+ghost use Rattle.resolver.specs.Parts.{Lies, Went, Stopped, RestDone, NameIn, Sends, MatchDone, UpdateDone, NamedDone, SentDone, callOf, GivenDone, GiveDone, AnyDone, ExitDone};
+ghost use Rattle.resolver.specs.Parts.{operationCells, Misfit, ValueDone, OperandDone, Chose, Balked, ChoiceDone, byRuleOf, WithDone, ByOperationDone, Mislabel, LabelDone};
+ghost use Rattle.resolver.specs.Resolved.{Appends, PlainDone, SelectorDone, LabelsDone};
+ghost use Rattle.symbols.specs.Rows.{held};
+ghost use Rattle.symbols.specs.Search.{part};
+use scanner::WordAt;
+
+// fault 0: read up to the place `at`, and there are `count` cells. Else the fault's number and its word.
+pub struct Done {
+    pub fault: u16,
+    pub at: usize,
+    pub len: usize,
+    pub count: usize,
+}
+
+// Actions: whether they go past themselves, and whether an exit in them leaves the cycle around them.
+pub struct Built {
+    pub done: Done,
+    pub past: bool,
+    pub exits: bool,
+}
+
+// A selector: the class of the labels, and the cell that stands for no otherwise.
+pub struct Selected {
+    pub done: Done,
+    pub class: usize,
+    pub absent: u16,
+}
+
+// Labels: how many the choice has now.
+pub struct Labels {
+    pub fault: u16,
+    pub at: usize,
+    pub len: usize,
+    pub used: usize,
+}
+
+// A label's value.
+pub struct Label {
+    pub fault: u16,
+    pub at: usize,
+    pub len: usize,
+    pub value: u16,
+}
+
+// An operation's parameter, if it is there.
+pub struct Parameter {
+    pub fault: u16,
+    pub at: usize,
+    pub len: usize,
+    pub there: bool,
+    pub value: usize,
+}
+
+// Cells
+
+// One more cell. Past the end nothing is written, and the count stays one above the room.
+pub fn put(cells: &mut [u16], count: usize, x: u16) -> usize
+    ensures { λ r. ⌜ Appends (now (cells .entry)) count (x ∷ []) (now (cells .exit)) r ⌝ }
+{
+    if count < cells.len() {
+        cells[count] = x;
+        return count + 1;
+    }
+    cells.len() + 1
+}
+
+fn put_two(cells: &mut [u16], count: usize, x: u16, y: usize) -> usize
+    requires { ⌜ y < 65536 ⌝ }
+    ensures { λ r. ⌜ Appends (now (cells .entry)) count (x ∷ y ∷ []) (now (cells .exit)) r ⌝ }
+{
+    let c = put(cells, count, x);
+    put(cells, c, y as u16)
+}
+
+// The instruction of declaration `row`, and the parameter, if it is there.
+fn put_operation(
+    rows: &[u16],
+    row: usize,
+    there: bool,
+    value: usize,
+    cells: &mut [u16],
+    count: usize,
+) -> usize
+    requires { ⌜ (row < 512) × (value < 65536) ⌝ }
+    ensures { λ r. ⌜ Appends (now (cells .entry)) count (operationCells (getD (now (rows .entry)) (8 * row + 1) 0) there value) (now (cells .exit)) r ⌝ }
+{
+    let op = symbols::number(rows, 8 * row + 1) as u16;
+    if there {
+        return put_two(cells, count, op, value);
+    }
+    put(cells, count, op)
+}
+
+// Answers
+
+fn went(at: usize, count: usize, past: bool) -> Built
+    ensures { λ r. ⌜ Went at count past r ⌝ }
+{
+    let done = Done {
+        fault: 0,
+        at,
+        len: 0,
+        count,
+    };
+    Built {
+        done,
+        past,
+        exits: false,
+    }
+}
+
+fn stopped(fault: u16, at: usize, len: usize) -> Built
+    ensures { λ r. ⌜ Stopped fault at len r ⌝ }
+{
+    let done = Done {
+        fault,
+        at,
+        len,
+        count: 0,
+    };
+    Built {
+        done,
+        past: false,
+        exits: false,
+    }
+}
+
+fn chose(at: usize, count: usize, class: usize, absent: u16) -> Selected
+    ensures { λ r. ⌜ Chose at count class absent r ⌝ }
+{
+    let done = Done {
+        fault: 0,
+        at,
+        len: 0,
+        count,
+    };
+    Selected {
+        done,
+        class,
+        absent,
+    }
+}
+
+fn balked(fault: u16, at: usize, len: usize) -> Selected
+    ensures { λ r. ⌜ Balked fault at len r ⌝ }
+{
+    let done = Done {
+        fault,
+        at,
+        len,
+        count: 0,
+    };
+    Selected {
+        done,
+        class: 0,
+        absent: 0,
+    }
+}
+
+// Parameters
+
+// The class of the values of a type, 0 where there is no such type.
+fn class_named(text: &[u8], rows: &[u16], n: usize, start: usize, len: usize) -> usize
+    requires { ⌜ n ≤ 512 ⌝ }
+    ensures { λ r. ⌜ r ≡ classNamed (held (now (text .entry)) (now (rows .entry)) n) (part (now (text .entry)) start len) ⌝ }
+{
+    let i = symbols::find_row(text, rows, n, 5, start, len);
+    if i < 65536 {
+        return 8 + i;
+    }
+    0
+}
+
+// A parameter of the class, and the `)` behind it.
+fn parameter_value(text: &[u8], rows: &[u16], n: usize, at: usize, class: usize) -> Parameter
+    requires { ⌜ (at ≤ length (now text)) × (n ≤ 512) ⌝ }
+    ensures { λ r. ⌜ ValueDone (now (text .entry)) (now (rows .entry)) n at class r ⌝ }
+{
+    let c = scanner::next_word(text, at);
+    let v = symbols::value_of(text, rows, n, class, c.start, c.len);
+    if v.fault != 0 {
+        return Parameter {
+            fault: v.fault,
+            at: c.start,
+            len: c.len,
+            there: false,
+            value: 0,
+        };
+    }
+    let e = scanner::next_word(text, c.next);
+    Parameter {
+        fault: 0,
+        at: e.next,
+        len: 0,
+        there: true,
+        value: v.value,
+    }
+}
+
+// A parameter that is missing or extra.
+fn misfit(at: usize, len: usize) -> Parameter
+    ensures { λ r. ⌜ Misfit at len r ⌝ }
+{
+    Parameter {
+        fault: 5,
+        at,
+        len,
+        there: false,
+        value: 0,
+    }
+}
+
+// The parameter of the operation w, which is declaration `row`.
+fn parameter_of(text: &[u8], rows: &[u16], n: usize, row: usize, w: WordAt) -> Parameter
+    requires { ⌜ Lies (now text) w × (n ≤ 512) × (row < n) ⌝ }
+    ensures { λ r. ⌜ OperandDone w row (now (text .entry)) (now (rows .entry)) n r ⌝ }
+{
+    let k = scanner::next_word(text, w.next);
+    let len = symbols::number(rows, 8 * row + 5);
+    if k.kind != 40 {
+        if len != 0 {
+            return misfit(w.start, w.len);
+        }
+        return Parameter {
+            fault: 0,
+            at: w.next,
+            len: 0,
+            there: false,
+            value: 0,
+        };
+    }
+    if len == 0 {
+        return misfit(k.start, k.len);
+    }
+    let start = symbols::number(rows, 8 * row + 4);
+    let class = class_named(text, rows, n, start, len);
+    parameter_value(text, rows, n, k.next, class)
+}
+
+// Plain actions
+
+// A token to match, and no constant behind it.
+fn resolve_match(text: &[u8], at: usize, v: usize, cells: &mut [u16], count: usize) -> Built
+    requires { ⌜ (at ≤ length (now text)) × (v < 65536) ⌝ }
+    ensures { λ r. ⌜ ((rows : List ℕ) (n : ℕ) → MatchDone v (now (text .entry)) rows n at (now (cells .entry)) count (now (cells .exit)) r) ⌝ }
+{
+    let k = scanner::next_word(text, at);
+    if k.kind == 40 {
+        return stopped(5, k.start, k.len);
+    }
+    let c = put_two(cells, count, 3, v);
+    went(at, c, true)
+}
+
+// An update operation and its constant.
+fn resolve_update(
+    text: &[u8],
+    rows: &[u16],
+    n: usize,
+    w: WordAt,
+    cells: &mut [u16],
+    count: usize,
+) -> Built
+    requires { ⌜ Lies (now text) w × (n ≤ 512) ⌝ }
+    ensures { λ r. ⌜ UpdateDone w (now (text .entry)) (now (rows .entry)) n (now (cells .entry)) count (now (cells .exit)) r ⌝ }
+{
+    let o = symbols::operation_of(text, rows, n, w.start, w.len);
+    if o.fault != 0 {
+        return stopped(o.fault, w.start, w.len);
+    }
+    let row = o.value;
+    let chooses = symbols::number(rows, 8 * row + 7);
+    if chooses != 0 {
+        return stopped(5, w.start, w.len);
+    }
+    let p = parameter_of(text, rows, n, row, w);
+    if p.fault != 0 {
+        return stopped(p.fault, p.at, p.len);
+    }
+    let c = put_operation(rows, row, p.there, p.value, cells, count);
+    went(p.at, c, true)
+}
+
+// A name or a string that is an action: a token or an update operation.
+fn resolve_named(
+    text: &[u8],
+    rows: &[u16],
+    n: usize,
+    w: WordAt,
+    cells: &mut [u16],
+    count: usize,
+) -> Built
+    requires { ⌜ Lies (now text) w × (n ≤ 512) ⌝ }
+    ensures { λ r. ⌜ NamedDone w (now (text .entry)) (now (rows .entry)) n (now (cells .entry)) count (now (cells .exit)) r ⌝ }
+{
+    let v = symbols::find_value(text, rows, n, 1, w.start, w.len);
+    if v < 65536 {
+        return resolve_match(text, w.next, v, cells, count);
+    }
+    resolve_update(text, rows, n, w, cells, count)
+}
+
+// A name or string of the class, and its action of two cells.
+fn resolve_sent(
+    text: &[u8],
+    rows: &[u16],
+    n: usize,
+    at: usize,
+    class: usize,
+    first: u16,
+    past: bool,
+    cells: &mut [u16],
+    count: usize,
+) -> Built
+    requires { ⌜ (at ≤ length (now text)) × (n ≤ 512) ⌝ }
+    ensures { λ r. ⌜ ((f : ℕ → Plain) → Sends first past f → SentDone f class (now (text .entry)) (now (rows .entry)) n at (now (cells .entry)) count (now (cells .exit)) r) ⌝ }
+{
+    let w = scanner::next_word(text, at);
+    let v = symbols::value_of(text, rows, n, class, w.start, w.len);
+    if v.fault != 0 {
+        return stopped(v.fault, w.start, w.len);
+    }
+    let c = put_two(cells, count, first, v.value);
+    went(w.next, c, past)
+}
+
+// A procedure rule's name after `@`.
+fn resolve_call(
+    text: &[u8],
+    rows: &[u16],
+    n: usize,
+    at: usize,
+    cells: &mut [u16],
+    count: usize,
+) -> Built
+    requires { ⌜ (at ≤ length (now text)) × (n ≤ 512) ⌝ }
+    ensures { λ r. ⌜ RestDone NameIn callOf (now (text .entry)) (now (rows .entry)) n at (now (cells .entry)) count (now (cells .exit)) r ⌝ }
+{
+    let w = scanner::next_word(text, at);
+    let o = symbols::rule_of(text, rows, n, w.start, w.len);
+    if o.fault != 0 {
+        return stopped(o.fault, w.start, w.len);
+    }
+    let row = o.value;
+    let gives = symbols::number(rows, 8 * row + 7);
+    if gives != 0 {
+        return stopped(5, w.start, w.len);
+    }
+    let place = symbols::number(rows, 8 * row + 1);
+    let c = put_two(cells, count, 8, place);
+    went(w.next, c, true)
+}
+
+// The value after `>>`, the word w.
+fn give_value(
+    text: &[u8],
+    rows: &[u16],
+    n: usize,
+    w: WordAt,
+    class: usize,
+    cells: &mut [u16],
+    count: usize,
+) -> Built
+    requires { ⌜ Lies (now text) w × (n ≤ 512) ⌝ }
+    ensures { λ r. ⌜ GivenDone w class (now (text .entry)) (now (rows .entry)) n (now (cells .entry)) count (now (cells .exit)) r ⌝ }
+{
+    if class == 0 {
+        let v = scanner::next_word(text, w.next);
+        return stopped(8, v.start, v.len);
+    }
+    resolve_sent(text, rows, n, w.next, class, 10, false, cells, count)
+}
+
+// The rest of `>>`, the word w.
+fn resolve_give(
+    text: &[u8],
+    rows: &[u16],
+    n: usize,
+    w: WordAt,
+    class: usize,
+    cells: &mut [u16],
+    count: usize,
+) -> Built
+    requires { ⌜ Lies (now text) w × (n ≤ 512) ⌝ }
+    ensures { λ r. ⌜ GiveDone w class (now (text .entry)) (now (rows .entry)) n (now (cells .entry)) count (now (cells .exit)) r ⌝ }
+{
+    let v = scanner::next_word(text, w.next);
+    if v.kind == 257 {
+        return give_value(text, rows, n, w, class, cells, count);
+    }
+    if v.kind == 259 {
+        return give_value(text, rows, n, w, class, cells, count);
+    }
+    if class != 0 {
+        return stopped(8, w.start, w.len);
+    }
+    let c = put(cells, count, 9);
+    went(w.next, c, false)
+}
+
+// `?`, the word w.
+fn resolve_any(w: WordAt, cells: &mut [u16], count: usize) -> Built
+    ensures { λ r. ⌜ ((text rows : List ℕ) (n : ℕ) → Lies text w → AnyDone w text rows n (now (cells .entry)) count (now (cells .exit)) r) ⌝ }
+{
+    let c = put(cells, count, 4);
+    went(w.next, c, true)
+}
+
+// `>`, the word w.
+fn resolve_exit(w: WordAt, inside: bool, cells: &mut [u16], count: usize) -> Built
+    ensures { λ r. ⌜ ((text rows : List ℕ) (n : ℕ) → Lies text w → ExitDone w inside text rows n (now (cells .entry)) count (now (cells .exit)) r) ⌝ }
+{
+    if inside {
+        let count = put(cells, count, 1);
+        let done = Done {
+            fault: 0,
+            at: w.next,
+            len: 0,
+            count,
+        };
+        return Built {
+            done,
+            past: false,
+            exits: true,
+        };
+    }
+    stopped(7, w.start, w.len)
+}
+
+// A plain action: what it means, in a cycle or not, in a rule that gives values of the class (0: in a procedure rule).
+pub fn resolve_plain(
+    text: &[u8],
+    rows: &[u16],
+    n: usize,
+    at: usize,
+    inside: bool,
+    class: usize,
+    cells: &mut [u16],
+    count: usize,
+) -> Built
+    requires { ⌜ (at ≤ length (now text)) × (n ≤ 512) ⌝ }
+    ensures { λ r. ⌜ PlainDone (now (text .entry)) (now (rows .entry)) n at inside class (now (cells .entry)) count (now (cells .exit)) r ⌝ }
+{
+    let w = scanner::next_word(text, at);
+    let kind = w.kind;
+    match kind {
+        257 => resolve_named(text, rows, n, w, cells, count),
+        259 => resolve_named(text, rows, n, w, cells, count),
+        63 => resolve_any(w, cells, count),
+        46 => resolve_sent(text, rows, n, w.next, 2, 5, true, cells, count),
+        35 => resolve_sent(text, rows, n, w.next, 4, 6, true, cells, count),
+        62 => resolve_exit(w, inside, cells, count),
+        64 => resolve_call(text, rows, n, w.next, cells, count),
+        256 => resolve_give(text, rows, n, w, class, cells, count),
+        _ => stopped(2, w.start, w.len),
+    }
+}
+
+// Selectors
+
+// A choice rule's name after `@`.
+fn select_rule(
+    text: &[u8],
+    rows: &[u16],
+    n: usize,
+    at: usize,
+    cells: &mut [u16],
+    count: usize,
+) -> Selected
+    requires { ⌜ (at ≤ length (now text)) × (n ≤ 512) ⌝ }
+    ensures { λ r. ⌜ ChoiceDone NameIn byRuleOf (now (text .entry)) (now (rows .entry)) n at (now (cells .entry)) count (now (cells .exit)) r ⌝ }
+{
+    let w = scanner::next_word(text, at);
+    let o = symbols::rule_of(text, rows, n, w.start, w.len);
+    if o.fault != 0 {
+        return balked(o.fault, w.start, w.len);
+    }
+    let row = o.value;
+    let gives = symbols::number(rows, 8 * row + 7);
+    if gives == 0 {
+        return balked(5, w.start, w.len);
+    }
+    let start = symbols::number(rows, 8 * row + 6);
+    let class = class_named(text, rows, n, start, gives);
+    let place = symbols::number(rows, 8 * row + 1);
+    let c = put_two(cells, count, 11, place);
+    chose(w.next, c, class, 12)
+}
+
+// A choice operation, declaration `row`, and its constant.
+fn select_with(
+    text: &[u8],
+    rows: &[u16],
+    n: usize,
+    row: usize,
+    w: WordAt,
+    class: usize,
+    cells: &mut [u16],
+    count: usize,
+) -> Selected
+    requires { ⌜ Lies (now text) w × (n ≤ 512) × (row < n) ⌝ }
+    ensures { λ r. ⌜ WithDone w row class (now (text .entry)) (now (rows .entry)) n (now (cells .entry)) count (now (cells .exit)) r ⌝ }
+{
+    let p = parameter_of(text, rows, n, row, w);
+    if p.fault != 0 {
+        return balked(p.fault, p.at, p.len);
+    }
+    let c = put_operation(rows, row, p.there, p.value, cells, count);
+    chose(p.at, c, class, 12)
+}
+
+// A choice operation w and its constant.
+fn select_operation(
+    text: &[u8],
+    rows: &[u16],
+    n: usize,
+    w: WordAt,
+    cells: &mut [u16],
+    count: usize,
+) -> Selected
+    requires { ⌜ Lies (now text) w × (n ≤ 512) ⌝ }
+    ensures { λ r. ⌜ ByOperationDone w (now (text .entry)) (now (rows .entry)) n (now (cells .entry)) count (now (cells .exit)) r ⌝ }
+{
+    let o = symbols::operation_of(text, rows, n, w.start, w.len);
+    if o.fault != 0 {
+        return balked(o.fault, w.start, w.len);
+    }
+    let row = o.value;
+    let chooses = symbols::number(rows, 8 * row + 7);
+    if chooses == 0 {
+        return balked(5, w.start, w.len);
+    }
+    let start = symbols::number(rows, 8 * row + 6);
+    let class = class_named(text, rows, n, start, chooses);
+    select_with(text, rows, n, row, w, class, cells, count)
+}
+
+pub fn resolve_selector(
+    text: &[u8],
+    rows: &[u16],
+    n: usize,
+    at: usize,
+    cells: &mut [u16],
+    count: usize,
+) -> Selected
+    requires { ⌜ (at ≤ length (now text)) × (n ≤ 512) ⌝ }
+    ensures { λ r. ⌜ SelectorDone (now (text .entry)) (now (rows .entry)) n at (now (cells .entry)) count (now (cells .exit)) r ⌝ }
+{
+    let w = scanner::next_word(text, at);
+    if w.kind == 64 {
+        return select_rule(text, rows, n, w.next, cells, count);
+    }
+    if w.kind == 257 {
+        return select_operation(text, rows, n, w, cells, count);
+    }
+    let c = put(cells, count, 7);
+    chose(at, c, 1, 14)
+}
+
+// Labels
+
+// The value is among the first `used`.
+fn is_seen(seen: &[u16], used: usize, v: u16) -> bool
+    requires { ⌜ used ≤ length (now seen) ⌝ }
+    ensures { λ r. ⌜ r ≡ member v (take used (now (seen .entry))) ⌝ }
+{
+    let mut i = 0;
+    while i < used {
+        if v == seen[i] {
+            return true;
+        }
+        i += 1;
+    }
+    false
+}
+
+fn mislabel(fault: u16, w: WordAt) -> Label
+    ensures { λ r. ⌜ Mislabel fault w r ⌝ }
+{
+    Label {
+        fault,
+        at: w.start,
+        len: w.len,
+        value: 0,
+    }
+}
+
+// A label of the class that is not among the first `used`, where there is room for it.
+fn resolve_label(
+    text: &[u8],
+    rows: &[u16],
+    n: usize,
+    at: usize,
+    class: usize,
+    seen: &[u16],
+    used: usize,
+) -> Label
+    requires { ⌜ (at ≤ length (now text)) × (n ≤ 512) × (used ≤ length (now seen)) ⌝ }
+    ensures { λ r. ⌜ LabelDone (now (text .entry)) (now (rows .entry)) n at class (now (seen .entry)) used r ⌝ }
+{
+    let w = scanner::next_word(text, at);
+    if w.kind < 2 {
+        return mislabel(2, w);
+    }
+    let label = symbols::value_of(text, rows, n, class, w.start, w.len);
+    if label.fault != 0 {
+        return mislabel(label.fault, w);
+    }
+    let value = label.value as u16;
+    if is_seen(seen, used, value) {
+        return mislabel(6, w);
+    }
+    if seen.len() <= used {
+        return mislabel(2, w);
+    }
+    Label {
+        fault: 0,
+        at: w.next,
+        len: 0,
+        value,
+    }
+}
+
+// Labels up to a word that is no comma, in a choice whose first `used` labels are seen.
+pub fn resolve_labels(
+    text: &[u8],
+    rows: &[u16],
+    n: usize,
+    at: usize,
+    class: usize,
+    seen: &mut [u16],
+    used: usize,
+) -> Labels
+    requires { ⌜ (at ≤ length (now text)) × (n ≤ 512) × (used ≤ length (now seen)) ⌝ }
+    ensures { λ r. ⌜ LabelsDone (now (text .entry)) (now (rows .entry)) n at class (now (seen .entry)) used (now (seen .exit)) r ⌝ }
+{
+    let mut i = at;
+    let mut u = used;
+    loop {
+        let l = resolve_label(text, rows, n, i, class, seen, u);
+        if l.fault != 0 {
+            return Labels {
+                fault: l.fault,
+                at: l.at,
+                len: l.len,
+                used: u,
+            };
+        }
+        seen[u] = l.value;
+        let more = u + 1;
+        let w = scanner::next_word(text, l.at);
+        if w.kind != 44 {
+            return Labels {
+                fault: 0,
+                at: l.at,
+                len: 0,
+                used: more,
+            };
+        }
+        i = w.next;
+        u = more;
+    }
+}

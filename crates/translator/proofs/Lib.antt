@@ -1,0 +1,6 @@
+pub mod Few
+pub mod Parts
+pub mod Ends
+pub mod Steps
+pub mod Rests
+pub mod Passes

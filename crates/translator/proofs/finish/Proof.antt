@@ -1,0 +1,63 @@
+use borrow.Author.Needs.{needs}
+use native.Mathlib.Omega.{arith}
+use Rattle.emitter.specs.Emitted.{Emits}
+use Rattle.translator.proofs.Ends.{ready-cells, ready-laid, too-long, end-refused, end-20, end-good}
+use Rattle.translator.proofs.finish.Statement.{statement}
+use Rattle.translator.proofs.finish.Tie as tie
+use Rattle.translator.proofs.finish.Reads as reads
+use Rattle.translator.proofs.finish.Lts as lts
+use Rattle.emitter.proofs.emit.Reads as emit-reads
+use Rattle.translator.proofs.refuse.Reads as refuse-reads
+use Rattle.verdict.proofs.verdict.Reads as verdict-reads
+
+-- src/lib.rt:38:9
+refuse-requires : tie.Need-refuse-requires
+refuse-requires c κs = search needs
+
+-- src/lib.rt:38:9
+same-length : tie.Need-same-length
+same-length c = search needs
+
+-- src/lib.rt:38:9
+returns : tie.Need-returns
+returns c = λ text prog e h. end-refused text prog (c .before .before .refuse .ensures) e (too-long _ h (omega (arith, c .before .before .before .before .if1 .taken)))
+
+-- src/lib.rt:40:9
+emit-requires : tie.Need-emit-requires
+emit-requires c κs = search needs
+
+-- src/lib.rt:42:9
+same-length-2 : tie.Need-same-length-2
+same-length-2 c = search needs
+
+-- src/lib.rt:42:9
+returns-2 : tie.Need-returns-2
+unfolding Emits
+returns-2 c = λ text prog e h. end-20 text (c .before .before .before .before .emit .ensures prog (ready-cells h (omega (arith, c .before .before .before .before .before .before .if1 .left)))) (c .if2 .taken) e
+
+-- src/lib.rt:50:9
+verdict-requires : tie.Need-verdict-requires
+verdict-requires c κs = search needs
+
+-- src/lib.rt:34:1
+same-length-3 : tie.Need-same-length-3
+same-length-3 c = search needs
+
+-- src/lib.rt:34:1
+returns-3 : tie.Need-returns-3
+unfolding Emits
+returns-3 c = λ text prog e h. end-good text (c .before .before .before .before .before .emit .ensures prog (ready-cells h (omega (arith, c .before .before .before .before .before .before .before .if1 .left)))) (c .before .if2 .left) (c .verdict .ensures .exact prog (ready-laid h (omega (arith, c .before .before .before .before .before .before .before .if1 .left))))
+
+pub finish-spec : {M : Type 1} → statement M
+finish-spec =
+    tie.close
+    (tie.spec
+    refuse-requires
+    same-length
+    returns
+    emit-requires
+    same-length-2
+    returns-2
+    verdict-requires
+    same-length-3
+    returns-3)

@@ -1,0 +1,669 @@
+//! Compares the library's processor with the one of this crate, text by text, and the walks over its tables with the rules' own walk.
+//!
+//! compare_texts [--exact] [--trace] [seeds [first seed]]
+//!
+//! `--exact` lends buffers without guard bytes around them, for a memory checker; `--trace` names each group and seed beforehand.
+//! Built without the library, this crate's processor stands on both sides, and the plain C walker walks.
+#![forbid(unsafe_code)]
+
+use std::collections::BTreeMap;
+use std::process::ExitCode;
+
+use reference::faults::{self, Fault};
+use reference::ffi;
+use reference::limits::{self, LIMITS};
+use reference::processor::{Program, resolve};
+use reference::programs;
+use reference::rules;
+use reference::side::{Inputs, Processed, Processor, Reference, Side};
+use reference::tables::bytes;
+use reference::texts::{self, Seed, VOCABULARY, Words};
+use reference::walker::{WALK_BYTES, Walk};
+
+const SEEDS: u64 = 900;
+/// Mismatches that are shown in full.
+const SHOWN: u64 = 10;
+/// Lent bytes for the largest table.
+const LARGEST: usize = 2 * 4_096;
+/// The steps that the rules' own walk may do; the table of a rule step has at most three instructions.
+const RULE_STEPS: usize = 1_000_000;
+/// The steps over the table of a walk that does not stop. The rules' own walk does at most 40 for each: the ends of lists in each other.
+const ENDLESS: usize = 1_500;
+
+/// The numbers that the comparison must meet: those of the processor, and those of a walk.
+const NUMBERS: [u16; 11] = [0, 1, 2, 3, 4, 5, 6, 7, 8, 9, 20];
+const WALK_NUMBERS: [u16; 9] = [0, 22, 30, 31, 32, 33, 34, 35, 36];
+
+/// A count for each thing met.
+type Counts<K> = BTreeMap<K, u64>;
+
+fn count<K: Ord>(counts: &mut Counts<K>, key: K) {
+    *counts.entry(key).or_default() += 1;
+}
+
+struct Harness {
+    processor: &'static dyn Processor,
+    walker: &'static dyn Side,
+    exact: bool,
+    group: &'static str,
+    seed: u64,
+    passed: u64,
+    failed: u64,
+    shown: u64,
+    numbers: Counts<u16>,
+    verdicts: Counts<u64>,
+    planted: Counts<u16>,
+    limits: Counts<(usize, isize)>,
+    sizes: Counts<&'static str>,
+    walks: Counts<u16>,
+    endless: u64,
+    finished: u64,
+}
+
+/// The bytes that a slice lies in, between others that do harm if they are read or written.
+struct Lent {
+    all: Vec<u8>,
+    from: usize,
+    to: usize,
+}
+
+impl Lent {
+    fn new(contents: &[u8], guard: &[u8], exact: bool) -> Lent {
+        let (before, after): (&[u8], &[u8]) = if exact { (&[], &[]) } else { (guard, b" ; end 'x' % \n{[|") };
+        let mut all = Vec::with_capacity(before.len() + contents.len() + after.len());
+        all.extend_from_slice(before);
+        all.extend_from_slice(contents);
+        all.extend_from_slice(after);
+        Lent { from: before.len(), to: before.len() + contents.len(), all }
+    }
+
+    fn bytes(&self) -> &[u8] {
+        &self.all[self.from..self.to]
+    }
+
+    fn bytes_mut(&mut self) -> &mut [u8] {
+        &mut self.all[self.from..self.to]
+    }
+}
+
+impl Harness {
+    fn expect(&mut self, holds: bool, text: impl FnOnce() -> String) {
+        if holds {
+            self.passed += 1;
+            return;
+        }
+        self.failed += 1;
+        self.shown += 1;
+        if self.shown <= SHOWN {
+            println!("mismatch in {}, seed {}\n{}", self.group, self.seed, text());
+        }
+    }
+
+    /// Compares one call on both sides, the lent bytes being random; what this crate's processor answers.
+    fn check(&mut self, seed: &mut Seed, text: &[u8], size: usize) -> Processed {
+        let mut mine = vec![0; size];
+        seed.fill(&mut mine);
+        let guard = &b"rules M:"[seed.below(2)..];
+        let lent_text = Lent::new(text, guard, self.exact);
+        let mut lent = Lent::new(&mine, &guard[seed.below(2)..], self.exact);
+        let (text_before, mut wanted) = (lent_text.all.clone(), lent.all.clone());
+        let done = Reference.process(text, &mut mine);
+        wanted[lent.from..lent.to].copy_from_slice(&mine);
+        let theirs = self.processor.process(lent_text.bytes(), lent.bytes_mut());
+        let same = done == theirs && lent.all == wanted && lent_text.all == text_before;
+        self.expect(same, || {
+            let place = lent.all.iter().zip(&wanted).position(|(a, b)| a != b);
+            let changed = if lent_text.all == text_before { "" } else { "; the text was written to" };
+            let place = place.map_or(String::new(), |place| {
+                let from = lent.from;
+                format!("; lent byte {} is {}, not {}", place as i64 - from as i64, lent.all[place], wanted[place])
+            });
+            format!("  {size} bytes lent\n  rust:  {done:?}\n  other: {theirs:?}{place}{changed}\n{}", shown(text))
+        });
+        count(&mut self.numbers, done.number);
+        if done.number == 0 {
+            count(&mut self.verdicts, done.finishing);
+        }
+        done
+    }
+
+    /// Such a call with a buffer that is large enough, or one of any size.
+    fn check_any(&mut self, seed: &mut Seed, text: &[u8]) -> Processed {
+        let size = match seed.below(8) {
+            0 => seed.below(8),
+            1 => seed.below(200),
+            2 => LARGEST + seed.below(40),
+            _ => 600 + seed.below(400),
+        };
+        self.check(seed, text, size)
+    }
+}
+
+/// A text, escaped so that it can be read, cut where it is long.
+fn shown(text: &[u8]) -> String {
+    let cut = &text[..text.len().min(1_500)];
+    format!("  text of {} bytes: \"{}\"", text.len(), cut.escape_ascii())
+}
+
+/// Good programs of every shape.
+fn programs(h: &mut Harness, seed: &mut Seed) {
+    for _ in 0..40 {
+        let size = 3 + seed.below(80);
+        let words = texts::good(seed, size);
+        let text = texts::join(seed, &words);
+        let done = h.check(seed, &text, LARGEST);
+        h.expect(done.number == 0, || format!("a good program is refused: {done:?}\n{}", shown(&text)));
+    }
+}
+
+/// Programs of up to 32 KB, also with a few bytes or words changed.
+fn large(h: &mut Harness, seed: &mut Seed) {
+    let bytes = if seed.one_in(3) { seed.within(8_000, 32_768) } else { seed.within(1_024, 8_000) };
+    let mut text = if seed.one_in(6) {
+        let sort = seed.below(programs::HARD.len());
+        programs::hard(sort, bytes).text
+    } else {
+        programs::typical(seed, bytes).text
+    };
+    h.check(seed, &text, LARGEST);
+    for _ in 0..2 {
+        let (at, to) = (seed.below(text.len()), seed.below(text.len()));
+        match seed.below(5) {
+            0 => text.swap(at, to),
+            1 => text[at] = b' ',
+            2 => _ = text.remove(at),
+            3 => text.truncate(at.max(1)),
+            _ => text[at] = *seed.of(b"';%}>a"),
+        }
+        h.check(seed, &text, LARGEST);
+    }
+}
+
+/// Each fault planted, with the number and the part that it was planted with.
+fn planted(h: &mut Harness, seed: &mut Seed) {
+    for sort in 0..faults::SORTS {
+        let Fault { number, text, start, len } = faults::plant(seed, sort);
+        let done = h.check_any(seed, &text);
+        let wanted = Processed { number, start: start as u64, len: len as u64, words: 0, finishing: 0 };
+        h.expect(done == wanted, || format!("  planted {wanted:?}\n  found {done:?}\n{}", shown(&text)));
+        count(&mut h.planted, number);
+    }
+    // 20 is planted by the buffer.
+    let words = texts::good(seed, 20);
+    let text = texts::join(seed, &words);
+    let words = h.check(seed, &text, LARGEST).words as usize;
+    let room = 2 * seed.below(words) + seed.below(2);
+    let done = h.check(seed, &text, room);
+    let wanted = Processed { number: 20, start: text.len() as u64, len: 0, words: 0, finishing: 0 };
+    h.expect(done == wanted, || format!("  planted {wanted:?}\n  found {done:?}\n{}", shown(&text)));
+    count(&mut h.planted, 20);
+}
+
+/// Several faults in one text: the one that comes first counts.
+fn several(h: &mut Harness, seed: &mut Seed) {
+    for _ in 0..60 {
+        let text = faults::several(seed);
+        h.check_any(seed, &text);
+    }
+}
+
+/// Words changed, or bytes changed, here and there.
+fn damaged(h: &mut Harness, seed: &mut Seed) {
+    for _ in 0..120 {
+        let size = 4 + seed.below(40);
+        let text = texts::text(seed, size);
+        h.check_any(seed, &text);
+    }
+}
+
+/// A good program of few words.
+fn small(seed: &mut Seed) -> Words {
+    loop {
+        let size = 4 + seed.below(12);
+        let words = texts::good(seed, size);
+        if words.len() < 70 {
+            return words;
+        }
+    }
+}
+
+/// Each byte of a text in turn left out, put in twice, replaced, and the text ended before it.
+fn each_byte(h: &mut Harness, seed: &mut Seed) {
+    if !h.seed.is_multiple_of(4) {
+        return;
+    }
+    let words = small(seed);
+    let text = texts::join(seed, &words);
+    for at in 0..text.len() {
+        let byte = *seed.of(b"'%_$\n\r\t \0\"\\+<>!*:;|aZ09\x0c\xff=(),.#@?[]{}");
+        let bits = text[at] ^ (1 << seed.below(8));
+        h.check_any(seed, &text[..at]);
+        for (to, with) in [(at + 1, vec![]), (at, vec![text[at]]), (at, vec![byte]), (at + 1, vec![byte]), (at + 1, vec![bits])] {
+            let mut text = text.clone();
+            text.splice(at..to, with);
+            h.check_any(seed, &text);
+        }
+    }
+}
+
+/// Each word of a text in turn left out, put in twice, exchanged with the next, replaced, and the text ended before it.
+fn each_word(h: &mut Harness, seed: &mut Seed) {
+    if !h.seed.is_multiple_of(2) {
+        return;
+    }
+    let words = small(seed);
+    for at in 0..words.len() {
+        let other = seed.of(&VOCABULARY).as_bytes().to_vec();
+        let own = words[seed.below(words.len())].clone();
+        let mut swapped = vec![words[at].clone()];
+        swapped.splice(0..0, words.get(at + 1).cloned());
+        let edits = [
+            (words.len(), vec![]),
+            (at + 1, vec![]),
+            (at, vec![words[at].clone()]),
+            ((at + 2).min(words.len()), swapped),
+            (at, vec![other.clone()]),
+            (at + 1, vec![other]),
+            (at, vec![own.clone()]),
+            (at + 1, vec![own]),
+        ];
+        for (to, with) in edits {
+            let mut words = words.clone();
+            words.splice(at..to, with);
+            let text = texts::join(seed, &words);
+            h.check_any(seed, &text);
+        }
+    }
+}
+
+/// Bytes and words without order.
+fn random(h: &mut Harness, seed: &mut Seed) {
+    let alphabet = b"abMN01_'%\n\t :;,=()[]{}|*?.#@>!";
+    for _ in 0..20 {
+        let mut text = vec![0; seed.below(200)];
+        seed.fill(&mut text);
+        h.check_any(seed, &text);
+        for byte in &mut text {
+            *byte = *seed.of(alphabet);
+        }
+        h.check_any(seed, &text);
+        let mut words: Words = (0..seed.below(60)).map(|_| seed.of(&VOCABULARY).as_bytes().to_vec()).collect();
+        let text = texts::join(seed, &words);
+        h.check_any(seed, &text);
+        words.splice(0..0, b"input : a b ; rules M :".split(|byte| *byte == b' ').map(<[u8]>::to_vec));
+        let text = texts::join(seed, &words);
+        h.check_any(seed, &text);
+    }
+    if h.seed.is_multiple_of(16) {
+        let mut text = vec![0; seed.within(32_700, 32_900)];
+        seed.fill(&mut text);
+        h.check_any(seed, &text);
+    }
+}
+
+/// Every limit: one less, at it, one past it, far past it.
+fn around_limits(h: &mut Harness, seed: &mut Seed) {
+    for (limit, (name, most)) in LIMITS.into_iter().enumerate() {
+        for sample in limits::samples(seed, limit) {
+            let size = LARGEST + seed.below(6);
+            let done = h.check(seed, &sample.text, size);
+            let number = sample.number.unwrap_or(0);
+            let amount = sample.amount;
+            h.expect(done.number == number, || format!("  {name}, {amount} of {most}: {done:?}\n{}", shown(&sample.text)));
+            if done.number == number {
+                count(&mut h.limits, (limit, (amount as isize - most as isize).min(2)));
+            }
+        }
+    }
+}
+
+/// Texts that are far beyond a limit all through.
+fn beyond_limits(h: &mut Harness, seed: &mut Seed) {
+    if !h.seed.is_multiple_of(10) {
+        return;
+    }
+    for (text, number) in limits::beyond() {
+        for size in [LARGEST, 2 * 70_000] {
+            let done = h.check(seed, &text, size);
+            h.expect(done.number == number, || format!("  {done:?}, not {number}\n{}", shown(&text)));
+        }
+    }
+}
+
+/// Every lent size around the table's own, small ones, odd ones, and ones beyond the largest table.
+fn lent_sizes(h: &mut Harness, seed: &mut Seed) {
+    let size = 3 + seed.below(60);
+    let words = texts::good(seed, size);
+    let mut text = texts::join(seed, &words);
+    let limit = seed.one_in(4);
+    if limit {
+        let mut samples = limits::samples(seed, 2);
+        let sample = seed.below(3);
+        text = samples.swap_remove(sample).text;
+    }
+    let own = 2 * (h.check(seed, &text, LARGEST + 7).words as usize);
+    let beyond = LARGEST + seed.below(600);
+    let around = (0..=8).map(|i| (own + i).saturating_sub(4));
+    let sizes: Vec<usize> = around.chain([0, 1, 2, 3, own / 2, LARGEST - 1, LARGEST, LARGEST + 1, LARGEST + 2, beyond]).collect();
+    for size in sizes {
+        let done = h.check(seed, &text, size);
+        let fits = own > 0 && size / 2 * 2 >= own;
+        h.expect((done.number == 0) == fits, || format!("  {size} bytes lent for a table of {own}: {done:?}\n{}", shown(&text)));
+        let sort = match (size, size.cmp(&own)) {
+            (0, _) => "none",
+            (1, _) => "one byte",
+            (_, _) if size >= LARGEST + 2 => "beyond 4,096 words",
+            (_, std::cmp::Ordering::Less) if size % 2 == 1 => "too small, odd",
+            (_, std::cmp::Ordering::Less) => "too small",
+            (_, std::cmp::Ordering::Equal) => "the table's own",
+            _ if size % 2 == 1 => "larger, odd",
+            _ => "larger",
+        };
+        count(&mut h.sizes, sort);
+    }
+    // A refusal zeroes all words, however many.
+    texts::damage(seed, &mut text);
+    for size in [0, 1, 7, LARGEST + 3] {
+        h.check(seed, &text, size);
+    }
+}
+
+/// The rules' own walk: its end, and the events, tokens read and answers used after each of its steps, once each.
+struct Own {
+    end: rules::End,
+    steps: usize,
+    states: Vec<(usize, u64, u64)>,
+}
+
+impl Own {
+    fn new(program: &Program, tokens: &[u16], answers: &[u16], most: usize) -> Own {
+        let mut states = vec![(0, 0, 0)];
+        let look = |end: &rules::End| {
+            let state = (end.events.len(), end.read, end.used);
+            if states.last() != Some(&state) {
+                states.push(state);
+            }
+        };
+        let (end, steps) = rules::follow(program, tokens, answers, most, look);
+        Own { end, steps, states }
+    }
+}
+
+/// A walk over a table in calls, with what its calls wrote and did.
+struct Run {
+    walk: Vec<u8>,
+    number: u16,
+    events: Vec<u8>,
+    steps: u64,
+}
+
+impl Run {
+    fn new(side: &dyn Side) -> Run {
+        let mut walk = vec![0xEE; WALK_BYTES];
+        side.fresh(&mut walk);
+        Run { walk, number: 36, events: Vec::new(), steps: 0 }
+    }
+
+    /// One call; with an answer, or asked for one, it is a paused call.
+    fn go(&mut self, side: &dyn Side, inputs: Inputs, paused: Option<Option<u16>>, budget: u64, size: usize) {
+        let mut events = vec![0; size];
+        let done = match paused {
+            None => side.whole(inputs, budget, &mut self.walk, &mut events),
+            Some(answer) => {
+                let given = u16::from(answer.is_some());
+                side.paused(inputs, given, answer.unwrap_or(0), budget, &mut self.walk, &mut events)
+            }
+        };
+        let written = (done.written as usize).saturating_mul(6).min(size);
+        self.events.extend_from_slice(&events[..written]);
+        self.number = done.number;
+        self.steps += done.steps;
+    }
+}
+
+/// What a walk is fed.
+struct Feed<'a> {
+    text: &'a [u8],
+    table: &'a [u8],
+    tokens: &'a [u16],
+    answers: &'a [u16],
+}
+
+/// One walk over a table in calls of any budget and buffer, compared with the rules' own walk after each call.
+fn table_walk(h: &mut Harness, seed: &mut Seed, feed: &Feed, own: &Own, pauses: bool) {
+    let Feed { text, table, tokens, answers } = *feed;
+    let (token_bytes, answer_bytes) = (bytes(tokens), bytes(answers));
+    let inputs = Inputs { table, tokens: &token_bytes, answers: &answer_bytes };
+    let mut run = Run::new(h.walker);
+    let most = if own.end.reason.is_some() { 3 * own.steps as u64 + 3 } else { ENDLESS as u64 };
+    let (mut state, mut agrees, mut used) = (0, true, 0);
+    let long = seed.one_in(2);
+    loop {
+        let left = most - run.steps.min(most);
+        let budget = match seed.below(4) {
+            _ if long => left,
+            0 => seed.below(3) as u64,
+            1 => seed.below(12) as u64,
+            2 => left,
+            _ => seed.below(200) as u64,
+        };
+        let size = if long { 6 * own.end.events.len() + 12 } else { seed.below(60) };
+        let answer = (run.number == 22).then(|| answers[used]);
+        used += usize::from(answer.is_some());
+        run.go(h.walker, inputs, pauses.then_some(answer), budget.min(left), size);
+        count(&mut h.walks, run.number);
+        // The rules' own walk writes an operation's event and takes its answer at once.
+        let Some(walk) = Walk::decode(&run.walk) else { break };
+        let now = (run.events.len() / 6 - usize::from(run.number == 22), walk.read, walk.used);
+        match own.states[state..].iter().position(|state| *state == now) {
+            Some(further) => state += further,
+            None => agrees = false,
+        }
+        let goes_on = matches!(run.number, 35 | 36) || run.number == 22 && used < answers.len();
+        if !goes_on || !agrees || run.steps >= most {
+            break;
+        }
+    }
+    let mut wanted: Vec<u8> = own.end.events.iter().flat_map(|event| bytes(event)).collect();
+    let walk = Walk::decode(&run.walk).unwrap_or_default();
+    match own.end.reason {
+        None => {
+            agrees &= matches!(run.number, 22 | 35 | 36) && wanted.starts_with(&run.events);
+            h.endless += 1;
+        }
+        Some(reason) => {
+            if run.number == 22 {
+                // It waits for the answer past the last; only the operation's event is there already.
+                let event = run.events.split_off(run.events.len().saturating_sub(6));
+                agrees &= reason == 34 && event.len() == 6 && event[..2] == [0, 3];
+            } else {
+                agrees &= run.number == reason;
+            }
+            agrees &= run.events == wanted && (walk.read, walk.used) == (own.end.read, own.end.used) && run.steps <= most;
+        }
+    }
+    wanted.truncate(120);
+    h.expect(agrees, || {
+        format!(
+            "  pauses: {pauses}\n  rules: {:?} after {} steps, read {}, used {}, events {wanted:?}\n  table: {} after {} steps, read {}, used {}, \
+             events {:?}\n  tokens {tokens:?}\n  answers {answers:?}\n{}",
+            own.end.reason,
+            own.steps,
+            own.end.read,
+            own.end.used,
+            run.number,
+            run.steps,
+            walk.read,
+            walk.used,
+            &run.events[..run.events.len().min(120)],
+            shown(text)
+        )
+    });
+}
+
+/// Tokens and answers: ones that lead on, or any.
+fn feed(seed: &mut Seed, program: &Program) -> (Vec<u16>, Vec<u16>) {
+    let (mut tokens, mut answers) = texts::lead(seed, program);
+    if seed.one_in(4) {
+        tokens.extend((0..seed.below(20)).map(|_| seed.below(6) as u16));
+    }
+    if seed.one_in(3) {
+        answers.extend((0..seed.below(20)).map(|_| seed.below(5) as u16));
+    }
+    if seed.one_in(6) && !tokens.is_empty() {
+        let at = seed.below(tokens.len());
+        tokens[at] = seed.draw() as u16;
+    }
+    if seed.one_in(3) && !answers.is_empty() {
+        let at = seed.below(answers.len());
+        answers[at] = seed.draw() as u16;
+    }
+    if seed.one_in(4) {
+        answers.truncate(seed.below(answers.len() + 1));
+    }
+    (tokens, answers)
+}
+
+/// Every kind of choice and operation, some choices without otherwise.
+const CHOICES: &str = "input: a b; output: o p; type t: v w x; mechanism m: c>>t d(t)>>t u(t) n; \
+    rules M: { [c | w: .o u(x) | x: @K] [d(w) | v: n | w: > | *: .p] [@N | v: ? | w: b] }; K: [ | a: u(v) | *: n]; \
+    N >> t: [ | a: >> v | b: >> w | *: >> x]; end";
+
+/// Accepted programs walked: their table, as the library wrote it, whole and in pauses, against the rules' own walk. One that is finishing stops.
+fn walks(h: &mut Harness, seed: &mut Seed) {
+    for round in 0..24 {
+        let text = match round {
+            0 | 1 => {
+                let bytes = seed.within(1_024, 4_000);
+                programs::typical(seed, bytes).text
+            }
+            2 | 3 => CHOICES.into(),
+            _ => {
+                let size = 6 + seed.below(80);
+                let words = texts::good(seed, size);
+                texts::join(seed, &words)
+            }
+        };
+        let mut table = vec![0xEE; LARGEST];
+        let done = h.processor.process(&text, &mut table);
+        table.truncate(2 * done.words as usize);
+        let Ok(program) = resolve(&text) else { continue };
+        h.expect(done.number == 0, || format!("a good program is refused: {done:?}\n{}", shown(&text)));
+        for _ in 0..3 {
+            let (tokens, answers) = feed(seed, &program);
+            let most = if done.finishing == 1 { RULE_STEPS } else { 40 * ENDLESS };
+            let own = Own::new(&program, &tokens, &answers, most);
+            if done.finishing == 1 {
+                h.expect(own.end.reason.is_some(), || format!("a finishing program does not stop\n{}", shown(&text)));
+                h.finished += 1;
+            }
+            let feed = Feed { text: &text, table: &table, tokens: &tokens, answers: &answers };
+            table_walk(h, seed, &feed, &own, false);
+            table_walk(h, seed, &feed, &own, true);
+        }
+    }
+}
+
+/// A name, and a group of texts for a seed.
+type Group = (&'static str, fn(&mut Harness, &mut Seed));
+
+const GROUPS: [Group; 12] = [
+    ("good programs", programs),
+    ("large programs", large),
+    ("planted faults", planted),
+    ("several faults", several),
+    ("damaged texts", damaged),
+    ("each byte damaged", each_byte),
+    ("each word damaged", each_word),
+    ("random bytes and words", random),
+    ("limits", around_limits),
+    ("far beyond the limits", beyond_limits),
+    ("lent sizes", lent_sizes),
+    ("walks", walks),
+];
+
+/// Prints how often each thing was met, and fails for one that never was.
+fn report(h: &mut Harness) {
+    let mut never: Vec<String> = Vec::new();
+    let mut line = |head: &str, met: Vec<(String, u64)>| {
+        let items: Vec<String> = met.iter().map(|(name, times)| format!("{name} {times} times")).collect();
+        println!("{head}: {}", items.join(", "));
+        never.extend(met.into_iter().filter(|(_, times)| *times == 0).map(|(name, _)| format!("{head}: {name}")));
+    };
+    let times = |counts: &Counts<u16>, numbers: &[u16]| -> Vec<(String, u64)> {
+        numbers.iter().map(|number| (number.to_string(), counts.get(number).copied().unwrap_or(0))).collect()
+    };
+    line("answered", times(&h.numbers, &NUMBERS));
+    let verdict = |value: u64| h.verdicts.get(&value).copied().unwrap_or(0);
+    line("finishing", vec![("yes".to_string(), verdict(1)), ("no".to_string(), verdict(0))]);
+    line("planted", times(&h.planted, &NUMBERS[1..]));
+    for (limit, (name, most)) in LIMITS.into_iter().enumerate() {
+        let side = |past: isize| (format!("{}", most as isize + past), h.limits.get(&(limit, past)).copied().unwrap_or(0));
+        line(&format!("limit of {name}"), vec![side(-1), side(0), side(1)]);
+    }
+    let sizes =
+        ["none", "one byte", "too small", "too small, odd", "the table's own", "larger", "larger, odd", "beyond 4,096 words"];
+    line("lent", sizes.iter().map(|size| (size.to_string(), h.sizes.get(size).copied().unwrap_or(0))).collect());
+    line("walk calls answered", times(&h.walks, &WALK_NUMBERS));
+    line("walks", vec![("of finishing programs".to_string(), h.finished), ("without end".to_string(), h.endless)]);
+    for name in never {
+        h.expect(false, || format!("never met: {name}"));
+    }
+}
+
+fn main() -> ExitCode {
+    let (mut exact, mut trace) = (false, false);
+    let mut numbers = Vec::new();
+    for argument in std::env::args().skip(1) {
+        match argument.as_str() {
+            "--exact" => exact = true,
+            "--trace" => trace = true,
+            text => match text.parse::<u64>() {
+                Ok(number) => numbers.push(number),
+                Err(_) => {
+                    eprintln!("compare_texts [--exact] [--trace] [seeds [first seed]]");
+                    return ExitCode::from(2);
+                }
+            },
+        }
+    }
+    let seeds = numbers.first().copied().unwrap_or(SEEDS);
+    let first = numbers.get(1).copied().unwrap_or(1);
+    let processor = ffi::processor().unwrap_or(&Reference);
+    let walker = ffi::library().unwrap_or(&ffi::Plain);
+    println!("rust against {}, walks of {}, seeds {first} to {}", processor.name(), walker.name(), first + seeds.max(1) - 1);
+    let mut h = Harness {
+        processor,
+        walker,
+        exact,
+        group: "",
+        seed: 0,
+        passed: 0,
+        failed: 0,
+        shown: 0,
+        numbers: BTreeMap::new(),
+        verdicts: BTreeMap::new(),
+        planted: BTreeMap::new(),
+        limits: BTreeMap::new(),
+        sizes: BTreeMap::new(),
+        walks: BTreeMap::new(),
+        endless: 0,
+        finished: 0,
+    };
+    for (stream, (name, group)) in (1..).zip(GROUPS) {
+        let (passed, failed, start) = (h.passed, h.failed, ffi::cpu_seconds());
+        h.group = name;
+        for number in first..first + seeds {
+            if trace {
+                eprintln!("{name}, seed {number}");
+            }
+            h.seed = number;
+            group(&mut h, &mut Seed::new(number ^ (stream << 40)));
+        }
+        let seconds = ffi::cpu_seconds() - start;
+        println!("{name}: {} passed, {} failed ({seconds:.1} s)", h.passed - passed, h.failed - failed);
+    }
+    report(&mut h);
+    println!("{} passed, {} failed", h.passed, h.failed);
+    if h.failed == 0 { ExitCode::SUCCESS } else { ExitCode::FAILURE }
+}

@@ -1,0 +1,343 @@
+//! Good programs of a given size, laid out as an author would, and ones that make a processor work hard.
+
+use crate::texts::Seed;
+
+/// A program's name, and its text.
+pub struct Text {
+    pub name: &'static str,
+    pub text: Vec<u8>,
+}
+
+/// What hard programs are full of.
+pub const HARD: [&str; 7] = ["names", "long names", "nesting", "labels", "calls", "cycles", "names, 20"];
+
+/// A hard program of about so many bytes. The last sort passes the table's limit and is refused with 20 where it has more than 8 KB.
+pub fn hard(sort: usize, bytes: usize) -> Text {
+    let text = match sort {
+        0 => names(bytes, (bytes / 2_700).max(2), 2_000),
+        1 => names(bytes, 28, 2_000),
+        2 => nesting(bytes),
+        3 => labels(bytes),
+        4 => calls(bytes),
+        5 => cycles(bytes),
+        _ => names(bytes, 1, usize::MAX),
+    };
+    Text { name: HARD[sort], text: filled(text, bytes) }
+}
+
+/// Filled up with a comment.
+fn filled(mut text: String, bytes: usize) -> Vec<u8> {
+    if text.len() < bytes {
+        text.push('%');
+        text.push_str(&"-".repeat(bytes - text.len()));
+    }
+    text.into_bytes()
+}
+
+/// Names with one beginning of so many letters, matched again and again, the last declared ones most of all.
+fn names(bytes: usize, stem: usize, most: usize) -> String {
+    let name = |i: usize| {
+        let letters = b"abcdefghijklmnopqrstuvwxyz";
+        let digits = [letters[i / 26 % 26], letters[i % 26]];
+        format!("{}{}", "N".repeat(stem), String::from_utf8_lossy(&digits))
+    };
+    let tokens = (bytes / 2 / (stem + 3)).clamp(2, 511);
+    let mut text = String::from("input:\n");
+    for i in 0..tokens {
+        text.push_str(&name(i));
+        text.push(if i % 8 == 7 { '\n' } else { ' ' });
+    }
+    text.push_str(";\nrules M:\n");
+    let room = bytes.saturating_sub(text.len() + 8) / (stem + 3);
+    for i in 0..room.min(most) {
+        text.push_str(&name(tokens - 1 - i % tokens.min(64)));
+        text.push(if i % 8 == 7 { '\n' } else { ' ' });
+    }
+    text.push_str(";\nend\n");
+    text
+}
+
+/// Cycles in choices in cycles, 32 deep, each on a line of its own, over and over.
+fn nesting(bytes: usize) -> String {
+    let mut text = String::from("input: a;\nrules M:\n");
+    let mut words = 0;
+    // A small text has no room to indent.
+    let indent = if bytes < 4_096 { 0 } else { 1 };
+    loop {
+        let mut part = String::new();
+        for depth in 0..32 {
+            let open = ["{", "[ | a: > | *:"][depth % 2];
+            part.push_str(&format!("{}{open}\n", " ".repeat(indent * depth)));
+        }
+        for depth in (0..32).rev() {
+            let close = ["}", "]"][depth % 2];
+            part.push_str(&format!("{}{close}\n", " ".repeat(indent * depth)));
+        }
+        words += 16 * 11;
+        if text.len() + part.len() + 8 > bytes || words > 4_000 {
+            break;
+        }
+        text.push_str(&part);
+    }
+    text.push_str(";\nend\n");
+    text
+}
+
+/// Choices of 64 labels.
+fn labels(bytes: usize) -> String {
+    let stem = (bytes / 2_600).clamp(1, 12);
+    let name = |i: usize| format!("{}{i:02}", "L".repeat(stem));
+    let count = (bytes / 4 / (stem + 3)).clamp(2, 64);
+    let mut text = format!("input: {};\nrules M:\n", (0..count).map(|i| format!("{} ", name(i))).collect::<String>());
+    let mut words = 0;
+    loop {
+        let mut part = String::from("[");
+        for i in 0..count {
+            part.push_str(if i % 8 == 0 { "\n| " } else { ", " });
+            part.push_str(&name(count - 1 - i));
+            if i % 8 == 7 || i + 1 == count {
+                part.push(':');
+            }
+        }
+        part.push_str("]\n");
+        words += 2 * count + 2 * count.div_ceil(8) + 7;
+        if text.len() + part.len() + 8 > bytes || words > 4_000 {
+            break;
+        }
+        text.push_str(&part);
+    }
+    text.push_str(";\nend\n");
+    text
+}
+
+/// Rules that each call the next; only the last is passed quietly by itself.
+fn calls(bytes: usize) -> String {
+    let each = if bytes > 16_384 { 15 } else { 3 };
+    let name = |i: usize| format!("Rule_{i:08}");
+    let count = (bytes / (16 * each + 20)).clamp(2, 128);
+    let mut text = String::from("rules\n");
+    for i in 0..count {
+        text.push_str(&format!("{}:\n", name(i)));
+        if i + 1 < count {
+            text.push_str(&format!("@{} ", name(i + 1)).repeat(each));
+        }
+        text.push_str(";\n");
+    }
+    text.push_str("end\n");
+    text
+}
+
+/// Cycles around calls that are passed quietly, side by side; none has a quiet path round.
+fn cycles(bytes: usize) -> String {
+    let part = "    { @Helper [ | token: @Helper .result | *: > ] }\n";
+    let mut text = String::from("input: token;\noutput: result;\nrules\nMain:\n");
+    let mut words = 0;
+    let mut rule = 0;
+    let mut in_rule = 0;
+    while text.len() + part.len() + 64 < bytes && words < 3_900 {
+        text.push_str(part);
+        words += 17;
+        in_rule += 1;
+        if in_rule == 16 {
+            rule += 1;
+            in_rule = 0;
+            text.push_str(&format!(";\nPart{rule}:\n"));
+        }
+    }
+    text.push_str(";\nHelper: [ | token: | *: ];\nend\n");
+    text
+}
+
+/// A mixed program of so many bytes: tokens, errors, types, operations and rules in the usual proportions, with comments.
+pub fn typical(seed: &mut Seed, bytes: usize) -> Text {
+    loop {
+        let mut writer = Writer::new(seed, bytes);
+        writer.sections();
+        writer.rules(bytes);
+        if writer.text.len() <= bytes {
+            return Text { name: "typical", text: filled(writer.text, bytes) };
+        }
+    }
+}
+
+struct Writer<'a> {
+    seed: &'a mut Seed,
+    text: String,
+    tokens: usize,
+    outputs: usize,
+    errors: usize,
+    values: usize,
+    rules: usize,
+    /// Words of the table so far.
+    words: usize,
+}
+
+impl Writer<'_> {
+    fn new(seed: &mut Seed, bytes: usize) -> Writer<'_> {
+        Writer {
+            text: String::new(),
+            tokens: (bytes / 300).clamp(4, 60),
+            outputs: (bytes / 400).clamp(3, 50),
+            errors: (bytes / 1_500).clamp(1, 16),
+            values: 4,
+            rules: (bytes / 360).clamp(2, 90),
+            words: 0,
+            seed,
+        }
+    }
+
+    fn sections(&mut self) {
+        let list = |stem: &str, n: usize| {
+            (0..n).map(|i| format!(" {stem}{i}{}", if i % 8 == 7 { "\n   " } else { "" })).collect::<String>()
+        };
+        let strings = |stem: &str, n: usize| {
+            (0..n)
+                .map(|i| format!(" {stem}{i}{}", if i % 3 == 0 { format!(" '<{i}>'\n   ") } else { String::new() }))
+                .collect::<String>()
+        };
+        self.text.push_str("% A program of the usual kind.\ninput:\n   ");
+        self.text.push_str(&strings("token", self.tokens));
+        self.text.push_str(";\noutput:\n   ");
+        self.text.push_str(&list("output", self.outputs));
+        self.text.push_str(";\nerror:\n   ");
+        self.text.push_str(&list("error", self.errors).replacen("error0", "error0 = 10", 1));
+        self.text.push_str(";\ntype State:\n   ");
+        self.text.push_str(&list("state", self.values));
+        self.text.push_str(";\nmechanism Page:\n    Place\n    Turn(State)\n    Room >> State\n    Measure(State) >> State;\n");
+    }
+
+    fn rules(&mut self, bytes: usize) {
+        self.text.push_str("rules\n");
+        for rule in 0..self.rules {
+            let chooses = rule % 5 == 4;
+            let head = if chooses { format!("Rule{rule} >> State:\n") } else { format!("Rule{rule}:\n") };
+            self.text.push_str(&head);
+            let until = self.text.len() + (bytes.saturating_sub(self.text.len() + 80)) / (self.rules - rule);
+            let room = self.words + 3_900usize.saturating_sub(self.words) / (self.rules - rule);
+            while self.text.len() + 80 < until {
+                if self.words + 30 > room {
+                    self.text.push_str("    % The table is nearly full: what follows is said in words only.\n");
+                } else {
+                    self.action(rule, 1);
+                }
+            }
+            let last = if chooses { "    >> state1;\n" } else { "    ;\n" };
+            self.words += if chooses { 3 } else { 1 };
+            self.text.push_str(last);
+        }
+        self.text.push_str("end\n");
+    }
+
+    fn line(&mut self, depth: usize, line: &str, words: usize) {
+        self.text.push_str(&"    ".repeat(depth));
+        self.text.push_str(line);
+        if self.seed.one_in(12) {
+            self.text.push_str("  % as the manual says");
+        }
+        self.text.push('\n');
+        self.words += words;
+    }
+
+    fn action(&mut self, rule: usize, depth: usize) {
+        let token = self.token();
+        let output = self.seed.below(self.outputs);
+        let state = self.seed.below(self.values);
+        match self.seed.below(if depth < 3 { 12 } else { 8 }) {
+            0 => self.line(depth, &token, 2),
+            1 => self.line(depth, &format!(".output{output}"), 2),
+            2 => self.line(depth, &format!("{token} .output{output}"), 4),
+            3 => {
+                let error = self.seed.below(self.errors);
+                self.line(depth, &format!("#error{error} ?"), 3);
+            }
+            4 => self.line(depth, &format!("Place Turn(state{state})"), 4),
+            5 | 6 => {
+                // Rules call later ones only, and no choice rules.
+                let next = rule + 1 + self.seed.below(3);
+                let next = if next % 5 == 4 { next + 1 } else { next };
+                if next < self.rules {
+                    self.line(depth, &format!("@Rule{next}"), 2);
+                } else {
+                    self.line(depth, "Place", 1);
+                }
+            }
+            7 => self.line(depth, "% The next part goes with the one before.", 0),
+            8 => {
+                self.line(depth, "{[", 4);
+                let labels = self.alternatives(rule, depth + 1);
+                self.line(depth + 1, "| *: >", 2);
+                self.line(depth, "]}", 1 + 2 * labels);
+            }
+            9 | 10 => {
+                self.line(depth, "[", 6);
+                let labels = self.alternatives(rule, depth + 1);
+                self.line(depth, "]", 1 + 2 * labels);
+            }
+            _ => {
+                let chooser = (rule + 1..self.rules).find(|rule| rule % 5 == 4);
+                let by = match (self.seed.below(3), chooser) {
+                    (0, Some(rule)) => format!("[@Rule{rule}"),
+                    (1, _) => format!("[ Measure(state{state})"),
+                    _ => "[ Room".to_string(),
+                };
+                self.line(depth, &by, 6);
+                self.line(depth + 1, "| state0, state2:", 6);
+                self.action(rule, depth + 2);
+                self.line(depth + 1, "| state1:", 4);
+                self.action(rule, depth + 2);
+                self.line(depth + 1, "| *: Place", 1);
+                self.line(depth, "]", 1);
+            }
+        }
+    }
+
+    fn token(&mut self) -> String {
+        let token = self.seed.below(self.tokens);
+        if token.is_multiple_of(3) && self.seed.one_in(2) { format!("'<{token}>'") } else { format!("token{token}") }
+    }
+
+    /// Labelled alternatives; the count of labels.
+    fn alternatives(&mut self, rule: usize, depth: usize) -> usize {
+        let count = 1 + self.seed.below(4);
+        let first = self.seed.below(self.tokens - 3);
+        let mut labels = 0;
+        for i in 0..count.min(self.tokens - first) {
+            if i == 0 && first > 0 && self.seed.one_in(3) {
+                self.line(depth, &format!("| token{first}, token{}:", first - 1), 2);
+                labels += 2;
+            } else {
+                self.line(depth, &format!("| token{}:", first + i), 2);
+                labels += 1;
+            }
+            self.action(rule, depth + 1);
+        }
+        labels
+    }
+}
+
+#[cfg(test)]
+mod tests {
+    use super::*;
+    use crate::processor::{Answer, MAX_TABLE, process};
+
+    #[test]
+    fn they_are_accepted() {
+        for bytes in [1_024, 8_192, 32_768] {
+            for sort in 0..HARD.len() {
+                let Text { name, text } = hard(sort, bytes);
+                assert_eq!(text.len(), bytes, "{name}");
+                let answer = process(&text, MAX_TABLE);
+                let refused = matches!(answer, Answer::Refused { number: 20, .. });
+                assert!(refused && sort == 6 || matches!(answer, Answer::Accepted { .. }), "{name} of {bytes}: {answer:?}");
+            }
+        }
+        for n in 0..30 {
+            let mut seed = Seed::new(n);
+            let bytes = 1_024 + seed.below(31_745);
+            let Text { text, .. } = typical(&mut seed, bytes);
+            let answer = process(&text, MAX_TABLE);
+            assert!(matches!(answer, Answer::Accepted { .. }), "{n}, {bytes}: {answer:?}\n{}", String::from_utf8_lossy(&text));
+            assert_eq!(text.len(), bytes, "{n}");
+        }
+    }
+}
