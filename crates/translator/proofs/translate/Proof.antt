@@ -25,7 +25,7 @@ slice-aggregate-check-declarations c = search needs
 
 -- src/lib.rt:100:9
 check-declarations-requires : tie.Need-check-declarations-requires
-check-declarations-requires c κs = c .before .before .collect .ensures .small
+check-declarations-requires c κs = omega (arith, c .before .before .collect .ensures .small, c .before .before .collect .ensures .early)
 
 -- src/lib.rt:102:9
 refuse-requires : tie.Need-refuse-requires
@@ -45,7 +45,7 @@ slice-aggregate-settle c = search needs
 
 -- src/lib.rt:104:5
 settle-requires : tie.Need-settle-requires
-settle-requires c κs = (c .before .before .before .before .before .before .before .collect .ensures .inside, c .before .before .before .before .before .before .before .collect .ensures .early, c .before .before .before .before .before .before .before .collect .ensures .small)
+settle-requires c κs = (omega (arith, c .before .before .before .before .before .before .before .collect .ensures .inside), omega (arith, c .before .before .before .before .before .before .before .collect .ensures .early, c .before .before .before .before .before .before .before .collect .ensures .small), omega (arith, c .before .before .before .before .before .before .before .collect .ensures .small))
 
 -- src/lib.rt:94:1
 same-length-2 : tie.Need-same-length-2
