@@ -7,6 +7,7 @@ ghost use lib.ListN.{length, take, drop, getD, set};
 ghost use Rattle.scanner.specs.Next.{Next};
 ghost use Rattle.syntax.specs.Actions.{closes};
 ghost use Rattle.resolver.specs.Resolved.{Appends};
+ghost use Rattle.symbols.specs.Index.{Kept};
 ghost use Rattle.symbols.specs.Rows.{held};
 ghost use Rattle.builder.specs.Heads.{takenBefore, TypeDone, HeadDone};
 ghost use Rattle.builder.specs.Row.{RuleDone};
@@ -141,7 +142,7 @@ fn build_actions(
     cells: &mut [u16],
     count: usize,
 ) -> Built
-    requires { ⌜ (at ≤ length (now text)) × (n ≤ 512) ⌝ }
+    requires { ⌜ (at ≤ length (now text)) × Kept (now text) (now rows) n ⌝ }
     ensures { λ r. ⌜ ActsDone (now (text .entry)) (now (rows .entry)) n at inside class true false (now (cells .entry)) count (now (cells .exit)) r ⌝ }
 {
     let mut i = at;
@@ -182,7 +183,7 @@ fn build_action(
     cells: &mut [u16],
     count: usize,
 ) -> Built
-    requires { ⌜ (at ≤ length (now text)) × (n ≤ 512) ⌝ }
+    requires { ⌜ (at ≤ length (now text)) × Kept (now text) (now rows) n ⌝ }
     ensures { λ r. ⌜ ActDone (now (text .entry)) (now (rows .entry)) n at inside class (now (cells .entry)) count (now (cells .exit)) r ⌝ }
 {
     let w = look(text, at);
@@ -205,7 +206,7 @@ fn build_cycle(
     cells: &mut [u16],
     count: usize,
 ) -> Built
-    requires { ⌜ (at ≤ length (now text)) × (n ≤ 512) ⌝ }
+    requires { ⌜ (at ≤ length (now text)) × Kept (now text) (now rows) n ⌝ }
     ensures { λ r. ⌜ CycleDone (now (text .entry)) (now (rows .entry)) n at class (now (cells .entry)) count (now (cells .exit)) r ⌝ }
 {
     let c = resolver::put(cells, count, 2);
@@ -241,7 +242,7 @@ fn build_choice(
     cells: &mut [u16],
     count: usize,
 ) -> Built
-    requires { ⌜ (at ≤ length (now text)) × (n ≤ 512) ⌝ }
+    requires { ⌜ (at ≤ length (now text)) × Kept (now text) (now rows) n ⌝ }
     ensures { λ r. ⌜ ChoiceDone (now (text .entry)) (now (rows .entry)) n at inside class (now (cells .entry)) count (now (cells .exit)) r ⌝ }
 {
     let s = resolver::resolve_selector(text, rows, n, at, cells, count);
@@ -284,7 +285,7 @@ fn build_alternatives(
     cells: &mut [u16],
     count: usize,
 ) -> Built
-    requires { ⌜ (at ≤ length (now text)) × (n ≤ 512) × (length (now seen) ≡ 64) ⌝ }
+    requires { ⌜ (at ≤ length (now text)) × Kept (now text) (now rows) n × (length (now seen) ≡ 64) ⌝ }
     ensures { λ r. ⌜ AltsDone (now (text .entry)) (now (rows .entry)) n at inside class labels absent (now (seen .entry)) 0 false false (now (cells .entry)) count (now (cells .exit)) r ⌝ }
 {
     let mut i = at;
@@ -343,7 +344,7 @@ fn build_labelled(
     cells: &mut [u16],
     count: usize,
 ) -> Labelled
-    requires { ⌜ (at ≤ length (now text)) × (n ≤ 512) × (length (now seen) ≡ 64) × (used ≤ 64) ⌝ }
+    requires { ⌜ (at ≤ length (now text)) × Kept (now text) (now rows) n × (length (now seen) ≡ 64) × (used ≤ 64) ⌝ }
     ensures { λ r. ⌜ LabelledDone (now (text .entry)) (now (rows .entry)) n at inside class labels (now (seen .entry)) used (now (seen .exit)) (now (cells .entry)) count (now (cells .exit)) r ⌝ }
 {
     let l = resolver::resolve_labels(text, rows, n, at, labels, seen, used);
@@ -381,7 +382,7 @@ fn build_otherwise(
     cells: &mut [u16],
     count: usize,
 ) -> Built
-    requires { ⌜ (at ≤ length (now text)) × (n ≤ 512) ⌝ }
+    requires { ⌜ (at ≤ length (now text)) × Kept (now text) (now rows) n ⌝ }
     ensures { λ r. ⌜ OtherDone (now (text .entry)) (now (rows .entry)) n at inside class (now (cells .entry)) count (now (cells .exit)) r ⌝ }
 {
     let w = look(text, at);
@@ -407,7 +408,7 @@ fn build_otherwise(
 
 // An operation has the name, or a rule before declaration `before`.
 fn is_taken(text: &[u8], rows: &[u16], n: usize, before: usize, start: usize, len: usize) -> bool
-    requires { ⌜ n ≤ 512 ⌝ }
+    requires { ⌜ Kept (now text) (now rows) n ⌝ }
     ensures { λ r. ⌜ r ≡ takenBefore (held (now (text .entry)) (now (rows .entry)) n) before (take len (drop start (now (text .entry)))) ⌝ }
 {
     let o = symbols::find_row(text, rows, n, 6, start, len);
@@ -420,7 +421,7 @@ fn is_taken(text: &[u8], rows: &[u16], n: usize, before: usize, start: usize, le
 
 // A rule's type, where it has one, and its colon.
 fn read_type(text: &[u8], rows: &[u16], n: usize, at: usize) -> Head
-    requires { ⌜ (at ≤ length (now text)) × (n ≤ 512) ⌝ }
+    requires { ⌜ (at ≤ length (now text)) × Kept (now text) (now rows) n ⌝ }
     ensures { λ r. ⌜ TypeDone (now (text .entry)) (now (rows .entry)) n at r ⌝ }
 {
     let g = look(text, at);
@@ -453,7 +454,7 @@ fn read_type(text: &[u8], rows: &[u16], n: usize, at: usize) -> Head
 
 // The head of rule k, the first rule being declaration `first`.
 fn read_head(text: &[u8], rows: &[u16], n: usize, first: usize, k: usize, at: usize) -> Head
-    requires { ⌜ (at ≤ length (now text)) × (n ≤ 512) × (first ≤ 512) × (k < 128) ⌝ }
+    requires { ⌜ (at ≤ length (now text)) × Kept (now text) (now rows) n × (first ≤ 512) × (k < 128) ⌝ }
     ensures { λ r. ⌜ HeadDone (now (text .entry)) (now (rows .entry)) n first k at r ⌝ }
 {
     let w = look(text, at);
@@ -503,7 +504,7 @@ fn build_rule(
     cells: &mut [u16],
     count: usize,
 ) -> Ruled
-    requires { ⌜ (at ≤ length (now text)) × (n ≤ 512) × (first ≤ 512) × (k < 128) ⌝ }
+    requires { ⌜ (at ≤ length (now text)) × Kept (now text) (now rows) n × (first ≤ 512) × (k < 128) ⌝ }
     ensures { λ r. ⌜ RuleDone (now (text .entry)) (now (rows .entry)) n first k at (now (cells .entry)) count (now (cells .exit)) r ⌝ }
 {
     let h = read_head(text, rows, n, first, k, at);
@@ -571,7 +572,7 @@ pub fn build(
     starts: &mut [u16],
     sorts: &mut [u8],
 ) -> Rules
-    requires { ⌜ (at ≤ length (now text)) × (first ≤ 512) × (n ≤ 512) × (length (now starts) ≡ 128) × (length (now sorts) ≡ 128) × (length (now cells) ≤ 60000) ⌝ }
+    requires { ⌜ (at ≤ length (now text)) × (first ≤ 512) × Kept (now text) (now rows) n × (length (now starts) ≡ 128) × (length (now sorts) ≡ 128) × (length (now cells) ≤ 60000) ⌝ }
     ensures { λ r. ⌜ RulesDone (now (text .entry)) (now (rows .entry)) n first at (now (cells .entry)) (now (cells .exit)) (now (starts .exit)) (now (sorts .exit)) r ⌝ }
 {
     let mut i = at;

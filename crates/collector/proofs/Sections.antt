@@ -379,7 +379,7 @@ pub collected : {text rows rows₁ rows′ : List ℕ} {c : ℕ} {s : Spot} {w :
     → SomeRules text rows₁ rows′ (w .next) (s .count) 0 c → Collects text rows rows′ (record { count = c; rules = s .count; at = w .next })
 unfolding declsOf
 collected {text} {rows} {rows₁} {rows′} {c} {s} {w} y z a h b = record { size = z ∙ y; early = a .bounds .small; small = b .small; inside = h .high; collects = all } where
-  all : (p : Program) → ProgramIn (wordsAt text 0) p → length rows ≡ 4096 → CollectedFor p text rows′ (record { count = c; rules = s .count; at = w .next })
+  all : (p : Program) → ProgramIn (wordsAt text 0) p → length rows ≡ 5632 → CollectedFor p text rows′ (record { count = c; rules = s .count; at = w .next })
   all p (a-program {ws₁ = ws₁} {ws₂ = ws₂} {ws₃ = ws₃} q t r e m n) l =
       let d = a .appends nothing ws₁ (p .sections) q start-kept (record { size = l; room = omega arith }) in
       let r′ : RulesIn (wordsAt text (w .next)) ws₃ (p .rules) = rw (took-rest h (omega arith) (took-at (a .rest nothing ws₁ (p .sections) q start-kept) t)) at r in

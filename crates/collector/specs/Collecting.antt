@@ -75,7 +75,7 @@ setRow rows i d = setWords (setTwo rows (8 * i) (d .class) (d .value)) (8 * i) d
 
 -- n more rows have their place
 pub record Room (rows : List ℕ) (count n : ℕ) : Type 0 where
-  pub size : length rows ≡ 4096
+  pub size : length rows ≡ 5632
   pub room : count + n ≤ 512
 
 -- the declarations ds were appended
@@ -274,7 +274,7 @@ pub record Collects (text rows rows′ : List ℕ) (r : Collected) : Type 0 wher
   pub early : r .rules ≤ 512
   pub small : r .count ≤ 512
   pub inside : r .at ≤ length text
-  pub collects : (p : Program) → ProgramIn (wordsAt text 0) p → length rows ≡ 4096 → CollectedFor p text rows′ r
+  pub collects : (p : Program) → ProgramIn (wordsAt text 0) p → length rows ≡ 5632 → CollectedFor p text rows′ r
 
 -- all of this file computes where this is unfolded
 unfoldable pub opened : Unit {0}

@@ -7,6 +7,7 @@ ghost use Rattle.base.specs.Common.{given};
 ghost use Rattle.names.specs.Known.{faultIf, find};
 ghost use Rattle.names.specs.Declare.{spelled};
 ghost use Rattle.declarations.specs.Decls.{knownsIn, indexOf, repeatsIn, clashesIn, entryAgain, optionalIn, operationFault, declFault, declFaults};
+ghost use Rattle.symbols.specs.Index.{Kept};
 ghost use Rattle.symbols.specs.Rows.{optionOf, declAt, held};
 ghost use Rattle.declarer.specs.Faults.{Faults, inputAgain, bothAgain, operationAgain, typesIn};
 use symbols::has_row;
@@ -25,7 +26,7 @@ pub struct Fault {
 
 // The class has the name of declaration i before it.
 fn name_known(text: &[u8], rows: &[u16], i: usize, class: usize) -> bool
-    requires { ⌜ i ≤ 512 ⌝ }
+    requires { ⌜ Kept (now text) (now rows) i ⌝ }
     ensures { λ r. ⌜ r ≡ given (find (declAt (now (text .entry)) (now (rows .entry)) i .name .text) (knownsIn class (held (now (text .entry)) (now (rows .entry)) i))) ⌝ }
 {
     is_known(
@@ -40,7 +41,7 @@ fn name_known(text: &[u8], rows: &[u16], i: usize, class: usize) -> bool
 
 // The class has its string before it.
 fn string_known(text: &[u8], rows: &[u16], i: usize, class: usize) -> bool
-    requires { ⌜ i ≤ 512 ⌝ }
+    requires { ⌜ Kept (now text) (now rows) i ⌝ }
     ensures { λ r. ⌜ r ≡ spelled (declAt (now (text .entry)) (now (rows .entry)) i .second) (knownsIn class (held (now (text .entry)) (now (rows .entry)) i)) ⌝ }
 {
     let len = number(rows, 8 * i + 5);
@@ -52,7 +53,7 @@ fn string_known(text: &[u8], rows: &[u16], i: usize, class: usize) -> bool
 
 // A declaration of the class has its name before it.
 fn name_taken(text: &[u8], rows: &[u16], i: usize, class: usize) -> bool
-    requires { ⌜ i ≤ 512 ⌝ }
+    requires { ⌜ Kept (now text) (now rows) i ⌝ }
     ensures { λ r. ⌜ r ≡ given (indexOf class (declAt (now (text .entry)) (now (rows .entry)) i .name .text) 0 (held (now (text .entry)) (now (rows .entry)) i)) ⌝ }
 {
     has_row(
@@ -67,7 +68,7 @@ fn name_taken(text: &[u8], rows: &[u16], i: usize, class: usize) -> bool
 
 // The class has its name, its string or its value before it.
 fn repeats(text: &[u8], rows: &[u16], i: usize, class: usize) -> bool
-    requires { ⌜ i ≤ 512 ⌝ }
+    requires { ⌜ Kept (now text) (now rows) i ⌝ }
     ensures { λ r. ⌜ r ≡ repeatsIn class (declAt (now (text .entry)) (now (rows .entry)) i) (held (now (text .entry)) (now (rows .entry)) i) ⌝ }
 {
     if name_known(text, rows, i, class) {
@@ -81,7 +82,7 @@ fn repeats(text: &[u8], rows: &[u16], i: usize, class: usize) -> bool
 
 // An operation has its name before it.
 fn clashes(text: &[u8], rows: &[u16], i: usize) -> bool
-    requires { ⌜ i ≤ 512 ⌝ }
+    requires { ⌜ Kept (now text) (now rows) i ⌝ }
     ensures { λ r. ⌜ r ≡ clashesIn (declAt (now (text .entry)) (now (rows .entry)) i) (held (now (text .entry)) (now (rows .entry)) i) ⌝ }
 {
     name_taken(text, rows, i, 6)
@@ -89,7 +90,7 @@ fn clashes(text: &[u8], rows: &[u16], i: usize) -> bool
 
 // An input token again.
 fn input_again(text: &[u8], rows: &[u16], i: usize) -> bool
-    requires { ⌜ i ≤ 512 ⌝ }
+    requires { ⌜ Kept (now text) (now rows) i ⌝ }
     ensures { λ r. ⌜ r ≡ inputAgain (declAt (now (text .entry)) (now (rows .entry)) i) (held (now (text .entry)) (now (rows .entry)) i) ⌝ }
 {
     if repeats(text, rows, i, 1) {
@@ -100,7 +101,7 @@ fn input_again(text: &[u8], rows: &[u16], i: usize) -> bool
 
 // A token of input and output again.
 fn both_again(text: &[u8], rows: &[u16], i: usize) -> bool
-    requires { ⌜ i ≤ 512 ⌝ }
+    requires { ⌜ Kept (now text) (now rows) i ⌝ }
     ensures { λ r. ⌜ r ≡ bothAgain (declAt (now (text .entry)) (now (rows .entry)) i) (held (now (text .entry)) (now (rows .entry)) i) ⌝ }
 {
     if repeats(text, rows, i, 1) {
@@ -114,7 +115,7 @@ fn both_again(text: &[u8], rows: &[u16], i: usize) -> bool
 
 // An entry again, by its class.
 fn entry_again(text: &[u8], rows: &[u16], i: usize) -> bool
-    requires { ⌜ i ≤ 512 ⌝ }
+    requires { ⌜ Kept (now text) (now rows) i ⌝ }
     ensures { λ r. ⌜ r ≡ entryAgain (declAt (now (text .entry)) (now (rows .entry)) i) (held (now (text .entry)) (now (rows .entry)) i) ⌝ }
 {
     let class = number(rows, 8 * i);
@@ -129,7 +130,7 @@ fn entry_again(text: &[u8], rows: &[u16], i: usize) -> bool
 
 // An operation again, or after an input token.
 fn operation_again(text: &[u8], rows: &[u16], i: usize) -> bool
-    requires { ⌜ i ≤ 512 ⌝ }
+    requires { ⌜ Kept (now text) (now rows) i ⌝ }
     ensures { λ r. ⌜ r ≡ operationAgain (declAt (now (text .entry)) (now (rows .entry)) i) (held (now (text .entry)) (now (rows .entry)) i) ⌝ }
 {
     if name_taken(text, rows, i, 6) {
@@ -167,7 +168,7 @@ fn optional_fault(
     start: usize,
     len: usize,
 ) -> Fault
-    requires { ⌜ (n ≤ 512) × (before ≤ n) ⌝ }
+    requires { ⌜ Kept (now text) (now rows) n × (before ≤ n) ⌝ }
     ensures { λ r. ⌜ ((kind : ℕ) → Faults (r .fault) (r .at) (r .len) (optionalIn (held (now (text .entry)) (now (rows .entry)) n) (held (now (text .entry)) (now (rows .entry)) before) (optionOf (now (text .entry)) kind start len))) ⌝ }
 {
     if len == 0 {
@@ -194,7 +195,7 @@ fn optional_fault(
 
 // The fault of the types that an operation takes and gives.
 fn types_fault(text: &[u8], rows: &[u16], n: usize, i: usize) -> Fault
-    requires { ⌜ (n ≤ 512) × (i ≤ n) ⌝ }
+    requires { ⌜ Kept (now text) (now rows) n × (i ≤ n) ⌝ }
     ensures { λ r. ⌜ Faults (r .fault) (r .at) (r .len) (typesIn (held (now (text .entry)) (now (rows .entry)) n) (held (now (text .entry)) (now (rows .entry)) i) (declAt (now (text .entry)) (now (rows .entry)) i)) ⌝ }
 {
     let f = optional_fault(
@@ -219,7 +220,7 @@ fn types_fault(text: &[u8], rows: &[u16], n: usize, i: usize) -> Fault
 }
 
 fn operation_fault(text: &[u8], rows: &[u16], n: usize, i: usize) -> Fault
-    requires { ⌜ (n ≤ 512) × (i ≤ n) ⌝ }
+    requires { ⌜ Kept (now text) (now rows) n × (i ≤ n) ⌝ }
     ensures { λ r. ⌜ Faults (r .fault) (r .at) (r .len) (operationFault (held (now (text .entry)) (now (rows .entry)) n) (held (now (text .entry)) (now (rows .entry)) i) (declAt (now (text .entry)) (now (rows .entry)) i)) ⌝ }
 {
     let f = fault_if(text, rows, i, operation_again(text, rows, i));
@@ -231,7 +232,7 @@ fn operation_fault(text: &[u8], rows: &[u16], n: usize, i: usize) -> Fault
 
 // The fault of declaration i.
 fn decl_fault(text: &[u8], rows: &[u16], n: usize, i: usize) -> Fault
-    requires { ⌜ (n ≤ 512) × (i ≤ n) ⌝ }
+    requires { ⌜ Kept (now text) (now rows) n × (i ≤ n) ⌝ }
     ensures { λ r. ⌜ Faults (r .fault) (r .at) (r .len) (declFault (held (now (text .entry)) (now (rows .entry)) n) (held (now (text .entry)) (now (rows .entry)) i) (declAt (now (text .entry)) (now (rows .entry)) i)) ⌝ }
 {
     let class = number(rows, 8 * i);
@@ -249,7 +250,7 @@ fn decl_fault(text: &[u8], rows: &[u16], n: usize, i: usize) -> Fault
 
 // The first fault of the first n declarations.
 pub fn check_declarations(text: &[u8], rows: &[u16], n: usize) -> Fault
-    requires { ⌜ n ≤ 512 ⌝ }
+    requires { ⌜ Kept (now text) (now rows) n ⌝ }
     ensures { λ r. ⌜ Faults (r .fault) (r .at) (r .len) (declFaults (held (now (text .entry)) (now (rows .entry)) n) [] (held (now (text .entry)) (now (rows .entry)) n)) ⌝ }
 {
     let mut i = 0;

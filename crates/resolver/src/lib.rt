@@ -9,6 +9,7 @@ ghost use Rattle.program.specs.Program.{Plain};
 ghost use Rattle.resolver.specs.Parts.{Lies, Went, Stopped, RestDone, NameIn, Sends, MatchDone, UpdateDone, NamedDone, SentDone, callOf, GivenDone, GiveDone, AnyDone, ExitDone};
 ghost use Rattle.resolver.specs.Parts.{operationCells, Misfit, ValueDone, OperandDone, Chose, Balked, ChoiceDone, byRuleOf, WithDone, ByOperationDone, Mislabel, LabelDone};
 ghost use Rattle.resolver.specs.Resolved.{Appends, PlainDone, SelectorDone, LabelsDone};
+ghost use Rattle.symbols.specs.Index.{Kept};
 ghost use Rattle.symbols.specs.Rows.{held};
 ghost use Rattle.symbols.specs.Search.{part};
 use scanner::WordAt;
@@ -170,7 +171,7 @@ fn balked(fault: u16, at: usize, len: usize) -> Selected
 
 // The class of the values of a type, 0 where there is no such type.
 fn class_named(text: &[u8], rows: &[u16], n: usize, start: usize, len: usize) -> usize
-    requires { ⌜ n ≤ 512 ⌝ }
+    requires { ⌜ Kept (now text) (now rows) n ⌝ }
     ensures { λ r. ⌜ r ≡ classNamed (held (now (text .entry)) (now (rows .entry)) n) (part (now (text .entry)) start len) ⌝ }
 {
     let i = symbols::find_row(text, rows, n, 5, start, len);
@@ -182,7 +183,7 @@ fn class_named(text: &[u8], rows: &[u16], n: usize, start: usize, len: usize) ->
 
 // A parameter of the class, and the `)` behind it.
 fn parameter_value(text: &[u8], rows: &[u16], n: usize, at: usize, class: usize) -> Parameter
-    requires { ⌜ (at ≤ length (now text)) × (n ≤ 512) ⌝ }
+    requires { ⌜ (at ≤ length (now text)) × Kept (now text) (now rows) n ⌝ }
     ensures { λ r. ⌜ ValueDone (now (text .entry)) (now (rows .entry)) n at class r ⌝ }
 {
     let c = scanner::next_word(text, at);
@@ -221,7 +222,7 @@ fn misfit(at: usize, len: usize) -> Parameter
 
 // The parameter of the operation w, which is declaration `row`.
 fn parameter_of(text: &[u8], rows: &[u16], n: usize, row: usize, w: WordAt) -> Parameter
-    requires { ⌜ Lies (now text) w × (n ≤ 512) × (row < n) ⌝ }
+    requires { ⌜ Lies (now text) w × Kept (now text) (now rows) n × (row < n) ⌝ }
     ensures { λ r. ⌜ OperandDone w row (now (text .entry)) (now (rows .entry)) n r ⌝ }
 {
     let k = scanner::next_word(text, w.next);
@@ -270,7 +271,7 @@ fn resolve_update(
     cells: &mut [u16],
     count: usize,
 ) -> Built
-    requires { ⌜ Lies (now text) w × (n ≤ 512) ⌝ }
+    requires { ⌜ Lies (now text) w × Kept (now text) (now rows) n ⌝ }
     ensures { λ r. ⌜ UpdateDone w (now (text .entry)) (now (rows .entry)) n (now (cells .entry)) count (now (cells .exit)) r ⌝ }
 {
     let o = symbols::operation_of(text, rows, n, w.start, w.len);
@@ -299,7 +300,7 @@ fn resolve_named(
     cells: &mut [u16],
     count: usize,
 ) -> Built
-    requires { ⌜ Lies (now text) w × (n ≤ 512) ⌝ }
+    requires { ⌜ Lies (now text) w × Kept (now text) (now rows) n ⌝ }
     ensures { λ r. ⌜ NamedDone w (now (text .entry)) (now (rows .entry)) n (now (cells .entry)) count (now (cells .exit)) r ⌝ }
 {
     let v = symbols::find_value(text, rows, n, 1, w.start, w.len);
@@ -321,7 +322,7 @@ fn resolve_sent(
     cells: &mut [u16],
     count: usize,
 ) -> Built
-    requires { ⌜ (at ≤ length (now text)) × (n ≤ 512) ⌝ }
+    requires { ⌜ (at ≤ length (now text)) × Kept (now text) (now rows) n ⌝ }
     ensures { λ r. ⌜ ((f : ℕ → Plain) → Sends first past f → SentDone f class (now (text .entry)) (now (rows .entry)) n at (now (cells .entry)) count (now (cells .exit)) r) ⌝ }
 {
     let w = scanner::next_word(text, at);
@@ -342,7 +343,7 @@ fn resolve_call(
     cells: &mut [u16],
     count: usize,
 ) -> Built
-    requires { ⌜ (at ≤ length (now text)) × (n ≤ 512) ⌝ }
+    requires { ⌜ (at ≤ length (now text)) × Kept (now text) (now rows) n ⌝ }
     ensures { λ r. ⌜ RestDone NameIn callOf (now (text .entry)) (now (rows .entry)) n at (now (cells .entry)) count (now (cells .exit)) r ⌝ }
 {
     let w = scanner::next_word(text, at);
@@ -370,7 +371,7 @@ fn give_value(
     cells: &mut [u16],
     count: usize,
 ) -> Built
-    requires { ⌜ Lies (now text) w × (n ≤ 512) ⌝ }
+    requires { ⌜ Lies (now text) w × Kept (now text) (now rows) n ⌝ }
     ensures { λ r. ⌜ GivenDone w class (now (text .entry)) (now (rows .entry)) n (now (cells .entry)) count (now (cells .exit)) r ⌝ }
 {
     if class == 0 {
@@ -390,7 +391,7 @@ fn resolve_give(
     cells: &mut [u16],
     count: usize,
 ) -> Built
-    requires { ⌜ Lies (now text) w × (n ≤ 512) ⌝ }
+    requires { ⌜ Lies (now text) w × Kept (now text) (now rows) n ⌝ }
     ensures { λ r. ⌜ GiveDone w class (now (text .entry)) (now (rows .entry)) n (now (cells .entry)) count (now (cells .exit)) r ⌝ }
 {
     let v = scanner::next_word(text, w.next);
@@ -447,7 +448,7 @@ pub fn resolve_plain(
     cells: &mut [u16],
     count: usize,
 ) -> Built
-    requires { ⌜ (at ≤ length (now text)) × (n ≤ 512) ⌝ }
+    requires { ⌜ (at ≤ length (now text)) × Kept (now text) (now rows) n ⌝ }
     ensures { λ r. ⌜ PlainDone (now (text .entry)) (now (rows .entry)) n at inside class (now (cells .entry)) count (now (cells .exit)) r ⌝ }
 {
     let w = scanner::next_word(text, at);
@@ -476,7 +477,7 @@ fn select_rule(
     cells: &mut [u16],
     count: usize,
 ) -> Selected
-    requires { ⌜ (at ≤ length (now text)) × (n ≤ 512) ⌝ }
+    requires { ⌜ (at ≤ length (now text)) × Kept (now text) (now rows) n ⌝ }
     ensures { λ r. ⌜ ChoiceDone NameIn byRuleOf (now (text .entry)) (now (rows .entry)) n at (now (cells .entry)) count (now (cells .exit)) r ⌝ }
 {
     let w = scanner::next_word(text, at);
@@ -507,7 +508,7 @@ fn select_with(
     cells: &mut [u16],
     count: usize,
 ) -> Selected
-    requires { ⌜ Lies (now text) w × (n ≤ 512) × (row < n) ⌝ }
+    requires { ⌜ Lies (now text) w × Kept (now text) (now rows) n × (row < n) ⌝ }
     ensures { λ r. ⌜ WithDone w row class (now (text .entry)) (now (rows .entry)) n (now (cells .entry)) count (now (cells .exit)) r ⌝ }
 {
     let p = parameter_of(text, rows, n, row, w);
@@ -527,7 +528,7 @@ fn select_operation(
     cells: &mut [u16],
     count: usize,
 ) -> Selected
-    requires { ⌜ Lies (now text) w × (n ≤ 512) ⌝ }
+    requires { ⌜ Lies (now text) w × Kept (now text) (now rows) n ⌝ }
     ensures { λ r. ⌜ ByOperationDone w (now (text .entry)) (now (rows .entry)) n (now (cells .entry)) count (now (cells .exit)) r ⌝ }
 {
     let o = symbols::operation_of(text, rows, n, w.start, w.len);
@@ -552,7 +553,7 @@ pub fn resolve_selector(
     cells: &mut [u16],
     count: usize,
 ) -> Selected
-    requires { ⌜ (at ≤ length (now text)) × (n ≤ 512) ⌝ }
+    requires { ⌜ (at ≤ length (now text)) × Kept (now text) (now rows) n ⌝ }
     ensures { λ r. ⌜ SelectorDone (now (text .entry)) (now (rows .entry)) n at (now (cells .entry)) count (now (cells .exit)) r ⌝ }
 {
     let w = scanner::next_word(text, at);
@@ -604,7 +605,7 @@ fn resolve_label(
     seen: &[u16],
     used: usize,
 ) -> Label
-    requires { ⌜ (at ≤ length (now text)) × (n ≤ 512) × (used ≤ length (now seen)) ⌝ }
+    requires { ⌜ (at ≤ length (now text)) × Kept (now text) (now rows) n × (used ≤ length (now seen)) ⌝ }
     ensures { λ r. ⌜ LabelDone (now (text .entry)) (now (rows .entry)) n at class (now (seen .entry)) used r ⌝ }
 {
     let w = scanner::next_word(text, at);
@@ -640,7 +641,7 @@ pub fn resolve_labels(
     seen: &mut [u16],
     used: usize,
 ) -> Labels
-    requires { ⌜ (at ≤ length (now text)) × (n ≤ 512) × (used ≤ length (now seen)) ⌝ }
+    requires { ⌜ (at ≤ length (now text)) × Kept (now text) (now rows) n × (used ≤ length (now seen)) ⌝ }
     ensures { λ r. ⌜ LabelsDone (now (text .entry)) (now (rows .entry)) n at class (now (seen .entry)) used (now (seen .exit)) r ⌝ }
 {
     let mut i = at;

@@ -8,6 +8,8 @@ use Rattle.declarations.specs.Decls
 use Rattle.declarations.specs.Decls.{Decl, lookupIn, typeIn}
 use Rattle.names.specs.Known
 use Rattle.names.specs.Known.{good, wrong}
+use Rattle.symbols.specs.Index
+use Rattle.symbols.specs.Index.{bucketOf}
 use Rattle.symbols.specs.Rows
 use Rattle.symbols.specs.Rows.{wordOf, held, operationIn, ruleIn}
 use Rattle.words.specs.Words.{Word}
@@ -64,3 +66,8 @@ pub typed : (typeIn ds (held text rows 3) (name 8) ∷ typeIn ds (held text rows
     ≡ (good 10 ∷ wrong 3 (name 8) ∷ wrong 5 (name 12) ∷ [])
 unfolding Rows.opened Decls.opened Known.opened
 typed = refl
+
+-- (97 * 33 + 98) % 512
+pub hashed : (bucketOf [] ∷ bucketOf (bytes "ab") ∷ []) ≡ (0 ∷ 227 ∷ [])
+unfolding Index.opened
+hashed = refl

@@ -1,10 +1,13 @@
 -- Laws of parts of a text.
 use mathlib.Core.List.{List, [], _∷_}
-use mathlib.Core.Path.{_≡_, refl, ap}
-use Prim.Native.Nat.{ℕ, zero, suc, _-_, _≤_, _<_}
+use mathlib.Core.Path.{_≡_, refl, ap, sym, _∙_}
+use Prim.Native.Nat.{ℕ, zero, suc, _+_, _*_, _-_, _%_, _≤_, _<_}
+use native.Mathlib.Numerals.{add-one}
 use native.Mathlib.Omega.{arith}
-use lib.ListN.{length, take, drop, length-take, length-drop}
+use lib.ListN.{length, getD, take, drop, length-take, length-drop, drop-of-length-le}
+use lib.Seq.{drop-cons, getD-take, getD-drop}
 use Rattle.base.specs.Common.{same}
+use Rattle.symbols.specs.Index.{hashFrom, bucketOf}
 use Rattle.symbols.specs.Search.{part}
 
 pub part-past : (text : List ℕ) (start len : ℕ) → length text ≤ start → 0 ≡ length (part text start len)
@@ -33,3 +36,27 @@ pub same-own : (text : List ℕ) (a alen b blen n : ℕ) → n ≡ length (part 
 same-own text a alen b blen n e f = both (part-own text a alen n e) (part-own text b blen n f) where
   both : {x y u v : List ℕ} → x ≡ u → y ≡ v → same x y ≡ same u v
   both p q = cc
+
+-- a byte of a part
+pub part-byte : (text : List ℕ) (start len i : ℕ) → i < length (part text start len) → getD (part text start len) i 0 ≡ getD text (start + i) 0
+part-byte text start len i h = getD-take len (drop start text) i 0 low ∙ getD-drop start text i 0
+  where
+    low : i < len
+    low = let g : length (part text start len) ≤ len = simp (length-take) (omega arith) in omega (arith, h, g)
+
+-- the hash takes one byte more
+pub hash-more : (w : List ℕ) (h i b : ℕ) → i < length w → getD w i 0 ≡ b → hashFrom h (drop i w) ≡ hashFrom ((h * 33 + b) % 65536) (drop (i + 1) w)
+unfolding hashFrom
+hash-more w h i b l e = rw (add-one, drop-cons w i 0 l, sym e) refl
+
+pub hash-end : (w : List ℕ) (h i : ℕ) → length w ≤ i → hashFrom h (drop i w) ≡ h
+unfolding hashFrom
+hash-end w h i l = rw (drop-of-length-le w l) refl
+
+pub bucket-end : (w : List ℕ) (h i : ℕ) → length w ≤ i → hashFrom h (drop i w) ≡ hashFrom 0 w → h % 512 ≡ bucketOf w
+unfolding bucketOf
+bucket-end w h i l e = ap (λ (x : ℕ). x % 512) (sym (hash-end w h i l) ∙ e)
+
+pub bucket-low : (w : List ℕ) → bucketOf w < 512
+unfolding bucketOf
+bucket-low w = omega arith

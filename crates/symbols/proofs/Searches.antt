@@ -2,11 +2,12 @@
 use mathlib.Core.Bool.{Bool, true, false, _&&_, _||_}
 use mathlib.Core.List.{List, [], _∷_, _++_}
 use mathlib.Core.Option.{Option, none, some}
-use mathlib.Core.Path.{_≡_, refl, ap, _∙_}
+use mathlib.Core.Path.{_≡_, refl, ap, sym, _∙_}
 use Prim.Native.Nat.{ℕ, suc, _+_, _*_, _-_, _≤_, _<_}
 use native.Mathlib.Numerals.{add-one}
 use native.Mathlib.Omega.{arith}
 use lib.Dec.{eqb}
+use borrow.Author.Tests.{eq-eqb, ne-eqb}
 use lib.ListN.{getD}
 use Rattle.base.specs.Common.{if_then_else_, same, member}
 use Rattle.declarations.specs.Decls.{Decl, feeds, knownsOf, knownsIn, indexOf, declaredIn}
@@ -136,3 +137,19 @@ class-at text rows i = refl
 pub feeds-at : (text rows : List ℕ) (i c : ℕ) → feeds c (declAt text rows i) ≡ serves c (getD rows (8 * i) 0)
 unfolding declAt feeds serves
 feeds-at text rows i c = refl
+
+-- a row of another value, or of this one
+
+pub counts-other : (c v d u x : ℕ) → x ≡ u → (v ≡ x → ⊥) → false ≡ counts c v d u
+unfolding counts
+counts-other c v d u x e n = go (serves c d) (eqb v u) (ne-eqb v u (λ z. n (z ∙ sym e))) where
+  go : (a b : Bool) → b ≡ false → false ≡ (a && b)
+  go true b q = sym q
+  go false b q = refl
+
+pub counts-own : (c v d u x y : ℕ) → x ≡ u → v ≡ x → y ≡ d → (r : Bool) → r ≡ serves c y → r ≡ counts c v d u
+unfolding counts
+counts-own c v d u x y e f g r q = (q ∙ ap (serves c) g) ∙ go (serves c d) (eqb v u) (eq-eqb v u (f ∙ e)) where
+  go : (a b : Bool) → b ≡ true → a ≡ (a && b)
+  go true b p = sym p
+  go false b p = refl

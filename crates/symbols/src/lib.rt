@@ -1,5 +1,5 @@
-// Lookups in the row of declarations. Nothing is asked of the text or of the row: a number past its end is read as 0, and a part of
-// the text that reaches past the text's end is cut there.
+// Lookups in the row of declarations, by an index of its words. Nothing is asked of the text or of the row's numbers: one past its end is
+// read as 0, and a part of the text that reaches past the text's end is cut there.
 ghost use mathlib.Core.Path.{_≡_};
 ghost use mathlib.Core.List.{List};
 ghost use Prim.Native.Nat.{ℕ, _+_, _*_, _-_, _<_, _≤_};
@@ -8,6 +8,7 @@ ghost use Rattle.base.specs.Common.{same, member, given};
 ghost use Rattle.names.specs.Known.{find, isWord};
 ghost use Rattle.names.specs.Declare.{valuesOf};
 ghost use Rattle.declarations.specs.Decls.{knownsIn, indexOf, declaredIn, elsewhereIn, lookupIn, typeIn};
+ghost use Rattle.symbols.specs.Index.{bucketOf, headAt, nextOf, pushRows, pushSecond, pushName, RowsKept, Kept};
 ghost use Rattle.symbols.specs.Rows.{wordOf, declAt, held, numberOf, operationIn, ruleIn, Looks};
 ghost use Rattle.symbols.specs.Search.{part, serves, knows, named, declares, counts, Tells};
 
@@ -155,10 +156,116 @@ fn counts(rows: &[u16], i: usize, class: usize, v: usize) -> bool
     requires { ⌜ i ≤ 512 ⌝ }
     ensures { λ r. ⌜ r ≡ counts class v (getD (now (rows .entry)) (8 * i) 0) (getD (now (rows .entry)) (8 * i + 1) 0) ⌝ }
 {
-    if !serves(class, number(rows, 8 * i)) {
+    if v != number(rows, 8 * i + 1) {
         return false;
     }
-    v == number(rows, 8 * i + 1)
+    serves(class, number(rows, 8 * i))
+}
+
+// The index by names
+
+fn byte(b: u8) -> usize
+    ensures { λ r. ⌜ (r ≡ b) × (r < 256) ⌝ }
+{
+    b as usize
+}
+
+// The chain of a word.
+fn bucket(text: &[u8], start: usize, len: usize) -> usize
+    ensures { λ r. ⌜ r ≡ bucketOf (part (now (text .entry)) start len) ⌝ }
+    ensures { λ r. ⌜ r < 512 ⌝ }
+{
+    let n = part_len(text, start, len);
+    let mut h: usize = 0;
+    let mut i: usize = 0;
+    while i < n {
+        h = (h * 33 + byte(text[start + i])) % 65536;
+        i += 1;
+    }
+    h % 512
+}
+
+// Node k is put before the chain b.
+fn push_node(rows: &mut [u16], b: usize, k: usize)
+    requires { ⌜ (length (now rows) ≡ 5632) × (b < 512) × (k < 1024) ⌝ }
+    ensures { λ _. ⌜ now (rows .exit) ≡ pushRows (now (rows .entry)) b k ⌝ }
+{
+    let first = rows[4096 + b];
+    rows[4608 + k] = first;
+    rows[4096 + b] = (k + 1) as u16;
+}
+
+// Row i is put before the chain of its second word, where it has one.
+fn push_second(text: &[u8], rows: &mut [u16], i: usize)
+    requires { ⌜ (length (now rows) ≡ 5632) × (i < 512) ⌝ }
+    ensures { λ _. ⌜ now (rows .exit) ≡ pushSecond (now (text .entry)) (now (rows .entry)) i ⌝ }
+{
+    let len = number(rows, 8 * i + 5);
+    if len == 0 {
+        return;
+    }
+    let b = bucket(text, number(rows, 8 * i + 4), len);
+    push_node(rows, b, 2 * i + 1);
+}
+
+// Row i is put before the chain of its name.
+fn push_name(text: &[u8], rows: &mut [u16], i: usize)
+    requires { ⌜ (length (now rows) ≡ 5632) × (i < 512) ⌝ }
+    ensures { λ _. ⌜ now (rows .exit) ≡ pushName (now (text .entry)) (now (rows .entry)) i ⌝ }
+{
+    let b = bucket(text, number(rows, 8 * i + 2), number(rows, 8 * i + 3));
+    push_node(rows, b, 2 * i);
+}
+
+// No chain has a node.
+fn clear_heads(rows: &mut [u16])
+    requires { ⌜ length (now rows) ≡ 5632 ⌝ }
+    ensures kept { λ _. ⌜ RowsKept (now (rows .entry)) (now (rows .exit)) ⌝ }
+    ensures clear { λ _. ⌜ ((b : ℕ) → b < 512 → headAt (now (rows .exit)) b ≡ 0) ⌝ }
+{
+    let mut b: usize = 0;
+    while b < 512 {
+        rows[4096 + b] = 0;
+        b += 1;
+    }
+}
+
+// The first n rows are put into the chains of their words, the last row first.
+pub fn index(text: &[u8], rows: &mut [u16], n: usize)
+    requires { ⌜ (length (now rows) ≡ 5632) × (n ≤ 512) ⌝ }
+    ensures index { λ _. ⌜ Kept (now (text .entry)) (now (rows .exit)) n ⌝ }
+    ensures rows { λ _. ⌜ RowsKept (now (rows .entry)) (now (rows .exit)) ⌝ }
+    ensures held { λ _. ⌜ ((t : List ℕ) → held t (now (rows .exit)) n ≡ held t (now (rows .entry)) n) ⌝ }
+{
+    clear_heads(rows);
+    let mut i = n;
+    while 0 < i {
+        i -= 1;
+        push_second(text, rows, i);
+        push_name(text, rows, i);
+    }
+}
+
+// The first node of the chain of a word.
+fn first_node(text: &[u8], rows: &[u16], start: usize, len: usize) -> usize
+    ensures same { λ r. ⌜ r ≡ headAt (now (rows .entry)) (bucketOf (part (now (text .entry)) start len)) ⌝ }
+    ensures low { λ r. ⌜ r < 65536 ⌝ }
+{
+    number(rows, 4096 + bucket(text, start, len))
+}
+
+// The node after p, 0 at the end. Nodes rise in an index; the test makes a search end on any rows.
+fn next_node(rows: &[u16], p: usize) -> usize
+    requires { ⌜ (0 < p) × (p < 65536) ⌝ }
+    ensures same { λ r. ⌜ r ≡ nextOf (now (rows .entry)) p ⌝ }
+    ensures up { λ r. ⌜ (0 < r → p < r) ⌝ }
+    ensures low { λ r. ⌜ r < 65536 ⌝ }
+{
+    let q = number(rows, 4608 + (p - 1));
+    if p < q {
+        return q;
+    }
+    0
 }
 
 // The row
@@ -172,16 +279,20 @@ pub fn find_value(
     start: usize,
     len: usize,
 ) -> usize
-    requires { ⌜ n ≤ 512 ⌝ }
+    requires { ⌜ Kept (now text) (now rows) n ⌝ }
     ensures same { λ r. ⌜ r ≡ numberOf (find (part (now (text .entry)) start len) (knownsIn class (held (now (text .entry)) (now (rows .entry)) n))) ⌝ }
     ensures tells { λ r. ⌜ Tells r (find (part (now (text .entry)) start len) (knownsIn class (held (now (text .entry)) (now (rows .entry)) n))) ⌝ }
 {
-    let mut i = 0;
-    while i < n {
+    let mut p = first_node(text, rows, start, len);
+    while p != 0 {
+        let i = (p - 1) / 2;
+        if n <= i {
+            return 65536;
+        }
         if knows(text, rows, i, class, start, len) {
             return number(rows, 8 * i + 1);
         }
-        i += 1;
+        p = next_node(rows, p);
     }
     65536
 }
@@ -195,24 +306,28 @@ pub fn find_row(
     start: usize,
     len: usize,
 ) -> usize
-    requires { ⌜ n ≤ 512 ⌝ }
+    requires { ⌜ Kept (now text) (now rows) n ⌝ }
     ensures same { λ r. ⌜ r ≡ numberOf (indexOf class (part (now (text .entry)) start len) 0 (held (now (text .entry)) (now (rows .entry)) n)) ⌝ }
     ensures tells { λ r. ⌜ Tells r (indexOf class (part (now (text .entry)) start len) 0 (held (now (text .entry)) (now (rows .entry)) n)) ⌝ }
     ensures below { λ r. ⌜ (r < 65536 → r < n) ⌝ }
 {
-    let mut i = 0;
-    while i < n {
+    let mut p = first_node(text, rows, start, len);
+    while p != 0 {
+        let i = (p - 1) / 2;
+        if n <= i {
+            return 65536;
+        }
         if named(text, rows, i, class, start, len) {
             return i;
         }
-        i += 1;
+        p = next_node(rows, p);
     }
     65536
 }
 
 // The class has the part as a name or string.
 pub fn is_known(text: &[u8], rows: &[u16], n: usize, class: usize, start: usize, len: usize) -> bool
-    requires { ⌜ n ≤ 512 ⌝ }
+    requires { ⌜ Kept (now text) (now rows) n ⌝ }
     ensures { λ r. ⌜ r ≡ given (find (part (now (text .entry)) start len) (knownsIn class (held (now (text .entry)) (now (rows .entry)) n))) ⌝ }
 {
     find_value(text, rows, n, class, start, len) < 65536
@@ -220,7 +335,7 @@ pub fn is_known(text: &[u8], rows: &[u16], n: usize, class: usize, start: usize,
 
 // There is a declaration of the class that has the part as its name.
 pub fn has_row(text: &[u8], rows: &[u16], n: usize, class: usize, start: usize, len: usize) -> bool
-    requires { ⌜ n ≤ 512 ⌝ }
+    requires { ⌜ Kept (now text) (now rows) n ⌝ }
     ensures { λ r. ⌜ r ≡ given (indexOf class (part (now (text .entry)) start len) 0 (held (now (text .entry)) (now (rows .entry)) n)) ⌝ }
 {
     find_row(text, rows, n, class, start, len) < 65536
@@ -228,15 +343,19 @@ pub fn has_row(text: &[u8], rows: &[u16], n: usize, class: usize, start: usize, 
 
 // The part is declared in some class.
 pub fn is_declared(text: &[u8], rows: &[u16], n: usize, start: usize, len: usize) -> bool
-    requires { ⌜ n ≤ 512 ⌝ }
+    requires { ⌜ Kept (now text) (now rows) n ⌝ }
     ensures { λ r. ⌜ r ≡ declaredIn (part (now (text .entry)) start len) (held (now (text .entry)) (now (rows .entry)) n) ⌝ }
 {
-    let mut i = 0;
-    while i < n {
+    let mut p = first_node(text, rows, start, len);
+    while p != 0 {
+        let i = (p - 1) / 2;
+        if n <= i {
+            return false;
+        }
         if declares(text, rows, i, start, len) {
             return true;
         }
-        i += 1;
+        p = next_node(rows, p);
     }
     false
 }
@@ -266,7 +385,7 @@ pub struct Looked {
 
 // The fault of a part that is not in the class wanted.
 fn elsewhere(text: &[u8], rows: &[u16], n: usize, start: usize, len: usize) -> u16
-    requires { ⌜ n ≤ 512 ⌝ }
+    requires { ⌜ Kept (now text) (now rows) n ⌝ }
     ensures { λ r. ⌜ r ≡ elsewhereIn (held (now (text .entry)) (now (rows .entry)) n) (part (now (text .entry)) start len) ⌝ }
 {
     if is_declared(text, rows, n, start, len) {
@@ -284,7 +403,7 @@ pub fn value_of(
     start: usize,
     len: usize,
 ) -> Looked
-    requires { ⌜ n ≤ 512 ⌝ }
+    requires { ⌜ Kept (now text) (now rows) n ⌝ }
     ensures looks { λ r. ⌜ ((kind : ℕ) → Looks (r .fault) (r .value) (lookupIn (held (now (text .entry)) (now (rows .entry)) n) class (wordOf (now (text .entry)) kind start len))) ⌝ }
     ensures low { λ r. ⌜ r .value < 65536 ⌝ }
 {
@@ -300,7 +419,7 @@ pub fn value_of(
 
 // The declaration of an operation.
 pub fn operation_of(text: &[u8], rows: &[u16], n: usize, start: usize, len: usize) -> Looked
-    requires { ⌜ n ≤ 512 ⌝ }
+    requires { ⌜ Kept (now text) (now rows) n ⌝ }
     ensures looks { λ r. ⌜ ((kind : ℕ) → Looks (r .fault) (r .value) (operationIn (held (now (text .entry)) (now (rows .entry)) n) (wordOf (now (text .entry)) kind start len))) ⌝ }
     ensures low { λ r. ⌜ (r .fault ≡ 0 → r .value < n) ⌝ }
 {
@@ -316,7 +435,7 @@ pub fn operation_of(text: &[u8], rows: &[u16], n: usize, start: usize, len: usiz
 
 // The declaration of a rule.
 pub fn rule_of(text: &[u8], rows: &[u16], n: usize, start: usize, len: usize) -> Looked
-    requires { ⌜ n ≤ 512 ⌝ }
+    requires { ⌜ Kept (now text) (now rows) n ⌝ }
     ensures looks { λ r. ⌜ ((kind : ℕ) → Looks (r .fault) (r .value) (ruleIn (held (now (text .entry)) (now (rows .entry)) n) (wordOf (now (text .entry)) kind start len))) ⌝ }
     ensures low { λ r. ⌜ (r .fault ≡ 0 → r .value < n) ⌝ }
 {
@@ -342,7 +461,7 @@ pub fn type_of(
     start: usize,
     len: usize,
 ) -> Looked
-    requires { ⌜ (n ≤ 512) × (before ≤ n) ⌝ }
+    requires { ⌜ Kept (now text) (now rows) n × (before ≤ n) ⌝ }
     ensures looks { λ r. ⌜ ((kind : ℕ) → Looks (r .fault) (r .value) (typeIn (held (now (text .entry)) (now (rows .entry)) n) (held (now (text .entry)) (now (rows .entry)) before) (wordOf (now (text .entry)) kind start len))) ⌝ }
     ensures low { λ r. ⌜ (r .fault ≡ 0 → r .value < 8 + before) ⌝ }
 {

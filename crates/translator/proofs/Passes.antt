@@ -35,15 +35,16 @@ derives : (text : List ℕ) (p : Program) (ws : List Word) → parse text ≡ go
 unfolding words wordsAt
 derives text p ws e = parse-in text p ws e
 
-module _ (text : List ℕ) (p : Program) (ws : List Word) (e : parse text ≡ got p ws) {rows rows′ : List ℕ} {c : Collected} (collected : Collects text rows rows′ c) (size : length rows ≡ 4096) where
+module _ (text : List ℕ) (p : Program) (ws : List Word) (e : parse text ≡ got p ws) {rows rows′ : List ℕ} (rows″ : List ℕ) {c : Collected} (collected : Collects text rows rows′ c) (size : length rows ≡ 5632)
+    (kept : (t : List ℕ) → held t rows″ (c .count) ≡ held t rows′ (c .count)) where
   abbrev its : CollectedFor p text rows′ c
   its = collected .collects p (derives text p ws e) size
 
   -- the outcome of the checks is that of the whole row of declarations
-  outcome : {fault at len : ℕ} → Faults fault at len (declFaults (held text rows′ (c .count)) [] (held text rows′ (c .count))) → Faults fault at len (declFaults (declsOf p) [] (declsOf p))
-  outcome f = rw (its .rows) at f
+  outcome : {fault at len : ℕ} → Faults fault at len (declFaults (held text rows″ (c .count)) [] (held text rows″ (c .count))) → Faults fault at len (declFaults (declsOf p) [] (declsOf p))
+  outcome f = rw (kept text ∙ its .rows) at f
 
-  pub declared-wrong : {fault at len : ℕ} {old new : List ℕ} {r : Answer} → Faults fault at len (declFaults (held text rows′ (c .count)) [] (held text rows′ (c .count)))
+  pub declared-wrong : {fault at len : ℕ} {old new : List ℕ} {r : Answer} → Faults fault at len (declFaults (held text rows″ (c .count)) [] (held text rows″ (c .count)))
       → (fault ≡ 0 → ⊥) → Settles (refused fault (record { start = at; size = len })) old new r → Settles (process text (count old)) old new r
   declared-wrong {fault} {at} {len} {old} {new} {r} f z s = go (declFaults (declsOf p) [] (declsOf p)) refl (outcome f)
     where
@@ -54,8 +55,8 @@ module _ (text : List ℕ) (p : Program) (ws : List Word) (e : parse text ≡ go
           let a : process text (count old) ≡ refused k (partOf w) = process-read text (count old) p ws e ∙ (ap (λ x. answerFor text (count old) (checked x)) u ∙ checked-wrong text (count old) k w) in
           rw a (rw q at (at-word fault at len w s start l))
 
-  pub declared-good : {fault at len : ℕ} {old new : List ℕ} {r : Answer} → Faults fault at len (declFaults (held text rows′ (c .count)) [] (held text rows′ (c .count)))
-      → fault ≡ 0 → Rests text rows′ (c .count) (c .rules) (c .at) old new r → Settles (process text (count old)) old new r
+  pub declared-good : {fault at len : ℕ} {old new : List ℕ} {r : Answer} → Faults fault at len (declFaults (held text rows″ (c .count)) [] (held text rows″ (c .count)))
+      → fault ≡ 0 → Rests text rows″ (c .count) (c .rules) (c .at) old new r → Settles (process text (count old)) old new r
   declared-good {fault} {at} {len} {old} {new} {r} f z rests = go (declFaults (declsOf p) [] (declsOf p)) refl (outcome f)
     where
       go : (m : Checked (Unit {0})) → declFaults (declsOf p) [] (declsOf p) ≡ m → Faults fault at len m → Settles (process text (count old)) old new r
@@ -66,7 +67,7 @@ module _ (text : List ℕ) (p : Program) (ws : List Word) (e : parse text ≡ go
           let u : understand p ≡ rulesMean p n (knownRules 0 (p .rules)) [] (p .rules) = understand-good p n (x .1) in
           let a : process text (count old) ≡ answerFor text (count old) (checked (rulesMean p n (knownRules 0 (p .rules)) [] (p .rules))) = process-read text (count old) p ws e ∙ ap (λ y. answerFor text (count old) (checked y)) u in
           rw a (rests p n (record {
-            held-are = its .rows;
+            held-are = kept text ∙ its .rows;
             first-is = its .rules;
             agrees = x .2;
             left = its .left;

@@ -5,6 +5,7 @@ ghost use lib.ListN.{length, take, drop};
 ghost use Rattle.machine.specs.Bytes.{count};
 ghost use Rattle.processor.specs.Process as means;
 ghost use Rattle.processor.specs.Process.{refused};
+ghost use Rattle.symbols.specs.Index.{Kept};
 ghost use Rattle.translator.specs.Answered.{Settles, Finishes, Rests, Translates, answered, faultWord};
 
 // number 0: the table has `words` words, and the verdict is `finishing`. Else the number of the fault, and the part of the text at fault.
@@ -67,7 +68,7 @@ fn finish(
 
 // The rules, from the place `at` on, behind n declarations of which `first` is the first rule's.
 fn settle(text: &[u8], rows: &[u16], n: usize, first: usize, at: usize, table: &mut [u8]) -> Answer
-    requires { ⌜ (at ≤ length (now text)) × (first ≤ 512) × (n ≤ 512) ⌝ }
+    requires { ⌜ (at ≤ length (now text)) × (first ≤ 512) × Kept (now text) (now rows) n ⌝ }
     ensures { λ r. ⌜ Rests (now (text .entry)) (now (rows .entry)) n first at (now (table .entry)) (now (table .exit)) r ⌝ }
 {
     let mut cells = [0u16; 4224];
@@ -94,8 +95,9 @@ fn translate(text: &[u8], table: &mut [u8]) -> Answer
     requires { ⌜ length (now text) ≤ 32768 ⌝ }
     ensures { λ r. ⌜ Translates (now (text .entry)) (now (table .entry)) (now (table .exit)) r ⌝ }
 {
-    let mut rows = [0u16; 4096];
+    let mut rows = [0u16; 5632];
     let c = collector::collect(text, &mut rows);
+    symbols::index(text, &mut rows, c.count);
     let d = declarer::check_declarations(text, &rows, c.count);
     if d.fault != 0 {
         return refuse(table, d.fault, d.at, d.len);

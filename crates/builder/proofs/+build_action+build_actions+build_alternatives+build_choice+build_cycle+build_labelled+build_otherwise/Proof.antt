@@ -191,7 +191,7 @@ build-action-look-requires : (t : ℕ) → build-action-lts.Need-look-requires (
 build-action-look-requires t c κs = search needs
 
 build-action-build-cycle-requires : (t : ℕ) → build-action-lts.Need-build-cycle-requires (build-action-claims t) (build-action-at t) build-action.Post
-build-action-build-cycle-requires t c κs = omega (arith, c .before .before .before .look .ensures .moves (omega (arith, c .before .if1 .taken)), c .before .before .before .look .ensures .high (omega arith))
+build-action-build-cycle-requires t c κs = (omega (arith, c .before .before .before .look .ensures .moves (omega (arith, c .before .if1 .taken)), c .before .before .before .look .ensures .high (omega arith)), (omega (arith, c .before .before .before .look .ensures .moves (omega (arith, c .before .if1 .taken)), c .before .before .before .look .ensures .high (omega arith)), c .before .before .before .before .before .before .before .pre .1 .1))
 
 build-action-same-length : (t : ℕ) → build-action-lts.Need-same-length (build-action-claims t) (build-action-at t) build-action.Post
 build-action-same-length t c = c .before .before .build-cycle .ensures .kept .same
@@ -200,7 +200,7 @@ build-action-returns : (t : ℕ) → build-action-lts.Need-returns (build-action
 build-action-returns t c = act-cycle (c .before .before .before .before .before .before .look .ensures) (c .before .before .before .before .if1 .taken) (c .before .before .build-cycle .ensures)
 
 build-action-build-choice-requires : (t : ℕ) → build-action-lts.Need-build-choice-requires (build-action-claims t) (build-action-at t) build-action.Post
-build-action-build-choice-requires t c κs = omega (arith, c .before .before .before .before .before .look .ensures .moves (omega (arith, c .before .if2 .taken)), c .before .before .before .before .before .look .ensures .high (omega arith))
+build-action-build-choice-requires t c κs = (omega (arith, c .before .before .before .before .before .look .ensures .moves (omega (arith, c .before .if2 .taken)), c .before .before .before .before .before .look .ensures .high (omega arith)), (omega (arith, c .before .before .before .before .before .look .ensures .moves (omega (arith, c .before .if2 .taken)), c .before .before .before .before .before .look .ensures .high (omega arith)), c .before .before .before .before .before .before .before .before .before .pre .1 .1))
 
 build-action-same-length-2 : (t : ℕ) → build-action-lts.Need-same-length-2 (build-action-claims t) (build-action-at t) build-action.Post
 build-action-same-length-2 t c = c .before .before .build-choice .ensures .kept .same
@@ -209,7 +209,7 @@ build-action-returns-2 : (t : ℕ) → build-action-lts.Need-returns-2 (build-ac
 build-action-returns-2 t c = act-choice (c .before .before .before .before .before .before .before .before .look .ensures) (c .before .before .before .before .if2 .taken) (c .before .before .build-choice .ensures)
 
 build-action-resolve-plain-requires : (t : ℕ) → build-action-lts.Need-resolve-plain-requires (build-action-claims t) (build-action-at t) build-action.Post
-build-action-resolve-plain-requires t c κs = omega arith
+build-action-resolve-plain-requires t c κs = (omega arith, c .before .before .before .before .before .before .before .before .before .pre .1 .1)
 
 build-action-same-length-3 : (t : ℕ) → build-action-lts.Need-same-length-3 (build-action-claims t) (build-action-at t) build-action.Post
 build-action-same-length-3 t c = c .before .before .resolve-plain .ensures .same
@@ -244,7 +244,7 @@ build-actions-returns : (t : ℕ) → build-actions-lts.Need-returns (build-acti
 build-actions-returns t c = c .before .before .before .before .before .before .before .loop .inv .3 _ _ (acts-stop (c .before .before .before .before .before .before .before .loop .inv .1) (c .before .before .before .before .before .before .look .ensures) (sym (c .before .before .before .before .before .is-closing .ensures) ∙ c .before .before .before .before .if1 .taken) (c .before .before .put .ensures) refl refl refl refl)
 
 build-actions-build-action-requires : (t : ℕ) → build-actions-lts.Need-build-action-requires (build-actions-claims t) (build-actions-at t) build-actions.Post build-actions-Inv-loop build-actions-μ-loop
-build-actions-build-action-requires t c κs = omega (arith, c .before .before .before .before .loop .inv .2)
+build-actions-build-action-requires t c κs = (omega (arith, c .before .before .before .before .loop .inv .2), (omega (arith, c .before .before .before .before .loop .inv .2), c .before .before .before .before .before .before .before .before .pre .1 .1))
 
 build-actions-same-length-2 : (t : ℕ) → build-actions-lts.Need-same-length-2 (build-actions-claims t) (build-actions-at t) build-actions.Post build-actions-Inv-loop build-actions-μ-loop
 build-actions-same-length-2 t c = c .before .before .before .before .before .build-action .ensures .kept .same ∙ c .before .before .before .before .before .before .before .before .before .before .loop .inv .2
@@ -279,7 +279,7 @@ build-alternatives-look-requires : (t : ℕ) → build-alternatives-lts.Need-loo
 build-alternatives-look-requires t c κs = search needs
 
 build-alternatives-build-otherwise-requires : (t : ℕ) → build-alternatives-lts.Need-build-otherwise-requires (build-alternatives-claims t) (build-alternatives-at t) build-alternatives.Post build-alternatives-Inv-loop build-alternatives-μ-loop
-build-alternatives-build-otherwise-requires t c κs = omega (arith, c .before .before .before .before .loop .inv .2, c .before .before .before .look .ensures .moves (omega (arith, c .before .if1 .taken)), c .before .before .before .look .ensures .high (c .before .before .before .before .loop .inv .1))
+build-alternatives-build-otherwise-requires t c κs = (omega (arith, c .before .before .before .before .loop .inv .2, c .before .before .before .look .ensures .moves (omega (arith, c .before .if1 .taken)), c .before .before .before .look .ensures .high (c .before .before .before .before .loop .inv .1)), (omega (arith, c .before .before .before .before .loop .inv .2, c .before .before .before .look .ensures .moves (omega (arith, c .before .if1 .taken)), c .before .before .before .look .ensures .high (c .before .before .before .before .loop .inv .1)), c .before .before .before .before .before .before .before .before .before .pre .1 .1))
 
 build-alternatives-joined-requires : (t : ℕ) → build-alternatives-lts.Need-joined-requires (build-alternatives-claims t) (build-alternatives-at t) build-alternatives.Post build-alternatives-Inv-loop build-alternatives-μ-loop
 build-alternatives-joined-requires t c κs = search needs
@@ -294,7 +294,7 @@ build-alternatives-returns : (t : ℕ) → build-alternatives-lts.Need-returns (
 build-alternatives-returns t c = c .before .before .before .before .before .before .before .before .loop .inv .5 _ _ (alts-other (c .before .before .before .before .before .before .before .look .ensures) (c .before .before .before .before .before .if1 .taken) (c .before .before .before .build-otherwise .ensures) (c .joined .ensures .0) (c .joined .ensures .1) (c .joined .ensures .2))
 
 build-alternatives-build-labelled-requires : (t : ℕ) → build-alternatives-lts.Need-build-labelled-requires (build-alternatives-claims t) (build-alternatives-at t) build-alternatives.Post build-alternatives-Inv-loop build-alternatives-μ-loop
-build-alternatives-build-labelled-requires t c κs = omega (arith, c .before .before .before .before .before .loop .inv .2)
+build-alternatives-build-labelled-requires t c κs = (omega (arith, c .before .before .before .before .before .loop .inv .2), (omega (arith, c .before .before .before .before .before .loop .inv .2), c .before .before .before .before .before .before .before .before .before .before .pre .1 .1, omega (arith, c .before .before .before .before .before .loop .inv .2), omega (arith, c .before .before .before .before .before .loop .inv .2)))
 
 build-alternatives-same-length-3 : (t : ℕ) → build-alternatives-lts.Need-same-length-3 (build-alternatives-claims t) (build-alternatives-at t) build-alternatives.Post build-alternatives-Inv-loop build-alternatives-μ-loop
 build-alternatives-same-length-3 t c = omega (arith, c .before .before .before .before .before .before .before .before .before .before .before .before .before .before .before .before .before .before .before .pre .1 .2, c .before .before .before .before .before .before .before .before .before .before .before .before .before .before .loop .inv .2, c .before .before .before .before .before .before .before .before .before .before .before .before .before .before .loop .inv .3, c .before .before .before .before .before .before .before .before .build-labelled .ensures .same, c .before .before .before .before .before .before .before .before .build-labelled .ensures .kept .same)
@@ -330,7 +330,7 @@ build-alternatives-loop-again : (t : ℕ) → build-alternatives-lts.Need-loop-a
 build-alternatives-loop-again t c = (omega (arith, c .before .before .before .before .before .before .before .before .before .before .before .before .before .before .before .before .before .before .loop .inv .0, c .before .before .before .before .before .before .before .before .before .before .before .before .build-labelled .ensures .kept .low (c .before .before .before .before .if2 .left), c .before .before .look2 .ensures .onto), c .before .before .look2 .ensures .high (c .before .before .before .before .before .before .before .before .before .before .before .before .build-labelled .ensures .kept .high (c .before .before .before .before .if2 .left)), c .before .before .before .before .before .before .before .before .before .before .before .before .build-labelled .ensures .kept .same ∙ c .before .before .before .before .before .before .before .before .before .before .before .before .before .before .before .before .before .before .loop .inv .2, c .before .before .before .before .before .before .before .before .before .before .before .before .build-labelled .ensures .same ∙ c .before .before .before .before .before .before .before .before .before .before .before .before .before .before .before .before .before .before .loop .inv .3, omega (arith, c .before .before .before .before .before .before .before .before .before .before .before .before .build-labelled .ensures .room (c .before .before .before .before .if2 .left), c .before .before .before .before .before .before .before .before .before .before .before .before .before .before .before .before .before .before .loop .inv .3), λ cs r e. c .before .before .before .before .before .before .before .before .before .before .before .before .before .before .before .before .before .before .loop .inv .5 cs r (alts-next (c .before .before .before .before .before .before .before .before .before .before .before .before .before .before .before .before .before .look .ensures) (c .before .before .before .before .before .before .before .before .before .before .before .before .before .before .before .if1 .left) (c .before .before .before .before .before .before .before .before .before .before .before .before .build-labelled .ensures) (c .before .before .before .before .if2 .left) (c .before .before .look2 .ensures) (c .if3 .left) (c .before .before .before .joined2 .ensures .1) (c .before .before .before .joined2 .ensures .2) e))
 
 build-choice-resolve-selector-requires : (t : ℕ) → build-choice-lts.Need-resolve-selector-requires (build-choice-claims t) (build-choice-at t) build-choice.Post
-build-choice-resolve-selector-requires t c κs = omega arith
+build-choice-resolve-selector-requires t c κs = (omega arith, c .before .before .before .before .pre .1 .1)
 
 build-choice-same-length : (t : ℕ) → build-choice-lts.Need-same-length (build-choice-claims t) (build-choice-at t) build-choice.Post
 build-choice-same-length t c = c .before .before .before .before .before .resolve-selector .ensures .same
@@ -345,7 +345,7 @@ build-choice-slice-aggregate-build-alternatives : (t : ℕ) → build-choice-lts
 build-choice-slice-aggregate-build-alternatives t c = search needs
 
 build-choice-build-alternatives-requires : (t : ℕ) → build-choice-lts.Need-build-alternatives-requires (build-choice-claims t) (build-choice-at t) build-choice.Post
-build-choice-build-alternatives-requires t c κs = (omega (arith, c .before .before .before .before .before .before .before .before .resolve-selector .ensures .low (c .before .before .before .if1 .left), c .before .before .look .ensures .onto, c .before .before .look .ensures .high (c .before .before .before .before .before .before .before .before .resolve-selector .ensures .high (c .before .before .before .if1 .left))), (c .before .before .look .ensures .high (c .before .before .before .before .before .before .before .before .resolve-selector .ensures .high (c .before .before .before .if1 .left)), omega arith, refl))
+build-choice-build-alternatives-requires t c κs = (omega (arith, c .before .before .before .before .before .before .before .before .resolve-selector .ensures .low (c .before .before .before .if1 .left), c .before .before .look .ensures .onto, c .before .before .look .ensures .high (c .before .before .before .before .before .before .before .before .resolve-selector .ensures .high (c .before .before .before .if1 .left))), (c .before .before .look .ensures .high (c .before .before .before .before .before .before .before .before .resolve-selector .ensures .high (c .before .before .before .if1 .left)), c .before .before .before .before .before .before .before .before .before .before .before .before .before .pre .1 .1, refl))
 
 build-choice-same-length-2 : (t : ℕ) → build-choice-lts.Need-same-length-2 (build-choice-claims t) (build-choice-at t) build-choice.Post
 build-choice-same-length-2 t c = c .before .before .before .build-alternatives .ensures .kept .same ∙ c .before .before .before .before .before .before .before .before .before .before .before .before .resolve-selector .ensures .same
@@ -357,7 +357,7 @@ build-cycle-put-requires : (t : ℕ) → build-cycle-lts.Need-put-requires (buil
 build-cycle-put-requires t c κs = search needs
 
 build-cycle-build-actions-requires : (t : ℕ) → build-cycle-lts.Need-build-actions-requires (build-cycle-claims t) (build-cycle-at t) build-cycle.Post
-build-cycle-build-actions-requires t c κs = omega (arith, appends-length (c .before .before .before .put .ensures))
+build-cycle-build-actions-requires t c κs = (omega (arith, appends-length (c .before .before .before .put .ensures)), (omega (arith, appends-length (c .before .before .before .put .ensures)), c .before .before .before .before .before .before .before .before .pre .1 .1))
 
 build-cycle-same-length : (t : ℕ) → build-cycle-lts.Need-same-length (build-cycle-claims t) (build-cycle-at t) build-cycle.Post
 build-cycle-same-length t c = c .before .before .before .before .before .build-actions .ensures .kept .same ∙ appends-length (c .before .before .before .before .before .before .before .before .before .put .ensures)
@@ -375,7 +375,7 @@ build-cycle-returns-2 : (t : ℕ) → build-cycle-lts.Need-returns-2 (build-cycl
 build-cycle-returns-2 t c = cycle-end (c .before .before .before .before .before .before .before .before .before .before .put .ensures) (c .before .before .before .before .before .before .build-actions .ensures) (c .before .if1 .left) (c .look .ensures) refl refl refl refl refl
 
 build-labelled-resolve-labels-requires : (t : ℕ) → build-labelled-lts.Need-resolve-labels-requires (build-labelled-claims t) (build-labelled-at t) build-labelled.Post
-build-labelled-resolve-labels-requires t c κs = omega arith
+build-labelled-resolve-labels-requires t c κs = (omega arith, c .before .before .before .before .before .pre .1 .1, omega arith)
 
 build-labelled-same-length : (t : ℕ) → build-labelled-lts.Need-same-length (build-labelled-claims t) (build-labelled-at t) build-labelled.Post
 build-labelled-same-length t c = c .before .before .before .before .resolve-labels .ensures .same
@@ -390,7 +390,7 @@ build-labelled-put-labels-requires : (t : ℕ) → build-labelled-lts.Need-put-l
 build-labelled-put-labels-requires t c κs = omega (arith, c .before .before .before .before .before .before .before .resolve-labels .ensures .same, c .before .before .before .before .before .before .before .resolve-labels .ensures .more (c .before .before .before .if1 .left), c .before .before .before .before .before .before .before .resolve-labels .ensures .room (c .before .before .before .if1 .left))
 
 build-labelled-build-actions-requires : (t : ℕ) → build-labelled-lts.Need-build-actions-requires (build-labelled-claims t) (build-labelled-at t) build-labelled.Post
-build-labelled-build-actions-requires t c κs = omega (arith, c .before .before .before .before .before .before .before .before .before .before .before .before .before .before .before .before .before .pre .0, c .before .before .before .before .before .before .before .before .before .before .before .before .before .before .before .before .before .pre .1 .0, c .before .before .before .before .before .before .before .before .before .before .before .before .before .before .before .before .before .pre .1 .1, appends-length (c .before .before .before .put-labels .ensures), c .before .before .before .before .before .before .before .before .before .before .before .resolve-labels .ensures .moves (c .before .before .before .before .before .before .before .if1 .left), c .before .before .before .before .before .before .look .ensures .onto, c .before .before .before .before .before .before .look .ensures .high (c .before .before .before .before .before .before .before .before .before .before .before .resolve-labels .ensures .high (c .before .before .before .before .before .before .before .if1 .left)))
+build-labelled-build-actions-requires t c κs = (omega (arith, c .before .before .before .before .before .before .before .before .before .before .before .before .before .before .before .before .before .pre .0, c .before .before .before .before .before .before .before .before .before .before .before .before .before .before .before .before .before .pre .1 .0, c .before .before .before .before .before .before .before .before .before .before .before .before .before .before .before .before .before .pre .1 .1, appends-length (c .before .before .before .put-labels .ensures), c .before .before .before .before .before .before .before .before .before .before .before .resolve-labels .ensures .moves (c .before .before .before .before .before .before .before .if1 .left), c .before .before .before .before .before .before .look .ensures .onto, c .before .before .before .before .before .before .look .ensures .high (c .before .before .before .before .before .before .before .before .before .before .before .resolve-labels .ensures .high (c .before .before .before .before .before .before .before .if1 .left))), (omega (arith, c .before .before .before .before .before .before .before .before .before .before .before .before .before .before .before .before .before .pre .0, c .before .before .before .before .before .before .before .before .before .before .before .before .before .before .before .before .before .pre .1 .0, c .before .before .before .before .before .before .before .before .before .before .before .before .before .before .before .before .before .pre .1 .1, appends-length (c .before .before .before .put-labels .ensures), c .before .before .before .before .before .before .before .before .before .before .before .resolve-labels .ensures .moves (c .before .before .before .before .before .before .before .if1 .left), c .before .before .before .before .before .before .look .ensures .onto, c .before .before .before .before .before .before .look .ensures .high (c .before .before .before .before .before .before .before .before .before .before .before .resolve-labels .ensures .high (c .before .before .before .before .before .before .before .if1 .left))), c .before .before .before .before .before .before .before .before .before .before .before .before .before .before .before .before .before .pre .1 .1))
 
 build-labelled-same-length-2 : (t : ℕ) → build-labelled-lts.Need-same-length-2 (build-labelled-claims t) (build-labelled-at t) build-labelled.Post
 build-labelled-same-length-2 t c = omega (arith, c .before .before .before .before .before .before .before .before .before .before .before .before .before .before .resolve-labels .ensures .same, appends-length (c .before .before .before .before .before .before .put-labels .ensures), c .before .before .build-actions .ensures .kept .same)
@@ -408,7 +408,7 @@ build-otherwise-put-requires : (t : ℕ) → build-otherwise-lts.Need-put-requir
 build-otherwise-put-requires t c κs = search needs
 
 build-otherwise-build-actions-requires : (t : ℕ) → build-otherwise-lts.Need-build-actions-requires (build-otherwise-claims t) (build-otherwise-at t) build-otherwise.Post
-build-otherwise-build-actions-requires t c κs = omega (arith, appends-length (c .before .before .before .put .ensures), c .before .before .before .before .before .look .ensures .onto, c .before .before .before .before .before .look .ensures .high (omega arith))
+build-otherwise-build-actions-requires t c κs = (omega (arith, appends-length (c .before .before .before .put .ensures), c .before .before .before .before .before .look .ensures .onto, c .before .before .before .before .before .look .ensures .high (omega arith)), (omega (arith, appends-length (c .before .before .before .put .ensures), c .before .before .before .before .before .look .ensures .onto, c .before .before .before .before .before .look .ensures .high (omega arith)), c .before .before .before .before .before .before .before .before .before .pre .1 .1))
 
 build-otherwise-same-length : (t : ℕ) → build-otherwise-lts.Need-same-length (build-otherwise-claims t) (build-otherwise-at t) build-otherwise.Post
 build-otherwise-same-length t c = c .before .before .before .before .before .build-actions .ensures .kept .same ∙ appends-length (c .before .before .before .before .before .before .before .before .before .put .ensures)

@@ -24,7 +24,7 @@ returns : tie.Need-returns
 returns c = rule-headless (c .before .before .before .read-head .ensures) (c .before .if1 .taken) (c .rejected .ensures .0) (c .rejected .ensures .1) (c .rejected .ensures .2)
 
 build-actions-requires : tie.Need-build-actions-requires
-build-actions-requires c κs = omega (arith, c .before .before .before .before .before .before .before .pre .1, c .before .before .before .read-head .ensures .high (c .before .if1 .left))
+build-actions-requires c κs = (omega (arith, c .before .before .before .before .before .before .before .pre .1, c .before .before .before .read-head .ensures .high (c .before .if1 .left)), c .before .before .before .before .before .before .before .pre .1)
 
 same-length : tie.Need-same-length
 same-length c = search needs

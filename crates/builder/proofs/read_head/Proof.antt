@@ -34,7 +34,7 @@ returns-2 : tie.Need-returns-2
 returns-2 c = head-first (c .before .before .before .before .before .before .before .before .before .pre .0) (c .before .before .before .before .before .before .look .ensures) (sym (c .before .before .before .before .before .is-taken .ensures) ∙ c .before .before .before .before .if1 .left) (c .before .before .before .look2 .ensures) (sym (c .before .both .ensures) ∙ c .if2 .taken) refl refl refl
 
 read-type-requires : tie.Need-read-type-requires
-read-type-requires c κs = omega (arith, c .before .before .before .before .before .before .before .before .before .pre .1, c .before .before .before .before .before .before .look .ensures .high (c .before .before .before .before .before .before .before .before .before .pre .0))
+read-type-requires c κs = (omega (arith, c .before .before .before .before .before .before .before .before .before .pre .1, c .before .before .before .before .before .before .look .ensures .high (c .before .before .before .before .before .before .before .before .before .pre .0)), c .before .before .before .before .before .before .before .before .before .pre .1)
 
 returns-3 : tie.Need-returns-3
 returns-3 c = head-more (c .before .before .before .before .before .before .before .look .ensures) (sym (c .before .before .before .before .before .before .is-taken .ensures) ∙ c .before .before .before .before .before .if1 .left) (c .before .before .before .before .look2 .ensures) (sym (c .before .before .both .ensures) ∙ c .before .if2 .left) (c .read-type .ensures)

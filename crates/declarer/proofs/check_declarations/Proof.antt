@@ -19,7 +19,7 @@ loop-holds : tie.Need-loop-holds Inv-loop μ-loop
 loop-holds c = (omega arith, rows-start (c .before .before .args .text .now) (c .before .before .args .rows .now) (held (c .before .before .args .text .now) (c .before .before .args .rows .now) (c .before .before .args .n)) (c .before .before .args .n))
 
 decl-fault-requires : tie.Need-decl-fault-requires Inv-loop μ-loop
-decl-fault-requires c κs = omega arith
+decl-fault-requires c κs = (c .before .before .before .before .pre, omega arith)
 
 returns : tie.Need-returns Inv-loop μ-loop
 returns c = moved (c .before .before .before .before .loop .inv .1) (rows-stop (c .before .before .before .before .before .before .before .args .text .now) (c .before .before .before .before .before .before .before .args .rows .now) (held (c .before .before .before .before .before .before .before .args .text .now) (c .before .before .before .before .before .before .before .args .rows .now) (c .before .before .before .before .before .before .before .args .n)) (c .before .before .before .before .loop .i) (c .before .before .before .before .before .before .before .args .n) (c .before .before .before .loop-test .taken) (c .before .before .decl-fault .ensures) (c .if1 .taken))

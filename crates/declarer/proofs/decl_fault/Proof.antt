@@ -1,4 +1,5 @@
 -- `declarer::decl_fault` meets its contract.
+use Rattle.symbols.proofs.Indexing.{kept-less}
 use borrow.Author.Needs.{needs}
 use mathlib.Core.Path.{sym, _∙_}
 use Rattle.symbols.specs.Rows.{held, declAt}
@@ -14,7 +15,7 @@ number-requires : tie.Need-number-requires
 number-requires c κs = search needs
 
 name-taken-requires : tie.Need-name-taken-requires
-name-taken-requires c κs = search needs
+name-taken-requires c κs = kept-less (c .before .before .before .before .pre .1) (c .before .before .before .before .pre .0)
 
 fault-if-requires : tie.Need-fault-if-requires
 fault-if-requires c κs = search needs
@@ -35,7 +36,7 @@ returns-3 : tie.Need-returns-3
 returns-3 c = moved (of-rule (held (c .before .before .before .before .before .before .before .args .text .now) (c .before .before .before .before .before .before .before .args .rows .now) (c .before .before .before .before .before .before .before .args .n)) (held (c .before .before .before .before .before .before .before .args .text .now) (c .before .before .before .before .before .before .before .args .rows .now) (c .before .before .before .before .before .before .before .args .i)) (declAt (c .before .before .before .before .before .before .before .args .text .now) (c .before .before .before .before .before .before .before .args .rows .now) (c .before .before .before .before .before .before .before .args .i)) (class-at (c .before .before .before .before .before .before .before .args .text .now) (c .before .before .before .before .before .before .before .args .rows .now) (c .before .before .before .before .before .before .before .args .i) ∙ sym (c .before .before .before .before .number .ensures .0) ∙ c .before .if3 .taken)) (c .fault-if2 .ensures)
 
 entry-again-requires : tie.Need-entry-again-requires
-entry-again-requires c κs = search needs
+entry-again-requires c κs = kept-less (c .before .before .before .before .before .before .pre .1) (c .before .before .before .before .before .before .pre .0)
 
 fault-if-requires-3 : tie.Need-fault-if-requires-3
 fault-if-requires-3 c κs = search needs

@@ -1,4 +1,5 @@
 -- `declarer::operation_fault` meets its contract.
+use Rattle.symbols.proofs.Indexing.{kept-less}
 use borrow.Author.Needs.{needs}
 use Rattle.symbols.specs.Rows.{held, declAt}
 use Rattle.declarer.proofs.FaultLaws.{operation-go, operation-stop}
@@ -6,7 +7,7 @@ use Rattle.declarer.proofs.operation_fault.Statement.{statement}
 use Rattle.declarer.proofs.operation_fault.Tie as tie
 
 operation-again-requires : tie.Need-operation-again-requires
-operation-again-requires c κs = search needs
+operation-again-requires c κs = kept-less (c .before .before .pre .1) (c .before .before .pre .0)
 
 fault-if-requires : tie.Need-fault-if-requires
 fault-if-requires c κs = search needs

@@ -5,11 +5,12 @@ use native.Mathlib.Omega.{arith}
 use mathlib.Core.Path.{sym, _∙_}
 use Rattle.symbols.specs.Search.{part}
 use Rattle.symbols.proofs.Lookups.{type-there, type-later, type-not, elsewhere-some}
+use Rattle.symbols.proofs.Indexing.{kept-less}
 use Rattle.symbols.proofs.type_of.Statement.{statement}
 use Rattle.symbols.proofs.type_of.Tie as tie
 
 find-row-requires : tie.Need-find-row-requires
-find-row-requires c κs = search needs
+find-row-requires c κs = kept-less (c .before .before .pre .1) (c .before .before .pre .0)
 
 add-t9 : tie.Need-add-t9
 add-t9 c = search needs

@@ -1,0 +1,73 @@
+-- The index by names: behind the rows' 4,096 numbers stand 512 heads and 1,024 links. Node k + 1 is row k / 2, by its name where k is even and by its
+-- second word where k is odd; 0 is no node. A chain meets the rows whose words have one hash, in the order of the row.
+use mathlib.Core.List.{List, [], _∷_}
+use mathlib.Core.Logic.{_⊎_}
+use mathlib.Core.Option.{Option, none, some}
+use mathlib.Core.Path.{_≡_}
+use Prim.Native.Nat.{ℕ, suc, _+_, _*_, _-_, _/_, _%_, _<_, _≤_}
+use lib.Dec.{ltb}
+use lib.ListN.{length, getD, set}
+use Rattle.base.specs.Common.{if_then_else_}
+use Rattle.symbols.specs.Rows.{declAt}
+use Rattle.words.specs.Words.{Word}
+
+unfoldable pub hashFrom : ℕ → List ℕ → ℕ
+hashFrom h [] = h
+hashFrom h (b ∷ s) = hashFrom ((h * 33 + b) % 65536) s
+
+-- the chain of a word
+unfoldable pub bucketOf : List ℕ → ℕ
+bucketOf w = hashFrom 0 w % 512
+
+abbrev pub headAt : List ℕ → ℕ → ℕ
+headAt rows b = getD rows (4096 + b) 0
+
+abbrev pub linkAt : List ℕ → ℕ → ℕ
+linkAt rows k = getD rows (4608 + k) 0
+
+-- node k before the chain b
+abbrev pub pushRows : List ℕ → ℕ → ℕ → List ℕ
+pushRows rows b k = set (set rows (4608 + k) (headAt rows b)) (4096 + b) (k + 1)
+
+-- row i before the chain of its second word, where it has one
+unfoldable pub pushSecond : List ℕ → List ℕ → ℕ → List ℕ
+pushSecond text rows i = elim (declAt text rows i .second) [ none ↦ rows | some w ↦ pushRows rows (bucketOf (w .text)) (2 * i + 1) ]
+
+-- row i before the chain of its name
+unfoldable pub pushName : List ℕ → List ℕ → ℕ → List ℕ
+pushName text rows i = pushRows rows (bucketOf (declAt text rows i .name .text)) (2 * i)
+
+-- the node after p: nodes rise, 0 is the end
+unfoldable pub nextOf : List ℕ → ℕ → ℕ
+nextOf rows p = if ltb p (linkAt rows (p - 1)) then linkAt rows (p - 1) else 0
+
+-- the numbers of the rows are as they were
+pub record RowsKept (old new : List ℕ) : Type 0 where
+  pub size : length new ≡ length old
+  pub kept : (j : ℕ) → j < 4096 → getD new j 0 ≡ getD old j 0
+
+-- the rows that are met from the node p on; nodes rise along a chain
+pub data Chain (rows : List ℕ) : ℕ → List ℕ → Type 0 where
+  chain-end : {p : ℕ} → p ≡ 0 → Chain rows p []
+  chain-node : {p k : ℕ} {is : List ℕ} → p ≡ suc k → (linkAt rows k ≡ 0) ⊎ (p < linkAt rows k) → Chain rows (linkAt rows k) is → Chain rows p (k / 2 ∷ is)
+
+pub data Among (i : ℕ) : List ℕ → Type 0 where
+  here : {j : ℕ} {is : List ℕ} → i ≡ j → Among i (j ∷ is)
+  later : {j : ℕ} {is : List ℕ} → Among i is → Among i (j ∷ is)
+
+-- every row is in the chains of its words
+pub record Indexed (text rows : List ℕ) (n : ℕ) : Type 0 where
+  pub chain : ℕ → List ℕ
+  pub follows : (b : ℕ) → b < 512 → Chain rows (headAt rows b) (chain b)
+  pub names : (i : ℕ) → i < n → Among i (chain (bucketOf (declAt text rows i .name .text)))
+  pub seconds : (i : ℕ) (w : Word) → i < n → declAt text rows i .second ≡ some w → Among i (chain (bucketOf (w .text)))
+
+-- the first n rows, few enough and indexed
+pub record Kept (text rows : List ℕ) (n : ℕ) : Type 0 where
+  pub few : n ≤ 512
+  pub indexed : Indexed text rows n
+
+-- all of this file computes where this is unfolded
+unfoldable pub opened : Unit {0}
+unfolding hashFrom bucketOf pushSecond pushName nextOf
+opened = tt
