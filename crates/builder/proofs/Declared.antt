@@ -122,17 +122,17 @@ sofar-start p first e short =
     }
 
 -- after one more
-pub sofar-more : (ds : List Decl) (first k : ℕ) (seen : List (List ℕ)) (r : Rule) (todo : List Rule) → length ds ≤ 512 → Sofar ds first k seen (r ∷ todo)
-    → Sofar ds first (k + 1) (r .rule .text ∷ seen) todo
+pub sofar-more : (ds : List Decl) (first k : ℕ) (seen : List (List ℕ)) (r : Rule) (rest : List Rule) → length ds ≤ 512 → Sofar ds first k seen (r ∷ rest)
+    → Sofar ds first (k + 1) (r .rule .text ∷ seen) rest
 unfolding isFirst isOne ruleDecls
-sofar-more ds first k seen r todo short s = record {
+sofar-more ds first k seen r rest short s = record {
   start = sym (ne-eqb (k + 1) 0 (λ z. omega (arith, z)));
   names = λ w.
       ap (λ t. same w (r .rule .text) || t) (s .names w)
       ∙ ap (λ t. same w (r .rule .text) || ltb (numberOf (indexOf 7 w 0 ds)) t) (plain (first + k))
-      ∙ one-more w 0 (first + k) ds (ruleDecls (suc k) todo) (ofRule k r) (s .left) refl (omega (arith, short))
+      ∙ one-more w 0 (first + k) ds (ruleDecls (suc k) rest) (ofRule k r) (s .left) refl (omega (arith, short))
       ∙ ap (λ t. ltb (numberOf (indexOf 7 w 0 ds)) t) (place first k);
-  left = ap (λ t. drop t ds) (one first k) ∙ tail-is (first + k) ds (ofRule k r) (ruleDecls (suc k) todo) (s .left) ∙ ap (λ t. ruleDecls t todo) (next k);
+  left = ap (λ t. drop t ds) (one first k) ∙ tail-is (first + k) ds (ofRule k r) (ruleDecls (suc k) rest) (s .left) ∙ ap (λ t. ruleDecls t rest) (next k);
 }
   where
     plain : (a : ℕ) → a ≡ 0 + a

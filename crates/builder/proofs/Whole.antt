@@ -102,9 +102,9 @@ counted (good a) (ended e here app pa) z = omega (arith, app .count, appends-len
 counted (wrong n w) (failed e nz _ _) z = absurd (nz (sym e ∙ z))
 
 -- the rule by its declaration is the rule
-one-rule : (text rows : List ℕ) (n first k : ℕ) (p : Program) (names : Names) (rs : List KnownRule) (seen : List (List ℕ)) (x : written.Rule) (todo : List written.Rule)
-    → Agrees p names rs (held text rows n) → Sofar (held text rows n) first k seen (x ∷ todo) → ruleBy p names rs (held text rows n) first k x ≡ ruleMeans p names rs seen x
-one-rule text rows n first k p names rs seen x todo A s = sym (rule-means p names rs (held text rows n) first k seen x A (s .start) (s .names (x .rule .text)))
+one-rule : (text rows : List ℕ) (n first k : ℕ) (p : Program) (names : Names) (rs : List KnownRule) (seen : List (List ℕ)) (x : written.Rule) (rest : List written.Rule)
+    → Agrees p names rs (held text rows n) → Sofar (held text rows n) first k seen (x ∷ rest) → ruleBy p names rs (held text rows n) first k x ≡ ruleMeans p names rs seen x
+one-rule text rows n first k p names rs seen x rest A s = sym (rule-means p names rs (held text rows n) first k seen x A (s .start) (s .names (x .rule .text)))
 
 pub row-fail : {text rows : List ℕ} {n first k at : ℕ} {cs : List ℕ} {c : ℕ} {cs₁ starts sorts : List ℕ} {x : Ruled} {r : Rules}
     → RuleDone text rows n first k at cs c cs₁ x → (x .done .fault ≡ 0 → ⊥) → r .fault ≡ x .done .fault → r .at ≡ x .done .at → r .len ≡ x .done .len
@@ -112,15 +112,15 @@ pub row-fail : {text rows : List ℕ} {n first k at : ℕ} {cs : List ℕ} {c : 
 unfolding rulesMean
 row-fail {text} {rows} {n} {first} {k} {at} {cs} {c} {cs₁} {starts} {sorts} {x} {r} R z e₁ e₂ e₃ = record { done = go }
   where
-    go : (p : Program) (names : Names) (rs : List KnownRule) → Agrees p names rs (held text rows n) → (seen : List (List ℕ)) (todo : List written.Rule) (ws : List Word)
-        → Sofar (held text rows n) first k seen todo → RulesIn (wordsAt text at) ws todo → k + length todo ≤ 128
-        → RowEnd k cs c cs₁ starts sorts starts sorts r (rulesMean p names rs seen todo)
-    go p names rs A seen (y ∷ todo) ws s (last-rule d _) _ =
-        subst (λ m. RowEnd k cs c cs₁ starts sorts starts sorts r (_>>=_ m (λ a. _>>=_ (rulesMean p names rs (y .rule .text ∷ seen) todo) (λ as′. good (a ∷ as′)))))
-        (one-rule text rows n first k p names rs seen y todo A s) (row-fails (ruleBy p names rs (held text rows n) first k y) _ (R .done p names rs A y ws d) z e₁ e₂ e₃)
-    go p names rs A seen (y ∷ todo) ws s (more-rules {ws₁ = ws₁} d _ _) _ =
-        subst (λ m. RowEnd k cs c cs₁ starts sorts starts sorts r (_>>=_ m (λ a. _>>=_ (rulesMean p names rs (y .rule .text ∷ seen) todo) (λ as′. good (a ∷ as′)))))
-        (one-rule text rows n first k p names rs seen y todo A s) (row-fails (ruleBy p names rs (held text rows n) first k y) _ (R .done p names rs A y ws₁ d) z e₁ e₂ e₃)
+    go : (p : Program) (names : Names) (rs : List KnownRule) → Agrees p names rs (held text rows n) → (seen : List (List ℕ)) (rest : List written.Rule) (ws : List Word)
+        → Sofar (held text rows n) first k seen rest → RulesIn (wordsAt text at) ws rest → k + length rest ≤ 128
+        → RowEnd k cs c cs₁ starts sorts starts sorts r (rulesMean p names rs seen rest)
+    go p names rs A seen (y ∷ rest) ws s (last-rule d _) _ =
+        subst (λ m. RowEnd k cs c cs₁ starts sorts starts sorts r (_>>=_ m (λ a. _>>=_ (rulesMean p names rs (y .rule .text ∷ seen) rest) (λ as′. good (a ∷ as′)))))
+        (one-rule text rows n first k p names rs seen y rest A s) (row-fails (ruleBy p names rs (held text rows n) first k y) _ (R .done p names rs A y ws d) z e₁ e₂ e₃)
+    go p names rs A seen (y ∷ rest) ws s (more-rules {ws₁ = ws₁} d _ _) _ =
+        subst (λ m. RowEnd k cs c cs₁ starts sorts starts sorts r (_>>=_ m (λ a. _>>=_ (rulesMean p names rs (y .rule .text ∷ seen) rest) (λ as′. good (a ∷ as′)))))
+        (one-rule text rows n first k p names rs seen y rest A s) (row-fails (ruleBy p names rs (held text rows n) first k y) _ (R .done p names rs A y ws₁ d) z e₁ e₂ e₃)
 
 pub row-last : {text rows : List ℕ} {n first k at : ℕ} {cs : List ℕ} {c : ℕ} {cs₁ starts sorts starts′ sorts′ : List ℕ} {x : Ruled} {r : Rules} {w : WordAt}
     → length cs ≤ 60000 → k < length starts → k < length sorts
@@ -130,9 +130,9 @@ pub row-last : {text rows : List ℕ} {n first k at : ℕ} {cs : List ℕ} {c : 
 unfolding rulesMean
 row-last {text} {rows} {n} {first} {k} {at} {cs} {c} {cs₁} {starts} {sorts} {starts′} {sorts′} {x} {r} {w} big i j R z N kind q₁ q₂ e₁ e₂ e₃ = record { done = go }
   where
-    go : (p : Program) (names : Names) (rs : List KnownRule) → Agrees p names rs (held text rows n) → (seen : List (List ℕ)) (todo : List written.Rule) (ws : List Word)
-        → Sofar (held text rows n) first k seen todo → RulesIn (wordsAt text at) ws todo → k + length todo ≤ 128
-        → RowEnd k cs c cs₁ starts sorts starts′ sorts′ r (rulesMean p names rs seen todo)
+    go : (p : Program) (names : Names) (rs : List KnownRule) → Agrees p names rs (held text rows n) → (seen : List (List ℕ)) (rest : List written.Rule) (ws : List Word)
+        → Sofar (held text rows n) first k seen rest → RulesIn (wordsAt text at) ws rest → k + length rest ≤ 128
+        → RowEnd k cs c cs₁ starts sorts starts′ sorts′ r (rulesMean p names rs seen rest)
     go p names rs A seen (y ∷ []) ws s (last-rule d _) _ =
         subst (λ m. RowEnd k cs c cs₁ starts sorts starts′ sorts′ r (_>>=_ m (λ a. _>>=_ (rulesMean p names rs (y .rule .text ∷ seen) []) (λ as′. good (a ∷ as′)))))
         (one-rule text rows n first k p names rs seen y [] A s)
@@ -140,7 +140,7 @@ row-last {text} {rows} {n} {first} {k} {at} {cs} {c} {cs₁} {starts} {sorts} {s
         (subst (λ a. RowEnd (k + 1) cs₁ (x .done .count) cs₁ (set starts k (c % 65536)) (set sorts k (sortOf (x .valued))) a sorts′ r (good [])) (sym q₁)
         (subst (λ b. RowEnd (k + 1) cs₁ (x .done .count) cs₁ (set starts k (c % 65536)) (set sorts k (sortOf (x .valued))) (set starts k (c % 65536)) b r (good [])) (sym q₂)
         (row-none e₁ e₂ e₃ (counted (ruleBy p names rs (held text rows n) first k y) (R .done p names rs A y ws d) z)))))
-    go p names rs A seen (y ∷ todo) ws s (more-rules {ws₁ = ws₁} d v _) _ =
+    go p names rs A seen (y ∷ rest) ws s (more-rules {ws₁ = ws₁} d v _) _ =
         let here : ws₁ ≡ wordsAt text (x .done .at) = ends-here (ruleBy p names rs (held text rows n) first k y) (R .done p names rs A y ws₁ d) z in
         absurd (kind (sym (kind-here text (x .done .at) w N) ∙ ap (λ l. peek l .kind) (sym here) ∙ v))
 
@@ -153,13 +153,13 @@ pub row-over : {text rows : List ℕ} {n first k at : ℕ} {cs : List ℕ} {c : 
     → RowDone text rows n first k at cs c cs′ starts sorts starts′ sorts′ r
 row-over {text} {rows} {n} {first} {k} {at} {cs} {c} {cs₁} {cs′} {starts} {sorts} {starts′} {sorts′} {x} {r} {w} R z N kind e = record { done = go }
   where
-    go : (p : Program) (names : Names) (rs : List KnownRule) → Agrees p names rs (held text rows n) → (seen : List (List ℕ)) (todo : List written.Rule) (ws : List Word)
-        → Sofar (held text rows n) first k seen todo → RulesIn (wordsAt text at) ws todo → k + length todo ≤ 128
-        → RowEnd k cs c cs′ starts sorts starts′ sorts′ r (rulesMean p names rs seen todo)
+    go : (p : Program) (names : Names) (rs : List KnownRule) → Agrees p names rs (held text rows n) → (seen : List (List ℕ)) (rest : List written.Rule) (ws : List Word)
+        → Sofar (held text rows n) first k seen rest → RulesIn (wordsAt text at) ws rest → k + length rest ≤ 128
+        → RowEnd k cs c cs′ starts sorts starts′ sorts′ r (rulesMean p names rs seen rest)
     go p names rs A seen (y ∷ []) ws s (last-rule d t) _ =
         let here : ws ≡ wordsAt text (x .done .at) = ends-here (ruleBy p names rs (held text rows n) first k y) (R .done p names rs A y ws d) z in
         absurd (t (ap (λ l. peek l .kind) here ∙ kind-here text (x .done .at) w N ∙ kind))
-    go p names rs A seen (y ∷ todo) ws s (more-rules d _ more) h = absurd (omega (arith, e, h, some-rule more))
+    go p names rs A seen (y ∷ rest) ws s (more-rules d _ more) h = absurd (omega (arith, e, h, some-rule more))
 
 pub row-next : {text rows : List ℕ} {n first k at : ℕ} {cs : List ℕ} {c : ℕ} {cs₁ cs′ starts sorts starts₁ sorts₁ starts′ sorts′ : List ℕ} {x : Ruled} {r : Rules} {w : WordAt}
     → n ≤ 512 → length cs ≤ 60000 → k < length starts → k < length sorts
@@ -170,21 +170,21 @@ pub row-next : {text rows : List ℕ} {n first k at : ℕ} {cs : List ℕ} {c : 
 unfolding rulesMean
 row-next {text} {rows} {n} {first} {k} {at} {cs} {c} {cs₁} {cs′} {starts} {sorts} {starts₁} {sorts₁} {starts′} {sorts′} {x} {r} {w} few big i j R z N kind q₁ q₂ M = record { done = go }
   where
-    go : (p : Program) (names : Names) (rs : List KnownRule) → Agrees p names rs (held text rows n) → (seen : List (List ℕ)) (todo : List written.Rule) (ws : List Word)
-        → Sofar (held text rows n) first k seen todo → RulesIn (wordsAt text at) ws todo → k + length todo ≤ 128
-        → RowEnd k cs c cs′ starts sorts starts′ sorts′ r (rulesMean p names rs seen todo)
+    go : (p : Program) (names : Names) (rs : List KnownRule) → Agrees p names rs (held text rows n) → (seen : List (List ℕ)) (rest : List written.Rule) (ws : List Word)
+        → Sofar (held text rows n) first k seen rest → RulesIn (wordsAt text at) ws rest → k + length rest ≤ 128
+        → RowEnd k cs c cs′ starts sorts starts′ sorts′ r (rulesMean p names rs seen rest)
     go p names rs A seen (y ∷ []) ws s (last-rule d t) _ =
         let here : ws ≡ wordsAt text (x .done .at) = ends-here (ruleBy p names rs (held text rows n) first k y) (R .done p names rs A y ws d) z in
         absurd (t (ap (λ l. peek l .kind) here ∙ kind-here text (x .done .at) w N ∙ kind))
-    go p names rs A seen (y ∷ todo) ws s (more-rules {ws₁ = ws₁} d v more) h =
+    go p names rs A seen (y ∷ rest) ws s (more-rules {ws₁ = ws₁} d v more) h =
         let here : ws₁ ≡ wordsAt text (x .done .at) = ends-here (ruleBy p names rs (held text rows n) first k y) (R .done p names rs A y ws₁ d) z in
-        subst (λ m. RowEnd k cs c cs′ starts sorts starts′ sorts′ r (_>>=_ m (λ a. _>>=_ (rulesMean p names rs (y .rule .text ∷ seen) todo) (λ as′. good (a ∷ as′)))))
-        (one-rule text rows n first k p names rs seen y todo A s)
-        (row-then (ruleBy p names rs (held text rows n) first k y) (rulesMean p names rs (y .rule .text ∷ seen) todo) big i j (R .done p names rs A y ws₁ d) z
-        (subst (λ a. RowEnd (k + 1) cs₁ (x .done .count) cs′ a (set sorts k (sortOf (x .valued))) starts′ sorts′ r (rulesMean p names rs (y .rule .text ∷ seen) todo)) q₁
-        (subst (λ b. RowEnd (k + 1) cs₁ (x .done .count) cs′ starts₁ b starts′ sorts′ r (rulesMean p names rs (y .rule .text ∷ seen) todo)) q₂
-        (M .done p names rs A (y .rule .text ∷ seen) todo ws (sofar-more (held text rows n) first k seen y todo (held-short text rows n few) s)
-        (subst (λ l. RulesIn l ws todo) here more) (omega (arith, h))))))
+        subst (λ m. RowEnd k cs c cs′ starts sorts starts′ sorts′ r (_>>=_ m (λ a. _>>=_ (rulesMean p names rs (y .rule .text ∷ seen) rest) (λ as′. good (a ∷ as′)))))
+        (one-rule text rows n first k p names rs seen y rest A s)
+        (row-then (ruleBy p names rs (held text rows n) first k y) (rulesMean p names rs (y .rule .text ∷ seen) rest) big i j (R .done p names rs A y ws₁ d) z
+        (subst (λ a. RowEnd (k + 1) cs₁ (x .done .count) cs′ a (set sorts k (sortOf (x .valued))) starts′ sorts′ r (rulesMean p names rs (y .rule .text ∷ seen) rest)) q₁
+        (subst (λ b. RowEnd (k + 1) cs₁ (x .done .count) cs′ starts₁ b starts′ sorts′ r (rulesMean p names rs (y .rule .text ∷ seen) rest)) q₂
+        (M .done p names rs A (y .rule .text ∷ seen) rest ws (sofar-more (held text rows n) first k seen y rest (held-short text rows n few) s)
+        (subst (λ l. RulesIn l ws rest) here more) (omega (arith, h))))))
 
 -- The whole
 

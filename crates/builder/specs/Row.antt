@@ -41,11 +41,11 @@ pub record RuleDone (text rows : List ℕ) (n first k at : ℕ) (cs : List ℕ) 
       → RuleIn (wordsAt text at) ws x
       → Ends text ws cs c cs′ (λ b. actsCells (b .body) []) (λ b. r .valued ≡ b .valued) (r .done) (ruleBy p names rs (held text rows n) first k x)
 
--- k rules, of the names `seen`, stand before those of `todo`
-pub record Sofar (ds : List Decl) (first k : ℕ) (seen : List (List ℕ)) (todo : List written.Rule) : Type 0 where
+-- k rules, of the names `seen`, stand before those of `rest`
+pub record Sofar (ds : List Decl) (first k : ℕ) (seen : List (List ℕ)) (rest : List written.Rule) : Type 0 where
   pub start : isFirst seen ≡ eqb k 0
   pub names : (w : List ℕ) → isOne w seen ≡ ltb (numberOf (indexOf 7 w 0 ds)) (first + k)
-  pub left : drop (first + k) ds ≡ ruleDecls k todo
+  pub left : drop (first + k) ds ≡ ruleDecls k rest
 
 -- the code's answer tells what the rules from the k-th on mean; what was written for those before stays
 pub data RowEnd (k : ℕ) (cs : List ℕ) (c : ℕ) (cs′ starts sorts starts′ sorts′ : List ℕ) (r : Rules) : Checked (List means.Rule) → Type 0 where
@@ -60,9 +60,9 @@ pub data RowEnd (k : ℕ) (cs : List ℕ) (c : ℕ) (cs′ starts sorts starts�
 -- the rules from the k-th on, at the place `at`
 pub record RowDone (text rows : List ℕ) (n first k at : ℕ) (cs : List ℕ) (c : ℕ) (cs′ starts sorts starts′ sorts′ : List ℕ) (r : Rules) : Type 0 where
   pub done : (p : Program) (names : Names) (rs : List KnownRule) → Agrees p names rs (held text rows n) → (seen : List (List ℕ))
-      (todo : List written.Rule) (ws : List Word)
-      → Sofar (held text rows n) first k seen todo → RulesIn (wordsAt text at) ws todo → k + length todo ≤ 128
-      → RowEnd k cs c cs′ starts sorts starts′ sorts′ r (rulesMean p names rs seen todo)
+      (rest : List written.Rule) (ws : List Word)
+      → Sofar (held text rows n) first k seen rest → RulesIn (wordsAt text at) ws rest → k + length rest ≤ 128
+      → RowEnd k cs c cs′ starts sorts starts′ sorts′ r (rulesMean p names rs seen rest)
 
 -- all of this file computes where this is unfolded
 unfoldable pub opened : Unit {0}

@@ -5,7 +5,6 @@ ghost use mathlib.Core.Path.{_≡_};
 ghost use Prim.Native.Nat.{ℕ, _+_, _-_, _%_, _≤_, _<_};
 ghost use lib.ListN.{length, take, drop, getD, set};
 ghost use Rattle.scanner.specs.Next.{Next};
-ghost use Rattle.syntax.specs.Actions.{closes};
 ghost use Rattle.resolver.specs.Resolved.{Appends};
 ghost use Rattle.symbols.specs.Index.{Kept};
 ghost use Rattle.symbols.specs.Rows.{held};
@@ -13,6 +12,7 @@ ghost use Rattle.builder.specs.Heads.{takenBefore, TypeDone, HeadDone};
 ghost use Rattle.builder.specs.Row.{RuleDone};
 ghost use Rattle.builder.specs.Rules.{sortOf, RulesDone};
 ghost use Rattle.builder.specs.Parts.{ActDone, ActsDone, CycleDone, ChoiceDone, AltsDone, OtherDone, LabelledDone, labelCells};
+use reader::is_closing;
 use resolver::Built;
 use resolver::Done;
 use scanner::WordAt;
@@ -99,22 +99,6 @@ fn look(text: &[u8], at: usize) -> WordAt
     ensures { λ r. ⌜ Next (now (text .entry)) at r ⌝ }
 {
     scanner::next_word(text, at)
-}
-
-// A word that closes a list of actions.
-fn is_closing(kind: u16) -> bool
-    ensures { λ r. ⌜ r ≡ closes kind ⌝ }
-{
-    if kind == 59 {
-        return true;
-    }
-    if kind == 125 {
-        return true;
-    }
-    if kind == 93 {
-        return true;
-    }
-    kind == 124
 }
 
 // How many labels an alternative has, and the labels, from the choice's.

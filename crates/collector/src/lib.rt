@@ -10,6 +10,11 @@ ghost use Rattle.syntax.specs.Sections.{firstOf};
 ghost use Rattle.words.specs.Words.{wordsAt};
 ghost use Rattle.collector.specs.Collecting.{Small, setTwo, setWords, Puts, IsWord, IsNone, Reads, Counts, AHead, AnEntry, SomeEntries, AnOperation, SomeOperations, TokensIn, InputsIn, BothIn, OutputsIn, ErrorsIn, TypeIn, MechanismIn, ASection, SomeSections, Skips, ARule, SomeRules, Collects};
 use reader::Seen;
+use reader::count_of;
+use reader::larger;
+use reader::look;
+use reader::number_of;
+use reader::one_more;
 use scanner::WordAt;
 
 // How many rows there are, the row of the first rule, the place of the first rule's name.
@@ -93,14 +98,6 @@ pub struct Sectioned {
     pub at: usize,
     pub count: usize,
     pub state: State,
-}
-
-// The next word.
-fn look(text: &[u8], at: usize) -> WordAt
-    requires { ⌜ at ≤ length (now text) ⌝ }
-    ensures { λ r. ⌜ Here (now (text .entry)) at r ⌝ }
-{
-    scanner::next_word(text, at)
 }
 
 // Rows
@@ -224,36 +221,6 @@ fn read_takes(text: &[u8], at: usize) -> Optional
 
 // Values
 
-fn digit_of(b: u8) -> usize
-    ensures { λ r. ⌜ (r ≡ b - 48) × (r < 256) ⌝ }
-{
-    if b < 48 {
-        return 0;
-    }
-    let d = b - 48;
-    d as usize
-}
-
-// The value of a number's digits, or some number past 65,535 where it is past that.
-fn number_of(text: &[u8], start: usize, len: usize) -> usize
-    requires { ⌜ start + len ≤ length (now text) ⌝ }
-    ensures { λ r. ⌜ NumberOf (take len (drop start (now (text .entry)))) r ⌝ }
-{
-    let mut n: usize = 0;
-    let mut i: usize = 0;
-    while i < len {
-        let j = start + i;
-        let d = digit_of(text[j]);
-        let m = n * 10 + d;
-        if 65535 < m {
-            return m;
-        }
-        n = m;
-        i += 1;
-    }
-    n
-}
-
 // At most 65,535.
 fn capped(n: usize) -> usize
     ensures { λ r. ⌜ (r ≤ 65535) × (n ≤ 65535 → r ≡ n) ⌝ }
@@ -282,15 +249,6 @@ fn read_count(text: &[u8], at: usize, v: usize) -> Valued
         value: capped(v),
         at,
     }
-}
-
-fn larger(a: usize, b: usize) -> usize
-    ensures { λ r. ⌜ r ≡ max a b ⌝ }
-{
-    if a < b {
-        return b;
-    }
-    a
 }
 
 // Entries
@@ -393,21 +351,6 @@ fn collect_listed(
 
 // Operations
 
-fn count_of(seen: Seen, takes: bool, gives: bool) -> usize
-    ensures { λ r. ⌜ r ≡ countOf seen takes gives ⌝ }
-{
-    if takes {
-        if gives {
-            return seen.both;
-        }
-        return seen.taking;
-    }
-    if gives {
-        return seen.giving;
-    }
-    seen.plain
-}
-
 // The first number of a kind.
 fn first_of(takes: bool, gives: bool) -> usize
     ensures { λ r. ⌜ (r ≡ firstOf takes gives) × (r ≤ 1024) ⌝ }
@@ -436,53 +379,13 @@ fn next_number(seen: Seen, takes: bool, gives: bool) -> usize
 }
 
 fn with_one(seen: Seen, takes: bool, gives: bool) -> Seen
-    requires { ⌜ countOf seen takes gives ≤ 255 ⌝ }
-    ensures { λ r. ⌜ r ≡ oneMore seen takes gives ⌝ }
-{
-    if takes {
-        if gives {
-            let n = seen.both + 1;
-            return Seen {
-                plain: seen.plain,
-                taking: seen.taking,
-                giving: seen.giving,
-                both: n,
-            };
-        }
-        let n = seen.taking + 1;
-        return Seen {
-            plain: seen.plain,
-            taking: n,
-            giving: seen.giving,
-            both: seen.both,
-        };
-    }
-    if gives {
-        let n = seen.giving + 1;
-        return Seen {
-            plain: seen.plain,
-            taking: seen.taking,
-            giving: n,
-            both: seen.both,
-        };
-    }
-    let n = seen.plain + 1;
-    Seen {
-        plain: n,
-        taking: seen.taking,
-        giving: seen.giving,
-        both: seen.both,
-    }
-}
-
-fn one_more(seen: Seen, takes: bool, gives: bool) -> Seen
     ensures { λ r. ⌜ (countOf seen takes gives ≤ 255 → r ≡ oneMore seen takes gives) ⌝ }
 {
     let n = count_of(seen, takes, gives);
     if 255 < n {
         return seen;
     }
-    with_one(seen, takes, gives)
+    one_more(seen, takes, gives)
 }
 
 fn read_head(text: &[u8], at: usize) -> Head
@@ -525,7 +428,7 @@ fn collect_operation(text: &[u8], at: usize, rows: &mut [u16], count: usize, see
         third,
     };
     let c = put_row(rows, count, d);
-    let s = one_more(seen, takes, gives);
+    let s = with_one(seen, takes, gives);
     Operated {
         at: h.at,
         count: c,

@@ -187,12 +187,12 @@ declFault ds before d =
     else if eqb (d .class) 7 then good tt
     else faultIf (entryAgain d before) 4 (d .name)
 
--- the first fault of the declarations `todo` after `before`
+-- the first fault of the declarations `rest` after `before`
 unfoldable pub declFaults : List Decl → List Decl → List Decl → Checked (Unit {0})
 declFaults ds before [] = good tt
-declFaults ds before (d ∷ todo) = do
+declFaults ds before (d ∷ rest) = do
   _ ← declFault ds before d
-  declFaults ds (before ++ (d ∷ [])) todo
+  declFaults ds (before ++ (d ∷ [])) rest
 
 -- all of this file computes where this is unfolded
 unfoldable pub opened : Unit {0}

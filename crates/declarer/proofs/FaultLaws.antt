@@ -118,14 +118,14 @@ module _ (ds before : List Decl) (d : Decl) where
   of-entry e f g = rw (ne-eqb (d .class) 5 e, ne-eqb (d .class) 6 f, ne-eqb (d .class) 7 g) refl
 
   -- and then the others
-  next : {f at len : ℕ} (todo : List Decl) → Faults f at len (declFault ds before d) → f ≡ 0
-      → declFaults ds before (d ∷ todo) ≡ declFaults ds (before ++ (d ∷ [])) todo
+  next : {f at len : ℕ} (rest : List Decl) → Faults f at len (declFault ds before d) → f ≡ 0
+      → declFaults ds before (d ∷ rest) ≡ declFaults ds (before ++ (d ∷ [])) rest
   unfolding declFaults
-  next todo h z = rw (is-clean h z) refl
+  next rest h z = rw (is-clean h z) refl
 
-  halt : {f at len : ℕ} (todo : List Decl) → Faults f at len (declFault ds before d) → (f ≡ 0 → ⊥) → Faults f at len (declFaults ds before (d ∷ todo))
+  halt : {f at len : ℕ} (rest : List Decl) → Faults f at len (declFault ds before d) → (f ≡ 0 → ⊥) → Faults f at len (declFaults ds before (d ∷ rest))
   unfolding declFaults
-  halt todo h z = stops _ h z
+  halt rest h z = stops _ h z
 
 -- the row
 

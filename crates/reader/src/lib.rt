@@ -75,7 +75,7 @@ pub struct Sectioned {
 }
 
 // The next word.
-fn look(text: &[u8], at: usize) -> WordAt
+pub fn look(text: &[u8], at: usize) -> WordAt
     requires { ⌜ at ≤ length (now text) ⌝ }
     ensures { λ r. ⌜ Here (now (text .entry)) at r ⌝ }
 {
@@ -309,7 +309,7 @@ fn read_labels(text: &[u8], at: usize, room: usize) -> Counted
     }
 }
 
-fn is_closing(kind: u16) -> bool
+pub fn is_closing(kind: u16) -> bool
     ensures { λ r. ⌜ r ≡ closes kind ⌝ }
 {
     if kind == 59 {
@@ -490,7 +490,7 @@ fn digit_of(b: u8) -> usize
 }
 
 // The value of a number's digits, or some number past 65,535 where it is past that.
-fn number_of(text: &[u8], start: usize, len: usize) -> usize
+pub fn number_of(text: &[u8], start: usize, len: usize) -> usize
     requires { ⌜ start + len ≤ length (now text) ⌝ }
     ensures { λ r. ⌜ NumberOf (take len (drop start (now (text .entry)))) r ⌝ }
 {
@@ -580,7 +580,7 @@ fn read_entry(text: &[u8], at: usize, left: usize, strings: bool, v: usize) -> V
     Valued { out: s, value: v }
 }
 
-fn larger(a: usize, b: usize) -> usize
+pub fn larger(a: usize, b: usize) -> usize
     ensures { λ r. ⌜ r ≡ max a b ⌝ }
 {
     if a < b {
@@ -683,7 +683,7 @@ fn read_gives(text: &[u8], at: usize) -> Out
     read_name(text, w.next)
 }
 
-fn count_of(seen: Seen, takes: bool, gives: bool) -> usize
+pub fn count_of(seen: Seen, takes: bool, gives: bool) -> usize
     ensures { λ r. ⌜ r ≡ countOf seen takes gives ⌝ }
 {
     if takes {
@@ -698,7 +698,7 @@ fn count_of(seen: Seen, takes: bool, gives: bool) -> usize
     seen.plain
 }
 
-fn one_more(seen: Seen, takes: bool, gives: bool) -> Seen
+pub fn one_more(seen: Seen, takes: bool, gives: bool) -> Seen
     requires { ⌜ countOf seen takes gives < 256 ⌝ }
     ensures { λ r. ⌜ r ≡ oneMore seen takes gives ⌝ }
 {

@@ -37,7 +37,7 @@ use Rattle.builder.proofs.build_otherwise.Kinds as build-otherwise-kind
 use Rattle.builder.proofs.+build_action+build_actions+build_alternatives+build_choice+build_cycle+build_labelled+build_otherwise.Lts-build_otherwise as build-otherwise-lts
 use Rattle.builder.proofs.both.Reads as both-reads
 use Rattle.builder.proofs.either.Reads as either-reads
-use Rattle.builder.proofs.is_closing.Reads as is-closing-reads
+use Rattle.reader.proofs.is_closing.Reads as is-closing-reads
 use Rattle.builder.proofs.joined.Reads as joined-reads
 use Rattle.builder.proofs.look.Reads as look-reads
 use Rattle.builder.proofs.put_labels.Reads as put-labels-reads

@@ -14,14 +14,14 @@ next-number-requires c κs = search needs
 put-row-requires : tie.Need-put-row-requires
 put-row-requires c κs = search needs
 
-one-more-requires : tie.Need-one-more-requires
-one-more-requires c κs = search needs
+with-one-requires : tie.Need-with-one-requires
+with-one-requires c κs = search needs
 
 same-length : tie.Need-same-length
 same-length c = search needs
 
 returns : tie.Need-returns
-returns c = operation-read _ _ refl refl (c .before .before .before .before .before .before .before .before .before .before .before .read-head .ensures) (c .before .before .before .before .before .next-number .ensures .1) (c .before .before .before .put-row .ensures) (c .one-more .ensures)
+returns c = operation-read _ _ refl refl (c .before .before .before .before .before .before .before .before .before .before .before .read-head .ensures) (c .before .before .before .before .before .next-number .ensures .1) (c .before .before .before .put-row .ensures) (c .with-one .ensures)
 
 pub collect-operation-spec : {M : Type 1} → statement M
 collect-operation-spec =
@@ -30,6 +30,6 @@ collect-operation-spec =
     read-head-requires
     next-number-requires
     put-row-requires
-    one-more-requires
+    with-one-requires
     same-length
     returns)
