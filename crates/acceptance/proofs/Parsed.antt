@@ -1,22 +1,23 @@
 -- What a text that the syntax pass reads through has: the laws follow the readers, one by one.
 use mathlib.Core.Bool.{Bool, true, false}
 use mathlib.Core.List.{List, [], _∷_}
-use mathlib.Core.Option.{Option, none, some}
-use mathlib.Core.Path.{_≡_, refl, sym, ap, _∙_}
+use mathlib.Core.Option.{Option}
+use mathlib.Core.Path.{_≡_, refl}
 use Prim.Native.Char.{code}
 use Prim.Native.Nat.{ℕ, zero, suc, _+_, _-_, _<_, _≤_, max, min}
-use lib.Dec.{eqb, ltb}
+use lib.Dec.{ltb}
 use lib.ListN.{length}
-use borrow.Author.Tests.{ltb-true, ltb-false}
+use borrow.Author.Tests.{ltb-false}
 use native.Mathlib.Omega.{arith}
 use Rattle.acceptance.proofs.ReadLaws.{Gives, Any, any, no-got, bind, after, gives, refuses, either, on-kind, limited}
 use Rattle.acceptance.proofs.Shape.{Each, Defaulted, Shaped, ShapedAll, ShapedAlts, ShapedOther, ShapedChoices, NotEmpty, InRange, OfKind, SectionOk, WrittenOk}
 use Rattle.base.specs.Common.{if_then_else_, given}
 use Rattle.base.specs.Tree.{Action, plain, cycle, choice, Actions, done, _▸_, Alternatives, nil, alternative, Otherwise, absent, otherwise}
+use Rattle.syntax.proofs.Ahead.{kinds-read, room-left}
 use Rattle.syntax.specs.Actions.{aConstant, aPlain, aSelector, aLabel, someLabels, closes, aCycle, aChoice, anAction, anOtherwise, anAlternative, actions, alternatives}
 use Rattle.syntax.specs.Parse.{aRule, someRules, program, parse, endOf}
 use Rattle.syntax.specs.Reading.{Read, got, fault, Reader, onward, _>>=_, _>>_, pure, peek, pass, refuse, over, within, on_then_else_, expect, short, aName, oneName, small, aNumber, optional}
-use Rattle.syntax.specs.Sections.{aSpelling, aCount, anEntry, entries, firstOf, ofKind, aParameter, numbered, anOperation, someOperations, Sofar, nothing, after as afterSection, tokenSection, aSection, Sections, someSections}
+use Rattle.syntax.specs.Sections.{aSpelling, aCount, anEntry, entries, firstOf, ofKind, kindAhead, isFull, aParameter, numbered, anOperation, someOperations, Sofar, nothing, after as afterSection, tokenSection, aSection, Sections, someSections}
 use Rattle.syntax.specs.Written.{Act, Acts, Alts, Other, Choices, Entry, Operation, Section, inputs, outputs, both, errors, values, operations, Rule, Program}
 use Rattle.words.specs.Words.{Word, words, last, twice, name, number, string, input, output, error, type, mechanism, rules, end, value}
 
@@ -69,54 +70,34 @@ entries-in (suc k) left strings v =
 
 -- Operations
 
--- what is after an optional word is there exactly if the word is
-optional-given : {A : Type 0} (k : ℕ) (m : Reader A) (ws rest : List Word) (x : Option A) → optional k m ws ≡ got x rest → given x ≡ eqb (peek ws .kind) k
-unfolding optional on_then_else_ onward
-optional-given {A} k m ws rest x e = go (eqb (peek ws .kind) k) e
-  where
-    inner : (r : Read A) → onward r (λ a. pure (some a)) ≡ got x rest → given x ≡ true
-    inner (got a more) d = let y : some a ≡ x = cc in ap given (sym y)
-    inner (fault n w) d = no-got d
-
-    outer : (r : Read Word) → onward r (λ _. (_>>=_ m (λ a. pure (some a)))) ≡ got x rest → given x ≡ true
-    outer (got w more) d = inner (m more) d
-    outer (fault n w) d = no-got d
-
-    go : (t : Bool) → (if t then (_>>_ pass (_>>=_ m (λ a. pure (some a)))) else pure none) ws ≡ got x rest → given x ≡ t
-    go true d = outer (pass ws) d
-    go false d = let y : none ≡ x = cc in ap given (sym y)
-
-numbered-ok : (w : Word) (t : Option Word) (seen : List ℕ) (ws rest : List Word) (o : Operation)
-    → numbered w t (firstOf (given t) (eqb (peek ws .kind) twice)) (ofKind (firstOf (given t) (eqb (peek ws .kind) twice)) seen) ws ≡ got o rest → OfKind o
+numbered-ok : (w : Word) (seen : List ℕ) (ws rest : List Word) (o : Operation) → isFull (kindAhead ws) seen ≡ false → numbered w seen ws ≡ got o rest → OfKind o
 unfolding numbered onward
-numbered-ok w t seen ws rest o e = go (ltb n 256) refl e
+numbered-ok w seen ws rest o u e = outer (aParameter ws) refl e
   where
-    b : ℕ
-    b = firstOf (given t) (eqb (peek ws .kind) twice)
+    made : Option Word → Option Word → Operation
+    made t g = let b = firstOf (given t) (given g) in record { operation = w; takes = t; gives = g; instruction = b + ofKind b seen }
 
-    n : ℕ
-    n = ofKind b seen
+    made-ok : (t g : Option Word) → ofKind (firstOf (given t) (given g)) seen < 256 → OfKind (made t g)
+    made-ok t g h = record { low = omega arith; high = omega arith }
 
-    made : Option Word → Operation
-    made g = record { operation = w; takes = t; gives = g; instruction = b + n }
+    inner : (t : Option Word) (vs : List Word) → aParameter ws ≡ got t vs → (r : Read (Option Word)) → optional twice aName vs ≡ r
+        → onward r (λ g. pure (made t g)) ≡ got o rest → OfKind o
+    inner t vs c (got g more) d e₁ =
+        let x : made t g ≡ o = cc in rw x at (made-ok t g (room-left seen (kindAhead ws) (firstOf (given t) (given g)) (kinds-read ws vs more t g c d) u))
+    inner t vs c (fault m v) d e₁ = no-got e₁
 
-    made-ok : (g : Option Word) → n < 256 → given g ≡ eqb (peek ws .kind) twice → OfKind (made g)
-    made-ok g h d = record { low = rw d (omega arith); high = rw d (omega arith) }
-
-    inner : (r : Read (Option Word)) → optional twice aName ws ≡ r → n < 256 → onward r (λ g. pure (made g)) ≡ got o rest → OfKind o
-    inner (got g more) d h e₁ = let x : made g ≡ o = cc in rw x at (made-ok g h (optional-given twice aName ws more g d))
-    inner (fault m v) d h e₁ = no-got e₁
-
-    go : (u : Bool) → ltb n 256 ≡ u → (if u then (_>>=_ (optional twice aName) (λ g. pure (made g))) else (λ _. fault 9 w)) ws ≡ got o rest → OfKind o
-    go true u e₁ = inner (optional twice aName ws) refl (ltb-true n 256 u) e₁
-    go false u e₁ = no-got e₁
+    outer : (r : Read (Option Word)) → aParameter ws ≡ r → onward r (λ t. (_>>=_ (optional twice aName) (λ g. pure (made t g)))) ≡ got o rest → OfKind o
+    outer (got t vs) d e₁ = inner t vs d (optional twice aName vs) refl e₁
+    outer (fault m v) d e₁ = no-got e₁
 
 operation-ok : (left : ℕ) (seen : List ℕ) → Gives OfKind (anOperation left seen)
 unfolding anOperation
-operation-ok left seen =
-    bind OfKind Any (oneName left) _ (any (oneName left)) (λ w _.
-    bind OfKind Any aParameter _ (any aParameter) (λ t _.
-    λ ws o rest e. numbered-ok w t seen ws rest o e))
+operation-ok left seen = bind OfKind Any (oneName left) _ (any (oneName left)) (λ w _ ws o rest e. go w ws o rest (isFull (kindAhead ws) seen) refl e)
+  where
+    go : (w : Word) (ws : List Word) (o : Operation) (rest : List Word) (t : Bool) → isFull (kindAhead ws) seen ≡ t
+        → (if t then (λ _. fault 9 w) else numbered w seen) ws ≡ got o rest → OfKind o
+    go w ws o rest true u e = no-got e
+    go w ws o rest false u e = numbered-ok w seen ws rest o u e
 
 operations-ok : (k left : ℕ) (seen : List ℕ) → Gives (Each OfKind) (someOperations k left seen)
 unfolding someOperations Each

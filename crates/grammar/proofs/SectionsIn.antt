@@ -7,13 +7,14 @@ use Prim.Native.Char.{code}
 use Prim.Native.Nat.{ℕ, zero, suc, _+_, _-_, _<_, _≤_, max}
 use lib.Dec.{eqb, ltb}
 use lib.ListN.{length}
-use borrow.Author.Tests.{ltb-true, ltb-false, eq-eqb, ne-eqb}
+use borrow.Author.Tests.{ltb-false, eq-eqb, ne-eqb}
 use native.Mathlib.Omega.{arith}
 use Rattle.base.specs.Common.{if_then_else_, given}
 use Rattle.grammar.specs.Derived.{Took, Not, SpellingIn, no-strings, no-spelling, a-spelling, CountIn, a-number, counted, EntryIn, an-entry, EntriesIn, last-entry, more-entries, GivesIn, gives-none, gives-some, TakesIn, takes-none, takes-some, OperationIn, an-operation, OperationsIn, last-operation, more-operations, ListedIn, listed-in, SectionIn, inputs-in, both-in, outputs-in, errors-in, values-in, operations-in, SectionsIn, no-section, more-sections, namesIn, namesInAll}
 use Rattle.grammar.proofs.Laws.{From, no-got, bind, next, gives, refuses, either, on-kind, weaken, passes, expects, a-name, Named, one-name}
+use Rattle.syntax.proofs.Ahead.{kind-read, room-left}
 use Rattle.syntax.specs.Reading.{got, fault, onward, _>>=_, _>>_, pure, peek, pass, refuse, over, on_then_else_, expect, aName, oneName, small, aNumber, optional}
-use Rattle.syntax.specs.Sections.{aSpelling, aCount, anEntry, entries, firstOf, ofKind, aParameter, numbered, anOperation, someOperations, Sofar, after, tokenSection, aSection, Sections, someSections}
+use Rattle.syntax.specs.Sections.{aSpelling, aCount, anEntry, entries, firstOf, kindAhead, isFull, aParameter, numbered, anOperation, someOperations, Sofar, after, tokenSection, aSection, Sections, someSections}
 use Rattle.syntax.specs.Written.{Entry, Operation, Section, inputs, outputs, both, errors, values, operations}
 use Rattle.words.specs.Words.{Word, twice, number, string, input, output, error, type, mechanism, rules, value}
 
@@ -124,6 +125,10 @@ gives-in =
     on-kind twice _ _ (λ d. next pass _ (passes 256 refl d) (λ ws₁ sign t. bind aName _ a-name (λ ws₂ w u. gives (some w) (gives-some t u))))
     (λ n. gives none (gives-none n refl))
 
+-- the operation is of the kind that was seen ahead
+kind-in : {ws : List Word} → From ws aParameter (λ rest t. TakesIn ws rest t × (kindAhead ws ≡ some (firstOf (given t) (eqb (peek rest .kind) twice))))
+kind-in {ws} = record { holds = λ rest t e. (takes-in .holds rest t e, kind-read ws rest t e) }
+
 -- the type is there exactly if `>>` is
 given-in : {ws rest : List Word} {g : Option Word} → GivesIn ws rest g → given g ≡ eqb (peek ws .kind) twice
 given-in {ws} (gives-none n d) = sym (ne-eqb (peek ws .kind) 256 n)
@@ -135,29 +140,20 @@ record OneOperation (seen : List ℕ) (left : ℕ) (ws rest : List Word) (o : Op
   pub some-left : 0 < left
 
 -- the instruction number, by the kind
-numbered-from : {ws ws₁ ws₂ ws₃ : List Word} {w : Word} {t g : Option Word} {left b : ℕ} (seen : List ℕ) → Named left ws ws₁ w → TakesIn ws₁ ws₂ t → GivesIn ws₂ ws₃ g
-    → b ≡ firstOf (given t) (eqb (peek ws₂ .kind) twice) → ofKind b seen < 256
-    → OneOperation seen left ws ws₃ (record { operation = w; takes = t; gives = g; instruction = b + ofKind b seen })
-numbered-from {t = t} {g = g} {b = b} seen x y z d h =
-    let same : b ≡ firstOf (given t) (given g) = d ∙ ap (firstOf (given t)) (sym (given-in z)) in
-    record
-    { operation = an-operation (x .word) y z (ap (λ c. c + ofKind c seen) same) (rw same at (let u : ofKind b seen ≤ 255 = omega arith in u)); some-left = x .some-left }
-
-numbered-in : {ws ws₁ ws₂ : List Word} {w : Word} {t : Option Word} {left : ℕ} (seen : List ℕ) (b : ℕ) → Named left ws ws₁ w → TakesIn ws₁ ws₂ t
-    → b ≡ firstOf (given t) (eqb (peek ws₂ .kind) twice) → From ws₂ (numbered w t b (ofKind b seen)) (λ rest o. OneOperation seen left ws rest o)
+numbered-in : {ws ws₁ : List Word} {w : Word} {left : ℕ} (seen : List ℕ) → Named left ws ws₁ w → isFull (kindAhead ws₁) seen ≡ false
+    → From ws₁ (numbered w seen) (λ rest o. OneOperation seen left ws rest o)
 unfolding numbered
-numbered-in {w = w} {t = t} seen b x y d =
-    either (ltb (ofKind b seen) 256) _ (λ _. fault 9 w)
-    (λ u. bind (optional twice aName) _ gives-in (λ ws₃ g z.
-    gives (record { operation = w; takes = t; gives = g; instruction = b + ofKind b seen }) (numbered-from seen x y z d (ltb-true (ofKind b seen) 256 u))))
-    (λ _. record { holds = λ rest o e. no-got e })
+numbered-in {ws} {ws₁} {w} seen x u =
+    bind aParameter _ kind-in (λ ws₂ t y.
+    bind (optional twice aName) _ gives-in (λ ws₃ g z.
+    let d = room-left seen (kindAhead ws₁) (firstOf (given t) (given g)) (y .1 ∙ ap (λ c. some (firstOf (given t) c)) (sym (given-in z))) u in
+    gives _ (record { operation = an-operation (x .word) (y .0) z refl (omega arith); some-left = x .some-left })))
 
 operation-in : {ws : List Word} (left : ℕ) (seen : List ℕ) → From ws (anOperation left seen) (λ rest o. OneOperation seen left ws rest o)
 unfolding anOperation
 operation-in left seen =
     bind (oneName left) _ (one-name left) (λ ws₁ w x.
-    bind aParameter _ takes-in (λ ws₂ t y.
-    record { holds = numbered-in seen _ x y refl .holds }))
+    record { holds = either (isFull (kindAhead ws₁) seen) (λ _. fault 9 w) (numbered w seen) (λ _. record { holds = λ rest o e. no-got e }) (λ u. numbered-in seen x u) .holds })
 
 -- operations and how many
 record SomeOperations (seen : List ℕ) (left : ℕ) (ws rest : List Word) (os : List Operation) : Type 0 where

@@ -24,7 +24,7 @@ use Rattle.program.specs.Table.{sizeRules, table}
 use Rattle.syntax.specs.Actions.{aConstant, aValue, aPlain, aSelector, aLabel, someLabels, closes, aCycle, aChoice, anAction, anOtherwise, anAlternative, actions, alternatives}
 use Rattle.syntax.specs.Parse.{aRule, someRules, program, parse, endOf}
 use Rattle.syntax.specs.Reading.{Read, got, fault, Reader, onward, _>>=_, _>>_, pure, peek, pass, refuse, over, within, on_then_else_, expect, short, aName, oneName, nameOrString, small, aNumber, optional}
-use Rattle.syntax.specs.Sections.{aSpelling, aCount, anEntry, entries, aParameter, numbered, anOperation, someOperations, Sofar, nothing, after as afterSection, tokenSection, aSection, Sections, someSections}
+use Rattle.syntax.specs.Sections.{aSpelling, aCount, anEntry, entries, kindAhead, isFull, aParameter, numbered, anOperation, someOperations, Sofar, nothing, after as afterSection, tokenSection, aSection, Sections, someSections}
 use Rattle.syntax.specs.Written as written
 use Rattle.syntax.specs.Written.{Act, Acts, Alts, Other, Choices, Constant, Entry, Operation, Section, inputs, outputs, both, errors, values, operations, Program}
 use Rattle.words.specs.Words.{Word, words, bad, last, twice, name, number, string, input, output, error, type, mechanism, rules, end, value}
@@ -240,14 +240,14 @@ parameters : Tells aParameter
 unfolding aParameter
 parameters = on-kind (code "(") _ _ (after pass _ passes (bind aName _ names (λ t. after (expect (code ")")) _ (expects (code ")")) (gives (some t))))) (gives none)
 
-all-numbered : (w : Word) (t : Option Word) (b n : ℕ) → Tells (numbered w t b n)
+all-numbered : (w : Word) (seen : List ℕ) → Tells (numbered w seen)
 unfolding numbered
-all-numbered w t b n ws = choose (ltb n 256) _ _ (bind (optional twice aName) _ (optionals twice aName names) (λ g. gives _)) (λ vs. refuses {n = 9} (λ e. omega arith)) ws
+all-numbered w seen = bind aParameter _ parameters (λ t. bind (optional twice aName) _ (optionals twice aName names) (λ g. gives _))
 
 an-operation : (left : ℕ) (seen : List ℕ) → Tells (anOperation left seen)
 unfolding anOperation
 an-operation left seen =
-    bind (oneName left) _ (one-name left) (λ w. bind aParameter _ parameters (λ t ws. all-numbered w t _ _ ws))
+    bind (oneName left) _ (one-name left) (λ w ws. choose (isFull (kindAhead ws) seen) _ _ (λ vs. refuses {n = 9} (λ e. omega arith)) (all-numbered w seen) ws)
 
 all-operations : (k left : ℕ) (seen : List ℕ) → Tells (someOperations k left seen)
 unfolding someOperations

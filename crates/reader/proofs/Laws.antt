@@ -198,6 +198,17 @@ pub goes-with : {A B : Type 0} {P : A → Type 0} {Q : B → Type 0} {m : Read A
     → Brings P m text r → r .fault ≡ 0 → ((a : A) → P a → Brings Q (f a (wordsAt text (r .at))) text s) → Brings Q (onward m f) text s
 goes-with {Q = Q} {m} f {text} {r} {s} b h g = then-with Q m f text (wordsAt text (r .at)) s (b .tells .same ∙ says-on text r h) (b .holds) g
 
+-- the same with all that is known of what was read
+then-is : {A B : Type 0} (Q : B → Type 0) (m : Read A) (f : A → Reader B) (text : List ℕ) (ws : List Word) (s : Out)
+    → told m ≡ went ws → ((a : A) → m ≡ got a ws → Brings Q (f a ws) text s) → Brings Q (onward m f) text s
+unfolding onward
+then-is Q (got a vs) f text ws s e h = let same : vs ≡ ws = cc in rw same (h a (rw same refl))
+then-is Q (fault n w) f text ws s e h = let y : _≡_ {A = ℕ} 0 1 = cc in absurd (omega arith)
+
+pub goes-as : {A B : Type 0} {Q : B → Type 0} {m : Read A} (f : A → Reader B) {text : List ℕ} {r s : Out}
+    → Tells m text r → r .fault ≡ 0 → ((a : A) → m ≡ got a (wordsAt text (r .at)) → Brings Q (f a (wordsAt text (r .at))) text s) → Brings Q (onward m f) text s
+goes-as {Q = Q} {m} f {text} {r} {s} e h g = then-is Q m f text (wordsAt text (r .at)) s (e .same ∙ says-on text r h) g
+
 -- a fault has no value
 no-value : {A : Type 0} (P : A → Type 0) (m : Read A) (n s l : ℕ) → told m ≡ failed n s l → Holds P m
 no-value P (got a vs) n s l e = let y : _≡_ {A = ℕ} 0 1 = cc in absurd (omega arith)
@@ -228,6 +239,15 @@ made (fault n w) f void g = void
 pub ends-with : {A B : Type 0} {P : A → Type 0} {Q : B → Type 0} {m : Read A} (f : A → B) {text : List ℕ} {r : Out}
     → Brings P m text r → ((a : A) → P a → Q (f a)) → Brings Q (onward m (λ a ws. got (f a) ws)) text r
 ends-with {m = m} f b g = record { tells = ends f (b .tells); holds = made m f (b .holds) g }
+
+made-as : {A B : Type 0} {Q : B → Type 0} (m : Read A) (f : A → B) → ((a : A) (ws : List Word) → m ≡ got a ws → Q (f a)) → Holds Q (onward m (λ a ws. got (f a) ws))
+unfolding onward
+made-as (got a ws) f g = held (g a ws refl)
+made-as (fault n w) f g = void
+
+pub ends-as : {A B : Type 0} {Q : B → Type 0} {m : Read A} (f : A → B) {text : List ℕ} {r : Out}
+    → Tells m text r → ((a : A) (ws : List Word) → m ≡ got a ws → Q (f a)) → Brings Q (onward m (λ a ws. got (f a) ws)) text r
+ends-as {m = m} f e g = record { tells = ends f e; holds = made-as m f g }
 
 pub gives-with : {A : Type 0} {P : A → Type 0} {a : A} {text : List ℕ} {r : Out} → r .fault ≡ 0 → P a → Brings P (got a (wordsAt text (r .at))) text r
 gives-with e p = record { tells = gives e; holds = held p }

@@ -1,26 +1,28 @@
 -- Laws of sections and operations, for the proofs of the code.
-use mathlib.Core.Bool.{Bool, true, false}
+use mathlib.Core.Bool.{Bool, true, false, _&&_}
 use mathlib.Core.List.{List, [], _∷_, _++_}
-use mathlib.Core.Option.{Option}
-use mathlib.Core.Path.{_≡_, refl, sym, _∙_}
-use Prim.Native.Nat.{ℕ, _+_, _*_, _-_, _≤_, _<_, max, min}
+use mathlib.Core.Option.{Option, none, some}
+use mathlib.Core.Path.{_≡_, refl, sym, ap, _∙_}
+use Prim.Native.Nat.{ℕ, suc, _+_, _*_, _-_, _≤_, _<_, max, min}
 use native.Mathlib.Nat.{zero-add}
 use native.Mathlib.Numerals.{add-one}
 use native.Mathlib.Omega.{arith}
-use lib.Dec.{eqb}
+use lib.Dec.{eqb, leb}
 use lib.ListN.{length, getD, take, drop, drop-of-length-le, length-drop, length-take}
 use lib.Seq.{drop-cons, getD-drop, getD-take}
-use borrow.Author.Tests.{ne-eqb, lt-leb, le-leb, lt-ltb, le-ltb, eq-eqb}
-use Rattle.base.specs.Common.{given}
-use Rattle.reader.proofs.Laws.{any-value, at-word, ends-with, faults, gives-with, no, no-with, overs, passes-with, says-off, says-on, shorts, word-length, yes-with, one-or-two-not, refuses}
+use borrow.Author.Tests.{leb-false, ne-eqb, lt-leb, le-leb, lt-ltb, le-ltb, eq-eqb}
+use Rattle.base.specs.Common.{if_then_else_, given}
+use Rattle.reader.proofs.Laws.{at-word, ends-as, ends-with, faults, faulty, goes-as, stops, gives-with, no, no-with, overs, passes-with, says-off, says-on, shorts, word-length, yes-with, one-or-two-not, refuses}
 use Rattle.reader.specs.Answers.{Brings, Faulty, Here, Holds, Tells, failed, held, told, void, went, refusal}
-use Rattle.reader.specs.Counting.{Adds, Decides, Kinds, countOf, listed, oneMore, wrong, Entered, Operated, Keeps, ending, fine}
+use Rattle.reader.specs.Counting.{Adds, Decides, Kinds, countOf, toldKind, fullIn, listed, oneMore, wrong, Entered, Operated, Keeps, ending, fine}
 use Rattle.scanner.specs.Next.{asWord}
+use Rattle.syntax.proofs.Ahead.{kind-read, kinds-read}
 use Rattle.syntax.specs.Parse.{parse, endOf, program, someRules}
 use Rattle.syntax.specs.Reading.{Read, Reader, aName, aNumber, expect, fault, got, onward, optional, pass, peek, short, small, within, on_then_else_, oneName}
-use Rattle.syntax.specs.Sections.{aCount, entries, firstOf, nextOf, numbered, ofKind, after, instructions, nothing, Sofar, someOperations}
+use Rattle.syntax.specs.Sections.{aCount, entries, firstOf, nextOf, kindAt, kindAhead, isFull, aParameter, numbered, ofKind, after, instructions, nothing, Sofar, someOperations}
 use Rattle.syntax.specs.Written.{Entry, Section, both, Operation, errors, inputs, operations, outputs, values}
 use Rattle.words.specs.Words.{Word, wordsAt, value, words}
+use Rattle.reader.specs.declared.Ahead.{Ahead}
 use Rattle.reader.specs.declared.State.{State}
 use Rattle.reader.specs.declared.Out.{Out}
 use Rattle.reader.specs.declared.Seen.{Seen}
@@ -213,41 +215,116 @@ kinds-then is js s t k a = record {
   both = omega (arith, kind-append 1024 is js);
 }
 
-pub numbered-over : (name : Word) (t : Option Word) (b n : ℕ) {text : List ℕ} (ws : List Word) {w : WordAt} {r : Out} → 256 ≤ n → name ≡ asWord text w
-    → w .start + w .len ≤ length text → Faulty 9 w r → Tells (numbered name t b n ws) text r
-unfolding numbered
-numbered-over name t b n {text} ws {w} h e i f = rw (le-ltb n 256 h, e) (at-word 9 (omega arith) i f)
+-- the kind that was seen ahead
+told-known : (a : Ahead) (b : ℕ) → toldKind a ≡ some b → a .known ≡ true
+unfolding toldKind
+told-known a b e = go (a .known) e
+  where
+    go : (t : Bool) → (if t then some (firstOf (a .takes) (a .gives)) else none) ≡ some b → t ≡ true
+    go true d = refl
+    go false d = let y : _≡_ {A = ℕ} 0 1 = cc in absurd (omega arith)
 
-pub numbered-got : (name : Word) (t : Option Word) (b n : ℕ) {text : List ℕ} (ws : List Word) {r : Out} → n < 256 → Tells (optional 256 aName ws) text r
-    → Brings (λ (o : Operation). o .instruction ≡ b + n) (numbered name t b n ws) text r
-unfolding numbered
-numbered-got name t b n ws h e = rw (lt-ltb n 256 h) (ends-with _ (any-value e) (λ g _. refl))
+told-as : (a : Ahead) (b : ℕ) → toldKind a ≡ some b → firstOf (a .takes) (a .gives) ≡ b
+unfolding toldKind
+told-as a b e = let d : some (firstOf (a .takes) (a .gives)) ≡ some b = rw (told-known a b e) at e in cc
 
--- what the kind of the next word is
-pub that-kind : {text : List ℕ} {at : ℕ} {w : WordAt} (k : ℕ) → Here text at w → w .kind ≡ k → eqb (peek (wordsAt text at) .kind) k ≡ true
-that-kind {w = w} k n e = rw (n .head) (eq-eqb (w .kind) k e)
+full-is : (is : List ℕ) (s : Seen) (a : Ahead) → Kinds is s → fullIn s a ≡ isFull (toldKind a) is
+unfolding fullIn toldKind isFull
+full-is is s a k = go (a .known)
+  where
+    go : (t : Bool) → (if t then leb 256 (countOf s (a .takes) (a .gives)) else false) ≡ isFull (if t then some (firstOf (a .takes) (a .gives)) else none) is
+    go true = rw (count-is is s (a .takes) (a .gives) k) refl
+    go false = refl
 
-pub other-kind : {text : List ℕ} {at : ℕ} {w : WordAt} (k : ℕ) → Here text at w → (w .kind ≡ k → ⊥) → eqb (peek (wordsAt text at) .kind) k ≡ false
-other-kind {w = w} k n e = rw (n .head) (ne-eqb (w .kind) k e)
+room-in : (s : Seen) (a : Ahead) → a .known ≡ true → fullIn s a ≡ false → countOf s (a .takes) (a .gives) < 256
+unfolding fullIn
+room-in s a e u = leb-false 256 (countOf s (a .takes) (a .gives)) (rw e at u)
+
+-- a parameter was read: the kind is known, and not full
+pub room-read : (s : Seen) (a : Ahead) {text : List ℕ} (at : ℕ) {r : Out} → toldKind a ≡ kindAhead (wordsAt text at) → fullIn s a ≡ false
+    → Tells (aParameter (wordsAt text at)) text r → r .fault ≡ 0 → countOf s (a .takes) (a .gives) < 256
+room-read s a {text} at {r} d u e h = go (aParameter (wordsAt text at)) refl (e .same ∙ says-on text r h)
+  where
+    go : (m : Read (Option Word)) → aParameter (wordsAt text at) ≡ m → told m ≡ went (wordsAt text (r .at)) → countOf s (a .takes) (a .gives) < 256
+    go (got t vs) q z = room-in s a (told-known a _ (d ∙ kind-read (wordsAt text at) vs t q)) u
+    go (fault n w) q z = let y : _≡_ {A = ℕ} 0 1 = cc in absurd (omega arith)
 
 -- an operation past the 256 of its kind, or the next one
-pub numbers-over : (name : Word) (t : Option Word) (is : List ℕ) {text : List ℕ} {at : ℕ} {g w : WordAt} (takes : Bool) (seen : Seen) (n : ℕ) {r : Out}
-    → Here text at g → given t ≡ takes → Kinds is seen → n ≡ countOf seen takes (eqb (g .kind) 256) → 256 ≤ n → name ≡ asWord text w
-    → w .start + w .len ≤ length text → Faulty 9 w r
-    → Tells (numbered name t (firstOf (given t) (eqb (peek (wordsAt text at) .kind) 256)) (ofKind (firstOf (given t) (eqb (peek (wordsAt text at) .kind) 256)) is) (wordsAt text at)) text r
-numbers-over name t is {text} {at} {g} takes seen n h e k f b d i v =
-    rw (e, h .head) (numbered-over name t (firstOf takes (eqb (g .kind) 256)) (ofKind (firstOf takes (eqb (g .kind) 256)) is) (wordsAt text at)
-    (omega (arith, count-is is seen takes (eqb (g .kind) 256) k)) d i v)
+pub operation-over : (name : Word) (is : List ℕ) (s : Seen) (a : Ahead) {text : List ℕ} (at : ℕ) {w : WordAt} {r : Out} → Kinds is s
+    → toldKind a ≡ kindAhead (wordsAt text at) → fullIn s a ≡ true → name ≡ asWord text w → w .start + w .len ≤ length text → Faulty 9 w r
+    → Tells ((if isFull (kindAhead (wordsAt text at)) is then (λ _. fault 9 name) else numbered name is) (wordsAt text at)) text r
+operation-over name is s a at k d u e i f = rw (← d, ← full-is is s a k, u, e) (at-word 9 (omega arith) i f)
 
-pub numbers-got : (name : Word) (t : Option Word) (is : List ℕ) {text : List ℕ} {at : ℕ} {g : WordAt} (takes : Bool) (seen after : Seen) (n : ℕ) {r : Out}
-    → Here text at g → given t ≡ takes → Kinds is seen → n ≡ countOf seen takes (eqb (g .kind) 256) → n < 256 → after ≡ oneMore seen takes (eqb (g .kind) 256)
-    → Tells (optional 256 aName (wordsAt text at)) text r
-    → Brings (λ (o : Operation). Adds (o .instruction ∷ []) seen after)
-    (numbered name t (firstOf (given t) (eqb (peek (wordsAt text at) .kind) 256)) (ofKind (firstOf (given t) (eqb (peek (wordsAt text at) .kind) 256)) is) (wordsAt text at)) text r
-numbers-got name t is {text} {at} {g} takes seen after n h e k f b d v =
-    let c = count-is is seen takes (eqb (g .kind) 256) k in
-    rw (e, h .head) (so (numbered-got name t (firstOf takes (eqb (g .kind) 256)) (ofKind (firstOf takes (eqb (g .kind) 256)) is) (wordsAt text at) (omega (arith, c)) v)
-    (λ o z. rw (z, d) (adds-one seen takes (eqb (g .kind) 256) (ofKind (firstOf takes (eqb (g .kind) 256)) is) (omega (arith, c)))))
+pub operation-rest : {P : Operation → Type 0} (name : Word) (is : List ℕ) (s : Seen) (a : Ahead) {text : List ℕ} (at : ℕ) {r : Out} → Kinds is s
+    → toldKind a ≡ kindAhead (wordsAt text at) → fullIn s a ≡ false → Brings P (numbered name is (wordsAt text at)) text r
+    → Brings P ((if isFull (kindAhead (wordsAt text at)) is then (λ _. fault 9 name) else numbered name is) (wordsAt text at)) text r
+operation-rest name is s a at k d u b = rw (← d, ← full-is is s a k, u) b
+
+one-added : (is : List ℕ) (s t : Seen) (a : Ahead) (b : ℕ) → Kinds is s → fullIn s a ≡ false → toldKind a ≡ some b → t ≡ oneMore s (a .takes) (a .gives)
+    → Adds ((b + ofKind b is) ∷ []) s t
+one-added is s t a b k u d e =
+    let h = room-in s a (told-known a b d) u in
+    rw (← told-as a b d, e) (adds-one s (a .takes) (a .gives) (ofKind (firstOf (a .takes) (a .gives)) is) (omega (arith, h, count-is is s (a .takes) (a .gives) k)))
+
+pub numbered-got : (name : Word) (is : List ℕ) (s after : Seen) (a : Ahead) {text : List ℕ} (at : ℕ) {t r : Out} → Kinds is s
+    → toldKind a ≡ kindAhead (wordsAt text at) → fullIn s a ≡ false → after ≡ oneMore s (a .takes) (a .gives)
+    → Tells (aParameter (wordsAt text at)) text t → t .fault ≡ 0 → Tells (optional 256 aName (wordsAt text (t .at))) text r
+    → Brings (λ (o : Operation). Adds (o .instruction ∷ []) s after) (numbered name is (wordsAt text at)) text r
+unfolding numbered
+numbered-got name is s after a {text} at {t} k d u m e h v =
+    goes-as _ e h (λ x q. ends-as _ v (λ y ws z. one-added is s after a (firstOf (given x) (given y)) k u (d ∙ kinds-read (wordsAt text at) (wordsAt text (t .at)) ws x y q z) m))
+
+pub numbered-stops : {P : Operation → Type 0} (name : Word) (is : List ℕ) {text : List ℕ} (at : ℕ) {t : Out} → Tells (aParameter (wordsAt text at)) text t → (t .fault ≡ 0 → ⊥)
+    → Brings P (numbered name is (wordsAt text at)) text t
+unfolding numbered
+numbered-stops name is at e h = faulty (stops _ e h) h
+
+-- what the words ahead tell
+ahead-by : (ws : List Word) (p t c g : ℕ) → kindAt 0 ws ≡ p → kindAt 1 ws ≡ t → kindAt 2 ws ≡ c → kindAt 3 ws ≡ g
+    → kindAhead ws ≡ (if eqb p 40 then (if eqb t 257 && eqb c 41 then some (firstOf true (eqb g 256)) else none) else some (firstOf false (eqb p 256)))
+unfolding kindAhead
+ahead-by ws p t c g d e f h = rw (← d, ← e, ← f, ← h) refl
+
+kind-here : {text : List ℕ} {at : ℕ} {w : WordAt} → Here text at w → kindAt 0 (wordsAt text at) ≡ w .kind
+unfolding kindAt
+kind-here n = ap (λ (w : Word). w .kind) (n .head)
+
+kind-next : {text : List ℕ} {at : ℕ} {w : WordAt} (i : ℕ) → Here text at w → 2 ≤ w .kind → kindAt (suc i) (wordsAt text at) ≡ kindAt i (wordsAt text (w .next))
+unfolding kindAt
+kind-next i n h = rw (n .more h) refl
+
+pub ahead-plain : {text : List ℕ} {at : ℕ} {p : WordAt} → Here text at p → (p .kind ≡ 40 → ⊥) → some (firstOf false (eqb (p .kind) 256)) ≡ kindAhead (wordsAt text at)
+ahead-plain {text} {at} {p} n e = rw (ahead-by (wordsAt text at) (p .kind) _ _ _ (kind-here n) refl refl refl, ne-eqb (p .kind) 40 e) refl
+
+pub ahead-open : {text : List ℕ} {at : ℕ} {p t : WordAt} → Here text at p → p .kind ≡ 40 → Here text (p .next) t → (t .kind ≡ 257 → ⊥) → none ≡ kindAhead (wordsAt text at)
+ahead-open {text} {at} {p} {t} n e m f =
+    rw (ahead-by (wordsAt text at) (p .kind) (t .kind) _ _ (kind-here n) (kind-next 0 n (omega arith) ∙ kind-here m) refl refl, eq-eqb (p .kind) 40 e, ne-eqb (t .kind) 257 f) refl
+
+-- the third word behind the name
+third : {text : List ℕ} {at : ℕ} {p t c : WordAt} → Here text at p → p .kind ≡ 40 → Here text (p .next) t → t .kind ≡ 257 → Here text (t .next) c
+    → kindAt 2 (wordsAt text at) ≡ c .kind
+third n e m f o = kind-next 1 n (omega arith) ∙ kind-next 0 m (omega arith) ∙ kind-here o
+
+pub ahead-unclosed : {text : List ℕ} {at : ℕ} {p t c : WordAt} → Here text at p → p .kind ≡ 40 → Here text (p .next) t → t .kind ≡ 257 → Here text (t .next) c → (c .kind ≡ 41 → ⊥)
+    → none ≡ kindAhead (wordsAt text at)
+ahead-unclosed {text} {at} {p} {t} {c} n e m f o h =
+    rw (
+      ahead-by (wordsAt text at) (p .kind) (t .kind) (c .kind) _ (kind-here n) (kind-next 0 n (omega arith) ∙ kind-here m) (third n e m f o) refl,
+      eq-eqb (p .kind) 40 e,
+      eq-eqb (t .kind) 257 f,
+      ne-eqb (c .kind) 41 h,
+    ) refl
+
+pub ahead-taking : {text : List ℕ} {at : ℕ} {p t c g : WordAt} → Here text at p → p .kind ≡ 40 → Here text (p .next) t → t .kind ≡ 257 → Here text (t .next) c → c .kind ≡ 41
+    → Here text (c .next) g → some (firstOf true (eqb (g .kind) 256)) ≡ kindAhead (wordsAt text at)
+ahead-taking {text} {at} {p} {t} {c} {g} n e m f o h q =
+    rw (
+      ahead-by (wordsAt text at) (p .kind) (t .kind) (c .kind) (g .kind) (kind-here n) (kind-next 0 n (omega arith) ∙ kind-here m) (third n e m f o)
+          (kind-next 2 n (omega arith) ∙ kind-next 1 m (omega arith) ∙ kind-next 0 o (omega arith) ∙ kind-here q),
+      eq-eqb (p .kind) 40 e,
+      eq-eqb (t .kind) 257 f,
+      eq-eqb (c .kind) 41 h,
+    ) refl
 
 pub operated-one : (left : ℕ) (s t : Seen) (o : Operation) (os : List Operation) → Adds (o .instruction ∷ []) s t → os ≡ [] → Operated left (left - 1) s t (o ∷ os)
 unfolding instructions

@@ -2,32 +2,25 @@
 use mathlib.Core.Path.{_≡_}
 use mathlib.Core.Bool.{Bool, true, false}
 use mathlib.Core.List.{List, [], _∷_}
-use mathlib.Core.Option.{Option}
+use mathlib.Core.Option.{Option, none, some}
 use Prim.Native.Char.{code}
 use Prim.Native.Nat.{ℕ, _+_, _-_, _≤_, _<_}
-use lib.Dec.{eqb}
+use lib.Dec.{leb}
 use lib.ListN.{length}
-use Rattle.base.specs.Common.{given}
+use Rattle.base.specs.Common.{if_then_else_}
 use Rattle.reader.specs.Answers.{Tells, Brings, Reads, Moves, Yields}
 use Rattle.reader.specs.declared.Added.{Added}
+use Rattle.reader.specs.declared.Ahead.{Ahead}
 use Rattle.reader.specs.declared.Sectioned.{Sectioned}
 use Rattle.reader.specs.declared.Out.{Out}
 use Rattle.reader.specs.declared.Seen.{Seen}
 use Rattle.reader.specs.declared.State.{State}
 use Rattle.reader.specs.declared.Valued.{Valued}
-use Rattle.scanner.specs.Next.{asWord}
-use Rattle.scanner.specs.declared.WordAt.{WordAt}
 use Rattle.syntax.specs.Parse.{aRule, parse}
 use Rattle.syntax.specs.Reading.{Read, got, fault, Reader, onward, _>>=_, _>>_, pure, peek, expect, aName, oneName, aNumber}
-use Rattle.syntax.specs.Sections.{aSpelling, anEntry, entries, ofKind, firstOf, aParameter, numbered, anOperation, someOperations, Sofar, nextOf, instructions, after, Sections, someSections}
+use Rattle.syntax.specs.Sections.{aSpelling, anEntry, entries, ofKind, firstOf, anOperation, someOperations, Sofar, nextOf, instructions, after, Sections, someSections}
 use Rattle.syntax.specs.Written.{Entry, Operation, Section, outputs, errors, values, operations}
-use Rattle.words.specs.Words.{Word, wordsAt, twice, value, mechanism, end, last}
-
--- what a function that reads from the place `at`, perhaps nothing, promises of the value
-pub record Values {A : Type 0} (P : A → Type 0) (text : List ℕ) (at from : ℕ) (m : ℕ → Reader A) (r : Out) : Type 0 where
-  pub low : at ≤ r .at
-  pub high : r .at ≤ length text
-  pub brings : (k : ℕ) → length text < from + k → Brings P (m k (wordsAt text at)) text r
+use Rattle.words.specs.Words.{Word, wordsAt, value, mechanism, end, last}
 
 -- a name was read where one more may be declared
 pub record OneName (text : List ℕ) (at left : ℕ) (r : Out) : Type 0 where
@@ -93,19 +86,13 @@ pub record Adds (is : List ℕ) (s t : Seen) : Type 0 where
   pub giving : t .giving ≡ s .giving + ofKind 768 is
   pub both : t .both ≡ s .both + ofKind 1024 is
 
--- a parameter, there or not: which of the two the first word says
-pub record AParameter (text : List ℕ) (at : ℕ) (r : Out) : Type 0 where
-  pub values : Values (λ t. given t ≡ eqb (peek (wordsAt text at) .kind) (code "(")) text at at (λ _. aParameter) r
+-- where the kind begins that was seen ahead
+unfoldable pub toldKind : Ahead → Option ℕ
+toldKind a = if a .known then some (firstOf (a .takes) (a .gives)) else none
 
--- the rest of an operation, with its name and whether it takes a parameter
-pub record Numbers (text : List ℕ) (at : ℕ) (w : WordAt) (takes : Bool) (seen : Seen) (r : Added) : Type 0 where
-  pub low : (b : ℕ) → b ≤ w .start → b ≤ at → b ≤ r .out .at
-  pub onto : r .out .fault ≡ 0 → at ≤ r .out .at
-  pub high : r .out .at ≤ length text
-  pub brings : (name : Word) (t : Option Word) (is : List ℕ) → name ≡ asWord text w → given t ≡ takes → Kinds is seen
-      → Brings (λ o. Adds (o .instruction ∷ []) seen (r .seen))
-      (numbered name t (firstOf (given t) (eqb (peek (wordsAt text at) .kind) twice)) (ofKind (firstOf (given t) (eqb (peek (wordsAt text at) .kind) twice)) is) (wordsAt text at))
-      text (r .out)
+-- the kind that was seen ahead is full by the counts
+unfoldable pub fullIn : Seen → Ahead → Bool
+fullIn s a = if a .known then leb 256 (countOf s (a .takes) (a .gives)) else false
 
 pub record AnOperation (text : List ℕ) (at left : ℕ) (seen : Seen) (r : Added) : Type 0 where
   pub low : at ≤ r .out .at

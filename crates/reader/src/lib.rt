@@ -6,11 +6,23 @@ ghost use Rattle.syntax.specs.Actions.{aConstant, aValue, aPlain, aSelector, so
 ghost use Rattle.syntax.specs.Reading.{expect, aName, nameOrString, optional};
 ghost use Rattle.reader.specs.Answers.{Here, Reads, Moves, Yields, Faulty, refusal};
 ghost use Rattle.reader.specs.Parts.{withConstant, oneAction, aLabelled, OneLabel, Leaves, LeavesBoth};
-ghost use Rattle.reader.specs.Counting.{OneName, NumberOf, ANumber, Sure, AnEntry, Entered, listed, AParameter, countOf, oneMore, Numbers, AnOperation, SomeOperations, ASection, outputSection, errorSection, typeSection, mechanismSection, SomeSections, ARule, ending, Decides};
-ghost use Rattle.syntax.specs.Sections.{aSpelling, entries, tokenSection, aSection};
+ghost use Rattle.reader.specs.Counting.{OneName, NumberOf, ANumber, Sure, AnEntry, Entered, listed, countOf, oneMore, toldKind, fullIn, AnOperation, SomeOperations, ASection, outputSection, errorSection, typeSection, mechanismSection, SomeSections, ARule, ending, Decides};
+ghost use Rattle.syntax.specs.Sections.{aSpelling, entries, kindAhead, aParameter, tokenSection, aSection};
 ghost use Rattle.syntax.specs.Parse.{someRules, program, parse};
 ghost use Rattle.words.specs.Words.{words, wordsAt};
 use scanner::WordAt;
+
+// Kinds of words in operation entries: `(`, `)`, `>>`, a name.
+const OPENING: u16 = 40;
+
+const CLOSING: u16 = 41;
+
+const TWICE: u16 = 256;
+
+const NAME: u16 = 257;
+
+// Operations that may stand of a kind.
+const OPERATIONS: usize = 256;
 
 // fault 0: read up to the place `at`. Else the fault's number and its word.
 pub struct Out {
@@ -44,6 +56,13 @@ pub struct Seen {
     pub taking: usize,
     pub giving: usize,
     pub both: usize,
+}
+
+// What the words after an operation's name tell of its kind: whether they do, and if it takes a parameter and gives a value.
+pub struct Ahead {
+    pub known: bool,
+    pub takes: bool,
+    pub gives: bool,
 }
 
 // An operation, and the counts after it.
@@ -650,10 +669,10 @@ fn read_listed(text: &[u8], at: usize, left: usize, strings: bool, v: usize) -> 
 // A parameter's type in parentheses, where there is one.
 fn read_parameter(text: &[u8], at: usize) -> Out
     requires { ⌜ at ≤ length (now text) ⌝ }
-    ensures { λ r. ⌜ AParameter (now (text .entry)) at r ⌝ }
+    ensures { λ r. ⌜ Reads (now (text .entry)) at at (λ _. aParameter) r ⌝ }
 {
     let w = look(text, at);
-    if w.kind != 40 {
+    if w.kind != OPENING {
         return Out {
             fault: 0,
             at,
@@ -664,7 +683,7 @@ fn read_parameter(text: &[u8], at: usize) -> Out
     if r.fault != 0 {
         return r;
     }
-    expect_word(text, r.at, 41)
+    expect_word(text, r.at, CLOSING)
 }
 
 // The type after `>>`, where there is one.
@@ -673,7 +692,7 @@ fn read_gives(text: &[u8], at: usize) -> Out
     ensures { λ r. ⌜ Reads (now (text .entry)) at at (λ _. optional 256 aName) r ⌝ }
 {
     let w = look(text, at);
-    if w.kind != 256 {
+    if w.kind != TWICE {
         return Out {
             fault: 0,
             at,
@@ -738,24 +757,57 @@ pub fn one_more(seen: Seen, takes: bool, gives: bool) -> Seen
     }
 }
 
-// The rest of the operation named w, whose kind is known now.
-fn read_numbered(text: &[u8], at: usize, w: WordAt, takes: bool, seen: Seen) -> Added
-    requires { ⌜ (at ≤ length (now text)) × (w .start + w .len ≤ length (now text)) ⌝ }
-    ensures { λ r. ⌜ Numbers (now (text .entry)) at w takes seen r ⌝ }
+// The kind of an operation, from the kinds of the words after its name alone.
+fn look_ahead(text: &[u8], at: usize) -> Ahead
+    requires { ⌜ at ≤ length (now text) ⌝ }
+    ensures { λ r. ⌜ toldKind r ≡ kindAhead (wordsAt (now (text .entry)) at) ⌝ }
 {
-    let g = look(text, at);
-    let gives = g.kind == 256;
-    let n = count_of(seen, takes, gives);
-    if 256 <= n {
-        let r = over(w);
-        return Added { out: r, seen };
+    let p = look(text, at);
+    if p.kind != OPENING {
+        let gives = p.kind == TWICE;
+        return Ahead {
+            known: true,
+            takes: false,
+            gives,
+        };
     }
-    let s = one_more(seen, takes, gives);
-    let r = read_gives(text, at);
-    Added { out: r, seen: s }
+    let t = look(text, p.next);
+    if t.kind != NAME {
+        return Ahead {
+            known: false,
+            takes: true,
+            gives: false,
+        };
+    }
+    let c = look(text, t.next);
+    if c.kind != CLOSING {
+        return Ahead {
+            known: false,
+            takes: true,
+            gives: false,
+        };
+    }
+    let g = look(text, c.next);
+    let gives = g.kind == TWICE;
+    Ahead {
+        known: true,
+        takes: true,
+        gives,
+    }
 }
 
-// An operation where `left` more names may be declared.
+// Whether the kind is known, and no more operations of it may stand.
+fn is_full(seen: Seen, kind: Ahead) -> bool
+    ensures { λ r. ⌜ r ≡ fullIn seen kind ⌝ }
+{
+    if kind.known {
+        let n = count_of(seen, kind.takes, kind.gives);
+        return OPERATIONS <= n;
+    }
+    false
+}
+
+// An operation where `left` more names may be declared. Past its kind's last, its name is at fault before its types are judged.
 fn read_operation(text: &[u8], at: usize, left: usize, seen: Seen) -> Added
     requires { ⌜ at ≤ length (now text) ⌝ }
     ensures { λ r. ⌜ AnOperation (now (text .entry)) at left seen r ⌝ }
@@ -765,13 +817,18 @@ fn read_operation(text: &[u8], at: usize, left: usize, seen: Seen) -> Added
     if o.fault != 0 {
         return Added { out: o, seen };
     }
-    let p = look(text, o.at);
+    let kind = look_ahead(text, o.at);
+    if is_full(seen, kind) {
+        let r = over(w);
+        return Added { out: r, seen };
+    }
     let t = read_parameter(text, o.at);
     if t.fault != 0 {
         return Added { out: t, seen };
     }
-    let takes = p.kind == 40;
-    read_numbered(text, t.at, w, takes, seen)
+    let s = one_more(seen, kind.takes, kind.gives);
+    let r = read_gives(text, t.at);
+    Added { out: r, seen: s }
 }
 
 // Operations to the semicolon.

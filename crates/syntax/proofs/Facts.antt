@@ -14,8 +14,9 @@ use Rattle.syntax.specs.Parse.{parse}
 use Rattle.syntax.specs.Reading
 use Rattle.syntax.specs.Reading.{Read, got, fault}
 use Rattle.syntax.specs.Sections
-use Rattle.syntax.specs.Written.{Program}
+use Rattle.syntax.specs.Sections.{anOperation}
 use Rattle.words.specs.Words
+use Rattle.words.specs.Words.{words}
 
 -- reading is opened by this name
 unfoldable pub reading : Unit {0}
@@ -31,7 +32,7 @@ pub record Line : Type 0 where
   pub text : List ℕ
   pub outcome : Outcome
 
-pub agrees : Read Program → Outcome → Bool
+pub agrees : {A : Type 0} → Read A → Outcome → Bool
 agrees (got p ws) reads = true
 agrees (got p ws) (stops n s l) = false
 agrees (fault m w) reads = false
@@ -364,6 +365,8 @@ bigValues =
     ∷ at "input: a = 65535 b 'x' = ^;" 2 1
     ∷ at "input: a = 65535 ^b 5" 9 1
     ∷ at "input: a = 65535 b = ^65536" 9 5
+    ∷ at "input: a = 65535 ^b '' = 3;" 9 1
+    ∷ at "input: a = 65535 ^abcdefghijklmnopqrstuvwxyz1234567 = 65536;" 9 33
     ∷ at "error: a = 65534 b ^c" 9 1
     ∷ at "type t: a = 65535 ^b" 9 1
     ∷ at "input: a = 65535; input: ^b; rules M: ; end" 9 1
@@ -390,6 +393,7 @@ deep =
     ∷ atOf (bytes "rules M:" ++ (times 32 "{" ++ bytes "^{")) 9 1
     ∷ atOf (bytes "rules M:" ++ (times 32 "{" ++ bytes "^do od")) 9 2
     ∷ atOf (bytes "rules M:" ++ (times 16 "{[|*:" ++ bytes "^[ $")) 9 1
+    ∷ atOf (bytes "rules M:" ++ (times 32 "{" ++ bytes "^[abcdefghijklmnopqrstuvwxyz1234567 | a: ]")) 9 1
     ∷ atOf (bytes "rules M:" ++ (times 16 "[|a:{" ++ bytes "^if")) 9 2
     ∷ atOf (bytes "rules M:;N:" ++ (times 31 "[|a:|b:" ++ bytes "{ ? } {} [ | *: ^{")) 9 1
     ∷ atOf (bytes "rules M:" ++ (times 32 "{" ++ bytes "^$")) 1 1
@@ -406,6 +410,7 @@ labels =
     ∷ fineOf (bytes "rules M:[" ++ (times 64 "|a:" ++ bytes "|*:];end"))
     ∷ atOf (bytes "rules M:[|a" ++ (times 63 ",a" ++ bytes ",^bc:];end")) 9 2
     ∷ atOf (bytes "rules M:[|a" ++ (times 63 ",a" ++ bytes ",^'x'")) 9 3
+    ∷ atOf (bytes "rules M:[|a" ++ (times 63 ",a" ++ bytes ",^abcdefghijklmnopqrstuvwxyz1234567:];end")) 9 33
     ∷ atOf (bytes "rules M:[|a" ++ (times 63 ",a" ++ bytes ":|^d")) 9 1
     ∷ atOf (bytes "rules M:[|a" ++ (times 31 ",a" ++ (bytes ":|b" ++ (times 31 ",b" ++ bytes ":|^d:];end")))) 9 1
     ∷ atOf (bytes "rules M:[|a" ++ (times 31 ",a" ++ (bytes ":[|c:]|b" ++ (times 31 ",b" ++ bytes ",^d:];end")))) 9 1
@@ -422,16 +427,20 @@ pub many : List Line
 many =
     fineOf (bytes "rules " ++ (times 128 "r:;" ++ bytes "end"))
     ∷ atOf (bytes "rules " ++ (times 128 "r:;" ++ bytes "^q $")) 9 1
+    ∷ atOf (bytes "rules " ++ (times 128 "r:;" ++ bytes "^q >> abcdefghijklmnopqrstuvwxyz1234567:;end")) 9 1
     ∷ atOf (bytes "rules " ++ (times 128 "r:;" ++ bytes "^; end")) 2 1
     ∷ fineOf (bytes "type t:v;mechanism m:f;mechanism n:g;input:a'x'" ++ (times 506 "a " ++ bytes ";rules M:;end"))
     ∷ atOf (bytes "type t:v;mechanism m:f;mechanism n:g;input:a'x'" ++ (times 506 "a " ++ bytes ";rules M:;^N:;end")) 9 1
     ∷ atOf (bytes "input:" ++ (times 512 "a " ++ bytes ";type ^t $")) 9 1
     ∷ atOf (bytes "input:" ++ (times 511 "a " ++ bytes ";type t:^v;")) 9 1
     ∷ atOf (bytes "input:" ++ (times 512 "a " ++ bytes ";mechanism m:^f")) 9 1
+    ∷ atOf (bytes "input:" ++ (times 512 "a " ++ bytes ";mechanism m:^f(abcdefghijklmnopqrstuvwxyz1234567);")) 9 1
+    ∷ atOf (bytes "input:" ++ (times 512 "a " ++ bytes "^b = 65536;")) 9 1
     ∷ atOf (bytes "input:" ++ (times 512 "a " ++ bytes "^)")) 2 1
     ∷ atOf (bytes "mechanism m:" ++ (times 200 "f " ++ (bytes ";mechanism m:" ++ (times 56 "f " ++ bytes "^g;")))) 9 1
     ∷ fineOf (bytes "mechanism m:" ++ (times 256 "f " ++ bytes "g(t) g>>t g(t)>>t;rules M:;end"))
     ∷ atOf (bytes "mechanism m:" ++ (times 256 "f>>t " ++ bytes "^g >> $")) 9 1
+    ∷ atOf (bytes "mechanism m:" ++ (times 256 "f(t) " ++ bytes "^g(abcdefghijklmnopqrstuvwxyz1234567);")) 9 1
     ∷ record { text = replicate 32768 (code "$"); outcome = stops 1 0 1 }
     ∷ record { text = replicate 32769 (code "$"); outcome = stops 9 32769 0 }
     ∷ []
@@ -439,3 +448,61 @@ many =
 pub limits-agree : T (allAgree (deep ++ (labels ++ many)))
 unfolding reading agrees allAgree markAt unmarked times deep labels many
 limits-agree = tt
+
+-- 256 operations of the kind that begins at b stand before an operation entry
+pub record Full : Type 0 where
+  pub kind : ℕ
+  pub entry : Line
+
+abbrev full : ℕ → Line → Full
+full b l = record { kind = b; entry = l }
+
+pub entriesAgree : List Full → Bool
+entriesAgree [] = true
+entriesAgree (f ∷ fs) = agrees (anOperation 256 (replicate 256 (f .kind)) (words (f .entry .text))) (f .entry .outcome) && entriesAgree fs
+
+-- an entry with two faults: the 257th of its kind is at fault at its name, before any fault of its types; while the kind is open it is not yet (R9)
+pub crowded : List Full
+crowded =
+    full 512 (at "^g(abcdefghijklmnopqrstuvwxyz1234567);" 9 1)
+    ∷ full 512 (at "^g(abcdefghijklmnopqrstuvwxyz1234567) $" 9 1)
+    ∷ full 512 (at "^g(abcdefghijklmnopqrstuvwxyz1234567)" 9 1)
+    ∷ full 512 (at "^g(t) h" 9 1)
+    ∷ full 512 (at "^abcdefghijklmnopqrstuvwxyz1234567(abcdefghijklmnopqrstuvwxyz1234567);" 9 33)
+    ∷ full 512 (at "g(^abcdefghijklmnopqrstuvwxyz1234567" 9 33)
+    ∷ full 512 (at "g(^abcdefghijklmnopqrstuvwxyz1234567 $" 9 33)
+    ∷ full 512 (at "g(^abcdefghijklmnopqrstuvwxyz1234567 t);" 9 33)
+    ∷ full 512 (at "g(t ^abcdefghijklmnopqrstuvwxyz1234567);" 2 33)
+    ∷ full 512 (at "g(^abcdefghijklmnopqrstuvwxyz1234567) >> t;" 9 33)
+    ∷ full 512 (at "g(t) >> ^abcdefghijklmnopqrstuvwxyz1234567;" 9 33)
+    ∷ full 512 (at "g >> ^abcdefghijklmnopqrstuvwxyz1234567;" 9 33)
+    ∷ full 512 (at "g(^$" 1 1)
+    ∷ full 512 (at "g(t ^$" 1 1)
+    ∷ full 512 (at "g(^" 2 0)
+    ∷ full 512 (at "g(t ^;" 2 1)
+    ∷ full 512 (at "g(^'t');" 2 3)
+    ∷ full 512 (fine "g;")
+    ∷ full 512 (fine "g >> t;")
+    ∷ full 512 (fine "g(t) >> t;")
+    ∷ full 1024 (at "^g(abcdefghijklmnopqrstuvwxyz1234567) >> abcdefghijklmnopqrstuvwxyz1234567;" 9 1)
+    ∷ full 1024 (at "^g(t) >> abcdefghijklmnopqrstuvwxyz1234567;" 9 1)
+    ∷ full 1024 (at "^g(abcdefghijklmnopqrstuvwxyz1234567) >> $" 9 1)
+    ∷ full 1024 (at "g(^abcdefghijklmnopqrstuvwxyz1234567);" 9 33)
+    ∷ full 1024 (at "g(^abcdefghijklmnopqrstuvwxyz1234567) > t;" 9 33)
+    ∷ full 1024 (fine "g(t) $")
+    ∷ full 256 (at "^g;" 9 1)
+    ∷ full 256 (at "^g $" 9 1)
+    ∷ full 256 (at "^g = 3;" 9 1)
+    ∷ full 256 (at "g(^abcdefghijklmnopqrstuvwxyz1234567);" 9 33)
+    ∷ full 256 (at "g(^$" 1 1)
+    ∷ full 256 (at "g >> ^abcdefghijklmnopqrstuvwxyz1234567;" 9 33)
+    ∷ full 768 (at "^g >> abcdefghijklmnopqrstuvwxyz1234567;" 9 1)
+    ∷ full 768 (at "^g >> $" 9 1)
+    ∷ full 768 (at "g(^abcdefghijklmnopqrstuvwxyz1234567) >> t;" 9 33)
+    ∷ full 768 (at "g(t) >> ^abcdefghijklmnopqrstuvwxyz1234567;" 9 33)
+    ∷ full 768 (at "g(t ^>> abcdefghijklmnopqrstuvwxyz1234567;" 2 2)
+    ∷ []
+
+pub crowded-agree : T (entriesAgree crowded)
+unfolding reading agrees entriesAgree markAt unmarked crowded
+crowded-agree = tt

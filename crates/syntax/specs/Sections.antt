@@ -6,11 +6,11 @@ use mathlib.Core.Option.{Option, none, some}
 use Prim.Native.Char.{code}
 use Prim.Native.Nat.{ℕ, zero, suc, _+_, _-_, max}
 use lib.Dec.{eqb, leb, ltb}
-use lib.ListN.{length}
+use lib.ListN.{length, drop}
 use Rattle.base.specs.Common.{if_then_else_, given}
 use Rattle.syntax.specs.Reading.{Read, got, fault, Reader, onward, _>>=_, _>>_, pure, peek, pass, refuse, on_then_else_, expect, aName, oneName, aNumber, optional}
 use Rattle.syntax.specs.Written.{Entry, Operation, Section, inputs, outputs, both, errors, values, operations}
-use Rattle.words.specs.Words.{Word, twice, string, input, output, error, type, mechanism, rules}
+use Rattle.words.specs.Words.{Word, twice, name, string, input, output, error, type, mechanism, rules}
 
 -- Entries
 
@@ -53,23 +53,38 @@ unfoldable pub ofKind : ℕ → List ℕ → ℕ
 ofKind b [] = 0
 ofKind b (i ∷ is) = (if leb b i && ltb i (b + 256) then 1 else 0) + ofKind b is
 
+-- the kind of the word that stands i words on
+unfoldable pub kindAt : ℕ → List Word → ℕ
+kindAt i ws = peek (drop i ws) .kind
+
+-- where the kind of an operation begins, told by the kinds of the words after its name: it takes a parameter if `( name )` stands there, and is
+-- a choice operation if `>>` stands behind that; none where `(` stands without the rest, which leaves the kind open
+unfoldable pub kindAhead : List Word → Option ℕ
+kindAhead ws =
+    if eqb (kindAt 0 ws) (code "(") then
+    (if eqb (kindAt 1 ws) name && eqb (kindAt 2 ws) (code ")") then some (firstOf true (eqb (kindAt 3 ws) twice)) else none)
+    else some (firstOf false (eqb (kindAt 0 ws) twice))
+
+-- "256 operations a kind": no more may stand
+unfoldable pub isFull : Option ℕ → List ℕ → Bool
+isFull none seen = false
+isFull (some b) seen = leb 256 (ofKind b seen)
+
 unfoldable pub aParameter : Reader (Option Word)
 aParameter = on code "(" then (do pass; t ← aName; expect (code ")"); pure (some t)) else pure none
 
--- the operation w of the kind that begins at b, n of which stand before it: "256 operations a kind", the name at fault
-unfoldable pub numbered : Word → Option Word → ℕ → ℕ → Reader Operation
-numbered w t b n ws =
-    (if ltb n 256 then (do
-      g ← optional twice aName
-      pure (record { operation = w; takes = t; gives = g; instruction = b + n }))
-    else (λ _. fault 9 w)) ws
+-- the rest of the operation w, and its instruction number
+unfoldable pub numbered : Word → List ℕ → Reader Operation
+numbered w seen = do
+  t ← aParameter
+  g ← optional twice aName
+  let b = firstOf (given t) (given g) in pure (record { operation = w; takes = t; gives = g; instruction = b + ofKind b seen })
 
--- the kind is known once `(type)` is read or not there, and `>>` is seen or not
+-- the 257th of its kind is at fault at its name, which stands before the names of its types: no word after it is judged before
 unfoldable pub anOperation : ℕ → List ℕ → Reader Operation
 anOperation left seen = do
   w ← oneName left
-  t ← aParameter
-  λ ws. let b = firstOf (given t) (eqb (peek ws .kind) twice) in numbered w t b (ofKind b seen) ws
+  λ ws. (if isFull (kindAhead ws) seen then (λ _. fault 9 w) else numbered w seen) ws
 
 -- operations to the semicolon, after those with the instruction numbers `seen`
 unfoldable pub someOperations : ℕ → ℕ → List ℕ → Reader (List Operation)
@@ -143,5 +158,5 @@ someSections (suc k) s ws =
 
 -- all of this file computes where this is unfolded
 unfoldable pub opened : Unit {0}
-unfolding aSpelling aCount anEntry entries firstOf ofKind aParameter numbered anOperation someOperations nothing nextOf instructions after tokenSection aSection someSections
+unfolding aSpelling aCount anEntry entries firstOf ofKind kindAt kindAhead isFull aParameter numbered anOperation someOperations nothing nextOf instructions after tokenSection aSection someSections
 opened = tt
