@@ -1,16 +1,17 @@
--- The three ends of `list`: the text is over-long, refused, or accepted.
+-- What `list` prints for what is kept of an input, and for the whole of it.
 use mathlib.Core.Bool.{Bool, true, false, _&&_}
-use mathlib.Core.List.{List, [], _∷_, _++_, append-assoc}
+use mathlib.Core.List.{List, [], _∷_, _++_, append-assoc, flatten}
 use mathlib.Core.Path.{_≡_, refl, sym, ap, _∙_}
 use Prim.Native.Nat.{ℕ, _+_, _*_, _-_, _/_, _%_, _<_, _≤_}
+use native.Mathlib.Nat.{zero-add}
 use native.Mathlib.Omega.{arith}
-use borrow.Author.Tests.{ltb-false, leb-true}
+use borrow.Author.Tests.{ltb-true, ltb-false, leb-true}
 use lib.Dec.{ltb, leb}
-use lib.ListN.{length, take, drop, replicate, length-take}
-use lib.Seq.{take-all, length-take-le}
+use lib.ListN.{length, take, drop, replicate, length-append, length-take}
+use lib.Seq.{take-all, take-length, take-take, length-take-le}
 use Rattle.base.specs.Common.{if_then_else_}
 use Rattle.finishing.specs.Test.{finishing}
-use Rattle.machine.specs.Bytes.{count, wordsOf, bytesOf}
+use Rattle.machine.specs.Bytes.{count, wordsOf, tableOf, bytesOf}
 use Rattle.processor.specs.Process as means
 use Rattle.processor.specs.Process.{Understood, meaning, faulty, readIn, understood, accepted, refused, answerFor, process, partOf, lentWords, lentBytes}
 use Rattle.program.proofs.Lengths.{length-table}
@@ -18,14 +19,25 @@ use Rattle.program.specs.Table.{sizeRules, table}
 use Rattle.syntax.specs.Parse.{parse, endOf, program}
 use Rattle.syntax.specs.Reading.{fault}
 use Rattle.words.specs.Words.{words}
-use Rattle.translator.specs.Answered.{answered, Settles}
+use Rattle.translator.specs.Answered.{answered, Settles, faultWord}
 use Rattle.translator.specs.declared.Answer.{Answer}
-use Rattle.listing.specs.Listing.{lineAt, refusalListing, tableListing, listing}
-use Rattle.listing.specs.Written.{Listed}
-use Rattle.listing.proofs.Lines.{line-few, line-low}
+use Rattle.listing.specs.Listing.{lineFeeds, lineAt, refusalListing, tableListing, listing}
+use Rattle.listing.specs.Written.{Listed, longest}
+use Rattle.listing.proofs.Laws.{listed-whole}
+use Rattle.listing.proofs.Lines.{feeds-append, feeds-few}
 use Rattle.listing.proofs.Numbers.{Answers, refusals, answers}
 use Rattle.io.specs.Counts.{Counts}
-use Rattle.lister.specs.Prints.{Prints}
+use Rattle.lister.specs.declared.Piece.{Piece}
+use Rattle.lister.specs.Prints.{countOn, Counted, Prints}
+
+-- Counting in pieces is counting the whole
+
+count-on : (feeds : ℕ) (pieces : List (List ℕ)) → countOn feeds pieces ≡ feeds + lineFeeds (flatten pieces)
+unfolding countOn flatten lineFeeds
+count-on feeds [] = omega arith
+count-on feeds (piece ∷ pieces) = omega (arith, count-on (feeds + lineFeeds piece) pieces, feeds-append piece (flatten pieces))
+
+-- An over-long text
 
 -- "Text over 32,768 bytes is 9 before all else", at the empty part at the end
 over-long : (text : List ℕ) (room : ℕ) → 32768 < length text → process text room ≡ refused 9 (record { start = length text; size = 0 })
@@ -40,33 +52,56 @@ over-long text room h = go (ltb 32768 (length text)) refl
     go true e = at-end
     go false e = absurd (omega (arith, ltb-false 32768 (length text) e))
 
--- a text that is not over-long is kept whole
-kept-whole : (kept text : List ℕ) → kept ≡ take 32769 text → length kept ≤ 32768 → kept ≡ text
-kept-whole kept text e h = e ∙ take-all 32769 text (omega (arith, ap length e, length-take 32769 text))
+over-long-answer : (text : List ℕ) (room : ℕ) → 32768 < length text → answered (process text room) ≡ record { number = 9; start = length text; len = 0; words = 0; finishing = false }
+unfolding answered
+over-long-answer text room h = rw (over-long text room h) refl
 
-pub list-long : {kept old new : List ℕ} {lines r : ℕ} → 32768 < length kept → Listed (refusalListing 9 lines) old new r → Prints kept lines old new r
-unfolding listing
-list-long {kept} h l text e f =
-    let n : 32768 < length text = omega (arith, ap length e, length-take 32769 text) in
-    rw (over-long text 4096 n) (rw (f n) at l)
+-- What is kept of an input
 
--- the listing of what the code answered
-refusal : (text : List ℕ) (a : means.Answer) {s : Answer} {old new : List ℕ} {line r : ℕ} → s ≡ answered a → (s .number ≡ 0 → ⊥) → line ≡ lineAt text (s .start)
-    → Listed (refusalListing (s .number) line) old new r → Listed (listing text a) old new r
+length-zero : (s : List ℕ) → length s ≡ 0 → s ≡ []
+length-zero [] e = refl
+length-zero (x ∷ s) e = absurd (omega arith)
+
+module _ (kept rest : List ℕ) (e : kept ≡ take 32769 (kept ++ rest)) where
+  kept-length : length kept ≤ 32768 → length (kept ++ rest) ≤ 32768
+  kept-length h = omega (arith, ap length e, length-take 32769 (kept ++ rest))
+
+  -- an input that is not over-long is kept whole
+  kept-whole : length kept ≤ 32768 → kept ≡ kept ++ rest
+  kept-whole h = e ∙ take-all 32769 (kept ++ rest) (omega (arith, kept-length h))
+
+  none-left : length kept ≤ 32768 → rest ≡ []
+  none-left h = length-zero rest (omega (arith, ap length (kept-whole h), length-append kept rest))
+
+-- The listing of a refusal
+
+refusal : (text : List ℕ) (a : means.Answer) (s : Answer) → s ≡ answered a → (s .number ≡ 0 → ⊥) → refusalListing (s .number) (lineAt text (s .start)) ≡ listing text a
 unfolding answered listing
-refusal text (accepted ws verdict) {s} e n q l = absurd (n (ap (λ (x : Answer). x .number) e))
-refusal text (refused number at) {s} {line = line} e n q l =
-    let d : s .number ≡ number = ap (λ (x : Answer). x .number) e in
-    let b : line ≡ lineAt text (at .start) = q ∙ ap (λ (x : Answer). lineAt text (x .start)) e in
-    rw (← d, ← b) l
+refusal text (accepted ws verdict) s e n = absurd (n (ap (λ (x : Answer). x .number) e))
+refusal text (refused number at) s e n = ap (λ (x : Answer). refusalListing (x .number) (lineAt text (x .start))) e
 
-pub list-refused : {kept lent after old new : List ℕ} {s : Answer} {lines line r : ℕ} → length kept ≤ 32768 → count lent ≡ 4096 → Settles (process kept (count lent)) lent after s
-    → (s .number ≡ 0 → ⊥) → line ≡ lineAt kept (s .start) → Listed (refusalListing (s .number) line) old new r → Prints kept lines old new r
-list-refused {kept} {lent} h c d n q l text e f =
-    let w : kept ≡ text = kept-whole kept text e h in
-    rw (← w) (refusal kept (process kept 4096) (rw c at (d .answer)) n q l)
+-- of a text that is over-long, the line of its end
+end-line : (kept rest : List ℕ) → lineAt kept (length kept) + lineFeeds rest ≡ lineAt (kept ++ rest) (length (kept ++ rest))
+unfolding lineAt
+end-line kept rest = rw (take-length kept, take-length (kept ++ rest)) (omega (arith, feeds-append kept rest))
 
--- An accepted text
+refused-listing : (kept rest : List ℕ) (s : Answer) (line : ℕ) → kept ≡ take 32769 (kept ++ rest) → s ≡ answered (process kept 4096) → (s .number ≡ 0 → ⊥)
+    → line ≡ lineAt kept (s .start) + lineFeeds rest → refusalListing (s .number) line ≡ listing (kept ++ rest) (process (kept ++ rest) 4096)
+unfolding lineFeeds listing
+refused-listing kept rest s line e d n q = go (ltb 32768 (length kept)) refl
+  where
+    go : (t : Bool) → ltb 32768 (length kept) ≡ t → refusalListing (s .number) line ≡ listing (kept ++ rest) (process (kept ++ rest) 4096)
+    go true t =
+        let h : 32768 < length kept = ltb-true 32768 (length kept) t in
+        let x : s ≡ record { number = 9; start = length kept; len = 0; words = 0; finishing = false } = d ∙ over-long-answer kept 4096 h in
+        let g : line ≡ lineAt (kept ++ rest) (length (kept ++ rest)) = q ∙ ap (λ (a : Answer). lineAt kept (a .start) + lineFeeds rest) x ∙ end-line kept rest in
+        rw (over-long (kept ++ rest) 4096 (omega (arith, length-append kept rest)), g) (ap (λ (a : Answer). refusalListing (a .number) (lineAt (kept ++ rest) (length (kept ++ rest)))) x)
+    go false t =
+        let h : length kept ≤ 32768 = omega (arith, ltb-false 32768 (length kept) t) in
+        let g : line ≡ lineAt kept (s .start) = omega (arith, q, ap lineFeeds (none-left kept rest e h)) in
+        rw (← kept-whole kept rest e h, g) (refusal kept (process kept 4096) s d n)
+
+-- The listing of an accepted text
 
 -- the words of bytes that begin with those of ws
 words-back : (ws s : List ℕ) → take (length ws) (wordsOf (bytesOf ws ++ s)) ≡ ws
@@ -79,23 +114,17 @@ unfolding bytesOf
 bytes-append [] b = refl
 bytes-append (x ∷ a) b = ap (λ (s : List ℕ). x / 256 ∷ x % 256 ∷ s) (bytes-append a b)
 
-acceptance : (text lent : List ℕ) (a : means.Answer) {s : Answer} {after old new : List ℕ} {r : ℕ} → Answers a → s ≡ answered a → after ≡ lentBytes a lent → s .number ≡ 0
-    → Listed (tableListing (take (s .words) (wordsOf after)) (s .finishing)) old new r → Listed (listing text a) old new r
-unfolding answered listing lentBytes lentWords
-acceptance text lent (refused number at) {s} (refusals h) e q n l = absurd (h (sym (ap (λ (x : Answer). x .number) e) ∙ n))
-acceptance text lent (accepted ws verdict) {s} {after} x e q n l =
+acceptance : (text lent : List ℕ) (a : means.Answer) (s : Answer) {after : List ℕ} → Answers a → s ≡ answered a → after ≡ lentBytes a lent → s .number ≡ 0 → s .words ≤ 4096
+    → tableListing (take (s .words) (tableOf after)) (s .finishing) ≡ listing text a
+unfolding answered listing lentBytes lentWords tableOf
+acceptance text lent (refused number at) s (refusals h) e q n m = absurd (h (sym (ap (λ (x : Answer). x .number) e) ∙ n))
+acceptance text lent (accepted ws verdict) s {after} x e q n m =
     let d : s .words ≡ length ws = ap (λ (x : Answer). x .words) e in
     let f : s .finishing ≡ verdict = ap (λ (x : Answer). x .finishing) e in
     let z : List ℕ = replicate (count lent - length ws) 0 in
     let y : after ≡ bytesOf ws ++ (bytesOf z ++ drop (2 * count lent) lent) = q ∙ ap (λ (b : List ℕ). b ++ drop (2 * count lent) lent) (bytes-append ws z) ∙ append-assoc (bytesOf ws) (bytesOf z) (drop (2 * count lent) lent) in
     let w : take (s .words) (wordsOf after) ≡ ws = ap (λ (k : ℕ). take k (wordsOf after)) d ∙ ap (λ (b : List ℕ). take (length ws) (wordsOf b)) y ∙ words-back ws (bytesOf z ++ drop (2 * count lent) lent) in
-    rw (w, f) at l
-
-pub list-accepted : {kept lent after old new : List ℕ} {s : Answer} {lines r : ℕ} → length kept ≤ 32768 → count lent ≡ 4096 → Settles (process kept (count lent)) lent after s
-    → s .number ≡ 0 → Listed (tableListing (take (s .words) (wordsOf after)) (s .finishing)) old new r → Prints kept lines old new r
-list-accepted {kept} {lent} h c d n l text e f =
-    let w : kept ≡ text = kept-whole kept text e h in
-    rw (← w, ← c) (acceptance kept lent (process kept (count lent)) (answers kept (count lent)) (d .answer) (d .lent) n l)
+    rw (take-take (s .words) 4096 (wordsOf after) m, w, f) refl
 
 -- "or 4,096 words"
 few : (text : List ℕ) (room : ℕ) (u : Understood) (s : Answer) → s ≡ answered (answerFor text room u) → s .words ≤ 4096
@@ -109,17 +138,61 @@ few text room (meaning prog) s e = go (leb (sizeRules prog) room) (leb (sizeRule
     go true false q d = omega (arith, d)
     go false b q d = omega (arith, d)
 
-pub few-words : {lent after : List ℕ} {s : Answer} (kept : List ℕ) (room : ℕ) → Settles (process kept room) lent after s → s .words ≤ 4096
+few-words : {lent after : List ℕ} {s : Answer} (kept : List ℕ) (room : ℕ) → Settles (process kept room) lent after s → s .words ≤ 4096
 unfolding process
 few-words {s = s} kept room d = few kept room (understood kept) s (d .answer)
 
+accepted-listing : (kept rest lent after : List ℕ) (s : Answer) → kept ≡ take 32769 (kept ++ rest) → count lent ≡ 4096 → Settles (process kept (count lent)) lent after s → s .number ≡ 0
+    → tableListing (take (s .words) (tableOf after)) (s .finishing) ≡ listing (kept ++ rest) (process (kept ++ rest) 4096)
+accepted-listing kept rest lent after s e c d n = go (ltb 32768 (length kept)) refl
+  where
+    go : (t : Bool) → ltb 32768 (length kept) ≡ t → tableListing (take (s .words) (tableOf after)) (s .finishing) ≡ listing (kept ++ rest) (process (kept ++ rest) 4096)
+    go true t = absurd (omega (arith, n, ap (λ (a : Answer). a .number) (d .answer ∙ over-long-answer kept (count lent) (ltb-true 32768 (length kept) t))))
+    go false t =
+        let h : length kept ≤ 32768 = omega (arith, ltb-false 32768 (length kept) t) in
+        rw (← kept-whole kept rest e h, ← c) (acceptance kept lent (process kept (count lent)) s (answers kept (count lent)) (d .answer) (d .lent) n (few-words kept (count lent) d))
+
+-- The word at fault
+
+same-word : (kept rest : List ℕ) → kept ≡ take 32769 (kept ++ rest) → faultWord kept (answered (process kept 4096)) ≡ faultWord (kept ++ rest) (answered (process (kept ++ rest) 4096))
+unfolding faultWord
+same-word kept rest e = go (ltb 32768 (length kept)) refl
+  where
+    go : (t : Bool) → ltb 32768 (length kept) ≡ t → faultWord kept (answered (process kept 4096)) ≡ faultWord (kept ++ rest) (answered (process (kept ++ rest) 4096))
+    go true t =
+        let h : 32768 < length kept = ltb-true 32768 (length kept) t in
+        rw (over-long-answer kept 4096 h, over-long-answer (kept ++ rest) 4096 (omega (arith, length-append kept rest))) refl
+    go false t =
+        let h : length kept ≤ 32768 = omega (arith, ltb-false 32768 (length kept) t) in
+        ap (λ (text : List ℕ). faultWord text (answered (process text 4096))) (kept-whole kept rest e h)
+
+-- The two ends of `list`
+
+shows : {kept lent after new : List ℕ} {s : Answer} {feeds r : ℕ} → count lent ≡ 4096 → Settles (process kept (count lent)) lent after s
+    → ((rest : List ℕ) → kept ≡ take 32769 (kept ++ rest) → feeds ≡ lineFeeds rest → take r new ≡ listing (kept ++ rest) (process (kept ++ rest) 4096))
+    → Prints kept feeds new (record { len = r; answer = s })
+shows {kept} c d f pieces e q = record {
+  listed = f (flatten pieces) e (q ∙ count-on 0 pieces ∙ zero-add (lineFeeds (flatten pieces)));
+  word = ap (faultWord kept) (rw c at (d .answer)) ∙ same-word kept (flatten pieces) e;
+}
+
+pub list-accepted : {kept lent after old new : List ℕ} {s : Answer} {feeds r : ℕ} → count lent ≡ 4096 → Settles (process kept (count lent)) lent after s → longest ≤ length old
+    → s .number ≡ 0 → Listed (tableListing (take (s .words) (tableOf after)) (s .finishing)) old new r → Prints kept feeds new (record { len = r; answer = s })
+list-accepted {kept} {lent} {after} {s = s} c d room n l = shows c d (λ rest e q. listed-whole l room ∙ accepted-listing kept rest lent after s e c d n)
+
+pub list-refused : {kept lent after old new : List ℕ} {s : Answer} {feeds line r : ℕ} → count lent ≡ 4096 → Settles (process kept (count lent)) lent after s → longest ≤ length old
+    → (s .number ≡ 0 → ⊥) → line ≡ lineAt kept (s .start) → Listed (refusalListing (s .number) (line + feeds)) old new r → Prints kept feeds new (record { len = r; answer = s })
+list-refused {kept} {s = s} {feeds} {line} c d room n q l =
+    shows c d (λ rest e f. listed-whole l room ∙ refused-listing kept rest s (line + feeds) e (rw c at (d .answer)) n (omega (arith, q, f)))
+
 -- the bytes to print lie within the buffer
-pub counted : {xs old new : List ℕ} {r : ℕ} → Listed xs old new r → Counts r new
-counted {new = new} {r = r} l = (l .fits, sym (length-take-le r new (l .fits)))
+pub counted : {xs old new : List ℕ} {r : ℕ} → Listed xs old new r → longest ≤ length new → Counts r new
+counted {new = new} {r = r} l h = let b : r ≤ length new = omega (arith, l .short) in (b, sym (length-take-le r new b))
 
--- the line of a place in the first i bytes
-pub line-most : {r : ℕ} (text : List ℕ) (i : ℕ) → r ≡ lineAt text i → r ≤ i + 1
-line-most text i e = omega (arith, e, line-few text i)
+-- there are no more lines than bytes and one, and no more line feeds than bytes
+pub line-most : {r : ℕ} (text : List ℕ) (i : ℕ) → r ≡ lineAt text i → r ≤ length text + 1
+unfolding lineAt
+line-most text i e = omega (arith, e, feeds-few (take i text), length-take i text)
 
-pub line-least : {r : ℕ} (text : List ℕ) (i : ℕ) → r ≡ lineAt text i → 1 ≤ r
-line-least text i e = omega (arith, e, line-low text i)
+pub counted-most : {feeds : ℕ} {buffer : List ℕ} {r : Piece} → Counted feeds buffer r → r .feeds ≤ feeds + length buffer
+counted-most {feeds} {buffer} {r} k = omega (arith, k .count, feeds-few (take (r .len) buffer), length-take (r .len) buffer)

@@ -1,14 +1,36 @@
 -- What the lister promises. "The lister reads a program on standard input."
-use mathlib.Core.List.{List}
+use mathlib.Core.List.{List, [], _∷_, _++_, flatten}
 use mathlib.Core.Path.{_≡_}
-use Prim.Native.Nat.{ℕ, _<_}
+use Prim.Native.Nat.{ℕ, _+_, _≤_}
 use lib.ListN.{length, take}
-use Rattle.listing.specs.Listing.{lineAt, listing}
-use Rattle.listing.specs.Written.{Listed}
+use Rattle.listing.specs.Listing.{lineFeeds, listing}
 use Rattle.processor.specs.Process.{process}
+use Rattle.translator.specs.Answered.{answered, faultWord}
+use Rattle.lister.specs.declared.Piece.{Piece}
+use Rattle.lister.specs.declared.Printed.{Printed}
 
--- The buffer begins with the listing of the whole text, whose answer is that of a table with room for 4,096 words. Of the text only the first 32,769
--- bytes are kept, which is enough to see that it is over-long; then `lines`, the line of its end, has been counted to the end of the input.
-abbrev pub Prints : List ℕ → ℕ → List ℕ → List ℕ → ℕ → Type 0
-Prints kept lines old new r = (text : List ℕ) → kept ≡ take 32769 text → (32768 < length text → lines ≡ lineAt text (length text))
-    → Listed (listing text (process text 4096)) old new r
+-- Of a text past its first 32,769 bytes only the line feeds are counted, piece by piece, as the pieces are read.
+
+-- the most that are counted: 2^40 pieces of 65,536 bytes
+abbrev pub most : ℕ
+most = 72057594037927936
+
+-- the count behind a piece, which is the beginning of the buffer
+pub record Counted (feeds : ℕ) (buffer : List ℕ) (r : Piece) : Type 0 where
+  pub within : r .len ≤ length buffer
+  pub count : r .feeds ≡ feeds + lineFeeds (take (r .len) buffer)
+
+-- the count behind all pieces
+unfoldable pub countOn : ℕ → List (List ℕ) → ℕ
+countOn feeds [] = feeds
+countOn feeds (piece ∷ pieces) = countOn (feeds + lineFeeds piece) pieces
+
+-- What is printed for an input: its listing, the answer being that of a table with room for 4,096 words; and the part that is shown is that at fault.
+pub record Shown (input kept new : List ℕ) (r : Printed) : Type 0 where
+  pub listed : take (r .len) new ≡ listing input (process input 4096)
+  pub word : faultWord kept (r .answer) ≡ faultWord input (answered (process input 4096))
+
+-- The input is what is kept of it, its first 32,769 bytes, which is enough to see that it is over-long, and then the pieces whose line feeds were counted.
+abbrev pub Prints : List ℕ → ℕ → List ℕ → Printed → Type 0
+Prints kept feeds new r = (pieces : List (List ℕ)) → kept ≡ take 32769 (kept ++ flatten pieces) → feeds ≡ countOn 0 pieces
+    → Shown (kept ++ flatten pieces) kept new r

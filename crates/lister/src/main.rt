@@ -1,72 +1,105 @@
-// The lister: reads a program on standard input and prints its table and verdict, or the number and line of its fault.
+// The lister: reads a program on standard input and prints its table and verdict, or the number and line of its fault, and then shows the word at fault.
 ghost use Prim.Native.Nat.{_≤_};
 ghost use lib.ListN.{length};
 ghost use Rattle.io.specs.Counts.{Counts};
-ghost use Rattle.lister.specs.Prints.{Prints};
+ghost use Rattle.listing.specs.Written.{longest};
+ghost use Rattle.lister.specs.Prints.{Prints, Counted, most};
+use libc::STDERR_FILENO;
 use libc::STDIN_FILENO;
 use libc::STDOUT_FILENO;
 
-// The listing of a text, of which at most the first 32,769 bytes are given; `lines` is the line of its end.
-fn list(text: &[u8], lines: usize, out: &mut [u8]) -> usize
-    requires { ⌜ 49152 ≤ length (now out) ⌝ }
-    ensures { λ r. ⌜ Prints (now (text .entry)) lines (now (out .entry)) (now (out .exit)) r ⌝ }
-    ensures { λ r. ⌜ Counts r (now (out .exit)) ⌝ }
+// One byte more than a program may have: enough to see that a text is over-long.
+const KEPT: usize = 32769;
+
+// The bytes of 4,096 table words.
+const TABLE_BYTES: usize = 8192;
+
+// As many pieces are read at most: an input ends long before they do.
+const PIECES: u64 = 1 << 40;
+
+// The length of a listing, and the answer that it is of.
+struct Printed {
+    len: usize,
+    answer: translator::Answer,
+}
+
+// The listing of an input of which at most the first 32,769 bytes are given, with the number of line feeds behind them.
+fn list(kept: &[u8], feeds: usize, out: &mut [u8]) -> Printed
+    requires { ⌜ (feeds ≤ most) × (longest ≤ length (now out)) ⌝ }
+    ensures { λ r. ⌜ Prints (now (kept .entry)) feeds (now (out .exit)) r ⌝ }
+    ensures { λ r. ⌜ Counts (r .len) (now (out .exit)) ⌝ }
 {
-    if 32768 < text.len() {
-        return listing::list_refusal(9, lines, out);
+    let mut table = [0u8; TABLE_BYTES];
+    let answer = translator::process(kept, &mut table);
+    if answer.number == 0 {
+        let len = listing::list_table(&table, answer.words, answer.finishing, out);
+        return Printed { len, answer };
     }
-    let mut table = [0u8; 8192];
-    let a = translator::process(text, &mut table);
-    if a.number != 0 {
-        return listing::list_refusal(a.number, listing::lines_before(text, a.start), out);
-    }
-    listing::list_table(&table, a.words, a.finishing, out)
+    let line = listing::lines_before(kept, answer.start) + feeds;
+    let len = listing::list_refusal(answer.number, line, out);
+    Printed { len, answer }
 }
 
-// How many line feeds the next bytes of the input have, or whether it is at its end.
-struct More {
+// A piece of the input: its length, 0 at the input's end, and the line feeds up to its end.
+struct Piece {
+    len: usize,
     feeds: usize,
-    some: bool,
 }
 
-fn read_more() -> More
-    ensures { λ r. ⌜ r .feeds ≤ 65536 ⌝ }
+// The next piece of the input, where `feeds` line feeds have been counted.
+fn count_piece(feeds: usize, buf: &mut [u8]) -> Piece
+    requires { ⌜ feeds ≤ most ⌝ }
+    ensures { λ r. ⌜ Counted feeds (now (buf .exit)) r ⌝ }
+{
+    let n = io::count(libc::read(STDIN_FILENO, buf), buf);
+    Piece {
+        len: n,
+        feeds: feeds + listing::line_feeds(&buf[..n]),
+    }
+}
+
+// The line feeds from here to the input's end, piece by piece.
+fn count_rest() -> usize
+    ensures { λ r. ⌜ r ≤ most ⌝ }
 {
     let mut buf = io::large_buffer();
-    let n = io::count(libc::read(STDIN_FILENO, &mut buf), &buf);
-    let line = listing::lines_before(&buf[..n], n);
-    More {
-        feeds: line - 1,
-        some: 0 < n,
+    let mut feeds = 0;
+    let mut left = PIECES;
+    while 0 < left {
+        let piece = count_piece(feeds, &mut buf);
+        if piece.len == 0 {
+            return feeds;
+        }
+        feeds = piece.feeds;
+        left -= 1;
     }
+    feeds
 }
 
-// The line of the input's end, where that of what was kept is given.
-fn count_on(line: usize) -> usize
-    requires { ⌜ line ≤ 40000 ⌝ }
-{
-    let mut all = line;
-    // an input ends long before this does
-    let mut turns = 1u64 << 40;
-    while 0 < turns {
-        let more = read_more();
-        if !more.some {
-            return all;
-        }
-        all += more.feeds;
-        turns -= 1;
+// Shows the author the word at fault, on standard error: standard output has number and line alone.
+fn show(word: &[u8]) {
+    if word.len() == 0 {
+        io::write_all(STDERR_FILENO, b"at: the end of the text\n");
+        return;
     }
-    all
+    io::write_all(STDERR_FILENO, b"at: ");
+    io::write_all(STDERR_FILENO, word);
+    io::write_all(STDERR_FILENO, b"\n");
 }
 
 fn main() {
-    let mut text = [0u8; 32769];
+    let mut text = [0u8; KEPT];
     let n = io::read_full(STDIN_FILENO, &mut text);
-    let mut line = listing::lines_before(&text[..n], n);
-    if n == 32769 {
-        line = count_on(line);
+    let mut feeds = 0;
+    if n == KEPT {
+        feeds = count_rest();
     }
-    let mut out = [0u8; 49152];
-    let len = list(&text[..n], line, &mut out);
+    let mut out = [0u8; listing::LONGEST];
+    let printed = list(&text[..n], feeds, &mut out);
+    let len = printed.len;
     io::write_all(STDOUT_FILENO, &out[..len]);
+    let answer = printed.answer;
+    if answer.number != 0 {
+        show(translator::fault_word(&text[..n], answer));
+    }
 }

@@ -1,18 +1,18 @@
 -- Writing one run of bytes behind another, and the length of a number in decimal.
 use mathlib.Core.Bool.{Bool, true, false}
-use mathlib.Core.List.{List, [], _∷_, _++_}
+use mathlib.Core.List.{List, [], _∷_, _++_, append-nil}
 use mathlib.Core.Path.{_≡_, refl, sym, ap, _∙_}
 use Prim.Native.Nat.{ℕ, zero, suc, _+_, _*_, _/_, _%_, _<_, _≤_}
 use native.Mathlib.Omega.{arith}
 use native.Mathlib.Numerals.{add-one}
 use borrow.Author.Tests.{ltb-true, ltb-false}
 use lib.Dec.{ltb}
-use lib.ListN.{length, getD, set, drop, length-append}
-use lib.Seq.{sets, sets-eq, length-sets, set-out, drop-cons, drop-length}
+use lib.ListN.{length, getD, set, take, drop, length-append, length-drop, take-append-drop}
+use lib.Seq.{sets, sets-eq, length-sets, set-out, drop-cons, drop-length, length-take-le, take-all, take-append-le, take-take, take-append-seam}
 use Rattle.base.specs.Common.{if_then_else_}
 use Rattle.machine.specs.Bytes.{over}
 use Rattle.listing.specs.Listing.{digits, decimal}
-use Rattle.listing.specs.Written.{Puts, Listed}
+use Rattle.listing.specs.Written.{Puts, filled, longest, Listed}
 
 -- Writing
 
@@ -62,14 +62,56 @@ left-byte zs n h l p =
 pub left-end : {xs s t : List ℕ} {i j : ℕ} (zs : List ℕ) (n : ℕ) → n ≡ length zs → Left xs s i (drop n zs) t j → Puts xs s i t j
 left-end zs n e l = let f : drop n zs ≡ [] = rw e (drop-length zs) in left-done (rw f at l)
 
--- a whole listing
-pub listed : {xs s t : List ℕ} {r : ℕ} → Puts xs s 0 t r → length xs ≤ length s → Listed xs s t r
+-- past the buffer's end nothing is written
+sets-past : (s : List ℕ) (i : ℕ) (xs : List ℕ) → length s ≤ i → sets s i xs ≡ s
+sets-past s i [] h = refl
+sets-past s i (x ∷ xs) h = rw (set-out s i x h) (sets-past s (suc i) xs (omega arith))
+
+sets-over : (xs s : List ℕ) → length xs ≤ length s → sets s 0 xs ≡ over xs s
 unfolding over
-listed {xs} {s} {t} {r} p h = record {
-  bytes = p .bytes ∙ sets-eq xs s 0 (omega arith) ∙ (let e : 0 + length xs ≡ length xs = omega arith in rw e refl);
-  count = omega (arith, p .next);
-  fits = omega (arith, p .next, ap length (p .bytes), length-sets s 0 xs);
-}
+sets-over xs s h = sets-eq xs s 0 (omega arith) ∙ (let e : 0 + length xs ≡ length xs = omega arith in rw e refl)
+
+length-over : (xs s : List ℕ) → length xs ≤ length s → length (over xs s) ≡ length s
+unfolding over
+length-over xs s h = simp (length-append, length-drop) (omega arith)
+
+-- of more bytes than there is room for, the first are written
+sets-first : (xs s : List ℕ) → length s ≤ length xs → sets s 0 xs ≡ take (length s) xs
+unfolding over
+sets-first xs s h =
+    let head : List ℕ = take (length s) xs in
+    let n : length head ≡ length s = length-take-le (length s) xs h in
+    let m : length (sets s 0 head) ≡ length s = length-sets s 0 head in
+    let none : drop (length head) s ≡ [] = rw n (drop-length s) in
+    ap (λ (l : List ℕ). sets s 0 l) (sym (take-append-drop (length s) xs))
+    ∙ sets-append s 0 head (drop (length s) xs)
+    ∙ sets-past (sets s 0 head) (0 + length head) (drop (length s) xs) (omega arith)
+    ∙ sets-over head s (omega arith)
+    ∙ ap (λ (l : List ℕ). head ++ l) none
+    ∙ append-nil head
+
+sets-filled : (xs s : List ℕ) → sets s 0 xs ≡ filled xs s
+unfolding over filled
+sets-filled xs s = go (ltb (length s) (length xs)) refl
+  where
+    go : (t : Bool) → ltb (length s) (length xs) ≡ t → sets s 0 xs ≡ take (length s) (over xs s)
+    go true e =
+        let h : length s ≤ length xs = omega (arith, ltb-true (length s) (length xs) e) in
+        sets-first xs s h ∙ sym (take-append-le (length s) xs (drop (length xs) s) h)
+    go false e =
+        let h : length xs ≤ length s = omega (arith, ltb-false (length s) (length xs) e) in
+        sets-over xs s h ∙ sym (take-all (length s) (over xs s) (omega (arith, length-over xs s h)))
+
+-- a whole listing
+pub listed : {xs s t : List ℕ} {r : ℕ} → Puts xs s 0 t r → r ≤ longest → Listed xs s t r
+listed {xs} {s} p h = record { bytes = p .bytes ∙ sets-filled xs s; count = omega (arith, p .next); short = h }
+
+-- a buffer that is long enough begins with the whole listing
+pub listed-whole : {xs s t : List ℕ} {r : ℕ} → Listed xs s t r → longest ≤ length s → take r t ≡ xs
+unfolding over filled
+listed-whole {xs} {s} {t} {r} l h =
+    let b : take (length xs) t ≡ xs = ap (take (length xs)) (l .bytes) ∙ take-take (length xs) (length s) (over xs s) (omega (arith, l .count, l .short)) ∙ take-append-seam xs (drop (length xs) s) in
+    rw (l .count) b
 
 -- Numbers in decimal
 

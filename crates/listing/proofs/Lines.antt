@@ -2,22 +2,22 @@
 use mathlib.Core.Bool.{Bool, true, false}
 use mathlib.Core.List.{List, [], _∷_, _++_}
 use mathlib.Core.Path.{_≡_, refl, sym, ap, _∙_}
-use Prim.Native.Nat.{ℕ, suc, _+_, _*_, _<_, _≤_, min}
+use Prim.Native.Nat.{ℕ, suc, _+_, _*_, _/_, _<_, _≤_, min}
 use native.Mathlib.Nat.{min-eq-left, min-eq-right}
 use native.Mathlib.Omega.{arith}
 use native.Mathlib.Numerals.{add-one}
 use borrow.Author.Tests.{eqb-true, ltb-true, ltb-false}
 use lib.Dec.{eqb, ltb}
 use lib.ListN.{length, getD, take, drop, length-append, length-take}
-use lib.Seq.{getD-take, length-take-le, take-suc, take-all, take-length, drop-cons, drop-length}
+use lib.Seq.{getD-take, length-take-le, take-suc, take-all, take-length, take-take, drop-cons, drop-length}
 use Rattle.base.specs.Common.{if_then_else_}
-use Rattle.machine.specs.Bytes.{count, wordsOf}
+use Rattle.machine.specs.Bytes.{count, wordsOf, tableOf}
 use Rattle.machine.proofs.Bytes.{length-wordsOf}
 use Rattle.listing.specs.Listing.{lineFeeds, lineAt, wordLine, wordLines, decimal}
 use Rattle.listing.specs.Written.{Puts}
 use Rattle.listing.proofs.Laws.{Left, left-then, left-done, length-4, length-5}
 
-feeds-append : (s t : List ℕ) → lineFeeds (s ++ t) ≡ lineFeeds s + lineFeeds t
+pub feeds-append : (s t : List ℕ) → lineFeeds (s ++ t) ≡ lineFeeds s + lineFeeds t
 unfolding lineFeeds
 feeds-append [] t = omega arith
 feeds-append (b ∷ s) t = go (eqb b 10) (feeds-append s t)
@@ -27,16 +27,16 @@ feeds-append (b ∷ s) t = go (eqb b 10) (feeds-append s t)
     go true h = omega arith
     go false h = omega arith
 
-pub line-first : (text : List ℕ) → 1 ≡ lineAt text 0
-unfolding lineAt lineFeeds
-line-first text = refl
+-- Counting a text byte by byte
 
-line-next : (text : List ℕ) (i : ℕ) → i < length text → lineAt text (i + 1) ≡ lineAt text i + lineFeeds (getD text i 0 ∷ [])
-unfolding lineAt
-line-next text i h =
+pub feeds-none : (text : List ℕ) → 0 ≡ lineFeeds (take 0 text)
+unfolding lineFeeds
+feeds-none text = refl
+
+feeds-next : (text : List ℕ) (i : ℕ) → i < length text → lineFeeds (take (i + 1) text) ≡ lineFeeds (take i text) + lineFeeds (getD text i 0 ∷ [])
+feeds-next text i h =
     let e : take (i + 1) text ≡ take i text ++ (getD text i 0 ∷ []) = rw add-one (take-suc text i 0 h) in
-    let f = feeds-append (take i text) (getD text i 0 ∷ []) in
-    omega (arith, ap lineFeeds e)
+    ap lineFeeds e ∙ feeds-append (take i text) (getD text i 0 ∷ [])
 
 one-feed : lineFeeds (10 ∷ []) ≡ 1
 unfolding lineFeeds
@@ -51,13 +51,13 @@ no-feed b f = go (eqb b 10) refl
     go false q = refl
 
 -- behind a line feed, and behind another byte
-pub line-feed : (text : List ℕ) (i : ℕ) → i < length text → getD text i 0 ≡ 10 → lineAt text i + 1 ≡ lineAt text (i + 1)
-line-feed text i h e = let n = line-next text i h in omega (arith, ap (λ (b : ℕ). lineFeeds (b ∷ [])) e, one-feed)
+pub feed-more : (text : List ℕ) (i : ℕ) → i < length text → getD text i 0 ≡ 10 → lineFeeds (take i text) + 1 ≡ lineFeeds (take (i + 1) text)
+feed-more text i h e = omega (arith, feeds-next text i h, ap (λ (b : ℕ). lineFeeds (b ∷ [])) e, one-feed)
 
-pub line-other : (text : List ℕ) (i : ℕ) → i < length text → (getD text i 0 ≡ 10 → ⊥) → lineAt text i ≡ lineAt text (i + 1)
-line-other text i h e = let n = line-next text i h in omega (arith, no-feed (getD text i 0) e)
+pub feed-same : (text : List ℕ) (i : ℕ) → i < length text → (getD text i 0 ≡ 10 → ⊥) → lineFeeds (take i text) ≡ lineFeeds (take (i + 1) text)
+feed-same text i h e = omega (arith, feeds-next text i h, no-feed (getD text i 0) e)
 
-feeds-few : (s : List ℕ) → lineFeeds s ≤ length s
+pub feeds-few : (s : List ℕ) → lineFeeds s ≤ length s
 unfolding lineFeeds
 feeds-few [] = omega arith
 feeds-few (b ∷ s) = go (eqb b 10) (feeds-few s)
@@ -65,14 +65,6 @@ feeds-few (b ∷ s) = go (eqb b 10) (feeds-few s)
     go : (t : Bool) → lineFeeds s ≤ length s → (if t then suc (lineFeeds s) else lineFeeds s) ≤ suc (length s)
     go true h = omega arith
     go false h = omega arith
-
-pub line-few : (text : List ℕ) (i : ℕ) → lineAt text i ≤ i + 1
-unfolding lineAt
-line-few text i = let f = feeds-few (take i text) in let l = length-take i text in omega arith
-
-pub line-low : (text : List ℕ) (i : ℕ) → 1 ≤ lineAt text i
-unfolding lineAt
-line-low text i = omega arith
 
 take-min : (n : ℕ) (s : List ℕ) → take (min n (length s)) s ≡ take n s
 take-min n s = go (ltb n (length s)) refl
@@ -82,9 +74,9 @@ take-min n s = go (ltb n (length s)) refl
     go false e = let h : length s ≤ n = omega (arith, ltb-false n (length s) e) in rw (min-eq-right h) (take-length s ∙ sym (take-all n s h))
 
 -- past the end there are no more
-pub line-end : (text : List ℕ) (start : ℕ) → lineAt text (min start (length text)) ≡ lineAt text start
+pub line-end : (text : List ℕ) (start : ℕ) {feeds : ℕ} → feeds ≡ lineFeeds (take (min start (length text)) text) → 1 + feeds ≡ lineAt text start
 unfolding lineAt
-line-end text start = ap (λ (s : List ℕ). 1 + lineFeeds s) (take-min start text)
+line-end text start e = ap (λ (n : ℕ). 1 + n) e ∙ ap (λ (s : List ℕ). 1 + lineFeeds s) (take-min start text)
 
 -- The lines of words
 
@@ -92,6 +84,20 @@ line-end text start = ap (λ (s : List ℕ). 1 + lineFeeds s) (take-min start te
 pub first-words : (s : List ℕ) (n : ℕ) → 2 * n ≤ length s → length (take n (wordsOf s)) ≡ n
 unfolding count
 first-words s n h = length-take-le n (wordsOf s) (omega (arith, length-wordsOf s))
+
+take-both : (a b : ℕ) (l : List ℕ) → take (min (min a b) (length l)) l ≡ take a (take b l)
+take-both a b l = take-min (min a b) l ∙ go (ltb a b) refl
+  where
+    go : (t : Bool) → ltb a b ≡ t → take (min a b) l ≡ take a (take b l)
+    go true e = let h : a ≤ b = omega (arith, ltb-true a b e) in rw (min-eq-left h) (sym (take-take a b l h))
+    go false e = let h : b ≤ a = omega (arith, ltb-false a b e) in rw (min-eq-right h) (sym (take-all a (take b l) (omega (arith, length-take b l))))
+
+-- the words that are listed
+pub listed-words : (s : List ℕ) (words n : ℕ) → n ≡ min words (min (length s / 2) 4096) → take n (wordsOf s) ≡ take words (tableOf s)
+unfolding tableOf count
+listed-words s words n e =
+    let q : n ≡ min (min words 4096) (length (wordsOf s)) = omega (arith, length-wordsOf s) in
+    rw q (take-both words 4096 (wordsOf s))
 
 lines-next : (ws : List ℕ) (i : ℕ) → i < length ws → wordLines (i + 1) (drop i ws) ≡ wordLine (i + 1) (getD ws i 0) ++ wordLines (i + 1 + 1) (drop (i + 1) ws)
 unfolding wordLines

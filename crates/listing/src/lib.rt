@@ -1,11 +1,17 @@
 // The listing of the processor's answer, written into a lent buffer.
 ghost use mathlib.Core.Path.{_≡_};
 ghost use mathlib.Core.List.{[], _∷_};
-ghost use Prim.Native.Nat.{ℕ, _+_, _*_, _%_, _<_, _≤_, min};
+ghost use Prim.Native.Nat.{_+_, _*_, _%_, _<_, _≤_, min};
 ghost use lib.ListN.{length, take};
-ghost use Rattle.machine.specs.Bytes.{wordsOf};
-ghost use Rattle.listing.specs.Listing.{decimal, lineAt, wordLine, wordLines, verdictEnd, heading, tableListing, refusalListing};
+ghost use Rattle.machine.specs.Bytes.{wordsOf, tableOf};
+ghost use Rattle.listing.specs.Listing.{decimal, lineFeeds, lineAt, wordLine, wordLines, verdictEnd, heading, tableListing, refusalListing};
 ghost use Rattle.listing.specs.Written.{Puts, Listed};
+
+// "Table words past 4,096 are outside the table."
+const TABLE_WORDS: usize = 4096;
+
+// No listing is longer: 12 bytes for each word of the longest table are more than enough.
+pub const LONGEST: usize = 49152;
 
 fn least(a: usize, b: usize) -> usize
     ensures { λ r. ⌜ r ≡ min a b ⌝ }
@@ -13,20 +19,28 @@ fn least(a: usize, b: usize) -> usize
     if a < b { a } else { b }
 }
 
+// The line feeds in a text, or in a piece of one.
+pub fn line_feeds(text: &[u8]) -> usize
+    ensures { λ r. ⌜ r ≡ lineFeeds (now (text .entry)) ⌝ }
+    ensures { λ r. ⌜ r ≤ length (now (text .entry)) ⌝ }
+{
+    let mut feeds = 0;
+    let mut i = 0;
+    while i < text.len() {
+        if text[i] == b'\n' {
+            feeds += 1;
+        }
+        i += 1;
+    }
+    feeds
+}
+
 // The line, from 1, of the word that starts there.
 pub fn lines_before(text: &[u8], start: usize) -> usize
     ensures { λ r. ⌜ r ≡ lineAt (now (text .entry)) start ⌝ }
 {
     let end = least(start, text.len());
-    let mut line = 1;
-    let mut i = 0;
-    while i < end {
-        if text[i] == b'\n' {
-            line += 1;
-        }
-        i += 1;
-    }
-    line
+    1 + line_feeds(&text[..end])
 }
 
 // Writing: each function gives the next place. Past the buffer's end nothing is written.
@@ -129,18 +143,20 @@ fn put_heading(out: &mut [u8], words: usize, finishing: bool) -> usize
     put_verdict(out, d, finishing)
 }
 
-// The listing of a table of so many words, high byte first, and its verdict.
+// A whole listing: as much of it as the lent buffer holds is written, from the buffer's start on, and the answer is the length of all of it. So it is
+// complete exactly if the answer is at most the buffer's length; LONGEST bytes are enough for any.
+
+// The listing of a table's first words, high byte first, and its verdict; `words` past the end of the table are not there.
 pub fn list_table(table: &[u8], words: usize, finishing: bool, out: &mut [u8]) -> usize
-    requires { ⌜ (words ≤ 4096) × (2 * words ≤ length (now table)) × (49152 ≤ length (now out)) ⌝ }
-    ensures { λ r. ⌜ Listed (tableListing (take words (wordsOf (now (table .entry)))) finishing) (now (out .entry)) (now (out .exit)) r ⌝ }
+    ensures { λ r. ⌜ Listed (tableListing (take words (tableOf (now (table .entry)))) finishing) (now (out .entry)) (now (out .exit)) r ⌝ }
 {
-    let at = put_heading(out, words, finishing);
-    put_words(table, words, out, at)
+    let n = least(words, least(table.len() / 2, TABLE_WORDS));
+    let at = put_heading(out, n, finishing);
+    put_words(table, n, out, at)
 }
 
 // The listing of a refusal.
 pub fn list_refusal(number: u16, line: usize, out: &mut [u8]) -> usize
-    requires { ⌜ 49152 ≤ length (now out) ⌝ }
     ensures { λ r. ⌜ Listed (refusalListing number line) (now (out .entry)) (now (out .exit)) r ⌝ }
 {
     let a = put_bytes(out, 0, b"refused ");

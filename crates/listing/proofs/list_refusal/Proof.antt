@@ -43,7 +43,7 @@ returns c =
     let f = c .before .before .put-byte .ensures in
     let n = rw (c .before .before .before .before .before .before .before .before .before .before .before .before .before .before .before .before .wide .ensures .0) at (b .0) in
     let p = puts-then (puts-then (puts-then (puts-then a n) d) (e .0)) f in
-    listed p (omega (arith, a .next, b .1, d .next, e .1, f .next, p .next, c .before .before .before .before .before .before .before .before .before .before .before .before .before .before .before .before .before .before .before .before .before .before .before .before .pre))
+    listed p (omega (arith, a .next, b .1, d .next, e .1, f .next))
 
 pub list-refusal-spec : {M : Type 1} → statement M
 list-refusal-spec =
