@@ -23,6 +23,7 @@ use Rattle.syntax.specs.Sections
 use Rattle.words.specs.Words
 use Rattle.listing.specs.Listing
 use Rattle.listing.specs.Listing.{decimal, listing}
+use Rattle.listing.specs.Written.{filled}
 
 listed : Unit {0}
 unfolding Words.opened Reading.opened Actions.opened Sections.opened Parse.opened Known.opened Declare.opened Resolve.opened Understand.opened Program.opened Past.opened Table.opened Test.opened Bytes.opened Process.opened Listing.opened
@@ -55,3 +56,8 @@ spelled = tt
 pub high-first : T (same (listing [] (accepted (wordsOf (1 ∷ 2 ∷ [])) false)) (bytes "table 1 finishing no\n1 258\n"))
 unfolding listed
 high-first = tt
+
+-- a buffer that is longer than the listing, and one that is shorter
+pub fitted : T (same (filled (bytes "abc") (bytes "uvwxyz")) (bytes "abcxyz") && same (filled (bytes "abc") (bytes "uv")) (bytes "ab") && same (filled (bytes "abc") []) [])
+unfolding listed filled
+fitted = tt
