@@ -1,13 +1,31 @@
-# make list FILE=..   print a program's table and verdict
-# make test           every check and test
+# make list FILE=..        print a program's table and verdict
+# make build               prove library and lister: target/lib/libsst.a, target/bin/lister
+# make install PREFIX=..   put library, header, pkg-config file, lister and its page below PREFIX (/usr/local); DESTDIR=.. for a package
+# make test                every check and test
 FILE ?= examples/scanner.ssl
+PREFIX ?= /usr/local
+DESTDIR ?=
+SOURCES = crates.txt $(shell find crates -name '*.rt' -o -name '*.antt')
 
-.PHONY: list test
+.PHONY: list build install test
+.NOTPARALLEL:
+
 list:
 	@test -r "$(FILE)" || { echo "no such file: $(FILE)" >&2; exit 1; }
-	@mkdir -p target
-	@rt check lister > target/list.log 2>&1 || { echo "The lister is not proved: see target/list.log" >&2; exit 1; }
+	@scripts/progress target/list.log rt check lister || { echo "The lister is not proved: see target/list.log" >&2; exit 1; }
 	@target/bin/lister < "$(FILE)"
+
+build: target/lib/libsst.a target/bin/lister
+
+target/lib/libsst.a: $(SOURCES)
+	@scripts/library
+
+target/bin/lister: $(SOURCES)
+	@scripts/progress target/list.log rt check lister
+	@touch $@
+
+install: build
+	@PREFIX="$(PREFIX)" DESTDIR="$(DESTDIR)" scripts/install
 
 test:
 	@scripts/test

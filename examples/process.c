@@ -1,6 +1,6 @@
 /* Hands program texts to the processor and walks the tables that it writes.
  *
- *   cc -std=c99 -Iinclude examples/process.c -L<folder of libfirmware.a> -lfirmware -o process
+ *   cc -std=c99 examples/process.c $(pkg-config --cflags --libs sst) -o process
  */
 #include <stdio.h>
 #include <string.h>

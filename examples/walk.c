@@ -1,6 +1,6 @@
 /* Walks a table in pauses: each operation that wants an answer is handed out, done here, and its answer given to the next call.
  *
- *   cc -std=c99 -Iinclude examples/walk.c -L<folder of libfirmware.a> -lfirmware -o walk
+ *   cc -std=c99 examples/walk.c $(pkg-config --cflags --libs sst) -o walk
  *
  * The table is that of
  *

@@ -1,4 +1,4 @@
-//! Compiles the files of c/ and, with the feature `lib`, links libfirmware.a.
+//! Compiles the files of c/ and, with the feature `lib`, links libsst.a.
 
 use std::env;
 use std::path::Path;
@@ -47,24 +47,24 @@ fn main() {
     println!("cargo::rerun-if-env-changed=SST_LIB_DIR");
     if env::var_os("CARGO_FEATURE_LIB").is_some() {
         let Ok(dir) = env::var("SST_LIB_DIR") else {
-            fail("set SST_LIB_DIR to the folder of libfirmware.a, or build with --no-default-features")
+            fail("set SST_LIB_DIR to the folder of libsst.a, or build with --no-default-features")
         };
-        let library = Path::new(&dir).join("libfirmware.a");
+        let library = Path::new(&dir).join("libsst.a");
         let Ok(library) = library.canonicalize() else {
             fail(&format!("{}: not found; or build with --no-default-features", library.display()))
         };
         println!("cargo::rerun-if-changed={}", library.display());
         entries_only(&library, &out);
-        println!("cargo::rustc-link-lib=static=firmware");
+        println!("cargo::rustc-link-lib=static=sst");
         println!("cargo::rustc-link-lib=dylib=m");
         println!("cargo::rustc-link-lib=dylib=c");
     }
 }
 
-/// Makes a libfirmware.a in `out` that shows nothing but the entries, so that what else the library holds cannot meet a namesake here.
+/// Makes a libsst.a in `out` that shows nothing but the entries, so that what else the library holds cannot meet a namesake here.
 fn entries_only(library: &Path, out: &str) {
-    let object = format!("{out}/firmware.o");
-    let archive = format!("{out}/libfirmware.a");
+    let object = format!("{out}/sst.o");
+    let archive = format!("{out}/libsst.a");
     let mut linker = Command::new("ld");
     linker.args(["-r", "--force-group-allocation", "-o", &object]);
     for entry in ["fresh", "whole", "paused", "phase", "reason", "location", "read", "used", "process"] {
