@@ -90,6 +90,10 @@ classes =
     ∷ fine "input: a; rules M: [ | a: [ | a: ] ] [ | a: | *: ]; end"
     (7 ∷ 14 ∷ 7 ∷ 3 ∷ 1 ∷ 8 ∷ 1 ∷ 0 ∷ 4 ∷ 3 ∷ 0 ∷ 2 ∷ 8 ∷ 1 ∷ 8 ∷ 1 ∷ 0 ∷ 15 ∷ 3 ∷ 0 ∷ 2 ∷ 19 ∷ 7 ∷ 3 ∷ 1 ∷ 4 ∷ 1 ∷ 0 ∷ 4 ∷ 9 ∷ [])
     ∷ fine "mechanism m: f; input: g 'f'; rules M: f 'f'; end" (256 ∷ 3 ∷ 0 ∷ 9 ∷ [])
+    ∷ fine "mechanism m: f; output: f; rules M: f .f; end" (256 ∷ 5 ∷ 0 ∷ 9 ∷ [])
+    ∷ fine "mechanism m: f; error: f; rules M: f #f; end" (256 ∷ 6 ∷ 0 ∷ 9 ∷ [])
+    ∷ fine "mechanism m: f; type t: f; mechanism n: g(t); rules M: f g(f); end" (256 ∷ 13 ∷ 0 ∷ 512 ∷ 9 ∷ [])
+    ∷ fine "mechanism m: f; type f: v; mechanism n: g(f); rules M: f g(v); end" (256 ∷ 13 ∷ 0 ∷ 512 ∷ 9 ∷ [])
     ∷ []
 
 pub classes-agree : T (allAgree classes)
@@ -123,6 +127,12 @@ faults3 =
     ∷ at "input: a 'q'; mechanism m: f(^q); rules M: ; end" 3 1
     ∷ at "mechanism m: f; rules M: ^m; end" 3 1
     ∷ at "mechanism m: f(^m); rules M: ; end" 3 1
+    ∷ at "mechanism m: h(^q) >> r; rules M: ; end" 3 1
+    ∷ at "input: a; mechanism m: h(^q) >> a; rules M: ; end" 3 1
+    ∷ at "input: a; mechanism m: h(^t) >> a; type t: v; rules M: ; end" 3 1
+    ∷ at "mechanism m: h(^t) >> u; type u: v; type t: v; rules M: ; end" 3 1
+    ∷ at "type t: v; mechanism m: h(t) >> ^q; rules M: ; end" 3 1
+    ∷ at "type t: v; mechanism m: h(^q) >> t; rules M: ; end" 3 1
     ∷ []
 
 pub faults3-agree : T (allAgree faults3)
@@ -209,11 +219,36 @@ faults5 =
     ∷ at "mechanism m: f >> ^M; rules M: ; end" 5 1
     ∷ at "type t: v; mechanism m: f(^v); rules M: ; end" 5 1
     ∷ at "mechanism m: f(^f); rules M: ; end" 5 1
+    ∷ at "input: a b; mechanism m: h(^a) >> b; rules M: ; end" 5 1
+    ∷ at "input: a; mechanism m: h(^a) >> q; rules M: ; end" 5 1
+    ∷ at "input: a; mechanism m: h(^a) >> t; type t: v; rules M: ; end" 5 1
+    ∷ at "input: a; type t: v; mechanism m: h(t) >> ^a; rules M: ; end" 5 1
     ∷ []
 
 pub faults5-agree : T (allAgree faults5)
 unfolding understanding isChecked agrees allAgree markAt unmarked faults5
 faults5-agree = tt
+
+-- 5 of a word that is declared under `input output` alone, which feeds two classes, in each of the others
+pub both5 : List Line
+both5 =
+    at "input output: c; rules M: #^c; end" 5 1
+    ∷ at "input output: c 'z'; rules M: #^'z'; end" 5 3
+    ∷ at "input output: c; rules M: @^c; end" 5 1
+    ∷ at "input output: c; rules M: [@^c | *: ]; end" 5 1
+    ∷ at "input output: c; rules M: [ ^c | *: ]; end" 5 1
+    ∷ at "input output: c; mechanism m: f(^c); rules M: ; end" 5 1
+    ∷ at "input output: c; mechanism m: f >> ^c; rules M: ; end" 5 1
+    ∷ at "input output: c; rules M: ; N >> ^c: ; end" 5 1
+    ∷ at "input output: c; type t: v; mechanism m: f(t); rules M: f(^c); end" 5 1
+    ∷ at "input output: c; type t: v; mechanism m: g >> t; rules M: [ g | ^c: ]; end" 5 1
+    ∷ at "input output: c 'z'; type t: v; rules M: ; N >> t: >> ^'z'; end" 5 3
+    ∷ at "input output: c; rules M: c^(q); end" 5 1
+    ∷ []
+
+pub both5-agree : T (allAgree both5)
+unfolding understanding isChecked agrees allAgree markAt unmarked both5
+both5-agree = tt
 
 -- 6, "label repeated", by value, over all the alternatives of the choice; 7, "`>` outside a cycle"
 pub faults67 : List Line
@@ -287,6 +322,7 @@ order =
     ∷ at "input: a; rules M: [ | a, ^a, q: ] > ; end" 6 1
     ∷ at "input: a; rules M: [ | ^q, a, a: ] > ; end" 3 1
     ∷ at "mechanism m: M; rules ^M >> t: ; end" 4 1
+    ∷ at "input: f; mechanism m: ^f(q) >> r; rules M: ; end" 4 1
     ∷ at "rules M: ; ^M >> t: ; end" 4 1
     ∷ at "rules M: ; N >> ^t: > ; end" 3 1
     ∷ at "type t: v; rules M: ; N >> t: ^q ; end" 3 1
