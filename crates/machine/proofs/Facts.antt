@@ -249,6 +249,13 @@ forms =
     -- words are high byte first; tokens read are four words
     ∷ callOver (0 ∷ 3 ∷ 1 ∷ 2 ∷ []) (1 ∷ 2 ∷ 9 ∷ []) alone 1 (form (0 ∷ 0 ∷ 0 ∷ 0 ∷ 0 ∷ 1 ∷ [])) []
     36 (form (0 ∷ 0 ∷ 0 ∷ 0 ∷ 0 ∷ 3 ∷ 0 ∷ 0 ∷ 0 ∷ 0 ∷ 0 ∷ 0 ∷ 0 ∷ 0 ∷ 0 ∷ 0 ∷ 0 ∷ 0 ∷ 0 ∷ 1 ∷ [])) [] 0 1
+    -- only table words past 4,096 are outside: the 4,097th token is read, a table's 4,096th word is fetched, its 4,097th is not
+    ∷ callOver (0 ∷ 3 ∷ 1 ∷ 2 ∷ []) (replicate 8192 0 ++ (1 ∷ 2 ∷ [])) alone 1 (form (0 ∷ 0 ∷ 0 ∷ 0 ∷ 0 ∷ 1 ∷ (replicate 12 0 ++ (16 ∷ 0 ∷ [])))) []
+    36 (form (0 ∷ 0 ∷ 0 ∷ 0 ∷ 0 ∷ 3 ∷ (replicate 12 0 ++ (16 ∷ 1 ∷ [])))) [] 0 1
+    ∷ callOver (replicate 8190 0 ++ (0 ∷ 9 ∷ [])) [] alone 1 (form (0 ∷ 0 ∷ 0 ∷ 0 ∷ 16 ∷ 0 ∷ [])) []
+    0 (form (0 ∷ 2 ∷ 0 ∷ 0 ∷ 16 ∷ 0 ∷ [])) [] 0 1
+    ∷ callOver (replicate 8192 0 ++ (0 ∷ 9 ∷ [])) [] alone 1 (form (0 ∷ 0 ∷ 0 ∷ 0 ∷ 16 ∷ 1 ∷ [])) []
+    37 (form (0 ∷ 2 ∷ 0 ∷ 37 ∷ 16 ∷ 1 ∷ [])) [] 0 0
     -- result and parameter
     ∷ callOver (0 ∷ 10 ∷ 3 ∷ 4 ∷ 0 ∷ 13 ∷ 5 ∷ 6 ∷ []) [] alone 2 (form (0 ∷ 0 ∷ 0 ∷ 0 ∷ 0 ∷ 1 ∷ [])) []
     36 (form (0 ∷ 0 ∷ 0 ∷ 0 ∷ 0 ∷ 5 ∷ 3 ∷ 4 ∷ 5 ∷ 6 ∷ [])) [] 0 2
