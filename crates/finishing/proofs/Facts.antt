@@ -415,6 +415,10 @@ comes =
     ∷ yes (procedure (just callN) ∷ procedure (just callO) ∷ procedure (a ▸ callM ▸ done) ∷ [])
     -- `M: @O; N: @M; O: @N;`
     ∷ no (procedure (just callO) ∷ procedure (just callM) ∷ procedure (just callN) ∷ [])
+    -- `M: @N; N: @O; O: @P; P: @M;`
+    ∷ no (procedure (just callN) ∷ procedure (just callO) ∷ procedure (just (plain (call 3))) ∷ procedure (just callM) ∷ [])
+    -- `M: @N; N: @O; O: @P; P: a @M;`
+    ∷ yes (procedure (just callN) ∷ procedure (just callO) ∷ procedure (just (plain (call 3))) ∷ procedure (a ▸ callM ▸ done) ∷ [])
     -- `M: @N @N; N: @O; O: ;`
     ∷ yes (procedure (callN ▸ callN ▸ done) ∷ procedure (just callO) ∷ procedure done ∷ [])
     ∷ []

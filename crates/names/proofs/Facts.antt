@@ -150,6 +150,8 @@ faults4 =
     ∷ at "type t: v ^v; rules M: ; end" 4 1
     ∷ at "type t: v = 1 ^w = 1; rules M: ; end" 4 1
     ∷ at "type t: v = 1 w = 0 ^x; rules M: ; end" 4 1
+    ∷ at "type t: v; type ^t: w; rules M: ; end" 4 1
+    ∷ at "input: a b ^a; rules M: ; end" 4 1
     ∷ at "input: a = 5; input: ^b = 5; rules M: ; end" 4 1
     ∷ at "input: a; input output: ^a; rules M: ; end" 4 1
     ∷ at "input: a = 7; input output: ^c = 7; rules M: ; end" 4 1
@@ -162,11 +164,15 @@ faults4 =
     ∷ at "input output: c 'x'; input: ^d 'x'; rules M: ; end" 4 1
     ∷ at "mechanism m: f ^f; rules M: ; end" 4 1
     ∷ at "mechanism m: f; mechanism n: ^f; rules M: ; end" 4 1
+    ∷ at "mechanism m: f g ^f; rules M: ; end" 4 1
     ∷ at "mechanism m: f ^f(q); rules M: ; end" 4 1
+    ∷ at "mechanism m: f; input: ^f; rules M: ; end" 4 1
+    ∷ at "input: f; mechanism m: ^f; rules M: ; end" 4 1
     ∷ at "mechanism m: f; input output: ^f; rules M: ; end" 4 1
     ∷ at "input output: f; mechanism m: ^f; rules M: ; end" 4 1
     ∷ at "rules M: ; ^M: ; end" 4 1
     ∷ at "rules M: @N; N: ; ^N >> t: ; end" 4 1
+    ∷ at "rules M: ; N: ; ^M: ; end" 4 1
     ∷ at "mechanism m: M; rules ^M: ; end" 4 1
     ∷ at "input: a ^a; rules M: > ; end" 4 1
     ∷ []
@@ -191,6 +197,7 @@ faults5 =
     ∷ at "input: a; rules M: @^a; end" 5 1
     ∷ at "mechanism m: f; rules M: [@^f | *: ]; end" 5 1
     ∷ at "type t: v; rules M: [@^t | *: ]; end" 5 1
+    ∷ at "rules M: [@^N | *: ]; N: ; end" 5 1
     ∷ at "rules M: [ ^N | *: ]; N: ; end" 5 1
     ∷ at "input: a; rules M: [ ^a | *: ]; end" 5 1
     ∷ at "output: b; rules M: [ | ^b: ]; end" 5 1
@@ -199,14 +206,21 @@ faults5 =
     ∷ at "type t: v; type u: w; rules M: [@N | ^w: ]; N >> t: >> v; end" 5 1
     ∷ at "input: t; rules M: [@N | *: ]; N >> ^t: ; end" 5 1
     ∷ at "input: a; rules M: [@N | ^a: ]; N >> t: ; end" 5 1
+    ∷ at "output: a; rules M: [@N | ^a: ]; N >> t: ; end" 5 1
     ∷ at "type t: v; type u: w; mechanism m: f(t); rules M: f(^w); end" 5 1
     ∷ at "input: a 'v'; type t: v; mechanism m: f(t); rules M: f(^'v'); end" 5 3
     ∷ at "type t: v; type u: w; rules M: ; N >> t: >> ^w; end" 5 1
     ∷ at "input: a 'v'; type t: v; rules M: ; N >> t: >> ^'v'; end" 5 3
     ∷ at "type t: v; mechanism m: h(t) >> t; rules M: ^h(v); end" 5 1
+    ∷ at "type t: v; mechanism m: h(t) >> t; rules M: ^h(q); end" 5 1
+    ∷ at "type t: v; mechanism m: g >> t; rules M: ^g; end" 5 1
+    ∷ at "type t: v; mechanism m: g >> t; rules M: ^g(v); end" 5 1
     ∷ at "type t: v; mechanism m: h(t) >> t; rules M: [ ^h | v: ]; end" 5 1
     ∷ at "type t: v; mechanism m: g >> t; rules M: [ g^(v) | v: ]; end" 5 1
     ∷ at "type t: v; mechanism m: f(t); rules M: [ ^f(v) | v: ]; end" 5 1
+    ∷ at "type t: v; mechanism m: f(t); rules M: [ ^f(q) | *: ]; end" 5 1
+    ∷ at "mechanism m: f; rules M: [ ^f | *: ]; end" 5 1
+    ∷ at "mechanism m: f; rules M: [ ^f(q) | *: ]; end" 5 1
     ∷ at "type t: v; mechanism m: h(t) >> t; rules M: [ h(^M) | v: ]; end" 5 1
     ∷ at "input: a 'x'; rules M: 'x'^(q); end" 5 1
     ∷ at "input: a; rules M: a^(q); end" 5 1
