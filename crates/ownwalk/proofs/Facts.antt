@@ -1,15 +1,17 @@
 -- Programs walked by their rules: the step after which each has stopped, and with what, worked out from document 01 by hand.
 use mathlib.Core.Bool.{Bool, true, false, _&&_, not}
 use mathlib.Core.List.{List, [], _∷_, _++_}
+use mathlib.Core.Option.{some}
+use mathlib.Core.Path.{_≡_, refl}
 use Prim.Native.Nat.{ℕ, zero, suc, _+_, _-_}
 use lib.Dec.{T, eqb}
 use lib.ListN.{replicate}
 use Rattle.base.specs.Common.{if_then_else_, same}
 use Rattle.base.specs.Tree.{Action, plain, cycle, choice, Actions, done, _▸_, Alternatives, nil, alternative, Otherwise, absent, otherwise}
 use Rattle.events.specs.Events
-use Rattle.events.specs.Events.{Event, eventWords, Reason, reasonNumber, Io}
+use Rattle.events.specs.Events.{Event, operation, eventWords, Reason, reasonNumber, Io}
 use Rattle.ownwalk.specs.OwnWalk
-use Rattle.ownwalk.specs.OwnWalk.{Own, on, choosing, stopped, nowhere, owns, ownStart}
+use Rattle.ownwalk.specs.OwnWalk.{Own, on, choosing, stopped, nowhere, nextAnswer, owns, ownStart}
 use Rattle.program.specs.Program
 use Rattle.program.specs.Program.{Plain, match, any, emit, error, exit, call, back, give, update, updateWith, Selector, byToken, byRule, byOperation, byOperationWith, Act, Acts, Alts, Other, Rule}
 
@@ -184,3 +186,8 @@ calls =
 pub all-hold : T (allHold (plains ++ (cycles ++ (byTokens ++ (byRules ++ (byOperations ++ calls))))))
 unfolding wordsOf isStop goesOn holds allHold plains cycles byTokens byRules byOperations calls Events.opened Program.opened OwnWalk.opened
 all-hold = tt
+
+-- Which answer is next goes by the choice operations in the events, also where the count of answers used stands at its greatest (R15).
+pub next-by-events : nextAnswer (5 ∷ 6 ∷ []) (record { read = 0; used = 18446744073709551615; events = operation 768 ∷ [] }) ≡ some 6
+unfolding Events.opened OwnWalk.opened
+next-by-events = refl

@@ -90,6 +90,20 @@ by-operation-with =
     makes (procedure (choice (byOperationWith 1024 3) (alternative (2 ∷ []) (plain (error 4) ▸ done) nil) (otherwise (plain (emit 6) ▸ done)) ▸ done) ∷ [])
     (13 ∷ 3 ∷ 1024 ∷ 11 ∷ 5 ∷ 6 ∷ 4 ∷ 1 ∷ 6 ∷ 1 ∷ 2 ∷ 6 ∷ 5 ∷ 6 ∷ 9 ∷ [])
 
+-- `[ f(3) | 2: ]` with f = 1,024. 1: setParameter 3; 3: f; 4: choice, 8 - 5; 6: jumpForward, 12 - 7; 8: one label; 2 at 9, back 10 - 6;
+-- 11: endChoice; 12: return
+abbrev by-operation-with-only : Fact
+by-operation-with-only =
+    makes (procedure (choice (byOperationWith 1024 3) (alternative (2 ∷ []) done nil) absent ▸ done) ∷ [])
+    (13 ∷ 3 ∷ 1024 ∷ 11 ∷ 3 ∷ 1 ∷ 5 ∷ 1 ∷ 2 ∷ 4 ∷ 12 ∷ 9 ∷ [])
+
+-- `M: [@R | 5: | *: .1 ]; R >> t: >> 5;` 1: call 13; 3: choice, 7 - 4; 5: jumpForward, 12 - 6; 7: one label; 5 at 8, back 9 - 5;
+-- 10: emit 1; 12: return; 13: setResult 5; 15: return
+abbrev by-rule-else : Fact
+by-rule-else =
+    makes (procedure (choice (byRule 1) (alternative (5 ∷ []) done nil) (otherwise (plain (emit 1) ▸ done)) ▸ done) ∷ valued (plain (give 5) ▸ done) ∷ [])
+    (8 ∷ 13 ∷ 11 ∷ 3 ∷ 1 ∷ 6 ∷ 1 ∷ 5 ∷ 4 ∷ 5 ∷ 1 ∷ 9 ∷ 10 ∷ 5 ∷ 9 ∷ [])
+
 -- `[ | 4, 7: ? | 9: ]`: three labels in two alternatives. 1: inputChoice, 8 - 2; 3: inputAny; 4: jumpForward, 19 - 5; 6: jumpForward,
 -- 19 - 7; 8: three labels; 4 at 9, back 10 - 3; 7 at 11, back 12 - 3; 9 at 13, back 14 - 6; 15: input 4; 17: jumpBack, 18 - 3; 19: return
 abbrev two-labels : Fact
@@ -119,6 +133,22 @@ followed =
     let alternatives : Alts = alternative (1 ∷ []) (plain exit ▸ plain (emit 8) ▸ done) nil in
     makes (procedure (cycle (choice byToken alternatives (otherwise done) ▸ plain (error 9) ▸ done) ▸ done) ∷ [])
     (7 ∷ 7 ∷ 1 ∷ 12 ∷ 5 ∷ 8 ∷ 1 ∷ 4 ∷ 1 ∷ 1 ∷ 8 ∷ 6 ∷ 9 ∷ 2 ∷ 14 ∷ 9 ∷ [])
+
+-- `{ [ | 1: | 2: > ] #9 }`: an exit in the second alternative. 1: inputChoice, 9 - 2; 3: jumpForward past the choice, 18 - 4;
+-- 5: jumpForward past the cycle, 22 - 6; 7: jumpForward past the choice, 18 - 8; 9: two labels; 1 at 10, back 11 - 3; 2 at 12, back 13 - 5;
+-- 14: input 1; 16: jumpBack, 17 - 3; 18: error 9; 20: jumpBack, 21 - 1; 22: return
+abbrev second-exits : Fact
+second-exits =
+    let alternatives : Alts = alternative (1 ∷ []) done (alternative (2 ∷ []) (plain exit ▸ done) nil) in
+    makes (procedure (cycle (choice byToken alternatives absent ▸ plain (error 9) ▸ done) ▸ done) ∷ [])
+    (7 ∷ 7 ∷ 1 ∷ 14 ∷ 1 ∷ 16 ∷ 1 ∷ 10 ∷ 2 ∷ 1 ∷ 8 ∷ 2 ∷ 8 ∷ 3 ∷ 1 ∷ 2 ∷ 14 ∷ 6 ∷ 9 ∷ 2 ∷ 20 ∷ 9 ∷ [])
+
+-- `{ [ | 1: | *: > ] #9 }`: an exit in otherwise. 1: inputChoice, 5 - 2; 3: jumpForward past the choice, 10 - 4; 5: one label; 1 at 6,
+-- back 7 - 3; 8: jumpForward past the cycle, 14 - 9; 10: error 9; 12: jumpBack, 13 - 1; 14: return
+abbrev otherwise-exits : Fact
+otherwise-exits =
+    makes (procedure (cycle (choice byToken (alternative (1 ∷ []) done nil) (otherwise (plain exit ▸ done)) ▸ plain (error 9) ▸ done) ▸ done) ∷ [])
+    (7 ∷ 3 ∷ 1 ∷ 6 ∷ 1 ∷ 1 ∷ 4 ∷ 1 ∷ 5 ∷ 6 ∷ 9 ∷ 2 ∷ 12 ∷ 9 ∷ [])
 
 -- `{ [ | 1: [ f | 2: > | 3: ] | 4: ] }` with f = 768. 1: inputChoice, 22 - 2; 3: f; 4: choice, 12 - 5; 6: jumpForward past the cycle,
 -- 33 - 7; 8: jumpForward past the inner choice, 18 - 9; 10: jumpForward likewise, 18 - 11; 12: two labels; 2 at 13, back 14 - 6; 3 at 15,
@@ -153,7 +183,7 @@ nothing = makes [] []
 
 pub tables : List Fact
 tables =
-    P1 ∷ P2 ∷ P3 ∷ P4 ∷ P5 ∷ P6 ∷ P7 ∷ by-rule ∷ by-operation ∷ by-operation-with ∷ two-labels ∷ only-otherwise ∷ nested ∷ followed ∷ choice-in-choice ∷ updates ∷ gives ∷ calls ∷ nothing ∷ []
+    P1 ∷ P2 ∷ P3 ∷ P4 ∷ P5 ∷ P6 ∷ P7 ∷ by-rule ∷ by-operation ∷ by-operation-with ∷ by-operation-with-only ∷ by-rule-else ∷ two-labels ∷ only-otherwise ∷ nested ∷ followed ∷ second-exits ∷ otherwise-exits ∷ choice-in-choice ∷ updates ∷ gives ∷ calls ∷ nothing ∷ []
 
 -- What goes past itself
 
@@ -174,9 +204,10 @@ pasts =
     ∷ passes (cycle (plain (give 0) ▸ plain exit ▸ done) ▸ done)
     ∷ stays (cycle (cycle (plain exit ▸ done) ▸ done) ▸ done)
     ∷ passes (cycle (cycle (plain exit ▸ done) ▸ plain exit ▸ done) ▸ done)
-    -- in a choice too: `{ [ | a: >> v | *: > ] }`, `{ [ | a: > ] }`, `{ [ | a: { > } | *: ? ] }`
+    -- in a choice too: `{ [ | a: >> v | *: > ] }`, `{ [ | a: > ] }`, `{ [ | a: | b: > ] }`, `{ [ | a: { > } | *: ? ] }`
     ∷ passes (cycle (choice byToken (alternative (0 ∷ []) (plain (give 0) ▸ done) nil) (otherwise (plain exit ▸ done)) ▸ done) ▸ done)
     ∷ passes (cycle (choice byToken (alternative (0 ∷ []) (plain exit ▸ done) nil) absent ▸ done) ▸ done)
+    ∷ passes (cycle (choice byToken (alternative (0 ∷ []) done (alternative (1 ∷ []) (plain exit ▸ done) nil)) absent ▸ done) ▸ done)
     ∷ stays (cycle (choice byToken (alternative (0 ∷ []) (cycle (plain exit ▸ done) ▸ done) nil) (otherwise (plain any ▸ done)) ▸ done) ▸ done)
     -- "a choice if some alternative does": `[ | a: >> v ]`, `[ | a: >> v | b: ]`, `[ | a: >> v | *: ]`, `[ | a: >> v | *: >> v ]`, `[ | *: ]`
     ∷ stays (choice byToken (alternative (0 ∷ []) (plain (give 0) ▸ done) nil) absent ▸ done)
