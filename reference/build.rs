@@ -55,16 +55,16 @@ fn main() {
         };
         println!("cargo::rerun-if-changed={}", library.display());
         entries_only(&library, &out);
-        println!("cargo::rustc-link-lib=static=sst");
+        println!("cargo::rustc-link-lib=static=firmware");
         println!("cargo::rustc-link-lib=dylib=m");
         println!("cargo::rustc-link-lib=dylib=c");
     }
 }
 
-/// Makes a libsst.a in `out` that shows nothing but the entries, so that what else the library holds cannot meet a namesake here.
+/// Makes a libfirmware.a in `out` that shows nothing but the entries, so that what else the library holds cannot meet a namesake here.
 fn entries_only(library: &Path, out: &str) {
-    let object = format!("{out}/sst.o");
-    let archive = format!("{out}/libsst.a");
+    let object = format!("{out}/firmware.o");
+    let archive = format!("{out}/libfirmware.a");
     let mut linker = Command::new("ld");
     linker.args(["-r", "--force-group-allocation", "-o", &object]);
     for entry in ["fresh", "whole", "paused", "phase", "reason", "location", "read", "used", "process"] {
