@@ -1,0 +1,166 @@
+-- Demand 3 for the bytes that `sst_process` leaves in a lent buffer, and calls of `sst_whole` and `sst_paused` over them.
+use mathlib.Core.Bool.{Bool, true, false}
+use mathlib.Core.List.{List, [], _∷_, _++_, append-assoc}
+use mathlib.Core.Logic.{_⊎_, inl, inr}
+use mathlib.Core.Option.{Option, none, some}
+use mathlib.Core.Path.{_≡_, refl, sym, ap, _∙_}
+use Prim.Native.Nat.{ℕ, zero, suc, _+_, _*_, _-_, _/_, _%_, _<_, _≤_}
+use native.Mathlib.Omega.{arith}
+use lib.ListN.{length, take, drop, replicate, getD, getElem?}
+use lib.Seq.{take-append-add}
+use Rattle.acceptance.proofs.Accepts.{TableOf, accepted-table}
+use Rattle.agreement.proofs.Theorem.{agreement}
+use Rattle.agreement.specs.Demand.{eventsOf, Begins, wanted, Agrees, Suffices, HasStopped, WaitsPast, Finishes, Demand3, RulesStop, RulesWrite, Listed}
+use Rattle.events.specs.Events.{Event, Reason, Io}
+use Rattle.machine.proofs.Bytes.{length-wordsOf}
+use Rattle.machine.specs.Bytes.{count, wordsOf, tableOf, bytesOf}
+use Rattle.machine.specs.Form.{walkOf, eventsWords}
+use Rattle.machine.specs.Walk.{Phase, going, waiting, stopped, Walk}
+use Rattle.ownwalk.specs.OwnWalk.{owns, ownStart}
+use Rattle.processor.specs.Process.{Answer, accepted, process, understood, meaning, lentWords, lentBytes}
+use Rattle.program.specs.Program.{Rule}
+use Rattle.bytewise.proofs.Joined.{wordsOf-then, eventsWords-then, choices-words, Stands, byte-calls}
+use Rattle.bytewise.specs.AtEntries.{RulesWriteWords, RulesStopWords, WaitsPastBytes, StoppedBytes, SufficesBytes, AgreesBytes, Leaves, AtEntries}
+use Rattle.bytewise.specs.ByteCalls.{Slice, choicesIn, Waits, ByteCalls}
+
+-- The lent bytes
+
+-- the table in the lent bytes: the program's words, and something behind them
+lent-table : (words : List ℕ) (verdict : Bool) (lent : List ℕ) → length words ≤ 4096
+    → (more : List ℕ) × (tableOf (lentBytes (accepted words verdict) lent) ≡ words ++ more)
+unfolding tableOf lentBytes lentWords
+lent-table words verdict lent h =
+    let zeros : List ℕ = replicate (count lent - length words) 0 in
+    let rest = drop (2 * count lent) lent in
+    let e : wordsOf (bytesOf (words ++ zeros) ++ rest) ≡ (words ++ zeros) ++ wordsOf rest = wordsOf-then (words ++ zeros) rest in
+    let a : (words ++ zeros) ++ wordsOf rest ≡ words ++ (zeros ++ wordsOf rest) = append-assoc words zeros (wordsOf rest) in
+    let n : 4096 ≡ length words + (4096 - length words) = omega arith in (
+      take (4096 - length words) (zeros ++ wordsOf rest),
+      ap (take 4096) (e ∙ a) ∙ ap (λ (k : ℕ). take k (words ++ (zeros ++ wordsOf rest))) n ∙ take-append-add words (zeros ++ wordsOf rest) (4096 - length words),
+    )
+
+-- each number of the list is below the bound
+abbrev Below : ℕ → List ℕ → Type 0
+Below b s = (i : ℕ) → getD s i 0 < b
+
+below-then : (b : ℕ) (s r : List ℕ) → Below b s → Below b r → Below b (s ++ r)
+below-then b [] r h k i = k i
+below-then b (x ∷ s) r h k zero = h 0
+below-then b (x ∷ s) r h k (suc i) = below-then b s r (λ j. h (suc j)) k i
+
+below-zeros : (b n : ℕ) → 0 < b → Below b (replicate n 0)
+below-zeros b zero h i = h
+below-zeros b (suc n) h zero = h
+below-zeros b (suc n) h (suc i) = below-zeros b n h i
+
+below-drop : (b n : ℕ) (s : List ℕ) → 0 < b → Below b s → Below b (drop n s)
+below-drop b zero s z h i = h i
+below-drop b (suc n) [] z h i = z
+below-drop b (suc n) (x ∷ s) z h i = below-drop b n s z (λ j. h (suc j)) i
+
+below-bytes : (ws : List ℕ) → Below 65536 ws → Below 256 (bytesOf ws)
+unfolding bytesOf
+below-bytes [] h i = omega arith
+below-bytes (w ∷ ws) h zero = omega (arith, h 0)
+below-bytes (w ∷ ws) h (suc zero) = omega arith
+below-bytes (w ∷ ws) h (suc (suc i)) = below-bytes ws (λ j. h (suc j)) i
+
+lent-bytes : (words : List ℕ) (verdict : Bool) (lent : List ℕ) → Below 65536 words → Below 256 lent → Below 256 (lentBytes (accepted words verdict) lent)
+unfolding lentBytes lentWords
+lent-bytes words verdict lent h k =
+    let zeros : List ℕ = replicate (count lent - length words) 0 in
+    below-then 256 (bytesOf (words ++ zeros)) (drop (2 * count lent) lent)
+    (below-bytes (words ++ zeros) (below-then 65536 words zeros h (below-zeros 65536 (count lent - length words) (omega arith))))
+    (below-drop 256 (2 * count lent) lent (omega arith) k)
+
+-- What holds of events holds of their words
+
+same-walk : {o : Option Walk} {v w : Walk} → o ≡ some v → o ≡ some w → v ≡ w
+same-walk {v = v} {w = w} e d = let x : some v ≡ some w = sym e ∙ d in cc
+
+words-begin : (prog : List Rule) (tokens answers : List ℕ) (es : List Event) (ws : List ℕ) → ws ≡ eventsWords es → RulesWrite prog tokens answers es
+    → RulesWriteWords prog tokens answers ws
+words-begin prog tokens answers es ws e h = record {
+  steps = h .steps;
+  rest = h .begins .rest;
+  begins = rw e (ap eventsWords (h .begins .whole) ∙ eventsWords-then es (h .begins .rest));
+}
+
+module _ (prog : List Rule) (table tokens answers : List ℕ) (bt : Below 256 table) (bk : Slice tokens) (ba : Slice answers) where
+  suffices-bytes : (b : ℕ) → Suffices prog (tableOf table) (wordsOf tokens) (wordsOf answers) b → SufficesBytes prog table tokens answers b
+  unfolding wanted
+  suffices-bytes b h s ws n ns l =
+      let st = byte-calls table tokens answers bt bk ba l in
+      go st (h (st .walk) (st .events) n ns (st .listed))
+    where
+      go : (st : Stands table tokens answers bt bk ba s ws n ns)
+          → HasStopped (st .walk) ⊎ ((n < b) ⊎ WaitsPast prog (wordsOf tokens) (wordsOf answers) (st .walk) (st .events))
+          → StoppedBytes s ⊎ ((n < b) ⊎ WaitsPastBytes prog (wordsOf tokens) (wordsOf answers) s ws)
+      go st (inl x) = inl (st .walk, st .read-back, x)
+      go st (inr (inl x)) = inr (inl x)
+      go st (inr (inr x)) = inr (inr record {
+        waits = (st .walk, st .read-back, x .waits);
+        past = rw (st .words, choices-words (st .events)) (x .past);
+        io = x .io;
+        rules-stop = x .rules-stop;
+      })
+
+  agrees-bytes : Agrees prog (tableOf table) (wordsOf tokens) (wordsOf answers) → AgreesBytes prog table tokens answers
+  agrees-bytes a =
+      record {
+        is-walk = λ l. (let st = byte-calls table tokens answers bt bk ba l in (st .walk, st .read-back));
+        events = λ l h. (let st = byte-calls table tokens answers bt bk ba l in
+            words-begin prog (wordsOf tokens) (wordsOf answers) (st .events) _ (st .words) (a .events (st .listed) (λ p. h (st .walk, st .read-back, p))));
+        events-waiting = λ l h x. (let st = byte-calls table tokens answers bt bk ba l in
+            words-begin prog (wordsOf tokens) (wordsOf answers ++ (x ∷ [])) (st .events) _ (st .words)
+            (a .events-waiting (st .listed) (ap (λ (v : Walk). v .phase) (same-walk (st .read-back) (h .1)) ∙ h .2) x));
+        never-37 = λ l e. a .never-37 (byte-calls table tokens answers bt bk ba l .listed) e;
+        stops = λ l d p. stopped-bytes l d p;
+        budget = λ h. (let x = a .budget h in (x .0, suffices-bytes (x .0) (x .1)));
+      }
+    where
+      stopped-bytes : {s ws : List ℕ} {n : ℕ} {ns : List ℕ} {w : Walk} {r : Reason} → ByteCalls table tokens answers s ws n ns
+          → walkOf s ≡ some w → w .phase ≡ stopped r → RulesStopWords prog (wordsOf tokens) (wordsOf answers) r (w .io .read) (w .io .used) ws
+      stopped-bytes {w = w} l d p =
+          let st = byte-calls table tokens answers bt bk ba l in
+          let q : st .walk ≡ w = same-walk (st .read-back) d in
+          record {
+            io = record { read = st .walk .io .read; used = st .walk .io .used; events = st .events };
+            stop = a .stops (st .listed) (ap (λ (v : Walk). v .phase) q ∙ p);
+            reads = ap (λ (v : Walk). v .io .read) q;
+            uses = ap (λ (v : Walk). v .io .used) q;
+            words = sym (st .words);
+          }
+
+-- Demand 3 at the entries: its only hypothesis is that the processor accepts the text
+pub at-entries : (text : List ℕ) (room : ℕ) (words : List ℕ) (verdict : Bool) → process text room ≡ accepted words verdict → AtEntries text words verdict
+at-entries text room words verdict e =
+    let d = agreement text room words verdict e in
+    let t = accepted-table text room words verdict e in
+    record {
+      prog = d .prog;
+      means = d .means;
+      agrees = λ lent table l tokens answers bk ba.
+          (let x = lent-table words verdict lent (t .within-4096) in
+          agrees-bytes (d .prog) table tokens answers (bytes l) bk ba (rw (begins l) (d .agrees (x .0) (wordsOf tokens) (wordsOf answers))));
+      finishes = λ v number.
+          (let f = d .finishes v number in (
+            f .0,
+            λ lent table l tokens answers bk ba q.
+                (let x = lent-table words verdict lent (t .within-4096) in
+                suffices-bytes (d .prog) table tokens answers (bytes l) bk ba (f .0)
+                (rw (begins l) (f .1 (x .0) (wordsOf tokens) (wordsOf answers) (length-wordsOf tokens ∙ q)))),
+          ));
+      sound = d .sound;
+      complete = d .complete;
+    }
+  where
+    left : {lent table : List ℕ} → Leaves text words verdict lent table → table ≡ lentBytes (accepted words verdict) lent
+    left {lent} l = l .bytes ∙ ap (λ (a : Answer). lentBytes a lent) (l .answer)
+
+    begins : {lent table : List ℕ} (l : Leaves text words verdict lent table)
+        → tableOf table ≡ words ++ lent-table words verdict lent (accepted-table text room words verdict e .within-4096) .0
+    begins {lent} l = ap tableOf (left l) ∙ lent-table words verdict lent (accepted-table text room words verdict e .within-4096) .1
+
+    bytes : {lent table : List ℕ} → Leaves text words verdict lent table → Below 256 table
+    bytes {lent} l = rw (left l) (lent-bytes words verdict lent (accepted-table text room words verdict e .small) (l .buffer .bytes))

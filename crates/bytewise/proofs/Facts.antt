@@ -1,0 +1,43 @@
+-- What the definitions say of single calls over bytes, computed.
+use mathlib.Core.Bool.{Bool, true, _&&_}
+use mathlib.Core.List.{List, [], _∷_, _++_}
+use mathlib.Core.Option.{none, some}
+use Prim.Native.Nat.{ℕ}
+use lib.Dec.{T, eqb}
+use lib.ListN.{replicate}
+use Rattle.base.specs.Common.{same}
+use Rattle.events.specs.Events
+use Rattle.machine.specs.Bytes
+use Rattle.machine.specs.Lengths
+use Rattle.machine.specs.Decode
+use Rattle.machine.specs.Walk
+use Rattle.machine.specs.Step
+use Rattle.machine.specs.Call
+use Rattle.machine.specs.Form
+use Rattle.machine.specs.Call.{Mode, whole, paused}
+use Rattle.machine.specs.Form.{walkBytes, Outcome, callBytes}
+use Rattle.machine.specs.Walk.{fresh}
+use Rattle.bytewise.specs.ByteCalls
+use Rattle.bytewise.specs.ByteCalls.{writtenWords, choicesIn}
+
+-- the table: emit 7, the update operation 512 with the parameter 900, the choice operation 768, return
+abbrev table : List ℕ
+table = 0 ∷ 5 ∷ 0 ∷ 7 ∷ 0 ∷ 13 ∷ 3 ∷ 132 ∷ 2 ∷ 0 ∷ 3 ∷ 0 ∷ 0 ∷ 9 ∷ []
+
+-- the words that the calls of a fresh walk write, the first without an answer, the second with one; the buffers are longer than that
+abbrev one : Outcome
+one = callBytes table [] (paused none) 9 (walkBytes fresh) (replicate 23 170)
+
+abbrev two : Outcome
+two = callBytes table [] (paused (some 4)) 9 (one .walk) (replicate 6 170)
+
+-- the numbers, the words of three events and of none, and of choice operations one; a token or a parameter is none
+unfoldable pub holds : Bool
+holds =
+    eqb (one .number) 22 && same (writtenWords one) (1 ∷ 7 ∷ 0 ∷ 3 ∷ 512 ∷ 900 ∷ 3 ∷ 768 ∷ 0 ∷ []) && eqb (choicesIn (writtenWords one)) 1
+    && eqb (two .number) 0 && same (writtenWords two) []
+    && eqb (choicesIn (1 ∷ 900 ∷ 0 ∷ 2 ∷ 900 ∷ 0 ∷ 3 ∷ 1024 ∷ 5 ∷ 3 ∷ 767 ∷ 0 ∷ 3 ∷ 768 ∷ 0 ∷ [])) 2
+
+pub all-hold : T holds
+unfolding holds Events.opened Bytes.opened Lengths.opened Decode.opened Walk.opened Step.opened Call.opened Form.opened ByteCalls.opened
+all-hold = tt

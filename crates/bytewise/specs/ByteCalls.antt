@@ -1,0 +1,56 @@
+-- "The firmware calls in from C with numbers and byte slices": a list of calls as `sst_whole` and `sst_paused` get them, over bytes alone,
+-- each getting the bytes of the walk that the last one gave back.
+use mathlib.Core.Bool.{Bool, true, false, _&&_}
+use mathlib.Core.List.{List, [], _∷_, _++_}
+use mathlib.Core.Option.{Option, none, some}
+use mathlib.Core.Path.{_≡_}
+use Prim.Native.Nat.{ℕ, _+_, _*_, _-_, _^_, _<_}
+use lib.Dec.{eqb, leb}
+use lib.ListN.{length, take, getD, getElem?}
+use Rattle.base.specs.Common.{if_then_else_}
+use Rattle.machine.specs.Bytes.{wordsOf}
+use Rattle.machine.specs.Call.{Mode, whole, paused}
+use Rattle.machine.specs.Form.{Outcome, walkBytes, walkOf, callBytes}
+use Rattle.machine.specs.Walk.{waiting, Walk, fresh}
+
+-- what any slice is: bytes, and fewer than 2^64 of them
+pub record Slice (s : List ℕ) : Type 0 where
+  pub bytes : (i : ℕ) → getD s i 0 < 256
+  pub short : length s < 2 ^ 64
+
+-- the words of the events that a call wrote: three an event, from the start of its buffer
+unfoldable pub writtenWords : Outcome → List ℕ
+writtenWords o = take (3 * o .events) (wordsOf (o .buffer))
+
+-- how many choice operations stand in the words of events: "3, the operation's instruction number, its parameter or 0", "choice operations
+-- from 768"
+unfoldable pub choicesIn : List ℕ → ℕ
+choicesIn [] = 0
+choicesIn (kind ∷ []) = 0
+choicesIn (kind ∷ op ∷ []) = 0
+choicesIn (kind ∷ op ∷ parameter ∷ ws) = (if eqb kind 3 && leb 768 op then 1 else 0) + choicesIn ws
+
+-- the bytes are those of a walk that waits: `sst_phase` answers 1
+abbrev pub Waits : List ℕ → Type 0
+Waits s = (w : Walk) × (walkOf s ≡ some w) × (w .phase ≡ waiting)
+
+-- how a call may be made that gets the walk's bytes s after events of the words ws: "whole ones all answers"; "an answer taken is the k-th if k
+-- choice operations stand in the events so far", one that is refused is any word
+unfoldable pub Hands : List ℕ → Mode → List ℕ → List ℕ → Type 0
+Hands answers (whole given) s ws = given ≡ wordsOf answers
+Hands answers (paused none) s ws = Unit {0}
+Hands answers (paused (some x)) s ws = (x < 65536) × (Waits s → getElem? (wordsOf answers) (choicesIn ws - 1) ≡ some x)
+
+-- what a list of calls leads to from the bytes of a fresh walk: the walk's bytes, the words of the events of all calls in order, the steps in
+-- all, the numbers answered, the last first. Each call has any budget and any event buffer; o is what it leaves with its caller, by the
+-- contracts of `sst_whole` and `sst_paused`
+pub data ByteCalls (table tokens answers : List ℕ) : List ℕ → List ℕ → ℕ → List ℕ → Type 0 where
+  first : ByteCalls table tokens answers (walkBytes fresh) [] 0 []
+  next : {s ws : List ℕ} {n : ℕ} {ns : List ℕ} → ByteCalls table tokens answers s ws n ns
+      → (m : Mode) (budget : ℕ) (buffer : List ℕ) → Hands answers m s ws → {o : Outcome} → o ≡ callBytes table tokens m budget s buffer
+      → ByteCalls table tokens answers (o .walk) (ws ++ writtenWords o) (n + o .steps) (o .number ∷ ns)
+
+-- all of this file computes where this is unfolded
+unfoldable pub opened : Unit {0}
+unfolding writtenWords choicesIn
+opened = tt

@@ -1,0 +1,1 @@
+// Demand 3 at the C entries: definitions and theorems only.
