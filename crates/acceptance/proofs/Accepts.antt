@@ -10,6 +10,7 @@ use lib.ListN.{length, getD}
 use borrow.Author.Tests.{leb-true}
 use native.Mathlib.Nat.{zero-add}
 use native.Mathlib.Omega.{arith}
+use Rattle.acceptance.specs.Answers.{TableOf}
 use Rattle.acceptance.proofs.CheckLaws.{Yields, no-good, yields, next, passed}
 use Rattle.acceptance.proofs.NamesOk.{MembersOk, NamesOk, Typed, typed, sections-ok}
 use Rattle.acceptance.proofs.Parsed.{parse-ok}
@@ -187,21 +188,6 @@ understood-accepted text prog e = go (parse text) refl e
     go : (r : Read Program) → parse text ≡ r → readIn r ≡ meaning prog → Accepted prog
     go (got p rest) d d₁ = inner p (parse-ok text p rest d) (understand p) refl d₁
     go (fault n w) d d₁ = no-meaning d₁
-
--- what an accepted table is
-pub record TableOf (text : List ℕ) (room : ℕ) (words : List ℕ) (verdict : Bool) : Type 0 where
-  pub prog : List Rule
-  pub means : understood text ≡ meaning prog
-  pub accepts : Accepted prog
-  pub words-are : words ≡ table prog
-  pub verdict-is : verdict ≡ finishing prog
-  pub fits : length words ≤ room
-  pub within-4096 : length words ≤ 4096
-  -- "Words of 16 bits"
-  pub small : (i : ℕ) → getD words i 0 < 65536
-  -- every rule stands at a location of the table
-  pub from : (r : ℕ) → 1 ≤ place 1 prog r
-  pub inside : (r : ℕ) → r < length prog → place 1 prog r ≤ length words
 
 pub accepted-table : (text : List ℕ) (room : ℕ) (words : List ℕ) (verdict : Bool) → process text room ≡ accepted words verdict → TableOf text room words verdict
 unfolding process answerFor

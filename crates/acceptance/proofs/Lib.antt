@@ -6,3 +6,4 @@ pub mod CheckLaws
 pub mod NamesOk
 pub mod Resolved
 pub mod Accepts
+pub mod Numbers

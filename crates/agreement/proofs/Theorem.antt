@@ -8,7 +8,8 @@ use Prim.Native.Nat.{ℕ, zero, suc, _+_, _-_, _*_, _<_, _≤_}
 use lib.ListN.{length, getElem?, length-append}
 use native.Mathlib.Decide.{decLt}
 use native.Mathlib.Omega.{arith}
-use Rattle.acceptance.proofs.Accepts.{TableOf, accepted-table}
+use Rattle.acceptance.proofs.Accepts.{accepted-table}
+use Rattle.acceptance.specs.Answers.{TableOf}
 use Rattle.agreement.proofs.Agree.{Same, both-going, both-stopped, same-io, same-events, same-stopped, stopped-same, never-waiting, never-outside, agree, agree-stop}
 use Rattle.agreement.proofs.BoundWalk.{budget, finishes}
 use Rattle.agreement.proofs.Bound.{Over, over-stopped, over-nowhere}

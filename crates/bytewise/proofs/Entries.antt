@@ -8,7 +8,8 @@ use Prim.Native.Nat.{ℕ, zero, suc, _+_, _*_, _-_, _/_, _%_, _<_, _≤_}
 use native.Mathlib.Omega.{arith}
 use lib.ListN.{length, take, drop, replicate, getD, getElem?}
 use lib.Seq.{take-append-add}
-use Rattle.acceptance.proofs.Accepts.{TableOf, accepted-table}
+use Rattle.acceptance.proofs.Accepts.{accepted-table}
+use Rattle.acceptance.specs.Answers.{TableOf}
 use Rattle.agreement.proofs.Theorem.{agreement}
 use Rattle.agreement.specs.Demand.{eventsOf, Begins, wanted, Agrees, Suffices, HasStopped, WaitsPast, Finishes, Demand3, RulesStop, RulesWrite, Listed}
 use Rattle.events.specs.Events.{Event, Reason, Io}

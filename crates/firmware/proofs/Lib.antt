@@ -3,3 +3,4 @@ pub mod Laws
 pub mod Walks
 pub mod Calls
 pub mod Processing
+pub mod Zero

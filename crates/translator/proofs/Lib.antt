@@ -4,3 +4,4 @@ pub mod Ends
 pub mod Steps
 pub mod Rests
 pub mod Passes
+pub mod Zero
