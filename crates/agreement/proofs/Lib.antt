@@ -13,3 +13,4 @@ pub mod Doubling
 pub mod MoreAnswers
 pub mod Theorem
 pub mod Pauses
+pub mod Enough

@@ -18,7 +18,7 @@ use Rattle.machine.specs.Walk
 use Rattle.machine.specs.Walk.{Phase, going, waiting, stopped, Walk, fresh, moved, withReturns, withResult, withIo, inPhase, withAnswer, first64, atRest}
 use Rattle.machine.specs.Step.{Next, goesOutside, stops, goes, tells, asks, goTo, seekBy, landed, branched, inputChoosing, calling, returning, exec, step}
 use Rattle.machine.specs.Call
-use Rattle.machine.specs.Call.{Mode, whole, paused, Called, ends, endsFor, writing, Turn, over, further, takes, handsOut, turn, run, callIn, callWalk}
+use Rattle.machine.specs.Call.{Mode, whole, paused, Called, ends, endsFor, keeps, writing, Turn, over, further, takes, handsOut, turn, run, callIn, callWalk}
 use Rattle.agreement.specs.Demand.{wanted, Allowed, Listed, begin, then-call}
 use Rattle.agreement.proofs.Single.{taking, done, oneIn, one, runs}
 
@@ -582,16 +582,8 @@ module _ (T tokens answers : List ℕ) where
   goes-on budget m gm room w es n g (waits k v v′ e a p s x y d) = absurd (going-waiting g (ap (λ u. u .phase) d))
 
   -- a call of a walk that has stopped
-  repeats : (w : Walk) (es : List Event) (n : ℕ) (r : Reason) → w .phase ≡ stopped r → Where w es n
-      → Ended es n (ends (reasonNumber r) 0 (atRest w))
-  unfolding ends withEarlier withEvents withIo withReturns atRest inPhase
-  repeats w es n r g (lives p d) = rested es n (reasonNumber r) 0 (atRest w) p (begun w es n d)
-  repeats w es n r g (left p q s d) =
-      let c : length (w .returns) ≡ length (after n .returns) = ap (λ u. length (u .returns)) d in
-      let e = all64 (w .returns) (omega (arith, c, kept-after n .returns)) in
-      let z : n + 0 ≡ n = omega arith in
-      simp (e, append-nil es, z) (left p q s d)
-  repeats w es n r g (waits k v v′ e a p s x y d) = absurd (waiting-stopped (ap (λ u. u .phase) d) g)
+  repeats : (w : Walk) (es : List Event) (n : ℕ) (r : Reason) → w .phase ≡ stopped r → Where w es n → Ended es n (keeps (reasonNumber r) w)
+  repeats w es n r g h = refused w es n h
 
   -- an answer for a walk that waits
   answers-it : (budget room : ℕ) (w : Walk) (es : List Event) (n x : ℕ) → w .phase ≡ waiting → wanted answers es ≡ some x → Where w es n

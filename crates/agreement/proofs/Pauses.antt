@@ -17,18 +17,9 @@ use Rattle.machine.specs.Walk
 use Rattle.machine.specs.Walk.{Phase, going, waiting, stopped, Walk, moved, withReturns, inPhase, withAnswer, first64, atRest}
 use Rattle.machine.specs.Step.{Next, asks, step}
 use Rattle.machine.specs.Call
-use Rattle.machine.specs.Call.{whole, paused, Called, ends, endsFor, writing, Turn, over, further, takes, handsOut, turn, run, callIn, callWalk}
+use Rattle.machine.specs.Call.{whole, paused, Called, ends, endsFor, keeps, writing, Turn, over, further, takes, handsOut, turn, run, callIn, callWalk}
+use Rattle.agreement.specs.Pauses.{joined, RunOut, Agree, same, runOut, whileWaiting, answering, fed, inARow}
 use Rattle.agreement.proofs.Lists.{withEvents, withEarlier, earlier, step-earlier, Keeps, Own, After, after-outside, after-stop, after-goes, after-tells, after-asks, step-after, step-asked, resume, run-resume, writing-earlier, going-waiting, waiting-stopped, all64}
-
--- calls in a row as one: the number and the walk of the last, the events of both in order, the steps of both
-unfoldable pub joined : Called → Called → Called
-joined c d = record { number = d .number; walk = d .walk; events = c .events ++ d .events; steps = c .steps + d .steps }
-
--- calls go on only while the walk waits
-unfoldable pub whileWaiting : Phase → Called → Called → Called
-whileWaiting going c d = c
-whileWaiting waiting c d = d
-whileWaiting (stopped r) c d = c
 
 -- an instruction that asks does so whatever events the walk holds
 module _ (T tokens : List ℕ) where
@@ -93,46 +84,12 @@ unfolding first64
 first64-few rs = let l = length-drop (length rs - 64) rs in omega arith
 
 module _ (T tokens : List ℕ) (budget room : ℕ) where
-  -- one more paused call, with an answer and with the budget and the room that are left
-  unfoldable pub answering : ℕ → Called → Called
-  answering x c = joined c (callWalk T tokens (paused (some x)) (budget - c .steps) (room - 3 * length (c .events)) (c .walk))
-
-  -- after the calls c: these answers, one after the other
-  unfoldable pub fed : List ℕ → Called → Called
-  fed [] c = c
-  fed (x ∷ xs) c = let d = fed xs (answering x c) in whileWaiting (c .walk .phase) c d
-
-  -- paused calls in a row: the first with no answer
-  unfoldable pub inARow : List ℕ → Walk → Called
-  inARow xs w = fed xs (callWalk T tokens (paused none) budget room w)
-
-  -- the answers have run out at a choice operation: the whole walk has stopped before it, the paused one waits past it and has written its
-  -- event; it counts as a step of both
-  pub record RunOut (answers : List ℕ) (byWhole byPaused : Called) : Type 0 where
-    pub before : Walk
-    pub question : Event
-    pub goes-on : before .phase ≡ going
-    pub asked : step T tokens before ≡ asks question (moved (before .location + 1) before)
-    pub used-up : answer answers (before .io) ≡ none
-    pub whole-number : byWhole .number ≡ 34
-    pub whole-walk : byWhole .walk ≡ inPhase (stopped unanswered) before
-    pub paused-number : byPaused .number ≡ Call.waits
-    pub paused-walk : byPaused .walk ≡ inPhase waiting (moved (before .location + 1) before)
-    pub events : byPaused .events ≡ byWhole .events ++ (question ∷ [])
-    pub steps : byPaused .steps ≡ byWhole .steps
-
-  -- a whole call of w beside paused calls of w
-  pub data Agree (answers : List ℕ) (w : Walk) (byWhole byPaused : Called) : Type 0 where
-    -- the same number, walk, events and steps; 34 only of a walk that had stopped for it before
-    same : byPaused ≡ byWhole → (byWhole .number ≡ 34 → w .phase ≡ stopped unanswered) → Agree answers w byWhole byPaused
-    runOut : w .phase ≡ going → RunOut answers byWhole byPaused → Agree answers w byWhole byPaused
-
-  fed-rests : (xs : List ℕ) (c : Called) → (c .walk .phase ≡ waiting → ⊥) → fed xs c ≡ c
+  pub fed-rests : (xs : List ℕ) (c : Called) → (c .walk .phase ≡ waiting → ⊥) → fed T tokens budget room xs c ≡ c
   unfolding fed whileWaiting
   fed-rests [] c h = refl
   fed-rests (x ∷ xs) c h = go (c .walk .phase) h
     where
-      go : (p : Phase) → (p ≡ waiting → ⊥) → whileWaiting p c (fed xs (answering x c)) ≡ c
+      go : (p : Phase) → (p ≡ waiting → ⊥) → whileWaiting p c (fed T tokens budget room xs (answering T tokens budget room x c)) ≡ c
       go going h = refl
       go waiting h = absurd (h refl)
       go (stopped r) h = refl
@@ -171,25 +128,25 @@ module _ (T tokens : List ℕ) (budget room : ℕ) where
     abbrev Both : ℕ → Type 0
     Both b = (left n j : ℕ) (w u : Walk) (c : Called) (xs : List ℕ) → Place b left n w c xs → j ≡ c .steps + n
         → u ≡ withEarlier (c .events) w
-        → Agree answers start (run T tokens b (whole answers) left j u) (fed xs (joined c (run T tokens b (paused none) left n w)))
+        → Agree T tokens answers start (run T tokens b (whole answers) left j u) (fed T tokens budget room xs (joined c (run T tokens b (paused none) left n w)))
 
     over-both : (number n j : ℕ) (w : Walk) (c : Called) (xs : List ℕ) → (w .phase ≡ waiting → ⊥) → (number ≡ 34 → ⊥) → j ≡ c .steps + n
-        → Agree answers start (ends number j (withEarlier (c .events) w)) (fed xs (joined c (ends number n w)))
+        → Agree T tokens answers start (ends number j (withEarlier (c .events) w)) (fed T tokens budget room xs (joined c (ends number n w)))
     unfolding ends joined withEarlier withEvents Walk.opened
     over-both number n j w c xs p h e = rw e (same (fed-rests xs (joined c (ends number n w)) p) (λ z. absurd (h z)))
 
     if-both : (b j n : ℕ) (c : Called) (xs : List ℕ) (t : Bool) (x y x′ y′ : Turn)
-        → Agree answers start (resume T tokens b (whole answers) j x) (fed xs (joined c (resume T tokens b (paused none) n x′)))
-        → (t ≡ false → Agree answers start (resume T tokens b (whole answers) j y) (fed xs (joined c (resume T tokens b (paused none) n y′))))
-        → Agree answers start (resume T tokens b (whole answers) j (if t then x else y))
-        (fed xs (joined c (resume T tokens b (paused none) n (if t then x′ else y′))))
+        → Agree T tokens answers start (resume T tokens b (whole answers) j x) (fed T tokens budget room xs (joined c (resume T tokens b (paused none) n x′)))
+        → (t ≡ false → Agree T tokens answers start (resume T tokens b (whole answers) j y) (fed T tokens budget room xs (joined c (resume T tokens b (paused none) n y′))))
+        → Agree T tokens answers start (resume T tokens b (whole answers) j (if t then x else y))
+        (fed T tokens budget room xs (joined c (resume T tokens b (paused none) n (if t then x′ else y′))))
     if-both b j n c xs true x y x′ y′ p q = p
     if-both b j n c xs false x y x′ y′ p q = q refl
 
     -- the walk asks, with room for the event, and there is no answer
     unanswered-both : (n j : ℕ) (w v : Walk) (e : Event) (c : Called) → answer answers (w .io) ≡ none → w .phase ≡ going
         → length (w .returns) ≤ 64 → j ≡ c .steps + n → step T tokens w ≡ asks e v
-        → Agree answers start (endsFor unanswered (j + 1) (withEarlier (c .events) w))
+        → Agree T tokens answers start (endsFor unanswered (j + 1) (withEarlier (c .events) w))
         (joined c (ends Call.waits (n + 1) (inPhase waiting (writing e v))))
     unfolding joined ends endsFor withEarlier withEvents writing Walk.opened Events.opened
     unanswered-both n j w v e c a g few k s =
@@ -212,8 +169,8 @@ module _ (T tokens : List ℕ) (budget room : ℕ) where
     -- the walk asks, with room for the event, and there is an answer: it is that of the next paused call
     answered-both : (b : ℕ) → Both b → (y left n j : ℕ) (w v : Walk) (e : Event) (c : Called) (xs : List ℕ)
         → answer answers (w .io) ≡ some y → Place (suc b) left n w c xs → ltb left 3 ≡ false → j ≡ c .steps + n → step T tokens w ≡ asks e v
-        → Agree answers start (run T tokens b (whole answers) (left - 3) (j + 1) (withAnswer y (writing e (withEarlier (c .events) v))))
-        (fed (drop (suc (w .io .used)) answers) (answering y (joined c (ends Call.waits (n + 1) (inPhase waiting (writing e v))))))
+        → Agree T tokens answers start (run T tokens b (whole answers) (left - 3) (j + 1) (withAnswer y (writing e (withEarlier (c .events) v))))
+        (fed T tokens budget room (drop (suc (w .io .used)) answers) (answering T tokens budget room y (joined c (ends Call.waits (n + 1) (inPhase waiting (writing e v))))))
     unfolding answering joined ends withEarlier withEvents writing Walk.opened Events.opened callWalk callIn
     answered-both b rest y left n j w v e c xs a h t k s =
         let q = step-asked T tokens w v e s in
@@ -245,9 +202,9 @@ module _ (T tokens : List ℕ) (budget room : ℕ) where
 
     turn-both : (b : ℕ) → Both b → {nx : Next} (left n j : ℕ) (w : Walk) (c : Called) (xs : List ℕ) → After w nx
         → Place (suc b) left n w c xs → j ≡ c .steps + n → step T tokens w ≡ nx
-        → Agree answers start
+        → Agree T tokens answers start
         (resume T tokens b (whole answers) j (turn (whole answers) left j (withEarlier (c .events) w) (earlier (c .events) nx)))
-        (fed xs (joined c (resume T tokens b (paused none) n (turn (paused none) left n w nx))))
+        (fed T tokens budget room xs (joined c (resume T tokens b (paused none) n (turn (paused none) left n w nx))))
     unfolding turn handsOut takes resume fed whileWaiting joined earlier ends endsFor reasonNumber answer withEarlier withEvents Walk.opened
     turn-both b rest left n j w c xs after-outside h k s =
         over-both 37 n j (inPhase (stopped outside) w) c xs (λ p. waiting-stopped p refl) (λ z. omega arith) k
@@ -270,9 +227,9 @@ module _ (T tokens : List ℕ) (budget room : ℕ) where
         (λ f. asks-both (answer answers (w .io)) refl f)
       where
         asks-both : (o : Option ℕ) → answer answers (w .io) ≡ o → ltb left 3 ≡ false
-            → Agree answers start
+            → Agree T tokens answers start
             (resume T tokens b (whole answers) j (takes o left j (withEarlier (c .events) w) e (withEarlier (c .events) v)))
-            (fed xs (joined c (ends Call.waits (n + 1) (inPhase waiting (writing e v)))))
+            (fed T tokens budget room xs (joined c (ends Call.waits (n + 1) (inPhase waiting (writing e v)))))
         asks-both none a f = rw (h .next ∙ drop-none answers (w .io .used) a) (unanswered-both n j w v e c a (h .on) (h .few) k s)
         asks-both (some y) a f = rw (h .next ∙ drop-some answers (w .io .used) a) (answered-both b rest y left n j w v e c xs a h f k s)
 
@@ -290,8 +247,8 @@ module _ (T tokens : List ℕ) (budget room : ℕ) where
 
   -- the claim for a walk in this phase
   agree-in : (answers : List ℕ) → length answers < 2 ^ 64 → (w : Walk) (p : Phase) → w .phase ≡ p → (p ≡ waiting → ⊥)
-      → Agree answers w (callIn T tokens p (whole answers) budget room w)
-      (fed (drop (w .io .used) answers) (callIn T tokens p (paused none) budget room w))
+      → Agree T tokens answers w (callIn T tokens p (whole answers) budget room w)
+      (fed T tokens budget room (drop (w .io .used) answers) (callIn T tokens p (paused none) budget room w))
   unfolding callIn none-yet ends withEarlier withEvents Walk.opened
   agree-in answers short w going g h =
       let here : Place answers short w g budget room 0 (atRest w) (none-yet w) (drop (w .io .used) answers) =
@@ -300,12 +257,12 @@ module _ (T tokens : List ℕ) (budget room : ℕ) where
       at (both answers short w g budget room 0 0 (atRest w) (atRest w) (none-yet w) (drop (w .io .used) answers) here refl refl)
   agree-in answers short w waiting g h = absurd (h refl)
   agree-in answers short w (stopped r) g h =
-      same (fed-rests (drop (w .io .used) answers) (ends (reasonNumber r) 0 (atRest w)) (λ p. waiting-stopped p g))
+      same (fed-rests (drop (w .io .used) answers) (keeps (reasonNumber r) w) (λ p. waiting-stopped p g))
       (λ z. g ∙ ap stopped (unanswered-34 r z))
 
   -- "Fed the same answers .., the two agree": of any walk that does not wait, by any table, whatever the budget and the room; the answers
   -- are one slice, which has fewer than 2^64 of them
   pub whole-paused : (answers : List ℕ) → length answers < 2 ^ 64 → (w : Walk) → (w .phase ≡ waiting → ⊥)
-      → Agree answers w (callWalk T tokens (whole answers) budget room w) (inARow (drop (w .io .used) answers) w)
+      → Agree T tokens answers w (callWalk T tokens (whole answers) budget room w) (inARow T tokens budget room (drop (w .io .used) answers) w)
   unfolding callWalk inARow
   whole-paused answers short w h = agree-in answers short w (w .phase) refl h

@@ -10,7 +10,8 @@ use lib.ListN.{length, take}
 use Rattle.base.specs.Common.{if_then_else_}
 use Rattle.machine.proofs.Bytes.{length-wordsOf, length-tableOf}
 use Rattle.machine.proofs.Form.{walkOf-fits}
-use Rattle.machine.proofs.Keeps.{Small, SmallMode, fits-call}
+use Rattle.machine.specs.Small.{Small, SmallMode}
+use Rattle.machine.proofs.Keeps.{fits-call}
 use Rattle.machine.specs.Bytes.{count, wordsOf, tableOf}
 use Rattle.machine.specs.Call.{Mode, whole, paused, callWalk}
 use Rattle.machine.specs.Form as form

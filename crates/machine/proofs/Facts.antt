@@ -218,6 +218,9 @@ pauses =
     ∷ call [] [] alone 0 0 (ended deep 4) 33 [] 0 (ended deep 4)
     ∷ call (9 ∷ []) [] (whole (5 ∷ [])) 9 9 (ended unanswered 1) 34 [] 0 (ended unanswered 1)
     ∷ call (9 ∷ []) [] (paused none) 9 9 (ended outside 1) 37 [] 0 (ended outside 1)
+    -- nothing of the walk is changed, not even return locations that no call reads
+    ∷ call (9 ∷ []) [] alone 9 9 (walk (stopped finished) 1 (3 ∷ replicate 65 2) 5 6 7 8) 0 [] 0 (walk (stopped finished) 1 (3 ∷ replicate 65 2) 5 6 7 8)
+    ∷ call (9 ∷ []) [] (paused none) 9 9 (walk (stopped differs) 1 (3 ∷ replicate 65 2) 5 6 7 8) 30 [] 0 (walk (stopped differs) 1 (3 ∷ replicate 65 2) 5 6 7 8)
     -- of more than 64 return locations the first 64 are read
     ∷ call (9 ∷ 9 ∷ []) [] alone 0 0 (within (2 ∷ 1 ∷ replicate 64 2) 1) 36 [] 0 (within (replicate 64 2) 1)
     ∷ call (9 ∷ 9 ∷ []) [] alone 1 0 (within (3 ∷ replicate 64 2) 1) 36 [] 1 (within (replicate 63 2) 2)

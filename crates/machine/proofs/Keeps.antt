@@ -1,5 +1,6 @@
 -- What a call gives back fits the byte form; a call writes no more events than there is room for, and does no more steps than its budget.
 use mathlib.Core.Path.{_≡_, refl, ap}
+use Rattle.machine.specs.Small.{Small, SmallMode}
 use mathlib.Core.Bool.{Bool, true, false}
 use mathlib.Core.List.{List, [], _∷_, _++_}
 use mathlib.Core.Option.{Option, none, some}
@@ -17,16 +18,6 @@ use Rattle.machine.specs.Walk.{Phase, going, waiting, stopped, Walk, fre
 use Rattle.machine.specs.Step.{Next, goesOutside, stops, goes, tells, asks, goTo, seekBy, landed, branched, inputChoosing, calling, returning, exec, step}
 use Rattle.machine.specs.Call.{Mode, whole, paused, Called, waits, ends, endsFor, writing, Turn, over, further, takes, handsOut, turn, run, callIn, callWalk}
 use Rattle.machine.specs.Form.{Fits}
-
--- each number of the list is a word
-abbrev pub Small : List ℕ → Type 0
-Small ws = (i : ℕ) → getD ws i 0 < 65536
-
--- each answer is a word
-abbrev pub SmallMode : Mode → Type 0
-SmallMode (whole answers) = Small answers
-SmallMode (paused none) = Unit {0}
-SmallMode (paused (some x)) = x < 65536
 
 -- Lists
 
@@ -426,8 +417,8 @@ module _ (T tokens : List ℕ) (smallT : Small T) (smallTokens : Small tokens) (
   on-call waiting (paused none) budget room w s f = f
   on-call waiting (paused (some x)) budget room w s f =
       on-run budget (paused none) room 0 (withAnswer x (atRest w)) tt (runs-answer x (atRest w) s (runs-fits (atRest w) (fits-rest w (runs-fits w f))))
-  on-call (stopped reason) (whole answers) budget room w s f = ended (reasonNumber reason) 0 (atRest w) (runs-fits (atRest w) (fits-rest w (runs-fits w f)))
-  on-call (stopped reason) (paused none) budget room w s f = ended (reasonNumber reason) 0 (atRest w) (runs-fits (atRest w) (fits-rest w (runs-fits w f)))
+  on-call (stopped reason) (whole answers) budget room w s f = f
+  on-call (stopped reason) (paused none) budget room w s f = f
   on-call (stopped reason) (paused (some x)) budget room w s f = f
 
 -- "every walk that goes on within a device" has a byte form: whatever a call gives back fits

@@ -1,4 +1,5 @@
--- "21 .. (walk and buffer unchanged; before all other tests)": a call over bytes that answers 21 changes nothing and counts nothing.
+-- "21 .. (walk and buffer unchanged; before all other tests)": a call over bytes that answers 21 changes nothing and counts nothing. "such stops are
+-- final, and repeat, before the budget test, with nothing changed": nor does a call of a walk that has stopped.
 use mathlib.Core.Bool.{Bool, true, false}
 use mathlib.Core.List.{List, [], _∷_}
 use mathlib.Core.Option.{Option, none, some}
@@ -14,6 +15,7 @@ use Rattle.machine.specs.Call as calls
 use Rattle.machine.specs.Call.{Mode, whole, paused, Called, ends, endsFor, writing, Turn, further, takes, handsOut, turn, run, callIn, callWalk}
 use Rattle.machine.specs.Form.{walkBytes, walkOf, eventsWords, Outcome, outcome, callBytes}
 use Rattle.machine.specs.Step.{Next, goesOutside, stops, goes, tells, asks, step}
+use Rattle.machine.specs.Unchanged.{Same, Unchanged}
 use Rattle.machine.specs.Walk.{Phase, going, waiting, stopped, Walk, atRest, withAnswer, inPhase}
 
 -- no reason has the number 21
@@ -73,12 +75,6 @@ module _ (T tokens : List ℕ) where
       go (calls.over c) h = h
       go (further left v) h = h
 
-  -- a call that answers 21 gives the walk back as it was, with no event and no step
-  pub record Same (w : Walk) (c : Called) : Type 0 where
-    pub walk : c .walk ≡ w
-    pub events : c .events ≡ []
-    pub steps : c .steps ≡ 0
-
   in-phase : (p : Phase) (m : Mode) (budget room : ℕ) (w : Walk) → callIn T tokens p m budget room w .number ≡ 21 → Same w (callIn T tokens p m budget room w)
   unfolding callIn ends
   in-phase going (whole given) budget room w e = absurd (ran budget (whole given) room 0 (atRest w) e)
@@ -91,20 +87,23 @@ module _ (T tokens : List ℕ) where
   in-phase (stopped r) (paused none) budget room w e = absurd (no-reason r e)
   in-phase (stopped r) (paused (some x)) budget room w e = record { walk = refl; events = refl; steps = refl }
 
+  -- a call that answers 21 gives the walk back as it was
   pub refused-walk : (m : Mode) (budget room : ℕ) (w : Walk) → callWalk T tokens m budget room w .number ≡ 21 → Same w (callWalk T tokens m budget room w)
   unfolding callWalk
   refused-walk m budget room w e = in-phase (w .phase) m budget room w e
 
--- the same over bytes: nothing that is lent changes
-pub record Unchanged (walk buffer : List ℕ) (o : Outcome) : Type 0 where
-  pub walk-bytes : o .walk ≡ walk
-  pub buffer-bytes : o .buffer ≡ buffer
-  pub no-event : o .events ≡ 0
-  pub no-step : o .steps ≡ 0
-
 nothing : (b : List ℕ) → over (bytesOf (eventsWords [])) b ≡ b
 unfolding over bytesOf eventsWords
 nothing b = refl
+
+same-bytes : (walk buffer : List ℕ) (w : Walk) (f : Walk → Called) → walkOf walk ≡ some w → Same w (f w) → Unchanged walk buffer (outcome (some w) walk buffer f)
+unfolding outcome
+same-bytes walk buffer w f is s = record {
+  walk-bytes = ap walkBytes (s .walk) ∙ walkBytes-walkOf walk w is;
+  buffer-bytes = ap (λ (es : List Event). over (bytesOf (eventsWords es)) buffer) (s .events) ∙ nothing buffer;
+  no-event = ap (λ (es : List Event). lib.ListN.length es) (s .events);
+  no-step = s .steps;
+}
 
 pub refused-unchanged : (table tokens : List ℕ) (m : Mode) (budget : ℕ) (walk buffer : List ℕ) → callBytes table tokens m budget walk buffer .number ≡ 21
     → Unchanged walk buffer (callBytes table tokens m budget walk buffer)
@@ -116,11 +115,24 @@ refused-unchanged table tokens m budget walk buffer e = go (walkOf walk) refl e
 
     go : (x : Option Walk) → walkOf walk ≡ x → outcome x walk buffer f .number ≡ 21 → Unchanged walk buffer (outcome x walk buffer f)
     go none d h = record { walk-bytes = refl; buffer-bytes = refl; no-event = refl; no-step = refl }
-    go (some w) d h =
-        let s = refused-walk (tableOf table) (wordsOf tokens) m budget (count buffer) w h in
-        record {
-          walk-bytes = ap walkBytes (s .walk) ∙ walkBytes-walkOf walk w d;
-          buffer-bytes = ap (λ (es : List Event). over (bytesOf (eventsWords es)) buffer) (s .events) ∙ nothing buffer;
-          no-event = ap (λ (es : List Event). lib.ListN.length es) (s .events);
-          no-step = s .steps;
-        }
+    go (some w) d h = same-bytes walk buffer w f d (refused-walk (tableOf table) (wordsOf tokens) m budget (count buffer) w h)
+
+-- A walk that has stopped
+
+module _ (T tokens : List ℕ) where
+  stopped-in : (p : Phase) (r : Reason) (m : Mode) (budget room : ℕ) (w : Walk) → p ≡ stopped r → Same w (callIn T tokens p m budget room w)
+  unfolding callIn
+  stopped-in p r (whole given) budget room w e = rw e (record { walk = refl; events = refl; steps = refl })
+  stopped-in p r (paused none) budget room w e = rw e (record { walk = refl; events = refl; steps = refl })
+  stopped-in p r (paused (some x)) budget room w e = rw e (record { walk = refl; events = refl; steps = refl })
+
+  -- whatever the call, and however many return locations the walk was made up with
+  pub stopped-walk : (r : Reason) (m : Mode) (budget room : ℕ) (w : Walk) → w .phase ≡ stopped r → Same w (callWalk T tokens m budget room w)
+  unfolding callWalk
+  stopped-walk r m budget room w e = stopped-in (w .phase) r m budget room w e
+
+pub stopped-unchanged : (table tokens : List ℕ) (r : Reason) (m : Mode) (budget : ℕ) (walk buffer : List ℕ) (w : Walk) → walkOf walk ≡ some w → w .phase ≡ stopped r
+    → Unchanged walk buffer (callBytes table tokens m budget walk buffer)
+unfolding callBytes
+stopped-unchanged table tokens r m budget walk buffer w d e =
+    rw d (same-bytes walk buffer w (callWalk (tableOf table) (wordsOf tokens) m budget (count buffer)) d (stopped-walk (tableOf table) (wordsOf tokens) r m budget (count buffer) w e))

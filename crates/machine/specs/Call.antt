@@ -59,6 +59,10 @@ turn m room n w (goes v) = further room v
 turn m room n w (tells e v) = if ltb room 3 then over (ends 35 n w) else further (room - 3) (writing e v)
 turn m room n w (asks e v) = if ltb room 3 then over (ends 35 n w) else handsOut m room n w e v
 
+-- a call that does nothing: the very walk, no event, no step
+abbrev pub keeps : ℕ → Walk → Called
+keeps number w = record { number = number; walk = w; events = []; steps = 0 }
+
 module _ (T tokens : List ℕ) where
   -- "Tested in order: 36, 37, 35, then the instruction's own.": the walk w goes on, with so much budget and room, n steps are done
   unfoldable pub run : ℕ → Mode → ℕ → ℕ → Walk → Called
@@ -67,7 +71,7 @@ module _ (T tokens : List ℕ) where
 
   -- a call that is refused: "walk and buffer unchanged; before all other tests"
   abbrev refuses : Walk → Called
-  refuses w = record { number = 21; walk = w; events = []; steps = 0 }
+  refuses w = keeps 21 w
 
   -- "21 an answer for a walk that isn't waiting, none for one that is, a waiting one given to a whole walk"; "such stops are final, and
   -- repeat, before the budget test, with nothing changed"; "taking an answer counts none and comes before the budget test"
@@ -78,8 +82,8 @@ module _ (T tokens : List ℕ) where
   callIn waiting (whole answers) budget room w = refuses w
   callIn waiting (paused none) budget room w = refuses w
   callIn waiting (paused (some x)) budget room w = run budget (paused none) room 0 (withAnswer x (atRest w))
-  callIn (stopped r) (whole answers) budget room w = ends (reasonNumber r) 0 (atRest w)
-  callIn (stopped r) (paused none) budget room w = ends (reasonNumber r) 0 (atRest w)
+  callIn (stopped r) (whole answers) budget room w = keeps (reasonNumber r) w
+  callIn (stopped r) (paused none) budget room w = keeps (reasonNumber r) w
   callIn (stopped r) (paused (some x)) budget room w = refuses w
 
   -- a call with a budget and an event buffer of so many words

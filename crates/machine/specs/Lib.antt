@@ -5,3 +5,5 @@ pub mod Walk
 pub mod Step
 pub mod Call
 pub mod Form
+pub mod Unchanged
+pub mod Small

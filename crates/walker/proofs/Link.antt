@@ -15,7 +15,7 @@ use Rattle.machine.specs.Bytes.{count, wordsOf, wordAt, tableOf, bytesOf, over}
 use Rattle.machine.specs.Lengths.{lengthOf}
 use Rattle.machine.specs.Walk as machine
 use Rattle.machine.specs.Call as calls
-use Rattle.machine.specs.Call.{whole, paused, Called, further, ends, endsFor, run, callIn, callWalk}
+use Rattle.machine.specs.Call.{whole, paused, Called, further, ends, endsFor, keeps, run, callIn, callWalk}
 use Rattle.machine.specs.Form.{eventsWords}
 use Rattle.walker.specs.declared.Event.{Event}
 use Rattle.walker.specs.declared.Event.the-variants.{Output, Plain, With}
@@ -30,7 +30,7 @@ use Rattle.walker.specs.declared.Target.{Target}
 use Rattle.walker.specs.declared.Target.the-variants.{Label, Otherwise}
 use Rattle.walker.specs.declared.Walk.{Walk}
 use Rattle.walker.specs.View.{reasonOf, phaseOf, eventOf, walkIn, walkOf}
-use Rattle.walker.specs.Shape.{size, operand, tableAt, choiceOf, defaultOf, takeInput, takeOther, moved, readOne, withResult, withParameter, withDepth, answeredOne, poppedTo, forwardOf, backOf, inputOf, anyOf, tellOf, inputChoiceOf, callOf, backTo, returnOf, askOf, answerOf, actOf, operateOf, fetchedOf, stepOf, putEvent, Outcome, ended, numberOf, goOf, first64, refusedOf, wholeOf, pausedOf}
+use Rattle.walker.specs.Shape.{size, operand, tableAt, choiceOf, defaultOf, takeInput, takeOther, moved, readOne, withResult, withParameter, withDepth, answeredOne, poppedTo, forwardOf, backOf, inputOf, anyOf, tellOf, inputChoiceOf, callOf, backTo, returnOf, askOf, answerOf, actOf, operateOf, fetchedOf, stepOf, putEvent, Outcome, ended, numberOf, goOf, first64, keptOf, refusedOf, wholeOf, pausedOf}
 use Rattle.walker.proofs.LinkWords.{Bytes, length-returns, clip-returns, over-event, count-putEvent, one-more, one-more-fits}
 use Rattle.walker.proofs.LinkStep.{withEvents, inCall, turnOf, modeOf, step-turn}
 
@@ -295,13 +295,11 @@ module _ (t k : List ℕ) (n : ℕ) (w : Walk) (o : List ℕ) (sized : length (w
       let e : count o - 3 * 0 ≡ count o = omega arith in
       rw e at (go-run t k a q o small-t small-k small-a n r (w .returns) o 0 0 [] sized h refl nothing)
 
-  refused-agrees : Agrees o (refusedOf w o) (record { number = 21; walk = walkOf w; events = []; steps = 0 })
+  refused-agrees : Agrees o (refusedOf w o) (keeps 21 (walkOf w))
   refused-agrees = record { number = refl; steps = refl; events = refl; walk = refl; out = nothing }
 
-  stopped-agrees : (r : Reason) → w .phase ≡ Stopped r
-      → Agrees o (ended (Stopped r) (first64 (w .at)) (w .returns) o 0 0 (numberOf r)) (ends (reasonNumber (reasonOf r)) 0 (machine.atRest (walkOf w)))
-  unfolding phaseOf
-  stopped-agrees r e = rw (← begins (Stopped r) e, number-reason r) (ended-agrees o (Stopped r) (reasonNumber (reasonOf r)) 0 0 [] (first64 (w .at)) (w .returns) o sized refl nothing)
+  stopped-agrees : (r : Reason) → Agrees o (keptOf w o (numberOf r)) (keeps (reasonNumber (reasonOf r)) (walkOf w))
+  stopped-agrees r = record { number = number-reason r; steps = refl; events = refl; walk = refl; out = nothing }
 
   going-run : (a : List ℕ) (q : Bool) → Bytes a → w .phase ≡ Going
       → Agrees o (goOf t k a q n (first64 (w .at)) (w .returns) o 0 0) (run (tableOf t) (wordsOf k) n (modeOf q a) (count o) 0 (machine.atRest (walkOf w)))
@@ -329,7 +327,7 @@ module _ (t k : List ℕ) (n : ℕ) (w : Walk) (o : List ℕ) (sized : length (w
   unfolding wholeOf callIn phaseOf
   whole-in a Going small-a e = going-run a false small-a e
   whole-in a Waiting small-a e = refused-agrees
-  whole-in a (Stopped r) small-a e = stopped-agrees r e
+  whole-in a (Stopped r) small-a e = stopped-agrees r
 
   paused-in : (g : Bool) (x : ℕ) (ph : Phase) → x < 65536 → w .phase ≡ ph
       → Agrees o (pausedOf t k g x n w o ph) (callIn (tableOf t) (wordsOf k) (phaseOf ph) (paused (handed g x)) n (count o) (walkOf w))
@@ -338,7 +336,7 @@ module _ (t k : List ℕ) (n : ℕ) (w : Walk) (o : List ℕ) (sized : length (w
   paused-in true x Going h e = refused-agrees
   paused-in false x Waiting h e = refused-agrees
   paused-in true x Waiting h e = answered-run x h
-  paused-in false x (Stopped r) h e = stopped-agrees r e
+  paused-in false x (Stopped r) h e = stopped-agrees r
   paused-in true x (Stopped r) h e = refused-agrees
 
   -- a whole call

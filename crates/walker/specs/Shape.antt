@@ -261,14 +261,18 @@ goOf t k a paused (suc n) r rs o e d =
 abbrev pub first64 : Registers → Registers
 first64 r = withDepth r (min (r .depth) 64)
 
+-- a call that changes nothing
+abbrev pub keptOf : Walk → List ℕ → ℕ → Outcome
+keptOf w o number = record { walk = w; events = 0; steps = 0; number = number; out = o }
+
 abbrev pub refusedOf : Walk → List ℕ → Outcome
-refusedOf w o = record { walk = w; events = 0; steps = 0; number = 21; out = o }
+refusedOf w o = keptOf w o 21
 
 -- a whole call: t the table, k the tokens, a the answers, n the budget
 unfoldable pub wholeOf : List ℕ → List ℕ → List ℕ → ℕ → Walk → List ℕ → Phase → Outcome
 wholeOf t k a n w o Going = goOf t k a false n (first64 (w .at)) (w .returns) o 0 0
 wholeOf t k a n w o Waiting = refusedOf w o
-wholeOf t k a n w o (Stopped r) = ended (Stopped r) (first64 (w .at)) (w .returns) o 0 0 (numberOf r)
+wholeOf t k a n w o (Stopped r) = keptOf w o (numberOf r)
 
 -- a paused call with an answer x, or none
 unfoldable pub pausedOf : List ℕ → List ℕ → Bool → ℕ → ℕ → Walk → List ℕ → Phase → Outcome
@@ -276,5 +280,5 @@ pausedOf t k false x n w o Going = goOf t k [] true n (first64 (w .at)) (w .retu
 pausedOf t k true x n w o Going = refusedOf w o
 pausedOf t k false x n w o Waiting = refusedOf w o
 pausedOf t k true x n w o Waiting = goOf t k [] true n (answeredOne (first64 (w .at)) x) (w .returns) o 0 0
-pausedOf t k false x n w o (Stopped r) = ended (Stopped r) (first64 (w .at)) (w .returns) o 0 0 (numberOf r)
+pausedOf t k false x n w o (Stopped r) = keptOf w o (numberOf r)
 pausedOf t k true x n w o (Stopped r) = refusedOf w o

@@ -855,7 +855,7 @@ impl Walk {
                 number: 21,
             },
             Phase::Stopped(why) => Called {
-                walk: self.clipped(),
+                walk: self,
                 events: 0,
                 steps: 0,
                 number: number_of(why),
@@ -916,7 +916,7 @@ impl Walk {
                     };
                 }
                 Called {
-                    walk: self.clipped(),
+                    walk: self,
                     events: 0,
                     steps: 0,
                     number: number_of(why),

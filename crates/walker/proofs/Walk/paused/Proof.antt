@@ -53,9 +53,6 @@ returns-3 c =
     let a = c .before .before .before .before .before .before .before .args in
     parts (refused-stopped (a .table .now) (a .tokens .now) (a .budget) (a .self) (a .events .now) (a .given) (a .answer) _ (c .before .before .phase .given .1) (c .if3 .taken))
 
-clipped-requires-3 : tie.Need-clipped-requires-3
-clipped-requires-3 c κs = search needs
-
 number-of-requires : tie.Need-number-of-requires
 number-of-requires c κs = search needs
 
@@ -75,9 +72,8 @@ returns-5 c =
 
 returns-6 : tie.Need-returns-6
 returns-6 c =
-    let a = c .before .before .before .before .before .before .before .before .before .args in
-    let e = c .before .clipped3 .ensures in
-    parts (paused-stops (a .table .now) (a .tokens .now) (a .budget) (a .self) (a .events .now) (a .given) (a .answer) (c .before .clipped3 .result) _ (c .number-of .result) (record { phase = e .0; at = e .1; returns = e .2 }) (c .before .before .before .before .phase .given .1) (c .number-of .ensures) (c .before .before .if3 .left))
+    let a = c .before .before .before .before .before .before .before .before .args in
+    parts (paused-stops (a .table .now) (a .tokens .now) (a .budget) (a .self) (a .events .now) (a .given) (a .answer) _ (c .number-of .result) (c .before .before .before .phase .given .1) (c .number-of .ensures) (c .before .if3 .left))
 
 pub paused-spec : {M : Type 1} → statement M
 paused-spec =
@@ -95,7 +91,6 @@ paused-spec =
     returns-2
     enum-known-phase
     returns-3
-    clipped-requires-3
     number-of-requires
     same-length-2
     returns-4

@@ -21,9 +21,6 @@ enum-told-2 c = search needs
 enum-known-phase : tie.Need-enum-known-phase
 enum-known-phase c = search needs
 
-clipped-requires-2 : tie.Need-clipped-requires-2
-clipped-requires-2 c κs = search needs
-
 number-of-requires : tie.Need-number-of-requires
 number-of-requires c κs = search needs
 
@@ -42,9 +39,8 @@ returns-2 c =
 
 returns-3 : tie.Need-returns-3
 returns-3 c =
-    let a = c .before .before .before .before .before .before .before .before .before .args in
-    let e = c .before .clipped2 .ensures in
-    parts (whole-stops (a .table .now) (a .tokens .now) (a .budget) (a .self) (a .events .now) (a .answers .now) (c .before .clipped2 .result) _ (c .number-of .result) (record { phase = e .0; at = e .1; returns = e .2 }) (c .before .before .before .phase .given .1) (c .number-of .ensures))
+    let a = c .before .before .before .before .before .before .before .before .args in
+    parts (whole-stops (a .table .now) (a .tokens .now) (a .budget) (a .self) (a .events .now) (a .answers .now) _ (c .number-of .result) (c .before .before .phase .given .1) (c .number-of .ensures))
 
 pub whole-spec : {M : Type 1} → statement M
 whole-spec =
@@ -55,7 +51,6 @@ whole-spec =
     go-requires
     enum-told-2
     enum-known-phase
-    clipped-requires-2
     number-of-requires
     same-length
     returns
