@@ -20,9 +20,10 @@ use Rattle.machine.specs.Walk.{Phase, going, waiting, stopped, Walk}
 use Rattle.ownwalk.specs.OwnWalk.{owns, ownStart}
 use Rattle.processor.specs.Process.{Answer, accepted, process, understood, meaning, lentWords, lentBytes}
 use Rattle.program.specs.Program.{Rule}
-use Rattle.bytewise.proofs.Joined.{wordsOf-then, eventsWords-then, choices-words, Stands, byte-calls}
+use Rattle.bytewise.proofs.Joined.{wordsOf-then, eventsWords-then, choices-words, byte-calls}
+use Rattle.bytewise.proofs.Stops.{number-stops}
 use Rattle.bytewise.specs.AtEntries.{RulesWriteWords, RulesStopWords, WaitsPastBytes, StoppedBytes, SufficesBytes, AgreesBytes, Leaves, AtEntries}
-use Rattle.bytewise.specs.ByteCalls.{Slice, choicesIn, Waits, ByteCalls}
+use Rattle.bytewise.specs.ByteCalls.{Slice, choicesIn, Waits, ByteCalls, Stands}
 
 -- The lent bytes
 
@@ -94,7 +95,7 @@ module _ (prog : List Rule) (table tokens answers : List ℕ) (bt : Below 256 ta
       let st = byte-calls table tokens answers bt bk ba l in
       go st (h (st .walk) (st .events) n ns (st .listed))
     where
-      go : (st : Stands table tokens answers bt bk ba s ws n ns)
+      go : (st : Stands table tokens answers s ws n ns)
           → HasStopped (st .walk) ⊎ ((n < b) ⊎ WaitsPast prog (wordsOf tokens) (wordsOf answers) (st .walk) (st .events))
           → StoppedBytes s ⊎ ((n < b) ⊎ WaitsPastBytes prog (wordsOf tokens) (wordsOf answers) s ws)
       go st (inl x) = inl (st .walk, st .read-back, x)
@@ -117,6 +118,8 @@ module _ (prog : List Rule) (table tokens answers : List ℕ) (bt : Below 256 ta
             (a .events-waiting (st .listed) (ap (λ (v : Walk). v .phase) (same-walk (st .read-back) (h .1)) ∙ h .2) x));
         never-37 = λ l e. a .never-37 (byte-calls table tokens answers bt bk ba l .listed) e;
         stops = λ l d p. stopped-bytes l d p;
+        says = λ r l e. (let st = byte-calls table tokens answers bt bk ba l in
+            (st .walk, st .read-back, number-stops (tableOf table) (wordsOf tokens) r (st .listed) e));
         budget = λ h. (let x = a .budget h in (x .0, suffices-bytes (x .0) (x .1)));
       }
     where

@@ -13,12 +13,13 @@ use Rattle.agreement.specs.Demand.{wanted, Allowed, Listed, begin, then-call}
 use Rattle.events.specs.Events.{Event, output, signal, operation, operationWith, eventWords, isChoice, choices}
 use Rattle.machine.proofs.Bytes.{length-wordsOf, length-tableOf}
 use Rattle.machine.proofs.Form.{walkOf-walkBytes}
-use Rattle.machine.proofs.Keeps.{Small, SmallMode, fits-call, fits-fresh}
+use Rattle.machine.specs.Small.{Small, SmallMode}
+use Rattle.machine.proofs.Keeps.{fits-call, fits-fresh}
 use Rattle.machine.specs.Bytes.{count, wordsOf, tableOf, bytesOf, over}
 use Rattle.machine.specs.Call.{Mode, whole, paused, Called, callWalk}
 use Rattle.machine.specs.Form.{Fits, walkBytes, walkOf, eventsWords, Outcome, outcome, callBytes}
 use Rattle.machine.specs.Walk.{Phase, going, waiting, stopped, Walk, fresh}
-use Rattle.bytewise.specs.ByteCalls.{Slice, writtenWords, choicesIn, Waits, Hands, ByteCalls, first, next}
+use Rattle.bytewise.specs.ByteCalls.{Slice, writtenWords, choicesIn, Waits, Hands, ByteCalls, first, next, Stands}
 
 -- Words and bytes
 
@@ -94,20 +95,10 @@ small-mode answers s ws (paused none) b h = tt
 small-mode answers s ws (paused (some x)) b h = h .0
 
 module _ (table tokens answers : List ℕ) (bt : (i : ℕ) → getD table i 0 < 256) (bk : Slice tokens) (ba : Slice answers) where
-  -- the bytes and words are those of a list of calls of demand 3
-  pub record Stands (s ws : List ℕ) (n : ℕ) (ns : List ℕ) : Type 0 where
-    pub walk : Walk
-    pub events : List Event
-    pub bytes : s ≡ walkBytes walk
-    pub read-back : walkOf s ≡ some walk
-    pub fits : Fits walk
-    pub words : ws ≡ eventsWords events
-    pub listed : Listed (tableOf table) (wordsOf tokens) (wordsOf answers) walk events n ns
-
   step : {n : ℕ} {ns : List ℕ} (w : Walk) (es : List Event) → Fits w → Listed (tableOf table) (wordsOf tokens) (wordsOf answers) w es n ns
       → (m : Mode) (budget : ℕ) (buffer : List ℕ) → SmallMode m → Allowed (wordsOf answers) m (w .phase) es → (o : Outcome)
       → o ≡ outcome (some w) (walkBytes w) buffer (callWalk (tableOf table) (wordsOf tokens) m budget (count buffer))
-      → Stands (o .walk) (eventsWords es ++ writtenWords o) (n + o .steps) (o .number ∷ ns)
+      → Stands table tokens answers (o .walk) (eventsWords es ++ writtenWords o) (n + o .steps) (o .number ∷ ns)
   unfolding outcome writtenWords
   step {n} {ns} w es f l m budget buffer sm h o e =
       let c = callWalk (tableOf table) (wordsOf tokens) m budget (count buffer) w in
@@ -123,12 +114,12 @@ module _ (table tokens answers : List ℕ) (bt : (i : ℕ) → getD table i 0 < 
         listed = then-call l m budget (count buffer) h;
       })
 
-  pub byte-calls : {s ws : List ℕ} {n : ℕ} {ns : List ℕ} → ByteCalls table tokens answers s ws n ns → Stands s ws n ns
+  pub byte-calls : {s ws : List ℕ} {n : ℕ} {ns : List ℕ} → ByteCalls table tokens answers s ws n ns → Stands table tokens answers s ws n ns
   unfolding eventsWords callBytes
   byte-calls first = record { walk = fresh; events = []; bytes = refl; read-back = walkOf-walkBytes fresh fits-fresh; fits = fits-fresh; words = refl; listed = begin }
   byte-calls (next {s} {ws} {n} {ns} l m budget buffer h {o} e) = go (byte-calls l)
     where
-      go : Stands s ws n ns → Stands (o .walk) (ws ++ writtenWords o) (n + o .steps) (o .number ∷ ns)
+      go : Stands table tokens answers s ws n ns → Stands table tokens answers (o .walk) (ws ++ writtenWords o) (n + o .steps) (o .number ∷ ns)
       go st =
           let w = st .walk in
           let es = st .events in

@@ -1,4 +1,5 @@
 -- From the calls over bytes to demand 3.
 pub mod Facts
 pub mod Joined
+pub mod Stops
 pub mod Entries

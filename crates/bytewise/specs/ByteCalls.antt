@@ -8,9 +8,11 @@ use Prim.Native.Nat.{ℕ, _+_, _*_, _-_, _^_, _<_}
 use lib.Dec.{eqb, leb}
 use lib.ListN.{length, take, getD, getElem?}
 use Rattle.base.specs.Common.{if_then_else_}
-use Rattle.machine.specs.Bytes.{wordsOf}
+use Rattle.agreement.specs.Demand.{Listed}
+use Rattle.events.specs.Events.{Event}
+use Rattle.machine.specs.Bytes.{wordsOf, tableOf}
 use Rattle.machine.specs.Call.{Mode, whole, paused}
-use Rattle.machine.specs.Form.{Outcome, walkBytes, walkOf, callBytes}
+use Rattle.machine.specs.Form.{Fits, Outcome, walkBytes, walkOf, eventsWords, callBytes}
 use Rattle.machine.specs.Walk.{waiting, Walk, fresh}
 
 -- what any slice is: bytes, and fewer than 2^64 of them
@@ -49,6 +51,16 @@ pub data ByteCalls (table tokens answers : List ℕ) : List ℕ → List ℕ →
   next : {s ws : List ℕ} {n : ℕ} {ns : List ℕ} → ByteCalls table tokens answers s ws n ns
       → (m : Mode) (budget : ℕ) (buffer : List ℕ) → Hands answers m s ws → {o : Outcome} → o ≡ callBytes table tokens m budget s buffer
       → ByteCalls table tokens answers (o .walk) (ws ++ writtenWords o) (n + o .steps) (o .number ∷ ns)
+
+-- the bytes and words are those of a list of calls of demand 3 (`Listed`): the bytes a walk's and read back as that walk, the words its events'
+pub record Stands (table tokens answers s ws : List ℕ) (n : ℕ) (ns : List ℕ) : Type 0 where
+  pub walk : Walk
+  pub events : List Event
+  pub bytes : s ≡ walkBytes walk
+  pub read-back : walkOf s ≡ some walk
+  pub fits : Fits walk
+  pub words : ws ≡ eventsWords events
+  pub listed : Listed (tableOf table) (wordsOf tokens) (wordsOf answers) walk events n ns
 
 -- all of this file computes where this is unfolded
 unfoldable pub opened : Unit {0}
