@@ -348,7 +348,8 @@ fn default_target(t: &[u8], n: usize, loc: usize) -> Target
 
 // Instructions
 //
-// One of two words tests for itself that the table has both: a test before the branch by number would be one more.
+// Each tests for itself that the table has all its words, and goes on behind them, by the length that it is handed: the number is known where the length is
+// looked up, so that the compiler folds it. A test before the branch by number would be one more.
 
 impl Registers {
     fn forward(self, t: &[u8], n: usize, len: usize) -> Next
@@ -394,7 +395,7 @@ impl Registers {
         let k = self.read as usize;
         if k < machine::count_words(tokens) {
             if word(tokens, k) == word(t, loc) {
-                Next::On(self.moved(loc + 2).read_token())
+                Next::On(self.moved(loc + len).read_token())
             } else {
                 Next::Stop(Reason::Differs)
             }
@@ -403,14 +404,17 @@ impl Registers {
         }
     }
 
-    fn any(self, tokens: &[u8]) -> Next
-        requires { ⌜ self .location ≤ 4096 ⌝ }
+    fn any(self, n: usize, len: usize, tokens: &[u8]) -> Next
+        requires { ⌜ (n ≤ 4096) × (self .location ≤ n) × (len ≡ 1) ⌝ }
         ensures { λ r. ⌜ r ≡ anyOf (now (tokens .entry)) self ⌝ }
     {
         let loc = self.location;
+        if n < loc + len - 1 {
+            return Next::Outside;
+        }
         let k = self.read as usize;
         if k < machine::count_words(tokens) {
-            Next::On(self.moved(loc + 1).read_token())
+            Next::On(self.moved(loc + len).read_token())
         } else {
             Next::Stop(Reason::Missing)
         }
@@ -435,7 +439,7 @@ impl Registers {
         if n < loc + len - 1 {
             return Next::Outside;
         }
-        self.tell(room, loc + 2, Event::Output(word(t, loc)))
+        self.tell(room, loc + len, Event::Output(word(t, loc)))
     }
 
     fn error(self, t: &[u8], n: usize, len: usize, room: usize) -> Next
@@ -446,7 +450,7 @@ impl Registers {
         if n < loc + len - 1 {
             return Next::Outside;
         }
-        self.tell(room, loc + 2, Event::Error(word(t, loc)))
+        self.tell(room, loc + len, Event::Error(word(t, loc)))
     }
 
     fn set_result(self, t: &[u8], n: usize, len: usize) -> Next
@@ -457,7 +461,7 @@ impl Registers {
         if n < loc + len - 1 {
             return Next::Outside;
         }
-        Next::On(self.moved(loc + 2).with_result(word(t, loc)))
+        Next::On(self.moved(loc + len).with_result(word(t, loc)))
     }
 
     fn set_parameter(self, t: &[u8], n: usize, len: usize) -> Next
@@ -468,7 +472,7 @@ impl Registers {
         if n < loc + len - 1 {
             return Next::Outside;
         }
-        Next::On(self.moved(loc + 2).with_parameter(word(t, loc)))
+        Next::On(self.moved(loc + len).with_parameter(word(t, loc)))
     }
 
     // A choice that reads no token.
@@ -529,7 +533,7 @@ impl Registers {
         }
         if to <= n {
             if self.depth < 64 {
-                Next::Push(self.moved(to), (loc + 2) as u16)
+                Next::Push(self.moved(to), (loc + len) as u16)
             } else {
                 Next::Stop(Reason::Deep)
             }
@@ -552,10 +556,13 @@ impl Registers {
         }
     }
 
-    fn ret(self, returns: &[u16; 64], t: &[u8], n: usize) -> Next
-        requires { ⌜ (n ≡ size (now t)) × (self .depth ≤ 64) ⌝ }
+    fn ret(self, returns: &[u16; 64], t: &[u8], n: usize, len: usize) -> Next
+        requires { ⌜ (n ≡ size (now t)) × (self .location ≤ n) × (len ≡ 1) × (self .depth ≤ 64) ⌝ }
         ensures { λ r. ⌜ r ≡ returnOf (now (returns .entry)) (now (t .entry)) self ⌝ }
     {
+        if n < self.location + len - 1 {
+            return Next::Outside;
+        }
         let d = self.depth;
         if d == 0 {
             return Next::Stop(Reason::Finished);
@@ -563,21 +570,54 @@ impl Registers {
         self.back_to(n, location_of(returns[d - 1]), t)
     }
 
+    fn end_choice(self, n: usize, len: usize) -> Next
+        requires { ⌜ (n ≤ 4096) × (self .location ≤ n) × (len ≡ 1) ⌝ }
+        ensures { λ r. ⌜ r ≡ Next.Stop Reason.Unlabelled ⌝ }
+    {
+        if n < self.location + len - 1 {
+            return Next::Outside;
+        }
+        Next::Stop(Reason::Unlabelled)
+    }
+
+    // An operation without an answer.
+    fn update(self, n: usize, len: usize, room: usize, e: Event) -> Next
+        requires { ⌜ (n ≤ 4096) × (self .location ≤ n) × (len ≡ 1) ⌝ }
+        ensures { λ r. ⌜ r ≡ tellOf room (self .location + 1) e self ⌝ }
+    {
+        let loc = self.location;
+        if n < loc + len - 1 {
+            return Next::Outside;
+        }
+        self.tell(room, loc + len, e)
+    }
+
     // A choice operation: handed out by a paused walk, else with the next of the answers.
-    fn answer(self, room: usize, paused: bool, answers: &[u8], e: Event) -> Next
-        requires { ⌜ self .location ≤ 4096 ⌝ }
+    fn answer(
+        self,
+        n: usize,
+        len: usize,
+        room: usize,
+        paused: bool,
+        answers: &[u8],
+        e: Event,
+    ) -> Next
+        requires { ⌜ (n ≤ 4096) × (self .location ≤ n) × (len ≡ 1) ⌝ }
         ensures { λ r. ⌜ r ≡ answerOf room paused (now (answers .entry)) e self ⌝ }
     {
         let loc = self.location;
+        if n < loc + len - 1 {
+            return Next::Outside;
+        }
         let k = self.used as usize;
         if room < 3 {
             return Next::Full;
         }
         if paused {
-            return Next::Waits(self.moved(loc + 1), e);
+            return Next::Waits(self.moved(loc + len), e);
         }
         if k < machine::count_words(answers) {
-            Next::Tells(self.moved(loc + 1).give_answer(word(answers, k)), e)
+            Next::Tells(self.moved(loc + len).give_answer(word(answers, k)), e)
         } else {
             Next::Stop(Reason::Unanswered)
         }
@@ -607,37 +647,50 @@ impl Registers {
             1 => self.forward(t, n, length_of(known, 1)),
             2 => self.back(t, n, length_of(known, 2)),
             3 => self.input(t, n, length_of(known, 3), tokens),
-            4 => self.any(tokens),
+            4 => self.any(n, length_of(known, 4), tokens),
             5 => self.output(t, n, length_of(known, 5), room),
             6 => self.error(t, n, length_of(known, 6), room),
             7 => self.input_choice(t, n, length_of(known, 7), tokens),
             8 => self.call(t, n, length_of(known, 8)),
-            9 => self.ret(returns, t, n),
+            9 => self.ret(returns, t, n, length_of(known, 9)),
             10 => self.set_result(t, n, length_of(known, 10)),
             11 => self.choice(t, n, length_of(known, 11)),
-            12 => Next::Stop(Reason::Unlabelled),
+            12 => self.end_choice(n, length_of(known, 12)),
             13 => self.set_parameter(t, n, length_of(known, 13)),
             0 => Next::Outside,
-            _ => self.operate(answers, room, paused, ins),
+            _ => self.operate(n, answers, room, paused, ins),
         }
     }
 
     // What an operation does.
-    fn operate(self, answers: &[u8], room: usize, paused: bool, ins: u16) -> Next
-        requires { ⌜ self .location ≤ 4096 ⌝ }
+    fn operate(self, n: usize, answers: &[u8], room: usize, paused: bool, ins: u16) -> Next
+        requires { ⌜ (n ≤ 4096) × (self .location ≤ n) ⌝ }
         ensures { λ r. ⌜ r ≡ operateOf room paused (now (answers .entry)) ins self ⌝ }
     {
-        let loc = self.location;
         if ins < 256 {
             Next::Outside
         } else if ins < 512 {
-            self.tell(room, loc + 1, Event::Plain(ins))
+            self.update(n, machine::instruction_length(ins), room, Event::Plain(ins))
         } else if ins < 768 {
-            self.tell(room, loc + 1, Event::With(ins, narrow(self.parameter)))
+            self.update(
+                n,
+                machine::instruction_length(ins),
+                room,
+                Event::With(ins, narrow(self.parameter)),
+            )
         } else if ins < 1024 {
-            self.answer(room, paused, answers, Event::Plain(ins))
+            self.answer(
+                n,
+                machine::instruction_length(ins),
+                room,
+                paused,
+                answers,
+                Event::Plain(ins),
+            )
         } else if ins < 1280 {
             self.answer(
+                n,
+                machine::instruction_length(ins),
                 room,
                 paused,
                 answers,

@@ -1,5 +1,6 @@
 -- `Registers::act` meets its contract.
-use mathlib.Core.Path.{refl, _∙_}
+use mathlib.Core.Path.{_∙_}
+use native.Mathlib.Omega.{arith}
 use Rattle.machine.specs.Lengths.{lengths, lengthOf}
 use Rattle.walker.specs.Shape.{actOf, fetchedOf}
 use Rattle.walker.proofs.Laws.{here, nothing, above, less, zero-of}
@@ -28,60 +29,75 @@ input-requires : tie.Need-input-requires
 unfolding lengths lengthOf
 input-requires c κs = (c .before .before .before .before .before .pre .1, c .before .before .before .before .before .pre .2, c .length-of3 .ensures)
 
-any-requires : tie.Need-any-requires
-any-requires c κs = search needs
-
 length-of-requires-4 : tie.Need-length-of-requires-4
 length-of-requires-4 c κs = search needs
 
-output-requires : tie.Need-output-requires
+any-requires : tie.Need-any-requires
 unfolding lengths lengthOf
-output-requires c κs = (c .before .before .before .before .before .pre .1, c .before .before .before .before .before .pre .2, c .length-of4 .ensures)
+any-requires c κs = (omega (arith, c .before .before .before .before .before .pre .1), c .before .before .before .before .before .pre .2, c .length-of4 .ensures)
 
 length-of-requires-5 : tie.Need-length-of-requires-5
 length-of-requires-5 c κs = search needs
 
-error-requires : tie.Need-error-requires
+output-requires : tie.Need-output-requires
 unfolding lengths lengthOf
-error-requires c κs = (c .before .before .before .before .before .pre .1, c .before .before .before .before .before .pre .2, c .length-of5 .ensures)
+output-requires c κs = (c .before .before .before .before .before .pre .1, c .before .before .before .before .before .pre .2, c .length-of5 .ensures)
 
 length-of-requires-6 : tie.Need-length-of-requires-6
 length-of-requires-6 c κs = search needs
 
-input-choice-requires : tie.Need-input-choice-requires
+error-requires : tie.Need-error-requires
 unfolding lengths lengthOf
-input-choice-requires c κs = (c .before .before .before .before .before .pre .1, c .before .before .before .before .before .pre .2, c .length-of6 .ensures)
+error-requires c κs = (c .before .before .before .before .before .pre .1, c .before .before .before .before .before .pre .2, c .length-of6 .ensures)
 
 length-of-requires-7 : tie.Need-length-of-requires-7
 length-of-requires-7 c κs = search needs
 
-call-requires : tie.Need-call-requires
+input-choice-requires : tie.Need-input-choice-requires
 unfolding lengths lengthOf
-call-requires c κs = (c .before .before .before .before .before .pre .1, c .before .before .before .before .before .pre .2, c .length-of7 .ensures)
-
-ret-requires : tie.Need-ret-requires
-ret-requires c κs = search needs
+input-choice-requires c κs = (c .before .before .before .before .before .pre .1, c .before .before .before .before .before .pre .2, c .length-of7 .ensures)
 
 length-of-requires-8 : tie.Need-length-of-requires-8
 length-of-requires-8 c κs = search needs
 
-set-result-requires : tie.Need-set-result-requires
+call-requires : tie.Need-call-requires
 unfolding lengths lengthOf
-set-result-requires c κs = (c .before .before .before .before .before .pre .1, c .before .before .before .before .before .pre .2, c .length-of8 .ensures)
+call-requires c κs = (c .before .before .before .before .before .pre .1, c .before .before .before .before .before .pre .2, c .length-of8 .ensures)
 
 length-of-requires-9 : tie.Need-length-of-requires-9
 length-of-requires-9 c κs = search needs
 
-choice-requires : tie.Need-choice-requires
+ret-requires : tie.Need-ret-requires
 unfolding lengths lengthOf
-choice-requires c κs = (c .before .before .before .before .before .pre .1, c .before .before .before .before .before .pre .2, c .length-of9 .ensures)
+ret-requires c κs = (c .before .before .before .before .before .pre .1, c .before .before .before .before .before .pre .2, c .length-of9 .ensures, c .before .before .before .before .before .pre .3)
 
 length-of-requires-10 : tie.Need-length-of-requires-10
 length-of-requires-10 c κs = search needs
 
+set-result-requires : tie.Need-set-result-requires
+unfolding lengths lengthOf
+set-result-requires c κs = (c .before .before .before .before .before .pre .1, c .before .before .before .before .before .pre .2, c .length-of10 .ensures)
+
+length-of-requires-11 : tie.Need-length-of-requires-11
+length-of-requires-11 c κs = search needs
+
+choice-requires : tie.Need-choice-requires
+unfolding lengths lengthOf
+choice-requires c κs = (c .before .before .before .before .before .pre .1, c .before .before .before .before .before .pre .2, c .length-of11 .ensures)
+
+length-of-requires-12 : tie.Need-length-of-requires-12
+length-of-requires-12 c κs = search needs
+
+end-choice-requires : tie.Need-end-choice-requires
+unfolding lengths lengthOf
+end-choice-requires c κs = (omega (arith, c .before .before .before .before .before .pre .1), c .before .before .before .before .before .pre .2, c .length-of12 .ensures)
+
+length-of-requires-13 : tie.Need-length-of-requires-13
+length-of-requires-13 c κs = search needs
+
 set-parameter-requires : tie.Need-set-parameter-requires
 unfolding lengths lengthOf
-set-parameter-requires c κs = (c .before .before .before .before .before .pre .1, c .before .before .before .before .before .pre .2, c .length-of10 .ensures)
+set-parameter-requires c κs = (c .before .before .before .before .before .pre .1, c .before .before .before .before .before .pre .2, c .length-of13 .ensures)
 
 operate-requires : tie.Need-operate-requires
 operate-requires c κs = search needs
@@ -100,7 +116,7 @@ returns-3 c = rw (c .before .before .match .keys3) (c .input .ensures)
 
 returns-4 : tie.Need-returns-4
 unfolding fetchedOf actOf lengths lengthOf
-returns-4 c = rw (c .before .match .keys4, here (c .before .before .before .before .before .pre .2) (c .before .before .before .before .before .pre .1)) (c .any .ensures)
+returns-4 c = rw (c .before .before .match .keys4, here (c .before .before .before .before .before .before .pre .2) (c .before .before .before .before .before .before .pre .1)) (c .any .ensures)
 
 returns-5 : tie.Need-returns-5
 unfolding fetchedOf actOf lengths lengthOf
@@ -120,7 +136,7 @@ returns-8 c = rw (c .before .before .match .keys8) (c .call .ensures)
 
 returns-9 : tie.Need-returns-9
 unfolding fetchedOf actOf lengths lengthOf
-returns-9 c = rw (c .before .match .keys9, here (c .before .before .before .before .before .pre .2) (c .before .before .before .before .before .pre .1)) (c .ret .ensures)
+returns-9 c = rw (c .before .before .match .keys9, here (c .before .before .before .before .before .before .pre .2) (c .before .before .before .before .before .before .pre .1)) (c .ret .ensures)
 
 returns-10 : tie.Need-returns-10
 unfolding fetchedOf actOf lengths lengthOf
@@ -132,7 +148,7 @@ returns-11 c = rw (c .before .before .match .keys11) (c .choice .ensures)
 
 returns-12 : tie.Need-returns-12
 unfolding fetchedOf actOf lengths lengthOf
-returns-12 c = rw (c .match .keys12, here (c .before .before .before .before .pre .2) (c .before .before .before .before .pre .1)) refl
+returns-12 c = rw (c .before .before .match .keys12, here (c .before .before .before .before .before .before .pre .2) (c .before .before .before .before .before .before .pre .1)) (c .end-choice .ensures)
 
 returns-13 : tie.Need-returns-13
 unfolding fetchedOf actOf lengths lengthOf
@@ -154,21 +170,25 @@ act-spec =
     back-requires
     length-of-requires-3
     input-requires
-    any-requires
     length-of-requires-4
-    output-requires
+    any-requires
     length-of-requires-5
-    error-requires
+    output-requires
     length-of-requires-6
-    input-choice-requires
+    error-requires
     length-of-requires-7
-    call-requires
-    ret-requires
+    input-choice-requires
     length-of-requires-8
-    set-result-requires
+    call-requires
     length-of-requires-9
-    choice-requires
+    ret-requires
     length-of-requires-10
+    set-result-requires
+    length-of-requires-11
+    choice-requires
+    length-of-requires-12
+    end-choice-requires
+    length-of-requires-13
     set-parameter-requires
     operate-requires
     returns

@@ -46,7 +46,7 @@ unfolding callOf
 returns-3 c =
     let a = c .before .before .before .before .before .before .before .before .args in
     let h : wordAt (a .t .now) (a .self .location) ≤ size (a .t .now) = omega (arith, c .before .before .before .before .before .word .ensures, c .before .before .before .before .before .before .before .before .pre .0) in
-    simp (inside (c .before .before .before .before .before .before .before .before .args .self .location) (c .before .before .before .before .before .before .if1 .left) (c .before .before .before .before .before .before .before .before .pre .0) (c .before .before .before .before .before .before .before .before .pre .2), ne-eqb (wordAt (a .t .now) (a .self .location)) 0 (λ e. c .before .before .before .before .if2 .left (c .before .before .before .before .before .word .ensures ∙ e)), le-leb _ _ h, lt-ltb _ _ (c .before .if4 .taken), c .moved .ensures, c .before .before .before .before .before .word .ensures)
+    simp (inside (c .before .before .before .before .before .before .before .before .args .self .location) (c .before .before .before .before .before .before .if1 .left) (c .before .before .before .before .before .before .before .before .pre .0) (c .before .before .before .before .before .before .before .before .pre .2), ne-eqb (wordAt (a .t .now) (a .self .location)) 0 (λ e. c .before .before .before .before .if2 .left (c .before .before .before .before .before .word .ensures ∙ e)), le-leb _ _ h, lt-ltb _ _ (c .before .if4 .taken), c .moved .ensures, c .before .before .before .before .before .word .ensures, c .before .before .before .before .before .before .before .before .pre .2)
 
 returns-4 : tie.Need-returns-4
 unfolding callOf

@@ -44,7 +44,7 @@ returns-2 c =
     let a = c .before .before .before .before .before .before .before .before .before .before .args in
     let h : a .self .read < count (a .tokens .now) = omega (arith, c .before .before .before .before .before .before .count-words .ensures, c .before .before .before .before .before .if2 .taken) in
     let e : wordAt (a .tokens .now) (a .self .read) ≡ wordAt (a .t .now) (a .self .location) = sym (c .before .before .before .before .word .ensures) ∙ c .before .before .if3 .taken ∙ c .before .before .before .word2 .ensures in
-    simp (inside (c .before .before .before .before .before .before .before .before .before .before .args .self .location) (c .before .before .before .before .before .before .before .if1 .left) (c .before .before .before .before .before .before .before .before .before .before .pre .0) (c .before .before .before .before .before .before .before .before .before .before .pre .2), lt-ltb _ _ h, eq-eqb _ _ e, c .read-token .ensures, c .before .moved .ensures)
+    simp (inside (c .before .before .before .before .before .before .before .before .before .before .args .self .location) (c .before .before .before .before .before .before .before .if1 .left) (c .before .before .before .before .before .before .before .before .before .before .pre .0) (c .before .before .before .before .before .before .before .before .before .before .pre .2), lt-ltb _ _ h, eq-eqb _ _ e, c .read-token .ensures, c .before .moved .ensures, c .before .before .before .before .before .before .before .before .before .before .pre .2)
 
 returns-3 : tie.Need-returns-3
 unfolding inputOf

@@ -23,7 +23,7 @@ tell-requires : tie.Need-tell-requires
 tell-requires c κs = search needs
 
 returns-2 : tie.Need-returns-2
-returns-2 c = simp (inside (c .before .before .before .before .args .self .location) (c .before .before .if1 .left) (c .before .before .before .before .pre .0) (c .before .before .before .before .pre .2), c .tell .ensures, c .before .word .ensures)
+returns-2 c = simp (inside (c .before .before .before .before .args .self .location) (c .before .before .if1 .left) (c .before .before .before .before .pre .0) (c .before .before .before .before .pre .2), c .tell .ensures, c .before .word .ensures, c .before .before .before .before .pre .2)
 
 pub output-spec : {M : Type 1} → statement M
 output-spec =

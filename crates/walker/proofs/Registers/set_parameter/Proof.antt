@@ -26,7 +26,7 @@ with-parameter-requires : tie.Need-with-parameter-requires
 with-parameter-requires c κs = search needs
 
 returns-2 : tie.Need-returns-2
-returns-2 c = simp (inside (c .before .before .before .before .before .args .self .location) (c .before .before .before .if1 .left) (c .before .before .before .before .before .pre .0) (c .before .before .before .before .before .pre .2), c .with-parameter .ensures, c .before .word .ensures, c .before .before .moved .ensures)
+returns-2 c = simp (inside (c .before .before .before .before .before .args .self .location) (c .before .before .before .if1 .left) (c .before .before .before .before .before .pre .0) (c .before .before .before .before .before .pre .2), c .with-parameter .ensures, c .before .word .ensures, c .before .before .moved .ensures, c .before .before .before .before .before .pre .2)
 
 pub set-parameter-spec : {M : Type 1} → statement M
 set-parameter-spec =
