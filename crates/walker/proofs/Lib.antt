@@ -5,3 +5,4 @@ pub mod Laws
 pub mod Keeps
 pub mod Go
 pub mod Calls
+pub mod Steps

@@ -7,7 +7,8 @@ ghost use Rattle.walker.specs.Shape.{size, setWord, putEvent, swapped, n
 ghost use Rattle.walker.specs.Shape.{moved, readOne, answeredOne, withResult, withParameter, poppedTo, withDepth, first64};
 ghost use Rattle.walker.specs.Shape.{otherwiseOf, labelOf, labelledOf, choiceOf, defaultOf, takeOther};
 ghost use Rattle.walker.specs.Shape.{forwardOf, backOf, inputOf, anyOf, tellOf, inputChoiceOf, callOf, backTo, returnOf, answerOf};
-ghost use Rattle.walker.specs.Shape.{inFull, operateOf, fetchedOf, stepOf, goOf, wholeOf, pausedOf};
+ghost use Rattle.walker.specs.Shape.{inFull, operateOf, fetchedOf, stepOf, goOf, wholeOf, pausedOf, pushed};
+ghost use Rattle.walker.specs.Steps.{withAt, inPhase, tokenRead, returned, answered, asRead, says, Holds, tookOf, numberAt, nextOf, walkStepOf};
 
 // Why a walk has stopped for good.
 pub enum Reason {
@@ -69,6 +70,26 @@ pub enum Next {
     Push(Registers, u16),
     // a paused walk hands an operation out
     Waits(Registers, Event),
+}
+
+// What a step tells its call.
+pub enum Said {
+    // the walk goes on
+    On,
+    // it goes on, and the event is to be written
+    Tells(Event),
+    // nothing was done; the call ends with this number
+    Undone(u16),
+    // the walk has stopped; the call ends with this number
+    Stops(u16),
+    // the operation is handed out, its event to be written
+    Hands(Event),
+}
+
+// What a step gives: the walk back, and what its call is told.
+pub struct Stepped {
+    pub walk: Walk,
+    pub said: Said,
 }
 
 // Where a choice goes.
@@ -735,22 +756,182 @@ impl Registers {
             word(t, at - 1),
         )
     }
+}
 
-    // One step of a walk that goes on, in any registers.
-    pub fn step(
-        self,
-        returns: &[u16; 64],
-        t: &[u8],
-        tokens: &[u8],
-        answers: &[u8],
-        room: usize,
-        paused: bool,
-    ) -> Next
-        ensures { λ r. ⌜ r ≡ stepOf (now (returns .entry)) (now (t .entry)) (now (tokens .entry)) (now (answers .entry)) room paused (first64 self) ⌝ }
+// The number of the instruction at loc: 0, which is none, outside the table.
+fn fetched(t: &[u8], n: usize, loc: usize) -> u16
+    requires { ⌜ n ≡ size (now t) ⌝ }
+    ensures { λ r. ⌜ r ≡ numberAt (now (t .entry)) loc ⌝ }
+{
+    if loc == 0 {
+        return 0;
+    }
+    if loc <= n { word(t, loc - 1) } else { 0 }
+}
+
+// Steps of a walk
+//
+// Each takes the walk and gives the walk back. The loop of the calls, `Walk::go`, does the same with registers and return locations apart, which is faster
+// (docs/DECISIONS.md); `repeats` in proofs/Steps.antt says that it is these steps repeated.
+
+impl Walk {
+    fn with_registers(mut self, q: Registers) -> Walk
+        ensures { λ r. ⌜ r ≡ withAt self q ⌝ }
+    {
+        self.at = q;
+        self
+    }
+
+    fn in_phase(self, p: Phase) -> Walk
+        ensures { λ r. ⌜ r ≡ inPhase self p ⌝ }
+    {
+        let at = self.at;
+        let returns = self.returns;
+        Walk {
+            phase: p,
+            at,
+            returns,
+        }
+    }
+
+    fn read_token(self) -> Walk
+        requires { ⌜ self .at .read + 1 < 2 ^ 64 ⌝ }
+        ensures { λ r. ⌜ r ≡ tokenRead self ⌝ }
+    {
+        let at = self.at;
+        self.with_registers(at.read_token())
+    }
+
+    // One more return location, above those that it holds.
+    fn push(mut self, back: u16) -> Walk
+        requires { ⌜ self .at .depth < 64 ⌝ }
+        ensures { λ r. ⌜ r ≡ pushed self back ⌝ }
+    {
+        let d = self.at.depth;
+        self.returns[d] = back;
+        self.at.depth = d + 1;
+        self
+    }
+
+    // Goes back to the newest of its return locations.
+    fn ret(self) -> Walk
+        requires { ⌜ (0 < self .at .depth) × (self .at .depth ≤ 64) ⌝ }
+        ensures { λ r. ⌜ r ≡ returned self ⌝ }
+    {
+        let at = self.at;
+        let returns = self.returns;
+        let d = at.depth;
+        self.with_registers(at.popped_to(location_of(returns[d - 1])))
+    }
+
+    // Takes the answer that it waited for, and goes on.
+    fn give_answer(self, x: u16) -> Walk
+        ensures { λ r. ⌜ r ≡ answered self x ⌝ }
+    {
+        let at = self.at;
+        self.with_registers(at.give_answer(x))
+            .in_phase(Phase::Going)
+    }
+
+    fn says(self, said: Said) -> Stepped
+        ensures { λ r. ⌜ r ≡ says self said ⌝ }
+    {
+        Stepped { walk: self, said }
+    }
+}
+
+impl Walk {
+    // What an instruction does to the walk.
+    fn took(self, x: Next) -> Stepped
+        requires { ⌜ Holds x ⌝ }
+        ensures { λ r. ⌜ r ≡ tookOf self x ⌝ }
+    {
+        match x {
+            Next::Full => self.says(Said::Undone(35)),
+            Next::Outside => self.in_phase(Phase::Stopped(Reason::Outside))
+                .says(Said::Undone(37)),
+            Next::Stop(why) => self.in_phase(Phase::Stopped(why))
+                .says(Said::Stops(number_of(why))),
+            Next::On(q) => self.with_registers(q).says(Said::On),
+            Next::Tells(q, e) => self.with_registers(q).says(Said::Tells(e)),
+            Next::Push(q, back) => self.with_registers(q).push(back).says(Said::On),
+            Next::Waits(q, e) => self.with_registers(q)
+                .in_phase(Phase::Waiting)
+                .says(Said::Hands(e)),
+        }
+    }
+
+    // An inputAny: reads the present token.
+    fn any(self, n: usize, len: usize, tokens: &[u8]) -> Stepped
+        requires { ⌜ (n ≤ 4096) × (self .at .location ≤ n) × (len ≡ 1) ⌝ }
+        ensures { λ r. ⌜ r ≡ tookOf self (anyOf (now (tokens .entry)) (self .at)) ⌝ }
+    {
+        let at = self.at;
+        let loc = at.location;
+        if n < loc + len - 1 {
+            return self.took(Next::Outside);
+        }
+        let k = at.read as usize;
+        if k < machine::count_words(tokens) {
+            self.with_registers(at.moved(loc + len))
+                .read_token()
+                .says(Said::On)
+        } else {
+            self.took(Next::Stop(Reason::Missing))
+        }
+    }
+
+    // A return: to the newest return location, which is tested here.
+    fn back(self, t: &[u8], n: usize, len: usize) -> Stepped
+        requires { ⌜ (n ≡ size (now t)) × (self .at .location ≤ n) × (len ≡ 1) × (self .at .depth ≤ 64) ⌝ }
+        ensures { λ r. ⌜ r ≡ tookOf self (returnOf (self .returns) (now (t .entry)) (self .at)) ⌝ }
+    {
+        let at = self.at;
+        if n < at.location + len - 1 {
+            return self.took(Next::Outside);
+        }
+        if at.depth == 0 {
+            return self.took(Next::Stop(Reason::Finished));
+        }
+        let w = self.ret();
+        let to = w.at.location;
+        if to == 0 {
+            return self.took(Next::Outside);
+        }
+        if to <= n {
+            w.says(Said::On)
+        } else {
+            self.took(Next::Outside)
+        }
+    }
+
+    // One step of a walk that goes on. What other instructions change are registers, and for a call what `push` keeps.
+    fn next(self, t: &[u8], tokens: &[u8], answers: &[u8], room: usize, paused: bool) -> Stepped
+        requires { ⌜ self .at .depth ≤ 64 ⌝ }
+        ensures { λ r. ⌜ r ≡ nextOf (now (t .entry)) (now (tokens .entry)) (now (answers .entry)) room paused self ⌝ }
     {
         let known = machine::LENGTHS;
-        self.clipped()
-            .next(&known, returns, t, tokens, answers, room, paused)
+        let n = table_words(t);
+        let at = self.at;
+        let returns = self.returns;
+        let ins = fetched(t, n, at.location);
+        match ins {
+            4 => self.any(n, length_of(&known, 4), tokens),
+            9 => self.back(t, n, length_of(&known, 9)),
+            _ => self.took(at.next(&known, &returns, t, tokens, answers, room, paused)),
+        }
+    }
+
+    // One step of any walk, with room for so many words of events.
+    pub fn step(self, t: &[u8], tokens: &[u8], answers: &[u8], room: usize, paused: bool) -> Stepped
+        ensures { λ r. ⌜ r ≡ walkStepOf (now (t .entry)) (now (tokens .entry)) (now (answers .entry)) room paused self (self .phase) ⌝ }
+    {
+        let phase = self.phase;
+        match phase {
+            Phase::Going => self.clipped().next(t, tokens, answers, room, paused),
+            Phase::Waiting => self.says(Said::Undone(21)),
+            Phase::Stopped(why) => self.says(Said::Undone(number_of(why))),
+        }
     }
 }
 
@@ -762,15 +943,6 @@ impl Walk {
         ensures { λ r. ⌜ (r .phase ≡ self .phase) × (r .at ≡ first64 (self .at)) × (r .returns ≡ self .returns) ⌝ }
     {
         let at = self.at.clipped();
-        self.at = at;
-        self
-    }
-
-    // Takes the answer that it waited for.
-    fn answered(mut self, x: u16) -> Walk
-        ensures { λ r. ⌜ (r .at ≡ answeredOne (self .at) x) × (r .returns ≡ self .returns) ⌝ }
-    {
-        let at = self.at.give_answer(x);
         self.at = at;
         self
     }
@@ -949,7 +1121,7 @@ impl Walk {
             Phase::Waiting => {
                 if given {
                     return self.clipped()
-                        .answered(answer)
+                        .give_answer(answer)
                         .go(table, tokens, tokens, true, budget, events);
                 }
                 Called {

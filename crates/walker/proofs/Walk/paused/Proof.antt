@@ -3,6 +3,7 @@ use mathlib.Core.Path.{ap, _∙_}
 use native.Mathlib.Omega.{arith}
 use Rattle.walker.specs.Shape.{answeredOne}
 use Rattle.walker.specs.declared.Registers.{Registers}
+use Rattle.walker.specs.declared.Walk.{Walk}
 use Rattle.walker.proofs.Go.{parts}
 use Rattle.walker.proofs.Calls.{retold, paused-goes, paused-answers, paused-stops, refused-going, refused-waiting, refused-stopped}
 use borrow.Author.Needs.{needs}
@@ -29,11 +30,11 @@ enum-told-2 c = search needs
 clipped-requires-2 : tie.Need-clipped-requires-2
 clipped-requires-2 c κs = search needs
 
-answered-requires : tie.Need-answered-requires
-answered-requires c κs = search needs
+give-answer-requires : tie.Need-give-answer-requires
+give-answer-requires c κs = search needs
 
 go-requires-2 : tie.Need-go-requires-2
-go-requires-2 c κs = simp (c .before .answered .ensures .0, c .before .before .clipped2 .ensures .1) (omega arith)
+go-requires-2 c κs = simp (c .before .give-answer .ensures, c .before .before .clipped2 .ensures .1) (omega arith)
 
 same-length : tie.Need-same-length
 same-length c = search needs
@@ -42,8 +43,8 @@ returns-2 : tie.Need-returns-2
 returns-2 c =
     let a = c .before .before .before .before .before .before .before .before .before .before .before .before .args in
     let e = c .before .before .before .before .before .clipped2 .ensures in
-    let f = c .before .before .before .before .answered .ensures in
-    retold (paused-answers (a .table .now) (a .tokens .now) (a .budget) (a .self) (a .events .now) (a .given) (a .answer) (a .tokens .now) (c .before .before .before .before .answered .result) (f .0 ∙ ap (λ (r : Registers). answeredOne r (a .answer)) (e .1)) (f .1 ∙ e .2) (c .before .before .before .before .before .before .before .enum-told2 .given .1) (c .before .before .before .before .before .before .if2 .taken)) (c .before .before .go2 .ensures)
+    let f = c .before .before .before .before .give-answer .ensures in
+    retold (paused-answers (a .table .now) (a .tokens .now) (a .budget) (a .self) (a .events .now) (a .given) (a .answer) (a .tokens .now) (c .before .before .before .before .give-answer .result) (ap (λ (w : Walk). w .at) f ∙ ap (λ (r : Registers). answeredOne r (a .answer)) (e .1)) (ap (λ (w : Walk). w .returns) f ∙ e .2) (c .before .before .before .before .before .before .before .enum-told2 .given .1) (c .before .before .before .before .before .before .if2 .taken)) (c .before .before .go2 .ensures)
 
 enum-known-phase : tie.Need-enum-known-phase
 enum-known-phase c = search needs
@@ -85,7 +86,7 @@ paused-spec =
     go-requires
     enum-told-2
     clipped-requires-2
-    answered-requires
+    give-answer-requires
     go-requires-2
     same-length
     returns-2
