@@ -8,7 +8,7 @@ ghost use Rattle.walker.specs.Shape.{moved, readOne, answeredOne, withRe
 ghost use Rattle.walker.specs.Shape.{otherwiseOf, labelOf, labelledOf, choiceOf, defaultOf, takeOther};
 ghost use Rattle.walker.specs.Shape.{forwardOf, backOf, inputOf, anyOf, tellOf, inputChoiceOf, callOf, backTo, returnOf, answerOf};
 ghost use Rattle.walker.specs.Shape.{inFull, operateOf, fetchedOf, stepOf, goOf, wholeOf, pausedOf, pushed};
-ghost use Rattle.walker.specs.Steps.{withAt, inPhase, tokenRead, returned, answered, asRead, says, Holds, tookOf, numberAt, nextOf, walkStepOf};
+ghost use Rattle.walker.specs.Steps.{withAt, inPhase, tokenRead, returned, answered, asRead, says, Holds, tookOf, numberAt, nextOf, walkStepOf, called};
 
 // Why a walk has stopped for good.
 pub enum Reason {
@@ -937,6 +937,25 @@ impl Walk {
 
 // Calls
 
+// What a call gives that leaves these registers and return locations.
+fn ended(
+    phase: Phase,
+    at: Registers,
+    returns: [u16; 64],
+    events: usize,
+    steps: u64,
+    number: u16,
+) -> Called
+    ensures { λ r. ⌜ r ≡ called phase at returns events steps number ⌝ }
+{
+    Called {
+        walk: Walk { phase, at, returns },
+        events: events as u64,
+        steps,
+        number,
+    }
+}
+
 impl Walk {
     // Its registers as they are read.
     fn clipped(mut self) -> Walk
@@ -976,40 +995,15 @@ impl Walk {
             let next = done + 1;
             match x {
                 Next::Full => {
-                    return Called {
-                        walk: Walk {
-                            phase: Phase::Going,
-                            at,
-                            returns,
-                        },
-                        events: events as u64,
-                        steps: done,
-                        number: 35,
-                    };
+                    return ended(Phase::Going, at, returns, events, done, 35);
                 }
                 Next::Outside => {
-                    return Called {
-                        walk: Walk {
-                            phase: Phase::Stopped(Reason::Outside),
-                            at,
-                            returns,
-                        },
-                        events: events as u64,
-                        steps: done,
-                        number: 37,
-                    };
+                    let outside = Phase::Stopped(Reason::Outside);
+                    return ended(outside, at, returns, events, done, 37);
                 }
                 Next::Stop(why) => {
-                    return Called {
-                        walk: Walk {
-                            phase: Phase::Stopped(why),
-                            at,
-                            returns,
-                        },
-                        events: events as u64,
-                        steps: next,
-                        number: number_of(why),
-                    };
+                    let stopped = Phase::Stopped(why);
+                    return ended(stopped, at, returns, events, next, number_of(why));
                 }
                 Next::On(q) => {
                     at = q;
@@ -1027,31 +1021,12 @@ impl Walk {
                 }
                 Next::Waits(q, e) => {
                     put_event(out, 3 * events, e);
-                    let written = events as u64 + 1;
-                    return Called {
-                        walk: Walk {
-                            phase: Phase::Waiting,
-                            at: q,
-                            returns,
-                        },
-                        events: written,
-                        steps: next,
-                        number: 22,
-                    };
+                    return ended(Phase::Waiting, q, returns, events + 1, next, 22);
                 }
             }
             done = next;
         }
-        Called {
-            walk: Walk {
-                phase: Phase::Going,
-                at,
-                returns,
-            },
-            events: events as u64,
-            steps: done,
-            number: 36,
-        }
+        ended(Phase::Going, at, returns, events, done, 36)
     }
 
     // A whole walk's call: up to budget steps, with all answers given.

@@ -52,28 +52,34 @@ add-next c = omega (arith, c .before .before .before .before .loop .inv .within,
 enum-told : tie.Need-enum-told Inv-loop μ-loop
 enum-told c = search needs
 
+ended-requires : tie.Need-ended-requires Inv-loop μ-loop
+ended-requires c κs = search needs
+
 same-length : tie.Need-same-length Inv-loop μ-loop
-same-length c = c .before .before .before .before .before .before .loop .inv .as-long
+same-length c = c .before .before .before .before .before .before .before .loop .inv .as-long
 
 returns : tie.Need-returns Inv-loop μ-loop
 returns c =
-    let a = c .before .before .before .before .before .before .before .before .before .before .before .before .before .before .before .args in
-    let l = c .before .before .before .before .before .before .loop in
-    let x = told (c .before .before) ∙ c .enum-told .given .1 in
-    parts (sym (full _ _ _ _ _ _ _ _ _ (a .budget - l .done) (omega (arith, c .before .before .before .before .before .loop-test .taken)) x) ∙ l .inv .same)
+    let a = c .before .before .before .before .before .before .before .before .before .before .before .before .before .before .before .before .args in
+    let l = c .before .before .before .before .before .before .before .loop in
+    let x = told (c .before .before .before) ∙ c .before .enum-told .given .1 in
+    rw (c .ended .ensures) (parts (sym (full _ _ _ _ _ _ _ _ _ (a .budget - l .done) (omega (arith, c .before .before .before .before .before .before .loop-test .taken)) x) ∙ l .inv .same))
 
 enum-told-2 : tie.Need-enum-told-2 Inv-loop μ-loop
 enum-told-2 c = search needs
 
+ended-requires-2 : tie.Need-ended-requires-2 Inv-loop μ-loop
+ended-requires-2 c κs = search needs
+
 same-length-2 : tie.Need-same-length-2 Inv-loop μ-loop
-same-length-2 c = c .before .before .before .before .before .before .loop .inv .as-long
+same-length-2 c = c .before .before .before .before .before .before .before .loop .inv .as-long
 
 returns-2 : tie.Need-returns-2 Inv-loop μ-loop
 returns-2 c =
-    let a = c .before .before .before .before .before .before .before .before .before .before .before .before .before .before .before .args in
-    let l = c .before .before .before .before .before .before .loop in
-    let x = told (c .before .before) ∙ c .enum-told2 .given .1 in
-    parts (sym (outside _ _ _ _ _ _ _ _ _ (a .budget - l .done) (omega (arith, c .before .before .before .before .before .loop-test .taken)) x) ∙ l .inv .same)
+    let a = c .before .before .before .before .before .before .before .before .before .before .before .before .before .before .before .before .args in
+    let l = c .before .before .before .before .before .before .before .loop in
+    let x = told (c .before .before .before) ∙ c .before .enum-told2 .given .1 in
+    rw (c .ended2 .ensures) (parts (sym (outside _ _ _ _ _ _ _ _ _ (a .budget - l .done) (omega (arith, c .before .before .before .before .before .before .loop-test .taken)) x) ∙ l .inv .same))
 
 enum-known-x : tie.Need-enum-known-x Inv-loop μ-loop
 enum-known-x c = search needs
@@ -81,16 +87,19 @@ enum-known-x c = search needs
 number-of-requires : tie.Need-number-of-requires Inv-loop μ-loop
 number-of-requires c κs = search needs
 
+ended-requires-3 : tie.Need-ended-requires-3 Inv-loop μ-loop
+ended-requires-3 c κs = search needs
+
 same-length-3 : tie.Need-same-length-3 Inv-loop μ-loop
-same-length-3 c = c .before .before .before .before .before .before .before .before .loop .inv .as-long
+same-length-3 c = c .before .before .before .before .before .before .before .before .before .loop .inv .as-long
 
 returns-3 : tie.Need-returns-3 Inv-loop μ-loop
 returns-3 c =
-    let a = c .before .before .before .before .before .before .before .before .before .before .before .before .before .before .before .before .before .args in
-    let l = c .before .before .before .before .before .before .before .before .loop in
-    let x = told (c .before .before .before .before) ∙ c .before .before .x .given .1 in
-    let p = parts (sym (stops _ _ _ _ _ _ _ _ _ (a .budget - l .done) _ (omega (arith, c .before .before .before .before .before .before .before .loop-test .taken)) x) ∙ l .inv .same) in
-    (p .0, (p .1 .0, (p .1 .1 .0, (c .number-of .ensures ∙ p .1 .1 .1 .0, p .1 .1 .1 .1))))
+    let a = c .before .before .before .before .before .before .before .before .before .before .before .before .before .before .before .before .before .before .args in
+    let l = c .before .before .before .before .before .before .before .before .before .loop in
+    let x = told (c .before .before .before .before .before) ∙ c .before .before .before .x .given .1 in
+    let p = parts (sym (stops _ _ _ _ _ _ _ _ _ (a .budget - l .done) _ (omega (arith, c .before .before .before .before .before .before .before .before .loop-test .taken)) x) ∙ l .inv .same) in
+    rw (c .ended3 .ensures) ((p .0, (p .1 .0, (p .1 .1 .0, (c .before .number-of .ensures ∙ p .1 .1 .1 .0, p .1 .1 .1 .1)))))
 
 enum-known-x-2 : tie.Need-enum-known-x-2 Inv-loop μ-loop
 enum-known-x-2 c = search needs
@@ -147,20 +156,23 @@ put-event-requires-2 c κs =
     let k = subst (Keeps (l .room)) (c .before .before .x5 .given .1) (kept (c .before .before .before .before)) in
     omega (arith, k, l .inv .left)
 
-add-written : tie.Need-add-written Inv-loop μ-loop
+add-ended : tie.Need-add-ended Inv-loop μ-loop
 unfolding count
-add-written c = omega (arith, c .before .before .before .before .before .before .before .before .before .before .before .loop .inv .left, c .before .before .before .before .before .before .before .before .before .before .before .loop .inv .as-long, c .before .before .before .before .before .before .before .before .before .before .before .before .before .before .before .before .before .before .before .before .good)
+add-ended c = omega (arith, c .before .before .before .before .before .before .before .before .before .before .before .loop .inv .left, c .before .before .before .before .before .before .before .before .before .before .before .loop .inv .as-long, c .before .before .before .before .before .before .before .before .before .before .before .before .before .before .before .before .before .before .before .before .good)
+
+ended-requires-4 : tie.Need-ended-requires-4 Inv-loop μ-loop
+ended-requires-4 c κs = search needs
 
 same-length-4 : tie.Need-same-length-4 Inv-loop μ-loop
-same-length-4 c = c .before .before .put-event2 .kept .0 ∙ c .before .before .before .before .before .before .before .before .before .before .before .loop .inv .as-long
+same-length-4 c = c .before .before .before .put-event2 .kept .0 ∙ c .before .before .before .before .before .before .before .before .before .before .before .before .loop .inv .as-long
 
 returns-4 : tie.Need-returns-4 Inv-loop μ-loop
 returns-4 c =
-    let a = c .before .before .before .before .before .before .before .before .before .before .before .before .before .before .before .before .before .before .before .before .args in
-    let l = c .before .before .before .before .before .before .before .before .before .before .before .loop in
-    let x = told (c .before .before .before .before .before .before .before) ∙ c .before .before .before .before .before .x5 .given .1 in
-    let p = parts (sym (waits _ _ _ _ _ _ _ _ _ (a .budget - l .done) _ _ (omega (arith, c .before .before .before .before .before .before .before .before .before .before .loop-test .taken)) x) ∙ l .inv .same) in
-    (p .0, (p .1 .0, (p .1 .1 .0, (p .1 .1 .1 .0, c .before .before .put-event2 .ensures ∙ p .1 .1 .1 .1))))
+    let a = c .before .before .before .before .before .before .before .before .before .before .before .before .before .before .before .before .before .before .before .before .before .args in
+    let l = c .before .before .before .before .before .before .before .before .before .before .before .before .loop in
+    let x = told (c .before .before .before .before .before .before .before .before) ∙ c .before .before .before .before .before .before .x5 .given .1 in
+    let p = parts (sym (waits _ _ _ _ _ _ _ _ _ (a .budget - l .done) _ _ (omega (arith, c .before .before .before .before .before .before .before .before .before .before .before .loop-test .taken)) x) ∙ l .inv .same) in
+    rw (c .ended4 .ensures) ((p .0, (p .1 .0, (p .1 .1 .0, (p .1 .1 .1 .0, c .before .before .before .put-event2 .ensures ∙ p .1 .1 .1 .1)))))
 
 loop-less : tie.Need-loop-less Inv-loop μ-loop
 loop-less c = omega (arith, c .before .before .before .before .before .before .loop-test .taken)
@@ -200,14 +212,17 @@ loop-again-3 c =
     let s = sym (pushes _ _ _ _ _ _ _ _ _ (a .budget - l .done) (a .budget - (l .done + 1)) _ _ (omega (arith, c .before .before .before .before .before .before .before .loop-test .taken)) x) ∙ l .inv .same in
     rw (c .push .ensures) (record { deep = omega (arith, k); left = l .inv .left; as-long = l .inv .as-long; within = omega (arith, c .before .before .before .before .before .before .before .loop-test .taken); same = s })
 
+ended-requires-5 : tie.Need-ended-requires-5 Inv-loop μ-loop
+ended-requires-5 c κs = search needs
+
 same-length-5 : tie.Need-same-length-5 Inv-loop μ-loop
-same-length-5 c = c .before .loop .inv .as-long
+same-length-5 c = c .before .before .loop .inv .as-long
 
 returns-5 : tie.Need-returns-5 Inv-loop μ-loop
 returns-5 c =
-    let a = c .before .before .before .before .before .before .before .before .before .before .args in
-    let l = c .before .loop in
-    parts (sym (spent (a .t .now) (a .tokens .now) (a .answers .now) (a .paused) (a .budget - l .done) (l .at) (l .returns) (l .out) (l .events) (l .done) (omega (arith, l .inv .within, c .loop-test .left))) ∙ l .inv .same)
+    let a = c .before .before .before .before .before .before .before .before .before .before .before .args in
+    let l = c .before .before .loop in
+    rw (c .ended5 .ensures) (parts (sym (spent (a .t .now) (a .tokens .now) (a .answers .now) (a .paused) (a .budget - l .done) (l .at) (l .returns) (l .out) (l .events) (l .done) (omega (arith, l .inv .within, c .before .loop-test .left))) ∙ l .inv .same))
 
 pub go-spec : {M : Type 1} → statement M
 go-spec =
@@ -220,13 +235,16 @@ go-spec =
     next-requires
     add-next
     enum-told
+    ended-requires
     same-length
     returns
     enum-told-2
+    ended-requires-2
     same-length-2
     returns-2
     enum-known-x
     number-of-requires
+    ended-requires-3
     same-length-3
     returns-3
     enum-known-x-2
@@ -242,7 +260,8 @@ go-spec =
     enum-known-x-5
     mul-put-event-2
     put-event-requires-2
-    add-written
+    add-ended
+    ended-requires-4
     same-length-4
     returns-4
     loop-less
@@ -251,5 +270,6 @@ go-spec =
     loop-again-2
     loop-less-3
     loop-again-3
+    ended-requires-5
     same-length-5
     returns-5)
