@@ -14,3 +14,4 @@ pub mod MoreAnswers
 pub mod Theorem
 pub mod Pauses
 pub mod Enough
+pub mod Reports

@@ -10,7 +10,9 @@ use lib.ListN.{length, take, drop, replicate, getD, getElem?}
 use lib.Seq.{take-append-add}
 use Rattle.acceptance.proofs.Accepts.{accepted-table}
 use Rattle.acceptance.specs.Answers.{TableOf}
+use Rattle.agreement.proofs.Reports.{reports-last}
 use Rattle.agreement.proofs.Theorem.{agreement}
+use Rattle.agreement.specs.Reports.{Reports}
 use Rattle.agreement.specs.Demand.{eventsOf, Begins, wanted, Agrees, Suffices, HasStopped, WaitsPast, Finishes, Demand3, RulesStop, RulesWrite, Listed}
 use Rattle.events.specs.Events.{Event, Reason, Io}
 use Rattle.machine.proofs.Bytes.{length-wordsOf}
@@ -21,7 +23,6 @@ use Rattle.ownwalk.specs.OwnWalk.{owns, ownStart}
 use Rattle.processor.specs.Process.{Answer, accepted, process, understood, meaning, lentWords, lentBytes}
 use Rattle.program.specs.Program.{Rule}
 use Rattle.bytewise.proofs.Joined.{wordsOf-then, eventsWords-then, choices-words, byte-calls}
-use Rattle.bytewise.proofs.Stops.{number-stops}
 use Rattle.bytewise.specs.AtEntries.{RulesWriteWords, RulesStopWords, WaitsPastBytes, StoppedBytes, SufficesBytes, AgreesBytes, Leaves, AtEntries}
 use Rattle.bytewise.specs.ByteCalls.{Slice, choicesIn, Waits, ByteCalls, Stands}
 
@@ -118,11 +119,15 @@ module _ (prog : List Rule) (table tokens answers : List ℕ) (bt : Below 256 ta
             (a .events-waiting (st .listed) (ap (λ (v : Walk). v .phase) (same-walk (st .read-back) (h .1)) ∙ h .2) x));
         never-37 = λ l e. a .never-37 (byte-calls table tokens answers bt bk ba l .listed) e;
         stops = λ l d p. stopped-bytes l d p;
-        says = λ r l e. (let st = byte-calls table tokens answers bt bk ba l in
-            (st .walk, st .read-back, number-stops (tableOf table) (wordsOf tokens) r (st .listed) e));
+        says = λ l d. said l d;
         budget = λ h. (let x = a .budget h in (x .0, suffices-bytes (x .0) (x .1)));
       }
     where
+      said : {s ws : List ℕ} {n number : ℕ} {ns : List ℕ} {w : Walk} → ByteCalls table tokens answers s ws n (number ∷ ns) → walkOf s ≡ some w → Reports number (w .phase)
+      said l d =
+          let st = byte-calls table tokens answers bt bk ba l in
+          rw (ap (λ (v : Walk). v .phase) (same-walk (st .read-back) d)) at (reports-last (tableOf table) (wordsOf tokens) (st .listed))
+
       stopped-bytes : {s ws : List ℕ} {n : ℕ} {ns : List ℕ} {w : Walk} {r : Reason} → ByteCalls table tokens answers s ws n ns
           → walkOf s ≡ some w → w .phase ≡ stopped r → RulesStopWords prog (wordsOf tokens) (wordsOf answers) r (w .io .read) (w .io .used) ws
       stopped-bytes {w = w} l d p =

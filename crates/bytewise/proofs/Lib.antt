@@ -1,5 +1,4 @@
 -- From the calls over bytes to demand 3.
 pub mod Facts
 pub mod Joined
-pub mod Stops
 pub mod Entries

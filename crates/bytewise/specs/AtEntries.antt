@@ -9,7 +9,8 @@ use mathlib.Core.Path.{_≡_}
 use Prim.Native.Nat.{ℕ, _-_, _<_}
 use lib.ListN.{getElem?}
 use Rattle.agreement.specs.Demand.{eventsOf, RulesStop, HasStopped}
-use Rattle.events.specs.Events.{Event, Reason, reasonNumber, unanswered, Io}
+use Rattle.agreement.specs.Reports.{Reports}
+use Rattle.events.specs.Events.{Event, Reason, unanswered, Io}
 use Rattle.finishing.specs.Finishing.{Finishing}
 use Rattle.machine.specs.Bytes.{count, wordsOf}
 use Rattle.machine.specs.Form.{walkOf, eventsWords}
@@ -66,9 +67,9 @@ pub record AgreesBytes (prog : List Rule) (table tokens answers : List ℕ) : Ty
   -- a walk that has stopped has the rules' reason, tokens read and answers used, and the event buffers have the rules' words
   pub stops : {s ws : List ℕ} {n : ℕ} {ns : List ℕ} {w : Walk} {r : Reason} → ByteCalls table tokens answers s ws n ns
       → walkOf s ≡ some w → w .phase ≡ stopped r → RulesStopWords prog (wordsOf tokens) (wordsOf answers) r (w .io .read) (w .io .used) ws
-  -- a call answers the number of a reason only of a walk that has stopped for it
-  pub says : {s ws : List ℕ} {n number : ℕ} {ns : List ℕ} (r : Reason) → ByteCalls table tokens answers s ws n (number ∷ ns) → number ≡ reasonNumber r
-      → (w : Walk) × (walkOf s ≡ some w) × (w .phase ≡ stopped r)
+  -- the last call's number says in which phase the walk is: "Refusals apart, only 35 and 36 leave the walk going on"
+  pub says : {s ws : List ℕ} {n number : ℕ} {ns : List ℕ} {w : Walk} → ByteCalls table tokens answers s ws n (number ∷ ns)
+      → walkOf s ≡ some w → Reports number (w .phase)
   -- where the rules stop, one budget suffices
   pub budget : {r : Reason} {io : Io} → RulesStop prog (wordsOf tokens) (wordsOf answers) r io → (b : ℕ) × SufficesBytes prog table tokens answers b
 
