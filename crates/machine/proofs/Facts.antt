@@ -270,6 +270,11 @@ forms =
     22 (form (0 ∷ 1 ∷ 0 ∷ 0 ∷ 0 ∷ 2 ∷ [])) (0 ∷ 3 ∷ 3 ∷ 0 ∷ 0 ∷ 0 ∷ []) 1 1
     ∷ callOver (3 ∷ 0 ∷ 0 ∷ 9 ∷ []) [] (paused (some 258)) 0 (form (0 ∷ 1 ∷ 0 ∷ 0 ∷ 0 ∷ 2 ∷ (replicate 14 0 ++ replicate 8 255))) []
     36 (form (0 ∷ 0 ∷ 0 ∷ 0 ∷ 0 ∷ 2 ∷ 1 ∷ 2 ∷ (replicate 12 0 ++ replicate 8 255))) [] 0 0
+    -- a count goes on from one of its four words to the next
+    ∷ callOver [] [] (paused (some 258)) 0 (form (0 ∷ 1 ∷ 0 ∷ 0 ∷ 0 ∷ 2 ∷ (replicate 20 0 ++ (255 ∷ 255 ∷ [])))) []
+    36 (form (0 ∷ 0 ∷ 0 ∷ 0 ∷ 0 ∷ 2 ∷ 1 ∷ 2 ∷ (replicate 17 0 ++ (1 ∷ 0 ∷ 0 ∷ [])))) [] 0 0
+    ∷ callOver [] [] (paused (some 258)) 0 (form (0 ∷ 1 ∷ 0 ∷ 0 ∷ 0 ∷ 2 ∷ (replicate 18 0 ++ replicate 4 255))) []
+    36 (form (0 ∷ 0 ∷ 0 ∷ 0 ∷ 0 ∷ 2 ∷ 1 ∷ 2 ∷ (replicate 15 0 ++ (1 ∷ [])))) [] 0 0
     -- 21 for a walk in the wrong phase leaves its bytes
     ∷ callOver (3 ∷ 0 ∷ []) [] (paused (some 258)) 9 (form (0 ∷ 0 ∷ 0 ∷ 0 ∷ 0 ∷ 1 ∷ [])) (replicate 7 170)
     21 (form (0 ∷ 0 ∷ 0 ∷ 0 ∷ 0 ∷ 1 ∷ [])) (replicate 7 170) 0 0
