@@ -10,6 +10,55 @@ ghost use Rattle.walker.specs.Shape.{forwardOf, backOf, inputOf, anyOf, 
 ghost use Rattle.walker.specs.Shape.{inFull, operateOf, fetchedOf, stepOf, goOf, wholeOf, pausedOf, pushed};
 ghost use Rattle.walker.specs.Steps.{withAt, inPhase, tokenRead, returned, answered, asRead, says, Holds, tookOf, numberAt, nextOf, walkStepOf, called};
 
+// The numbers of instructions.
+const JUMP_FORWARD: u16 = 1;
+
+const JUMP_BACK: u16 = 2;
+
+const INPUT: u16 = 3;
+
+const INPUT_ANY: u16 = 4;
+
+const EMIT: u16 = 5;
+
+const ERROR: u16 = 6;
+
+const INPUT_CHOICE: u16 = 7;
+
+const CALL: u16 = 8;
+
+const RETURN: u16 = 9;
+
+const SET_RESULT: u16 = 10;
+
+const CHOICE: u16 = 11;
+
+const END_CHOICE: u16 = 12;
+
+const SET_PARAMETER: u16 = 13;
+
+// The first operation of each kind, and the first number above them all.
+const UPDATE: u16 = 256;
+
+const UPDATE_WITH: u16 = 512;
+
+const ASK: u16 = 768;
+
+const ASK_WITH: u16 = 1024;
+
+const PAST: u16 = 1280;
+
+// The numbers of a call that ends otherwise than by a stop.
+const REFUSED: u16 = 21;
+
+const WAITS: u16 = 22;
+
+const FULL: u16 = 35;
+
+const SPENT: u16 = 36;
+
+const OUTSIDE: u16 = 37;
+
 // Why a walk has stopped for good.
 pub enum Reason {
     Finished,
@@ -213,7 +262,7 @@ fn number_of(why: Reason) -> u16
         Reason::Unlabelled => 32,
         Reason::Deep => 33,
         Reason::Unanswered => 34,
-        Reason::Outside => 37,
+        Reason::Outside => OUTSIDE,
     }
 }
 
@@ -270,8 +319,8 @@ impl Registers {
         self
     }
 
-    // One more return location, which stands at the depth that it had.
-    fn push(mut self) -> Registers
+    // One more return location is held.
+    fn deeper(mut self) -> Registers
         requires { ⌜ self .depth < 64 ⌝ }
         ensures { λ r. ⌜ r ≡ withDepth self (self .depth + 1) ⌝ }
     {
@@ -665,19 +714,19 @@ impl Registers {
         ensures { λ r. ⌜ r ≡ fetchedOf (now (returns .entry)) (now (t .entry)) (now (tokens .entry)) (now (answers .entry)) room paused ins self ⌝ }
     {
         match ins {
-            1 => self.forward(t, n, length_of(known, 1)),
-            2 => self.back(t, n, length_of(known, 2)),
-            3 => self.input(t, n, length_of(known, 3), tokens),
-            4 => self.any(n, length_of(known, 4), tokens),
-            5 => self.output(t, n, length_of(known, 5), room),
-            6 => self.error(t, n, length_of(known, 6), room),
-            7 => self.input_choice(t, n, length_of(known, 7), tokens),
-            8 => self.call(t, n, length_of(known, 8)),
-            9 => self.ret(returns, t, n, length_of(known, 9)),
-            10 => self.set_result(t, n, length_of(known, 10)),
-            11 => self.choice(t, n, length_of(known, 11)),
-            12 => self.end_choice(n, length_of(known, 12)),
-            13 => self.set_parameter(t, n, length_of(known, 13)),
+            JUMP_FORWARD => self.forward(t, n, length_of(known, JUMP_FORWARD)),
+            JUMP_BACK => self.back(t, n, length_of(known, JUMP_BACK)),
+            INPUT => self.input(t, n, length_of(known, INPUT), tokens),
+            INPUT_ANY => self.any(n, length_of(known, INPUT_ANY), tokens),
+            EMIT => self.output(t, n, length_of(known, EMIT), room),
+            ERROR => self.error(t, n, length_of(known, ERROR), room),
+            INPUT_CHOICE => self.input_choice(t, n, length_of(known, INPUT_CHOICE), tokens),
+            CALL => self.call(t, n, length_of(known, CALL)),
+            RETURN => self.ret(returns, t, n, length_of(known, RETURN)),
+            SET_RESULT => self.set_result(t, n, length_of(known, SET_RESULT)),
+            CHOICE => self.choice(t, n, length_of(known, CHOICE)),
+            END_CHOICE => self.end_choice(n, length_of(known, END_CHOICE)),
+            SET_PARAMETER => self.set_parameter(t, n, length_of(known, SET_PARAMETER)),
             0 => Next::Outside,
             _ => self.operate(n, answers, room, paused, ins),
         }
@@ -688,18 +737,18 @@ impl Registers {
         requires { ⌜ (n ≤ 4096) × (self .location ≤ n) ⌝ }
         ensures { λ r. ⌜ r ≡ operateOf room paused (now (answers .entry)) ins self ⌝ }
     {
-        if ins < 256 {
+        if ins < UPDATE {
             Next::Outside
-        } else if ins < 512 {
+        } else if ins < UPDATE_WITH {
             self.update(n, machine::instruction_length(ins), room, Event::Plain(ins))
-        } else if ins < 768 {
+        } else if ins < ASK {
             self.update(
                 n,
                 machine::instruction_length(ins),
                 room,
                 Event::With(ins, narrow(self.parameter)),
             )
-        } else if ins < 1024 {
+        } else if ins < ASK_WITH {
             self.answer(
                 n,
                 machine::instruction_length(ins),
@@ -708,7 +757,7 @@ impl Registers {
                 answers,
                 Event::Plain(ins),
             )
-        } else if ins < 1280 {
+        } else if ins < PAST {
             self.answer(
                 n,
                 machine::instruction_length(ins),
@@ -847,9 +896,9 @@ impl Walk {
         ensures { λ r. ⌜ r ≡ tookOf self x ⌝ }
     {
         match x {
-            Next::Full => self.says(Said::Undone(35)),
+            Next::Full => self.says(Said::Undone(FULL)),
             Next::Outside => self.in_phase(Phase::Stopped(Reason::Outside))
-                .says(Said::Undone(37)),
+                .says(Said::Undone(OUTSIDE)),
             Next::Stop(why) => self.in_phase(Phase::Stopped(why))
                 .says(Said::Stops(number_of(why))),
             Next::On(q) => self.with_registers(q).says(Said::On),
@@ -862,7 +911,7 @@ impl Walk {
     }
 
     // An inputAny: reads the present token.
-    fn any(self, n: usize, len: usize, tokens: &[u8]) -> Stepped
+    fn step_any(self, n: usize, len: usize, tokens: &[u8]) -> Stepped
         requires { ⌜ (n ≤ 4096) × (self .at .location ≤ n) × (len ≡ 1) ⌝ }
         ensures { λ r. ⌜ r ≡ tookOf self (anyOf (now (tokens .entry)) (self .at)) ⌝ }
     {
@@ -882,7 +931,7 @@ impl Walk {
     }
 
     // A return: to the newest return location, which is tested here.
-    fn back(self, t: &[u8], n: usize, len: usize) -> Stepped
+    fn step_return(self, t: &[u8], n: usize, len: usize) -> Stepped
         requires { ⌜ (n ≡ size (now t)) × (self .at .location ≤ n) × (len ≡ 1) × (self .at .depth ≤ 64) ⌝ }
         ensures { λ r. ⌜ r ≡ tookOf self (returnOf (self .returns) (now (t .entry)) (self .at)) ⌝ }
     {
@@ -905,7 +954,7 @@ impl Walk {
         }
     }
 
-    // One step of a walk that goes on. What other instructions change are registers, and for a call what `push` keeps.
+    // One step of a walk that goes on. An instruction that is not done here changes registers, or pushes.
     fn next(self, t: &[u8], tokens: &[u8], answers: &[u8], room: usize, paused: bool) -> Stepped
         requires { ⌜ self .at .depth ≤ 64 ⌝ }
         ensures { λ r. ⌜ r ≡ nextOf (now (t .entry)) (now (tokens .entry)) (now (answers .entry)) room paused self ⌝ }
@@ -916,8 +965,8 @@ impl Walk {
         let returns = self.returns;
         let ins = fetched(t, n, at.location);
         match ins {
-            4 => self.any(n, length_of(&known, 4), tokens),
-            9 => self.back(t, n, length_of(&known, 9)),
+            INPUT_ANY => self.step_any(n, length_of(&known, INPUT_ANY), tokens),
+            RETURN => self.step_return(t, n, length_of(&known, RETURN)),
             _ => self.took(at.next(&known, &returns, t, tokens, answers, room, paused)),
         }
     }
@@ -929,7 +978,7 @@ impl Walk {
         let phase = self.phase;
         match phase {
             Phase::Going => self.clipped().next(t, tokens, answers, room, paused),
-            Phase::Waiting => self.says(Said::Undone(21)),
+            Phase::Waiting => self.says(Said::Undone(REFUSED)),
             Phase::Stopped(why) => self.says(Said::Undone(number_of(why))),
         }
     }
@@ -995,11 +1044,11 @@ impl Walk {
             let next = done + 1;
             match x {
                 Next::Full => {
-                    return ended(Phase::Going, at, returns, events, done, 35);
+                    return ended(Phase::Going, at, returns, events, done, FULL);
                 }
                 Next::Outside => {
                     let outside = Phase::Stopped(Reason::Outside);
-                    return ended(outside, at, returns, events, done, 37);
+                    return ended(outside, at, returns, events, done, OUTSIDE);
                 }
                 Next::Stop(why) => {
                     let stopped = Phase::Stopped(why);
@@ -1017,19 +1066,20 @@ impl Walk {
                 Next::Push(q, back) => {
                     let d = q.depth;
                     returns[d] = back;
-                    at = q.push();
+                    at = q.deeper();
                 }
                 Next::Waits(q, e) => {
                     put_event(out, 3 * events, e);
-                    return ended(Phase::Waiting, q, returns, events + 1, next, 22);
+                    return ended(Phase::Waiting, q, returns, events + 1, next, WAITS);
                 }
             }
             done = next;
         }
-        ended(Phase::Going, at, returns, events, done, 36)
+        ended(Phase::Going, at, returns, events, done, SPENT)
     }
 
-    // A whole walk's call: up to budget steps, with all answers given.
+    // A whole walk's call: up to budget steps, with all answers given. `wholeOf` has the code's own order; `whole-call` in proofs/Link.antt says that it is
+    // the machine's `callWalk`, and `repeats` in proofs/Steps.antt that it is `step` repeated.
     pub fn whole(
         self,
         table: &[u8],
@@ -1052,7 +1102,7 @@ impl Walk {
                 walk: self,
                 events: 0,
                 steps: 0,
-                number: 21,
+                number: REFUSED,
             },
             Phase::Stopped(why) => Called {
                 walk: self,
@@ -1063,7 +1113,8 @@ impl Walk {
         }
     }
 
-    // A paused walk's call: with an answer if the walk waits for one. It looks at no answers, so that its tokens stand in for them.
+    // A paused walk's call: with an answer if the walk waits for one. It looks at no answers, so that its tokens stand in for them. For `pausedOf` the same
+    // is said by `paused-call` and `repeats`.
     pub fn paused(
         self,
         table: &[u8],
@@ -1087,7 +1138,7 @@ impl Walk {
                         walk: self,
                         events: 0,
                         steps: 0,
-                        number: 21,
+                        number: REFUSED,
                     };
                 }
                 self.clipped()
@@ -1103,7 +1154,7 @@ impl Walk {
                     walk: self,
                     events: 0,
                     steps: 0,
-                    number: 21,
+                    number: REFUSED,
                 }
             }
             Phase::Stopped(why) => {
@@ -1112,7 +1163,7 @@ impl Walk {
                         walk: self,
                         events: 0,
                         steps: 0,
-                        number: 21,
+                        number: REFUSED,
                     };
                 }
                 Called {

@@ -140,8 +140,8 @@ array-write-returns c =
     let k = subst (Keeps (c .before .before .before .before .before .before .before .loop .room)) (c .before .x4 .given .1) (kept (c .before .before .before)) in
     omega (arith, k)
 
-push-requires : tie.Need-push-requires Inv-loop μ-loop
-push-requires c κs = subst (Keeps (c .before .before .before .before .before .before .before .loop .room)) (c .before .x4 .given .1) (kept (c .before .before .before))
+deeper-requires : tie.Need-deeper-requires Inv-loop μ-loop
+deeper-requires c κs = subst (Keeps (c .before .before .before .before .before .before .before .loop .room)) (c .before .x4 .given .1) (kept (c .before .before .before))
 
 enum-known-x-5 : tie.Need-enum-known-x-5 Inv-loop μ-loop
 enum-known-x-5 c = search needs
@@ -210,7 +210,7 @@ loop-again-3 c =
     let x = told (c .before .before .before .before) ∙ c .before .before .x4 .given .1 in
     let k = subst (Keeps (l .room)) (c .before .before .x4 .given .1) (kept (c .before .before .before .before)) in
     let s = sym (pushes _ _ _ _ _ _ _ _ _ (a .budget - l .done) (a .budget - (l .done + 1)) _ _ (omega (arith, c .before .before .before .before .before .before .before .loop-test .taken)) x) ∙ l .inv .same in
-    rw (c .push .ensures) (record { deep = omega (arith, k); left = l .inv .left; as-long = l .inv .as-long; within = omega (arith, c .before .before .before .before .before .before .before .loop-test .taken); same = s })
+    rw (c .deeper .ensures) (record { deep = omega (arith, k); left = l .inv .left; as-long = l .inv .as-long; within = omega (arith, c .before .before .before .before .before .before .before .loop-test .taken); same = s })
 
 ended-requires-5 : tie.Need-ended-requires-5 Inv-loop μ-loop
 ended-requires-5 c κs = search needs
@@ -256,7 +256,7 @@ go-spec =
     enum-known-x-4
     mul-returns
     array-write-returns
-    push-requires
+    deeper-requires
     enum-known-x-5
     mul-put-event-2
     put-event-requires-2

@@ -18,17 +18,17 @@ length-of-requires : tie.Need-length-of-requires
 unfolding lengths
 length-of-requires c κs = (refl, omega arith, omega arith)
 
-any-requires : tie.Need-any-requires
+step-any-requires : tie.Need-step-any-requires
 unfolding lengths lengthOf
-any-requires c κs = (omega (arith, c .before .before .before .before .before .before .table-words .ensures), omega (arith, c .before .before .before .before .before .before .table-words .ensures, inside-at (c .before .before .before .before .before .before .before .before .before .before .args .t .now) _ _ (sym (c .before .before .before .fetched .ensures) ∙ c .before .before .match .keys1)), c .length-of .ensures)
+step-any-requires c κs = (omega (arith, c .before .before .before .before .before .before .table-words .ensures), omega (arith, c .before .before .before .before .before .before .table-words .ensures, inside-at (c .before .before .before .before .before .before .before .before .before .before .args .t .now) _ _ (sym (c .before .before .before .fetched .ensures) ∙ c .before .before .match .keys1)), c .length-of .ensures)
 
 length-of-requires-2 : tie.Need-length-of-requires-2
 unfolding lengths
 length-of-requires-2 c κs = (refl, omega arith, omega arith)
 
-back-requires : tie.Need-back-requires
+step-return-requires : tie.Need-step-return-requires
 unfolding lengths lengthOf
-back-requires c κs = (c .before .before .before .before .before .before .table-words .ensures, omega (arith, c .before .before .before .before .before .before .table-words .ensures, inside-at (c .before .before .before .before .before .before .before .before .before .before .args .t .now) _ _ (sym (c .before .before .before .fetched .ensures) ∙ c .before .before .match .keys2)), c .length-of2 .ensures, c .before .before .before .before .before .before .before .before .before .before .pre)
+step-return-requires c κs = (c .before .before .before .before .before .before .table-words .ensures, omega (arith, c .before .before .before .before .before .before .table-words .ensures, inside-at (c .before .before .before .before .before .before .before .before .before .before .args .t .now) _ _ (sym (c .before .before .before .fetched .ensures) ∙ c .before .before .match .keys2)), c .length-of2 .ensures, c .before .before .before .before .before .before .before .before .before .before .pre)
 
 next-requires : tie.Need-next-requires
 unfolding lengths
@@ -42,12 +42,12 @@ took-requires c κs =
 returns : tie.Need-returns
 returns c =
     let a = c .before .before .before .before .before .before .before .before .before .before .before .args in
-    c .any .ensures ∙ ap (tookOf (a .self)) (sym (step-any (a .t .now) (a .self .returns) (a .tokens .now) (a .answers .now) (a .room) (a .paused) (a .self .at) (sym (c .before .before .before .before .fetched .ensures) ∙ c .before .before .before .match .keys1)))
+    c .step-any .ensures ∙ ap (tookOf (a .self)) (sym (step-any (a .t .now) (a .self .returns) (a .tokens .now) (a .answers .now) (a .room) (a .paused) (a .self .at) (sym (c .before .before .before .before .fetched .ensures) ∙ c .before .before .before .match .keys1)))
 
 returns-2 : tie.Need-returns-2
 returns-2 c =
     let a = c .before .before .before .before .before .before .before .before .before .before .before .args in
-    c .back .ensures ∙ ap (tookOf (a .self)) (sym (step-return (a .t .now) (a .self .returns) (a .tokens .now) (a .answers .now) (a .room) (a .paused) (a .self .at) (sym (c .before .before .before .before .fetched .ensures) ∙ c .before .before .before .match .keys2)))
+    c .step-return .ensures ∙ ap (tookOf (a .self)) (sym (step-return (a .t .now) (a .self .returns) (a .tokens .now) (a .answers .now) (a .room) (a .paused) (a .self .at) (sym (c .before .before .before .before .fetched .ensures) ∙ c .before .before .before .match .keys2)))
 
 returns-3 : tie.Need-returns-3
 returns-3 c = c .took .ensures ∙ ap (tookOf (c .before .before .before .before .before .before .before .before .before .before .before .before .args .self)) (c .before .next .ensures)
@@ -59,9 +59,9 @@ next-spec =
     table-words-requires
     fetched-requires
     length-of-requires
-    any-requires
+    step-any-requires
     length-of-requires-2
-    back-requires
+    step-return-requires
     next-requires
     took-requires
     returns

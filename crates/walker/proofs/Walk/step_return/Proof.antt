@@ -1,4 +1,4 @@
--- `Walk::back` meets its contract.
+-- `Walk::step_return` meets its contract.
 use mathlib.Core.Path.{_≡_, sym, ap, _∙_}
 use native.Mathlib.Omega.{arith}
 use Prim.Native.Nat.{_-_, _≤_, _<_}
@@ -8,8 +8,8 @@ use Rattle.walker.specs.Shape.{size, backTo, returnOf}
 use Rattle.walker.specs.Steps.{tookOf}
 use Rattle.walker.specs.declared.Walk.{Walk}
 use borrow.Author.Needs.{needs}
-use Rattle.walker.proofs.Walk.back.Statement.{statement}
-use Rattle.walker.proofs.Walk.back.Tie as tie
+use Rattle.walker.proofs.Walk.step_return.Statement.{statement}
+use Rattle.walker.proofs.Walk.step_return.Tie as tie
 
 add-if1 : tie.Need-add-if1
 add-if1 c = search needs
@@ -68,8 +68,8 @@ returns-5 c =
     let h : size (a .t .now) < l = omega (arith, e, c .before .if4 .left, c .before .before .before .before .before .before .before .before .before .before .pre .0) in
     simp (ne-eqb (a .self .at .depth) 0 (c .before .before .before .before .if2 .left), ne-eqb l 0 (λ z. c .before .before .if3 .left (e ∙ z)), lt-leb _ _ h) (c .took4 .ensures)
 
-pub back-spec : {M : Type 1} → statement M
-back-spec =
+pub step-return-spec : {M : Type 1} → statement M
+step-return-spec =
     tie.close
     (tie.spec
     add-if1

@@ -1,4 +1,4 @@
--- `Walk::any` meets its contract.
+-- `Walk::step_any` meets its contract.
 use native.Mathlib.Omega.{arith}
 use Prim.Native.Nat.{_≤_, _<_}
 use borrow.Author.Tests.{lt-ltb, le-ltb}
@@ -6,8 +6,8 @@ use Rattle.machine.specs.Bytes.{count}
 use Rattle.walker.specs.Shape.{anyOf}
 use Rattle.walker.specs.Steps.{tookOf}
 use borrow.Author.Needs.{needs}
-use Rattle.walker.proofs.Walk.any.Statement.{statement}
-use Rattle.walker.proofs.Walk.any.Tie as tie
+use Rattle.walker.proofs.Walk.step_any.Statement.{statement}
+use Rattle.walker.proofs.Walk.step_any.Tie as tie
 
 add-if1 : tie.Need-add-if1
 add-if1 c = search needs
@@ -57,8 +57,8 @@ returns-3 c =
     let h : count (a .tokens .now) ≤ a .self .at .read = omega (arith, c .before .before .count-words .ensures, c .before .if2 .left) in
     simp (le-ltb _ _ h) (c .took2 .ensures)
 
-pub any-spec : {M : Type 1} → statement M
-any-spec =
+pub step-any-spec : {M : Type 1} → statement M
+step-any-spec =
     tie.close
     (tie.spec
     add-if1
