@@ -15,6 +15,8 @@ use Rattle.agreement.proofs.Theorem.{agreement}
 use Rattle.agreement.specs.Reports.{Reports}
 use Rattle.agreement.specs.Demand.{eventsOf, Begins, wanted, Agrees, Suffices, HasStopped, WaitsPast, Finishes, Demand3, RulesStop, RulesWrite, Listed}
 use Rattle.events.specs.Events.{Event, Reason, Io}
+use Rattle.firmware.proofs.Zero.{accepts-0}
+use Rattle.firmware.specs.Processing.{Numbers}
 use Rattle.machine.proofs.Bytes.{length-wordsOf}
 use Rattle.machine.specs.Bytes.{count, wordsOf, tableOf, bytesOf}
 use Rattle.machine.specs.Form.{walkOf, eventsWords}
@@ -23,7 +25,7 @@ use Rattle.ownwalk.specs.OwnWalk.{owns, ownStart}
 use Rattle.processor.specs.Process.{Answer, accepted, process, understood, meaning, lentWords, lentBytes}
 use Rattle.program.specs.Program.{Rule}
 use Rattle.bytewise.proofs.Joined.{wordsOf-then, eventsWords-then, choices-words, byte-calls}
-use Rattle.bytewise.specs.AtEntries.{RulesWriteWords, RulesStopWords, WaitsPastBytes, StoppedBytes, SufficesBytes, AgreesBytes, Leaves, AtEntries}
+use Rattle.bytewise.specs.AtEntries.{RulesWriteWords, RulesStopWords, WaitsPastBytes, StoppedBytes, SufficesBytes, AgreesBytes, Leaves, AtEntries, Processed, Claimed}
 use Rattle.bytewise.specs.ByteCalls.{Slice, choicesIn, Waits, ByteCalls, Stands}
 
 -- The lent bytes
@@ -173,3 +175,16 @@ at-entries text room words verdict e =
 
     bytes : {lent table : List ℕ} → Leaves text words verdict lent table → Below 256 table
     bytes {lent} l = rw (left l) (lent-bytes words verdict lent (accepted-table text room words verdict e .small) (l .buffer .bytes))
+
+-- the same from what `sst_process` left: where it answers 0, all of it holds of the bytes that it left
+pub from-entries : (text lent table : List ℕ) (x : Numbers) → Processed text lent table x → x .number ≡ 0 → Claimed text lent table x
+from-entries text lent table x p z =
+    let a = accepts-0 text (count lent) x (p .numbers) z in
+    record {
+      words = a .0;
+      verdict = a .1;
+      told-words = a .3;
+      told-verdict = a .4;
+      left = record { buffer = p .buffer; answer = a .2; bytes = p .bytes };
+      claim = at-entries text (count lent) (a .0) (a .1) (a .2);
+    }

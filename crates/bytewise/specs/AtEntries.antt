@@ -7,11 +7,12 @@ use mathlib.Core.Logic.{_⊎_}
 use mathlib.Core.Option.{Option, none, some}
 use mathlib.Core.Path.{_≡_}
 use Prim.Native.Nat.{ℕ, _-_, _<_}
-use lib.ListN.{getElem?}
+use lib.ListN.{length, getElem?}
 use Rattle.agreement.specs.Demand.{eventsOf, RulesStop, HasStopped}
 use Rattle.agreement.specs.Reports.{Reports}
 use Rattle.events.specs.Events.{Event, Reason, unanswered, Io}
 use Rattle.finishing.specs.Finishing.{Finishing}
+use Rattle.firmware.specs.Processing.{Numbers, flagOf, numbersOf}
 use Rattle.machine.specs.Bytes.{count, wordsOf}
 use Rattle.machine.specs.Form.{walkOf, eventsWords}
 use Rattle.machine.specs.Walk.{waiting, stopped, Walk}
@@ -92,3 +93,18 @@ pub record AtEntries (text words : List ℕ) (verdict : Bool) : Type 0 where
   -- the verdict is the definition's
   pub sound : verdict ≡ true → Finishing prog
   pub complete : Finishing prog → verdict ≡ true
+
+-- what `sst_process` leaves with its caller, by its contract: the numbers x, and `table` in the buffer where `lent` was
+pub record Processed (text lent table : List ℕ) (x : Numbers) : Type 0 where
+  pub buffer : Slice lent
+  pub numbers : x ≡ numbersOf (process text (count lent))
+  pub bytes : table ≡ lentBytes (process text (count lent)) lent
+
+-- what a caller has whom it answers 0: the number of words and the verdict that it told him, and the claim for the bytes that it left
+pub record Claimed (text lent table : List ℕ) (x : Numbers) : Type 0 where
+  pub words : List ℕ
+  pub verdict : Bool
+  pub told-words : x .words ≡ length words
+  pub told-verdict : x .finishing ≡ flagOf verdict
+  pub left : Leaves text words verdict lent table
+  pub claim : AtEntries text words verdict
