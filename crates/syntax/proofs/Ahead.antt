@@ -10,7 +10,7 @@ use borrow.Author.Tests.{leb-false}
 use lib.Dec.{eqb, ltb}
 use lib.ListN.{length}
 use Rattle.base.specs.Common.{if_then_else_, given}
-use Rattle.syntax.specs.Reading.{Read, got, fault, Reader, onward, _>>=_, _>>_, pure, peek, pass, refuse, over, on_then_else_, expect, short, aName, optional}
+use Rattle.syntax.specs.Reading.{Read, got, fault, Reader, onward, _>>=_, _>>_, pure, peek, pass, refuse, over, on_then_else_, expect, longest, short, aName, optional}
 use Rattle.syntax.specs.Sections.{firstOf, ofKind, kindAt, kindAhead, isFull, aParameter}
 use Rattle.words.specs.Words.{Word, twice, name}
 
@@ -48,7 +48,7 @@ opened t vs (w ∷ us) e = go (eqb (w .kind) name) e
 
     go : (b : Bool) → onward ((if b then short else refuse) (w ∷ us)) (λ w. (_>>_ (expect (code ")")) (pure (some w)))) ≡ got t vs
         → Same t vs (if b && eqb (peek us .kind) (code ")") then some (firstOf true (eqb (kindAt 1 us) twice)) else none)
-    go true e₁ = judged (ltb 32 (length (w .text))) e₁
+    go true e₁ = judged (ltb longest (length (w .text))) e₁
     go false e₁ = no-got e₁
 
 pub kind-read : (ws vs : List Word) (t : Option Word) → aParameter ws ≡ got t vs → kindAhead ws ≡ some (firstOf (given t) (eqb (peek vs .kind) twice))

@@ -451,7 +451,7 @@ pub limits-agree : T (allAgree (deep ++ (labels ++ many)))
 unfolding reading agrees allAgree markAt unmarked times deep labels many
 limits-agree = tt
 
--- 256 operations of the kind that begins at b stand before an operation entry
+-- an operation entry, and where the kind begins of which 256 operations stand before it
 pub record Full : Type 0 where
   pub kind : ℕ
   pub entry : Line
@@ -463,7 +463,7 @@ pub entriesAgree : List Full → Bool
 entriesAgree [] = true
 entriesAgree (f ∷ fs) = agrees (anOperation 256 (replicate 256 (f .kind)) (words (f .entry .text))) (f .entry .outcome) && entriesAgree fs
 
--- an entry with two faults: the 257th of its kind is at fault at its name, before any fault of its types; while the kind is open it is not yet (R9)
+-- the 257th of its kind is at fault at its name, whatever faults stand behind it; while the kind is open it is not at fault yet (R9)
 pub crowded : List Full
 crowded =
     full 512 (at "^g(abcdefghijklmnopqrstuvwxyz1234567);" 9 1)

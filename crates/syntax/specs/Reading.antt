@@ -61,9 +61,13 @@ infixr 10 on_then_else_
 unfoldable pub expect : ℕ → Reader Word
 expect k = on k then pass else refuse
 
--- "32 bytes a name": the next word, a name
+-- "32 bytes a name"
+abbrev pub longest : ℕ
+longest = 32
+
+-- the next word, a name
 unfoldable pub short : Reader Word
-short ws = if ltb 32 (length (peek ws .text)) then over ws else pass ws
+short ws = if ltb longest (length (peek ws .text)) then over ws else pass ws
 
 unfoldable pub aName : Reader Word
 aName = on name then short else refuse

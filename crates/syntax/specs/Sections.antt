@@ -80,7 +80,7 @@ numbered w seen = do
   g ← optional twice aName
   let b = firstOf (given t) (given g) in pure (record { operation = w; takes = t; gives = g; instruction = b + ofKind b seen })
 
--- the 257th of its kind is at fault at its name, which stands before the names of its types: no word after it is judged before
+-- "by the first word in the text": the 257th of its kind is at fault at its name, before the words behind it are judged
 unfoldable pub anOperation : ℕ → List ℕ → Reader Operation
 anOperation left seen = do
   w ← oneName left
