@@ -15,3 +15,4 @@ pub mod Theorem
 pub mod Pauses
 pub mod Enough
 pub mod Reports
+pub mod Facts
