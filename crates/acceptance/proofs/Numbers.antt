@@ -24,8 +24,8 @@ use Rattle.program.specs.Table.{sizeRules, table}
 use Rattle.finishing.specs.Test.{finishing}
 use Rattle.syntax.specs.Actions.{aConstant, aValue, aPlain, aSelector, aLabel, someLabels, closes, aCycle, aChoice, anAction, anOtherwise, anAlternative, actions, alternatives}
 use Rattle.syntax.specs.Parse.{aRule, someRules, program, parse, endOf}
-use Rattle.syntax.specs.Reading.{Read, got, fault, Reader, onward, _>>=_, _>>_, pure, peek, pass, refuse, over, within, on_then_else_, expect, short, aName, oneName, nameOrString, small, aNumber, optional}
-use Rattle.syntax.specs.Sections.{aSpelling, aCount, anEntry, entries, firstOf, ofKind, aParameter, numbered, anOperation, someOperations, Sofar, nothing, after as afterSection, tokenSection, aSection, someSections}
+use Rattle.syntax.specs.Reading.{Read, got, fault, Reader, onward, _>>=_, _>>_, pure, peek, pass, refuse, over, within, on_then_else_, expect, longest, short, aName, oneName, nameOrString, small, aNumber, optional}
+use Rattle.syntax.specs.Sections.{aSpelling, aCount, anEntry, entries, kindAhead, isFull, aParameter, numbered, anOperation, someOperations, Sofar, nothing, after as afterSection, tokenSection, aSection, someSections}
 use Rattle.syntax.specs.Written as written
 use Rattle.syntax.specs.Written.{Act, Acts, Choices, Constant, Entry, Operation, Section, inputs, outputs, both, errors, values, operations, Rule, Program}
 use Rattle.words.specs.Words.{Word, words, bad, last, twice, name, number, string, input, output, error, type, mechanism, rules, end, value}
@@ -106,7 +106,7 @@ expects k = on-kind k passes refuses
 
 shorts : Faults short
 unfolding short
-shorts = by (λ ws. ltb 32 (length (peek ws .text))) overs passes
+shorts = by (λ ws. ltb longest (length (peek ws .text))) overs passes
 
 names : Faults aName
 unfolding aName
@@ -162,17 +162,13 @@ parameters : Faults aParameter
 unfolding aParameter
 parameters = on-kind (code "(") (after passes (bind names (λ t. after (expects (code ")")) pures))) pures
 
-number-given : (w : Word) (t : Option Word) (b n : ℕ) → Faults (numbered w t b n)
+number-given : (w : Word) (seen : List ℕ) → Faults (numbered w seen)
 unfolding numbered
-number-given w t b n = either (ltb n 256) (bind (optionals twice names) (λ g. pures)) nine
+number-given w seen = bind parameters (λ t. bind (optionals twice names) (λ g. pures))
 
 operation : (left : ℕ) (seen : List ℕ) → Faults (anOperation left seen)
 unfolding anOperation
-operation left seen =
-    bind (one-name left) (λ w. bind parameters (λ t. record {
-      says = λ ws.
-          (let b = firstOf (given t) (eqb (peek ws .kind) twice) in number-given w t b (ofKind b seen) .says ws);
-    }))
+operation left seen = bind (one-name left) (λ w. record { says = λ ws. either (isFull (kindAhead ws) seen) nine (number-given w seen) .says ws })
 
 all-operations : (k left : ℕ) (seen : List ℕ) → Faults (someOperations k left seen)
 unfolding someOperations

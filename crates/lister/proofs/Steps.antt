@@ -9,11 +9,12 @@ use borrow.Author.Tests.{ltb-true, ltb-false, leb-true}
 use lib.Dec.{ltb, leb}
 use lib.ListN.{length, take, drop, replicate, length-append, length-take}
 use lib.Seq.{take-all, take-length, take-take, length-take-le}
+use Rattle.acceptance.proofs.Numbers.{never-0}
 use Rattle.base.specs.Common.{if_then_else_}
 use Rattle.finishing.specs.Test.{finishing}
 use Rattle.machine.specs.Bytes.{count, wordsOf, tableOf, bytesOf}
 use Rattle.processor.specs.Process as means
-use Rattle.processor.specs.Process.{Understood, meaning, faulty, readIn, understood, accepted, refused, answerFor, process, partOf, lentWords, lentBytes}
+use Rattle.processor.specs.Process.{Part, Understood, meaning, faulty, readIn, understood, accepted, refused, answerFor, process, partOf, lentWords, lentBytes}
 use Rattle.program.proofs.Lengths.{length-table}
 use Rattle.program.specs.Table.{sizeRules, table}
 use Rattle.syntax.specs.Parse.{parse, endOf, program}
@@ -25,7 +26,6 @@ use Rattle.listing.specs.Listing.{lineFeeds, lineAt, refusalListing, tableListi
 use Rattle.listing.specs.Written.{Listed, longest}
 use Rattle.listing.proofs.Laws.{listed-whole}
 use Rattle.listing.proofs.Lines.{feeds-append, feeds-few}
-use Rattle.listing.proofs.Numbers.{Answers, refusals, answers}
 use Rattle.io.specs.Counts.{Counts}
 use Rattle.lister.specs.declared.Piece.{Piece}
 use Rattle.lister.specs.Prints.{countOn, Counted, Prints}
@@ -114,10 +114,10 @@ unfolding bytesOf
 bytes-append [] b = refl
 bytes-append (x ∷ a) b = ap (λ (s : List ℕ). x / 256 ∷ x % 256 ∷ s) (bytes-append a b)
 
-acceptance : (text lent : List ℕ) (a : means.Answer) (s : Answer) {after : List ℕ} → Answers a → s ≡ answered a → after ≡ lentBytes a lent → s .number ≡ 0 → s .words ≤ 4096
+acceptance : (text lent : List ℕ) (a : means.Answer) (s : Answer) {after : List ℕ} → ((number : ℕ) (at : Part) → a ≡ refused number at → number ≡ 0 → ⊥) → s ≡ answered a → after ≡ lentBytes a lent → s .number ≡ 0 → s .words ≤ 4096
     → tableListing (take (s .words) (tableOf after)) (s .finishing) ≡ listing text a
 unfolding answered listing lentBytes lentWords tableOf
-acceptance text lent (refused number at) s (refusals h) e q n m = absurd (h (sym (ap (λ (x : Answer). x .number) e) ∙ n))
+acceptance text lent (refused number at) s h e q n m = absurd (h number at refl (sym (ap (λ (x : Answer). x .number) e) ∙ n))
 acceptance text lent (accepted ws verdict) s {after} x e q n m =
     let d : s .words ≡ length ws = ap (λ (x : Answer). x .words) e in
     let f : s .finishing ≡ verdict = ap (λ (x : Answer). x .finishing) e in
@@ -150,7 +150,7 @@ accepted-listing kept rest lent after s e c d n = go (ltb 32768 (length kept)) r
     go true t = absurd (omega (arith, n, ap (λ (a : Answer). a .number) (d .answer ∙ over-long-answer kept (count lent) (ltb-true 32768 (length kept) t))))
     go false t =
         let h : length kept ≤ 32768 = omega (arith, ltb-false 32768 (length kept) t) in
-        rw (← kept-whole kept rest e h, ← c) (acceptance kept lent (process kept (count lent)) s (answers kept (count lent)) (d .answer) (d .lent) n (few-words kept (count lent) d))
+        rw (← kept-whole kept rest e h, ← c) (acceptance kept lent (process kept (count lent)) s (never-0 kept (count lent)) (d .answer) (d .lent) n (few-words kept (count lent) d))
 
 -- The word at fault
 
