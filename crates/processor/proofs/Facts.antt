@@ -1,5 +1,5 @@
 -- The lent bytes after a call, and 20, worked out from document 01 by hand.
-use mathlib.Core.Bool.{Bool, true, false, _&&_}
+use mathlib.Core.Bool.{Bool, true, false, _&&_, not}
 use mathlib.Core.List.{List, [], _∷_}
 use Prim.Native.Nat.{ℕ, zero, suc, _+_}
 use Prim.Native.String.{String}
@@ -88,6 +88,43 @@ buffers =
 pub buffers-hold : T (allHold buffers)
 unfolding processing numberOf startOf holds allHold buffers
 buffers-hold = tt
+
+-- The verdict, from the text on; each way of a path is worked out in crate finishing
+
+pub saysYes : Answer → Bool
+saysYes (accepted ws f) = f
+saysYes (refused n at) = false
+
+pub saysNo : Answer → Bool
+saysNo (accepted ws f) = not f
+saysNo (refused n at) = false
+
+pub every : (Answer → Bool) → List String → Bool
+every test [] = true
+every test (t ∷ ts) = test (process (bytes t) 99) && every test ts
+
+pub finishing-texts : List String
+finishing-texts =
+    "rules M: ; end"
+    ∷ "rules M: { > }; end"
+    ∷ "input: a; rules M: { [ | a: ] }; end"
+    ∷ "input: a; type t: x; rules M: { [@N | x: ] }; N >> t: a >> x; end"
+    ∷ "input: a; type t: x; rules M: { [@N | x: | *: ] }; N >> t: a >> x; end"
+    ∷ "type t: x; rules M: ; N >> t: { >> x }; end"
+    ∷ []
+
+pub looping-texts : List String
+looping-texts =
+    "rules M: { }; end"
+    ∷ "rules M: @M; end"
+    ∷ "input: a; rules M: { [ | a: | *: ] }; end"
+    ∷ "type t: x; rules M: { [@N | x: ] }; N >> t: >> x; end"
+    ∷ "rules M: ; N: { }; end"
+    ∷ []
+
+pub verdicts : T (every saysYes finishing-texts && every saysNo looping-texts)
+unfolding processing saysYes saysNo every finishing-texts looping-texts
+verdicts = tt
 
 -- 4,096 words
 
