@@ -172,7 +172,8 @@ const PARTS: [(u16, Place, &str); 139] = [
     (9, Place::Procedure, "@ ^LONG"),
 ];
 
-const LONG: &str = "n23456789012345678901234567890123";
+/// A name of 33 bytes.
+pub const LONG: &str = "n23456789012345678901234567890123";
 
 /// Words that are no words; what follows in the line is not read.
 const BAD: [&str; 22] = [

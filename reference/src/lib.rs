@@ -13,5 +13,6 @@ pub mod rules;
 
 pub mod faults;
 pub mod limits;
+pub mod pairs;
 pub mod programs;
 pub mod texts;

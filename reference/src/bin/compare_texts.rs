@@ -12,6 +12,7 @@ use std::process::ExitCode;
 use reference::faults::{self, Fault};
 use reference::ffi;
 use reference::limits::{self, LIMITS};
+use reference::pairs::{self, BESIDE, Case, Limit, Sample};
 use reference::processor::{Program, resolve};
 use reference::programs;
 use reference::rules;
@@ -46,6 +47,7 @@ struct Harness {
     walker: &'static dyn Side,
     exact: bool,
     group: &'static str,
+    first: u64,
     seed: u64,
     passed: u64,
     failed: u64,
@@ -54,6 +56,10 @@ struct Harness {
     verdicts: Counts<u64>,
     planted: Counts<u16>,
     limits: Counts<(usize, isize)>,
+    pairs: Counts<(Limit, Limit)>,
+    beside: Counts<(Limit, usize)>,
+    /// The limits in whose texts the two processors differ.
+    differing: Counts<String>,
     sizes: Counts<&'static str>,
     walks: Counts<u16>,
     endless: u64,
@@ -317,6 +323,39 @@ fn around_limits(h: &mut Harness, seed: &mut Seed) {
     }
 }
 
+/// One of the texts with two limits passed, or one passed beside another fault.
+fn pair(h: &mut Harness, seed: &mut Seed, case: &Case, sample: &Sample) {
+    let Sample { text, planted, passed, beside } = sample;
+    let failed = h.failed;
+    let size = LARGEST + seed.below(6);
+    let done = h.check(seed, text, size);
+    if h.failed > failed {
+        count(&mut h.differing, case.limits().join(" + "));
+    }
+    if let Some((number, start, len)) = *planted {
+        let wanted = Processed { number, start: start as u64, len: len as u64, words: 0, finishing: 0 };
+        h.expect(done == wanted, || format!("  {passed:?}: {done:?}, not {wanted:?}\n{}", shown(text)));
+        if done != wanted {
+            return;
+        }
+    }
+    pairs::pairs(passed).into_iter().for_each(|pair| count(&mut h.pairs, pair));
+    beside.iter().for_each(|beside| count(&mut h.beside, *beside));
+}
+
+/// Entries and rules that pass two limits at once, or one beside a word that is at fault by itself. All of them, at some seeds.
+fn two_limits(h: &mut Harness, seed: &mut Seed) {
+    if !(h.seed - h.first).is_multiple_of(450) {
+        return;
+    }
+    for case in pairs::cases() {
+        let plain = case.plain(seed);
+        for sample in std::iter::once(plain).chain(case.beside(seed)) {
+            pair(h, seed, &case, &sample);
+        }
+    }
+}
+
 /// Texts that are far beyond a limit all through.
 fn beyond_limits(h: &mut Harness, seed: &mut Seed) {
     if !h.seed.is_multiple_of(10) {
@@ -567,7 +606,7 @@ fn walks(h: &mut Harness, seed: &mut Seed) {
 /// A name, and a group of texts for a seed.
 type Group = (&'static str, fn(&mut Harness, &mut Seed));
 
-const GROUPS: [Group; 12] = [
+const GROUPS: [Group; 13] = [
     ("good programs", programs),
     ("large programs", large),
     ("planted faults", planted),
@@ -577,6 +616,7 @@ const GROUPS: [Group; 12] = [
     ("each word damaged", each_word),
     ("random bytes and words", random),
     ("limits", around_limits),
+    ("two limits at once", two_limits),
     ("far beyond the limits", beyond_limits),
     ("lent sizes", lent_sizes),
     ("walks", walks),
@@ -606,9 +646,25 @@ fn report(h: &mut Harness) {
     line("lent", sizes.iter().map(|size| (size.to_string(), h.sizes.get(size).copied().unwrap_or(0))).collect());
     line("walk calls answered", times(&h.walks, &WALK_NUMBERS));
     line("walks", vec![("of finishing programs".to_string(), h.finished), ("without end".to_string(), h.endless)]);
+    never.extend(pairs_never_met(h));
     for name in never {
         h.expect(false, || format!("never met: {name}"));
     }
+    for (limits, times) in &h.differing {
+        println!("the two differ in {times} texts with {limits}");
+    }
+}
+
+/// Prints how many of the pairs were met; the ones that never were.
+fn pairs_never_met(h: &Harness) -> Vec<String> {
+    let (pairs, beside) = (pairs::wanted(), pairs::wanted_beside());
+    let together = pairs.iter().filter(|pair| !h.pairs.contains_key(*pair)).map(|(a, b)| format!("{a}, together with {b}"));
+    let by_a_fault = beside.iter().filter(|beside| !h.beside.contains_key(*beside));
+    let by_a_fault = by_a_fault.map(|(limit, sort)| format!("{limit}, {}", BESIDE[*sort]));
+    let never: Vec<String> = together.chain(by_a_fault).collect();
+    let all = pairs.len() + beside.len();
+    println!("two limits at once, or one beside another fault: {} of {all} pairs met", all - never.len());
+    never
 }
 
 fn main() -> ExitCode {
@@ -637,6 +693,7 @@ fn main() -> ExitCode {
         walker,
         exact,
         group: "",
+        first,
         seed: 0,
         passed: 0,
         failed: 0,
@@ -645,6 +702,9 @@ fn main() -> ExitCode {
         verdicts: BTreeMap::new(),
         planted: BTreeMap::new(),
         limits: BTreeMap::new(),
+        pairs: BTreeMap::new(),
+        beside: BTreeMap::new(),
+        differing: BTreeMap::new(),
         sizes: BTreeMap::new(),
         walks: BTreeMap::new(),
         endless: 0,
