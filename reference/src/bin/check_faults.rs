@@ -1,0 +1,125 @@
+//! Checks the texts of docs/FAULTS.md: each bad one is refused with its number at the word said, each mended one is accepted.
+//!
+//! check_faults FILE
+//!
+//! A section `## N: ..` has a bad text, the sentence "The word shown is `;`." or "The word shown is the third `;`." (a word that stands
+//! there more than once), the line `mended:` and a mended text; both texts are indented. 20 is no fault of a text and has none. Both
+//! processors are asked; built without the library, this crate's alone.
+#![forbid(unsafe_code)]
+
+use std::process::ExitCode;
+
+use reference::ffi;
+use reference::side::{Processed, Processor, Reference};
+
+const LARGEST: usize = 2 * 4_096;
+/// The numbers that have a section with texts, and the one that has none.
+const WITH_TEXTS: std::ops::RangeInclusive<u16> = 1..=9;
+const WITHOUT_TEXTS: u16 = 20;
+const ORDINALS: [&str; 6] = ["the first ", "the second ", "the third ", "the fourth ", "the fifth ", "the sixth "];
+
+/// A section's number and its lines.
+type Section<'a> = (u16, Vec<&'a str>);
+
+fn sections(document: &str) -> Result<Vec<Section<'_>>, String> {
+    let mut sections: Vec<Section> = Vec::new();
+    for line in document.lines() {
+        if let Some(head) = line.strip_prefix("## ") {
+            let number = head.split(':').next().and_then(|number| number.parse().ok());
+            sections.push((number.ok_or_else(|| format!("no number: {line}"))?, Vec::new()));
+        } else if let Some((_, lines)) = sections.last_mut() {
+            lines.push(line);
+        }
+    }
+    let numbers: Vec<u16> = sections.iter().map(|(number, _)| *number).collect();
+    let wanted: Vec<u16> = WITH_TEXTS.chain([WITHOUT_TEXTS]).collect();
+    if numbers == wanted { Ok(sections) } else { Err(format!("the sections are {numbers:?}, not {wanted:?}")) }
+}
+
+/// The indented blocks.
+fn blocks(lines: &[&str]) -> Vec<String> {
+    let groups = lines.split(|line| !line.starts_with("    "));
+    let group = |group: &[&str]| group.iter().map(|line| format!("{}\n", &line[4..])).collect();
+    groups.filter(|lines| !lines.is_empty()).map(group).collect()
+}
+
+/// The places of a word in a text; a name is not looked for inside other names.
+fn places(text: &str, word: &str) -> Vec<usize> {
+    let named = |byte: Option<&u8>| byte.is_some_and(|byte| byte.is_ascii_alphanumeric() || *byte == b'_');
+    let alone = |at: usize| {
+        let (before, behind) = (at.checked_sub(1).and_then(|at| text.as_bytes().get(at)), text.as_bytes().get(at + word.len()));
+        !(named(word.as_bytes().first()) && (named(before) || named(behind)))
+    };
+    text.match_indices(word).map(|(at, _)| at).filter(|at| alone(*at)).collect()
+}
+
+/// The place and the length of the word that the section says is shown.
+fn shown(lines: &[&str], text: &str) -> Result<(usize, usize), String> {
+    let sentence = lines.iter().find_map(|line| line.strip_prefix("The word shown is "));
+    let (ordinal, quoted) = sentence.and_then(|rest| rest.split_once('`')).ok_or("no sentence `The word shown is ..`")?;
+    let word = quoted.strip_suffix("`.").ok_or("the sentence does not end in its word")?;
+    let places = places(text, word);
+    let which = match (ordinal, places.len()) {
+        ("", 1) => 0,
+        ("", _) => return Err(format!("`{word}` stands there {} times", places.len())),
+        _ => ORDINALS.iter().position(|known| *known == ordinal).ok_or_else(|| format!("which is \"{ordinal}\"?"))?,
+    };
+    let place = places.get(which).ok_or_else(|| format!("there is no {ordinal}`{word}`"))?;
+    Ok((*place, word.len()))
+}
+
+fn ask(side: &dyn Processor, text: &str) -> Processed {
+    side.process(text.as_bytes(), &mut vec![0; LARGEST])
+}
+
+/// What is wrong with a section, if anything.
+fn check(sides: &[&dyn Processor], number: u16, lines: &[&str]) -> Result<(), String> {
+    let blocks = blocks(lines);
+    if number == WITHOUT_TEXTS {
+        return if blocks.is_empty() { Ok(()) } else { Err("texts that nothing is said of".to_string()) };
+    }
+    let [bad, mended] = &blocks[..] else { return Err(format!("{} texts, not a bad and a mended one", blocks.len())) };
+    if !lines.contains(&"mended:") {
+        return Err("no line `mended:`".to_string());
+    }
+    let (start, len) = shown(lines, bad)?;
+    let wanted = Processed { number, start: start as u64, len: len as u64, words: 0, finishing: 0 };
+    for side in sides {
+        let done = ask(*side, bad);
+        if done != wanted {
+            return Err(format!("{}: {done:?}, not {wanted:?}", side.name()));
+        }
+        let done = ask(*side, mended);
+        if done.number != 0 {
+            return Err(format!("{} refuses the mended text: {done:?}", side.name()));
+        }
+    }
+    Ok(())
+}
+
+fn main() -> ExitCode {
+    let file = std::env::args().nth(1).unwrap_or_default();
+    let document = match std::fs::read_to_string(&file) {
+        Ok(document) => document,
+        Err(error) => {
+            eprintln!("check_faults FILE: {file}: {error}");
+            return ExitCode::from(2);
+        }
+    };
+    let mut sides: Vec<&dyn Processor> = vec![&Reference];
+    if let Some(library) = ffi::processor() {
+        sides.push(library);
+    }
+    let sections = sections(&document).unwrap_or_else(|message| {
+        println!("{message}");
+        Vec::new()
+    });
+    let mut good = !sections.is_empty();
+    for (number, lines) in &sections {
+        if let Err(message) = check(&sides, *number, lines) {
+            println!("{number}: {message}");
+            good = false;
+        }
+    }
+    if good { ExitCode::SUCCESS } else { ExitCode::FAILURE }
+}
