@@ -9,9 +9,15 @@ pub struct Text {
 }
 
 /// What hard programs are full of.
-pub const HARD: [&str; 7] = ["names", "long names", "nesting", "labels", "calls", "cycles", "names, 20"];
+pub const HARD: [&str; 10] =
+    ["names", "long names", "nesting", "labels", "calls", "cycles", "names, 20", "chosen", "chosen, 20", "strings, 20"];
 
-/// A hard program of about so many bytes. The last sort passes the table's limit and is refused with 20 where it has more than 8 KB.
+/// The sorts with names of four bytes, matched as often as the text has room for: any names, and ones chosen to be in one chain of the
+/// library's index. The one behind has chosen strings as well.
+pub const PLAIN: usize = 6;
+pub const CHOSEN: usize = 8;
+
+/// A hard program of about so many bytes. Those with 20 pass the table's limit and are refused with it where they have more than 8 KB.
 pub fn hard(sort: usize, bytes: usize) -> Text {
     let text = match sort {
         0 => names(bytes, (bytes / 2_700).max(2), 2_000),
@@ -20,7 +26,10 @@ pub fn hard(sort: usize, bytes: usize) -> Text {
         3 => labels(bytes),
         4 => calls(bytes),
         5 => cycles(bytes),
-        _ => names(bytes, 1, usize::MAX),
+        PLAIN => names(bytes, 2, usize::MAX),
+        7 => chosen(bytes, false, 2_000),
+        CHOSEN => chosen(bytes, false, usize::MAX),
+        _ => chosen(bytes, true, usize::MAX),
     };
     Text { name: HARD[sort], text: filled(text, bytes) }
 }
@@ -34,7 +43,7 @@ fn filled(mut text: String, bytes: usize) -> Vec<u8> {
     text.into_bytes()
 }
 
-/// Names with one beginning of so many letters, matched again and again, the last declared ones most of all.
+/// Names with one beginning of so many letters, matched again and again.
 fn names(bytes: usize, stem: usize, most: usize) -> String {
     let name = |i: usize| {
         let letters = b"abcdefghijklmnopqrstuvwxyz";
@@ -42,19 +51,53 @@ fn names(bytes: usize, stem: usize, most: usize) -> String {
         format!("{}{}", "N".repeat(stem), String::from_utf8_lossy(&digits))
     };
     let tokens = (bytes / 2 / (stem + 3)).clamp(2, 511);
-    let mut text = String::from("input:\n");
-    for i in 0..tokens {
-        text.push_str(&name(i));
-        text.push(if i % 8 == 7 { '\n' } else { ' ' });
+    let names: Vec<String> = (0..tokens).map(name).collect();
+    matches("input", bytes, &names, &[], most)
+}
+
+/// Tokens of these names, each with its string where there are strings, matched again and again, the last declared ones most of all.
+fn matches(head: &str, bytes: usize, names: &[String], strings: &[String], most: usize) -> String {
+    let gap = |i: usize| if i % 8 == 7 { '\n' } else { ' ' };
+    let mut text = format!("{head}:\n");
+    for (i, name) in names.iter().enumerate() {
+        text.push_str(name);
+        text.push_str(strings.get(i).map_or("", String::as_str));
+        text.push(gap(i));
     }
     text.push_str(";\nrules M:\n");
-    let room = bytes.saturating_sub(text.len() + 8) / (stem + 3);
+    let last: Vec<&String> = names.iter().rev().take(64).collect();
+    let room = bytes.saturating_sub(text.len() + 8) / (last[0].len() + 1);
     for i in 0..room.min(most) {
-        text.push_str(&name(tokens - 1 - i % tokens.min(64)));
-        text.push(if i % 8 == 7 { '\n' } else { ' ' });
+        text.push_str(last[i % last.len()]);
+        text.push(gap(i));
     }
     text.push_str(";\nend\n");
     text
+}
+
+/// Names of four bytes that the library's index has all in one chain; or strings as well, in two classes, so that each row is met twice.
+fn chosen(bytes: usize, with_strings: bool, most: usize) -> String {
+    let entry = if with_strings { 10 } else { 5 };
+    let tokens = (bytes / 2 / entry).clamp(2, 510);
+    let names = chained("N", "", tokens);
+    if with_strings {
+        return matches("input output", bytes, &names, &chained("'", "'", tokens), most);
+    }
+    matches("input", bytes, &names, &[], most)
+}
+
+/// So many words of three letters or digits between these, all in the first chain of the library's index. The hash is a copy of the one in
+/// `crates/symbols/specs/Index.antt` and serves to choose names only: were that one another, these would be names like any.
+fn chained(before: &str, behind: &str, count: usize) -> Vec<String> {
+    let letters: Vec<char> = ('a'..='z').chain('A'..='Z').chain('0'..='9').chain(['_']).collect();
+    let bucket = |word: &String| word.bytes().fold(0, |hash, byte| (hash * 33 + u32::from(byte)) % 65_536) % 512;
+    // Two beginnings, since one has fewer than 510 such words.
+    let words = ["", "N"].into_iter().flat_map(|more| {
+        let letters = &letters;
+        let each = letters.iter().flat_map(move |a| letters.iter().flat_map(move |b| letters.iter().map(move |c| [a, b, c])));
+        each.map(move |[a, b, c]| format!("{before}{more}{a}{b}{c}{behind}"))
+    });
+    words.filter(|word| bucket(word) == 0).take(count).collect()
 }
 
 /// Cycles in choices in cycles, 32 deep, each on a line of its own, over and over.
@@ -328,7 +371,10 @@ mod tests {
                 assert_eq!(text.len(), bytes, "{name}");
                 let answer = process(&text, MAX_TABLE);
                 let refused = matches!(answer, Answer::Refused { number: 20, .. });
-                assert!(refused && sort == 6 || matches!(answer, Answer::Accepted { .. }), "{name} of {bytes}: {answer:?}");
+                assert!(
+                    refused && name.ends_with("20") || matches!(answer, Answer::Accepted { .. }),
+                    "{name} of {bytes}: {answer:?}"
+                );
             }
         }
         for n in 0..30 {

@@ -10,7 +10,7 @@ use std::process::ExitCode;
 
 use reference::ffi;
 use reference::limits::{self, LIMITS};
-use reference::programs::{self, HARD, Text};
+use reference::programs::{self, CHOSEN, HARD, PLAIN, Text};
 use reference::side::{Processed, Processor, Reference};
 use reference::texts::{self, Seed};
 
@@ -135,10 +135,14 @@ fn main() -> ExitCode {
     }
     println!("largest ratio: {:.2}, {}", most.0, most.1);
     println!("growth of the time from 1 to 8 KB, from 8 to 32 KB (8 and 4 would be in proportion)");
-    for (name, each) in growth {
+    for (name, each) in &growth {
         let by = |side: usize, from: usize| each[from + 1][side] / each[from][side];
         println!("{name:<12} lib {:6.1}{:6.1}   rust {:6.1}{:6.1}", by(0, 0), by(0, 1), by(1, 0), by(1, 1));
     }
+    // The typical text stands before the hard ones; the last size is the largest.
+    let largest = |sort: usize| growth[sort + 1].1[SIZES.len() - 1][0];
+    let [plain, names, strings] = [PLAIN, CHOSEN, CHOSEN + 1].map(largest);
+    println!("chosen names over plain ones: {:.1}; chosen names and strings: {:.1}", names / plain, strings / plain);
     match stack(library, &works) {
         Some((used, name)) => println!("largest stack of the library: {used} bytes, {name}"),
         None => println!("the stack could not be measured"),
