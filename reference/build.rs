@@ -1,4 +1,6 @@
 //! Compiles the files of c/ and, with the feature `lib`, links libsst.a.
+//!
+//! `SST_PAD` is the number of a build with padding before the walkers, for scripts/bench-spread; without it there is none.
 
 use std::env;
 use std::path::Path;
@@ -17,8 +19,37 @@ fn run(command: &mut Command) {
     }
 }
 
+/// The walkers.
+const RUST: u32 = 0;
+const C: u32 = 1;
+const LIBRARY: u32 = 2;
+
+/// Up to 4 KB of padding before the code of a walker, so that it falls elsewhere: an amount drawn for each walker and each build, and none
+/// for build 0.
+fn padding(walker: u32) -> u32 {
+    let build: u32 = env::var("SST_PAD").map_or(0, |number| number.parse().unwrap_or_else(|_| fail("SST_PAD is no number")));
+    let drawn = build.wrapping_mul(0x9E37_79B1).rotate_left(walker * 11).wrapping_mul(0x85EB_CA6B) >> 24;
+    16 * drawn
+}
+
+/// Padding as assembler text, in a section of its own that the linker keeps.
+fn padding_section(walker: u32) -> String {
+    format!(".section .text.padding,\"axR\",@progbits\n.skip {}, 0x90\n.text\n", padding(walker))
+}
+
+fn write(file: &str, contents: &str) {
+    if let Err(error) = std::fs::write(file, contents) {
+        fail(&format!("{file}: {error}"));
+    }
+}
+
 fn main() {
     let Ok(out) = env::var("OUT_DIR") else { fail("OUT_DIR is not set") };
+    println!("cargo::rerun-if-env-changed=SST_PAD");
+    write(&format!("{out}/padding.s"), &padding_section(RUST));
+    // The C walker's code stands in one section, behind this.
+    let before = format!("{out}/padding.h");
+    write(&before, &format!("__asm__(\".text\\n.skip {}, 0x90\\n\");\n", padding(C)));
     let compiler = env::var("CC").unwrap_or_else(|_| "gcc".to_string());
     let archive = format!("{out}/libcwalker.a");
     println!("cargo::rerun-if-env-changed=CC");
@@ -34,6 +65,8 @@ fn main() {
             "-Wextra",
             "-pedantic",
             "-fPIC",
+            "-include",
+            &before,
             "-c",
             &source,
             "-o",
@@ -65,8 +98,11 @@ fn main() {
 fn entries_only(library: &Path, out: &str) {
     let object = format!("{out}/firmware.o");
     let archive = format!("{out}/libfirmware.a");
+    let before = format!("{out}/before");
+    write(&format!("{before}.s"), &padding_section(LIBRARY));
+    run(Command::new("as").args(["--noexecstack", &format!("{before}.s"), "-o", &format!("{before}.o")]));
     let mut linker = Command::new("ld");
-    linker.args(["-r", "--force-group-allocation", "-o", &object]);
+    linker.args(["-r", "--force-group-allocation", "-o", &object, &format!("{before}.o")]);
     for entry in ["fresh", "whole", "paused", "phase", "reason", "location", "read", "used", "process"] {
         linker.args(["-u", &format!("sst_{entry}")]);
     }

@@ -5,6 +5,9 @@ use crate::side::{Inputs, Processor, Side};
 use crate::walker::Done;
 use std::ffi::c_void;
 
+// Padding before the code of this crate: none, unless the build asks for it (build.rs).
+std::arch::global_asm!(include_str!(concat!(env!("OUT_DIR"), "/padding.s")));
+
 macro_rules! side {
     ($(#[$doc:meta])* $side:ident $name:literal $fresh:ident $whole:ident $paused:ident
      $phase:ident $reason:ident $location:ident $read:ident $used:ident) => {

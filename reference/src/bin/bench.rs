@@ -1,15 +1,16 @@
-//! Times the walkers on three tables: the library (where it is linked), the walker of this crate and the plain C walker.
+//! Times the walkers on four tables: the library (where it is linked), the walker of this crate and the plain C walker.
 //!
 //! bench [repetitions [budget of a call]]
 //!
 //! Each repetition walks each table once with each walker, on the same bytes, in turn. Reported is the median of
-//! the processor time.
+//! the processor time. How the code happens to fall changes the ratios: `scripts/bench-spread` runs several builds.
 #![forbid(unsafe_code)]
 
 use std::hint::black_box;
 use std::process::ExitCode;
 
 use reference::ffi;
+use reference::processor::{Answer, MAX_TABLE, process};
 use reference::random::Rng;
 use reference::side::{Inputs, Reference, Side};
 use reference::tables::{Action, Actions, Choice, Rule, Selector, assemble, bytes};
@@ -100,6 +101,92 @@ fn calls() -> Work {
     Work { name: "calls", table: bytes(&assemble(&rules, 1)), tokens: bytes(&[1; 40_000]), answers: vec![] }
 }
 
+/// The blocks of the page breaker's text.
+const BLOCKS: usize = 8;
+
+/// The text of a page breaker: a rule for each kind of block, which reads words and asks for room, rules for lines, notes and pages.
+fn page_breaker() -> String {
+    let each = |part: &dyn Fn(usize) -> String| (0..BLOCKS).map(part).collect::<String>();
+    let opened = each(&|i| format!(" open{i}"));
+    let kinds = each(&|i| format!(" kind{i}"));
+    let blocks = each(&|i| format!("| open{i}: @Block{i} "));
+    let rules = each(&|i| {
+        let (step, inner) = (["single", "double"][i % 2], (i + 1) % BLOCKS);
+        let nested = if i < 4 { format!("| open{inner}: .opened @Plain") } else { String::new() };
+        format!(
+            "Block{i}: Begin(kind{i}) @Leading
+                {{[
+                    | word, number: [ Room({step}) | fits: Place({step}) | full: @Line Place({step}) ]
+                    | space: [ @Fits | fits: Space | full: @Line ]
+                    | hyphen: Hyphen(kind{i}) [ | lineEnd: Join | *: Place(single) ]
+                    | lineEnd: Space
+                    | note: @Note
+                    {nested}
+                    | close: >
+                    | *: #unexpected ?
+                ]}}
+                Finish(kind{i}) .placed;\n"
+        )
+    });
+    format!(
+        "input: word number space hyphen lineEnd note close endOfBook {opened};
+        output: placed pageTurned opened noted;
+        error: unexpected = 10;
+        type Fit: fits full;
+        type Step: single double;
+        type Kind: {kinds};
+        mechanism Page: Place(Step) Begin(Kind) Finish(Kind) Hyphen(Kind) Space Join TurnPage Break
+            Room(Step) >> Fit Left >> Fit;
+        rules
+        Book: {{[ {blocks} | lineEnd, space: | endOfBook: > | *: #unexpected ? ]}};
+        {rules}
+        Plain: {{[ | close: > | word, number: @Word | *: ? ]}};
+        Word: [ @Fits | fits: Place(single) | full: @Line ];
+        Line: Break [ Left | fits: | full: @Turn ];
+        Turn: TurnPage .pageTurned @Leading;
+        Leading: Space;
+        Note: .noted {{[ | word: @Word | note: > | *: ? ]}};
+        Fits >> Fit: [ Room(single) | fits: >> fits | full: [ Left | fits: @Turn >> fits | full: >> full ] ];
+        end"
+    )
+}
+
+/// The tokens of a book of such blocks.
+fn book(rng: &mut Rng) -> Vec<u16> {
+    let (word, number, space, hyphen, line_end, note, close, end, open) = (0, 1, 2, 3, 4, 5, 6, 7, 8);
+    let mut tokens = Vec::new();
+    while tokens.len() < 60_000 {
+        let block = rng.below(BLOCKS) as u16;
+        tokens.push(open + block);
+        for _ in 0..rng.within(10, 60) {
+            match rng.below(20) {
+                0 => tokens.extend([hyphen, line_end]),
+                1 => tokens.extend([hyphen, word]),
+                2 => tokens.extend([note, word, space, word, note]),
+                3 if block < 4 => tokens.extend([open + (block + 1) % BLOCKS as u16, word, space, number, close]),
+                4 | 5 => tokens.push(line_end),
+                6 => tokens.extend([number, space]),
+                _ => tokens.extend([word, space]),
+            }
+        }
+        tokens.extend([close, line_end]);
+    }
+    tokens.push(end);
+    tokens
+}
+
+/// A page breaker of about 1,000 words, translated from its text; three of four times there is room.
+fn pages() -> Work {
+    let table = match process(page_breaker().as_bytes(), MAX_TABLE) {
+        Answer::Accepted { table, .. } => table,
+        refused => panic!("the page breaker: {refused:?}"),
+    };
+    let mut rng = Rng::new(3, 1);
+    let tokens = book(&mut rng);
+    let answers: Vec<u16> = (0..2 * tokens.len()).map(|_| u16::from(rng.once_in(4))).collect();
+    Work { name: "pages", table: bytes(&table), tokens: bytes(&tokens), answers: bytes(&answers) }
+}
+
 /// What a walker leaves of a walk, to be the same for all.
 #[derive(PartialEq, Debug)]
 struct End {
@@ -144,8 +231,9 @@ fn main() -> ExitCode {
     let mut sides: Vec<&dyn Side> = vec![&Reference, &ffi::Plain];
     sides.extend(ffi::library());
     println!("median of {repetitions} repetitions, budget of a call {budget}");
-    for work in [scanner(), choices(), calls()] {
-        let mut events = vec![0u8; work.tokens.len() * 3 + 6];
+    for work in [scanner(), choices(), calls(), pages()] {
+        // A few events a token.
+        let mut events = vec![0u8; work.tokens.len() * 12 + 6];
         let mut wanted = vec![0u8; events.len()];
         let first = walk(&Reference, &work, budget, &mut wanted);
         println!(
