@@ -90,14 +90,19 @@ fn chosen(bytes: usize, with_strings: bool, most: usize) -> String {
 /// `crates/symbols/specs/Index.antt` and serves to choose names only: were that one another, these would be names like any.
 fn chained(before: &str, behind: &str, count: usize) -> Vec<String> {
     let letters: Vec<char> = ('a'..='z').chain('A'..='Z').chain('0'..='9').chain(['_']).collect();
-    let bucket = |word: &String| word.bytes().fold(0, |hash, byte| (hash * 33 + u32::from(byte)) % 65_536) % 512;
+    let hash = |hash: u32, part: &str| part.bytes().fold(hash, |hash, byte| (hash * 33 + u32::from(byte)) % 65_536);
+    let mut words = Vec::new();
     // Two beginnings, since one has fewer than 510 such words.
-    let words = ["", "N"].into_iter().flat_map(|more| {
-        let letters = &letters;
-        let each = letters.iter().flat_map(move |a| letters.iter().flat_map(move |b| letters.iter().map(move |c| [a, b, c])));
-        each.map(move |[a, b, c]| format!("{before}{more}{a}{b}{c}{behind}"))
-    });
-    words.filter(|word| bucket(word) == 0).take(count).collect()
+    for more in ["", "N"] {
+        for (a, b) in letters.iter().flat_map(|a| letters.iter().map(move |b| (a, b))) {
+            let start = format!("{before}{more}{a}{b}");
+            let started = hash(0, &start);
+            let fits = |c: &&char| hash((started * 33 + u32::from(**c)) % 65_536, behind) % 512 == 0;
+            words.extend(letters.iter().filter(fits).map(|c| format!("{start}{c}{behind}")));
+        }
+    }
+    words.truncate(count);
+    words
 }
 
 /// Cycles in choices in cycles, 32 deep, each on a line of its own, over and over.
