@@ -301,19 +301,21 @@ fn token_entries(cases: &mut Vec<Case>) {
     let heads = ["input", "output", "input output", "error", "type t"];
     let strings = [None, Some("'s'"), Some(STRING)];
     let numbers = [None, Some("7"), Some("65536")];
-    let entries = cross(&cross(&strings, &numbers), &cross(&BOTH, &NEXT));
-    for ((head, (long, names_full)), ((string, number), (counted, next))) in cross(&cross(&heads, &cross(&BOTH, &BOTH)), &entries)
-    {
-        if string.is_some() && !head.ends_with("put") {
+    // What stands behind the entry before: nothing, or the greatest value, in this section or in one before it.
+    let counts = ["", "= 65535", "= 65535 ; HEAD :"];
+    let entries = cross(&cross(&strings, &numbers), &cross(&counts, &NEXT));
+    for ((head, (long, names_full)), ((string, number), (count, next))) in cross(&cross(&heads, &cross(&BOTH, &BOTH)), &entries) {
+        // Errors and types have no strings; types count from 0.
+        if string.is_some() && !head.ends_with("put") || head == "type t" && count.ends_with(':') {
             continue;
         }
         let there = 1 + usize::from(head == "type t");
         let mut case = Case { before: filled(names_full, there), ..Case::default() };
-        case.add(&format!("{head} : z {}", if counted { "= 65535" } else { "" }));
+        case.add(&format!("{head} : z {count}").replace("HEAD", head));
         case.from = case.words.len();
         let (word, mut limits) = named(long, NAME_BYTES, names_full, "x");
         // Behind a word that is none, `=` is not seen.
-        limits.extend((counted && (number.is_none() || string == Some(STRING))).then_some(COUNTED));
+        limits.extend((!count.is_empty() && (number.is_none() || string == Some(STRING))).then_some(COUNTED));
         case.pass(word, &limits);
         if let Some(string) = string {
             case.pass(string, (string == STRING).then_some(STRING_BYTES).as_slice());
