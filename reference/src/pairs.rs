@@ -116,7 +116,7 @@ pub struct Case {
     /// What stands before the words.
     before: String,
     words: Words,
-    /// The limits passed, each at a word; 20 at none.
+    /// The limits passed, each at a word; that of the table at none, far behind.
     passed: Vec<(usize, Limit)>,
     /// The words between which others are planted.
     from: usize,
@@ -256,7 +256,7 @@ fn filler(names: usize) -> String {
     format!("type q :{members} ;")
 }
 
-/// Whether 512 names stand before, of which so many are there already: a type of the rest.
+/// Where 512 names are to stand before, of which so many are there already: a type of the rest.
 fn filled(names_full: bool, there: usize) -> String {
     if names_full { filler(512 - there) } else { String::new() }
 }
@@ -386,56 +386,53 @@ fn rule_head(long: bool, names_full: bool, rules_full: bool, of: Option<&str>) -
     case
 }
 
-/// Rules: each head with each part, every two parts in turn, and every part in every place of another.
-fn rules(cases: &mut Vec<Case>) {
+/// Rules: each head by itself and with each part.
+fn rule_heads(cases: &mut Vec<Case>) {
     let types = [None, Some("t"), Some(LONG), Some(STRING)];
     for ((long, names_full), (rules_full, of)) in cross(&cross(&BOTH, &BOTH), &cross(&BOTH, &types)) {
         let head = rule_head(long, names_full, rules_full, of);
         cases.push(head.clone().ends("; end"));
         for (limit, part) in PARTS {
-            let mut case = head.clone();
-            case.part(part, &[limit]);
-            cases.push(case.ends("; end"));
+            cases.push(with_part(&head, part, &[limit]).ends("; end"));
         }
-        let mut case = head.clone();
-        long_table(&mut case);
+        let case = with_long_table(&head);
+        // A choice rule that goes past itself would be 8 otherwise.
         if of.is_none() || case.passed.len() > 1 {
             cases.push(case.ends("; end"));
         }
     }
+}
+
+/// Rules: every two parts one after the other, and every part in each place of another.
+fn rule_parts(cases: &mut Vec<Case>) {
     let head = rule_head(false, false, false, None);
     for (one, first) in PARTS {
-        for (two, second) in PARTS {
-            let mut case = head.clone();
-            case.part(first, &[one]);
-            case.part(second, &[two]);
-            cases.push(case.ends("; end"));
-        }
-        let mut case = head.clone();
-        case.part(first, &[one]);
-        long_table(&mut case);
-        cases.push(case.ends("; end"));
+        let case = with_part(&head, first, &[one]);
+        cases.extend(PARTS.map(|(two, second)| with_part(&case, second, &[two]).ends("; end")));
+        cases.push(with_long_table(&case).ends("; end"));
     }
     for (outer, around) in AROUND {
         for (inner, part) in PARTS.iter().filter(|(inner, _)| *inner != outer && *inner != DEPTH) {
             let marked_first = around.find('^') < around.find("HERE");
             let limits = if marked_first { [outer, inner] } else { [inner, outer] };
-            let mut case = head.clone();
-            case.part(&around.replace("HERE", part), &limits);
-            cases.push(case.ends("; end"));
+            cases.push(with_part(&head, &around.replace("HERE", part), &limits).ends("; end"));
         }
     }
-    for (limits, part) in DEEP_LABELS {
-        let mut case = head.clone();
-        case.part(part, &limits);
-        cases.push(case.ends("; end"));
-    }
+    cases.extend(DEEP_LABELS.map(|(limits, part)| with_part(&head, part, &limits).ends("; end")));
 }
 
-/// More words than a table has.
-fn long_table(case: &mut Case) {
+fn with_part(case: &Case, part: &str, limits: &[Limit]) -> Case {
+    let mut case = case.clone();
+    case.part(part, limits);
+    case
+}
+
+/// With more words than a table has.
+fn with_long_table(case: &Case) -> Case {
+    let mut case = case.clone();
     case.passed.push((usize::MAX - 1, WORDS));
     case.add(&"? ".repeat(4_096));
+    case
 }
 
 /// All cases.
@@ -444,7 +441,8 @@ pub fn cases() -> Vec<Case> {
     heads(&mut cases);
     token_entries(&mut cases);
     operation_entries(&mut cases);
-    rules(&mut cases);
+    rule_heads(&mut cases);
+    rule_parts(&mut cases);
     cases
 }
 
