@@ -86,9 +86,9 @@ walkStepOf t k a room paused w (Stopped x) = says w (Said.Undone (numberOf x))
 abbrev pub outcome : Walk → List ℕ → ℕ → ℕ → ℕ → Outcome
 outcome w o events steps number = record { walk = w; events = events; steps = steps; number = number; out = o }
 
--- what a call's code gives: the walk by its parts, and numbers; the event buffer's bytes stand with the buffer
-abbrev pub called : Phase → Registers → List ℕ → ℕ → ℕ → ℕ → Called
-called p r rs events steps number = record { walk = record { phase = p; at = r; returns = rs }; events = events; steps = steps; number = number }
+-- what a call's code gives; the event buffer's bytes stand with the buffer
+abbrev pub called : Walk → ℕ → ℕ → ℕ → Called
+called w events steps number = record { walk = w; events = events; steps = steps; number = number }
 
 -- after a step: further, or the call's end; e events are written to o, d steps are done
 unfoldable pub turnOf : (Walk → List ℕ → ℕ → ℕ → Outcome) → Stepped → List ℕ → ℕ → ℕ → Outcome

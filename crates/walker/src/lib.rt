@@ -986,19 +986,12 @@ impl Walk {
 
 // Calls
 
-// What a call gives that leaves these registers and return locations.
-fn ended(
-    phase: Phase,
-    at: Registers,
-    returns: [u16; 64],
-    events: usize,
-    steps: u64,
-    number: u16,
-) -> Called
-    ensures { λ r. ⌜ r ≡ called phase at returns events steps number ⌝ }
+// What a call gives that leaves this walk. (With registers and return locations as parameters the loop would be slower.)
+fn ended(walk: Walk, events: usize, steps: u64, number: u16) -> Called
+    ensures { λ r. ⌜ r ≡ called walk events steps number ⌝ }
 {
     Called {
-        walk: Walk { phase, at, returns },
+        walk,
         events: events as u64,
         steps,
         number,
@@ -1044,15 +1037,16 @@ impl Walk {
             let next = done + 1;
             match x {
                 Next::Full => {
-                    return ended(Phase::Going, at, returns, events, done, FULL);
+                    let phase = Phase::Going;
+                    return ended(Walk { phase, at, returns }, events, done, FULL);
                 }
                 Next::Outside => {
-                    let outside = Phase::Stopped(Reason::Outside);
-                    return ended(outside, at, returns, events, done, OUTSIDE);
+                    let phase = Phase::Stopped(Reason::Outside);
+                    return ended(Walk { phase, at, returns }, events, done, OUTSIDE);
                 }
                 Next::Stop(why) => {
-                    let stopped = Phase::Stopped(why);
-                    return ended(stopped, at, returns, events, next, number_of(why));
+                    let phase = Phase::Stopped(why);
+                    return ended(Walk { phase, at, returns }, events, next, number_of(why));
                 }
                 Next::On(q) => {
                     at = q;
@@ -1070,12 +1064,15 @@ impl Walk {
                 }
                 Next::Waits(q, e) => {
                     put_event(out, 3 * events, e);
-                    return ended(Phase::Waiting, q, returns, events + 1, next, WAITS);
+                    let phase = Phase::Waiting;
+                    at = q;
+                    return ended(Walk { phase, at, returns }, events + 1, next, WAITS);
                 }
             }
             done = next;
         }
-        ended(Phase::Going, at, returns, events, done, SPENT)
+        let phase = Phase::Going;
+        ended(Walk { phase, at, returns }, events, done, SPENT)
     }
 
     // A whole walk's call: up to budget steps, with all answers given. `wholeOf` has the code's own order; `whole-call` in proofs/Link.antt says that it is
