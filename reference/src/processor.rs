@@ -152,7 +152,7 @@ fn words(text: &[u8]) -> Vec<Word> {
             }
             b'0'..=b'9' => (Sort::Number, run(at, &|b| b.is_ascii_digit())),
             b'\'' => {
-                let inside = run(at + 1, &|b| b != b'\'' && b != b'\n' && b != b'%');
+                let inside = run(at + 1, &|b| b != b'\'' && b != b'\n');
                 let closed = text.get(at + 1 + inside) == Some(&b'\'');
                 if closed && (1..=MAX_BYTES).contains(&inside) { (Sort::Quoted, inside + 2) } else { (Sort::Bad, 1) }
             }
@@ -1313,10 +1313,11 @@ mod tests {
 
     #[test]
     fn words_and_order() {
-        for bad in ["''", "'", "'a", "'a\n'", "'a%'", "'a%\n'", "'123456789012345678901234567890123'"] {
+        for bad in ["''", "'", "'a", "'a\n'", "'a%", "'a%\n'", "'123456789012345678901234567890123'"] {
             refused(1, &format!("rules M: ^{bad} ; end"), 1);
         }
         accepted("input: a '12345678901234567890123456789012'; rules M: ; end", &[9], true);
+        accepted("input: a '%' b 'c%'; % 'd\nrules M: 'c%' '%'; end", &[3, 1, 3, 0, 9], true);
         accepted("input: a '\r\t\u{0}\u{f6}'; rules M: '\r\t\u{0}\u{f6}'; end", &[3, 0, 9], true);
         for bad in ["\u{0}", "\u{c}", "\u{b}", "_", "+", "-", "/", "<", "&", "\"", "$"] {
             refused(1, &format!("rules M: ^{bad} ; end"), 1);

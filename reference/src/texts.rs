@@ -48,7 +48,7 @@ impl Seed {
 pub type Words = Vec<Vec<u8>>;
 
 const NAMES: [&str; 16] = ["a", "b", "c", "d", "e", "f", "g", "x", "y", "t", "u", "M", "N", "R", "a1", "B_"];
-const STRINGS: [&str; 7] = ["'a'", "'b'", "'x'", "';'", "'>>'", "'if'", "' '"];
+const STRINGS: [&str; 9] = ["'a'", "'b'", "'x'", "';'", "'>>'", "'if'", "' '", "'%'", "'% a'"];
 pub const VOCABULARY: [&str; 46] = [
     ":",
     ";",

@@ -1,3 +1,4 @@
 -- The tables of cases, each under one statement.
 pub mod Hold
 pub mod Agree
+pub mod Before

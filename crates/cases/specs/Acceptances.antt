@@ -26,6 +26,8 @@ allGive (a ∷ more) = gives (process (bytes (a .text)) 4096) a && allGive more
 unfoldable pub acceptances : List Acceptance
 acceptances =
     says "input: a 'b' b 'a'; rules M: 'a' a; end" (3 ∷ 1 ∷ 3 ∷ 0 ∷ 9 ∷ []) true
+    -- a percent sign as a token, and a comment behind it
+    ∷ says "input: a percent '%' b; % 'x\nrules M: '%' [ | '%': percent | *: ]; end" (3 ∷ 1 ∷ 7 ∷ 5 ∷ 3 ∷ 1 ∷ 1 ∷ 4 ∷ 1 ∷ 1 ∷ 6 ∷ 9 ∷ []) true
     ∷ says "input: M; rules M: M @M; end" (3 ∷ 0 ∷ 8 ∷ 1 ∷ 9 ∷ []) true
     ∷ says "mechanism m: f; mechanism m: g; rules M: g f; end" (257 ∷ 256 ∷ 9 ∷ []) true
     ∷ says "output: x = 3 y; error: e = 5; rules M: .y #e >>; end" (5 ∷ 4 ∷ 6 ∷ 5 ∷ 9 ∷ 9 ∷ []) true

@@ -53,7 +53,11 @@ faults1 =
     at "rules M: ^$ ; end" 1 1
     ∷ at "rules M: ^'ab ; end" 1 1
     ∷ at "rules M: ^'' ; end" 1 1
-    ∷ at "rules M: .^'a%b' ; end" 1 1
+    ∷ at "rules M: .^'a%b ; end" 1 1
+    ∷ at "rules M: .^'a%b\n' ; end" 1 1
+    ∷ at "rules M: ^'%" 1 1
+    ∷ at "rules M: ^'%\n' ; end" 1 1
+    ∷ at "rules M: ^'%bcdefghijklmnopqrstuvwxyz12345%7' ; end" 1 1
     ∷ at "rules M: ^'abcdefghijklmnopqrstuvwxyz1234567' ; end" 1 1
     ∷ at "rules M: ^_a ; end" 1 1
     ∷ at "^< rules" 1 1
@@ -64,6 +68,9 @@ unfoldable pub faults2 : List Refusal
 faults2 =
     at "^" 2 0
     ∷ at "% all a comment^" 2 0
+    -- `'x; % it'` is a string, so that the section goes on
+    ∷ at "input: a 'x; % it's^" 2 0
+    ∷ at "input: a 'x'% 'b\n; rules M: ; end ^'%'" 2 3
     ∷ at "rules M: ^" 2 0
     ∷ at "rules M: ; ^; $ end" 2 1
     ∷ at "rules M: { ^; end" 2 1

@@ -4,4 +4,5 @@ pub mod ActionsIn
 pub mod SectionsIn
 pub mod ProgramIn
 pub mod Labels
+pub mod Spelt
 pub mod Facts

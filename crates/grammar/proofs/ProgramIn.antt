@@ -38,7 +38,7 @@ rule-from k left =
     gives (record { rule = w; gives = g; body = b; closing = e }) (record { rule-in = a-rule (t .word) u v q x; some-left = t .some-left }))))))
 
 -- rules and how many
-record SomeRules (left : ℕ) (ws rest : List Word) (rs : List Rule) : Type 0 where
+pub record SomeRules (left : ℕ) (ws rest : List Word) (rs : List Rule) : Type 0 where
   pub rules-in : RulesIn ws rest rs
   pub few : length rs ≤ left
 
@@ -51,7 +51,7 @@ behind : {left : ℕ} {ws ws₁ rest : List Word} {r : Rule} {rs : List Rule} �
 behind x (no-name n d) = record { rules-in = last-rule (rw (← d) at (x .rule-in)) (rw (← d) at n); few = let h = x .some-left in omega arith }
 behind x (more d m) = record { rules-in = more-rules (x .rule-in) d (m .rules-in); few = let h = x .some-left in let g = m .few in omega arith }
 
-rules-from : {ws : List Word} (k left : ℕ) → From ws (someRules k left) (λ rest rs. SomeRules left ws rest rs)
+pub rules-from : {ws : List Word} (k left : ℕ) → From ws (someRules k left) (λ rest rs. SomeRules left ws rest rs)
 unfolding someRules
 rules-from zero left = refuses
 rules-from (suc k) left =

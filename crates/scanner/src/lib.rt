@@ -100,10 +100,7 @@ fn is_string_byte(b: u8) -> bool
     if b == 39 {
         return false;
     }
-    if b == 10 {
-        return false;
-    }
-    b != 37
+    b != 10
 }
 
 fn in_class(class: Class, b: u8) -> bool

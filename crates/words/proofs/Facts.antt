@@ -100,9 +100,22 @@ strings =
     ∷ line "'ab\n'" (w bad 0 1 ∷ [])
     ∷ line "'" (w bad 0 1 ∷ [])
     ∷ line "x '\n' y" (w name 0 1 ∷ w bad 2 1 ∷ [])
-    ∷ line "'a%b'" (w bad 0 1 ∷ [])
-    ∷ line "'%'" (w bad 0 1 ∷ [])
+    -- the percent sign is an ordinary byte of a string, the last of its bytes too
+    ∷ line "'a%b'" (w string 0 5 ∷ w last 5 0 ∷ [])
+    ∷ line "'%'" (w string 0 3 ∷ w last 3 0 ∷ [])
+    ∷ line "'%%'%'" (w string 0 4 ∷ w last 6 0 ∷ [])
+    ∷ line "'a'%b\nc" (w string 0 3 ∷ w name 6 1 ∷ w last 7 0 ∷ [])
+    ∷ line "% 'x\n'%'" (w string 5 3 ∷ w last 8 0 ∷ [])
+    ∷ line "'a%' %'b\n'c'" (w string 0 4 ∷ w string 9 3 ∷ w last 12 0 ∷ [])
+    ∷ line "'%abcdefghijklmnopqrstuvwxyz12345'" (w string 0 34 ∷ w last 34 0 ∷ [])
+    ∷ line "'%abcdefghijklmnopqrstuvwxyz123456'" (w bad 0 1 ∷ [])
+    -- an unclosed quote, with a percent sign after it, at once or later, to the line feed or the end
     ∷ line "'a%\n'b'" (w bad 0 1 ∷ [])
+    ∷ line "'a%" (w bad 0 1 ∷ [])
+    ∷ line "'%\n'" (w bad 0 1 ∷ [])
+    ∷ line "a '%" (w name 0 1 ∷ w bad 2 1 ∷ [])
+    ∷ line "a 'b % c\nd" (w name 0 1 ∷ w bad 2 1 ∷ [])
+    ∷ line "''%'" (w bad 0 1 ∷ [])
     ∷ line "'\r\t\0È'" (w string 0 6 ∷ w last 6 0 ∷ [])
     ∷ line "'>> {_\"+ ' ;" (w string 0 10 ∷ w (code ";") 11 1 ∷ w last 12 0 ∷ [])
     ∷ line "'a''b'" (w string 0 3 ∷ w string 3 3 ∷ w last 6 0 ∷ [])
@@ -198,9 +211,9 @@ pub bytes-alone : T (same (kindsFrom 256 0 0 (λ b. b ∷ [])) (spread alone))
 unfolding spread kindAt kindsFrom alone Words.opened
 bytes-alone = tt
 
--- each byte between quotes: all but line feed, `%` and the quote make a string
+-- each byte between quotes: all but line feed and the quote make a string
 pub quoted : List Run
-quoted = r 10 string ∷ r 1 bad ∷ r 26 string ∷ r 1 bad ∷ r 1 string ∷ r 1 bad ∷ r 216 string ∷ []
+quoted = r 10 string ∷ r 1 bad ∷ r 28 string ∷ r 1 bad ∷ r 216 string ∷ []
 
 pub bytes-quoted : T (same (kindsFrom 256 0 0 (λ b. code "'" ∷ b ∷ code "'" ∷ [])) (spread quoted))
 unfolding spread kindAt kindsFrom quoted Words.opened

@@ -92,9 +92,9 @@ digit b = between 48 57 b
 unfoldable pub nameByte : ℕ → Bool
 nameByte b = letter b || digit b || eqb b (code "_")
 
--- a byte that may stand in a string: "no quote or line feed inside"; and no percent sign, which makes a comment "wherever it stands"
+-- a byte that may stand in a string: "no quote or line feed inside"; "Inside a string the percent sign is an ordinary byte"
 unfoldable pub stringByte : ℕ → Bool
-stringByte b = not (eqb b (code "'") || eqb b 10 || eqb b (code "%"))
+stringByte b = not (eqb b (code "'") || eqb b 10)
 
 -- "Space, tab, carriage return and line feed separate words."
 unfoldable pub blank : ℕ → Bool
@@ -138,8 +138,8 @@ wordHere b s =
     else if symbol b then found b 1
     else found bad 1
 
--- the words from the place `at` on, the next `skip` bytes belonging to the word or comment before. "A percent sign, wherever it
--- stands, makes the rest of its line a comment." The end, or a bad word, is the last.
+-- the words from the place `at` on, the next `skip` bytes belonging to the word or comment before. A percent sign "outside" a string
+-- "begins a comment", the rest of its line. The end, or a bad word, is the last.
 unfoldable pub wordsFrom : ℕ → ℕ → List ℕ → List Word
 wordsFrom skip at [] = record { kind = last; start = at; text = [] } ∷ []
 wordsFrom (suc n) at (b ∷ s) = wordsFrom n (suc at) s

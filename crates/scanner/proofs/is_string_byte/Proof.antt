@@ -10,11 +10,7 @@ returns c = simp (eq-eqb (c .before .args .b) 39 (c .if1 .taken))
 
 returns-2 : tie.Need-returns-2
 unfolding stringByte
-returns-2 c = simp (ne-eqb (c .before .before .args .b) 39 (c .before .if1 .left), eq-eqb (c .before .before .args .b) 10 (c .if2 .taken))
-
-returns-3 : tie.Need-returns-3
-unfolding stringByte
-returns-3 c = simp (ne-eqb (c .before .before .args .b) 39 (c .before .if1 .left), ne-eqb (c .before .before .args .b) 10 (c .if2 .left))
+returns-2 c = simp (ne-eqb (c .before .args .b) 39 (c .if1 .left))
 
 pub is-string-byte-spec : {M : Type 1} → statement M
-is-string-byte-spec = tie.close (tie.spec returns returns-2 returns-3)
+is-string-byte-spec = tie.close (tie.spec returns returns-2)
