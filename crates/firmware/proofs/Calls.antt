@@ -15,8 +15,8 @@ use Rattle.machine.proofs.Keeps.{fits-call}
 use Rattle.machine.specs.Bytes.{count, wordsOf, tableOf}
 use Rattle.machine.specs.Call.{Mode, whole, paused, callWalk}
 use Rattle.machine.specs.Form as form
-use Rattle.walker.proofs.LinkWords.{Bytes}
-use Rattle.walker.proofs.Link.{Agrees, handed, whole-call, paused-call}
+use Rattle.walker.proofs.Link.{whole-call, paused-call}
+use Rattle.walker.specs.Linked.{Bytes, handed, Agrees}
 use Rattle.walker.specs.Shape as shape
 use Rattle.walker.specs.View as view
 use Rattle.walker.specs.declared.Walk.{Walk}

@@ -30,8 +30,9 @@ use Rattle.walker.specs.declared.Target.{Target}
 use Rattle.walker.specs.declared.Target.the-variants.{Label, Otherwise}
 use Rattle.walker.specs.declared.Walk.{Walk}
 use Rattle.walker.specs.View.{reasonOf, phaseOf, eventOf, walkIn, walkOf}
+use Rattle.walker.specs.Linked.{Bytes, handed, Agrees}
 use Rattle.walker.specs.Shape.{size, operand, tableAt, choiceOf, defaultOf, takeInput, takeOther, moved, readOne, withResult, withParameter, withDepth, answeredOne, poppedTo, forwardOf, backOf, inputOf, anyOf, tellOf, inputChoiceOf, callOf, backTo, returnOf, askOf, answerOf, actOf, operateOf, fetchedOf, stepOf, putEvent, Outcome, ended, numberOf, goOf, first64, keptOf, refusedOf, wholeOf, pausedOf}
-use Rattle.walker.proofs.LinkWords.{Bytes, length-returns, clip-returns, over-event, count-putEvent, one-more, one-more-fits}
+use Rattle.walker.proofs.LinkWords.{length-returns, clip-returns, over-event, count-putEvent, one-more, one-more-fits}
 use Rattle.walker.proofs.LinkStep.{withEvents, inCall, turnOf, modeOf, step-turn}
 
 -- What a step keeps: at most 64 return locations, answers used within their width, and room for an event that is told
@@ -171,14 +172,6 @@ module _ (room : ℕ) (r : Registers) (held : Held r) where
         either (leb (r .location) (size t)) _ _ (λ y.
         either (ltb i 14) _ _ (λ z. either (leb (r .location + lengthOf i) (size t + 1)) _ _ (λ u. act-keeps i) (λ u. out)) (λ z. operate-keeps q a i)) (λ y. out))
 
--- What a call of the code's definitions gives is what the machine's gives, with s the event buffer before it
-pub record Agrees (s : List ℕ) (x : Outcome) (c : Called) : Type 0 where
-  pub number : x .number ≡ c .number
-  pub steps : x .steps ≡ c .steps
-  pub events : x .events ≡ length (c .events)
-  pub walk : walkOf (x .walk) ≡ c .walk
-  pub out : x .out ≡ over (bytesOf (eventsWords (c .events))) s
-
 number-reason : (x : Reason) → numberOf x ≡ reasonNumber (reasonOf x)
 unfolding numberOf reasonNumber reasonOf
 number-reason Finished = refl
@@ -268,11 +261,6 @@ module _ (t k a : List ℕ) (q : Bool) (s : List ℕ) (small-t : Bytes t) (small
       (next n (go-run n) r rs o e d es h l b (stepOf rs t k a (count o - 3 * e) q r) (step-keeps (count o - 3 * e) r held rs t k a q))
 
 -- Calls over bytes: for every walk struct, whatever its depth, an array of 64 return locations and answers used within their width
-
--- the answer of a paused call, or none
-abbrev pub handed : Bool → ℕ → Option ℕ
-handed false x = none
-handed true x = some x
 
 module _ (t k : List ℕ) (n : ℕ) (w : Walk) (o : List ℕ) (sized : length (w .returns) ≡ 64) (used : w .at .used < 18446744073709551616)
     (small-t : Bytes t) (small-k : Bytes k) where

@@ -32,8 +32,9 @@ use Rattle.walker.specs.declared.Registers.{Registers}
 use Rattle.walker.specs.declared.Target.{Target}
 use Rattle.walker.specs.declared.Target.the-variants.{Label, Otherwise}
 use Rattle.walker.specs.View.{reasonOf, eventOf, walkIn}
+use Rattle.walker.specs.Linked.{Bytes}
 use Rattle.walker.specs.Shape.{size, findFrom, operand, otherwiseOf, labelOf, labelledOf, tableAt, labelsAt, insideTable, choiceOf, defaultOf, takeInput, takeOther, moved, withResult, withParameter, withDepth, forwardOf, backOf, inputOf, anyOf, tellOf, inputChoiceOf, callOf, backTo, returnOf, askOf, answerOf, actOf, operateOf, fetchedOf, stepOf}
-use Rattle.walker.proofs.LinkWords.{Bytes, word-small, word-in, word-out, length-table, fetch-in, fetch-at, fetch-zero, fetch-behind, fetch-out, push-returns, pop-returns, length-returns, eqb-comm, one-more}
+use Rattle.walker.proofs.LinkWords.{word-small, word-in, word-out, length-table, fetch-in, fetch-at, fetch-zero, fetch-behind, fetch-out, push-returns, pop-returns, length-returns, eqb-comm, one-more}
 
 -- the walk of the machine inside a call that has written the events es
 unfoldable pub withEvents : List events.Event → machine.Walk → machine.Walk

@@ -16,6 +16,7 @@ use Rattle.machine.proofs.Bytes.{length-wordsOf, getD-wordsOf, length-bytesOf}
 use Rattle.events.specs.Events as events
 use Rattle.events.specs.Events.{eventWords}
 use Rattle.machine.specs.Form.{eventsWords}
+use Rattle.walker.specs.Linked.{Bytes}
 use Rattle.walker.specs.declared.Event.{Event}
 use Rattle.walker.specs.declared.Event.the-variants.{Output, Plain, With}
 use Rattle.walker.specs.View.{eventOf}
@@ -38,10 +39,6 @@ word-in s i h = elem-in (wordsOf s) i (rw (length-wordsOf s) h) ∙ ap some (get
 
 pub word-out : (s : List ℕ) (i : ℕ) → count s ≤ i → getElem? (wordsOf s) i ≡ none
 word-out s i h = elem-out (wordsOf s) i (rw (length-wordsOf s) h)
-
--- each number of the list is a byte
-abbrev pub Bytes : List ℕ → Type 0
-Bytes s = (i : ℕ) → getD s i 0 < 256
 
 pub word-below : (s : List ℕ) → Bytes s → (i : ℕ) → wordAt s i < 65536
 unfolding wordAt

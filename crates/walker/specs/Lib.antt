@@ -1,3 +1,4 @@
 pub mod View
 pub mod Shape
 pub mod Steps
+pub mod Linked

@@ -10,7 +10,7 @@ use Rattle.machine.specs.Form as form
 use Rattle.walker.specs.Shape as shape
 use Rattle.walker.specs.View as view
 use Rattle.firmware.specs.Entries.{handing}
-use Rattle.walker.proofs.LinkWords.{Bytes}
+use Rattle.walker.specs.Linked.{Bytes}
 use Rattle.firmware.proofs.Calls.{Done, paused-done}
 use Rattle.firmware.proofs.sst_paused.Statement.{statement}
 use Rattle.firmware.proofs.sst_paused.Tie as tie

@@ -9,7 +9,7 @@ use Rattle.machine.specs.Call as call
 use Rattle.machine.specs.Form as form
 use Rattle.walker.specs.Shape as shape
 use Rattle.walker.specs.View as view
-use Rattle.walker.proofs.LinkWords.{Bytes}
+use Rattle.walker.specs.Linked.{Bytes}
 use Rattle.firmware.proofs.Calls.{Done, whole-done}
 use Rattle.firmware.proofs.sst_whole.Statement.{statement}
 use Rattle.firmware.proofs.sst_whole.Tie as tie
