@@ -99,7 +99,7 @@ static void walk_table(size_t words, const struct walk_case *given)
 
     put_words(tokens, given->tokens, given->token_count);
     put_words(answers, given->answers, given->answer_count);
-    sst_fresh(walk, sizeof walk);
+    sst_fresh(walk, sizeof walk, 0);
     number = sst_whole(table, 2 * words, tokens, 2 * given->token_count, answers, 2 * given->answer_count, given->budget, walk,
                        sizeof walk, events, sizeof events, &written, &steps);
     printf("  walk of %lu tokens, budget %lu: answered %u, steps %lu, tokens read %lu\n", (unsigned long)given->token_count,

@@ -89,7 +89,7 @@ int main(void)
 
     put_words(table, table_words, COUNT(table_words));
     put_words(tokens, token_words, COUNT(token_words));
-    sst_fresh(walk, sizeof walk);
+    sst_fresh(walk, sizeof walk, 0);
     do {
         /* A small budget and buffer: the walk is called on until it stops. */
         number = sst_paused(table, sizeof table, tokens, sizeof tokens, given, answer, 5, walk, sizeof walk, events, sizeof events,
@@ -117,7 +117,7 @@ int main(void)
         static const uint16_t answer_words[] = {1, 0, 2};
         static uint8_t answers[2 * COUNT(answer_words)], room[60];
         put_words(answers, answer_words, COUNT(answer_words));
-        sst_fresh(walk, sizeof walk);
+        sst_fresh(walk, sizeof walk, 0);
         number = sst_whole(table, sizeof table, tokens, sizeof tokens, answers, sizeof answers, 1000, walk, sizeof walk, room,
                            sizeof room, &written, &steps);
         printf("whole: answered %u, steps %lu, events %lu\n", (unsigned)number, (unsigned long)steps, (unsigned long)written);

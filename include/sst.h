@@ -9,7 +9,7 @@
  *   21  refused: an answer for a walk that is not waiting, none for one that is, a waiting one given to sst_whole, or bytes that are no
  *       walk. Walk and event buffer are unchanged, no event and no step is counted
  *   22  the walk waits: the last event written is the operation that wants an answer
- *   30  stopped: the token differs from the one required, or there is none
+ *   30  stopped: the token differs from the one required, or there is none, and no repair is left
  *   31  stopped: a token is required and there is none
  *   32  stopped: no label for the value of a choice without otherwise
  *   33  stopped: a call with 64 pending
@@ -50,10 +50,11 @@ uint16_t sst_process(const uint8_t *text, size_t text_len, uint8_t *table, size_
                      uint64_t *words, uint64_t *finishing);
 
 /* The bytes of a walk. */
-#define SST_WALK_BYTES 156
+#define SST_WALK_BYTES 158
 
-/* Writes a fresh walk. Lent: walk, SST_WALK_BYTES bytes. Answers 0; 21 where the length is another, and then nothing is written. */
-uint16_t sst_fresh(uint8_t *walk, size_t walk_len);
+/* Writes a fresh walk that may repair so many tokens. Lent: walk, SST_WALK_BYTES bytes. Answers 0; 21 where the length is another, and then
+ * nothing is written. */
+uint16_t sst_fresh(uint8_t *walk, size_t walk_len, uint16_t allowance);
 
 /* A whole call: up to `budget` steps, with all the operations' answers as words. Read: table (words past 4,096 count for nothing), tokens,
  * answers. Lent: walk, read and written; events, written from its start with three words an event, the rest kept. `*written` becomes
@@ -85,6 +86,9 @@ uint64_t sst_read(const uint8_t *walk, size_t walk_len);
 
 /* Answers used, up to 2^64 - 1; 0 for bytes that are no walk. */
 uint64_t sst_used(const uint8_t *walk, size_t walk_len);
+
+/* Repairs left; 0 for bytes that are no walk. */
+uint16_t sst_allowance(const uint8_t *walk, size_t walk_len);
 
 #ifdef __cplusplus
 }

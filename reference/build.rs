@@ -103,7 +103,7 @@ fn entries_only(library: &Path, out: &str) {
     run(Command::new("as").args(["--noexecstack", &format!("{before}.s"), "-o", &format!("{before}.o")]));
     let mut linker = Command::new("ld");
     linker.args(["-r", "--force-group-allocation", "-o", &object, &format!("{before}.o")]);
-    for entry in ["fresh", "whole", "paused", "phase", "reason", "location", "read", "used", "process"] {
+    for entry in ["fresh", "whole", "paused", "phase", "reason", "location", "read", "used", "allowance", "process"] {
         linker.args(["-u", &format!("sst_{entry}")]);
     }
     run(linker.arg(library));

@@ -3,14 +3,14 @@
 #include <stdint.h>
 #include <string.h>
 
-#define WALK_BYTES 156
+#define WALK_BYTES 158
 #define MAX_RETURNS 64
 #define MAX_TABLE 4096
 
 enum { GOING = 0, WAITING = 1, STOPPED = 2 };
 
 struct walk {
-    uint16_t phase, reason, location, result, parameter, held;
+    uint16_t phase, reason, location, result, parameter, held, allowance;
     uint64_t read, used;
     uint16_t returns[MAX_RETURNS];
 };
@@ -50,8 +50,9 @@ static int decode(const uint8_t *bytes, size_t len, struct walk *w)
     w->result = word(bytes, 3);
     w->parameter = word(bytes, 4);
     w->held = word(bytes, 5);
-    w->read = long_word(bytes, 6);
-    w->used = long_word(bytes, 10);
+    w->allowance = word(bytes, 6);
+    w->read = long_word(bytes, 7);
+    w->used = long_word(bytes, 11);
     if (w->phase > STOPPED || w->held > MAX_RETURNS)
         return 0;
     if (w->phase != STOPPED && w->reason != 0)
@@ -59,7 +60,7 @@ static int decode(const uint8_t *bytes, size_t len, struct walk *w)
     if (w->reason != 0 && w->reason != 37 && (w->reason < 30 || w->reason > 34))
         return 0;
     for (i = 0; i < MAX_RETURNS; i++) {
-        w->returns[i] = word(bytes, 14 + i);
+        w->returns[i] = word(bytes, 15 + i);
         if (i >= w->held && w->returns[i] != 0)
             return 0;
     }
@@ -76,10 +77,11 @@ static void encode(uint8_t *bytes, const struct walk *w)
     put(bytes, 3, w->result);
     put(bytes, 4, w->parameter);
     put(bytes, 5, w->held);
-    put_long(bytes, 6, w->read);
-    put_long(bytes, 10, w->used);
+    put(bytes, 6, w->allowance);
+    put_long(bytes, 7, w->read);
+    put_long(bytes, 11, w->used);
     for (i = 0; i < w->held; i++)
-        put(bytes, 14 + i, w->returns[i]);
+        put(bytes, 15 + i, w->returns[i]);
 }
 
 /* Steps until the call ends. `answers` is null in a paused call. */
@@ -125,11 +127,20 @@ static uint16_t run(const uint8_t *table, size_t table_len, const uint8_t *token
         case 3:
             if (location >= size)
                 goto outside;
-            if (read >= token_count || word(tokens, read) != word(table, location)) {
+            if (read < token_count && word(tokens, read) == word(table, location)) {
+                read++;
+            } else if (w->allowance == 0) {
                 number = 30;
                 goto stop;
+            } else {
+                if (written == room)
+                    goto full;
+                put(events, 3 * written, 4);
+                put(events, 3 * written + 1, word(table, location));
+                put(events, 3 * written + 2, 0);
+                written++;
+                w->allowance--;
             }
-            read++;
             location += 2;
             break;
         case 4:
@@ -282,12 +293,13 @@ end:
     return number;
 }
 
-uint16_t cw_fresh(uint8_t *walk, size_t walk_len)
+uint16_t cw_fresh(uint8_t *walk, size_t walk_len, uint16_t allowance)
 {
     if (walk_len != WALK_BYTES)
         return 21;
     memset(walk, 0, WALK_BYTES);
     put(walk, 2, 1);
+    put(walk, 6, allowance);
     return 0;
 }
 
@@ -359,4 +371,10 @@ uint64_t cw_used(const uint8_t *walk, size_t walk_len)
 {
     struct walk w;
     return decode(walk, walk_len, &w) ? w.used : 0;
+}
+
+uint16_t cw_allowance(const uint8_t *walk, size_t walk_len)
+{
+    struct walk w;
+    return decode(walk, walk_len, &w) ? w.allowance : 0;
 }

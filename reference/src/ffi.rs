@@ -10,9 +10,9 @@ std::arch::global_asm!(include_str!(concat!(env!("OUT_DIR"), "/padding.s")));
 
 macro_rules! side {
     ($(#[$doc:meta])* $side:ident $name:literal $fresh:ident $whole:ident $paused:ident
-     $phase:ident $reason:ident $location:ident $read:ident $used:ident) => {
+     $phase:ident $reason:ident $location:ident $read:ident $used:ident $allowance:ident) => {
         unsafe extern "C" {
-            fn $fresh(walk: *mut u8, walk_len: usize) -> u16;
+            fn $fresh(walk: *mut u8, walk_len: usize, allowance: u16) -> u16;
             fn $whole(
                 table: *const u8,
                 table_len: usize,
@@ -48,6 +48,7 @@ macro_rules! side {
             fn $location(walk: *const u8, walk_len: usize) -> u16;
             fn $read(walk: *const u8, walk_len: usize) -> u64;
             fn $used(walk: *const u8, walk_len: usize) -> u64;
+            fn $allowance(walk: *const u8, walk_len: usize) -> u16;
         }
 
         $(#[$doc])*
@@ -59,8 +60,8 @@ macro_rules! side {
                 $name
             }
 
-            fn fresh(&self, walk: &mut [u8]) -> u16 {
-                unsafe { $fresh(walk.as_mut_ptr(), walk.len()) }
+            fn fresh(&self, walk: &mut [u8], allowance: u16) -> u16 {
+                unsafe { $fresh(walk.as_mut_ptr(), walk.len(), allowance) }
             }
 
             fn whole(&self, inputs: Inputs, budget: u64, walk: &mut [u8], events: &mut [u8]) -> Done {
@@ -136,6 +137,10 @@ macro_rules! side {
             fn used(&self, walk: &[u8]) -> u64 {
                 unsafe { $used(walk.as_ptr(), walk.len()) }
             }
+
+            fn allowance(&self, walk: &[u8]) -> u16 {
+                unsafe { $allowance(walk.as_ptr(), walk.len()) }
+            }
         }
     };
 }
@@ -155,13 +160,13 @@ const UNSET: u64 = 0xDEAD_BEEF_DEAD_BEEF;
 
 side! {
     /// The walker in `c/walker.c`.
-    Plain "c" cw_fresh cw_whole cw_paused cw_phase cw_reason cw_location cw_read cw_used
+    Plain "c" cw_fresh cw_whole cw_paused cw_phase cw_reason cw_location cw_read cw_used cw_allowance
 }
 
 #[cfg(feature = "lib")]
 side! {
     /// The library.
-    Library "lib" sst_fresh sst_whole sst_paused sst_phase sst_reason sst_location sst_read sst_used
+    Library "lib" sst_fresh sst_whole sst_paused sst_phase sst_reason sst_location sst_read sst_used sst_allowance
 }
 
 #[cfg(feature = "lib")]

@@ -405,5 +405,6 @@ pub fn made_up(rng: &mut Rng, words: usize, tokens: usize, answers: usize) -> Wa
         parameter: if rng.once_in(2) { rng.word() } else { rng.below(8) as u16 },
         read: count(rng, tokens),
         used: count(rng, answers),
+        allowance: if rng.once_in(3) { rng.word() } else { rng.below(4) as u16 },
     }
 }

@@ -12,6 +12,8 @@ pub struct End {
     pub events: Vec<[u16; 3]>,
     pub read: u64,
     pub used: u64,
+    /// Repairs left.
+    pub allowance: u16,
 }
 
 /// Where the walk is inside one rule: the actions still to be done, the innermost list last.
@@ -35,13 +37,20 @@ struct Walk<'a> {
 }
 
 /// Walks a program from its first rule's start, at most so many steps.
-pub fn walk(program: &Program, tokens: &[u16], answers: &[u16], steps: usize) -> End {
-    follow(program, tokens, answers, steps, |_| ()).0
+pub fn walk(program: &Program, tokens: &[u16], answers: &[u16], allowance: u16, steps: usize) -> End {
+    follow(program, tokens, answers, allowance, steps, |_| ()).0
 }
 
 /// Such a walk, looked at after each step; with its end, the steps done.
-pub fn follow(program: &Program, tokens: &[u16], answers: &[u16], steps: usize, mut look: impl FnMut(&End)) -> (End, usize) {
-    let end = End { reason: None, events: Vec::new(), read: 0, used: 0 };
+pub fn follow(
+    program: &Program,
+    tokens: &[u16],
+    answers: &[u16],
+    allowance: u16,
+    steps: usize,
+    mut look: impl FnMut(&End),
+) -> (End, usize) {
+    let end = End { reason: None, events: Vec::new(), read: 0, used: 0, allowance };
     let mut walk = Walk { program, tokens, answers, places: vec![vec![Rest::List(&program.rules[0].acts)]], end };
     let mut done = 0;
     while done < steps && walk.end.reason.is_none() {
@@ -82,7 +91,7 @@ impl<'a> Walk<'a> {
         place.push(rest);
         match act {
             Act::Match(token) if self.present() == Some(*token) => self.end.read += 1,
-            Act::Match(_) => return Err(30),
+            Act::Match(token) => self.repair(*token)?,
             Act::Any if self.present().is_some() => self.end.read += 1,
             Act::Any => return Err(31),
             Act::Emit(token) => self.event(1, *token, None),
@@ -95,8 +104,14 @@ impl<'a> Walk<'a> {
             Act::Choice(choice) => match &choice.by {
                 By::Token => {
                     let token = self.present();
-                    let labelled = self.choose(choice, token, 30)?;
-                    self.end.read += u64::from(labelled);
+                    match self.choose(choice, token, 30) {
+                        Ok(labelled) => self.end.read += u64::from(labelled),
+                        Err(_) => {
+                            let (labels, acts) = choice.alternatives.first().expect("a choice has an alternative");
+                            self.repair(labels[0])?;
+                            self.place().push(Rest::List(acts));
+                        }
+                    }
                 }
                 By::Rule(rule) => {
                     self.place().push(Rest::Chooses(choice));
@@ -110,6 +125,13 @@ impl<'a> Walk<'a> {
                 }
             },
         }
+        Ok(())
+    }
+
+    /// A required token that is not there.
+    fn repair(&mut self, token: u16) -> Result<(), u16> {
+        self.end.allowance = self.end.allowance.checked_sub(1).ok_or(30u16)?;
+        self.event(4, token, None);
         Ok(())
     }
 
@@ -150,8 +172,8 @@ mod tests {
     #[track_caller]
     fn is(text: &str, tokens: &[u16], answers: &[u16], reason: u16, read: u64, used: u64, events: &[[u16; 3]]) {
         let program = resolve(text.as_bytes()).expect("accepted");
-        let end = walk(&program, tokens, answers, 10_000);
-        assert_eq!(end, End { reason: Some(reason), events: events.to_vec(), read, used }, "{text}");
+        let end = walk(&program, tokens, answers, 0, 10_000);
+        assert_eq!(end, End { reason: Some(reason), events: events.to_vec(), read, used, allowance: 0 }, "{text}");
     }
 
     #[test]
@@ -166,7 +188,7 @@ mod tests {
         let p2 = "input: a b blank illegalChar; error: badChar = 10; rules S: {[ | blank: | illegalChar: #badChar | *: > ]}; end";
         is(p2, &[2, 3, 2, 3, 0], &[], 0, 4, 0, &[[2, 10, 0], [2, 10, 0]]);
         let endless = resolve(b"rules M: { }; end").expect("accepted");
-        assert_eq!(walk(&endless, &[], &[], 1_000).reason, None);
+        assert_eq!(walk(&endless, &[], &[], 0, 1_000).reason, None);
     }
 
     #[test]

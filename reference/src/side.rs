@@ -14,7 +14,7 @@ pub struct Inputs<'a> {
 /// The entries of `sst.h`. A paused call reads no answers.
 pub trait Side {
     fn name(&self) -> &'static str;
-    fn fresh(&self, walk: &mut [u8]) -> u16;
+    fn fresh(&self, walk: &mut [u8], allowance: u16) -> u16;
     fn whole(&self, inputs: Inputs, budget: u64, walk: &mut [u8], events: &mut [u8]) -> Done;
     fn paused(&self, inputs: Inputs, given: u16, answer: u16, budget: u64, walk: &mut [u8], events: &mut [u8]) -> Done;
     fn phase(&self, walk: &[u8]) -> u16;
@@ -22,6 +22,7 @@ pub trait Side {
     fn location(&self, walk: &[u8]) -> u16;
     fn read(&self, walk: &[u8]) -> u64;
     fn used(&self, walk: &[u8]) -> u64;
+    fn allowance(&self, walk: &[u8]) -> u16;
 }
 
 /// What a call of the processor answers, the lent bytes apart.
@@ -69,11 +70,11 @@ impl Side for Reference {
         "rust"
     }
 
-    fn fresh(&self, walk: &mut [u8]) -> u16 {
+    fn fresh(&self, walk: &mut [u8], allowance: u16) -> u16 {
         if walk.len() != walker::WALK_BYTES {
             return REFUSED;
         }
-        walk.copy_from_slice(&Walk::fresh().encode());
+        walk.copy_from_slice(&Walk::mending(allowance).encode());
         0
     }
 
@@ -118,5 +119,9 @@ impl Side for Reference {
 
     fn used(&self, walk: &[u8]) -> u64 {
         Walk::decode(walk).map_or(0, |walk| walk.used)
+    }
+
+    fn allowance(&self, walk: &[u8]) -> u16 {
+        Walk::decode(walk).map_or(0, |walk| walk.allowance)
     }
 }

@@ -652,7 +652,7 @@ pub fn lead(seed: &mut Seed, program: &Program) -> (Vec<u16>, Vec<u16>) {
     let mut tokens: Vec<u16> = (0..seed.below(6)).map(|_| *seed.of(&wanted)).collect();
     let mut answers: Vec<u16> = Vec::new();
     for _ in 0..seed.below(30) {
-        let end = rules::walk(program, &tokens, &answers, 400);
+        let end = rules::walk(program, &tokens, &answers, 0, 400);
         let read = end.read as usize;
         match end.reason {
             Some(30) => {
@@ -662,7 +662,7 @@ pub fn lead(seed: &mut Seed, program: &Program) -> (Vec<u16>, Vec<u16>) {
                     let token = tries.swap_remove(seed.below(tries.len()));
                     tokens.truncate(read);
                     tokens.push(token);
-                    if rules::walk(program, &tokens, &answers, 400).read as usize > read {
+                    if rules::walk(program, &tokens, &answers, 0, 400).read as usize > read {
                         break;
                     }
                 }
@@ -757,9 +757,10 @@ mod tests {
             let Answer::Accepted { table, .. } = process(&text, MAX_TABLE) else { panic!("{n}") };
             let program = resolve(&text).expect("accepted");
             let (tokens, answers) = lead(&mut seed, &program);
-            let end = rules::walk(&program, &tokens, &answers, 1_500);
+            let allowance = if seed.one_in(2) { 0 } else { seed.below(40) as u16 };
+            let end = rules::walk(&program, &tokens, &answers, allowance, 1_500);
             let mut events = vec![0; 6 * 1_600];
-            let mut walk = walker::Walk::fresh();
+            let mut walk = walker::Walk::mending(allowance);
             let done = walker::whole(&bytes(&table), &bytes(&tokens), &bytes(&answers), 6_000, &mut walk, &mut events);
             let written = done.written as usize;
             let Some(reason) = end.reason else {
@@ -771,8 +772,8 @@ mod tests {
                 continue;
             };
             assert_eq!(
-                (done.number, walk.read, walk.used),
-                (reason, end.read, end.used),
+                (done.number, walk.read, walk.used, walk.allowance),
+                (reason, end.read, end.used, end.allowance),
                 "{n}: {}",
                 String::from_utf8_lossy(&text)
             );
@@ -797,7 +798,8 @@ mod tests {
             }
             let program = resolve(&text).expect("accepted");
             let (tokens, answers) = lead(&mut seed, &program);
-            let end = rules::walk(&program, &tokens, &answers, 100_000);
+            let allowance = if seed.one_in(2) { 0 } else { seed.below(40) as u16 };
+            let end = rules::walk(&program, &tokens, &answers, allowance, 100_000);
             assert!(end.reason.is_some(), "{n}: {}", String::from_utf8_lossy(&text));
         }
     }

@@ -1,7 +1,7 @@
 //! The walker, over words of 16 bits in byte slices, high byte first.
 
 /// The bytes of a walk.
-pub const WALK_BYTES: usize = 156;
+pub const WALK_BYTES: usize = 158;
 /// The most return locations that a walk holds.
 pub const MAX_RETURNS: usize = 64;
 /// The words of the largest table; words past them are outside.
@@ -63,6 +63,8 @@ pub struct Walk {
     pub parameter: u16,
     pub read: u64,
     pub used: u64,
+    /// Repairs left.
+    pub allowance: u16,
 }
 
 /// What a call answers: its number, the events it wrote and the steps it did.
@@ -88,7 +90,13 @@ impl Default for Walk {
 impl Walk {
     /// Going on at 1, the rest 0 or empty.
     pub fn fresh() -> Walk {
-        Walk { phase: Phase::Going, location: 1, returns: [0; MAX_RETURNS], held: 0, result: 0, parameter: 0, read: 0, used: 0 }
+        Walk::mending(0)
+    }
+
+    /// A fresh walk that may repair so many tokens.
+    pub fn mending(allowance: u16) -> Walk {
+        let returns = [0; MAX_RETURNS];
+        Walk { phase: Phase::Going, location: 1, returns, held: 0, result: 0, parameter: 0, read: 0, used: 0, allowance }
     }
 
     /// The one byte form of the walk.
@@ -101,15 +109,15 @@ impl Walk {
         };
         let held = self.held.min(MAX_RETURNS);
         let words = bytes.as_chunks_mut::<2>().0;
-        let head = [phase, reason, self.location, self.result, self.parameter, held as u16];
+        let head = [phase, reason, self.location, self.result, self.parameter, held as u16, self.allowance];
         for (word, value) in words.iter_mut().zip(head) {
             *word = value.to_be_bytes();
         }
-        for (word, value) in words[14..].iter_mut().zip(&self.returns[..held]) {
+        for (word, value) in words[15..].iter_mut().zip(&self.returns[..held]) {
             *word = value.to_be_bytes();
         }
-        bytes[12..20].copy_from_slice(&self.read.to_be_bytes());
-        bytes[20..28].copy_from_slice(&self.used.to_be_bytes());
+        bytes[14..22].copy_from_slice(&self.read.to_be_bytes());
+        bytes[22..30].copy_from_slice(&self.used.to_be_bytes());
         bytes
     }
 
@@ -126,14 +134,15 @@ impl Walk {
             _ => return None,
         };
         let held = usize::from(word(5));
-        if held > MAX_RETURNS || words[14 + held..].iter().any(|w| *w != [0, 0]) {
+        if held > MAX_RETURNS || words[15 + held..].iter().any(|w| *w != [0, 0]) {
             return None;
         }
         let mut returns = [0; MAX_RETURNS];
-        for (value, bytes) in returns.iter_mut().zip(&words[14..]) {
+        for (value, bytes) in returns.iter_mut().zip(&words[15..]) {
             *value = u16::from_be_bytes(*bytes);
         }
-        Some(Walk { phase, location: word(2), returns, held, result: word(3), parameter: word(4), read: long(6), used: long(10) })
+        let (result, parameter, allowance) = (word(3), word(4), word(6));
+        Some(Walk { phase, location: word(2), returns, held, result, parameter, read: long(7), used: long(11), allowance })
     }
 }
 
@@ -198,6 +207,7 @@ fn run(table: &[u8], tokens: &[u8], answers: Option<&[Word]>, budget: u64, walk:
         parameter: walk.parameter,
         read: walk.read,
         used: walk.used,
+        allowance: walk.allowance,
         written: 0,
     };
     let mut steps = 0;
@@ -221,7 +231,7 @@ fn run(table: &[u8], tokens: &[u8], answers: Option<&[Word]>, budget: u64, walk:
     // No location above 65,535 is ever gone to.
     let location = machine.location as u16;
     let (held, result, parameter) = (machine.held, machine.result, machine.parameter);
-    let (read, used) = (machine.read, machine.used);
+    let (read, used, allowance) = (machine.read, machine.used, machine.allowance);
     walk.phase = phase;
     walk.location = location;
     walk.held = held;
@@ -229,6 +239,7 @@ fn run(table: &[u8], tokens: &[u8], answers: Option<&[Word]>, budget: u64, walk:
     walk.parameter = parameter;
     walk.read = read;
     walk.used = used;
+    walk.allowance = allowance;
     done
 }
 
@@ -245,6 +256,7 @@ struct Machine<'a> {
     parameter: u16,
     read: u64,
     used: u64,
+    allowance: u16,
     written: usize,
 }
 
@@ -264,10 +276,15 @@ impl Machine<'_> {
             }
             3 => {
                 let token = self.operand()?;
-                if self.present() != Some(token) {
+                if self.present() == Some(token) {
+                    self.read += 1;
+                } else if self.allowance > 0 {
+                    self.room()?;
+                    self.event([4, token, 0]);
+                    self.allowance -= 1;
+                } else {
                     return Err(Halt::Stop(Reason::OtherToken));
                 }
-                self.read += 1;
                 self.location += 2;
             }
             4 => {
@@ -564,7 +581,7 @@ mod tests {
         assert!(with(0, 1) && with(0, 2) && !with(0, 3) && !with(0, 256));
         assert!(!with(1, 30) && !with(1, 37));
         assert!(with(5, 64) && !with(5, 65) && !with(5, 4) && with(5, 6));
-        assert!(with(18, 9) && !with(19, 1) && !with(77, 1));
+        assert!(with(6, 9) && with(6, 65535) && with(19, 9) && !with(20, 1) && !with(78, 1));
         let stopped = |reason: u16| {
             let mut bytes = good;
             bytes[1] = 2;
@@ -573,6 +590,30 @@ mod tests {
         };
         let reasons: Vec<u16> = (0..=65535).filter(|reason| stopped(*reason)).collect();
         assert_eq!(reasons, [0, 30, 31, 32, 33, 34, 37]);
+    }
+
+    #[test]
+    fn repairs() {
+        let mends = |allowance: u16, size: usize, table: &[u16], tokens: &[u16], budget: u64| {
+            whole_from(&Walk::mending(allowance), size, table, tokens, &[], budget)
+        };
+        let left = |run: &Ran| run.walk.allowance;
+        // There: read, also with no room.
+        assert_eq!(left(&mends(5, 0, &[3, 7, 9], &[7], 1).is(36, 1).events(&[]).at(3, 1, 0)), 5);
+        // Another, and none.
+        assert_eq!(left(&mends(5, 6, &[3, 7, 9], &[8], 1).is(36, 1).events(&[[4, 7, 0]]).at(3, 0, 0)), 4);
+        assert_eq!(left(&mends(1, 6, &[3, 7, 9], &[], 9).is(0, 2).events(&[[4, 7, 0]]).at(3, 0, 0)), 0);
+        // 35 before a repair; 30 with none left, room or not; `?` stays 31.
+        assert_eq!(left(&mends(5, 5, &[3, 7, 9], &[8], 9).is(35, 0).goes().events(&[]).at(1, 0, 0)), 5);
+        mends(0, 5, &[3, 7, 9], &[8], 9).is(30, 1).events(&[]).at(1, 0, 0);
+        assert_eq!(left(&mends(5, 60, &[4, 9], &[], 9).is(31, 1).events(&[])), 5);
+        // An input choice without otherwise.
+        let choice = [7, 3, 1, 8, 1, 1, 4, 3, 1, 2, 8, 9];
+        let run = mends(5, 60, &choice, &[2], 3);
+        run.is(36, 3).events(&[[4, 1, 0]]).at(3, 0, 0);
+        assert_eq!((left(&run), run.walk.result), (4, 2));
+        mends(5, 60, &choice, &[2], 9).is(0, 5).at(12, 0, 0);
+        mends(5, 5, &choice, &[2], 9).is(35, 1).at(8, 0, 0);
     }
 
     #[test]
@@ -589,11 +630,12 @@ mod tests {
             parameter: 0x0506,
             read: 0x0708_090A_0B0C_0D0E,
             used: u64::MAX - 1,
+            allowance: 0x0F10,
         };
         let form = walk.encode();
-        assert_eq!(form[..14], [0, 2, 0, 37, 1, 2, 3, 4, 5, 6, 0, 2, 7, 8]);
-        assert_eq!(form[14..28], [9, 10, 11, 12, 13, 14, 255, 255, 255, 255, 255, 255, 255, 254]);
-        assert_eq!(form[28..34], [255, 255, 255, 255, 0, 0]);
+        assert_eq!(form[..16], [0, 2, 0, 37, 1, 2, 3, 4, 5, 6, 0, 2, 15, 16, 7, 8]);
+        assert_eq!(form[16..30], [9, 10, 11, 12, 13, 14, 255, 255, 255, 255, 255, 255, 255, 254]);
+        assert_eq!(form[30..36], [255, 255, 255, 255, 0, 0]);
         // More than 64 are read as the first 64.
         walk.held = 1000;
         assert_eq!(walk.encode()[10..12], [0, 64]);

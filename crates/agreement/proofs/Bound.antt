@@ -1,4 +1,4 @@
--- From the start of a tree with no quiet cycle the rules' own walk is over or reads within the tree's weight and what its ways take.
+-- From the start of a tree with no quiet cycle the rules' own walk is over, reads or repairs within the tree's weight and what its ways take.
 use mathlib.Core.Bool.{Bool, true, false}
 use mathlib.Core.List.{List, [], _∷_}
 use mathlib.Core.Option.{Option, none, some}
@@ -6,12 +6,14 @@ use mathlib.Core.Path.{_≡_, refl}
 use native.Mathlib.Omega.{arith}
 use Prim.Native.Nat.{ℕ, zero, suc, _+_, _*_, _≤_, _<_}
 use lib.Dec.{ltb}
+use borrow.Author.Tests.{ltb-true}
+use Rattle.base.specs.Bools.{split}
 use lib.ListN.{length}
 use Rattle.base.specs.Common.{if_then_else_, member, given}
 use Rattle.base.specs.Tree.{plain, cycle, choice, done, _▸_, nil, alternative, absent, otherwise}
-use Rattle.events.specs.Events.{Event, output, signal, operation, operationWith, Reason, differs, missing, unlabelled, deep, Io, present, took, wrote, answered, is}
+use Rattle.events.specs.Events.{Event, output, signal, operation, operationWith, Reason, differs, missing, unlabelled, deep, Io, present, took, wrote, answered, mends, spent, repaired, is}
 use Rattle.finishing.specs.Finishing.{Way, toEnd, toExit, toBack, toGive, toCall, Away, away-exit, away-back, away-give, away-call, far-back, far-give, far-call, Path, path-emit, path-error, path-update, path-updateWith, path-call, path-calls, path-exit, path-back, path-give, path-out, path-in, path-selects, path-labelled, path-otherwise, Paths, paths-done, paths-here, paths-later, PathsSome, paths-this, paths-that, opens-operation, opens-operationWith, opens-rule, OpensElse, else-token, else-opens, Passed}
-use Rattle.ownwalk.specs.OwnWalk.{Context, inCycle, inAlternative, inOtherwise, Pending, before, beforeChoice, Own, on, choosing, stopped, nowhere, labelled, labelledBy, chosen, ended, left, gaveBack, nextAnswer, asked, entered, ownPlain, ownChoice, own}
+use Rattle.ownwalk.specs.OwnWalk.{Context, inCycle, inAlternative, inOtherwise, Pending, before, beforeChoice, Own, on, choosing, stopped, nowhere, labelled, labelledBy, chosen, repairedFirst, unmatched, ended, left, gaveBack, nextAnswer, asked, entered, ownPlain, ownChoice, own}
 use Rattle.program.proofs.Bounds.{SmallPlain, SmallSelector}
 use Rattle.program.specs.Program.{Plain, match, any, emit, error, exit, call, back, give, update, updateWith, Selector, byToken, byRule, byOperation, byOperationWith, Act, Acts, Alts, Other, Rule, bodyOf}
 
@@ -25,6 +27,17 @@ readOf (on q k ps io) = io .read
 readOf (choosing v al o q k ps io) = io .read
 readOf (stopped r io) = io .read
 readOf (nowhere io) = io .read
+
+-- what is left of the repair allowance
+unfoldable pub leftOf : Own → ℕ
+leftOf (on q k ps io) = io .allowance
+leftOf (choosing v al o q k ps io) = io .allowance
+leftOf (stopped r io) = io .allowance
+leftOf (nowhere io) = io .allowance
+
+-- from s to t a token is read or a repair is made: more is read than allowance comes back
+abbrev pub Uses : Own → Own → Type 0
+Uses s t = readOf s + leftOf t < readOf t + leftOf s
 
 -- The weight of a tree, where a call weighs c and some
 
@@ -58,12 +71,12 @@ unfoldable mutual
   weighOther c absent = 0
   weighOther c (otherwise b) = weighs c b
 
--- Steps that come to an end or to a read
+-- Steps that come to an end, to a read or to a repair
 
--- within n steps it is over or reads
+-- within n steps it is over, reads or repairs
 pub data Ends (step : Own → Own) : ℕ → Own → Type 0 where
   ends-over : {n : ℕ} {s : Own} → Over s → Ends step n s
-  ends-read : {n : ℕ} {s : Own} → readOf s < readOf (step s) → Ends step n s
+  ends-read : {n : ℕ} {s : Own} → Uses s (step s) → Ends step n s
   ends-step : {n : ℕ} {s : Own} → Ends step n (step s) → Ends step (suc n) s
 
 pub ends-more : {step : Own → Own} {n : ℕ} {s : Own} (m : ℕ) → n ≤ m → Ends step n s → Ends step m s
@@ -93,20 +106,45 @@ module _ {step : Own → Own} where
       ends-step x
 
   -- a test of the token, with one read where it holds
-  read-ends : {n : ℕ} (s t : Own) (r : Reason) (io : Io) (b : Bool) → step s ≡ (if b then t else stopped r io) → readOf s < readOf t → Ends step (suc n) s
+  read-ends : {n : ℕ} (s t : Own) (r : Reason) (io : Io) (b : Bool) → step s ≡ (if b then t else stopped r io) → Uses s t → Ends step (suc n) s
   read-ends s t r io true e h = ends-read {s = s} (rw e h)
   read-ends s t r io false e h = step-to s e (ends-over over-stopped)
+
+  -- a required token: read, repaired, or neither
+  required-ends : {n : ℕ} (s t t′ : Own) (r : Reason) (io : Io) (b c : Bool) → step s ≡ (if b then t else if c then t′ else stopped r io) → Uses s t → (c ≡ true → Uses s t′)
+      → Ends step (suc n) s
+  required-ends s t t′ r io true c e h h′ = ends-read {s = s} (rw e h)
+  required-ends s t t′ r io false true e h h′ =
+      let u : Uses s t′ = h′ refl in
+      ends-read {s = s} (rw e u)
+  required-ends s t t′ r io false false e h h′ = step-to s e (ends-over over-stopped)
 
   test-ends : {n : ℕ} (s t : Own) (r : Reason) (io : Io) (b : Bool) → step s ≡ (if b then t else stopped r io) → Ends step n t → Ends step (suc n) s
   test-ends s t r io true e h = step-to s e h
   test-ends s t r io false e h = step-to s e (ends-over over-stopped)
 
+  -- an input choice with no label for the token and no otherwise repairs or is over
+  first-ends : {n : ℕ} (s : Own) (al : Alts) (q : Acts) (k : List Context) (ps : List Pending) (io : Io) → step s ≡ repairedFirst al q k ps io → readOf s ≡ io .read → leftOf s ≡ io .allowance
+      → 0 < io .allowance → Ends step (suc n) s
+  unfolding repairedFirst repaired wrote spent readOf leftOf
+  first-ends s nil q k ps io e d g l = step-to s e (ends-over over-nowhere)
+  first-ends s (alternative [] b al) q k ps io e d g l = step-to s e (ends-over over-nowhere)
+  first-ends s (alternative (t ∷ ls) b al) q k ps io e d g l = ends-read {s = s} (rw (e, d, g) (omega arith))
+
+  unmatched-ends : {n : ℕ} (s : Own) (al : Alts) (q : Acts) (k : List Context) (ps : List Pending) (io : Io) → step s ≡ unmatched al q k ps io → readOf s ≡ io .read → leftOf s ≡ io .allowance
+      → Ends step (suc n) s
+  unfolding unmatched mends
+  unmatched-ends s al q k ps io e d g =
+      split (ltb 0 (io .allowance)) (λ t. first-ends s al q k ps io (rw t at e) d g (ltb-true 0 (io .allowance) t)) (λ f. step-to s (rw f at e) (ends-over over-stopped))
+
   -- an input choice reads where a label is
-  token-ends : {n : ℕ} (s : Own) (o : Other) (q : Acts) (k : List Context) (ps : List Pending) (io : Io) (f : Option Acts) → step s ≡ chosen f o q k ps differs io (took io) → readOf s ≡ io .read
-      → Ends step n (chosen none o q k ps differs io (took io)) → Ends step (suc n) s
-  unfolding chosen readOf took
-  token-ends s o q k ps io (some b) e d h = ends-read {s = s} (rw (e, d) (omega arith))
-  token-ends s o q k ps io none e d h = step-to s e h
+  token-ends : {n : ℕ} (s : Own) (al : Alts) (o : Other) (q : Acts) (k : List Context) (ps : List Pending) (io : Io) (f : Option Acts)
+      → step s ≡ chosen f o q k ps (unmatched al q k ps io) io (took io) → readOf s ≡ io .read → leftOf s ≡ io .allowance
+      → Ends step n (chosen none o q k ps (stopped differs io) io (took io)) → Ends step (suc n) s
+  unfolding chosen readOf leftOf took
+  token-ends s al o q k ps io (some b) e d g h = ends-read {s = s} (rw (e, d, g) (omega arith))
+  token-ends s al (otherwise b) q k ps io none e d g h = step-to s e h
+  token-ends s al absent q k ps io none e d g h = unmatched-ends s al q k ps io e d g
 
   asked-ends : {n : ℕ} (a : Option ℕ) (e : Event) (al : Alts) (o : Other) (q : Acts) (k : List Context) (ps : List Pending) (io : Io) → ((v : ℕ) (io₁ : Io) → Ends step n (choosing v al o q k ps io₁))
       → Ends step n (asked a e al o q k ps io)
@@ -115,8 +153,8 @@ module _ {step : Own → Own} where
   asked-ends (some v) e al o q k ps io h = h v (answered (wrote e io))
 
   -- a choice by a value, with what its labelled alternative and what otherwise takes
-  value-ends : {n : ℕ} {q : Acts} {k : List Context} {ps : List Pending} {io : Io} {f : Option Acts} (s : Own) (o : Other) → step s ≡ chosen f o q k ps unlabelled io io → Opt step n q k ps io f
-      → Ends step n (chosen none o q k ps unlabelled io io) → Ends step (suc n) s
+  value-ends : {n : ℕ} {q : Acts} {k : List Context} {ps : List Pending} {io : Io} {f : Option Acts} (s : Own) (o : Other) → step s ≡ chosen f o q k ps (stopped unlabelled io) io io → Opt step n q k ps io f
+      → Ends step n (chosen none o q k ps (stopped unlabelled io) io io) → Ends step (suc n) s
   unfolding chosen
   value-ends s o e opt-none h = step-to s e h
   value-ends s o e (opt-some x) h = step-to s e x
@@ -207,7 +245,7 @@ module _ (prog : List Rule) (tokens answers : List ℕ) where
 
     -- a choice by a value: x for the labelled alternatives, y for otherwise
     pub choosing-ends : (n x y : ℕ) (al : Alts) (o : Other) (q : Acts) (k : List Context) (ps : List Pending) → ((v : ℕ) (io : Io) → Opt (own prog tokens answers) (x + (n + 1)) q k ps io (labelled v al))
-        → ((io : Io) → EndsIn (y + (n + 1)) (chosen none o q k ps unlabelled io io)) → (v : ℕ) (io : Io) → EndsIn (2 + x + y + n) (choosing v al o q k ps io)
+        → ((io : Io) → EndsIn (y + (n + 1)) (chosen none o q k ps (stopped unlabelled io) io io)) → (v : ℕ) (io : Io) → EndsIn (2 + x + y + n) (choosing v al o q k ps io)
     unfolding own
     choosing-ends n x y al o q k ps ha ho v io =
         ends-more _ (omega arith)
@@ -216,9 +254,11 @@ module _ (prog : List Rule) (tokens answers : List ℕ) where
 
     plain-ends : (p : Plain) (q : Acts) (k : List Context) (ps : List Pending) (n : ℕ) → SmallPlain (length prog) p → ((w : Way) → Path prog w (plain p) → Goal c q k ps n w) → (io : Io)
         → EndsIn (weighPlain c p + n) (on (plain p ▸ q) k ps io)
-    unfolding weighPlain SmallPlain own ownPlain entered ended gaveBack Goal readOf took
+    unfolding weighPlain SmallPlain own ownPlain entered ended gaveBack Goal readOf leftOf took repaired wrote spent mends
     plain-ends (match t) q k ps n ok h io =
-        ends-more _ (omega arith) (read-ends {n = 0} (on (plain (match t) ▸ q) k ps io) (on q k ps (took io)) differs io (is t (present tokens io)) refl (omega arith))
+        ends-more _ (omega arith)
+        (required-ends {n = 0} (on (plain (match t) ▸ q) k ps io) (on q k ps (took io)) (on q k ps (repaired t io)) differs io (is t (present tokens io)) (mends io) refl (omega arith)
+        (λ l. omega (arith, ltb-true 0 (io .allowance) l)))
     plain-ends any q k ps n ok h io =
         ends-more _ (omega arith) (read-ends {n = 0} (on (plain any ▸ q) k ps io) (on q k ps (took io)) missing io (given (present tokens io)) refl (omega arith))
     plain-ends (emit t) q k ps n ok h io = ends-more _ (omega arith) (ends-step (h toEnd path-emit (wrote (output t) io)))
@@ -234,7 +274,7 @@ module _ (prog : List Rule) (tokens answers : List ℕ) where
     plain-ends (updateWith op v) q k ps n ok h io = ends-more _ (omega arith) (ends-step (h toEnd path-updateWith (wrote (operationWith op v) io)))
 
     mutual
-      unfolding weighs Tame SmallSelector own ownChoice Goal entered ended gaveBack readOf chosen labelled
+      unfolding weighs Tame SmallSelector own ownChoice Goal entered ended gaveBack readOf leftOf chosen labelled
 
       act-ends : (a : Act) (q : Acts) (k : List Context) (ps : List Pending) (n : ℕ) → Tame prog a → ((w : Way) → Path prog w a → Goal c q k ps n w) → (io : Io)
           → EndsIn (weigh c a + n) (on (a ▸ q) k ps io)
@@ -243,7 +283,7 @@ module _ (prog : List Rule) (tokens answers : List ℕ) where
           ends-more _ (omega arith) (ends-step (acts-ends b (inCycle b q ∷ k) ps n (ok .1) (cycle-goal b q k ps n (ok .0) h) io))
       act-ends (choice byToken al o) q k ps n ok h io =
           ends-more _ (omega arith)
-          (token-ends (on (choice byToken al o ▸ q) k ps io) o q k ps io (labelledBy (present tokens io) al) refl refl
+          (token-ends (on (choice byToken al o ▸ q) k ps io) al o q k ps io (labelledBy (present tokens io) al) refl refl refl
           (other-ends o byToken al q k ps n differs (ok .2) else-token h io (took io)))
       act-ends (choice (byRule r) al o) q k ps n ok h io =
           ends-more _ (omega arith)
@@ -275,7 +315,7 @@ module _ (prog : List Rule) (tokens answers : List ℕ) where
           (first-goal a q k ps n (λ p io₁. acts-ends q k ps n (ok .1) (λ w p₁. h w (paths-later p p₁)) io₁) (λ w x p. h w (paths-here x p))) io)
 
       pub other-ends : (o : Other) (s : Selector) (al : Alts) (q : Acts) (k : List Context) (ps : List Pending) (n : ℕ) (r : Reason) → TameOther prog o → OpensElse prog s
-          → ((w : Way) → Path prog w (choice s al o) → Goal c q k ps n w) → (io io′ : Io) → EndsIn (weighOther c o + (n + 1)) (chosen none o q k ps r io io′)
+          → ((w : Way) → Path prog w (choice s al o) → Goal c q k ps n w) → (io io′ : Io) → EndsIn (weighOther c o + (n + 1)) (chosen none o q k ps (stopped r io) io io′)
       other-ends absent s al q k ps n r ok op h io io′ = ends-over over-stopped
       other-ends (otherwise b) s al q k ps n r ok op h io io′ = acts-ends b (inOtherwise q ∷ k) ps (n + 1) ok (λ w p. otherwise-goal q k ps n w (h w (path-otherwise op p))) io
 

@@ -1,4 +1,4 @@
--- A finishing program's own walk is over within a budget that the program and the number of tokens give.
+-- A finishing program's own walk is over within a budget that the program, the number of tokens and the allowance give.
 use mathlib.Core.Bool.{Bool, true, false}
 use mathlib.Core.List.{List, [], _∷_}
 use mathlib.Core.Option.{Option, none, some}
@@ -9,13 +9,13 @@ use Prim.Native.Nat.{ℕ, zero, suc, _+_, _*_, _≤_, _<_}
 use lib.Dec.{ltb}
 use lib.ListN.{length, getElem?}
 use borrow.Author.Tests.{ltb-true}
-use Rattle.agreement.proofs.Bound.{Over, over-stopped, over-nowhere, readOf, weigh, weighs, weighAlts, weighOther, ends-over, ends-read, ends-step, ends-more, Tame, Tames, TameAlts, TameOther, EndsIn, Back, Goal, cycle-goal, choosing-ends, acts-ends, other-ends, alts-ends}
+use Rattle.agreement.proofs.Bound.{Over, over-stopped, over-nowhere, readOf, leftOf, weigh, weighs, weighAlts, weighOther, ends-over, ends-read, ends-step, ends-more, Tame, Tames, TameAlts, TameOther, EndsIn, Back, Goal, cycle-goal, choosing-ends, acts-ends, other-ends, alts-ends}
 use Rattle.agreement.proofs.BoundRules.{total, total-le, costs, tame-rule, any-rule}
 use Rattle.base.specs.Common.{if_then_else_, member, given}
 use Rattle.base.specs.Tree.{plain, cycle, choice, done, _▸_, nil, alternative, absent, otherwise}
-use Rattle.events.specs.Events.{Event, operation, operationWith, Reason, differs, missing, unlabelled, deep, Io, present, took, wrote, answered, is}
+use Rattle.events.specs.Events.{Event, operation, operationWith, Reason, differs, missing, unlabelled, deep, Io, present, took, wrote, answered, mends, spent, repaired, is}
 use Rattle.finishing.specs.Finishing.{Way, toEnd, toExit, toBack, toGive, toCall, opens-operation, else-opens, Finishing}
-use Rattle.ownwalk.specs.OwnWalk.{Context, inCycle, inAlternative, inOtherwise, Pending, before, beforeChoice, Own, on, choosing, stopped, nowhere, labelled, labelledBy, chosen, ended, left, gaveBack, nextAnswer, asked, entered, ownPlain, ownChoice, own, owns, ownStart}
+use Rattle.ownwalk.specs.OwnWalk.{Context, inCycle, inAlternative, inOtherwise, Pending, before, beforeChoice, Own, on, choosing, stopped, nowhere, labelled, labelledBy, chosen, repairedFirst, unmatched, ended, left, gaveBack, nextAnswer, asked, entered, ownPlain, ownChoice, own, owns, ownStart}
 use Rattle.program.proofs.Bounds.{SmallPlain, SmallSelector}
 use Rattle.program.specs.Accepted.{Accepted}
 use Rattle.program.specs.Program.{Plain, match, any, emit, error, exit, call, back, give, update, updateWith, Selector, byToken, byRule, byOperation, byOperationWith, Act, Acts, Alts, Other, Rule, bodyOf}
@@ -27,11 +27,11 @@ callCost prog = costs prog (length prog)
 allRules : List Rule → ℕ
 allRules prog = total (callCost prog) prog + 1
 
--- steps between two reads, at most: all the rules, in each of 65 places
+-- steps between two reads or repairs, at most: all the rules, in each of 65 places
 pub most : List Rule → ℕ
 most prog = 65 * allRules prog
 
--- steps of the rules' own walk over t tokens, at most
+-- steps of the rules' own walk over tokens and an allowance that are t together, at most
 pub budget : List Rule → ℕ → ℕ
 budget prog t = most prog + (t + 1) * (most prog + 1)
 
@@ -106,7 +106,7 @@ module _ (prog : List Rule) where
         → Good t (choosing v al o q k ps io)
     good-over : {s : Own} → Over s → Good t s
 
--- From such a state it is over or reads within `most`
+-- From such a state it is over, reads or repairs within `most`
 
 module _ (prog : List Rule) (ok : Accepted prog) (fin : Finishing prog) (tokens answers : List ℕ) where
   -- what follows a place takes, from the end of its list, from an exit, from a return
@@ -207,7 +207,7 @@ module _ (prog : List Rule) (ok : Accepted prog) (fin : Finishing prog) (tokens 
       ends-more _ (omega (arith, fits-le prog f, waits-le prog (w .waits), mul-le-mul-right (allRules prog) (w .few)))
       (choose-ends al o q k ps (weighAround prog k + weighPending prog ps) (t .0 .1) (t .0 .2) (t .1) (past ps (weighPending prog ps) f (waits-ends (w .waits))) v io)
 
--- A step leads from such a state to such a state, and unreads nothing
+-- A step leads from such a state to such a state; it unreads nothing, and gives no allowance back
 
 element-lt : (l : List ℕ) (i u : ℕ) → getElem? l i ≡ some u → i < length l
 element-lt [] i u h = let z : _≡_ {A = ℕ} 0 1 = cc in absurd (omega arith)
@@ -237,27 +237,27 @@ picked prog u (alternative ls d al) b o h = go (member u ls) (λ e. picked prog 
     go false ih e = let r = ih e in (r .0, omega (arith, r .1))
 
 module _ (prog : List Rule) (ok : Accepted prog) (fin : Finishing prog) (tokens answers : List ℕ) where
-  -- from a state with i tokens read
-  record Kept (i : ℕ) (s : Own) : Type 0 where
+  -- from a state with so many tokens read and so much allowance
+  record Kept (i a : ℕ) (s : Own) : Type 0 where
     good : Good prog (length tokens) s
-    onward : i ≤ readOf s
+    onward : i + leftOf s ≤ readOf s + a
 
   abbrev Here : Io → List Pending → Type 0
   Here io ps = Sits prog (length tokens) (io .read) ps
 
-  on-kept : {q : Acts} {k : List Context} {ps : List Pending} (io : Io) → Fits prog q k → Here io ps → Kept (io .read) (on q k ps io)
-  unfolding readOf
+  on-kept : {q : Acts} {k : List Context} {ps : List Pending} (io : Io) → Fits prog q k → Here io ps → Kept (io .read) (io .allowance) (on q k ps io)
+  unfolding readOf leftOf
   on-kept io f w = record { good = good-on f w; onward = le-refl _ }
 
-  stopped-kept : (r : Reason) (io : Io) → Kept (io .read) (stopped r io)
-  unfolding readOf
+  stopped-kept : (r : Reason) (io : Io) → Kept (io .read) (io .allowance) (stopped r io)
+  unfolding readOf leftOf
   stopped-kept r io = record { good = good-over over-stopped; onward = le-refl _ }
 
-  nowhere-kept : (io : Io) → Kept (io .read) (nowhere io)
-  unfolding readOf
+  nowhere-kept : (io : Io) → Kept (io .read) (io .allowance) (nowhere io)
+  unfolding readOf leftOf
   nowhere-kept io = record { good = good-over over-nowhere; onward = le-refl _ }
 
-  left-kept : {q : Acts} {k : List Context} {ps : List Pending} (io : Io) → Fits prog q k → Here io ps → Kept (io .read) (left k ps io)
+  left-kept : {q : Acts} {k : List Context} {ps : List Pending} (io : Io) → Fits prog q k → Here io ps → Kept (io .read) (io .allowance) (left k ps io)
   unfolding left
   left-kept io (fits-rule o h) w = nowhere-kept io
   left-kept io (fits-cycle o h f) w = on-kept io (fits-rest prog f) w
@@ -268,19 +268,19 @@ module _ (prog : List Rule) (ok : Accepted prog) (fin : Finishing prog) (tokens 
   sits-on : {i : ℕ} {p : Pending} {ps : List Pending} → Sits prog (length tokens) i (p ∷ ps) → Waits prog ps → Sits prog (length tokens) i ps
   sits-on h w = record { waits = w; few = omega (arith, h .few); within = h .within }
 
-  back-kept : (ps : List Pending) (io : Io) → Waits prog ps → Here io ps → Kept (io .read) (ended [] ps io)
+  back-kept : (ps : List Pending) (io : Io) → Waits prog ps → Here io ps → Kept (io .read) (io .allowance) (ended [] ps io)
   unfolding ended
   back-kept ps io waits-nil h = stopped-kept _ io
   back-kept ps io (waits-before f w) h = on-kept io f (sits-on h w)
   back-kept ps io (waits-choice s f w) h = nowhere-kept io
 
-  gave-kept : (v : ℕ) (ps : List Pending) (io : Io) → Waits prog ps → Here io ps → Kept (io .read) (gaveBack v ps io)
-  unfolding gaveBack readOf
+  gave-kept : (v : ℕ) (ps : List Pending) (io : Io) → Waits prog ps → Here io ps → Kept (io .read) (io .allowance) (gaveBack v ps io)
+  unfolding gaveBack readOf leftOf
   gave-kept v ps io waits-nil h = stopped-kept _ io
   gave-kept v ps io (waits-before f w) h = on-kept io f (sits-on h w)
   gave-kept v ps io (waits-choice s f w) h = record { good = good-choosing s f (sits-on h w); onward = le-refl _ }
 
-  ended-kept : {k : List Context} (ps : List Pending) (io : Io) → Fits prog done k → Here io ps → Kept (io .read) (ended k ps io)
+  ended-kept : {k : List Context} (ps : List Pending) (io : Io) → Fits prog done k → Here io ps → Kept (io .read) (io .allowance) (ended k ps io)
   unfolding ended Tame
   ended-kept ps io (fits-rule o h) w = back-kept ps io (w .waits) w
   ended-kept ps io (fits-cycle o h f) w = on-kept io (fits-cycle (fits-tame prog f .0 .1) (le-refl _) f) w
@@ -293,43 +293,76 @@ module _ (prog : List Rule) (ok : Accepted prog) (fin : Finishing prog) (tokens 
   sits-took io w h = record { waits = w .waits; few = w .few; within = omega (arith, given-lt tokens io (present tokens io) refl h) }
 
   took-kept : {q : Acts} {k : List Context} {ps : List Pending} (io : Io) (r : Reason) (b : Bool) → (b ≡ true → given (present tokens io) ≡ true) → Fits prog q k → Here io ps
-      → Kept (io .read) (if b then on q k ps (took io) else stopped r io)
-  unfolding took readOf
+      → Kept (io .read) (io .allowance) (if b then on q k ps (took io) else stopped r io)
+  unfolding took readOf leftOf
   took-kept io r true h f w = record { good = good-on f (sits-took io w (h refl)); onward = omega arith }
   took-kept io r false h f w = stopped-kept r io
 
-  -- a choice: io where no label is taken, io′ where one is
-  other-kept : (s : Selector) (al : Alts) (o : Other) (q : Acts) (k : List Context) (ps : List Pending) (r : Reason) (io io′ : Io) → Fits prog (choice s al o ▸ q) k → Here io ps
-      → Kept (io .read) (chosen none o q k ps r io io′)
+  -- with one repaired
+  repaired-kept : {q : Acts} {k : List Context} {ps : List Pending} (t : ℕ) (io : Io) → Fits prog q k → Here io ps → Kept (io .read) (io .allowance) (on q k ps (repaired t io))
+  unfolding repaired wrote spent readOf leftOf
+  repaired-kept t io f w = record { good = good-on f (record { waits = w .waits; few = w .few; within = w .within }); onward = omega arith }
+
+  required-kept : {q : Acts} {k : List Context} {ps : List Pending} (t : ℕ) (io : Io) (b c : Bool) → (b ≡ true → given (present tokens io) ≡ true) → Fits prog q k → Here io ps
+      → Kept (io .read) (io .allowance) (if b then on q k ps (took io) else if c then on q k ps (repaired t io) else stopped differs io)
+  unfolding took readOf leftOf
+  required-kept t io true c h f w = record { good = good-on f (sits-took io w (h refl)); onward = omega arith }
+  required-kept t io false true h f w = repaired-kept t io f w
+  required-kept t io false false h f w = stopped-kept differs io
+
+  -- an input choice with no label for the token and no otherwise
+  first-kept : (al : Alts) (o : Other) (q : Acts) (k : List Context) (ps : List Pending) (io : Io) → Fits prog (choice byToken al o ▸ q) k → Here io ps
+      → Kept (io .read) (io .allowance) (repairedFirst al q k ps io)
+  unfolding repairedFirst Tame weighs
+  first-kept nil o q k ps io f w = nowhere-kept io
+  first-kept (alternative [] b al) o q k ps io f w = nowhere-kept io
+  first-kept (alternative (t ∷ ls) b al) o q k ps io f w =
+      let h : weighs (callCost prog) b + 1 ≤ weigh (callCost prog) (choice byToken (alternative (t ∷ ls) b al) o) = omega arith in
+      repaired-kept t io (fits-alternative (choice byToken (alternative (t ∷ ls) b al) o) (fits-tame prog f .0 .1 .0) h f) w
+
+  unmatched-kept : (al : Alts) (o : Other) (q : Acts) (k : List Context) (ps : List Pending) (io : Io) → Fits prog (choice byToken al o ▸ q) k → Here io ps
+      → Kept (io .read) (io .allowance) (unmatched al q k ps io)
+  unfolding unmatched
+  unmatched-kept al o q k ps io f w = go (mends io)
+    where
+      go : (b : Bool) → Kept (io .read) (io .allowance) (if b then repairedFirst al q k ps io else stopped differs io)
+      go true = first-kept al o q k ps io f w
+      go false = stopped-kept differs io
+
+  -- a choice: io where no label is taken, io′ where one is, x where there is neither a label nor otherwise
+  other-kept : (s : Selector) (al : Alts) (o : Other) (q : Acts) (k : List Context) (ps : List Pending) (x : Own) (io io′ : Io) → Kept (io .read) (io .allowance) x
+      → Fits prog (choice s al o ▸ q) k → Here io ps → Kept (io .read) (io .allowance) (chosen none o q k ps x io io′)
   unfolding chosen Tame weighs
-  other-kept s al absent q k ps r io io′ f w = stopped-kept r io
-  other-kept s al (otherwise b) q k ps r io io′ f w =
+  other-kept s al absent q k ps x io io′ n f w = n
+  other-kept s al (otherwise b) q k ps x io io′ n f w =
       let h : weighs (callCost prog) b + 1 ≤ weigh (callCost prog) (choice s al (otherwise b)) = omega arith in
       on-kept io (fits-otherwise (choice s al (otherwise b)) (fits-tame prog f .0 .2) h f) w
 
-  chosen-kept : (s : Selector) (al : Alts) (o : Other) (q : Acts) (k : List Context) (ps : List Pending) (r : Reason) (io io′ : Io) (u : ℕ) (x : Option Acts) → labelled u al ≡ x → io .read ≤ io′ .read
-      → Fits prog (choice s al o ▸ q) k → Here io ps → Here io′ ps → Kept (io .read) (chosen x o q k ps r io io′)
-  unfolding chosen Tame weighs readOf
-  chosen-kept s al o q k ps r io io′ u none p y f w w′ = other-kept s al o q k ps r io io′ f w
-  chosen-kept s al o q k ps r io io′ u (some b) p y f w w′ =
+  chosen-kept : (s : Selector) (al : Alts) (o : Other) (q : Acts) (k : List Context) (ps : List Pending) (z : Own) (io io′ : Io) (u : ℕ) (x : Option Acts) → Kept (io .read) (io .allowance) z → labelled u al ≡ x
+      → io .read + io′ .allowance ≤ io′ .read + io .allowance → Fits prog (choice s al o ▸ q) k → Here io ps → Here io′ ps
+      → Kept (io .read) (io .allowance) (chosen x o q k ps z io io′)
+  unfolding chosen Tame weighs readOf leftOf
+  chosen-kept s al o q k ps z io io′ u none n p y f w w′ = other-kept s al o q k ps z io io′ n f w
+  chosen-kept s al o q k ps z io io′ u (some b) n p y f w w′ =
       let c = picked prog u al b (fits-tame prog f .0 .1) p in
       let h : weighs (callCost prog) b + 1 ≤ weigh (callCost prog) (choice s al o) = omega (arith, c .1) in
       record { good = good-on (fits-alternative (choice s al o) (c .0) h f) w′; onward = y }
 
   token-kept : (al : Alts) (o : Other) (q : Acts) (k : List Context) (ps : List Pending) (io : Io) (v : Option ℕ) → present tokens io ≡ v → Fits prog (choice byToken al o ▸ q) k → Here io ps
-      → Kept (io .read) (chosen (labelledBy v al) o q k ps differs io (took io))
+      → Kept (io .read) (io .allowance) (chosen (labelledBy v al) o q k ps (unmatched al q k ps io) io (took io))
   unfolding labelledBy took
-  token-kept al o q k ps io none e f w = other-kept byToken al o q k ps differs io (took io) f w
-  token-kept al o q k ps io (some u) e f w = chosen-kept byToken al o q k ps differs io (took io) u (labelled u al) refl (omega arith) f w (sits-took io w (rw e))
+  token-kept al o q k ps io none e f w = other-kept byToken al o q k ps (unmatched al q k ps io) io (took io) (unmatched-kept al o q k ps io f w) f w
+  token-kept al o q k ps io (some u) e f w =
+      chosen-kept byToken al o q k ps (unmatched al q k ps io) io (took io) u (labelled u al) (unmatched-kept al o q k ps io f w) refl (omega arith) f w (sits-took io w (rw e))
 
   asked-kept : (s : Selector) (al : Alts) (o : Other) (q : Acts) (k : List Context) (ps : List Pending) (io : Io) (e : Event) (a : Option ℕ) → Fits prog (choice s al o ▸ q) k → Here io ps
-      → Kept (io .read) (asked a e al o q k ps io)
-  unfolding asked answered wrote readOf
+      → Kept (io .read) (io .allowance) (asked a e al o q k ps io)
+  unfolding asked answered wrote readOf leftOf
   asked-kept s al o q k ps io e none f w = stopped-kept _ io
   asked-kept s al o q k ps io e (some v) f w = record { good = good-choosing s f w; onward = le-refl _ }
 
   entered-kept : (r : ℕ) (p : Pending) (ps : List Pending) (io : Io) (b : Bool) → ltb (length ps) 64 ≡ b → r < length prog → Waits prog (p ∷ ps) → Here io ps
-      → Kept (io .read) (if b then on (bodyOf prog r) [] (p ∷ ps) io else stopped deep io)
+      → Kept (io .read) (io .allowance) (if b then on (bodyOf prog r) [] (p ∷ ps) io else stopped deep io)
   unfolding allRules
   entered-kept r p ps io true e l x w =
       let h : weighs (callCost prog) (bodyOf prog r) + 1 ≤ total (callCost prog) prog + 1 = omega (arith, total-le (callCost prog) prog r) in
@@ -337,9 +370,9 @@ module _ (prog : List Rule) (ok : Accepted prog) (fin : Finishing prog) (tokens 
       on-kept io (fits-rule (tame-rule prog ok fin r l) h) (record { waits = x; few = few; within = w .within })
   entered-kept r p ps io false e l x w = stopped-kept deep io
 
-  plain-kept : (p : Plain) (q : Acts) (k : List Context) (ps : List Pending) (io : Io) → Fits prog (plain p ▸ q) k → Here io ps → Kept (io .read) (ownPlain prog tokens answers p q k ps io)
+  plain-kept : (p : Plain) (q : Acts) (k : List Context) (ps : List Pending) (io : Io) → Fits prog (plain p ▸ q) k → Here io ps → Kept (io .read) (io .allowance) (ownPlain prog tokens answers p q k ps io)
   unfolding ownPlain entered Tame SmallPlain wrote
-  plain-kept (match t) q k ps io f w = took-kept io differs (is t (present tokens io)) (is-given t (present tokens io)) (fits-rest prog f) w
+  plain-kept (match t) q k ps io f w = required-kept t io (is t (present tokens io)) (mends io) (is-given t (present tokens io)) (fits-rest prog f) w
   plain-kept any q k ps io f w = took-kept io missing (given (present tokens io)) (λ e. e) (fits-rest prog f) w
   plain-kept (emit t) q k ps io f w = on-kept (wrote _ io) (fits-rest prog f) w
   plain-kept (error t) q k ps io f w = on-kept (wrote _ io) (fits-rest prog f) w
@@ -351,18 +384,18 @@ module _ (prog : List Rule) (ok : Accepted prog) (fin : Finishing prog) (tokens 
   plain-kept (updateWith op v) q k ps io f w = on-kept (wrote _ io) (fits-rest prog f) w
 
   choice-kept : (s : Selector) (al : Alts) (o : Other) (q : Acts) (k : List Context) (ps : List Pending) (io : Io) → Fits prog (choice s al o ▸ q) k → Here io ps
-      → Kept (io .read) (ownChoice prog tokens answers s al o q k ps io)
+      → Kept (io .read) (io .allowance) (ownChoice prog tokens answers s al o q k ps io)
   unfolding ownChoice entered Tame SmallSelector
   choice-kept byToken al o q k ps io f w = token-kept al o q k ps io (present tokens io) refl f w
   choice-kept (byRule r) al o q k ps io f w = entered-kept r (beforeChoice al o q k) ps io (ltb (length ps) 64) refl (fits-tame prog f .0 .0) (waits-choice (byRule r) f (w .waits)) w
   choice-kept (byOperation op) al o q k ps io f w = asked-kept (byOperation op) al o q k ps io (operation op) (nextAnswer answers io) f w
   choice-kept (byOperationWith op v) al o q k ps io f w = asked-kept (byOperationWith op v) al o q k ps io (operationWith op v) (nextAnswer answers io) f w
 
-  kept : {s : Own} → Good prog (length tokens) s → Kept (readOf s) (own prog tokens answers s)
-  unfolding own readOf Tame
+  kept : {s : Own} → Good prog (length tokens) s → Kept (readOf s) (leftOf s) (own prog tokens answers s)
+  unfolding own readOf leftOf Tame
   kept (good-over over-stopped) = stopped-kept _ _
   kept (good-over over-nowhere) = nowhere-kept _
-  kept (good-choosing {v = v} {al = al} {o = o} {q = q} {k = k} {ps = ps} {io = io} s f w) = chosen-kept s al o q k ps unlabelled io io v (labelled v al) refl (le-refl _) f w w
+  kept (good-choosing {v = v} {al = al} {o = o} {q = q} {k = k} {ps = ps} {io = io} s f w) = chosen-kept s al o q k ps (stopped unlabelled io) io io v (labelled v al) (stopped-kept unlabelled io) refl (le-refl _) f w w
   kept (good-on {q = done} {ps = ps} {io = io} f w) = ended-kept ps io f w
   kept (good-on {q = plain p ▸ q} {k = k} {ps = ps} {io = io} f w) = plain-kept p q k ps io f w
   kept (good-on {q = cycle b ▸ q} {io = io} f w) = on-kept io (fits-cycle (fits-tame prog f .0 .1) (le-refl _) f) w
@@ -374,9 +407,9 @@ module _ (prog : List Rule) (ok : Accepted prog) (fin : Finishing prog) (tokens 
     few : steps ≤ m
     over : Over (owns prog tokens answers steps s)
 
-  -- x: one more than the tokens left after the next read; n: steps until that
-  inner : (x : ℕ) → ((s : Own) → Good prog (length tokens) s → length tokens < readOf s + x → OverBy (most prog + x * (most prog + 1)) s)
-      → {n : ℕ} {s : Own} → EndsIn prog tokens answers n s → Good prog (length tokens) s → length tokens < readOf s + suc x → OverBy (n + suc x * (most prog + 1)) s
+  -- x: one more than the tokens and repairs left after the next one; n: steps until that
+  inner : (x : ℕ) → ((s : Own) → Good prog (length tokens) s → length tokens + leftOf s < readOf s + x → OverBy (most prog + x * (most prog + 1)) s)
+      → {n : ℕ} {s : Own} → EndsIn prog tokens answers n s → Good prog (length tokens) s → length tokens + leftOf s < readOf s + suc x → OverBy (n + suc x * (most prog + 1)) s
   unfolding owns
   inner x next (ends-over o) g h = record { steps = 0; few = omega arith; over = o }
   inner x next (ends-read {s = s} r) g h =
@@ -387,19 +420,20 @@ module _ (prog : List Rule) (ok : Accepted prog) (fin : Finishing prog) (tokens 
       let a = inner x next e (k .good) (omega (arith, k .onward)) in
       record { steps = suc (a .steps); few = omega (arith, a .few); over = a .over }
 
-  over-by : (x : ℕ) (s : Own) → Good prog (length tokens) s → length tokens < readOf s + x → OverBy (most prog + x * (most prog + 1)) s
-  unfolding owns readOf
+  over-by : (x : ℕ) (s : Own) → Good prog (length tokens) s → length tokens + leftOf s < readOf s + x → OverBy (most prog + x * (most prog + 1)) s
+  unfolding owns readOf leftOf
   over-by zero s (good-over o) h = record { steps = 0; few = omega arith; over = o }
   over-by zero s (good-on f w) h = absurd (omega (arith, w .within))
   over-by zero s (good-choosing c f w) h = absurd (omega (arith, w .within))
   over-by (suc x) s g h = inner x (λ s₁ g₁ h₁. over-by x s₁ g₁ h₁) (good-ends prog ok fin tokens answers g) g h
 
--- "fixed by the program and the number of tokens": whatever the tokens and the answers
-pub finishes : (prog : List Rule) (tokens answers : List ℕ) → Accepted prog → Finishing prog → (j : ℕ) × (j ≤ budget prog (length tokens)) × Over (owns prog tokens answers j (ownStart prog))
-unfolding budget ownStart allRules readOf
-finishes prog tokens answers ok fin =
+-- "fixed by the program and the number of tokens", and "now also depends on the allowance": whatever the tokens and the answers
+pub finishes : (prog : List Rule) (tokens answers : List ℕ) (allowance : ℕ) → Accepted prog → Finishing prog
+    → (j : ℕ) × (j ≤ budget prog (length tokens + allowance)) × Over (owns prog tokens answers j (ownStart prog allowance))
+unfolding budget ownStart allRules readOf leftOf
+finishes prog tokens answers allowance ok fin =
     let h : weighs (callCost prog) (bodyOf prog 0) + 1 ≤ total (callCost prog) prog + 1 = omega (arith, total-le (callCost prog) prog 0) in
     let here : Sits prog (length tokens) 0 [] = record { waits = waits-nil; few = omega arith; within = omega arith } in
-    let place : Good prog (length tokens) (ownStart prog) = good-on (fits-rule (tame-rule prog ok fin 0 (ok .some-rule)) h) here in
-    let a = over-by prog ok fin tokens answers (length tokens + 1) (ownStart prog) place (omega arith) in
+    let place : Good prog (length tokens) (ownStart prog allowance) = good-on (fits-rule (tame-rule prog ok fin 0 (ok .some-rule)) h) here in
+    let a = over-by prog ok fin tokens answers (length tokens + allowance + 1) (ownStart prog allowance) place (omega arith) in
     (a .steps, a .few, a .over)

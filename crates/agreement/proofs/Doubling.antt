@@ -174,11 +174,11 @@ module _ (d : ℕ) (tokens answers : List ℕ) where
           (call-through (chain d) tokens answers (suc r) done [] ps io (omega arith) (f done) (a-step no-step))
 
   -- 64 calls are pending at most
-  pub doubles : d ≤ 64 → (j : ℕ) → Over (owns (chain d) tokens answers j (ownStart (chain d))) → 2 ^ d ≤ j
+  pub doubles : (allowance : ℕ) → d ≤ 64 → (j : ℕ) → Over (owns (chain d) tokens answers j (ownStart (chain d) allowance)) → 2 ^ d ≤ j
   unfolding ownStart
-  doubles h j o = omega (arith, count-le d, not-before (chain d) tokens answers (walks d 0 [] _ (omega arith) (omega arith)) j o)
+  doubles allowance h j o = omega (arith, count-le d, not-before (chain d) tokens answers (walks d 0 [] _ (omega arith) (omega arith)) j o)
 
 pub budget-doubles : (d : ℕ) → d ≤ 64 → 2 ^ d ≤ budget (chain d) 0
 budget-doubles d h =
-    let x = finishes (chain d) [] [] (chain-accepted d) (chain-finishing d) in
-    omega (arith, x .1, doubles d [] [] h (x .0) (x .2))
+    let x = finishes (chain d) [] [] 0 (chain-accepted d) (chain-finishing d) in
+    omega (arith, x .1, doubles d [] [] 0 h (x .0) (x .2))

@@ -8,9 +8,9 @@ use lib.Dec.{ltb}
 use lib.ListN.{length}
 use Rattle.agreement.specs.Demand.{eventsOf, Begins}
 use Rattle.base.specs.Common.{if_then_else_, given}
-use Rattle.base.specs.Tree.{plain, cycle, choice, done, _▸_, absent, otherwise}
-use Rattle.events.specs.Events.{Event, output, signal, operation, operationWith, Reason, differs, missing, unlabelled, deep, Io, present, took, wrote, answered, is}
-use Rattle.ownwalk.specs.OwnWalk.{Context, inCycle, inAlternative, inOtherwise, Pending, before, beforeChoice, Own, on, choosing, stopped, nowhere, labelled, labelledBy, chosen, ended, left, gaveBack, nextAnswer, asked, entered, ownPlain, ownChoice, own, owns}
+use Rattle.base.specs.Tree.{plain, cycle, choice, done, _▸_, nil, alternative, absent, otherwise}
+use Rattle.events.specs.Events.{Event, output, signal, operation, operationWith, repair, differs, missing, unlabelled, deep, Io, present, took, wrote, answered, mends, spent, repaired, is}
+use Rattle.ownwalk.specs.OwnWalk.{Context, inCycle, inAlternative, inOtherwise, Pending, before, beforeChoice, Own, on, choosing, stopped, nowhere, labelled, labelledBy, chosen, repairedFirst, unmatched, ended, left, gaveBack, nextAnswer, asked, entered, ownPlain, ownChoice, own, owns}
 use Rattle.program.specs.Program.{Plain, match, any, emit, error, exit, call, back, give, update, updateWith, Selector, byToken, byRule, byOperation, byOperationWith, Acts, Alts, Other, Rule, bodyOf}
 
 pub stays : (a : List Event) → Begins a a
@@ -49,12 +49,22 @@ gave-grows v [] io = stays (io .events)
 gave-grows v (before q k ∷ ps) io = stays (io .events)
 gave-grows v (beforeChoice al o q k ∷ ps) io = stays (io .events)
 
-chosen-grows : (f : Option Acts) (o : Other) (q : Acts) (k : List Context) (ps : List Pending) (r : Reason) (io io′ : Io) → Begins (io .events) (io′ .events)
-    → Begins (io .events) (eventsOf (chosen f o q k ps r io io′))
+chosen-grows : (f : Option Acts) (o : Other) (q : Acts) (k : List Context) (ps : List Pending) (s : Own) (io io′ : Io) → Begins (io .events) (io′ .events) → Begins (io .events) (eventsOf s)
+    → Begins (io .events) (eventsOf (chosen f o q k ps s io io′))
 unfolding chosen eventsOf
-chosen-grows (some b) o q k ps r io io′ h = h
-chosen-grows none (otherwise b) q k ps r io io′ h = stays (io .events)
-chosen-grows none absent q k ps r io io′ h = stays (io .events)
+chosen-grows (some b) o q k ps s io io′ h g = h
+chosen-grows none (otherwise b) q k ps s io io′ h g = stays (io .events)
+chosen-grows none absent q k ps s io io′ h g = g
+
+first-grows : (al : Alts) (q : Acts) (k : List Context) (ps : List Pending) (io : Io) → Begins (io .events) (eventsOf (repairedFirst al q k ps io))
+unfolding repairedFirst repaired spent wrote eventsOf
+first-grows nil q k ps io = stays (io .events)
+first-grows (alternative [] b al) q k ps io = stays (io .events)
+first-grows (alternative (t ∷ ls) b al) q k ps io = one-more (io .events) (repair t)
+
+unmatched-grows : (al : Alts) (q : Acts) (k : List Context) (ps : List Pending) (io : Io) → Begins (io .events) (eventsOf (unmatched al q k ps io))
+unfolding unmatched eventsOf
+unmatched-grows al q k ps io = test (mends io) (io .events) (repairedFirst al q k ps io) (stopped differs io) (first-grows al q k ps io) (stays (io .events))
 
 asked-grows : (a : Option ℕ) (e : Event) (al : Alts) (o : Other) (q : Acts) (k : List Context) (ps : List Pending) (io : Io) → Begins (io .events) (eventsOf (asked a e al o q k ps io))
 unfolding asked answered wrote eventsOf
@@ -67,8 +77,9 @@ module _ (prog : List Rule) (tokens answers : List ℕ) where
   entered-grows r p ps io = test (ltb (length ps) 64) (io .events) (on (bodyOf prog r) [] (p ∷ ps) io) (stopped deep io) (stays (io .events)) (stays (io .events))
 
   plain-grows : (p : Plain) (q : Acts) (k : List Context) (ps : List Pending) (io : Io) → Begins (io .events) (eventsOf (ownPlain prog tokens answers p q k ps io))
-  unfolding ownPlain eventsOf took wrote
-  plain-grows (match t) q k ps io = test (is t (present tokens io)) (io .events) (on q k ps (took io)) (stopped differs io) (stays (io .events)) (stays (io .events))
+  unfolding ownPlain eventsOf took wrote repaired spent
+  plain-grows (match t) q k ps io = test (is t (present tokens io)) (io .events) (on q k ps (took io)) _ (stays (io .events))
+      (test (mends io) (io .events) (on q k ps (repaired t io)) (stopped differs io) (one-more (io .events) (repair t)) (stays (io .events)))
   plain-grows any q k ps io = test (given (present tokens io)) (io .events) (on q k ps (took io)) (stopped missing io) (stays (io .events)) (stays (io .events))
   plain-grows (emit t) q k ps io = one-more (io .events) (output t)
   plain-grows (error t) q k ps io = one-more (io .events) (signal t)
@@ -81,7 +92,7 @@ module _ (prog : List Rule) (tokens answers : List ℕ) where
 
   choice-grows : (s : Selector) (al : Alts) (o : Other) (q : Acts) (k : List Context) (ps : List Pending) (io : Io) → Begins (io .events) (eventsOf (ownChoice prog tokens answers s al o q k ps io))
   unfolding ownChoice took
-  choice-grows byToken al o q k ps io = chosen-grows (labelledBy (present tokens io) al) o q k ps differs io (took io) (stays (io .events))
+  choice-grows byToken al o q k ps io = chosen-grows (labelledBy (present tokens io) al) o q k ps (unmatched al q k ps io) io (took io) (stays (io .events)) (unmatched-grows al q k ps io)
   choice-grows (byRule r) al o q k ps io = entered-grows r (beforeChoice al o q k) ps io
   choice-grows (byOperation op) al o q k ps io = asked-grows (nextAnswer answers io) (operation op) al o q k ps io
   choice-grows (byOperationWith op v) al o q k ps io = asked-grows (nextAnswer answers io) (operationWith op v) al o q k ps io
@@ -92,7 +103,7 @@ module _ (prog : List Rule) (tokens answers : List ℕ) where
   own-grows (on (plain p ▸ q) k ps io) = plain-grows p q k ps io
   own-grows (on (cycle b ▸ q) k ps io) = stays (io .events)
   own-grows (on (choice s al o ▸ q) k ps io) = choice-grows s al o q k ps io
-  own-grows (choosing v al o q k ps io) = chosen-grows (labelled v al) o q k ps unlabelled io io (stays (io .events))
+  own-grows (choosing v al o q k ps io) = chosen-grows (labelled v al) o q k ps (stopped unlabelled io) io io (stays (io .events)) (stays (io .events))
   own-grows (stopped r io) = stays (io .events)
   own-grows (nowhere io) = stays (io .events)
 

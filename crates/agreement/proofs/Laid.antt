@@ -272,12 +272,13 @@ module _ (T : List ℕ) (start : ℕ → ℕ) (prog : List Rule) where
       plain-end (lay-updateWith (seg-two s) d) (omega arith)
 
   -- what stands where there is no otherwise
-  laid-input : (v : Bool) (q : Alts) (x d l l′ e : ℕ) → Labelled q → Seg T l (3 ∷ firstLabel q ∷ 2 ∷ d ∷ [])
+  laid-input : (v : Bool) (q : Alts) (x d l l′ e : ℕ) → l + 3 ≡ l′ + d → Labelled q → Seg T l (3 ∷ firstLabel q ∷ 2 ∷ d ∷ [])
       → LayOther T start prog v true absent x (pairs l′ q) l e
   unfolding Labelled pairs entries firstLabel firstOf lengthOf lengths decodeWord decodeTwo
-  laid-input v nil x d l l′ e ok s = absurd ok
-  laid-input v (alternative [] b q) x d l l′ e ok s = absurd ok
-  laid-input v (alternative (u ∷ ls) b q) x d l l′ e ok s = other-input (seg-two s)
+  laid-input v nil x d l l′ e z ok s = absurd ok
+  laid-input v (alternative [] b q) x d l l′ e z ok s = absurd ok
+  laid-input v (alternative (u ∷ ls) b q) x d l l′ e z ok s =
+      other-input (seg-two s) (seg-jumpBack l′ (omega arith) (seg-after 2 (3 ∷ u ∷ []) (2 ∷ d ∷ []) refl s))
 
   laid-end : (v : Bool) (x l e : ℕ) (ps : List Entry) → Seg T l (12 ∷ []) → LayOther T start prog v false absent x ps l e
   unfolding lengthOf lengths decodeOne
@@ -289,13 +290,13 @@ module _ (T : List ℕ) (start : ℕ → ℕ) (prog : List Rule) where
   isToken (byOperation op) = false
   isToken (byOperationWith op u) = false
 
-  laid-absent : (s : Selector) (v : Bool) (q : Alts) (x d l l′ e : ℕ) → NeedsLabel s absent q → Seg T l (absentWords s (firstLabel q) d)
+  laid-absent : (s : Selector) (v : Bool) (q : Alts) (x d l l′ e : ℕ) → l + 3 ≡ l′ + d → NeedsLabel s absent q → Seg T l (absentWords s (firstLabel q) d)
       → LayOther T start prog v (isToken s) absent x (pairs l′ q) l e
   unfolding NeedsLabel absentWords isToken
-  laid-absent byToken v q x d l l′ e ok t = laid-input v q x d l l′ e ok t
-  laid-absent (byRule r) v q x d l l′ e ok t = laid-end v x l e (pairs l′ q) t
-  laid-absent (byOperation op) v q x d l l′ e ok t = laid-end v x l e (pairs l′ q) t
-  laid-absent (byOperationWith op u) v q x d l l′ e ok t = laid-end v x l e (pairs l′ q) t
+  laid-absent byToken v q x d l l′ e z ok t = laid-input v q x d l l′ e z ok t
+  laid-absent (byRule r) v q x d l l′ e z ok t = laid-end v x l e (pairs l′ q) t
+  laid-absent (byOperation op) v q x d l l′ e z ok t = laid-end v x l e (pairs l′ q) t
+  laid-absent (byOperationWith op u) v q x d l l′ e z ok t = laid-end v x l e (pairs l′ q) t
 
   -- the parts of a choice that stand at its instruction, at l
   data Parts (v i : Bool) (q : Alts) (o : Other) (x l e : ℕ) : Type 0 where
@@ -305,12 +306,12 @@ module _ (T : List ℕ) (start : ℕ → ℕ) (prog : List Rule) where
   parts-at : {v i : Bool} {q : Alts} {o : Other} {x l l′ e : ℕ} → Parts v i q o x l e → l ≡ l′ → Parts v i q o x l′ e
   parts-at {v} {i} {q} {o} {x} {e = e} h p = subst (λ (z : ℕ). Parts v i q o x z e) p h
 
-  laid-token : {v : Bool} {q : Alts} {o : Other} {x l e : ℕ} {ws : List ℕ} → Seg T l (7 ∷ (sizeAlts q + 1) ∷ ws) → Parts v true q o x l e
+  laid-token : {v : Bool} {q : Alts} {o : Other} {x l e : ℕ} {ws : List ℕ} → NeedsLabel byToken o q → Seg T l (7 ∷ (sizeAlts q + 1) ∷ ws) → Parts v true q o x l e
       → Lay T start prog v (choice byToken q o) x l e
   unfolding lengthOf lengths decodeWord decodeTwo
-  laid-token {q = q} {l = l} t (parts {c = c} z tb a b) =
+  laid-token {q = q} {l = l} nl t (parts {c = c} z tb a b) =
       let d : decode T l ≡ inputChoice c = seg-two t ∙ ap inputChoice (omega arith) in
-      lay-token d tb a b
+      lay-token nl d tb a b
 
   laid-result : {v : Bool} {q : Alts} {o : Other} {x l e : ℕ} {ws : List ℕ} → Seg T l (11 ∷ (sizeAlts q + 1) ∷ ws) → Parts v false q o x l e
       → LayChoice T start prog v q o x l e
@@ -320,17 +321,17 @@ module _ (T : List ℕ) (start : ℕ → ℕ) (prog : List Rule) where
       lay-choice d tb a b
 
   -- behind its selector
-  laid-choice : (s : Selector) (v : Bool) (q : Alts) (o : Other) (x l e : ℕ) (ws : List ℕ) → OkSelector prog s
+  laid-choice : (s : Selector) (v : Bool) (q : Alts) (o : Other) (x l e : ℕ) (ws : List ℕ) → OkSelector prog s → NeedsLabel s o q
       → Seg T l (selectorWords start s ++ (choiceNumber s ∷ (sizeAlts q + 1) ∷ ws)) → Parts v (isToken s) q o x (l + sizeSelector s) e
       → Lay T start prog v (choice s q o) x l e
   unfolding selectorWords choiceNumber isToken OkSelector sizeSelector lengthOf lengths decodeWord decodeTwo
-  laid-choice byToken v q o x l e ws ok t p = laid-token t (parts-at p (omega arith))
-  laid-choice (byRule r) v q o x l e ws ok t p =
+  laid-choice byToken v q o x l e ws ok nl t p = laid-token nl t (parts-at p (omega arith))
+  laid-choice (byRule r) v q o x l e ws ok nl t p =
       lay-rule (seg-two t) ok (laid-result (seg-after 2 (8 ∷ start r ∷ []) (11 ∷ (sizeAlts q + 1) ∷ ws) refl t) p)
-  laid-choice (byOperation op) v q o x l e ws ok t p =
+  laid-choice (byOperation op) v q o x l e ws ok nl t p =
       let d : decode T l ≡ choose op = seg-operation (omega (arith, ok .0)) (omega (arith, ok .1)) t ∙ is-choose op (ok .0) (ok .1) in
       lay-operation d (laid-result (seg-after 1 (op ∷ []) (11 ∷ (sizeAlts q + 1) ∷ ws) refl t) p)
-  laid-choice (byOperationWith op u) v q o x l e ws ok t p =
+  laid-choice (byOperationWith op u) v q o x l e ws ok nl t p =
       let t₂ = seg-after 2 (13 ∷ u ∷ []) (op ∷ 11 ∷ (sizeAlts q + 1) ∷ ws) refl t in
       let d : decode T (l + 2) ≡ chooseWith op = seg-operation (omega (arith, ok .0)) (ok .1) t₂ ∙ is-chooseWith op (ok .0) in
       lay-operationWith (seg-two t) d (laid-result (seg-after 1 (op ∷ []) (11 ∷ (sizeAlts q + 1) ∷ ws) refl t₂) (parts-at p (omega arith)))
@@ -358,11 +359,11 @@ module _ (T : List ℕ) (start : ℕ → ℕ) (prog : List Rule) where
         let s₂ = seg-after 2 (choiceNumber sl ∷ (sizeAlts q + 1) ∷ []) (as₁ ++ ts) refl s₁ in
         let s₃ = seg-after (sizeAlts q) as₁ ts (length-alts start q out z) s₂ in
         let s₄ = seg-after (1 + 2 * countLabels q) (countLabels q ∷ tableWords 1 q) os (omega (arith, length-tableWords 1 q)) s₃ in
-        laid-choice sl v q o x l (l + size (choice sl q o)) (as₁ ++ ts) (ok .0) s
+        laid-choice sl v q o x l (l + size (choice sl q o)) (as₁ ++ ts) (ok .0) (ok .3) s
         (parts {c = l₁ + 2 + sizeAlts q} {ps = pairs (l₁ + 2) q} refl (laid-table T q (l₁ + 2) os s₃)
         (laid-alts q v c out z x (l + size (choice sl q o)) (l₁ + 2) (ok .1) hx (omega arith) (seg-left as₁ ts s₂))
         (other-at
-        (laid-other o sl v c q out d x (l₁ + 2 + sizeAlts q + (1 + 2 * countLabels q)) (l₁ + 2) (ok .2) (ok .3) (λ e. omega (arith, hx e)) s₄)
+        (laid-other o sl v c q out d x (l₁ + 2 + sizeAlts q + (1 + 2 * countLabels q)) (l₁ + 2) (omega arith) (ok .2) (ok .3) (λ e. omega (arith, hx e)) s₄)
         (omega (arith, pairs-length (l₁ + 2) q)) (omega arith)))
 
     laids : (q : Acts) (v c : Bool) (out x l : ℕ) → Oks prog q v c → (c ≡ true → x ≡ l + sizes q + out) → Seg T l (codes start q out)
@@ -387,11 +388,11 @@ module _ (T : List ℕ) (start : ℕ → ℕ) (prog : List Rule) where
         (laid-alts q v c out z x y (l + sizes b + 2) (ok .2) hx (omega arith)
         (seg-after 2 (1 ∷ (1 + sizeAlts q + z) ∷ []) (codeAlts start q out z) refl s₂))
 
-    laid-other : (o : Other) (sl : Selector) (v c : Bool) (q : Alts) (out d x l l′ : ℕ) → OkOther prog o v c → NeedsLabel sl o q
+    laid-other : (o : Other) (sl : Selector) (v c : Bool) (q : Alts) (out d x l l′ : ℕ) → l + 3 ≡ l′ + d → OkOther prog o v c → NeedsLabel sl o q
         → (c ≡ true → x ≡ l + sizeOther o (sizeAbsent sl) + out) → Seg T l (codeOther start o out (absentWords sl (firstLabel q) d))
         → LayOther T start prog v (isToken sl) o x (pairs l′ q) l (l + sizeOther o (sizeAbsent sl))
-    laid-other absent sl v c q out d x l l′ ok nl hx s = laid-absent sl v q x d l l′ (l + sizeAbsent sl) nl s
-    laid-other (otherwise b) sl v c q out d x l l′ ok nl hx s = other-is (laids b v c out x l ok hx s)
+    laid-other absent sl v c q out d x l l′ z ok nl hx s = laid-absent sl v q x d l l′ (l + sizeAbsent sl) z nl s
+    laid-other (otherwise b) sl v c q out d x l l′ z ok nl hx s = other-is (laids b v c out x l ok hx s)
 
   -- Rules
 

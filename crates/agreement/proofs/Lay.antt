@@ -14,7 +14,7 @@ use Rattle.machine.specs.Step.{seek}
 use Rattle.machine.specs.Walk.{going, stopped, Walk}
 use Rattle.ownwalk.specs.OwnWalk as rules
 use Rattle.ownwalk.specs.OwnWalk.{Context, inCycle, inAlternative, inOtherwise, Pending, before, beforeChoice, Own, on, choosing}
-use Rattle.program.specs.Accepted.{Calls}
+use Rattle.program.specs.Accepted.{Calls, NeedsLabel}
 use Rattle.program.specs.Past.{exitsAll, exitsSome, exitsOther, pastAll, pastSome, pastOther}
 use Rattle.program.specs.Program.{Plain, match, any, emit, error, exit, call, back, give, update, updateWith, byToken, byRule, byOperation, byOperationWith, Act, Acts, Alts, Other, Rule}
 
@@ -83,7 +83,7 @@ module _ (T : List ℕ) (start : ℕ → ℕ) (prog : List Rule) where
     pub data Lay (v : Bool) : Act → ℕ → ℕ → ℕ → Type 0 where
       lay-plain : {p : Plain} {x l e : ℕ} → LayPlain v p x l e → Lay v (plain p) x l e
       lay-cycle : {b : Acts} {x l m : ℕ} → Lays v b (m + 2) l m → decode T m ≡ jump l → Lay v (cycle b) x l (m + 2)
-      lay-token : {q : Alts} {o : Other} {x l e c : ℕ} {ps : List Entry} → decode T l ≡ inputChoice c → Table T c ps
+      lay-token : {q : Alts} {o : Other} {x l e c : ℕ} {ps : List Entry} → NeedsLabel byToken o q → decode T l ≡ inputChoice c → Table T c ps
           → LayAlts v q x e (l + 2) ps → LayOther v true o x ps (c + 1 + 2 * length ps) e → Lay v (choice byToken q o) x l e
       lay-rule : {r x l e : ℕ} {q : Alts} {o : Other} → decode T l ≡ callRule (start r) → Calls prog r true
           → LayChoice v q o x (l + 2) e → Lay v (choice (byRule r) q o) x l e
@@ -109,7 +109,7 @@ module _ (T : List ℕ) (start : ℕ → ℕ) (prog : List Rule) where
 
     -- true: of an input choice
     pub data LayOther (v : Bool) : Bool → Other → ℕ → List Entry → ℕ → ℕ → Type 0 where
-      other-input : {x u a l e : ℕ} {ps : List Entry} → decode T l ≡ input u → LayOther v true absent x ((u, a) ∷ ps) l e
+      other-input : {x u a l e : ℕ} {ps : List Entry} → decode T l ≡ input u → decode T (l + 2) ≡ jump a → LayOther v true absent x ((u, a) ∷ ps) l e
       other-end : {x l e : ℕ} {ps : List Entry} → decode T l ≡ endChoice → LayOther v false absent x ps l e
       other-is : {i : Bool} {b : Acts} {x l e : ℕ} {ps : List Entry} → Lays v b x l e → LayOther v i (otherwise b) x ps l e
 

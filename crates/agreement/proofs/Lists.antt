@@ -11,12 +11,12 @@ use borrow.Author.Tests.{ltb-true, ltb-false, lt-leb, le-leb}
 use Rattle.base.specs.Bools.{split}
 use Rattle.base.specs.Common.{if_then_else_, given}
 use Rattle.events.specs.Events
-use Rattle.events.specs.Events.{Event, output, signal, Reason, finished, differs, missing, unlabelled, deep, unanswered, outside, reasonNumber, isChoice, choices, answer, is, present}
+use Rattle.events.specs.Events.{Event, output, signal, repair, Reason, finished, differs, missing, unlabelled, deep, unanswered, outside, reasonNumber, isChoice, choices, answer, mends, is, present}
 use Rattle.machine.specs.Decode.{fetch, Instruction, invalid, jump, input, inputAny, write, inputChoice, callRule, return, setResult, choice, endChoice, setParameter, update, updateWith, choose, chooseWith, decodeOperation, decodeTwo, decodeOne, decodeWord, decodeAt, decode}
 use Rattle.machine.specs.Lengths.{lengthOf}
 use Rattle.machine.specs.Walk
 use Rattle.machine.specs.Walk.{Phase, going, waiting, stopped, Walk, fresh, moved, withReturns, withResult, withIo, inPhase, withAnswer, first64, atRest}
-use Rattle.machine.specs.Step.{Next, goesOutside, stops, goes, tells, asks, goTo, seekBy, landed, branched, inputChoosing, calling, returning, exec, step}
+use Rattle.machine.specs.Step.{Next, goesOutside, stops, goes, tells, asks, goTo, seekBy, landed, branched, inputChoosing, calling, returning, requiring, exec, step}
 use Rattle.machine.specs.Call
 use Rattle.machine.specs.Call.{Mode, whole, paused, Called, ends, endsFor, keeps, writing, Turn, over, further, takes, handsOut, turn, run, callIn, callWalk}
 use Rattle.agreement.specs.Demand.{wanted, Allowed, Listed, begin, then-call}
@@ -24,7 +24,7 @@ use Rattle.agreement.proofs.Single.{taking, done, oneIn, one, runs}
 
 -- a walk with these events in place of its own
 unfoldable pub withEvents : List Event → Walk → Walk
-withEvents es w = withIo (record { read = w .io .read; used = w .io .used; events = es }) w
+withEvents es w = withIo (record { read = w .io .read; used = w .io .used; allowance = w .io .allowance; events = es }) w
 
 -- a walk with the events of earlier calls before its own
 unfoldable pub withEarlier : List Event → Walk → Walk
@@ -95,13 +95,17 @@ module _ (es : List Event) where
     returning-earlier [] w = refl
     returning-earlier (l ∷ rs) w = goTo-earlier l (withReturns rs w)
 
+    requiring-earlier : (t : ℕ) (b : Bool) (w : Walk) → requiring T tokens t b (withEarlier es w) ≡ earlier es (requiring T tokens t b w)
+    unfolding requiring earlier withEarlier withEvents Walk.opened Events.opened
+    requiring-earlier t true w = refl
+    requiring-earlier t false w =
+        if-earlier (mends (w .io)) (tells (repair t) (moved (w .location + 2) (withIo (Events.spent (w .io)) w))) (stops differs) _ _ refl refl
+
     exec-earlier : (i : Instruction) (w : Walk) → exec T tokens i (withEarlier es w) ≡ earlier es (exec T tokens i w)
     unfolding exec earlier withEarlier withEvents Walk.opened Events.opened
     exec-earlier invalid w = refl
     exec-earlier (jump l) w = goTo-earlier l w
-    exec-earlier (input t) w =
-        let on = goes (moved (w .location + 2) (withIo (Events.took (w .io)) w)) in
-        if-earlier (is t (present tokens (w .io))) on (stops differs) _ _ refl refl
+    exec-earlier (input t) w = requiring-earlier t (is t (present tokens (w .io))) w
     exec-earlier inputAny w =
         let on = goes (moved (w .location + 1) (withIo (Events.took (w .io)) w)) in
         if-earlier (given (present tokens (w .io))) on (stops missing) _ _ refl refl
@@ -188,7 +192,7 @@ kind : (T : List ℕ) (l : ℕ) → Kind (decode T l)
 unfolding decode
 kind T l = kind-at l (fetch T l) (fetch T (suc l))
 
--- what an instruction leaves as it is: all of the walk but location, result, parameter, tokens read and return locations, of which there
+-- what an instruction leaves as it is: all of the walk but location, result, parameter, tokens read, allowance and return locations, of which there
 -- are no more than 64 if there were no more
 pub record Keeps (w v : Walk) : Type 0 where
   pub phase : v .phase ≡ w .phase
@@ -218,17 +222,17 @@ if-after : (u : Walk) (b : Bool) (x y : Next) → (b ≡ true → After u x) →
 if-after u true x y p q = p refl
 if-after u false x y p q = q refl
 
--- with another location, result, parameter and count of tokens read
-kept : (w : Walk) (l v p n : ℕ)
+-- with another location, result, parameter, count of tokens read and allowance
+kept : (w : Walk) (l v p n a : ℕ)
     → Keeps w (record {
       phase = w .phase;
       location = l;
       returns = w .returns;
       result = v;
       parameter = p;
-      io = record { read = n; used = w .io .used; events = w .io .events };
+      io = record { read = n; used = w .io .used; allowance = a; events = w .io .events };
     })
-kept w l v p n = record { phase = refl; used = refl; events = refl; returns = λ h. h }
+kept w l v p n a = record { phase = refl; used = refl; events = refl; returns = λ h. h }
 
 module _ (T tokens : List ℕ) (u : Walk) where
   goTo-after : (l : ℕ) (w : Walk) → Keeps u w → After u (goTo T tokens l w)
@@ -255,11 +259,11 @@ module _ (T tokens : List ℕ) (u : Walk) where
 
   inputChoosing-after : (o : Option ℕ) (c : ℕ) → After u (inputChoosing T tokens o c u)
   unfolding inputChoosing Walk.opened Events.opened
-  inputChoosing-after none c = branched-after (fetch T c) none c u u (kept u _ _ _ _) (kept u _ _ _ _)
+  inputChoosing-after none c = branched-after (fetch T c) none c u u (kept u _ _ _ _ _) (kept u _ _ _ _ _)
   inputChoosing-after (some t) c =
       branched-after (fetch T c) (some t) c (withIo (Events.took (u .io)) (withResult t u)) (withResult t u)
-      (kept u _ _ _ _)
-      (kept u _ _ _ _)
+      (kept u _ _ _ _ _)
+      (kept u _ _ _ _ _)
 
   calling-after : (l : ℕ) → After u (calling T tokens l u)
   unfolding calling Walk.opened
@@ -279,28 +283,33 @@ module _ (T tokens : List ℕ) (u : Walk) where
       let s : length (u .returns) ≡ suc (length rs) = ap length e in
       goTo-after l (withReturns rs u) (record { phase = refl; used = refl; events = refl; returns = λ h. omega (arith, s) })
 
+  requiring-after : (t : ℕ) (b : Bool) → After u (requiring T tokens t b u)
+  unfolding requiring isChoice Walk.opened Events.opened
+  requiring-after t true = after-goes _ (kept u _ _ _ _ _)
+  requiring-after t false =
+      if-after u (mends (u .io)) (tells (repair t) (moved (u .location + 2) (withIo (Events.spent (u .io)) u))) (stops differs)
+      (λ _. after-tells _ _ refl (kept u _ _ _ _ _)) (λ _. after-stop differs tt)
+
   exec-after : (i : Instruction) → Kind i → After u (exec T tokens i u)
   unfolding exec Kind isChoice Walk.opened Events.opened
   exec-after invalid k = after-outside
-  exec-after (jump l) k = goTo-after l u (kept u _ _ _ _)
-  exec-after (input t) k =
-      if-after u (is t (present tokens (u .io))) _ (stops differs)
-      (λ _. after-goes _ (kept u _ _ _ _)) (λ _. after-stop differs tt)
+  exec-after (jump l) k = goTo-after l u (kept u _ _ _ _ _)
+  exec-after (input t) k = requiring-after t (is t (present tokens (u .io)))
   exec-after inputAny k =
       if-after u (given (present tokens (u .io))) _ (stops missing)
-      (λ _. after-goes _ (kept u _ _ _ _)) (λ _. after-stop missing tt)
-  exec-after (write e) k = after-tells e _ k (kept u _ _ _ _)
+      (λ _. after-goes _ (kept u _ _ _ _ _)) (λ _. after-stop missing tt)
+  exec-after (write e) k = after-tells e _ k (kept u _ _ _ _ _)
   exec-after (inputChoice c) k = inputChoosing-after (present tokens (u .io)) c
   exec-after (callRule l) k = calling-after l
   exec-after return k = returning-after (u .returns) refl
-  exec-after (setResult v) k = after-goes _ (kept u _ _ _ _)
-  exec-after (choice c) k = branched-after (fetch T c) (some (u .result)) c u u (kept u _ _ _ _) (kept u _ _ _ _)
+  exec-after (setResult v) k = after-goes _ (kept u _ _ _ _ _)
+  exec-after (choice c) k = branched-after (fetch T c) (some (u .result)) c u u (kept u _ _ _ _ _) (kept u _ _ _ _ _)
   exec-after endChoice k = after-stop unlabelled tt
-  exec-after (setParameter v) k = after-goes _ (kept u _ _ _ _)
-  exec-after (update op) k = after-tells _ _ k (kept u _ _ _ _)
-  exec-after (updateWith op) k = after-tells _ _ k (kept u _ _ _ _)
-  exec-after (choose op) k = after-asks _ _ k refl (kept u _ _ _ _)
-  exec-after (chooseWith op) k = after-asks _ _ k refl (kept u _ _ _ _)
+  exec-after (setParameter v) k = after-goes _ (kept u _ _ _ _ _)
+  exec-after (update op) k = after-tells _ _ k (kept u _ _ _ _ _)
+  exec-after (updateWith op) k = after-tells _ _ k (kept u _ _ _ _ _)
+  exec-after (choose op) k = after-asks _ _ k refl (kept u _ _ _ _ _)
+  exec-after (chooseWith op) k = after-asks _ _ k refl (kept u _ _ _ _ _)
 
   pub step-after : After u (step T tokens u)
   unfolding step
@@ -429,17 +438,18 @@ module _ (T tokens answers : List ℕ) where
   runs-suc zero w = refl
   runs-suc (suc n) w = runs-suc n (one T tokens answers w)
 
-  -- the walks that so many single steps of a fresh walk lead to
-  abbrev pub after : ℕ → Walk
-  after n = runs T tokens answers n fresh
-
-  pub kept-after : (n : ℕ) → Kept (after n)
-  unfolding fresh choices
-  kept-after n = kept-runs n fresh (record { used = refl; returns = omega arith })
-
   pub one-going : (w : Walk) → w .phase ≡ going → one T tokens answers w ≡ done T tokens answers (step T tokens w) w
   unfolding one oneIn
   one-going w g = rw g
+
+module _ (T tokens answers : List ℕ) (allowance : ℕ) where
+  -- the walks that so many single steps of a fresh walk lead to
+  abbrev pub after : ℕ → Walk
+  after n = runs T tokens answers n (fresh allowance)
+
+  pub kept-after : (n : ℕ) → Kept (after n)
+  unfolding fresh choices
+  kept-after n = kept-runs T tokens answers n (fresh allowance) (record { used = refl; returns = omega arith })
 
   -- where a list of calls has led: to this walk, with these events and so many steps in all
   pub data Where (w : Walk) (es : List Event) (n : ℕ) : Type 0 where
@@ -457,7 +467,7 @@ module _ (T tokens answers : List ℕ) where
       → es ≡ v .io .events ++ (e ∷ []) → after (suc k) ≡ taking (wanted answers es) e v′ v
   unfolding done
   asked-next k v v′ e es a g s q =
-      runs-suc k fresh ∙ ap (one T tokens answers) a ∙ one-going v g ∙ ap (λ nx. done T tokens answers nx v) s
+      runs-suc T tokens answers k (fresh allowance) ∙ ap (one T tokens answers) a ∙ one-going T tokens answers v g ∙ ap (λ nx. done T tokens answers nx v) s
       ∙ ap (λ o. taking o e v′ v) (sym (ap (wanted answers) q ∙ wanted-asked answers (v .io .events) e (step-asked T tokens v v′ e s .choice)))
 
   -- A call
@@ -489,7 +499,7 @@ module _ (T tokens answers : List ℕ) where
     unfolding withEarlier withEvents withIo
     next-within n w nx g d s =
         let e : k + (n + 1) ≡ suc (k + n) = omega arith in
-        ap after e ∙ runs-suc (k + n) fresh ∙ ap (one T tokens answers) (sym d) ∙ one-going (withEarlier es w) g
+        ap after e ∙ runs-suc T tokens answers (k + n) (fresh allowance) ∙ ap (one T tokens answers) (sym d) ∙ one-going T tokens answers (withEarlier es w) g
         ∙ ap (λ x. done T tokens answers x (withEarlier es w)) (step-earlier es T tokens w ∙ ap (earlier es) s)
 
     waited : (n number : ℕ) (w v : Walk) (e : Event) → w .phase ≡ going → Within n w → Keeps w v → step T tokens w ≡ asks e v
@@ -614,7 +624,7 @@ module _ (T tokens answers : List ℕ) where
   in-phase (stopped r) (paused none) budget room w es n g a h = repeats w es n r g h
   in-phase (stopped r) (paused (some x)) budget room w es n g a h = refused w es n h
 
-  pub listed-where : {w : Walk} {es : List Event} {n : ℕ} {ns : List ℕ} → Listed T tokens answers w es n ns → Where w es n
+  pub listed-where : {w : Walk} {es : List Event} {n : ℕ} {ns : List ℕ} → Listed T tokens answers allowance w es n ns → Where w es n
   unfolding callWalk fresh runs withEvents withIo
   listed-where begin = lives (going-waiting refl) refl
   listed-where (then-call {w = w} {es = es} {n = n} l m budget room a) = in-phase (w .phase) m budget room w es n refl a (listed-where l)
@@ -687,7 +697,7 @@ module _ (T tokens answers : List ℕ) where
   in-phase-37 (stopped r) (paused none) budget room w g = λ z. g ∙ ap stopped (outside-37 r z)
   in-phase-37 (stopped r) (paused (some x)) budget room w g = λ z. absurd (omega arith)
 
-  pub number-37 : {w : Walk} {es : List Event} {n number : ℕ} {ns : List ℕ} → Listed T tokens answers w es n (number ∷ ns) → number ≡ 37
+  pub number-37 : {w : Walk} {es : List Event} {n number : ℕ} {ns : List ℕ} → Listed T tokens answers allowance w es n (number ∷ ns) → number ≡ 37
       → w .phase ≡ stopped outside
   unfolding callWalk
   number-37 (then-call {w = w} l m budget room a) z = in-phase-37 (w .phase) m budget room w refl z

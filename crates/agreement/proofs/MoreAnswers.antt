@@ -66,17 +66,18 @@ module _ (T tokens answers : List ℕ) (x : ℕ) where
   one-from w waiting e g = e ∙ (rw e at g)
   one-from w (stopped r) e g = e ∙ (rw e at g)
 
-  pub alike : (n : ℕ) → runs T tokens answers n fresh .phase ≡ going → Alike (runs T tokens answers n fresh) (runs T tokens More n fresh)
+  pub alike : (allowance n : ℕ) → runs T tokens answers n (fresh allowance) .phase ≡ going
+      → Alike (runs T tokens answers n (fresh allowance)) (runs T tokens More n (fresh allowance))
   unfolding runs fresh choices
-  alike zero g = record { same = refl; taken = omega arith }
-  alike (suc n) g =
-      let w = runs T tokens answers n fresh in
-      let s = runs-suc T tokens answers n fresh in
+  alike allowance zero g = record { same = refl; taken = omega arith }
+  alike allowance (suc n) g =
+      let w = runs T tokens answers n (fresh allowance) in
+      let s = runs-suc T tokens answers n (fresh allowance) in
       let g₁ : one T tokens answers w .phase ≡ going = ap (λ (u : Walk). u .phase) (sym s) ∙ g in
       let g₂ = one-from w (w .phase) refl g₁ in
-      let ih = alike n g₂ in
+      let ih = alike allowance n g₂ in
       let d = one-going T tokens answers w g₂ in
       let h = alike-done w (step-after T tokens w) (ih .taken) (ap (λ (u : Walk). u .phase) (sym d) ∙ g₁) in
-      let m : runs T tokens More (suc n) fresh ≡ done T tokens More (step T tokens w) w =
-      runs-suc T tokens More n fresh ∙ ap (one T tokens More) (ih .same) ∙ one-going T tokens More w g₂ in
+      let m : runs T tokens More (suc n) (fresh allowance) ≡ done T tokens More (step T tokens w) w =
+      runs-suc T tokens More n (fresh allowance) ∙ ap (one T tokens More) (ih .same) ∙ one-going T tokens More w g₂ in
       record { same = m ∙ h .same ∙ sym (s ∙ d); taken = rw (s ∙ d) (h .taken) }

@@ -1,4 +1,4 @@
--- Each step of the rules' own walk is none, one or two instructions of the table.
+-- Each step of the rules' own walk is none, one, two or three instructions of the table.
 use Prim.Native.Nat.{ℕ, suc, _+_, _-_, _*_, _<_}
 use native.Mathlib.Omega.{arith}
 use mathlib.Core.Path.{_≡_, refl, sym, ap, _∙_}
@@ -8,17 +8,17 @@ use mathlib.Core.List.{List, [], _∷_}
 use lib.Dec.{eqb, ltb}
 use lib.ListN.{length}
 use borrow.Author.Tests.{eqb-true, eq-eqb}
-use Rattle.base.specs.Bools.{never, or₁, or₂, both, same}
+use Rattle.base.specs.Bools.{never, or₁, or₂, both, same, split}
 use Rattle.base.specs.Common.{if_then_else_, member, given}
-use Rattle.base.specs.Tree.{plain, cycle, choice, done, _▸_, alternative}
-use Rattle.events.specs.Events.{Event, operation, operationWith, Reason, differs, missing, unlabelled, deep, Io, present, took, is}
+use Rattle.base.specs.Tree.{plain, cycle, choice, done, _▸_, nil, alternative, absent, otherwise}
+use Rattle.events.specs.Events.{Event, operation, operationWith, repair, Reason, differs, missing, unlabelled, deep, Io, present, took, mends, spent, repaired, is}
 use Rattle.machine.specs.Call.{writing}
 use Rattle.machine.specs.Decode.{fetch, Instruction, invalid, jump, input, inputAny, write, inputChoice, callRule, return, setResult, choice as byResult, endChoice, setParameter, update as updates, updateWith as updatesWith, choose, chooseWith, decodeAt, decode}
-use Rattle.machine.specs.Step.{stops, goes, goTo, seekBy, landed, branched, inputChoosing, calling, returning, exec, step}
+use Rattle.machine.specs.Step.{stops, goes, tells, goTo, seekBy, landed, branched, inputChoosing, calling, returning, requiring, exec, step}
 use Rattle.machine.specs.Walk.{Walk, moved, withReturns, withResult, withParameter, withIo, inPhase, withAnswer}
 use Rattle.ownwalk.specs.OwnWalk as rules
-use Rattle.ownwalk.specs.OwnWalk.{Context, inCycle, inAlternative, inOtherwise, Pending, Own, on, choosing, labelled, labelledBy, chosen, ended, left, gaveBack, nextAnswer, asked, entered, ownPlain, ownChoice, own}
-use Rattle.program.specs.Accepted.{Calls}
+use Rattle.ownwalk.specs.OwnWalk.{Context, inCycle, inAlternative, inOtherwise, Pending, Own, on, choosing, labelled, labelledBy, chosen, repairedFirst, unmatched, ended, left, gaveBack, nextAnswer, asked, entered, ownPlain, ownChoice, own}
+use Rattle.program.specs.Accepted.{Calls, Labelled, NeedsLabel}
 use Rattle.program.specs.Past.{plainPast, isExit, exits, exitsAll, exitsSome, exitsOther, past, pastAll, pastSome, pastOther}
 use Rattle.program.specs.Program.{Plain, match, any, emit, error, exit, call, update, updateWith, byToken, byRule, byOperation, byOperationWith, Act, Acts, Alts, Other, Rule, ruleOf, bodyOf}
 use Rattle.agreement.proofs.Single.{taking, done as doing, oneIn, one}
@@ -81,11 +81,6 @@ missed (some u) v a ps h = same (eqb v u) (eqb u v) (λ e. eq-eqb u v (sym (eqb-
     go : (t : Bool) → (if t then some a else lookup u ps) ≡ none → t ≡ false
     go true e = cc
     go false e = refl
-
--- an input choice; a choice by the result
-why : Bool → Reason
-why true = differs
-why false = unlabelled
 
 -- what inputChoice makes of the result
 orElse : Option ℕ → ℕ → ℕ
@@ -169,7 +164,7 @@ module _ (T : List ℕ) (start : ℕ → ℕ) (prog : List Rule) where
     lay-good : (a : Act) {v : Bool} {x l e : ℕ} → Lay T start prog v a x l e → good (decode T l) ≡ true
     lay-good (plain p) (lay-plain h) = plain-good h
     lay-good (cycle b) (lay-cycle h d) = lays-good b h (λ g. rw d)
-    lay-good (choice byToken q o) (lay-token d t hq ho) = rw d
+    lay-good (choice byToken q o) (lay-token nl d t hq ho) = rw d
     lay-good (choice (byRule r) q o) (lay-rule d c h) = rw d
     lay-good (choice (byOperation op) q o) (lay-operation d h) = rw d
     lay-good (choice (byOperationWith op u) q o) (lay-operationWith d d₁ h) = rw d
@@ -243,6 +238,17 @@ module _ (T : List ℕ) (start : ℕ → ℕ) (prog : List Rule) where
   by-found none h = found-none
   by-found (some u) h = alts-found u h
 
+  -- the first alternative of an input choice without otherwise, and the first entry of its table
+  data First (v : Bool) (x y : ℕ) : Alts → List Entry → Type 0 where
+    first : {u : ℕ} {ls : List ℕ} {b : Acts} {q : Alts} {a m : ℕ} {ps : List Entry} → Lays T start prog v b x a m → decode T m ≡ jump y
+        → First v x y (alternative (u ∷ ls) b q) ((u, a) ∷ ps)
+
+  alts-first : {v : Bool} {q : Alts} {x y l : ℕ} {ps : List Entry} → Labelled q → LayAlts T start prog v q x y l ps → First v x y q ps
+  unfolding Labelled entries
+  alts-first {q = nil} ok h = absurd ok
+  alts-first {q = alternative [] b q} ok h = absurd ok
+  alts-first {q = alternative (u ∷ ls) b q} ok (alts-cons h d t) = first h d
+
 -- Single steps
 
 module _ (T : List ℕ) (start : ℕ → ℕ) (prog : List Rule) (tokens answers : List ℕ) where
@@ -259,6 +265,20 @@ module _ (T : List ℕ) (start : ℕ → ℕ) (prog : List Rule) (tokens answers
   unfolding doing inPhase
   test-rel r true io io₀ l w p rs₀ z a h = rel-on a h
   test-rel r false io io₀ l w p rs₀ z a h = rel-stopped z
+
+  -- a required token: there, repaired, or neither
+  required-rel : (t : ℕ) (b : Bool) {v : Bool} {q : Acts} {k : List Context} {ps : List Pending} {rs : List ℕ} (io : Io) (l w p : ℕ)
+      → At T start prog v q k (l + 2) → Pend T start prog v ps rs
+      → Rel T start prog (if b then on q k ps (took io) else if mends io then on q k ps (repaired t io) else rules.stopped differs io)
+      (doing T tokens answers (requiring T tokens t b (goingAt l rs w p io)) (goingAt l rs w p io))
+  unfolding requiring doing writing moved withIo inPhase repaired
+  required-rel t true io l w p a h = rel-on a h
+  required-rel t false {v} {q} {k} {ps} {rs} io l w p a h = go (mends io)
+    where
+      go : (b : Bool) → Rel T start prog (if b then on q k ps (repaired t io) else rules.stopped differs io)
+          (doing T tokens answers (if b then tells (repair t) (goingAt (l + 2) rs w p (spent io)) else stops differs) (goingAt l rs w p io))
+      go true = rel-on a h
+      go false = rel-stopped refl
 
   left-rel : {v : Bool} {k : List Context} {x : ℕ} {ps : List Pending} {rs : List ℕ} (io : Io) (l w p : ℕ) (m : Walk)
       → Out T start prog v k x → Pend T start prog v ps rs
@@ -295,29 +315,65 @@ module _ (T : List ℕ) (start : ℕ → ℕ) (prog : List Rule) (tokens answers
       one-step : Rel T start prog (own prog tokens answers s) (one T tokens answers m) → Move s m
       two-steps : (io : Io) (l : ℕ) (rs : List ℕ) (w p : ℕ) → Running s io → one T tokens answers m ≡ goingAt l rs w p io
           → Rel T start prog (own prog tokens answers s) (one T tokens answers (goingAt l rs w p io)) → Move s m
+      -- an input choice without otherwise that repairs: the choice, the repaired input, the jump back; after two the rules have written
+      three-steps : (io : Io) (l : ℕ) (rs : List ℕ) (w p : ℕ) (io′ : Io) (l′ : ℕ) → Running s io → one T tokens answers m ≡ goingAt l rs w p io
+          → Running (own prog tokens answers s) io′ → one T tokens answers (goingAt l rs w p io) ≡ goingAt l′ rs w p io′
+          → Rel T start prog (own prog tokens answers s) (one T tokens answers (goingAt l′ rs w p io′)) → Move s m
 
-    -- at a choice: i: of an input choice; f, t: where the tree and the table lead; z: the location of the distance
+    -- at a choice: i: of an input choice; f, t: where the tree and the table lead; z: the location of the distance; fall: where neither
+    -- a label nor otherwise is
     choice-move : (i : Bool) {v : Bool} {al : Alts} {f : Option Acts} {t z : Option ℕ} {q : Acts} {k : List Context} {pps : List Pending} {o : Other}
-        {ps : List Entry} {x d e : ℕ} {rs : List ℕ} (io io′ : Io) (l w p : ℕ) (s : Own) (m : Walk) → Running s io
-        → own prog tokens answers s ≡ chosen f o q k pps (why i) io io′
+        {ps : List Entry} {x d e : ℕ} {rs : List ℕ} (fallen : Own) (io io′ : Io) (l w p : ℕ) (s : Own) (m : Walk)
+        → own prog tokens answers s ≡ chosen f o q k pps fallen io io′
         → one T tokens answers m ≡ doing T tokens answers (landed T tokens z d (goingAt l rs w p io′) (goingAt l rs w p io)) m
-        → (i ≡ true → lookupBy (present tokens io) ps ≡ t) → Leads T z t → Found T start prog v x e al f t → LayOther T start prog v i o x ps d e
+        → (t ≡ none → o ≡ absent → own prog tokens answers s ≡ fallen → LayOther T start prog v i absent x ps d e
+        → one T tokens answers m ≡ doing T tokens answers (goTo T tokens d (goingAt l rs w p io)) m → Move s m)
+        → Leads T z t → Found T start prog v x e al f t → LayOther T start prog v i o x ps d e
         → ((pastSome al || pastOther o) ≡ true → At T start prog v q k e) → ((exitsSome al || exitsOther o) ≡ true → Out T start prog v k x)
         → Pend T start prog v pps rs → Move s m
-    unfolding landed chosen doing one oneIn step exec inPhase moved good why pastOther exitsOther
-    choice-move i {al = al} {o = o} {d = d} {rs = rs} io io′ l w p s m rn os st lk (leads {l = c} {x = n} {y = y} f e) (found h j a b) ho hg hh hp =
+    unfolding landed chosen pastOther exitsOther
+    choice-move i {al = al} {o = o} {d = d} {rs = rs} fallen io io′ l w p s m os st fall (leads {l = c} {x = n} {y = y} f e) (found h j a b) ho hg hh hp =
         one-step (rw (os, st, landed-is T tokens c n y d (goingAt l rs w p io′) (goingAt l rs w p io) f e) (goTo-rel io′ l w p m (at-place h
         (λ g. end-alternative j (hg (or₁ (pastSome al) (pastOther o) (a g))))
         (λ g. out-alternative (hh (or₁ (exitsSome al) (exitsOther o) (b g))))) hp))
-    choice-move i {al = al} io io′ l w p s m rn os st lk leads-none found-none (other-is {b = b} h) hg hh hp =
+    choice-move i {al = al} fallen io io′ l w p s m os st fall leads-none found-none (other-is {b = b} h) hg hh hp =
         one-step (rw (os, st) (goTo-rel io l w p m (at-place h
         (λ g. end-otherwise (hg (or₂ (pastSome al) (pastAll b) g)))
         (λ g. out-otherwise (hh (or₂ (exitsSome al) (exitsAll b) g)))) hp))
-    choice-move true {d = d} {rs = rs} io io′ l w p s m rn os st lk leads-none found-none (other-input {u = u} {a = a} {ps = ps} j) hg hh hp =
-        two-steps io d rs w p rn (rw (st, goTo-is T tokens d (goingAt l rs w p io) (rw j)))
-        (rw (os, j, missed (present tokens io) u a ps (lk refl)) (rel-stopped refl))
-    choice-move false {d = d} {rs = rs} io io′ l w p s m rn os st lk leads-none found-none (other-end j) hg hh hp =
+    choice-move true fallen io io′ l w p s m os st fall leads-none found-none (other-input j j₁) hg hh hp = fall refl refl os (other-input j j₁) st
+    choice-move false fallen io io′ l w p s m os st fall leads-none found-none (other-end j) hg hh hp = fall refl refl os (other-end j) st
+
+    -- a choice by the result with no label for it and no otherwise
+    value-fall : {v : Bool} {ps : List Entry} {x d e : ℕ} (rs : List ℕ) (io : Io) (l w p : ℕ) (s : Own) (m : Walk) → Running s io
+        → own prog tokens answers s ≡ rules.stopped unlabelled io → LayOther T start prog v false absent x ps d e
+        → one T tokens answers m ≡ doing T tokens answers (goTo T tokens d (goingAt l rs w p io)) m → Move s m
+    unfolding doing one oneIn step exec inPhase moved good
+    value-fall {d = d} rs io l w p s m rn os (other-end j) st =
         two-steps io d rs w p rn (rw (st, goTo-is T tokens d (goingAt l rs w p io) (rw j))) (rw (os, j) (rel-stopped refl))
+
+    -- an input choice with no label for the token and no otherwise: the default's input stops or is repaired, and then it goes back to the
+    -- first alternative
+    token-fall : {v : Bool} {al : Alts} {ps : List Entry} {x d e : ℕ} {q : Acts} {k : List Context} {pps : List Pending} {rs : List ℕ}
+        (io : Io) (l w p : ℕ) (s : Own) (m : Walk) → Running s io
+        → own prog tokens answers s ≡ unmatched al q k pps io → lookupBy (present tokens io) ps ≡ none → First T start prog v x e al ps
+        → LayOther T start prog v true absent x ps d e
+        → (pastSome al ≡ true → At T start prog v q k e) → (exitsSome al ≡ true → Out T start prog v k x)
+        → Pend T start prog v pps rs
+        → one T tokens answers m ≡ doing T tokens answers (goTo T tokens d (goingAt l rs w p io)) m → Move s m
+    unfolding unmatched repairedFirst doing one oneIn step exec requiring writing withIo inPhase moved good pastSome exitsSome repaired
+    token-fall {d = d} {q = q} {k = k} {pps = pps} {rs = rs} io l w p s m rn os lk (first {u = u} {ls = ls} {b = b} {q = al} {a = a} {ps = ps} h j₂) (other-input j j₁) hg hh hp st =
+        split (mends io)
+        (λ t.
+        let o : own prog tokens answers s ≡ on b (inAlternative q ∷ k) pps (repaired u io) = os ∙ rw t in
+        three-steps io d rs w p (repaired u io) (d + 2) rn (rw (st, goTo-is T tokens d (goingAt l rs w p io) (rw j)))
+        (rw o running-on) (rw (j, missed (present tokens io) u a ps lk, t))
+        (rw (o, j₁) (goTo-rel (repaired u io) (d + 2) w p _ (at-place h
+        (λ g. end-alternative j₂ (hg (or₁ (pastAll b) (pastSome al) g)))
+        (λ g. out-alternative (hh (or₁ (exitsAll b) (exitsSome al) g)))) hp)))
+        (λ f.
+        let o : own prog tokens answers s ≡ rules.stopped differs io = os ∙ rw f in
+        two-steps io d rs w p rn (rw (st, goTo-is T tokens d (goingAt l rs w p io) (rw j)))
+        (rw (o, j, missed (present tokens io) u a ps lk, f) (rel-stopped refl)))
 
     end-move : {v : Bool} {k : List Context} {ps : List Pending} {e : ℕ} {rs : List ℕ} (io : Io) (w p : ℕ)
         → End T start prog v k e → Pend T start prog v ps rs → Move (on done k ps io) (goingAt e rs w p io)
@@ -342,7 +398,7 @@ module _ (T : List ℕ) (start : ℕ → ℕ) (prog : List Rule) (tokens answers
         → (exitsAll (plain a ▸ q) ≡ true → Out T start prog v k x) → Pend T start prog v ps rs → Move (on (plain a ▸ q) k ps io) (goingAt l rs w p io)
     unfolding own ownPlain one oneIn step exec doing writing moved withIo withResult withParameter past plainPast exits isExit
     plain-move {l = l} {rs = rs} io w p (lay-match {t = t} d) hs hg hh h =
-        one-step (rw d (test-rel differs (is t (present tokens io)) (took io) io l w p rs refl (rest-at T start prog (plain (match t)) hs hg hh refl) h))
+        one-step (rw d (required-rel t (is t (present tokens io)) io l w p (rest-at T start prog (plain (match t)) hs hg hh refl) h))
     plain-move {l = l} {rs = rs} io w p (lay-any d) hs hg hh h =
         one-step (rw d (test-rel missing (given (present tokens io)) (took io) io l w p rs refl (rest-at T start prog (plain any) hs hg hh refl) h))
     plain-move io w p (lay-emit {t = t} d) hs hg hh h = one-step (rw d (rel-on (rest-at T start prog (plain (emit t)) hs hg hh refl) h))
@@ -358,22 +414,26 @@ module _ (T : List ℕ) (start : ℕ → ℕ) (prog : List Rule) (tokens answers
         two-steps io (l + 2) rs w u running-on (rw d) (rw d₁ (rel-on (rest-at T start prog (plain (updateWith op u)) hs hg hh refl) h))
 
     pub move : {s : Own} {m : Walk} → Rel T start prog s m → Move s m
-    unfolding own ownChoice nextAnswer one oneIn step exec doing moved withParameter weight why lookupBy past exits pastAll
+    unfolding own ownChoice nextAnswer one oneIn step exec doing moved withParameter weight lookupBy past exits pastAll NeedsLabel pastOther exitsOther
     move (rel-stopped z) = one-step (rel-stopped z)
     move (rel-choosing {io = io} {l = l} {w = w} {p = p} {rs = rs} (at-choice (lay-choice d t a o) hg hh) h) =
-        choice-move false io io l w p _ _ running-choosing refl (rw (d, branched-is T tokens (some w) (goingAt l rs w p io) (goingAt l rs w p io) t))
-        (λ e. never e) (seek-leads T tokens (some w) t) (alts-found T start prog w a) o hg hh h
+        choice-move false (rules.stopped unlabelled io) io io l w p _ _ refl
+        (rw (d, branched-is T tokens (some w) (goingAt l rs w p io) (goingAt l rs w p io) t))
+        (λ t₁ e os lo st. value-fall rs io l w p _ _ running-choosing os lo st) (seek-leads T tokens (some w) t) (alts-found T start prog w a) o hg hh h
     move (rel-on {io = io} {w = w} {p = p} (at-place lays-done hg hh) h) = end-move io w p (hg refl) h
     move (rel-on {io = io} {w = w} {p = p} (at-place (lays-cons (lay-plain a) hs) hg hh) h) = plain-move io w p a hs hg hh h
     move (rel-on (at-place (lays-cons (lay-cycle {b = b} d₁ d) hs) hg hh) h) =
         no-step (rel-on (at-place d₁
         (λ x. end-cycle d₁ d (λ y. out-cycle (rest-at T start prog (cycle b) hs hg hh y)))
         (λ y. out-cycle (rest-at T start prog (cycle b) hs hg hh y))) h) (omega arith)
-    move (rel-on {io = io} {l = l} {w = w} {p = p} {rs = rs} (at-place (lays-cons {q = r} (lay-token {q = al} {o = ot} d t a o) hs) hg hh) h) =
+    move (rel-on {io = io} {l = l} {w = w} {p = p} {rs = rs} (at-place (lays-cons {q = r} (lay-token {q = al} {o = ot} nl d t a o) hs) hg hh) h) =
         let here = choice byToken al ot in
         let now = present tokens io in
-        choice-move true io (took io) l (orElse now w) p _ _ running-on refl (rw (d, inputChoosing-is T tokens now l rs w p io t))
-        (λ e. refl) (seek-leads T tokens now t) (by-found T start prog now a) o
+        choice-move true (unmatched al r _ _ io) io (took io) l (orElse now w) p _ _ refl (rw (d, inputChoosing-is T tokens now l rs w p io t))
+        (λ t₁ e os lo st. token-fall io l (orElse now w) p _ _ running-on os t₁ (alts-first T start prog (rw e at nl) a) lo
+        (λ x. rest-at T start prog here hs hg hh (or₁ (pastSome al) (pastOther ot) x))
+        (λ x. exit-out T start prog here r hh (or₁ (exitsSome al) (exitsOther ot) x)) h st)
+        (seek-leads T tokens now t) (by-found T start prog now a) o
         (λ x. rest-at T start prog here hs hg hh x) (λ x. exit-out T start prog here r hh x) h
     move (rel-on {io = io} {l = l} {w = w} {p = p} (at-place (lays-cons {q = q} (lay-rule {r = r} {q = al} {o = o} d c a) hs) hg hh) h) =
         let here = choice (byRule r) al o in

@@ -34,9 +34,6 @@ use Rattle.program.specs.Program.{Rule}
 use Rattle.program.specs.Table.{table}
 
 module _ (T tokens answers : List ℕ) where
-  abbrev After : ℕ → Walk
-  After n = runs T tokens answers n fresh
-
   -- a walk that has stopped stays so
   one-stopped : (w : Walk) (r : Reason) → w .phase ≡ stopped r → one T tokens answers w ≡ w
   unfolding one oneIn
@@ -55,25 +52,25 @@ module _ (T tokens answers : List ℕ) where
 
 -- A program that is accepted
 
-module _ (prog : List Rule) (more tokens answers : List ℕ) (a : Accepted prog) where
+module _ (prog : List Rule) (more tokens answers : List ℕ) (allowance : ℕ) (a : Accepted prog) where
   abbrev Table : List ℕ
   Table = table prog ++ more
 
   abbrev Step : ℕ → Walk
-  Step n = runs Table tokens answers n fresh
+  Step n = runs Table tokens answers n (fresh allowance)
 
   -- no single step leads out of the table
   no-way-out : {A : Type 0} (n : ℕ) → Step n .phase ≡ going → step Table tokens (Step n) ≡ goesOutside → A
   unfolding done inPhase
   no-way-out n g s =
-      let x = agree prog more tokens answers a (suc n) in
-      let y : Step (suc n) ≡ done Table tokens answers goesOutside (Step n) = runs-suc Table tokens answers n fresh ∙ one-going Table tokens answers (Step n) g ∙ ap (λ (nx : Next). done Table tokens answers nx (Step n)) s in
+      let x = agree prog more tokens answers allowance a (suc n) in
+      let y : Step (suc n) ≡ done Table tokens answers goesOutside (Step n) = runs-suc Table tokens answers n (fresh allowance) ∙ one-going Table tokens answers (Step n) g ∙ ap (λ (nx : Next). done Table tokens answers nx (Step n)) s in
       absurd (never-outside (x .1) (ap (λ (w : Walk). w .phase) y))
 
-  events-of : (w : Walk) (es : List Event) (n : ℕ) → withEvents es w ≡ Step n → RulesWrite prog tokens answers es
+  events-of : (w : Walk) (es : List Event) (n : ℕ) → withEvents es w ≡ Step n → RulesWrite prog tokens answers allowance es
   unfolding withEvents withIo
   events-of w es n e =
-      let x = agree prog more tokens answers a n in
+      let x = agree prog more tokens answers allowance a n in
       let y : Step n .io .events ≡ es = ap (λ (v : Walk). v .io .events) (sym e) in
       record { steps = x .0; begins = record { rest = []; whole = same-events (x .1) ∙ y ∙ sym (append-nil es) } }
 
@@ -81,80 +78,80 @@ module _ (prog : List Rule) (more tokens answers : List ℕ) (a : Accepted prog)
   unfolding withEvents withIo
   in-phase w es n p e h = ap (λ (v : Walk). v .phase) (sym e) ∙ h
 
-  pub events : {w : Walk} {es : List Event} {n : ℕ} {ns : List ℕ} → Listed Table tokens answers w es n ns → (w .phase ≡ waiting → ⊥) → RulesWrite prog tokens answers es
-  events {w} {es} {n} l h = go (listed-where Table tokens answers l)
+  pub events : {w : Walk} {es : List Event} {n : ℕ} {ns : List ℕ} → Listed Table tokens answers allowance w es n ns → (w .phase ≡ waiting → ⊥) → RulesWrite prog tokens answers allowance es
+  events {w} {es} {n} l h = go (listed-where Table tokens answers allowance l)
     where
-      go : Where Table tokens answers w es n → RulesWrite prog tokens answers es
+      go : Where Table tokens answers allowance w es n → RulesWrite prog tokens answers allowance es
       go (lives p e) = events-of w es n e
       go (left p g s e) = no-way-out n g s
       go (waits k v v′ e d g s q m e₁) = absurd (h (ap (λ (u : Walk). u .phase) e₁ ∙ unfold inPhase in refl))
 
-  pub never-37 : {w : Walk} {es : List Event} {n number : ℕ} {ns : List ℕ} → Listed Table tokens answers w es n (number ∷ ns) → number ≡ 37 → ⊥
-  never-37 {w} {es} {n} l e = go (listed-where Table tokens answers l) (number-37 Table tokens answers l e)
+  pub never-37 : {w : Walk} {es : List Event} {n number : ℕ} {ns : List ℕ} → Listed Table tokens answers allowance w es n (number ∷ ns) → number ≡ 37 → ⊥
+  never-37 {w} {es} {n} l e = go (listed-where Table tokens answers allowance l) (number-37 Table tokens answers allowance l e)
     where
-      go : Where Table tokens answers w es n → w .phase ≡ stopped outside → ⊥
-      go (lives p e₁) h = never-outside (agree prog more tokens answers a n .1) (in-phase w es n (stopped outside) e₁ h)
+      go : Where Table tokens answers allowance w es n → w .phase ≡ stopped outside → ⊥
+      go (lives p e₁) h = never-outside (agree prog more tokens answers allowance a n .1) (in-phase w es n (stopped outside) e₁ h)
       go (left p g s e₁) h = no-way-out n g s
       go (waits k v v′ e d g s q m e₁) h = waiting-stopped (ap (λ (u : Walk). u .phase) e₁ ∙ unfold inPhase in refl) h
 
-  pub stops-alike : {w : Walk} {es : List Event} {n : ℕ} {ns : List ℕ} {r : Reason} → Listed Table tokens answers w es n ns → w .phase ≡ stopped r
-      → RulesStop prog tokens answers r (record { read = w .io .read; used = w .io .used; events = es })
+  pub stops-alike : {w : Walk} {es : List Event} {n : ℕ} {ns : List ℕ} {r : Reason} → Listed Table tokens answers allowance w es n ns → w .phase ≡ stopped r
+      → RulesStop prog tokens answers allowance r (record { read = w .io .read; used = w .io .used; allowance = w .io .allowance; events = es })
   unfolding withEvents withIo inPhase
-  stops-alike {w} {es} {n} {ns} {r} l h = go (listed-where Table tokens answers l)
+  stops-alike {w} {es} {n} {ns} {r} l h = go (listed-where Table tokens answers allowance l)
     where
-      go : Where Table tokens answers w es n → RulesStop prog tokens answers r (record { read = w .io .read; used = w .io .used; events = es })
+      go : Where Table tokens answers allowance w es n → RulesStop prog tokens answers allowance r (record { read = w .io .read; used = w .io .used; allowance = w .io .allowance; events = es })
       go (lives p e) =
-          let x = agree prog more tokens answers a n in
+          let x = agree prog more tokens answers allowance a n in
           record { steps = x .0; stop = same-stopped (x .1) (in-phase w es n (stopped r) e h) ∙ ap (λ (v : Walk). rules.stopped r (v .io)) (sym e) }
       go (left p g s e) = no-way-out n g s
       go (waits k v v′ e d g s q m e₁) = absurd (waiting-stopped (ap (λ (u : Walk). u .phase) e₁) h)
 
   -- once single steps have stopped, every longer list has
-  pub suffices : (k b : ℕ) (r : Reason) → k < b → Step k .phase ≡ stopped r → Suffices prog Table tokens answers b
+  pub suffices : (k b : ℕ) (r : Reason) → k < b → Step k .phase ≡ stopped r → Suffices prog Table tokens answers allowance b
   unfolding withEvents withIo
-  suffices k b r h e w es n ns l = elim (decLt n b) [ yes x ↦ inr (inl x) | no x ↦ inl (go (listed-where Table tokens answers l) (omega arith)) ]
+  suffices k b r h e w es n ns l = elim (decLt n b) [ yes x ↦ inr (inl x) | no x ↦ inl (go (listed-where Table tokens answers allowance l) (omega arith)) ]
     where
-      go : Where Table tokens answers w es n → k < n → HasStopped w
-      go (lives p e₁) m = record { reason = r; stop = ap (λ (v : Walk). v .phase) e₁ ∙ later Table tokens answers k n fresh r (omega arith) e }
+      go : Where Table tokens answers allowance w es n → k < n → HasStopped w
+      go (lives p e₁) m = record { reason = r; stop = ap (λ (v : Walk). v .phase) e₁ ∙ later Table tokens answers k n (fresh allowance) r (omega arith) e }
       go (left p g s e₁) m = record { reason = outside; stop = p }
-      go (waits i v v′ e₂ d g s q m₁ e₁) m = absurd (going-stopped g (ap (λ (u : Walk). u .phase) (sym d) ∙ later Table tokens answers k i fresh r (omega arith) e))
+      go (waits i v v′ e₂ d g s q m₁ e₁) m = absurd (going-stopped g (ap (λ (u : Walk). u .phase) (sym d) ∙ later Table tokens answers k i (fresh allowance) r (omega arith) e))
 
-  pub stops-within : (j : ℕ) {r : Reason} {io : Io} → owns prog tokens answers j (ownStart prog) ≡ rules.stopped r io → (b : ℕ) → 2 * j < b → Suffices prog Table tokens answers b
+  pub stops-within : (j : ℕ) {r : Reason} {io : Io} → owns prog tokens answers j (ownStart prog allowance) ≡ rules.stopped r io → (b : ℕ) → 3 * j < b → Suffices prog Table tokens answers allowance b
   stops-within j {r} e b h =
-      let x = agree-stop prog more tokens answers a j in
+      let x = agree-stop prog more tokens answers allowance a j in
       suffices (x .0) b r (omega (arith, x .1)) (stopped-same (x .2) e)
 
   -- a walk that waits has written what the rules write with any one answer more
-  pub events-waiting : {w : Walk} {es : List Event} {n : ℕ} {ns : List ℕ} → Listed Table tokens answers w es n ns → w .phase ≡ waiting
-      → (x : ℕ) → RulesWrite prog tokens (answers ++ (x ∷ [])) es
+  pub events-waiting : {w : Walk} {es : List Event} {n : ℕ} {ns : List ℕ} → Listed Table tokens answers allowance w es n ns → w .phase ≡ waiting
+      → (x : ℕ) → RulesWrite prog tokens (answers ++ (x ∷ [])) allowance es
   unfolding done taking writing Walk.opened io.wrote io.answered
-  events-waiting {w} {es} {n} l h x = go (listed-where Table tokens answers l)
+  events-waiting {w} {es} {n} l h x = go (listed-where Table tokens answers allowance l)
     where
-      go : Where Table tokens answers w es n → RulesWrite prog tokens (answers ++ (x ∷ [])) es
+      go : Where Table tokens answers allowance w es n → RulesWrite prog tokens (answers ++ (x ∷ [])) allowance es
       go (lives p e) = absurd (p h)
       go (left p g s e) = no-way-out n g s
       go (waits k v v′ e d g s q m e₁) =
           let g₁ : Step k .phase ≡ going = ap (λ (u : Walk). u .phase) d ∙ g in
-          let z = alike Table tokens answers x k g₁ in
+          let z = alike Table tokens answers x allowance k g₁ in
           let y = one-more answers x (choices (v .io .events)) (rw d at (z .taken)) in
           let f = step-asked Table tokens v v′ e s in
-          let r : runs Table tokens (answers ++ (x ∷ [])) (suc k) fresh ≡ withAnswer (y .0) (writing e v′) =
-          runs-suc Table tokens (answers ++ (x ∷ [])) k fresh ∙ ap (one Table tokens (answers ++ (x ∷ []))) (z .same ∙ d)
+          let r : runs Table tokens (answers ++ (x ∷ [])) (suc k) (fresh allowance) ≡ withAnswer (y .0) (writing e v′) =
+          runs-suc Table tokens (answers ++ (x ∷ [])) k (fresh allowance) ∙ ap (one Table tokens (answers ++ (x ∷ []))) (z .same ∙ d)
           ∙ one-going Table tokens (answers ++ (x ∷ [])) v g ∙ ap (λ (nx : Next). done Table tokens (answers ++ (x ∷ [])) nx v) s
           ∙ ap (λ (o : Option ℕ). taking o e v′ v) (y .1) in
-          let b = agree prog more tokens (answers ++ (x ∷ [])) a (suc k) in
+          let b = agree prog more tokens (answers ++ (x ∷ [])) allowance a (suc k) in
           let t : v′ .io .events ++ (e ∷ []) ≡ es = ap (λ (l : List Event). l ++ (e ∷ [])) (f .keeps .events) ∙ sym q in
           record { steps = b .0; begins = record { rest = []; whole = same-events (b .1) ∙ ap (λ (u : Walk). u .io .events) r ∙ t ∙ sym (append-nil es) } }
 
 -- The claim
 
-agrees : (prog : List Rule) (more tokens answers : List ℕ) → Accepted prog → Agrees prog (table prog ++ more) tokens answers
-agrees prog more tokens answers a = record {
-  events = events prog more tokens answers a;
-  events-waiting = events-waiting prog more tokens answers a;
-  never-37 = never-37 prog more tokens answers a;
-  stops = stops-alike prog more tokens answers a;
-  budget = λ s. (2 * s .steps + 1, stops-within prog more tokens answers a (s .steps) (s .stop) (2 * s .steps + 1) (omega arith));
+agrees : (prog : List Rule) (more tokens answers : List ℕ) (allowance : ℕ) → Accepted prog → Agrees prog (table prog ++ more) tokens answers allowance
+agrees prog more tokens answers allowance a = record {
+  events = events prog more tokens answers allowance a;
+  events-waiting = events-waiting prog more tokens answers allowance a;
+  never-37 = never-37 prog more tokens answers allowance a;
+  stops = stops-alike prog more tokens answers allowance a;
+  budget = λ s. (3 * s .steps + 1, stops-within prog more tokens answers allowance a (s .steps) (s .stop) (3 * s .steps + 1) (omega arith));
 }
 
 running-nowhere : {io io′ : Io} → Running (rules.nowhere io) io′ → ⊥
@@ -173,14 +170,14 @@ over-stops (over-stopped {r = r}) h = (r, stopped-same h refl)
 over-stops over-nowhere h = absurd (not-nowhere h)
 
 finishes-with : (prog : List Rule) → Accepted prog → Finishing prog → Finishes prog (table prog)
-finishes-with prog a f count = (
-  2 * budget prog count + 1,
+finishes-with prog a f count allowance = (
+  3 * budget prog (count + allowance) + 1,
   λ more tokens answers e.
-      let o = finishes prog tokens answers a f in
-      let x = agree-stop prog more tokens answers a (o .0) in
+      let o = finishes prog tokens answers allowance a f in
+      let x = agree-stop prog more tokens answers allowance a (o .0) in
       let y = over-stops (o .2) (x .2) in
-      let b : o .0 ≤ budget prog count = rw e at (o .1) in
-      suffices prog more tokens answers a (x .0) (2 * budget prog count + 1) (y .0) (omega (arith, x .1)) (y .1),
+      let b : o .0 ≤ budget prog (count + allowance) = rw e at (o .1) in
+      suffices prog more tokens answers allowance a (x .0) (3 * budget prog (count + allowance) + 1) (y .0) (omega (arith, x .1)) (y .1),
 )
 
 -- Demand 3, for every text that `process` accepts.
@@ -191,7 +188,7 @@ agreement text room words verdict e = claim (accepted-table text room words verd
     claim t = record {
       prog = t .prog;
       means = t .means;
-      agrees = λ more tokens answers. rw (t .words-are) (agrees (t .prog) more tokens answers (t .accepts));
+      agrees = λ more tokens answers allowance. rw (t .words-are) (agrees (t .prog) more tokens answers allowance (t .accepts));
       finishes = λ v. rw (t .words-are) (finishes-with (t .prog) (t .accepts) (finishing-sound (t .prog) (sym (t .verdict-is) ∙ v)));
       sound = λ v. finishing-sound (t .prog) (sym (t .verdict-is) ∙ v);
       complete = λ f. t .verdict-is ∙ finishing-complete (t .prog) f;

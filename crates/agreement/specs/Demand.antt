@@ -39,31 +39,31 @@ Allowed answers (paused (some x)) going es = Unit {0}
 Allowed answers (paused (some x)) waiting es = wanted answers es ≡ some x
 Allowed answers (paused (some x)) (stopped r) es = Unit {0}
 
--- the walks that a list of calls from a fresh walk leads to, "each getting the walk that the last one gave back": with the events of the
+-- the walks that a list of calls from a fresh walk with this repair allowance leads to, "each getting the walk that the last one gave back": with the events of the
 -- calls in order, the steps in all, and the numbers answered, the last first
-pub data Listed (T tokens answers : List ℕ) : Walk → List Event → ℕ → List ℕ → Type 0 where
-  begin : Listed T tokens answers fresh [] 0 []
-  then-call : {w : Walk} {es : List Event} {n : ℕ} {ns : List ℕ} → Listed T tokens answers w es n ns
+pub data Listed (T tokens answers : List ℕ) (allowance : ℕ) : Walk → List Event → ℕ → List ℕ → Type 0 where
+  begin : Listed T tokens answers allowance (fresh allowance) [] 0 []
+  then-call : {w : Walk} {es : List Event} {n : ℕ} {ns : List ℕ} → Listed T tokens answers allowance w es n ns
       → (m : Mode) (budget room : ℕ) → Allowed answers m (w .phase) es
-      → Listed T tokens answers (callWalk T tokens m budget room w .walk) (es ++ callWalk T tokens m budget room w .events)
+      → Listed T tokens answers allowance (callWalk T tokens m budget room w .walk) (es ++ callWalk T tokens m budget room w .events)
       (n + callWalk T tokens m budget room w .steps) (callWalk T tokens m budget room w .number ∷ ns)
 
 -- the rules' own walk stops
-pub record RulesStop (prog : List Rule) (tokens answers : List ℕ) (r : Reason) (io : Io) : Type 0 where
+pub record RulesStop (prog : List Rule) (tokens answers : List ℕ) (allowance : ℕ) (r : Reason) (io : Io) : Type 0 where
   pub steps : ℕ
-  pub stop : owns prog tokens answers steps (ownStart prog) ≡ rules.stopped r io
+  pub stop : owns prog tokens answers steps (ownStart prog allowance) ≡ rules.stopped r io
 
 -- some of the rules' own events begin so
-pub record RulesWrite (prog : List Rule) (tokens answers : List ℕ) (es : List Event) : Type 0 where
+pub record RulesWrite (prog : List Rule) (tokens answers : List ℕ) (allowance : ℕ) (es : List Event) : Type 0 where
   pub steps : ℕ
-  pub begins : Begins es (eventsOf (owns prog tokens answers steps (ownStart prog)))
+  pub begins : Begins es (eventsOf (owns prog tokens answers steps (ownStart prog allowance)))
 
 -- it "waits for an answer past the last, where the rules stop with 34"
-pub record WaitsPast (prog : List Rule) (tokens answers : List ℕ) (w : Walk) (es : List Event) : Type 0 where
+pub record WaitsPast (prog : List Rule) (tokens answers : List ℕ) (allowance : ℕ) (w : Walk) (es : List Event) : Type 0 where
   pub waits : w .phase ≡ waiting
   pub past : wanted answers es ≡ none
   pub io : Io
-  pub rules-stop : RulesStop prog tokens answers unanswered io
+  pub rules-stop : RulesStop prog tokens answers allowance unanswered io
 
 pub record HasStopped (w : Walk) : Type 0 where
   pub reason : Reason
@@ -71,37 +71,38 @@ pub record HasStopped (w : Walk) : Type 0 where
 
 -- "A budget, of any size, suffices if after every such list the walk has stopped, has done fewer steps in all, or waits for an answer past the
 -- last, where the rules stop with 34."
-abbrev pub Suffices : List Rule → List ℕ → List ℕ → List ℕ → ℕ → Type 0
-Suffices prog T tokens answers b =
-    (w : Walk) (es : List Event) (n : ℕ) (ns : List ℕ) → Listed T tokens answers w es n ns
-    → HasStopped w ⊎ ((n < b) ⊎ WaitsPast prog tokens answers w es)
+abbrev pub Suffices : List Rule → List ℕ → List ℕ → List ℕ → ℕ → ℕ → Type 0
+Suffices prog T tokens answers allowance b =
+    (w : Walk) (es : List Event) (n : ℕ) (ns : List ℕ) → Listed T tokens answers allowance w es n ns
+    → HasStopped w ⊎ ((n < b) ⊎ WaitsPast prog tokens answers allowance w es)
 
 -- what is claimed of every list of calls over the table T, with these tokens and answers
-pub record Agrees (prog : List Rule) (T tokens answers : List ℕ) : Type 0 where
+pub record Agrees (prog : List Rule) (T tokens answers : List ℕ) (allowance : ℕ) : Type 0 where
   -- the events are a beginning of the rules' own
-  pub events : {w : Walk} {es : List Event} {n : ℕ} {ns : List ℕ} → Listed T tokens answers w es n ns
-      → (w .phase ≡ waiting → ⊥) → RulesWrite prog tokens answers es
+  pub events : {w : Walk} {es : List Event} {n : ℕ} {ns : List ℕ} → Listed T tokens answers allowance w es n ns
+      → (w .phase ≡ waiting → ⊥) → RulesWrite prog tokens answers allowance es
   -- while it waits, of the rules' own with any one answer more
-  pub events-waiting : {w : Walk} {es : List Event} {n : ℕ} {ns : List ℕ} → Listed T tokens answers w es n ns
-      → w .phase ≡ waiting → (x : ℕ) → RulesWrite prog tokens (answers ++ (x ∷ [])) es
+  pub events-waiting : {w : Walk} {es : List Event} {n : ℕ} {ns : List ℕ} → Listed T tokens answers allowance w es n ns
+      → w .phase ≡ waiting → (x : ℕ) → RulesWrite prog tokens (answers ++ (x ∷ [])) allowance es
   -- no call has answered 37
-  pub never-37 : {w : Walk} {es : List Event} {n number : ℕ} {ns : List ℕ} → Listed T tokens answers w es n (number ∷ ns)
+  pub never-37 : {w : Walk} {es : List Event} {n number : ℕ} {ns : List ℕ} → Listed T tokens answers allowance w es n (number ∷ ns)
       → number ≡ 37 → ⊥
-  -- a walk that has stopped has the rules' reason, events, tokens read and answers used
-  pub stops : {w : Walk} {es : List Event} {n : ℕ} {ns : List ℕ} {r : Reason} → Listed T tokens answers w es n ns
-      → w .phase ≡ stopped r → RulesStop prog tokens answers r (record { read = w .io .read; used = w .io .used; events = es })
+  -- a walk that has stopped has the rules' reason, events, tokens read, answers used and allowance left
+  pub stops : {w : Walk} {es : List Event} {n : ℕ} {ns : List ℕ} {r : Reason} → Listed T tokens answers allowance w es n ns
+      → w .phase ≡ stopped r → RulesStop prog tokens answers allowance r (record { read = w .io .read; used = w .io .used; allowance = w .io .allowance; events = es })
   -- where the rules stop, one budget suffices
-  pub budget : {r : Reason} {io : Io} → RulesStop prog tokens answers r io → (b : ℕ) × Suffices prog T tokens answers b
+  pub budget : {r : Reason} {io : Io} → RulesStop prog tokens answers allowance r io → (b : ℕ) × Suffices prog T tokens answers allowance b
 
--- one budget, fixed by the program and the number of tokens, suffices whatever the tokens, the answers, the lists and what stands behind the table
+-- one budget, fixed by the program, the number of tokens and the allowance, suffices whatever the tokens, the answers, the lists and what stands behind the table
 abbrev pub Finishes : List Rule → List ℕ → Type 0
-Finishes prog words = (count : ℕ) → (b : ℕ) × ((more tokens answers : List ℕ) → length tokens ≡ count → Suffices prog (words ++ more) tokens answers b)
+Finishes prog words =
+    (count allowance : ℕ) → (b : ℕ) × ((more tokens answers : List ℕ) → length tokens ≡ count → Suffices prog (words ++ more) tokens answers allowance b)
 
 -- the whole claim for a text that `process` accepts with these words and this verdict; the table may stand at the start of a longer buffer
 pub record Demand3 (text words : List ℕ) (verdict : Bool) : Type 0 where
   pub prog : List Rule
   pub means : understood text ≡ meaning prog
-  pub agrees : (more tokens answers : List ℕ) → Agrees prog (words ++ more) tokens answers
+  pub agrees : (more tokens answers : List ℕ) (allowance : ℕ) → Agrees prog (words ++ more) tokens answers allowance
   pub finishes : verdict ≡ true → Finishes prog words
   -- the verdict is the definition's
   pub sound : verdict ≡ true → Finishing prog

@@ -2,7 +2,7 @@
 use mathlib.Core.List.{_++_}
 use lib.Dec.{T}
 use Rattle.cases.specs.Agreements
-use Rattle.cases.specs.Agreements.{allAgree, agreesAtOnce, agreesInCalls, agreements, deepAgreements}
+use Rattle.cases.specs.Agreements.{allAgree, agreesAtOnce, agreesInCalls, agreements, repairs, deepAgreements}
 use Rattle.events.specs.Events
 use Rattle.machine.specs.Bytes
 use Rattle.machine.specs.Call
@@ -31,10 +31,10 @@ walking : Unit {0}
 unfolding Words.opened Reading.opened Actions.opened Sections.opened Parse.opened Known.opened Declare.opened Resolve.opened Understand.opened Program.opened Past.opened Table.opened Process.opened Events.opened Bytes.opened Lengths.opened Decode.opened Walk.opened Step.opened Call.opened Form.opened OwnWalk.opened
 walking = tt
 
-pub all-agree-at-once : T (allAgree agreesAtOnce (agreements ++ deepAgreements))
+pub all-agree-at-once : T (allAgree agreesAtOnce (agreements ++ repairs ++ deepAgreements))
 unfolding walking Agreements.opened
 all-agree-at-once = tt
 
-pub all-agree-in-calls : T (allAgree agreesInCalls agreements)
+pub all-agree-in-calls : T (allAgree agreesInCalls (agreements ++ repairs))
 unfolding walking Agreements.opened
 all-agree-in-calls = tt

@@ -18,42 +18,44 @@ use Rattle.processor.specs.Process.{Understood, meaning, faulty, understood}
 use Rattle.program.specs.Program.{Rule}
 use Rattle.program.specs.Table.{table}
 
--- what a walk comes to: its number, the words of its events, tokens read, answers used
+-- what a walk comes to: its number, the words of its events, tokens read, answers used, what is left of the repair allowance
 pub record End : Type 0 where
   pub number : ℕ
   pub events : List ℕ
   pub read : ℕ
   pub used : ℕ
+  pub left : ℕ
 
--- a text, its tokens and answers, what its walk comes to, and the event of the question that a paused walk asks where a whole one stops with 34
+-- a text, its tokens, answers and repair allowance, what its walk comes to, and the event of the question that a paused walk asks where a whole one stops with 34
 pub record Agreement : Type 0 where
   pub text : String
   pub tokens : List ℕ
   pub answers : List ℕ
+  pub allowance : ℕ
   pub end : End
   pub question : List ℕ
 
 unfoldable pub sameEnd : End → End → Bool
-sameEnd x y = eqb (x .number) (y .number) && same (x .events) (y .events) && eqb (x .read) (y .read) && eqb (x .used) (y .used)
+sameEnd x y = eqb (x .number) (y .number) && same (x .events) (y .events) && eqb (x .read) (y .read) && eqb (x .used) (y .used) && eqb (x .left) (y .left)
 
 -- The rules' own walk
 
 -- 999 where it has not stopped
 unfoldable pub ownEnd : Own → End
-ownEnd (on q k ps io) = record { number = 999; events = []; read = 0; used = 0 }
-ownEnd (choosing v al o q k ps io) = record { number = 999; events = []; read = 0; used = 0 }
-ownEnd (nowhere io) = record { number = 999; events = []; read = 0; used = 0 }
-ownEnd (stopped r io) = record { number = reasonNumber r; events = eventsWords (io .events); read = io .read; used = io .used }
+ownEnd (on q k ps io) = record { number = 999; events = []; read = 0; used = 0; left = 0 }
+ownEnd (choosing v al o q k ps io) = record { number = 999; events = []; read = 0; used = 0; left = 0 }
+ownEnd (nowhere io) = record { number = 999; events = []; read = 0; used = 0; left = 0 }
+ownEnd (stopped r io) = record { number = reasonNumber r; events = eventsWords (io .events); read = io .read; used = io .used; left = io .allowance }
 
 unfoldable pub byRules : List Rule → Agreement → End
-byRules prog a = ownEnd (owns prog (a .tokens) (a .answers) 400 (ownStart prog))
+byRules prog a = ownEnd (owns prog (a .tokens) (a .answers) 400 (ownStart prog (a .allowance)))
 
 -- Walks over bytes
 
 -- the end of a walk with these bytes, or 998 where they are no walk's
 unfoldable pub endAt : ℕ → List ℕ → Option Walk → End
-endAt n es none = record { number = 998; events = es; read = 0; used = 0 }
-endAt n es (some w) = record { number = n; events = es; read = w .io .read; used = w .io .used }
+endAt n es none = record { number = 998; events = es; read = 0; used = 0; left = 0 }
+endAt n es (some w) = record { number = n; events = es; read = w .io .read; used = w .io .used; left = w .io .allowance }
 
 -- the words of the events that a call wrote
 unfoldable pub wrote : Outcome → List ℕ
@@ -66,7 +68,7 @@ buffer n = replicate (suc (2 * n)) 7
 -- one whole call; what it did not write keeps what it held
 unfoldable pub atOnce : List ℕ → Agreement → End → Bool
 atOnce table a e =
-    let c = callBytes table (bytesOf (a .tokens)) (whole (a .answers)) 1000 (walkBytes fresh) (buffer 60) in
+    let c = callBytes table (bytesOf (a .tokens)) (whole (a .answers)) 1000 (walkBytes (fresh (a .allowance))) (buffer 60) in
     sameEnd (endAt (c .number) (wrote c) (walkOf (c .walk))) e
     && same (c .buffer) (bytesOf (e .events) ++ replicate (121 - 2 * length (e .events)) 7)
 
@@ -89,7 +91,7 @@ nextCall n again left =
 
 -- calls with a small budget and room, at most so many: from the mode `again`, with the answers left, to the end
 unfoldable pub inCalls : ℕ → List ℕ → List ℕ → ℕ → ℕ → Mode → Next → List ℕ → List ℕ → End
-inCalls zero table tokens budget room again next es walk = record { number = 997; events = es; read = 0; used = 0 }
+inCalls zero table tokens budget room again next es walk = record { number = 997; events = es; read = 0; used = 0; left = 0 }
 inCalls (suc k) table tokens budget room again next es walk =
     let c = callBytes table tokens (next .mode) budget walk (buffer room) in
     let more = es ++ wrote c in
@@ -100,17 +102,17 @@ inCalls (suc k) table tokens budget room again next es walk =
 
 unfoldable pub inPieces : List ℕ → Agreement → ℕ → ℕ → End
 inPieces table a budget room =
-    inCalls 300 table (bytesOf (a .tokens)) budget room (whole (a .answers)) (record { mode = whole (a .answers); left = [] }) [] (walkBytes fresh)
+    inCalls 300 table (bytesOf (a .tokens)) budget room (whole (a .answers)) (record { mode = whole (a .answers); left = [] }) [] (walkBytes (fresh (a .allowance)))
 
 unfoldable pub inPauses : List ℕ → Agreement → ℕ → ℕ → End
 inPauses table a budget room =
-    inCalls 300 table (bytesOf (a .tokens)) budget room (paused none) (record { mode = paused none; left = a .answers }) [] (walkBytes fresh)
+    inCalls 300 table (bytesOf (a .tokens)) budget room (paused none) (record { mode = paused none; left = a .answers }) [] (walkBytes (fresh (a .allowance)))
 
 -- "there the whole walk stops with 34, the paused one waits", the question written
 unfoldable pub pausedEnd : Agreement → End
 pausedEnd a =
     let e = a .end in
-    if eqb (e .number) 34 then record { number = waits; events = e .events ++ a .question; read = e .read; used = e .used } else e
+    if eqb (e .number) 34 then record { number = waits; events = e .events ++ a .question; read = e .read; used = e .used; left = e .left } else e
 
 -- the rules' own walk and one whole call
 unfoldable pub agreesAtOnce : List Rule → Agreement → Bool
@@ -131,11 +133,15 @@ allAgree test [] = true
 allAgree test (a ∷ more) = agreesBy test (understood (bytes (a .text))) a && allAgree test more
 
 abbrev pub walked : String → List ℕ → List ℕ → ℕ → List ℕ → ℕ → ℕ → Agreement
-walked t ts vs n es r u = record { text = t; tokens = ts; answers = vs; end = record { number = n; events = es; read = r; used = u }; question = [] }
+walked t ts vs n es r u = record { text = t; tokens = ts; answers = vs; allowance = 0; end = record { number = n; events = es; read = r; used = u; left = 0 }; question = [] }
+
+-- with a repair allowance, and what is left of it
+abbrev pub mended : String → List ℕ → ℕ → ℕ → List ℕ → ℕ → ℕ → Agreement
+mended t ts a n es r l = record { text = t; tokens = ts; answers = []; allowance = a; end = record { number = n; events = es; read = r; used = 0; left = l }; question = [] }
 
 -- a walk that comes to 34, and the question's event
 abbrev pub unanswered : String → List ℕ → List ℕ → List ℕ → ℕ → ℕ → List ℕ → Agreement
-unanswered t ts vs es r u q = record { text = t; tokens = ts; answers = vs; end = record { number = 34; events = es; read = r; used = u }; question = q }
+unanswered t ts vs es r u q = record { text = t; tokens = ts; answers = vs; allowance = 0; end = record { number = 34; events = es; read = r; used = u; left = 0 }; question = q }
 
 -- Programs
 
@@ -196,6 +202,29 @@ agreements =
     ∷ walked "input: a; output: o; rules M: @N .o; N: { [ | a: >> | *: ? ] }; end" (5 ∷ 0 ∷ []) [] 0 (1 ∷ 0 ∷ 0 ∷ []) 2 0
     ∷ []
 
+-- texts that miss tokens, and an allowance for them
+unfoldable pub repairs : List Agreement
+repairs =
+    -- P5 and P6 with an allowance
+    mended "input: a; rules M: a; end" [] 1 0 (4 ∷ 0 ∷ 0 ∷ []) 0 0
+    ∷ mended "input: a; rules M: a; end" (7 ∷ []) 5 0 (4 ∷ 0 ∷ 0 ∷ []) 0 4
+    ∷ mended "input: a; rules M: a; end" (0 ∷ []) 5 0 [] 1 5
+    ∷ mended "input: a b; rules M: [ | b: ]; end" (0 ∷ []) 1 0 (4 ∷ 1 ∷ 0 ∷ []) 0 0
+    ∷ mended "input: a b; rules M: [ | b: ]; end" (1 ∷ []) 1 0 [] 1 1
+    -- a closing mark that is missing, and two with an allowance of one
+    ∷ mended nesting (0 ∷ []) 3 0 (1 ∷ 0 ∷ 0 ∷ 4 ∷ 1 ∷ 0 ∷ 1 ∷ 1 ∷ 0 ∷ []) 1 2
+    ∷ mended nesting (0 ∷ 0 ∷ []) 1 30 (1 ∷ 0 ∷ 0 ∷ 1 ∷ 0 ∷ 0 ∷ 4 ∷ 1 ∷ 0 ∷ 1 ∷ 1 ∷ 0 ∷ []) 2 0
+    -- the first alternative of a choice, its first label, what follows being tested against the token that stayed
+    ∷ mended "input: a b c; output: o p; rules M: [ | b, a: .o c | c: .p ] ?; end" (2 ∷ []) 9 31 (1 ∷ 1 ∷ 0 ∷ []) 1 9
+    ∷ mended "input: a b c d; output: o p; rules M: [ | b, a: .o d | c: .p ]; end" (3 ∷ []) 9 0 (4 ∷ 1 ∷ 0 ∷ 1 ∷ 0 ∷ 0 ∷ []) 1 8
+    -- a cycle over an input choice without otherwise repairs until nothing is left
+    ∷ mended "input: a b; output: o; rules M: { [ | a, b: .o ] }; end" (1 ∷ []) 2 30 (1 ∷ 0 ∷ 0 ∷ 4 ∷ 0 ∷ 0 ∷ 1 ∷ 0 ∷ 0 ∷ 4 ∷ 0 ∷ 0 ∷ 1 ∷ 0 ∷ 0 ∷ []) 1 0
+    -- otherwise is taken without a repair
+    ∷ mended scanner (7 ∷ []) 3 0 [] 0 3
+    -- `?` with none stays 31
+    ∷ mended "input: a; rules M: a ?; end" [] 3 31 (4 ∷ 0 ∷ 0 ∷ []) 0 2
+    ∷ []
+
 -- 64 calls pending, and one more
 unfoldable pub deepAgreements : List Agreement
 deepAgreements =
@@ -206,5 +235,5 @@ deepAgreements =
 
 -- all of this file computes where this is unfolded
 unfoldable pub opened : Unit {0}
-unfolding sameEnd ownEnd byRules endAt wrote buffer atOnce handIn nextCall inCalls inPieces inPauses pausedEnd agreesAtOnce agreesInCalls agreesBy allAgree agreements deepAgreements
+unfolding sameEnd ownEnd byRules endAt wrote buffer atOnce handIn nextCall inCalls inPieces inPauses pausedEnd agreesAtOnce agreesInCalls agreesBy allAgree agreements repairs deepAgreements
 opened = tt

@@ -1,5 +1,6 @@
 -- The cases P1 to P8 of document 01, each as text, table, verdict and walks, and what it is for a case to hold: `process` gives the table and the
--- verdict, the lent bytes are the table's, and calls of a fresh walk over those very bytes give the numbers.
+-- verdict, the lent bytes are the table's, and calls of a fresh walk over those very bytes, with no
+-- repair allowance, give the numbers.
 use mathlib.Core.Bool.{Bool, true, false, _&&_}
 use mathlib.Core.List.{List, [], _∷_, _++_}
 use mathlib.Core.Option.{Option, none, some}
@@ -47,7 +48,7 @@ readOf (some w) = w .io .read
 -- a call over the lent bytes, with no event buffer: none of the walks below writes an event
 unfoldable pub runs : List ℕ → Run → Bool
 runs lent r =
-    let end = callBytes lent (bytesOf (r .tokens)) (whole []) (r .budget) (walkBytes fresh) [] in
+    let end = callBytes lent (bytesOf (r .tokens)) (whole []) (r .budget) (walkBytes (fresh 0)) [] in
     eqb (end .number) (r .number) && eqb (readOf (walkOf (end .walk))) (r .read)
 
 unfoldable pub allRun : List ℕ → List Run → Bool

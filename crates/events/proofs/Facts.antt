@@ -6,7 +6,7 @@ use Prim.Native.Nat.{ℕ}
 use lib.Dec.{T, eqb}
 use Rattle.base.specs.Common.{if_then_else_, same}
 use Rattle.events.specs.Events
-use Rattle.events.specs.Events.{Event, output, signal, operation, operationWith, eventWords, Reason, finished, differs, missing, unlabelled, deep, unanswered, outside, reasonNumber, isChoice, choices, Io, present, answer, took, wrote, answered, is}
+use Rattle.events.specs.Events.{Event, output, signal, repair, operation, operationWith, eventWords, Reason, finished, differs, missing, unlabelled, deep, unanswered, outside, reasonNumber, isChoice, choices, Io, present, answer, took, wrote, answered, mends, spent, repaired, is}
 
 -- Events and reasons
 
@@ -23,6 +23,8 @@ events =
     says (output 0) 1 0 0
     ∷ says (output 7) 1 7 0
     ∷ says (signal 10) 2 10 0
+    ∷ says (repair 0) 4 0 0
+    ∷ says (repair 900) 4 900 0
     ∷ says (operation 256) 3 256 0
     ∷ says (operation 1023) 3 1023 0
     ∷ says (operationWith 512 9) 3 512 9
@@ -47,17 +49,17 @@ pub reasons-number : T (same (numbers (finished ∷ differs ∷ missing ∷ unla
 unfolding numbers Events.opened
 reasons-number = tt
 
--- choice operations are those from 768 on: the others, output tokens and errors are none, whatever their numbers
+-- choice operations are those from 768 on: the others, output tokens, errors and repaired tokens are none, whatever their numbers
 pub choices-counted : T (not (isChoice (operation 256)) && not (isChoice (operationWith 767 800)) && isChoice (operation 768) && isChoice (operationWith 1024 0)
     && not (isChoice (output 768)) && not (isChoice (signal 1024)) && eqb (choices []) 0
-    && eqb (choices (operation 768 ∷ output 900 ∷ operationWith 512 768 ∷ operationWith 1279 3 ∷ signal 768 ∷ operation 1023 ∷ operation 511 ∷ [])) 3)
+    && eqb (choices (operation 768 ∷ output 900 ∷ repair 768 ∷ operationWith 512 768 ∷ operationWith 1279 3 ∷ signal 768 ∷ operation 1023 ∷ operation 511 ∷ [])) 3)
 unfolding Events.opened
 choices-counted = tt
 
 -- Tokens and answers
 
 abbrev pub io : ℕ → ℕ → List Event → Io
-io r u es = record { read = r; used = u; events = es }
+io r u es = record { read = r; used = u; allowance = 7; events = es }
 
 pub record Look : Type 0 where
   pub list : List ℕ
@@ -113,7 +115,7 @@ wordsOf [] = []
 wordsOf (e ∷ es) = eventWords e ++ wordsOf es
 
 pub isIo : Io → ℕ → ℕ → List ℕ → Bool
-isIo x r u ws = eqb (x .read) r && eqb (x .used) u && same (wordsOf (x .events)) ws
+isIo x r u ws = eqb (x .read) r && eqb (x .used) u && eqb (x .allowance) 7 && same (wordsOf (x .events)) ws
 
 -- one token more is read, an event is written behind the others, one answer more is used; nothing else changes
 pub changes : T (isIo (took (io 3 4 (output 1 ∷ []))) 4 4 (1 ∷ 1 ∷ 0 ∷ [])
@@ -129,3 +131,17 @@ pub greatest : T (isIo (answered (io 0 18446744073709551613 [])) 0 1844674407370
     && isIo (answered (io 0 18446744073709551615 [])) 0 18446744073709551615 [])
 unfolding isIo wordsOf Events.opened
 greatest = tt
+
+-- What a repair changes
+
+abbrev pub left : ℕ → Io
+left a = record { read = 3; used = 4; allowance = a; events = output 1 ∷ [] }
+
+pub isLeft : Io → ℕ → List ℕ → Bool
+isLeft x a ws = eqb (x .read) 3 && eqb (x .used) 4 && eqb (x .allowance) a && same (wordsOf (x .events)) ws
+
+-- "the event 4, required token, 0 is written, the allowance falls by one"; "A repaired token isn't counted as read."
+pub repairs : T (isLeft (repaired 9 (left 65535)) 65534 (1 ∷ 1 ∷ 0 ∷ 4 ∷ 9 ∷ 0 ∷ []) && isLeft (repaired 9 (left 1)) 0 (1 ∷ 1 ∷ 0 ∷ 4 ∷ 9 ∷ 0 ∷ [])
+    && isLeft (spent (left 1)) 0 (1 ∷ 1 ∷ 0 ∷ []) && mends (left 1) && mends (left 65535) && not (mends (left 0)))
+unfolding isLeft wordsOf Events.opened
+repairs = tt

@@ -24,7 +24,7 @@ length-phase-words machine.going = refl
 length-phase-words machine.waiting = refl
 length-phase-words (machine.stopped r) = refl
 
-length-registers : (r : Registers) → length (registerWords r) ≡ 12
+length-registers : (r : Registers) → length (registerWords r) ≡ 13
 unfolding registerWords form.words64
 length-registers r = refl
 
@@ -37,38 +37,39 @@ words-of w e =
     rw n (simp append-assoc)
 
 -- phase, registers and return locations, each written in its place, are the form
-pub walk-written : (s : List ℕ) (w : Walk) → length s ≡ 156 → length (w .returns) ≡ 64
-    → puts (puts (puts s 0 (form.phaseWords (view.phaseOf (w .phase)))) 2 (registerWords (w .at))) 14 (form.returnWords (reverse (take (w .at .depth) (w .returns)))) ≡ form.walkBytes (view.walkOf w)
+pub walk-written : (s : List ℕ) (w : Walk) → length s ≡ 158 → length (w .returns) ≡ 64
+    → puts (puts (puts s 0 (form.phaseWords (view.phaseOf (w .phase)))) 2 (registerWords (w .at))) 15 (form.returnWords (reverse (take (w .at .depth) (w .returns)))) ≡ form.walkBytes (view.walkOf w)
 unfolding form.walkBytes
 walk-written s w e n =
     let a = form.phaseWords (view.phaseOf (w .phase)) in
     let b = registerWords (w .at) in
     let c = form.returnWords (reverse (take (w .at .depth) (w .returns))) in
     let la = length-phase-words (view.phaseOf (w .phase)) in
-    let lb : length b ≡ 12 = length-registers (w .at) in
+    let lb : length b ≡ 13 = length-registers (w .at) in
     let lc = length-return-words (w .at .depth) (w .returns) n in
     let lab = length-append a b in
     let labc = length-append (a ++ b) c in
-    rw (puts-then s 0 a b 2 (omega arith), puts-then s 0 (a ++ b) c 14 (omega arith), puts-all s ((a ++ b) ++ c) (omega arith), words-of w n)
+    rw (puts-then s 0 a b 2 (omega arith), puts-then s 0 (a ++ b) c 15 (omega arith), puts-all s ((a ++ b) ++ c) (omega arith), words-of w n)
 
 -- what words name, part by part
 pub named-is : (ph : Phase) (at : Registers) (rs ws : List ℕ) → view.phaseOf ph ≡ form.phaseOf (getD ws 0 0) (getD ws 1 0) → at ≡ registersIn ws
-    → rs ≡ take 64 (drop 14 ws) → ((i : ℕ) → getD ws i 0 < 65536) → view.walkOf (record { phase = ph; at = at; returns = rs }) ≡ form.walkNamed ws
+    → rs ≡ take 64 (drop 15 ws) → ((i : ℕ) → getD ws i 0 < 65536) → view.walkOf (record { phase = ph; at = at; returns = rs }) ≡ form.walkNamed ws
 unfolding view.walkOf view.walkIn registersIn form.walkNamed
 named-is ph at rs ws p e f small =
     let result : at .result % 65536 ≡ getD ws 3 0 = ap (λ (r : Registers). r .result % 65536) e ∙ omega (arith, small 3) in
     let parameter : at .parameter % 65536 ≡ getD ws 4 0 = ap (λ (r : Registers). r .parameter % 65536) e ∙ omega (arith, small 4) in
+    let allowance : at .allowance ≡ getD ws 6 0 = ap (λ (r : Registers). r .allowance) e ∙ omega (arith, small 6) in
     λ i. record {
       phase = p i;
       location = e i .location;
       returns = reverse (take (e i .depth) (f i));
       result = result i;
       parameter = parameter i;
-      io = record { read = e i .read; used = e i .used; events = [] };
+      io = record { read = e i .read; used = e i .used; allowance = allowance i; events = [] };
     }
 
--- only 156 bytes are a walk
-pub no-walk : (s : List ℕ) → ((i : ℕ) → getD s i 0 < 256) → (length s ≡ 156 → ⊥) → form.walkOf s ≡ none
+-- only 158 bytes are a walk
+pub no-walk : (s : List ℕ) → ((i : ℕ) → getD s i 0 < 256) → (length s ≡ 158 → ⊥) → form.walkOf s ≡ none
 no-walk s b h = by-cases (form.walkOf s) refl
   where
     by-cases : (o : Option machine.Walk) → form.walkOf s ≡ o → o ≡ none

@@ -42,12 +42,16 @@ unfoldable pub usedOr0 : Option Walk → ℕ
 usedOr0 none = 0
 usedOr0 (some w) = w .io .used
 
+unfoldable pub allowanceOr0 : Option Walk → ℕ
+allowanceOr0 none = 0
+allowanceOr0 (some w) = w .io .allowance
+
 -- "Answers 0; 21 where the length is another, and then nothing is written."
 unfoldable pub freshNumber : List ℕ → ℕ
-freshNumber s = if eqb (length s) 156 then 0 else 21
+freshNumber s = if eqb (length s) 158 then 0 else 21
 
-unfoldable pub freshIn : List ℕ → List ℕ
-freshIn s = if eqb (length s) 156 then walkBytes fresh else s
+unfoldable pub freshIn : ℕ → List ℕ → List ℕ
+freshIn allowance s = if eqb (length s) 158 then walkBytes (fresh allowance) else s
 
 -- "`given` 1 and the answer; `given` 0 otherwise (any other value counts as 1)"
 unfoldable pub handing : ℕ → ℕ → Mode

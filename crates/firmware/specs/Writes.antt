@@ -16,9 +16,9 @@ use Rattle.firmware.specs.declared.Held.{Held}
 unfoldable pub puts : List ℕ → ℕ → List ℕ → List ℕ
 puts s i ws = sets s (2 * i) (bytesOf ws)
 
--- words 2 to 13 of a walk
+-- words 2 to 14 of a walk
 unfoldable pub registerWords : Registers → List ℕ
-registerWords r = r .location ∷ r .result % 65536 ∷ r .parameter % 65536 ∷ min (r .depth) 64 ∷ (form.words64 (r .read) ++ form.words64 (r .used))
+registerWords r = r .location ∷ r .result % 65536 ∷ r .parameter % 65536 ∷ min (r .depth) 64 ∷ r .allowance ∷ (form.words64 (r .read) ++ form.words64 (r .used))
 
 -- the registers that a walk's words name
 unfoldable pub registersIn : List ℕ → Registers
@@ -27,8 +27,9 @@ registersIn ws = record {
   depth = getD ws 5 0;
   result = getD ws 3 0;
   parameter = getD ws 4 0;
-  read = form.number64 (drop 6 ws);
-  used = form.number64 (drop 10 ws);
+  read = form.number64 (drop 7 ws);
+  used = form.number64 (drop 11 ws);
+  allowance = getD ws 6 0 % 65536;
 }
 
 -- h says which walk the bytes s are, or that they are none; the walk it holds can be written

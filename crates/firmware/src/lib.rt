@@ -1,4 +1,4 @@
-// The C entries (include/sst.h): numbers and byte slices, the walk as its 156 bytes (docs/LAYOUT.md).
+// The C entries (include/sst.h): numbers and byte slices, the walk as its 158 bytes (docs/LAYOUT.md).
 ghost use mathlib.Core.List.{[], _∷_, reverse};
 ghost use mathlib.Core.Path.{_≡_};
 ghost use Prim.Native.Nat.{_+_, _*_, _%_, _<_, _≤_, min};
@@ -13,7 +13,7 @@ ghost use Rattle.processor.specs.Process.{process, lentBytes};
 ghost use Rattle.firmware.specs.Processing.{flagOf, numbersOf, tells};
 ghost use Rattle.walker.specs.View as view;
 ghost use Rattle.firmware.specs.Writes.{puts, registerWords, registersIn, Holds};
-ghost use Rattle.firmware.specs.Entries.{phaseIn, reasonIn, phaseNumber, reasonOrNone, locationOr0, readOr0, usedOr0, freshNumber, freshIn, handing, gives};
+ghost use Rattle.firmware.specs.Entries.{phaseIn, reasonIn, phaseNumber, reasonOrNone, locationOr0, readOr0, usedOr0, allowanceOr0, freshNumber, freshIn, handing, gives};
 use walker::Called;
 use walker::Phase;
 use walker::Reason;
@@ -21,7 +21,7 @@ use walker::Registers;
 use walker::Walk;
 
 // The bytes of a walk.
-const WALK_BYTES: usize = 156;
+const WALK_BYTES: usize = 158;
 
 // Whether some bytes are a walk, and which.
 struct Held {
@@ -114,9 +114,9 @@ fn held_of(depth: usize) -> u16
     if depth < 64 { depth as u16 } else { 64 }
 }
 
-// Words 2 to 13.
+// Words 2 to 14.
 fn put_registers(out: &mut [u8], r: Registers)
-    requires { ⌜ (28 ≤ length (now out)) × (r .location < 65536) ⌝ }
+    requires { ⌜ (30 ≤ length (now out)) × (r .location < 65536) ⌝ }
     ensures { λ _. ⌜ now (out .exit) ≡ puts (now (out .entry)) 2 (registerWords r) ⌝ }
 {
     put_four(
@@ -127,8 +127,9 @@ fn put_registers(out: &mut [u8], r: Registers)
         narrow(r.parameter),
         held_of(r.depth),
     );
-    put_64(out, 6, r.read);
-    put_64(out, 10, r.used);
+    put_word(out, 6, r.allowance);
+    put_64(out, 7, r.read);
+    put_64(out, 11, r.used);
 }
 
 // The word of the return location at index i: 0 if it is not held.
@@ -139,21 +140,21 @@ fn return_at(returns: &[u16], depth: usize, i: usize) -> u16
     if i < depth { returns[i] } else { 0 }
 }
 
-// Words 14 to 77.
+// Words 15 to 78.
 fn put_returns(out: &mut [u8], returns: &[u16], depth: usize)
-    requires { ⌜ (156 ≤ length (now out)) × (length (now returns) ≡ 64) ⌝ }
-    ensures { λ _. ⌜ now (out .exit) ≡ puts (now (out .entry)) 14 (form.returnWords (reverse (take depth (now (returns .entry))))) ⌝ }
+    requires { ⌜ (158 ≤ length (now out)) × (length (now returns) ≡ 64) ⌝ }
+    ensures { λ _. ⌜ now (out .exit) ≡ puts (now (out .entry)) 15 (form.returnWords (reverse (take depth (now (returns .entry))))) ⌝ }
 {
     let mut i = 0;
     while i < 64 {
-        put_word(out, 14 + i, return_at(returns, depth, i));
+        put_word(out, 15 + i, return_at(returns, depth, i));
         i += 1;
     }
 }
 
-// The form of a walk: 78 words.
+// The form of a walk: 79 words.
 fn put_walk(out: &mut [u8], w: Walk)
-    requires { ⌜ (length (now out) ≡ 156) × (w .at .location < 65536) ⌝ }
+    requires { ⌜ (length (now out) ≡ 158) × (w .at .location < 65536) ⌝ }
     ensures { λ _. ⌜ now (out .exit) ≡ form.walkBytes (view.walkOf w) ⌝ }
 {
     let phase = w.phase;
@@ -199,7 +200,7 @@ fn word(s: &[u8], i: usize) -> u64
 
 // The four words from index i on as one number.
 fn read_64(s: &[u8], i: usize) -> u64
-    requires { ⌜ i < 78 ⌝ }
+    requires { ⌜ i < 79 ⌝ }
     ensures { λ r. ⌜ r ≡ form.number64 (drop i (wordsOf (now (s .entry)))) ⌝ }
 {
     word(s, i) * 281474976710656
@@ -208,7 +209,7 @@ fn read_64(s: &[u8], i: usize) -> u64
         + word(s, i + 3)
 }
 
-// The registers by words 2 to 13.
+// The registers by words 2 to 14.
 fn registers_of(s: &[u8]) -> Registers
     ensures { λ r. ⌜ (r ≡ registersIn (wordsOf (now (s .entry)))) × (r .location < 65536) ⌝ }
 {
@@ -217,20 +218,21 @@ fn registers_of(s: &[u8]) -> Registers
         depth: word(s, 5) as usize,
         result: word(s, 3),
         parameter: word(s, 4),
-        read: read_64(s, 6),
-        used: read_64(s, 10),
+        read: read_64(s, 7),
+        used: read_64(s, 11),
+        allowance: narrow(word(s, 6)),
     }
 }
 
-// The return locations by words 14 to 77.
+// The return locations by words 15 to 78.
 fn returns_of(s: &[u8]) -> [u16; 64]
-    requires { ⌜ length (now s) ≡ 156 ⌝ }
-    ensures { λ r. ⌜ r ≡ take 64 (drop 14 (wordsOf (now (s .entry)))) ⌝ }
+    requires { ⌜ length (now s) ≡ 158 ⌝ }
+    ensures { λ r. ⌜ r ≡ take 64 (drop 15 (wordsOf (now (s .entry)))) ⌝ }
 {
     let mut returns = [0u16; 64];
     let mut i = 0;
     while i < 64 {
-        returns[i] = machine::word(s, 14 + i);
+        returns[i] = machine::word(s, 15 + i);
         i += 1;
     }
     returns
@@ -238,7 +240,7 @@ fn returns_of(s: &[u8]) -> [u16; 64]
 
 // What the words name, if they are a walk's.
 fn named(s: &[u8]) -> Walk
-    requires { ⌜ length (now s) ≡ 156 ⌝ }
+    requires { ⌜ length (now s) ≡ 158 ⌝ }
     ensures { λ r. ⌜ (view.walkOf r ≡ form.walkNamed (wordsOf (now (s .entry)))) × (r .at .location < 65536) ⌝ }
 {
     let phase = phase_of(machine::word(s, 0), machine::word(s, 1));
@@ -262,8 +264,8 @@ fn same(a: &[u8], b: &[u8]) -> bool
     true
 }
 
-fn fresh_walk() -> Walk
-    ensures { λ r. ⌜ (view.walkOf r ≡ fresh) × (r .at .location < 65536) ⌝ }
+fn fresh_walk(allowance: u16) -> Walk
+    ensures { λ r. ⌜ (view.walkOf r ≡ fresh allowance) × (r .at .location < 65536) ⌝ }
 {
     let at = Registers {
         location: 1,
@@ -272,6 +274,7 @@ fn fresh_walk() -> Walk
         parameter: 0,
         read: 0,
         used: 0,
+        allowance,
     };
     Walk {
         phase: Phase::Going,
@@ -287,11 +290,11 @@ fn read_walk(s: &[u8]) -> Held
     if s.len() != WALK_BYTES {
         return Held {
             ok: false,
-            walk: fresh_walk(),
+            walk: fresh_walk(0),
         };
     }
     let walk = named(s);
-    let mut form = [0u8; 156];
+    let mut form = [0u8; 158];
     put_walk(&mut form, walk);
     let ok = same(&form, s);
     Held { ok, walk }
@@ -299,13 +302,13 @@ fn read_walk(s: &[u8]) -> Held
 
 // Entries
 
-// A fresh walk, in a buffer of the right length.
+// A fresh walk with a repair allowance, in a buffer of the right length.
 #[no_mangle]
-pub extern "C" fn sst_fresh(walk: &mut [u8]) -> u16
-    ensures { λ r. ⌜ (r ≡ freshNumber (now (walk .entry))) × (now (walk .exit) ≡ freshIn (now (walk .entry))) ⌝ }
+pub extern "C" fn sst_fresh(walk: &mut [u8], allowance: u16) -> u16
+    ensures { λ r. ⌜ (r ≡ freshNumber (now (walk .entry))) × (now (walk .exit) ≡ freshIn allowance (now (walk .entry))) ⌝ }
 {
     if walk.len() == WALK_BYTES {
-        put_walk(walk, fresh_walk());
+        put_walk(walk, fresh_walk(allowance));
         0
     } else {
         21
@@ -323,7 +326,7 @@ fn refuse(written: &mut u64, steps: &mut u64) -> u16
 
 // A call is done: the walk is written.
 fn give(r: Called, walk: &mut [u8], written: &mut u64, steps: &mut u64) -> u16
-    requires { ⌜ (length (now walk) ≡ 156) × (r .walk .at .location < 65536) ⌝ }
+    requires { ⌜ (length (now walk) ≡ 158) × (r .walk .at .location < 65536) ⌝ }
     ensures { λ n. ⌜ (n ≡ r .number) × (now (walk .exit) ≡ form.walkBytes (view.walkOf (r .walk))) × (now (written .exit) ≡ r .events) × (now (steps .exit) ≡ r .steps) ⌝ }
 {
     *written = r.events;
@@ -472,6 +475,20 @@ pub extern "C" fn sst_used(walk: &[u8]) -> u64
         let w = h.walk;
         let at = w.at;
         at.used
+    } else {
+        0
+    }
+}
+
+#[no_mangle]
+pub extern "C" fn sst_allowance(walk: &[u8]) -> u16
+    ensures { λ r. ⌜ r ≡ allowanceOr0 (form.walkOf (now (walk .entry))) ⌝ }
+{
+    let h = read_walk(walk);
+    if h.ok {
+        let w = h.walk;
+        let at = w.at;
+        at.allowance
     } else {
         0
     }

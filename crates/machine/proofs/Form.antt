@@ -60,7 +60,7 @@ returns-back rs h = rw (take-take (length rs) 64 (reverse rs ++ replicate (64 - 
 afterPhase : Walk → List ℕ
 afterPhase w =
     w .location ∷ w .result ∷ w .parameter ∷ length (w .returns)
-    ∷ (words64 (w .io .read) ++ (words64 (w .io .used) ++ returnWords (w .returns)))
+    ∷ w .io .allowance ∷ (words64 (w .io .read) ++ (words64 (w .io .used) ++ returnWords (w .returns)))
 
 named : (a b : ℕ) (w : Walk) → length (w .returns) ≤ 64 → w .io .events ≡ [] → phaseOf a b ≡ w .phase → walkNamed (a ∷ b ∷ afterPhase w) ≡ w
 unfolding walkNamed afterPhase words64
@@ -73,6 +73,7 @@ named a b w d e p = λ i. record {
   io = record {
     read = number64-words64 (w .io .read) (words64 (w .io .used) ++ returnWords (w .returns)) i;
     used = number64-words64 (w .io .used) (returnWords (w .returns)) i;
+    allowance = w .io .allowance;
     events = sym e i;
   };
 }
@@ -114,7 +115,7 @@ length-returnWords : (rs : List ℕ) → length rs ≤ 64 → length (returnWord
 unfolding returnWords
 length-returnWords rs h = simp (length-append, length-reverse, length-replicate) (omega arith)
 
-pub walkBytes-length : (w : Walk) → Fits w → length (walkBytes w) ≡ 156
+pub walkBytes-length : (w : Walk) → Fits w → length (walkBytes w) ≡ 158
 unfolding walkBytes walkWords words64 afterPhase
 walkBytes-length w f =
     let a = length-bytesOf (walkWords w) in
@@ -166,9 +167,10 @@ fits-named ws b = record {
   result = b 3;
   parameter = b 4;
   depth = simp (length-reverse, length-take, length-drop) (omega arith);
-  returns = λ i h. small-reverse (take (getD ws 5 0) (take 64 (drop 14 ws))) [] (small-take (getD ws 5 0) (take 64 (drop 14 ws)) (small-take 64 (drop 14 ws) (small-drop 14 ws b))) (λ k. omega arith) i;
-  read = small-number (drop 6 ws) (small-drop 6 ws b);
-  used = small-number (drop 10 ws) (small-drop 10 ws b);
+  returns = λ i h. small-reverse (take (getD ws 5 0) (take 64 (drop 15 ws))) [] (small-take (getD ws 5 0) (take 64 (drop 15 ws)) (small-take 64 (drop 15 ws) (small-drop 15 ws b))) (λ k. omega arith) i;
+  read = small-number (drop 7 ws) (small-drop 7 ws b);
+  used = small-number (drop 11 ws) (small-drop 11 ws b);
+  allowance = b 6;
   events = refl;
 }
 
@@ -181,6 +183,6 @@ walkOf-fits s w b e =
     subst Fits u (fits-named (wordsOf s) (small-words s b)))
     (λ f. let v : none ≡ some w = rw f at e in let z : _≡_ {A = Bool} false true = cc in never z)
 
--- a walk is 156 bytes
-pub walkOf-length : (s : List ℕ) (w : Walk) → ((i : ℕ) → getD s i 0 < 256) → walkOf s ≡ some w → length s ≡ 156
+-- a walk is 158 bytes
+pub walkOf-length : (s : List ℕ) (w : Walk) → ((i : ℕ) → getD s i 0 < 256) → walkOf s ≡ some w → length s ≡ 158
 walkOf-length s w b e = rw (walkBytes-walkOf s w e) at (walkBytes-length w (walkOf-fits s w b e))

@@ -11,11 +11,11 @@ use lib.ListN.{length, drop, getD, getElem?, length-append, length-drop}
 use borrow.Author.Tests.{ltb-true, ltb-false}
 use Rattle.base.specs.Common.{if_then_else_, given}
 use Rattle.base.specs.Bools.{never}
-use Rattle.events.specs.Events.{Event, Reason, deep, reasonNumber, unanswered, outside, Io, present, answer, took, wrote, answered, is}
+use Rattle.events.specs.Events.{Event, repair, Reason, differs, deep, reasonNumber, unanswered, outside, Io, present, answer, took, wrote, answered, mends, spent, is}
 use Rattle.machine.specs.Lengths.{lengthOf}
 use Rattle.machine.specs.Decode.{fetch, Instruction, invalid, jump, input, inputAny, write, inputChoice, callRule, return, setResult, choice, endChoice, setParameter, update, updateWith, choose, chooseWith, decodeOperation, decodeTwo, decodeOne, decodeWord, decodeAt, decode}
 use Rattle.machine.specs.Walk.{Phase, going, waiting, stopped, Walk, fresh, moved, withReturns, withResult, withParameter, withIo, inPhase, withAnswer, first64, atRest}
-use Rattle.machine.specs.Step.{Next, goesOutside, stops, goes, tells, asks, goTo, seekBy, landed, branched, inputChoosing, calling, returning, exec, step}
+use Rattle.machine.specs.Step.{Next, goesOutside, stops, goes, tells, asks, goTo, seekBy, landed, branched, inputChoosing, calling, returning, requiring, exec, step}
 use Rattle.machine.specs.Call.{Mode, whole, paused, Called, waits, ends, endsFor, writing, Turn, over, further, takes, handsOut, turn, run, callIn, callWalk}
 use Rattle.machine.specs.Form.{Fits}
 
@@ -76,6 +76,7 @@ record Runs (w : Walk) : Type 0 where
   returns : Small (w .returns)
   read : w .io .read < 18446744073709551616
   used : w .io .used < 18446744073709551616
+  allowance : w .io .allowance < 65536
 
 runs-fits : (w : Walk) → Fits w → Runs w
 runs-fits w f = record {
@@ -86,6 +87,7 @@ runs-fits w f = record {
   returns = small-within (w .returns) (f .returns);
   read = f .read;
   used = f .used;
+  allowance = f .allowance;
 }
 
 runs-moved : (l : ℕ) (w : Walk) → l < 65536 → Runs w → Runs (moved l w)
@@ -98,6 +100,7 @@ runs-moved l w h r = record {
   returns = r .returns;
   read = r .read;
   used = r .used;
+  allowance = r .allowance;
 }
 
 runs-returns : (rs : List ℕ) (w : Walk) → length rs ≤ 64 → Small rs → Runs w → Runs (withReturns rs w)
@@ -110,6 +113,7 @@ runs-returns rs w d b r = record {
   returns = b;
   read = r .read;
   used = r .used;
+  allowance = r .allowance;
 }
 
 runs-result : (v : ℕ) (w : Walk) → v < 65536 → Runs w → Runs (withResult v w)
@@ -122,6 +126,7 @@ runs-result v w h r = record {
   returns = r .returns;
   read = r .read;
   used = r .used;
+  allowance = r .allowance;
 }
 
 runs-parameter : (v : ℕ) (w : Walk) → v < 65536 → Runs w → Runs (withParameter v w)
@@ -134,11 +139,12 @@ runs-parameter v w h r = record {
   returns = r .returns;
   read = r .read;
   used = r .used;
+  allowance = r .allowance;
 }
 
-runs-io : (io : Io) (w : Walk) → io .read < 18446744073709551616 → io .used < 18446744073709551616 → Runs w → Runs (withIo io w)
+runs-io : (io : Io) (w : Walk) → io .read < 18446744073709551616 → io .used < 18446744073709551616 → io .allowance < 65536 → Runs w → Runs (withIo io w)
 unfolding withIo
-runs-io io w h k r = record {
+runs-io io w h k a r = record {
   location = r .location;
   result = r .result;
   parameter = r .parameter;
@@ -146,6 +152,7 @@ runs-io io w h k r = record {
   returns = r .returns;
   read = h;
   used = k;
+  allowance = a;
 }
 
 runs-phase : (p : Phase) (w : Walk) → Runs w → Runs (inPhase p w)
@@ -158,18 +165,19 @@ runs-phase p w r = record {
   returns = r .returns;
   read = r .read;
   used = r .used;
+  allowance = r .allowance;
 }
 
 runs-writing : (e : Event) (w : Walk) → Runs w → Runs (writing e w)
 unfolding writing wrote
-runs-writing e w r = runs-io (wrote e (w .io)) w (r .read) (r .used) r
+runs-writing e w r = runs-io (wrote e (w .io)) w (r .read) (r .used) (r .allowance) r
 
 -- "answers used, 64 bits wide, stops at its greatest"
 runs-answer : (x : ℕ) (w : Walk) → x < 65536 → Runs w → Runs (withAnswer x w)
 unfolding withAnswer answered
 runs-answer x w h r =
     runs-phase going (withResult x (withIo (answered (w .io)) w))
-    (runs-result x (withIo (answered (w .io)) w) h (runs-io (answered (w .io)) w (r .read) (omega arith) r))
+    (runs-result x (withIo (answered (w .io)) w) h (runs-io (answered (w .io)) w (r .read) (omega arith) (r .allowance) r))
 
 -- a walk that runs fits at rest
 fits-rest : (w : Walk) → Runs w → Fits (atRest w)
@@ -182,6 +190,7 @@ fits-rest w r = record {
   returns = λ i h. small-drop (length (w .returns) - 64) (w .returns) (r .returns) i;
   read = r .read;
   used = r .used;
+  allowance = r .allowance;
   events = refl;
 }
 
@@ -266,7 +275,7 @@ module _ (T tokens : List ℕ) (smallT : Small T) (smallTokens : Small tokens) (
 
   runs-took : (w : Walk) → given (present tokens (w .io)) ≡ true → Runs w → Runs (withIo (took (w .io)) w)
   unfolding took present
-  runs-took w e r = let h = below tokens (w .io .read) e in runs-io (took (w .io)) w (omega arith) (r .used) r
+  runs-took w e r = let h = below tokens (w .io .read) e in runs-io (took (w .io)) w (omega arith) (r .used) (r .allowance) r
 
   on-goTo : (l : ℕ) (w : Walk) → Runs w → Each Runs (goTo T tokens l w)
   unfolding goTo
@@ -297,7 +306,7 @@ module _ (T tokens : List ℕ) (smallT : Small T) (smallTokens : Small tokens) (
       let q = h refl in
       let s = runs-result t w b r in
       on-branched (fetch T c) (some t) c (withIo (took (w .io)) (withResult t w)) (withResult t w)
-      (runs-io (took (w .io)) (withResult t w) (omega arith) (r .used) s) s
+      (runs-io (took (w .io)) (withResult t w) (omega arith) (r .used) (r .allowance) s) s
 
   on-calling : (l : ℕ) (w : Walk) → w .location ≤ 4096 → Runs w → Each Runs (calling T tokens l w)
   unfolding calling
@@ -320,14 +329,19 @@ module _ (T tokens : List ℕ) (smallT : Small T) (smallTokens : Small tokens) (
   further-on : (k : ℕ) (w v : Walk) → k ≤ 2 → w .location ≤ 4096 → Runs v → Runs (moved (w .location + k) v)
   further-on k w v h n r = runs-moved (w .location + k) v (omega arith) r
 
+  -- a required token, with the outcome of its test
+  on-requiring : (t : ℕ) (b : Bool) (w : Walk) → (b ≡ true → given (present tokens (w .io)) ≡ true) → w .location ≤ 4096 → Runs w → Each Runs (requiring T tokens t b w)
+  unfolding requiring spent
+  on-requiring t true w h s r = further-on 2 w (withIo (took (w .io)) w) (omega arith) s (runs-took w (h refl) r)
+  on-requiring t false w h s r =
+      either (Each Runs) (mends (w .io)) (tells (repair t) (moved (w .location + 2) (withIo (spent (w .io)) w))) (stops differs)
+      (further-on 2 w (withIo (spent (w .io)) w) (omega arith) s (runs-io (spent (w .io)) w (r .read) (r .used) (omega (arith, r .allowance)) r)) tt
+
   on-exec : (i : Instruction) (w : Walk) → Stands (w .location) i → Runs w → Each Runs (exec T tokens i w)
   unfolding exec
   on-exec invalid w s r = tt
   on-exec (jump l) w s r = on-goTo l w r
-  on-exec (input t) w s r =
-      tested (Each Runs) (is t (present tokens (w .io))) (goes (moved (w .location + 2) (withIo (took (w .io)) w))) _
-      (λ e. further-on 2 w (withIo (took (w .io)) w) (omega arith) s (runs-took w (is-given t (present tokens (w .io)) e) r))
-      (λ f. tt)
+  on-exec (input t) w s r = on-requiring t (is t (present tokens (w .io))) w (is-given t (present tokens (w .io))) s r
   on-exec inputAny w s r =
       tested (Each Runs) (given (present tokens (w .io))) (goes (moved (w .location + 1) (withIo (took (w .io)) w))) _
       (λ e. further-on 1 w (withIo (took (w .io)) w) (omega arith) s (runs-took w e r))
@@ -427,16 +441,17 @@ pub fits-call : (T tokens : List ℕ) (m : Mode) (budget room : ℕ) (w : Walk) 
 unfolding callWalk
 fits-call T tokens m budget room w st sk sm lt lk f = on-call T tokens st sk lt lk (w .phase) m budget room w sm f
 
-pub fits-fresh : Fits fresh
+pub fits-fresh : (a : ℕ) → a < 65536 → Fits (fresh a)
 unfolding fresh
-fits-fresh = record {
+fits-fresh a h = record {
   location = omega arith;
   result = omega arith;
   parameter = omega arith;
   depth = omega arith;
-  returns = λ i h. omega arith;
+  returns = λ i k. omega arith;
   read = omega arith;
   used = omega arith;
+  allowance = h;
   events = refl;
 }
 
@@ -482,11 +497,16 @@ module _ (T tokens : List ℕ) (es : List Event) where
   wrote-returning [] w r = tt
   wrote-returning (l ∷ rs) w r = wrote-goTo l (withReturns rs w) r
 
+  wrote-requiring : (t : ℕ) (b : Bool) (w : Walk) → Wrote es w → Each (Wrote es) (requiring T tokens t b w)
+  unfolding requiring moved withIo took spent
+  wrote-requiring t true w r = r
+  wrote-requiring t false w r = either (Each (Wrote es)) (mends (w .io)) (tells (repair t) (moved (w .location + 2) (withIo (spent (w .io)) w))) (stops differs) r tt
+
   wrote-exec : (i : Instruction) (w : Walk) → Wrote es w → Each (Wrote es) (exec T tokens i w)
   unfolding exec moved withIo withResult withParameter took
   wrote-exec invalid w r = tt
   wrote-exec (jump l) w r = wrote-goTo l w r
-  wrote-exec (input t) w r = either (Each (Wrote es)) (is t (present tokens (w .io))) _ _ r tt
+  wrote-exec (input t) w r = wrote-requiring t (is t (present tokens (w .io))) w r
   wrote-exec inputAny w r = either (Each (Wrote es)) (given (present tokens (w .io))) _ _ r tt
   wrote-exec (write e) w r = r
   wrote-exec (inputChoice c) w r = wrote-inputChoosing (present tokens (w .io)) c w r

@@ -26,11 +26,11 @@ words64 n = n / 281474976710656 ∷ n / 4294967296 % 65536 ∷ n / 65536 % 65536
 unfoldable pub returnWords : List ℕ → List ℕ
 returnWords rs = reverse rs ++ replicate (64 - length rs) 0
 
--- the 78 words of a walk
+-- the 79 words of a walk
 unfoldable pub walkWords : Walk → List ℕ
 walkWords w =
     phaseWords (w .phase) ++ (w .location ∷ w .result ∷ w .parameter ∷ length (w .returns)
-    ∷ (words64 (w .io .read) ++ (words64 (w .io .used) ++ returnWords (w .returns))))
+    ∷ w .io .allowance ∷ (words64 (w .io .read) ++ (words64 (w .io .used) ++ returnWords (w .returns))))
 
 unfoldable pub walkBytes : Walk → List ℕ
 walkBytes w = bytesOf (walkWords w)
@@ -53,8 +53,8 @@ walkNamed ws = record {
   location = getD ws 2 0;
   result = getD ws 3 0;
   parameter = getD ws 4 0;
-  returns = reverse (take (getD ws 5 0) (take 64 (drop 14 ws)));
-  io = record { read = number64 (drop 6 ws); used = number64 (drop 10 ws); events = [] };
+  returns = reverse (take (getD ws 5 0) (take 64 (drop 15 ws)));
+  io = record { read = number64 (drop 7 ws); used = number64 (drop 11 ws); allowance = getD ws 6 0; events = [] };
 }
 
 -- the walk that the bytes are; none for "bytes that no walk is written as by the layout in docs/"
@@ -70,6 +70,7 @@ pub record Fits (w : Walk) : Type 0 where
   pub returns : (i : ℕ) → i < length (w .returns) → getD (w .returns) i 0 < 65536
   pub read : w .io .read < 18446744073709551616
   pub used : w .io .used < 18446744073709551616
+  pub allowance : w .io .allowance < 65536
   pub events : w .io .events ≡ []
 
 -- A call over bytes

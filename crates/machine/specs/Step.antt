@@ -6,7 +6,7 @@ use Prim.Native.Nat.{ℕ, zero, suc, _+_, _*_, _-_}
 use lib.Dec.{leb, ltb}
 use lib.ListN.{length}
 use Rattle.base.specs.Common.{if_then_else_, given}
-use Rattle.events.specs.Events.{Event, operation, operationWith, Reason, finished, differs, missing, unlabelled, deep, Io, present, took, is}
+use Rattle.events.specs.Events.{Event, repair, operation, operationWith, Reason, finished, differs, missing, unlabelled, deep, Io, present, took, mends, spent, is}
 use Rattle.machine.specs.Decode.{fetch, Instruction, invalid, jump, input, inputAny, write, inputChoice, callRule, return, setResult, choice, endChoice, setParameter, update, updateWith, choose, chooseWith, decode}
 use Rattle.machine.specs.Walk.{Walk, moved, withReturns, withResult, withParameter, withIo}
 
@@ -59,10 +59,18 @@ module _ (T tokens : List ℕ) where
   returning [] w = stops finished
   returning (l ∷ rs) w = goTo l (withReturns rs w)
 
+  -- "Where a required token differs or is absent and allowance is left, the event 4, required token, 0 is written, the allowance falls by
+  -- one, and the walk goes on as if that token had been read"; "30 comes only with the allowance used up"
+  unfoldable pub requiring : ℕ → Bool → Walk → Next
+  requiring t there w =
+      if there then goes (moved (w .location + 2) (withIo (took (w .io)) w))
+      else if mends (w .io) then tells (repair t) (moved (w .location + 2) (withIo (spent (w .io)) w))
+      else stops differs
+
   unfoldable pub exec : Instruction → Walk → Next
   exec invalid w = goesOutside
   exec (jump l) w = goTo l w
-  exec (input t) w = if is t (present tokens (w .io)) then goes (moved (w .location + 2) (withIo (took (w .io)) w)) else stops differs
+  exec (input t) w = requiring t (is t (present tokens (w .io))) w
   exec inputAny w = if given (present tokens (w .io)) then goes (moved (w .location + 1) (withIo (took (w .io)) w)) else stops missing
   exec (write e) w = tells e (moved (w .location + 2) w)
   exec (inputChoice c) w = inputChoosing (present tokens (w .io)) c w
@@ -82,5 +90,5 @@ module _ (T tokens : List ℕ) where
 
 -- all of this file computes where this is unfolded
 unfoldable pub opened : Unit {0}
-unfolding goTo seek seekBy landed branched inputChoosing calling returning exec step
+unfolding goTo seek seekBy landed branched inputChoosing calling returning requiring exec step
 opened = tt

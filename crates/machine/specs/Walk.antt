@@ -1,5 +1,5 @@
 -- "A walk is going on, waits for an operation's answer, or has stopped for one reason; it holds its location, up to 64 return
--- locations, result and parameter, tokens read and answers used."
+-- locations, result and parameter, tokens read and answers used."; "The walk's record holds the allowance"
 use mathlib.Core.List.{List, [], _∷_}
 use Prim.Native.Nat.{ℕ, _-_}
 use lib.ListN.{length, drop}
@@ -9,7 +9,7 @@ pub data Phase : Type 0 where
   going waiting : Phase
   stopped : Reason → Phase
 
--- `returns` has the newest first; `io` has tokens read and answers used, and, within a call, the events that the call wrote
+-- `returns` has the newest first; `io` has tokens read, answers used and the allowance left, and, within a call, the events that the call wrote
 pub record Walk : Type 0 where
   pub phase : Phase
   pub location : ℕ
@@ -18,9 +18,9 @@ pub record Walk : Type 0 where
   pub parameter : ℕ
   pub io : Io
 
--- "A fresh walk goes on at 1, the rest 0 or empty."
-unfoldable pub fresh : Walk
-fresh = record { phase = going; location = 1; returns = []; result = 0; parameter = 0; io = record { read = 0; used = 0; events = [] } }
+-- "A fresh walk goes on at 1, the rest 0 or empty."; "a fresh one's the whole of it"
+unfoldable pub fresh : ℕ → Walk
+fresh allowance = record { phase = going; location = 1; returns = []; result = 0; parameter = 0; io = record { read = 0; used = 0; allowance = allowance; events = [] } }
 
 -- a walk with one thing changed
 
@@ -53,7 +53,7 @@ first64 rs = drop (length rs - 64) rs
 
 -- a walk as a call begins with it, and as a call gives it back: no event of an earlier call
 unfoldable pub atRest : Walk → Walk
-atRest w = withReturns (first64 (w .returns)) (withIo (record { read = w .io .read; used = w .io .used; events = [] }) w)
+atRest w = withReturns (first64 (w .returns)) (withIo (record { read = w .io .read; used = w .io .used; allowance = w .io .allowance; events = [] }) w)
 
 -- all of this file computes where this is unfolded
 unfoldable pub opened : Unit {0}

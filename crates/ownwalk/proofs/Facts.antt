@@ -15,20 +15,26 @@ use Rattle.ownwalk.specs.OwnWalk.{Own, on, choosing, stopped, nowhere, n
 use Rattle.program.specs.Program
 use Rattle.program.specs.Program.{Plain, match, any, emit, error, exit, call, back, give, update, updateWith, Selector, byToken, byRule, byOperation, byOperationWith, Act, Acts, Alts, Other, Rule}
 
--- a program walked with tokens and answers: after so many steps and not before it has stopped with this number, having written these
--- event words, read so many tokens and used so many answers
+-- a program walked with tokens, answers and a repair allowance: after so many steps and not before it has stopped with this number, having written these
+-- event words, read so many tokens and used so many answers, with so much of the allowance left
 pub record Walked : Type 0 where
   pub program : List Rule
   pub tokens : List ℕ
   pub answers : List ℕ
+  pub allowance : ℕ
   pub steps : ℕ
   pub number : ℕ
   pub events : List ℕ
   pub read : ℕ
   pub used : ℕ
+  pub left : ℕ
 
 abbrev pub walk : List Rule → List ℕ → List ℕ → ℕ → ℕ → List ℕ → ℕ → ℕ → Walked
-walk prog ts vs n r es k u = record { program = prog; tokens = ts; answers = vs; steps = n; number = r; events = es; read = k; used = u }
+walk prog ts vs n r es k u = record { program = prog; tokens = ts; answers = vs; allowance = 0; steps = n; number = r; events = es; read = k; used = u; left = 0 }
+
+-- with a repair allowance, and what is left of it
+abbrev pub mending : ℕ → List Rule → List ℕ → List ℕ → ℕ → ℕ → List ℕ → ℕ → ℕ → ℕ → Walked
+mending a prog ts vs n r es k u l = record { program = prog; tokens = ts; answers = vs; allowance = a; steps = n; number = r; events = es; read = k; used = u; left = l }
 
 pub wordsOf : List Event → List ℕ
 wordsOf [] = []
@@ -39,6 +45,7 @@ isStop (on q k ps io) w = false
 isStop (choosing v al o q k ps io) w = false
 isStop (nowhere io) w = false
 isStop (stopped r io) w = eqb (reasonNumber r) (w .number) && same (wordsOf (io .events)) (w .events) && eqb (io .read) (w .read) && eqb (io .used) (w .used)
+    && eqb (io .allowance) (w .left)
 
 pub goesOn : Own → Bool
 goesOn (on q k ps io) = true
@@ -49,7 +56,7 @@ goesOn (stopped r io) = false
 -- stopped after its steps and three later, and going on one step before
 pub holds : Walked → Bool
 holds w =
-    let after : ℕ → Own = λ n. owns (w .program) (w .tokens) (w .answers) n (ownStart (w .program)) in
+    let after : ℕ → Own = λ n. owns (w .program) (w .tokens) (w .answers) n (ownStart (w .program) (w .allowance)) in
     isStop (after (w .steps)) w && isStop (after (w .steps + 3)) w && goesOn (after (w .steps - 1))
 
 pub allHold : List Walked → Bool
@@ -183,8 +190,38 @@ calls =
     ∷ walk (one (if1else byToken 1 (call 0 ▹ done) done ▸ done)) (replicate 65 1) [] 130 33 [] 65 0
     ∷ []
 
-pub all-hold : T (allHold (plains ++ (cycles ++ (byTokens ++ (byRules ++ (byOperations ++ calls))))))
-unfolding wordsOf isStop goesOn holds allHold plains cycles byTokens byRules byOperations calls Events.opened Program.opened OwnWalk.opened
+-- "Where a required token differs or is absent and allowance is left, the event 4, required token, 0 is written, the allowance falls by
+-- one, and the walk goes on as if that token had been read, the present one staying unread."
+pub repairs : List Walked
+repairs =
+    let some = one (choice byToken (alternative (4 ∷ 5 ∷ []) (emit 1 ▹ done) (alternative (6 ∷ []) (emit 2 ▹ done) nil)) absent ▸ emit 9 ▹ done) in
+    -- no repair where the token is there: the allowance stays
+    mending 3 (one (match 5 ▹ done)) (5 ∷ []) [] 2 0 [] 1 0 3
+    -- another token, which stays unread; none
+    ∷ mending 3 (one (match 5 ▹ done)) (6 ∷ []) [] 2 0 (4 ∷ 5 ∷ 0 ∷ []) 0 0 2
+    ∷ mending 1 (one (match 5 ▹ done)) [] [] 2 0 (4 ∷ 5 ∷ 0 ∷ []) 0 0 0
+    ∷ mending 1 (one (match 5 ▹ match 6 ▹ done)) (6 ∷ []) [] 3 0 (4 ∷ 5 ∷ 0 ∷ []) 1 0 0
+    -- 30 with the allowance used up
+    ∷ mending 1 (one (match 5 ▹ match 6 ▹ done)) (7 ∷ []) [] 2 30 (4 ∷ 5 ∷ 0 ∷ []) 0 0 0
+    ∷ mending 65535 (one (match 5 ▹ done)) [] [] 2 0 (4 ∷ 5 ∷ 0 ∷ []) 0 0 65534
+    -- `?` with none stays 31
+    ∷ mending 9 (one (any ▹ done)) [] [] 1 31 [] 0 0 9
+    -- an input choice without otherwise takes its first alternative, whose first label is repaired
+    ∷ mending 2 some (7 ∷ []) [] 5 0 (4 ∷ 4 ∷ 0 ∷ 1 ∷ 1 ∷ 0 ∷ 1 ∷ 9 ∷ 0 ∷ []) 0 0 1
+    ∷ mending 2 some [] [] 5 0 (4 ∷ 4 ∷ 0 ∷ 1 ∷ 1 ∷ 0 ∷ 1 ∷ 9 ∷ 0 ∷ []) 0 0 1
+    ∷ mending 2 some (6 ∷ []) [] 5 0 (1 ∷ 2 ∷ 0 ∷ 1 ∷ 9 ∷ 0 ∷ []) 1 0 2
+    ∷ mending 0 some (7 ∷ []) [] 1 30 [] 0 0 0
+    -- otherwise is no repair; nor is a value without a label
+    ∷ mending 2 (one (if1else byToken 4 (emit 1 ▹ done) (emit 3 ▹ done) ▸ done)) (7 ∷ []) [] 4 0 (1 ∷ 3 ∷ 0 ∷ []) 0 0 2
+    ∷ mending 2 (one (if1 (byOperation 768) 2 done ▸ done)) [] (7 ∷ []) 2 32 (3 ∷ 768 ∷ 0 ∷ []) 0 1 2
+    -- a cycle that repairs to the end of the allowance
+    ∷ mending 2 (one (cycle (match 5 ▹ done) ▸ done)) [] [] 6 30 (4 ∷ 5 ∷ 0 ∷ 4 ∷ 5 ∷ 0 ∷ []) 0 0 0
+    -- a repaired token 768 is no choice operation: the first answer is still the next
+    ∷ mending 1 (one (match 768 ▹ if1 (byOperation 768) 2 done ▸ done)) [] (2 ∷ []) 5 0 (4 ∷ 768 ∷ 0 ∷ 3 ∷ 768 ∷ 0 ∷ []) 0 1 0
+    ∷ []
+
+pub all-hold : T (allHold (repairs ++ (plains ++ (cycles ++ (byTokens ++ (byRules ++ (byOperations ++ calls)))))))
+unfolding wordsOf isStop goesOn holds allHold repairs plains cycles byTokens byRules byOperations calls Events.opened Program.opened OwnWalk.opened
 all-hold = tt
 
 -- Which answer is next goes by the choice operations in the events, also where the count of answers used stands at its greatest (R15).

@@ -1,5 +1,6 @@
 -- "The rules' own walk is fed the program, tokens and answers, no table. It holds its place, pending calls, tokens read, answers
--- used (with the same greatest) and events, and begins at the first rule's start."
+-- used (with the same greatest) and events, and begins at the first rule's start."; "the source meaning begins with the same allowance and
+-- repairs likewise"
 use mathlib.Core.Bool.{Bool, true, false}
 use mathlib.Core.List.{List, [], _∷_}
 use mathlib.Core.Option.{Option, none, some}
@@ -8,7 +9,7 @@ use lib.Dec.{ltb}
 use lib.ListN.{length, getElem?}
 use Rattle.base.specs.Common.{if_then_else_, member, given}
 use Rattle.base.specs.Tree.{Action, plain, cycle, choice, Actions, done, _▸_, Alternatives, nil, alternative, Otherwise, absent, otherwise}
-use Rattle.events.specs.Events.{Event, output, signal, operation, operationWith, Reason, finished, differs, missing, unlabelled, deep, unanswered, Io, choices, present, took, wrote, answered, is}
+use Rattle.events.specs.Events.{Event, output, signal, operation, operationWith, Reason, finished, differs, missing, unlabelled, deep, unanswered, Io, choices, present, took, wrote, answered, mends, repaired, is}
 use Rattle.program.specs.Program.{Plain, match, any, emit, error, exit, call, back, give, update, updateWith, Selector, byToken, byRule, byOperation, byOperationWith, Acts, Alts, Other, Rule, bodyOf}
 
 -- what stands around the actions of a place: a cycle with its body, an alternative's choice, otherwise's choice, each with the
@@ -38,11 +39,22 @@ unfoldable pub labelledBy : Option ℕ → Alts → Option Acts
 labelledBy none q = none
 labelledBy (some v) q = labelled v q
 
--- "to the alternative with that label, else otherwise, else it stops": io where no label is taken, io′ where one is
-unfoldable pub chosen : Option Acts → Other → Acts → List Context → List Pending → Reason → Io → Io → Own
-chosen (some b) o q k ps r io io′ = on b (inAlternative q ∷ k) ps io′
-chosen none (otherwise b) q k ps r io io′ = on b (inOtherwise q ∷ k) ps io
-chosen none absent q k ps r io io′ = stopped r io
+-- "to the alternative with that label, else otherwise, else it stops": io where no label is taken, io′ where one is; s where there is
+-- neither a label nor otherwise
+unfoldable pub chosen : Option Acts → Other → Acts → List Context → List Pending → Own → Io → Io → Own
+chosen (some b) o q k ps s io io′ = on b (inAlternative q ∷ k) ps io′
+chosen none (otherwise b) q k ps s io io′ = on b (inOtherwise q ∷ k) ps io
+chosen none absent q k ps s io io′ = s
+
+-- "An input choice without otherwise thus takes its first alternative": its first label is repaired
+unfoldable pub repairedFirst : Alts → Acts → List Context → List Pending → Io → Own
+repairedFirst nil q k ps io = nowhere io
+repairedFirst (alternative [] b al) q k ps io = nowhere io
+repairedFirst (alternative (t ∷ ls) b al) q k ps io = on b (inAlternative q ∷ k) ps (repaired t io)
+
+-- an input choice with no label for the present token and no otherwise: "30 comes only with the allowance used up"
+unfoldable pub unmatched : Alts → Acts → List Context → List Pending → Io → Own
+unmatched al q k ps io = if mends io then repairedFirst al q k ps io else stopped differs io
 
 -- "a cycle's end goes to its start, .. an alternative's end past its choice"; a rule's end goes back behind the call
 unfoldable pub ended : List Context → List Pending → Io → Own
@@ -82,7 +94,8 @@ module _ (prog : List Rule) (tokens answers : List ℕ) where
 
   -- "Actions go in order, reading and writing as above": a plain action before the actions q
   unfoldable pub ownPlain : Plain → Acts → List Context → List Pending → Io → Own
-  ownPlain (match t) q k ps io = if is t (present tokens io) then on q k ps (took io) else stopped differs io
+  ownPlain (match t) q k ps io =
+      if is t (present tokens io) then on q k ps (took io) else if mends io then on q k ps (repaired t io) else stopped differs io
   ownPlain any q k ps io = if given (present tokens io) then on q k ps (took io) else stopped missing io
   ownPlain (emit t) q k ps io = on q k ps (wrote (output t) io)
   ownPlain (error t) q k ps io = on q k ps (wrote (signal t) io)
@@ -95,7 +108,7 @@ module _ (prog : List Rule) (tokens answers : List ℕ) where
 
   -- "A choice goes by the present token, its rule's value or the next answer": before the actions q
   unfoldable pub ownChoice : Selector → Alts → Other → Acts → List Context → List Pending → Io → Own
-  ownChoice byToken al o q k ps io = chosen (labelledBy (present tokens io) al) o q k ps differs io (took io)
+  ownChoice byToken al o q k ps io = chosen (labelledBy (present tokens io) al) o q k ps (unmatched al q k ps io) io (took io)
   ownChoice (byRule r) al o q k ps io = entered r (beforeChoice al o q k) ps io
   ownChoice (byOperation op) al o q k ps io = asked (nextAnswer answers io) (operation op) al o q k ps io
   ownChoice (byOperationWith op v) al o q k ps io = asked (nextAnswer answers io) (operationWith op v) al o q k ps io
@@ -106,7 +119,7 @@ module _ (prog : List Rule) (tokens answers : List ℕ) where
   own (on (plain p ▸ q) k ps io) = ownPlain p q k ps io
   own (on (cycle b ▸ q) k ps io) = on b (inCycle b q ∷ k) ps io
   own (on (choice s al o ▸ q) k ps io) = ownChoice s al o q k ps io
-  own (choosing v al o q k ps io) = chosen (labelled v al) o q k ps unlabelled io io
+  own (choosing v al o q k ps io) = chosen (labelled v al) o q k ps (stopped unlabelled io) io io
   own (stopped r io) = stopped r io
   own (nowhere io) = nowhere io
 
@@ -114,10 +127,11 @@ module _ (prog : List Rule) (tokens answers : List ℕ) where
   owns zero s = s
   owns (suc n) s = owns n (own s)
 
-unfoldable pub ownStart : List Rule → Own
-ownStart prog = on (bodyOf prog 0) [] [] (record { read = 0; used = 0; events = [] })
+-- with so much repair allowance
+unfoldable pub ownStart : List Rule → ℕ → Own
+ownStart prog allowance = on (bodyOf prog 0) [] [] (record { read = 0; used = 0; allowance = allowance; events = [] })
 
 -- all of this file computes where this is unfolded
 unfoldable pub opened : Unit {0}
-unfolding labelled labelledBy chosen ended left gaveBack nextAnswer asked entered ownPlain ownChoice own owns ownStart
+unfolding labelled labelledBy chosen repairedFirst unmatched ended left gaveBack nextAnswer asked entered ownPlain ownChoice own owns ownStart
 opened = tt

@@ -11,7 +11,7 @@ use borrow.Author.Tests.{ltb-true, leb-true}
 use Rattle.base.specs.Common.{if_then_else_}
 use Rattle.machine.specs.Bytes.{count, wordAt}
 use Rattle.machine.specs.Lengths.{lengthOf}
-use Rattle.walker.specs.Shape.{size, operand, tableAt, takeInput, takeOther, choiceOf, defaultOf, forwardOf, backOf, inputOf, anyOf, tellOf, inputChoiceOf, callOf, backTo, returnOf, askOf, answerOf, actOf, operateOf, fetchedOf, stepOf}
+use Rattle.walker.specs.Shape.{size, operand, tableAt, takeInput, takeOther, choiceOf, defaultOf, forwardOf, backOf, spentOne, mendOf, inputOf, anyOf, tellOf, inputChoiceOf, callOf, backTo, returnOf, askOf, answerOf, actOf, operateOf, fetchedOf, stepOf}
 use Rattle.walker.specs.declared.Event.{Event}
 use Rattle.walker.specs.declared.Next.{Next}
 use Rattle.walker.specs.declared.Registers.{Registers}
@@ -74,11 +74,15 @@ module _ (room : ℕ) (r : Registers) (deep : r .depth ≤ 64) where
     unfolding backOf
     backs = either room _ _ (leb (operand t (r .location)) (r .location)) (λ _. deep) (λ _. tt)
 
-    inputs : Keeps room (inputOf t k r)
+    mends : Keeps room (mendOf t room r)
+    unfolding mendOf tellOf
+    mends = either room _ _ (ltb 0 (r .allowance)) (λ _. either room _ _ (leb 3 room) (λ h. (deep, leb-true 3 room h)) (λ _. tt)) (λ _. tt)
+
+    inputs : Keeps room (inputOf t k room r)
     unfolding inputOf
     inputs =
         either room _ _ (ltb (r .read) (count k)) (λ _.
-        either room _ _ (eqb (wordAt k (r .read)) (operand t (r .location))) (λ _. deep) (λ _. tt)) (λ _. tt)
+        either room _ _ (eqb (wordAt k (r .read)) (operand t (r .location))) (λ _. deep) (λ _. mends)) (λ _. mends)
 
     anys : Keeps room (anyOf k r)
     unfolding anyOf

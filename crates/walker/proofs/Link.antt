@@ -18,7 +18,7 @@ use Rattle.machine.specs.Call as calls
 use Rattle.machine.specs.Call.{whole, paused, Called, further, ends, endsFor, keeps, run, callIn, callWalk}
 use Rattle.machine.specs.Form.{eventsWords}
 use Rattle.walker.specs.declared.Event.{Event}
-use Rattle.walker.specs.declared.Event.the-variants.{Output, Plain, With}
+use Rattle.walker.specs.declared.Event.the-variants.{Output, Repair, Plain, With}
 use Rattle.walker.specs.declared.Next.{Next}
 use Rattle.walker.specs.declared.Next.the-variants.{Full, Stop, On, Tells, Push, Waits}
 use Rattle.walker.specs.declared.Phase.{Phase}
@@ -31,7 +31,7 @@ use Rattle.walker.specs.declared.Target.the-variants.{Label, Otherwise}
 use Rattle.walker.specs.declared.Walk.{Walk}
 use Rattle.walker.specs.View.{reasonOf, phaseOf, eventOf, walkIn, walkOf}
 use Rattle.walker.specs.Linked.{Bytes, handed, Agrees}
-use Rattle.walker.specs.Shape.{size, operand, tableAt, choiceOf, defaultOf, takeInput, takeOther, moved, readOne, withResult, withParameter, withDepth, answeredOne, poppedTo, forwardOf, backOf, inputOf, anyOf, tellOf, inputChoiceOf, callOf, backTo, returnOf, askOf, answerOf, actOf, operateOf, fetchedOf, stepOf, putEvent, Outcome, ended, numberOf, goOf, first64, keptOf, refusedOf, wholeOf, pausedOf}
+use Rattle.walker.specs.Shape.{size, operand, tableAt, choiceOf, defaultOf, takeInput, takeOther, moved, readOne, spentOne, withResult, withParameter, withDepth, answeredOne, poppedTo, forwardOf, backOf, mendOf, inputOf, anyOf, tellOf, inputChoiceOf, callOf, backTo, returnOf, askOf, answerOf, actOf, operateOf, fetchedOf, stepOf, putEvent, Outcome, ended, numberOf, goOf, first64, keptOf, refusedOf, wholeOf, pausedOf}
 use Rattle.walker.proofs.LinkWords.{length-returns, clip-returns, over-event, count-putEvent, one-more, one-more-fits}
 use Rattle.walker.proofs.LinkStep.{withEvents, inCall, turnOf, modeOf, step-turn}
 
@@ -111,12 +111,20 @@ module _ (room : ℕ) (r : Registers) (held : Held r) where
         let x = operand t (r .location) in
         either (leb x (r .location)) _ _ (λ y. goes-on (moved r (r .location + 1 - x)) refl refl) (λ y. out)
 
-    input-keeps : Keeps room (inputOf t k r)
+    mend-keeps : Keeps room (mendOf t room r)
+    unfolding mendOf tellOf
+    mend-keeps =
+        either (ltb 0 (r .allowance)) _ _
+        (λ y. either (leb 3 room) _ _
+        (λ z. tell {e = Repair (operand t (r .location))} (alike (moved (spentOne r) (r .location + 2)) refl refl) (leb-true 3 room z)) (λ z. full))
+        (λ y. stop {x = Differs})
+
+    input-keeps : Keeps room (inputOf t k room r)
     unfolding inputOf
     input-keeps =
         either (ltb (r .read) (count k)) _ _
-        (λ y. either (eqb (wordAt k (r .read)) (operand t (r .location))) _ _ (λ z. goes-on (readOne (moved r (r .location + 2))) refl refl) (λ z. stop {x = Differs}))
-        (λ y. stop {x = Differs})
+        (λ y. either (eqb (wordAt k (r .read)) (operand t (r .location))) _ _ (λ z. goes-on (readOne (moved r (r .location + 2))) refl refl) (λ z. mend-keeps))
+        (λ y. mend-keeps)
 
     any-keeps : Keeps room (anyOf k r)
     unfolding anyOf

@@ -12,7 +12,7 @@ use borrow.Author.Tests.{lt-ltb, le-ltb, le-leb, lt-leb, ne-eqb, eqb-true, eqb-f
 use Rattle.base.specs.Common.{if_then_else_}
 use Rattle.base.specs.Bools.{split}
 use Rattle.events.specs.Events as events
-use Rattle.events.specs.Events.{present, answer, took, is}
+use Rattle.events.specs.Events.{present, answer, took, mends, spent, is}
 use Rattle.machine.specs.Bytes.{count, wordsOf, wordAt, tableOf}
 use Rattle.machine.specs.Lengths.{lengthOf, lengths}
 use Rattle.machine.proofs.Lengths.{length-operation, length-between, length-above}
@@ -21,10 +21,10 @@ use Rattle.machine.specs.Decode.{fetch, decodeWord, decodeOne, decodeTwo, decod
 use Rattle.machine.specs.Walk as machine
 use Rattle.machine.specs.Walk.{going, waiting}
 use Rattle.machine.specs.Step as stepping
-use Rattle.machine.specs.Step.{goesOutside, goes, tells, asks, goTo, seek, seekBy, landed, branched, inputChoosing, calling, returning, exec, step}
+use Rattle.machine.specs.Step.{goesOutside, goes, tells, asks, goTo, seek, seekBy, landed, branched, inputChoosing, calling, returning, requiring, exec, step}
 use Rattle.machine.specs.Call.{Mode, whole, paused, waits, ends, endsFor, Turn, over, further, turn, writing, takes, handsOut}
 use Rattle.walker.specs.declared.Event.{Event}
-use Rattle.walker.specs.declared.Event.the-variants.{Output, Plain, With}
+use Rattle.walker.specs.declared.Event.the-variants.{Output, Repair, Plain, With}
 use Rattle.walker.specs.declared.Next.{Next}
 use Rattle.walker.specs.declared.Next.the-variants.{Full, Stop, On, Tells, Push, Waits}
 use Rattle.walker.specs.declared.Reason.the-variants.{Unlabelled}
@@ -33,12 +33,12 @@ use Rattle.walker.specs.declared.Target.{Target}
 use Rattle.walker.specs.declared.Target.the-variants.{Label, Otherwise}
 use Rattle.walker.specs.View.{reasonOf, eventOf, walkIn}
 use Rattle.walker.specs.Linked.{Bytes}
-use Rattle.walker.specs.Shape.{size, findFrom, operand, otherwiseOf, labelOf, labelledOf, tableAt, labelsAt, insideTable, choiceOf, defaultOf, takeInput, takeOther, moved, withResult, withParameter, withDepth, forwardOf, backOf, inputOf, anyOf, tellOf, inputChoiceOf, callOf, backTo, returnOf, askOf, answerOf, actOf, operateOf, fetchedOf, stepOf}
+use Rattle.walker.specs.Shape.{size, findFrom, operand, otherwiseOf, labelOf, labelledOf, tableAt, labelsAt, insideTable, choiceOf, defaultOf, takeInput, takeOther, moved, readOne, withResult, withParameter, withDepth, spentOne, forwardOf, backOf, mendOf, inputOf, anyOf, tellOf, inputChoiceOf, callOf, backTo, returnOf, askOf, answerOf, actOf, operateOf, fetchedOf, stepOf}
 use Rattle.walker.proofs.LinkWords.{word-small, word-in, word-out, length-table, fetch-in, fetch-at, fetch-zero, fetch-behind, fetch-out, push-returns, pop-returns, length-returns, eqb-comm, one-more}
 
 -- the walk of the machine inside a call that has written the events es
 unfoldable pub withEvents : List events.Event → machine.Walk → machine.Walk
-withEvents es w = machine.withIo (record { read = w .io .read; used = w .io .used; events = es }) w
+withEvents es w = machine.withIo (record { read = w .io .read; used = w .io .used; allowance = w .io .allowance; events = es }) w
 
 abbrev pub inCall : List events.Event → Registers → List ℕ → machine.Walk
 inCall es r rs = withEvents es (walkIn going r rs)
@@ -171,14 +171,28 @@ module _ (t k : List ℕ) (m : Mode) (room n : ℕ) (es : List events.Event) (r 
   unfolding present withEvents walkIn machine.opened
   present-out h = word-out k (r .read) h
 
-  input-same : Same (exec (tableOf t) (wordsOf k) (decoding.input (operand t (r .location))) (inCall es r rs)) (inputOf t k r)
-  unfolding turn turnOf exec inputOf withEvents walkIn machine.opened is took reasonOf
+  -- a required token that is not there
+  mend-same : Same (requiring (tableOf t) (wordsOf k) (operand t (r .location)) false (inCall es r rs)) (mendOf t room r)
+  unfolding turn turnOf requiring mendOf tellOf withEvents walkIn machine.opened mends spent writing events.wrote eventOf reasonOf
+  mend-same =
+      split (ltb 0 (r .allowance))
+      (λ y. rw y (split (leb 3 room)
+      (λ z. rw (z, le-ltb room 3 (leb-true 3 room z)))
+      (λ z. rw (z, lt-ltb room 3 (leb-false 3 room z)))))
+      (λ y. rw y)
+
+  there-same : Same (requiring (tableOf t) (wordsOf k) (operand t (r .location)) true (inCall es r rs)) (On (readOne (moved r (r .location + 2))))
+  unfolding turn turnOf requiring withEvents walkIn machine.opened took
+  there-same = refl
+
+  input-same : Same (exec (tableOf t) (wordsOf k) (decoding.input (operand t (r .location))) (inCall es r rs)) (inputOf t k room r)
+  unfolding exec inputOf is
   input-same =
       let x = operand t (r .location) in
       let u = wordAt k (r .read) in
       split (ltb (r .read) (count k))
-      (λ y. rw (present-in (ltb-true (r .read) (count k) y), y, eqb-comm x u) (split (eqb u x) (λ z. rw z) (λ z. rw z)))
-      (λ y. rw (present-out (ltb-false (r .read) (count k) y), y))
+      (λ y. rw (present-in (ltb-true (r .read) (count k) y), y, eqb-comm x u) (split (eqb u x) (λ z. rw z there-same) (λ z. rw z mend-same)))
+      (λ y. rw (present-out (ltb-false (r .read) (count k) y), y) mend-same)
 
   any-same : Same (exec (tableOf t) (wordsOf k) decoding.inputAny (inCall es r rs)) (anyOf k r)
   unfolding turn turnOf exec anyOf withEvents walkIn machine.opened took reasonOf
@@ -378,7 +392,7 @@ module _ (t k a : List ℕ) (room n : ℕ) (q : Bool) (es : List events.Event) (
       or-above Number 0 zero-same
       (or-above Number 1 (two-same 1 (forwardOf t r) refl refl refl (λ h. forward-same t k m room n es r rs))
       (or-above Number 2 (two-same 2 (backOf t r) refl refl refl (λ h. back-same t k m room n es r rs h))
-      (or-above Number 3 (two-same 3 (inputOf t k r) refl refl refl (λ h. input-same t k m room n es r rs))
+      (or-above Number 3 (two-same 3 (inputOf t k room r) refl refl refl (λ h. input-same t k m room n es r rs))
       (or-above Number 4 (single-same 4 (anyOf k r) refl refl refl (any-same t k m room n es r rs))
       (or-above Number 5 (two-same 5 (tellOf room (r .location + 2) (Output x) r) refl refl refl (λ h. tell-same t k m room n es r rs (r .location + 2) (Output x)))
       (or-above Number 6 (two-same 6 (tellOf room (r .location + 2) (Event.Error x) r) refl refl refl (λ h. tell-same t k m room n es r rs (r .location + 2) (Event.Error x)))

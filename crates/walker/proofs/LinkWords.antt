@@ -18,7 +18,7 @@ use Rattle.events.specs.Events.{eventWords}
 use Rattle.machine.specs.Form.{eventsWords}
 use Rattle.walker.specs.Linked.{Bytes}
 use Rattle.walker.specs.declared.Event.{Event}
-use Rattle.walker.specs.declared.Event.the-variants.{Output, Plain, With}
+use Rattle.walker.specs.declared.Event.the-variants.{Output, Repair, Plain, With}
 use Rattle.walker.specs.View.{eventOf}
 use Rattle.walker.specs.Shape.{size, setWord, putEvent, oneMore}
 
@@ -151,6 +151,7 @@ length-eventWords : (e : events.Event) → length (eventWords e) ≡ 3
 unfolding eventWords
 length-eventWords (events.output t) = refl
 length-eventWords (events.signal n) = refl
+length-eventWords (events.repair t) = refl
 length-eventWords (events.operation op) = refl
 length-eventWords (events.operationWith op v) = refl
 
@@ -165,6 +166,7 @@ pub over-event : (es : List events.Event) (s : List ℕ) (i : ℕ) (e : Event) �
 unfolding putEvent eventOf eventWords
 over-event es s i (Output t) n h = rw (eventsWords-snoc es (events.output t)) (over-words (eventsWords es) s i 1 t 0 (length-eventsWords es ∙ n) h)
 over-event es s i (Event.Error t) n h = rw (eventsWords-snoc es (events.signal t)) (over-words (eventsWords es) s i 2 t 0 (length-eventsWords es ∙ n) h)
+over-event es s i (Repair t) n h = rw (eventsWords-snoc es (events.repair t)) (over-words (eventsWords es) s i 4 t 0 (length-eventsWords es ∙ n) h)
 over-event es s i (Plain op) n h = rw (eventsWords-snoc es (events.operation op)) (over-words (eventsWords es) s i 3 op 0 (length-eventsWords es ∙ n) h)
 over-event es s i (With op v) n h = rw (eventsWords-snoc es (events.operationWith op v)) (over-words (eventsWords es) s i 3 op v (length-eventsWords es ∙ n) h)
 
@@ -172,6 +174,7 @@ pub count-putEvent : (s : List ℕ) (i : ℕ) (e : Event) → count (putEvent s 
 unfolding putEvent
 count-putEvent s i (Output t) = simp count-setWord
 count-putEvent s i (Event.Error t) = simp count-setWord
+count-putEvent s i (Repair t) = simp count-setWord
 count-putEvent s i (Plain op) = simp count-setWord
 count-putEvent s i (With op v) = simp count-setWord
 

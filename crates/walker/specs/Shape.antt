@@ -9,7 +9,7 @@ use Rattle.base.specs.Common.{if_then_else_}
 use Rattle.machine.specs.Bytes.{count, wordAt}
 use Rattle.machine.specs.Lengths.{lengthOf}
 use Rattle.walker.specs.declared.Event.{Event}
-use Rattle.walker.specs.declared.Event.the-variants.{Output, Plain, With}
+use Rattle.walker.specs.declared.Event.the-variants.{Output, Repair, Plain, With}
 use Rattle.walker.specs.declared.Next.{Next}
 use Rattle.walker.specs.declared.Next.the-variants.{Full, Stop, On, Tells, Push, Waits}
 use Rattle.walker.specs.declared.Phase.{Phase}
@@ -35,6 +35,7 @@ setWord s i x = set (set s (2 * i) (x / 256)) (2 * i + 1) (x % 256)
 unfoldable pub putEvent : List ℕ → ℕ → Event → List ℕ
 putEvent o i (Output t) = setWord (setWord (setWord o i 1) (i + 1) t) (i + 2) 0
 putEvent o i (Event.Error n) = setWord (setWord (setWord o i 2) (i + 1) n) (i + 2) 0
+putEvent o i (Repair t) = setWord (setWord (setWord o i 4) (i + 1) t) (i + 2) 0
 putEvent o i (Plain op) = setWord (setWord (setWord o i 3) (i + 1) op) (i + 2) 0
 putEvent o i (With op v) = setWord (setWord (setWord o i 3) (i + 1) op) (i + 2) v
 
@@ -50,29 +51,32 @@ findFrom t b x (suc left) i = let later = findFrom t b x left (i + 1) in if eqb 
 -- Registers with one thing changed
 
 abbrev pub moved : Registers → ℕ → Registers
-moved r l = record { location = l; depth = r .depth; result = r .result; parameter = r .parameter; read = r .read; used = r .used }
+moved r l = record { location = l; depth = r .depth; result = r .result; parameter = r .parameter; read = r .read; used = r .used; allowance = r .allowance }
 
 abbrev pub readOne : Registers → Registers
-readOne r = record { location = r .location; depth = r .depth; result = r .result; parameter = r .parameter; read = r .read + 1; used = r .used }
+readOne r = record { location = r .location; depth = r .depth; result = r .result; parameter = r .parameter; read = r .read + 1; used = r .used; allowance = r .allowance }
+
+abbrev pub spentOne : Registers → Registers
+spentOne r = record { location = r .location; depth = r .depth; result = r .result; parameter = r .parameter; read = r .read; used = r .used; allowance = r .allowance - 1 }
 
 -- one more, up to the greatest number of 64 bits
 unfoldable pub oneMore : ℕ → ℕ
 oneMore n = if ltb n 18446744073709551615 then n + 1 else n
 
 abbrev pub answeredOne : Registers → ℕ → Registers
-answeredOne r x = record { location = r .location; depth = r .depth; result = x; parameter = r .parameter; read = r .read; used = oneMore (r .used) }
+answeredOne r x = record { location = r .location; depth = r .depth; result = x; parameter = r .parameter; read = r .read; used = oneMore (r .used); allowance = r .allowance }
 
 abbrev pub withResult : Registers → ℕ → Registers
-withResult r x = record { location = r .location; depth = r .depth; result = x; parameter = r .parameter; read = r .read; used = r .used }
+withResult r x = record { location = r .location; depth = r .depth; result = x; parameter = r .parameter; read = r .read; used = r .used; allowance = r .allowance }
 
 abbrev pub withParameter : Registers → ℕ → Registers
-withParameter r x = record { location = r .location; depth = r .depth; result = r .result; parameter = x; read = r .read; used = r .used }
+withParameter r x = record { location = r .location; depth = r .depth; result = r .result; parameter = x; read = r .read; used = r .used; allowance = r .allowance }
 
 abbrev pub withDepth : Registers → ℕ → Registers
-withDepth r d = record { location = r .location; depth = d; result = r .result; parameter = r .parameter; read = r .read; used = r .used }
+withDepth r d = record { location = r .location; depth = d; result = r .result; parameter = r .parameter; read = r .read; used = r .used; allowance = r .allowance }
 
 abbrev pub poppedTo : Registers → ℕ → Registers
-poppedTo r l = record { location = l; depth = r .depth - 1; result = r .result; parameter = r .parameter; read = r .read; used = r .used }
+poppedTo r l = record { location = l; depth = r .depth - 1; result = r .result; parameter = r .parameter; read = r .read; used = r .used; allowance = r .allowance }
 
 -- the walk with one more return location
 abbrev pub pushed : Walk → ℕ → Walk
@@ -132,18 +136,23 @@ forwardOf t r = if leb (tableAt t (r .location)) (size t) then On (moved r (tabl
 unfoldable pub backOf : List ℕ → Registers → Next
 backOf t r = if leb (operand t (r .location)) (r .location) then On (moved r (r .location + 1 - operand t (r .location))) else Next.Outside
 
-unfoldable pub inputOf : List ℕ → List ℕ → Registers → Next
-inputOf t k r =
-    if ltb (r .read) (count k)
-    then (if eqb (wordAt k (r .read)) (operand t (r .location)) then On (readOne (moved r (r .location + 2))) else Stop Differs)
-    else Stop Differs
-
-unfoldable pub anyOf : List ℕ → Registers → Next
-anyOf k r = if ltb (r .read) (count k) then On (readOne (moved r (r .location + 1))) else Stop Missing
-
 -- an event, and on to l, with room for three words
 unfoldable pub tellOf : ℕ → ℕ → Event → Registers → Next
 tellOf room l e r = if leb 3 room then Tells (moved r l) e else Full
+
+-- a required token that is not there: repaired while allowance is left
+unfoldable pub mendOf : List ℕ → ℕ → Registers → Next
+mendOf t room r =
+    if ltb 0 (r .allowance) then tellOf room (r .location + 2) (Repair (operand t (r .location))) (spentOne r) else Stop Differs
+
+unfoldable pub inputOf : List ℕ → List ℕ → ℕ → Registers → Next
+inputOf t k room r =
+    if ltb (r .read) (count k)
+    then (if eqb (wordAt k (r .read)) (operand t (r .location)) then On (readOne (moved r (r .location + 2))) else mendOf t room r)
+    else mendOf t room r
+
+unfoldable pub anyOf : List ℕ → Registers → Next
+anyOf k r = if ltb (r .read) (count k) then On (readOne (moved r (r .location + 1))) else Stop Missing
 
 unfoldable pub inputChoiceOf : List ℕ → List ℕ → Registers → Next
 inputChoiceOf t k r =
@@ -179,7 +188,7 @@ unfoldable pub actOf : List ℕ → List ℕ → List ℕ → ℕ → ℕ → Re
 actOf rs t k room i r =
     if eqb i 1 then forwardOf t r
     else if eqb i 2 then backOf t r
-    else if eqb i 3 then inputOf t k r
+    else if eqb i 3 then inputOf t k room r
     else if eqb i 4 then anyOf k r
     else if eqb i 5 then tellOf room (r .location + 2) (Output (operand t (r .location))) r
     else if eqb i 6 then tellOf room (r .location + 2) (Event.Error (operand t (r .location))) r

@@ -5,7 +5,7 @@ use lib.ListN.{take}
 use Rattle.events.specs.Events as events
 use Rattle.machine.specs.Walk as machine
 use Rattle.walker.specs.declared.Event.{Event}
-use Rattle.walker.specs.declared.Event.the-variants.{Output, Plain, With}
+use Rattle.walker.specs.declared.Event.the-variants.{Output, Repair, Plain, With}
 use Rattle.walker.specs.declared.Phase.{Phase}
 use Rattle.walker.specs.declared.Phase.the-variants.{Going, Waiting, Stopped}
 use Rattle.walker.specs.declared.Reason.{Reason}
@@ -30,6 +30,7 @@ phaseOf (Stopped r) = machine.stopped (reasonOf r)
 unfoldable pub eventOf : Event → events.Event
 eventOf (Output t) = events.output t
 eventOf (Event.Error n) = events.signal n
+eventOf (Repair t) = events.repair t
 eventOf (Plain op) = events.operation op
 eventOf (With op v) = events.operationWith op v
 
@@ -41,7 +42,7 @@ walkIn ph r returns = record {
   returns = reverse (take (r .depth) returns);
   result = r .result % 65536;
   parameter = r .parameter % 65536;
-  io = record { read = r .read; used = r .used; events = [] };
+  io = record { read = r .read; used = r .used; allowance = r .allowance; events = [] };
 }
 
 unfoldable pub walkOf : Walk → machine.Walk

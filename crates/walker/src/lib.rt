@@ -4,9 +4,9 @@ ghost use Prim.Native.Nat.{_+_, _*_, _%_, _<_, _≤_, _^_};
 ghost use Rattle.machine.specs.Bytes.{count, wordAt};
 ghost use Rattle.machine.specs.Lengths.{lengths, lengthOf};
 ghost use Rattle.walker.specs.Shape.{size, setWord, putEvent, swapped, numberOf};
-ghost use Rattle.walker.specs.Shape.{moved, readOne, answeredOne, withResult, withParameter, poppedTo, withDepth, first64};
+ghost use Rattle.walker.specs.Shape.{moved, readOne, spentOne, answeredOne, withResult, withParameter, poppedTo, withDepth, first64};
 ghost use Rattle.walker.specs.Shape.{otherwiseOf, labelOf, labelledOf, choiceOf, defaultOf, takeOther};
-ghost use Rattle.walker.specs.Shape.{forwardOf, backOf, inputOf, anyOf, tellOf, inputChoiceOf, callOf, backTo, returnOf, answerOf};
+ghost use Rattle.walker.specs.Shape.{forwardOf, backOf, mendOf, inputOf, anyOf, tellOf, inputChoiceOf, callOf, backTo, returnOf, answerOf};
 ghost use Rattle.walker.specs.Shape.{inFull, operateOf, fetchedOf, stepOf, goOf, wholeOf, pausedOf, pushed};
 ghost use Rattle.walker.specs.Steps.{withAt, inPhase, tokenRead, returned, answered, asRead, says, Holds, tookOf, numberAt, nextOf, walkStepOf, called};
 
@@ -77,10 +77,11 @@ pub enum Phase {
     Stopped(Reason),
 }
 
-// An event before its three words are written: an output token, an error, an operation, an operation with its parameter.
+// An event before its three words are written: an output token, an error, a repaired token, an operation, an operation with its parameter.
 pub enum Event {
     Output(u16),
     Error(u16),
+    Repair(u16),
     Plain(u16),
     With(u16, u16),
 }
@@ -96,6 +97,8 @@ pub struct Registers {
     // tokens read, answers used
     pub read: u64,
     pub used: u64,
+    // repairs left
+    pub allowance: u16,
 }
 
 pub struct Walk {
@@ -220,6 +223,9 @@ fn put_event(out: &mut [u8], i: usize, e: Event)
         Event::Error(n) => {
             put_three(out, i, 2, n, 0);
         }
+        Event::Repair(t) => {
+            put_three(out, i, 4, t, 0);
+        }
         Event::Plain(op) => {
             put_three(out, i, 3, op, 0);
         }
@@ -281,6 +287,15 @@ impl Registers {
         ensures { λ r. ⌜ r ≡ readOne self ⌝ }
     {
         self.read += 1;
+        self
+    }
+
+    // One repair less is left.
+    fn spend(mut self) -> Registers
+        requires { ⌜ 0 < self .allowance ⌝ }
+        ensures { λ r. ⌜ r ≡ spentOne self ⌝ }
+    {
+        self.allowance -= 1;
         self
     }
 
@@ -454,9 +469,23 @@ impl Registers {
         }
     }
 
-    fn input(self, t: &[u8], n: usize, len: usize, tokens: &[u8]) -> Next
+    // A required token that is not there: repaired while allowance is left.
+    fn mend(self, t: &[u8], room: usize) -> Next
+        requires { ⌜ self .location < size (now t) ⌝ }
+        ensures { λ r. ⌜ r ≡ mendOf (now (t .entry)) room self ⌝ }
+    {
+        let loc = self.location;
+        if 0 < self.allowance {
+            self.spend()
+                .tell(room, loc + 2, Event::Repair(word(t, loc)))
+        } else {
+            Next::Stop(Reason::Differs)
+        }
+    }
+
+    fn input(self, t: &[u8], n: usize, len: usize, tokens: &[u8], room: usize) -> Next
         requires { ⌜ (n ≡ size (now t)) × (self .location ≤ n) × (len ≡ 2) ⌝ }
-        ensures { λ r. ⌜ r ≡ inFull (now (t .entry)) 2 self (inputOf (now (t .entry)) (now (tokens .entry)) self) ⌝ }
+        ensures { λ r. ⌜ r ≡ inFull (now (t .entry)) 2 self (inputOf (now (t .entry)) (now (tokens .entry)) room self) ⌝ }
     {
         let loc = self.location;
         if n < loc + len - 1 {
@@ -467,10 +496,10 @@ impl Registers {
             if word(tokens, k) == word(t, loc) {
                 Next::On(self.moved(loc + len).read_token())
             } else {
-                Next::Stop(Reason::Differs)
+                self.mend(t, room)
             }
         } else {
-            Next::Stop(Reason::Differs)
+            self.mend(t, room)
         }
     }
 
@@ -716,7 +745,7 @@ impl Registers {
         match ins {
             JUMP_FORWARD => self.forward(t, n, length_of(known, JUMP_FORWARD)),
             JUMP_BACK => self.back(t, n, length_of(known, JUMP_BACK)),
-            INPUT => self.input(t, n, length_of(known, INPUT), tokens),
+            INPUT => self.input(t, n, length_of(known, INPUT), tokens, room),
             INPUT_ANY => self.any(n, length_of(known, INPUT_ANY), tokens),
             EMIT => self.output(t, n, length_of(known, EMIT), room),
             ERROR => self.error(t, n, length_of(known, ERROR), room),

@@ -107,6 +107,9 @@ impl Case {
         if rng.once_in(3) {
             walk.used = other.used;
         }
+        if rng.once_in(2) {
+            walk.allowance = other.allowance;
+        }
         walk
     }
 
@@ -685,7 +688,7 @@ fn no_walk(h: &mut Harness, rng: &mut Rng) {
         }
     }
     let long: Vec<u8> = good.iter().copied().cycle().take(400).collect();
-    for length in [0, 1, 2, 5, 27, 28, 78, 154, 155, 157, 158, 312, rng.below(400)] {
+    for length in [0, 1, 2, 5, 27, 28, 78, 79, 154, 156, 157, 159, 160, 316, rng.below(400)] {
         call(h, rng, &long[..length]);
     }
     for _ in 0..4 {
@@ -696,8 +699,8 @@ fn no_walk(h: &mut Harness, rng: &mut Rng) {
 
 /// Compares the readers of a walk's parts.
 fn parts_of(h: &mut Harness, walk: &[u8]) {
-    fn parts(side: &dyn Side, walk: &[u8]) -> (u16, u16, u16, u64, u64) {
-        (side.phase(walk), side.reason(walk), side.location(walk), side.read(walk), side.used(walk))
+    fn parts(side: &dyn Side, walk: &[u8]) -> (u16, u16, u16, u64, u64, u16) {
+        (side.phase(walk), side.reason(walk), side.location(walk), side.read(walk), side.used(walk), side.allowance(walk))
     }
     let lent: Box<[u8]> = walk.into();
     let (mine, theirs) = (parts(&Reference, &lent), parts(h.other, &lent));
@@ -710,11 +713,12 @@ fn parts(h: &mut Harness, rng: &mut Rng) {
         parts_of(h, &random::made_up(rng, 20, 20, 20).encode());
     }
     let near = rng.below(400);
-    for length in [0, 1, 2, 3, 6, 100, 154, 155, 156, 157, 158, 312, near] {
+    for length in [0, 1, 2, 3, 6, 100, 156, 157, 158, 159, 160, 316, near] {
         let (before, after) = if h.exact { (0, 0) } else { (8, 200) };
         let mut mine = Lent::new(&fill(length), before, after);
         let mut theirs = Lent::new(&fill(length), before, after);
-        let numbers = (Reference.fresh(mine.bytes()), h.other.fresh(theirs.bytes()));
+        let allowance = rng.word();
+        let numbers = (Reference.fresh(mine.bytes(), allowance), h.other.fresh(theirs.bytes(), allowance));
         let (mine, theirs) = (mine.back(), theirs.back());
         let same = numbers.0 == numbers.1 && mine.is_some() && mine == theirs;
         h.expect(same, || format!("  fresh of {length} bytes: rust {}, other {}", numbers.0, numbers.1));

@@ -415,7 +415,7 @@ struct Own {
 }
 
 impl Own {
-    fn new(program: &Program, tokens: &[u16], answers: &[u16], most: usize) -> Own {
+    fn new(program: &Program, tokens: &[u16], answers: &[u16], allowance: u16, most: usize) -> Own {
         let mut states = vec![(0, 0, 0)];
         let look = |end: &rules::End| {
             let state = (end.events.len(), end.read, end.used);
@@ -423,7 +423,7 @@ impl Own {
                 states.push(state);
             }
         };
-        let (end, steps) = rules::follow(program, tokens, answers, most, look);
+        let (end, steps) = rules::follow(program, tokens, answers, allowance, most, look);
         Own { end, steps, states }
     }
 }
@@ -437,9 +437,9 @@ struct Run {
 }
 
 impl Run {
-    fn new(side: &dyn Side) -> Run {
+    fn new(side: &dyn Side, allowance: u16) -> Run {
         let mut walk = vec![0xEE; WALK_BYTES];
-        side.fresh(&mut walk);
+        side.fresh(&mut walk, allowance);
         Run { walk, number: 36, events: Vec::new(), steps: 0 }
     }
 
@@ -466,14 +466,15 @@ struct Feed<'a> {
     table: &'a [u8],
     tokens: &'a [u16],
     answers: &'a [u16],
+    allowance: u16,
 }
 
 /// One walk over a table in calls of any budget and buffer, compared with the rules' own walk after each call.
 fn table_walk(h: &mut Harness, seed: &mut Seed, feed: &Feed, own: &Own, pauses: bool) {
-    let Feed { text, table, tokens, answers } = *feed;
+    let Feed { text, table, tokens, answers, allowance } = *feed;
     let (token_bytes, answer_bytes) = (bytes(tokens), bytes(answers));
     let inputs = Inputs { table, tokens: &token_bytes, answers: &answer_bytes };
-    let mut run = Run::new(h.walker);
+    let mut run = Run::new(h.walker, allowance);
     let most = if own.end.reason.is_some() { 3 * own.steps as u64 + 3 } else { ENDLESS as u64 };
     let (mut state, mut agrees, mut used) = (0, true, 0);
     let long = seed.one_in(2);
@@ -591,12 +592,13 @@ fn walks(h: &mut Harness, seed: &mut Seed) {
         for _ in 0..3 {
             let (tokens, answers) = feed(seed, &program);
             let most = if done.finishing == 1 { RULE_STEPS } else { 40 * ENDLESS };
-            let own = Own::new(&program, &tokens, &answers, most);
+            let allowance = if seed.one_in(2) { 0 } else { seed.below(30) as u16 };
+            let own = Own::new(&program, &tokens, &answers, allowance, most);
             if done.finishing == 1 {
                 h.expect(own.end.reason.is_some(), || format!("a finishing program does not stop\n{}", shown(&text)));
                 h.finished += 1;
             }
-            let feed = Feed { text: &text, table: &table, tokens: &tokens, answers: &answers };
+            let feed = Feed { text: &text, table: &table, tokens: &tokens, answers: &answers, allowance };
             table_walk(h, seed, &feed, &own, false);
             table_walk(h, seed, &feed, &own, true);
         }

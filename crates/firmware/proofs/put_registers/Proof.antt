@@ -1,4 +1,4 @@
--- `firmware::put_registers` meets its contract: three writes, one after the other.
+-- `firmware::put_registers` meets its contract: four writes, one after the other.
 use mathlib.Core.List.{[], _∷_, _++_}
 use mathlib.Core.Path.{refl, ap, _∙_}
 use Prim.Native.Nat.{_%_, min}
@@ -24,6 +24,9 @@ held-of-requires c κs = search needs
 put-four-requires : tie.Need-put-four-requires
 put-four-requires c κs = search needs
 
+put-word-requires : tie.Need-put-word-requires
+put-word-requires c κs = search needs
+
 put-64-requires : tie.Need-put-64-requires
 put-64-requires c κs = search needs
 
@@ -36,18 +39,20 @@ same-length c = search needs
 returns : tie.Need-returns
 unfolding registerWords form.words64
 returns c =
-    let a = c .before .before .before .before .before .before .before .before .before .before .before .before .before .before .before .before .before .args in
+    let a = c .before .before .before .before .before .before .before .before .before .before .before .before .before .before .before .before .before .before .before .before .before .args in
     let s = a .out .now in
     let r = a .r in
     let first = r .location ∷ r .result % 65536 ∷ r .parameter % 65536 ∷ min (r .depth) 64 ∷ [] in
+    let left = r .allowance ∷ [] in
     let read = form.words64 (r .read) in
     let used = form.words64 (r .used) in
-    let four = c .before .before .before .before .before .before .before .before .before .before .put-four .ensures in
-    let held = c .before .before .before .before .before .before .before .before .before .before .before .held-of .ensures in
-    let result = c .before .before .before .before .before .before .before .before .before .before .before .before .before .narrow .ensures in
-    let parameter = c .before .before .before .before .before .before .before .before .before .before .before .before .narrow2 .ensures in
-    c .before .before .put-642 .ensures ∙ rw (c .before .before .before .before .before .before .put-64 .ensures, four, held, result, parameter)
-    (ap (λ t. puts t 10 used) (puts-then s 2 first read 6 refl) ∙ puts-then s 2 (first ++ read) used 10 refl)
+    let four = c .before .before .before .before .before .before .before .before .before .before .before .before .before .before .put-four .ensures in
+    let held = c .before .before .before .before .before .before .before .before .before .before .before .before .before .before .before .held-of .ensures in
+    let result = c .before .before .before .before .before .before .before .before .before .before .before .before .before .before .before .before .before .narrow .ensures in
+    let parameter = c .before .before .before .before .before .before .before .before .before .before .before .before .before .before .before .before .narrow2 .ensures in
+    c .before .before .put-642 .ensures ∙ rw (c .before .before .before .before .before .before .put-64 .ensures, c .before .before .before .before .before .before .before .before .before .before .put-word .ensures, four, held, result, parameter)
+    (ap (λ t. puts (puts t 7 read) 11 used) (puts-then s 2 first left 6 refl) ∙ ap (λ t. puts t 11 used) (puts-then s 2 (first ++ left) read 7 refl)
+    ∙ puts-then s 2 ((first ++ left) ++ read) used 11 refl)
 
 pub put-registers-spec : {M : Type 1} → statement M
 put-registers-spec =
@@ -58,6 +63,7 @@ put-registers-spec =
     narrow-requires-2
     held-of-requires
     put-four-requires
+    put-word-requires
     put-64-requires
     put-64-requires-2
     same-length

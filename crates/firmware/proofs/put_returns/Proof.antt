@@ -19,7 +19,7 @@ abbrev words : ℕ → List ℕ → List ℕ
 words depth returns = form.returnWords (reverse (take depth returns))
 
 abbrev Inv-loop : tie.InvT-loop
-Inv-loop out₀ returns depth i₀ out i = (i ≤ 64) × (out ≡ puts out₀ 14 (take i (words depth returns)))
+Inv-loop out₀ returns depth i₀ out i = (i ≤ 64) × (out ≡ puts out₀ 15 (take i (words depth returns)))
 
 abbrev μ-loop : tie.MeasureT-loop
 μ-loop out₀ returns depth i₀ out i = 64 - i
@@ -39,7 +39,7 @@ put-word-requires c κs =
     let l = c .before .before .before in
     let a = l .before .before .before .args in
     let e = ap length (l .loop .inv .1) in
-    let n = length-puts (a .out .now) 14 (take (l .loop .i) (words (a .depth) (a .returns .now))) in
+    let n = length-puts (a .out .now) 15 (take (l .loop .i) (words (a .depth) (a .returns .now))) in
     omega arith
 
 add-i : tie.Need-add-i Inv-loop μ-loop
@@ -58,22 +58,22 @@ loop-again c =
     let n : length w ≡ 64 = length-return-words (a .depth) (a .returns .now) (omega arith) in
     let m : length (take i w) ≡ i = length-take-le i w (omega arith) in
     let word = c .before .before .before .return-at .ensures in
-    let one : puts (puts s 14 (take i w)) (14 + i) (getD w i 0 ∷ []) ≡ puts s 14 (take (i + 1) w) =
-    puts-then s 14 (take i w) (getD w i 0 ∷ []) (14 + i) (omega arith) ∙ rw (add-one, take-suc w i 0 (omega arith)) in
+    let one : puts (puts s 15 (take i w)) (15 + i) (getD w i 0 ∷ []) ≡ puts s 15 (take (i + 1) w) =
+    puts-then s 15 (take i w) (getD w i 0 ∷ []) (15 + i) (omega arith) ∙ rw (add-one, take-suc w i 0 (omega arith)) in
     (search needs, c .before .before .put-word .ensures ∙ rw (l .loop .inv .1, word) one)
 
 same-length : tie.Need-same-length Inv-loop μ-loop
 same-length c =
     let l = c .before in
     let a = l .before .before .before .args in
-    ap length (l .loop .inv .1) ∙ length-puts (a .out .now) 14 (take (l .loop .i) (words (a .depth) (a .returns .now)))
+    ap length (l .loop .inv .1) ∙ length-puts (a .out .now) 15 (take (l .loop .i) (words (a .depth) (a .returns .now)))
 
 returns : tie.Need-returns Inv-loop μ-loop
 returns c =
     let l = c .before in
     let a = l .before .before .before .args in
     let n = length-return-words (a .depth) (a .returns .now) (omega arith) in
-    l .loop .inv .1 ∙ ap (puts (a .out .now) 14) (take-all (l .loop .i) (words (a .depth) (a .returns .now)) (omega arith))
+    l .loop .inv .1 ∙ ap (puts (a .out .now) 15) (take-all (l .loop .i) (words (a .depth) (a .returns .now)) (omega arith))
 
 pub put-returns-spec : {M : Type 1} → statement M
 put-returns-spec =

@@ -1,4 +1,4 @@
--- `firmware::returns_of` meets its contract: after i turns the first i elements are the words from 14 on.
+-- `firmware::returns_of` meets its contract: after i turns the first i elements are the words from 15 on.
 use mathlib.Core.Path.{_≡_, refl, sym, _∙_}
 use Prim.Native.Nat.{_+_, _-_, _≤_}
 use native.Mathlib.Numerals.{add-one}
@@ -12,7 +12,7 @@ use Rattle.firmware.proofs.returns_of.Statement.{statement}
 use Rattle.firmware.proofs.returns_of.Tie as tie
 
 abbrev Inv-loop : tie.InvT-loop
-Inv-loop s returns₀ i₀ returns i = (i ≤ 64) × ((length returns ≡ 64) × (take i returns ≡ take i (drop 14 (wordsOf s))))
+Inv-loop s returns₀ i₀ returns i = (i ≤ 64) × ((length returns ≡ 64) × (take i returns ≡ take i (drop 15 (wordsOf s))))
 
 abbrev μ-loop : tie.MeasureT-loop
 μ-loop s returns₀ i₀ returns i = 64 - i
@@ -47,9 +47,9 @@ loop-again c =
     let i = l .loop .i in
     let x = c .word .result in
     let n = length-wordsOf s in
-    let m = length-drop 14 ws in
-    let grows : take (i + 1) (set (l .loop .returns) i x) ≡ take (i + 1) (drop 14 ws) =
-    rw (add-one, take-suc-set (l .loop .returns) i x (omega arith), take-suc (drop 14 ws) i 0 (omega arith), l .loop .inv .1 .1, c .word .ensures, getD-drop) in
+    let m = length-drop 15 ws in
+    let grows : take (i + 1) (set (l .loop .returns) i x) ≡ take (i + 1) (drop 15 ws) =
+    rw (add-one, take-suc-set (l .loop .returns) i x (omega arith), take-suc (drop 15 ws) i 0 (omega arith), l .loop .inv .1 .1, c .word .ensures, getD-drop) in
     (search needs, (length-set (l .loop .returns) i x ∙ l .loop .inv .1 .0, grows))
 
 returns : tie.Need-returns Inv-loop μ-loop

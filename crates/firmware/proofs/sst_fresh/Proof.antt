@@ -20,13 +20,13 @@ same-length c = search needs
 returns : tie.Need-returns
 unfolding freshNumber freshIn
 returns c =
-    let e = eq-eqb (length (c .before .before .before .before .before .before .before .args .walk .now)) 156 (c .before .before .before .before .before .if1 .taken) in
+    let e = eq-eqb (length (c .before .before .before .before .before .before .before .args .walk .now)) 158 (c .before .before .before .before .before .if1 .taken) in
     (rw e, rw e (c .before .before .put-walk .ensures ∙ ap walkBytes (c .before .before .before .fresh-walk .ensures .0)))
 
 returns-2 : tie.Need-returns-2
 unfolding freshNumber freshIn
 returns-2 c =
-    let e = ne-eqb (length (c .before .before .args .walk .now)) 156 (c .if1 .left) in
+    let e = ne-eqb (length (c .before .before .args .walk .now)) 158 (c .if1 .left) in
     (rw e, rw e)
 
 pub sst-fresh-spec : {M : Type 1} → statement M

@@ -32,7 +32,7 @@ called c =
     whole-done (a .table .now) (a .tokens .now) (a .budget) (a .walk .now) (a .events .now) (r .result .walk) table tokens walk
     (entry .good .1 .0 .0) (r .ensures .returns) (is-walk c) (a .answers .now) (λ i. c .before .before .before .before .before .before .before .before .shared-slice-known3 .given i .fits)
 
-sized : (c : tie.After-whole) → length (c .before .before .before .before .before .before .before .before .before .before .before .args .walk .now) ≡ 156
+sized : (c : tie.After-whole) → length (c .before .before .before .before .before .before .before .before .before .before .before .args .walk .now) ≡ 158
 sized c = walkOf-length _ _ (λ i. c .before .before .before .before .before .before .before .slice-known .given i .fits) (is-walk c)
 
 read-walk-requires : tie.Need-read-walk-requires

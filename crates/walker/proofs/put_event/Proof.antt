@@ -28,6 +28,12 @@ enum-known-e-4 c = search needs
 put-three-requires-4 : tie.Need-put-three-requires-4
 put-three-requires-4 c κs = search needs
 
+enum-known-e-5 : tie.Need-enum-known-e-5
+enum-known-e-5 c = search needs
+
+put-three-requires-5 : tie.Need-put-three-requires-5
+put-three-requires-5 c κs = search needs
+
 same-length : tie.Need-same-length
 same-length c = search needs
 
@@ -56,6 +62,13 @@ returns-4 : tie.Need-returns-4
 unfolding putEvent
 returns-4 c = rw (c .before .before .before .before .before .e4 .given .1) (c .before .before .put-three4 .ensures)
 
+same-length-5 : tie.Need-same-length-5
+same-length-5 c = search needs
+
+returns-5 : tie.Need-returns-5
+unfolding putEvent
+returns-5 c = rw (c .before .before .before .before .before .e5 .given .1) (c .before .before .put-three5 .ensures)
+
 pub put-event-spec : {M : Type 1} → statement M
 put-event-spec =
     tie.close
@@ -68,6 +81,8 @@ put-event-spec =
     put-three-requires-3
     enum-known-e-4
     put-three-requires-4
+    enum-known-e-5
+    put-three-requires-5
     same-length
     returns
     same-length-2
@@ -75,4 +90,6 @@ put-event-spec =
     same-length-3
     returns-3
     same-length-4
-    returns-4)
+    returns-4
+    same-length-5
+    returns-5)

@@ -38,6 +38,12 @@ read-token-requires : tie.Need-read-token-requires
 unfolding count
 read-token-requires c κs = simp (c .moved .ensures) (omega (arith, c .before .before .before .before .before .before .before .before .before .good, c .before .before .before .before .before .count-words .ensures))
 
+mend-requires : tie.Need-mend-requires
+mend-requires c κs = search needs
+
+mend-requires-2 : tie.Need-mend-requires-2
+mend-requires-2 c κs = search needs
+
 returns-2 : tie.Need-returns-2
 unfolding inputOf
 returns-2 c =
@@ -49,16 +55,16 @@ returns-2 c =
 returns-3 : tie.Need-returns-3
 unfolding inputOf
 returns-3 c =
-    let a = c .before .before .before .before .before .before .before .before .args in
-    let h : a .self .read < count (a .tokens .now) = omega (arith, c .before .before .before .before .count-words .ensures, c .before .before .before .if2 .taken) in
-    simp (inside (c .before .before .before .before .before .before .before .before .args .self .location) (c .before .before .before .before .before .if1 .left) (c .before .before .before .before .before .before .before .before .pre .0) (c .before .before .before .before .before .before .before .before .pre .2), lt-ltb _ _ h, ne-eqb (wordAt (a .tokens .now) (a .self .read)) (wordAt (a .t .now) (a .self .location)) (λ e. c .if3 .left (c .before .before .word .ensures ∙ e ∙ sym (c .before .word2 .ensures))))
+    let a = c .before .before .before .before .before .before .before .before .before .args in
+    let h : a .self .read < count (a .tokens .now) = omega (arith, c .before .before .before .before .before .count-words .ensures, c .before .before .before .before .if2 .taken) in
+    simp (inside (c .before .before .before .before .before .before .before .before .before .args .self .location) (c .before .before .before .before .before .before .if1 .left) (c .before .before .before .before .before .before .before .before .before .pre .0) (c .before .before .before .before .before .before .before .before .before .pre .2), lt-ltb _ _ h, ne-eqb (wordAt (a .tokens .now) (a .self .read)) (wordAt (a .t .now) (a .self .location)) (λ e. c .before .if3 .left (c .before .before .before .word .ensures ∙ e ∙ sym (c .before .before .word2 .ensures))), c .mend .ensures)
 
 returns-4 : tie.Need-returns-4
 unfolding inputOf
 returns-4 c =
-    let a = c .before .before .before .before .before .args in
-    let h : count (a .tokens .now) ≤ a .self .read = omega (arith, c .before .count-words .ensures) in
-    simp (inside (c .before .before .before .before .before .args .self .location) (c .before .before .if1 .left) (c .before .before .before .before .before .pre .0) (c .before .before .before .before .before .pre .2), le-ltb _ _ h)
+    let a = c .before .before .before .before .before .before .args in
+    let h : count (a .tokens .now) ≤ a .self .read = omega (arith, c .before .before .count-words .ensures) in
+    simp (inside (c .before .before .before .before .before .before .args .self .location) (c .before .before .before .if1 .left) (c .before .before .before .before .before .before .pre .0) (c .before .before .before .before .before .before .pre .2), le-ltb _ _ h, c .mend2 .ensures)
 
 pub input-spec : {M : Type 1} → statement M
 input-spec =
@@ -73,6 +79,8 @@ input-spec =
     add-moved
     moved-requires
     read-token-requires
+    mend-requires
+    mend-requires-2
     returns-2
     returns-3
     returns-4)

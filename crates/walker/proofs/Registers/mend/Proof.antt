@@ -1,0 +1,30 @@
+-- `Registers::mend` meets its contract.
+use borrow.Author.Tests.{lt-ltb, le-ltb}
+use Rattle.walker.specs.Shape.{mendOf}
+use borrow.Author.Needs.{needs}
+use Rattle.walker.proofs.Registers.mend.Statement.{statement}
+use Rattle.walker.proofs.Registers.mend.Tie as tie
+
+spend-requires : tie.Need-spend-requires
+spend-requires c κs = search needs
+
+add-tell : tie.Need-add-tell
+add-tell c = search needs
+
+word-requires : tie.Need-word-requires
+word-requires c κs = search needs
+
+tell-requires : tie.Need-tell-requires
+tell-requires c κs = search needs
+
+returns : tie.Need-returns
+unfolding mendOf
+returns c = simp (lt-ltb _ _ (c .before .before .before .if1 .taken), c .tell .ensures, c .before .word .ensures, c .before .before .spend .ensures)
+
+returns-2 : tie.Need-returns-2
+unfolding mendOf
+returns-2 c = simp (le-ltb _ _ (c .if1 .left))
+
+pub mend-spec : {M : Type 1} → statement M
+mend-spec =
+    tie.close (tie.spec spend-requires add-tell word-requires tell-requires returns returns-2)
