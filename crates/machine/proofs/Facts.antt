@@ -207,8 +207,11 @@ repairs =
     ∷ call (3 ∷ 7 ∷ 9 ∷ []) (8 ∷ []) alone 9 2 (fresh 0) 30 [] 1 (ended differs 1)
     ∷ call (3 ∷ 7 ∷ 9 ∷ []) (8 ∷ []) alone 0 0 (fresh 5) 36 [] 0 (fresh 5)
     ∷ call (3 ∷ []) (8 ∷ []) alone 9 0 (fresh 5) 37 [] 0 (having 5 (ended outside 1))
-    -- `?` with none is 31
+    -- result, parameter and return locations stay
+    ∷ call (3 ∷ 7 ∷ 9 ∷ []) (8 ∷ []) alone 1 3 (having 5 (walk going 1 (3 ∷ []) 4 6 0 2)) 36 (4 ∷ 7 ∷ 0 ∷ []) 1 (having 4 (walk going 3 (3 ∷ []) 4 6 0 2))
+    -- `?` with none is 31; no label by a rule or an operation is 32
     ∷ call (4 ∷ 9 ∷ []) [] alone 9 9 (fresh 5) 31 [] 1 (having 5 (ended missing 1))
+    ∷ call (11 ∷ 1 ∷ 1 ∷ 5 ∷ 2 ∷ 12 ∷ []) (5 ∷ []) alone 9 9 (fresh 5) 32 [] 2 (having 5 (ended unlabelled 6))
     -- an input choice without otherwise: the result is the present token, the default's input is repaired, and back to the alternative
     ∷ call (7 ∷ 3 ∷ 1 ∷ 8 ∷ 1 ∷ 1 ∷ 4 ∷ 3 ∷ 1 ∷ 2 ∷ 8 ∷ 9 ∷ []) (2 ∷ []) alone 2 3 (fresh 5) 36 (4 ∷ 1 ∷ 0 ∷ []) 2 (having 4 (holding 2 10))
     ∷ call (7 ∷ 3 ∷ 1 ∷ 8 ∷ 1 ∷ 1 ∷ 4 ∷ 3 ∷ 1 ∷ 2 ∷ 8 ∷ 9 ∷ []) (2 ∷ []) alone 3 3 (fresh 5) 36 (4 ∷ 1 ∷ 0 ∷ []) 3 (having 4 (holding 2 3))
@@ -222,6 +225,11 @@ repairs =
     -- 21 and a stop that repeats leave it
     ∷ call [] [] (paused (some 5)) 0 0 (fresh 6) 21 [] 0 (fresh 6)
     ∷ call [] [] alone 0 0 (having 6 (ended missing 4)) 31 [] 0 (having 6 (ended missing 4))
+    -- also one with 30, made up with an allowance
+    ∷ call (3 ∷ 7 ∷ 9 ∷ []) (8 ∷ []) alone 9 9 (having 6 (ended differs 1)) 30 [] 0 (having 6 (ended differs 1))
+    ∷ call (3 ∷ 7 ∷ 9 ∷ []) (8 ∷ []) (paused none) 9 9 (having 6 (ended differs 1)) 30 [] 0 (having 6 (ended differs 1))
+    -- a walk that waits keeps it, and repairs once it goes on
+    ∷ call (768 ∷ 3 ∷ 7 ∷ 9 ∷ []) [] (paused (some 5)) 1 3 (having 6 (walk waiting 2 [] 0 0 0 0)) 36 (4 ∷ 7 ∷ 0 ∷ []) 1 (having 5 (walk going 4 [] 5 0 0 1))
     ∷ []
 
 -- Paused walks, refusals, stops that repeat, made-up walks
