@@ -64,6 +64,9 @@ struct Harness {
     walks: Counts<u16>,
     endless: u64,
     finished: u64,
+    /// Walks with a repair; of these the ones that stop with 30, the allowance used up.
+    repaired: u64,
+    used_up: u64,
 }
 
 /// The bytes that a slice lies in, between others that do harm if they are read or written.
@@ -411,14 +414,14 @@ fn lent_sizes(h: &mut Harness, seed: &mut Seed) {
 struct Own {
     end: rules::End,
     steps: usize,
-    states: Vec<(usize, u64, u64)>,
+    states: Vec<(usize, u64, u64, u16)>,
 }
 
 impl Own {
     fn new(program: &Program, tokens: &[u16], answers: &[u16], allowance: u16, most: usize) -> Own {
-        let mut states = vec![(0, 0, 0)];
+        let mut states = vec![(0, 0, 0, allowance)];
         let look = |end: &rules::End| {
-            let state = (end.events.len(), end.read, end.used);
+            let state = (end.events.len(), end.read, end.used, end.allowance);
             if states.last() != Some(&state) {
                 states.push(state);
             }
@@ -494,7 +497,7 @@ fn table_walk(h: &mut Harness, seed: &mut Seed, feed: &Feed, own: &Own, pauses: 
         count(&mut h.walks, run.number);
         // The rules' own walk writes an operation's event and takes its answer at once.
         let Some(walk) = Walk::decode(&run.walk) else { break };
-        let now = (run.events.len() / 6 - usize::from(run.number == 22), walk.read, walk.used);
+        let now = (run.events.len() / 6 - usize::from(run.number == 22), walk.read, walk.used, walk.allowance);
         match own.states[state..].iter().position(|state| *state == now) {
             Some(further) => state += further,
             None => agrees = false,
@@ -519,7 +522,11 @@ fn table_walk(h: &mut Harness, seed: &mut Seed, feed: &Feed, own: &Own, pauses: 
             } else {
                 agrees &= run.number == reason;
             }
-            agrees &= run.events == wanted && (walk.read, walk.used) == (own.end.read, own.end.used) && run.steps <= most;
+            agrees &= run.events == wanted && run.steps <= most;
+            agrees &= (walk.read, walk.used, walk.allowance) == (own.end.read, own.end.used, own.end.allowance);
+            let repaired = own.end.allowance < allowance;
+            h.repaired += u64::from(repaired);
+            h.used_up += u64::from(repaired && reason == 30);
         }
     }
     wanted.truncate(120);
@@ -648,6 +655,7 @@ fn report(h: &mut Harness) {
     line("lent", sizes.iter().map(|size| (size.to_string(), h.sizes.get(size).copied().unwrap_or(0))).collect());
     line("walk calls answered", times(&h.walks, &WALK_NUMBERS));
     line("walks", vec![("of finishing programs".to_string(), h.finished), ("without end".to_string(), h.endless)]);
+    line("repairs", vec![("walks with some".to_string(), h.repaired), ("to the end of the allowance".to_string(), h.used_up)]);
     never.extend(pairs_never_met(h));
     for name in never {
         h.expect(false, || format!("never met: {name}"));
@@ -711,6 +719,8 @@ fn main() -> ExitCode {
         walks: BTreeMap::new(),
         endless: 0,
         finished: 0,
+        repaired: 0,
+        used_up: 0,
     };
     for (stream, (name, group)) in (1..).zip(GROUPS) {
         let (passed, failed, start) = (h.passed, h.failed, ffi::cpu_seconds());
