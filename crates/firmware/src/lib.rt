@@ -20,8 +20,16 @@ use walker::Reason;
 use walker::Registers;
 use walker::Walk;
 
-// The bytes of a walk.
+// The bytes of a walk, and where some of its words begin.
 const WALK_BYTES: usize = 158;
+
+const ALLOWANCE_WORD: usize = 6;
+
+const READ_WORD: usize = 7;
+
+const USED_WORD: usize = 11;
+
+const RETURNS_WORD: usize = 15;
 
 // Whether some bytes are a walk, and which.
 struct Held {
@@ -127,9 +135,9 @@ fn put_registers(out: &mut [u8], r: Registers)
         narrow(r.parameter),
         held_of(r.depth),
     );
-    put_word(out, 6, r.allowance);
-    put_64(out, 7, r.read);
-    put_64(out, 11, r.used);
+    put_word(out, ALLOWANCE_WORD, r.allowance);
+    put_64(out, READ_WORD, r.read);
+    put_64(out, USED_WORD, r.used);
 }
 
 // The word of the return location at index i: 0 if it is not held.
@@ -147,7 +155,7 @@ fn put_returns(out: &mut [u8], returns: &[u16], depth: usize)
 {
     let mut i = 0;
     while i < 64 {
-        put_word(out, 15 + i, return_at(returns, depth, i));
+        put_word(out, RETURNS_WORD + i, return_at(returns, depth, i));
         i += 1;
     }
 }
@@ -218,9 +226,9 @@ fn registers_of(s: &[u8]) -> Registers
         depth: word(s, 5) as usize,
         result: word(s, 3),
         parameter: word(s, 4),
-        read: read_64(s, 7),
-        used: read_64(s, 11),
-        allowance: narrow(word(s, 6)),
+        read: read_64(s, READ_WORD),
+        used: read_64(s, USED_WORD),
+        allowance: narrow(word(s, ALLOWANCE_WORD)),
     }
 }
 
@@ -232,7 +240,7 @@ fn returns_of(s: &[u8]) -> [u16; 64]
     let mut returns = [0u16; 64];
     let mut i = 0;
     while i < 64 {
-        returns[i] = machine::word(s, 15 + i);
+        returns[i] = machine::word(s, RETURNS_WORD + i);
         i += 1;
     }
     returns
@@ -294,7 +302,7 @@ fn read_walk(s: &[u8]) -> Held
         };
     }
     let walk = named(s);
-    let mut form = [0u8; 158];
+    let mut form = [0u8; WALK_BYTES];
     put_walk(&mut form, walk);
     let ok = same(&form, s);
     Held { ok, walk }

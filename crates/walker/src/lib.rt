@@ -212,25 +212,34 @@ fn put_three(out: &mut [u8], i: usize, a: u16, b: u16, d: u16)
     put_word(out, i + 2, d);
 }
 
+// The first word of an event.
+const OUTPUT_EVENT: u16 = 1;
+
+const ERROR_EVENT: u16 = 2;
+
+const OPERATION_EVENT: u16 = 3;
+
+const REPAIR_EVENT: u16 = 4;
+
 fn put_event(out: &mut [u8], i: usize, e: Event)
     requires { ⌜ i + 3 ≤ count (now out) ⌝ }
     ensures { λ _. ⌜ now (out .exit) ≡ putEvent (now (out .entry)) i e ⌝ }
 {
     match e {
         Event::Output(t) => {
-            put_three(out, i, 1, t, 0);
+            put_three(out, i, OUTPUT_EVENT, t, 0);
         }
         Event::Error(n) => {
-            put_three(out, i, 2, n, 0);
+            put_three(out, i, ERROR_EVENT, n, 0);
         }
         Event::Repair(t) => {
-            put_three(out, i, 4, t, 0);
+            put_three(out, i, REPAIR_EVENT, t, 0);
         }
         Event::Plain(op) => {
-            put_three(out, i, 3, op, 0);
+            put_three(out, i, OPERATION_EVENT, op, 0);
         }
         Event::With(op, v) => {
-            put_three(out, i, 3, op, v);
+            put_three(out, i, OPERATION_EVENT, op, v);
         }
     }
 }
