@@ -139,6 +139,12 @@ walked t ts vs n es r u = record { text = t; tokens = ts; answers = vs; allowanc
 abbrev pub mended : String → List ℕ → ℕ → ℕ → List ℕ → ℕ → ℕ → Agreement
 mended t ts a n es r l = record { text = t; tokens = ts; answers = []; allowance = a; end = record { number = n; events = es; read = r; used = 0; left = l }; question = [] }
 
+-- with answers, so many of them used, and the question's event where the walk comes to 34
+abbrev pub answering : List ℕ → ℕ → List ℕ → Agreement → Agreement
+answering vs u q a =
+    let e = a .end in
+    record { text = a .text; tokens = a .tokens; answers = vs; allowance = a .allowance; end = record { number = e .number; events = e .events; read = e .read; used = u; left = e .left }; question = q }
+
 -- a walk that comes to 34, and the question's event
 abbrev pub unanswered : String → List ℕ → List ℕ → List ℕ → ℕ → ℕ → List ℕ → Agreement
 unanswered t ts vs es r u q = record { text = t; tokens = ts; answers = vs; allowance = 0; end = record { number = 34; events = es; read = r; used = u; left = 0 }; question = q }
@@ -170,6 +176,10 @@ cycles = "input: a b c; output: p q; rules M: { { [ | a: .p | b: > | *: >> ] } .
 -- an answer decides whether the cycle goes on
 abbrev asking : String
 asking = "type t: more stop; mechanism m: next >> t; output: o; rules M: { [ next | more: .o | stop: > ] }; end"
+
+-- a token with a choice operation's number, before an operation and behind it
+abbrev tokenOrOperation : String
+tokenOrOperation = "input: a = 768; type t: yes no; mechanism m: ask >> t; output: y z; rules M: a [ ask | yes: .y | no: .z ] a; end"
 
 unfoldable pub agreements : List Agreement
 agreements =
@@ -223,6 +233,12 @@ repairs =
     ∷ mended scanner (7 ∷ []) 3 0 [] 0 3
     -- `?` with none stays 31
     ∷ mended "input: a; rules M: a ?; end" [] 3 31 (4 ∷ 0 ∷ 0 ∷ []) 0 2
+    ∷ mended signs (0 ∷ []) 2 31 (1 ∷ 0 ∷ 0 ∷ 4 ∷ 1 ∷ 0 ∷ []) 1 1
+    -- a repaired token is no choice operation, whatever its number: the first answer is still the next, and no answer is used
+    ∷ answering (1 ∷ []) 1 [] (mended tokenOrOperation [] 3 0 (4 ∷ 768 ∷ 0 ∷ 3 ∷ 768 ∷ 0 ∷ 1 ∷ 1 ∷ 0 ∷ 4 ∷ 768 ∷ 0 ∷ []) 0 1)
+    ∷ answering [] 0 (3 ∷ 768 ∷ 0 ∷ []) (mended tokenOrOperation (5 ∷ []) 1 34 (4 ∷ 768 ∷ 0 ∷ []) 0 0)
+    -- the greatest allowance
+    ∷ mended "input: a; rules M: a; end" [] 65535 0 (4 ∷ 0 ∷ 0 ∷ []) 0 65534
     ∷ []
 
 -- 64 calls pending, and one more
