@@ -1,0 +1,139 @@
+/* Walks chapters that miss marks, with no repair allowance and with one, and prints the events side by side.
+ *
+ *   cc -std=c99 -Iinclude examples/repair.c -L<folder of libfirmware.a> -lfirmware -o repair
+ *
+ * A repair writes an event of its own, so that the reader can note where a chapter was mended. Where an input choice has no label for the
+ * present token and no otherwise, a repair takes its first alternative: the rules below put the one first that closes what is open.
+ */
+#include <stdio.h>
+#include <string.h>
+
+#include "sst.h"
+
+static const char rules[] = "input: text open '<em>' close '</em>' chapterEnd;\n"
+                            "output: run emphasisOn emphasisOff chapterDone;\n"
+                            "rules\n"
+                            "  Chapter: {[ | chapterEnd: .chapterDone >\n"
+                            "              | text: .run\n"
+                            "              | open: @Emphasis ]};\n"
+                            "  Emphasis: .emphasisOn {[ | text: .run | *: > ]} close .emphasisOff;\n"
+                            "end\n";
+
+enum token { TEXT, OPEN, CLOSE, CHAPTER_END };
+static const char *const token_names[] = {"text", "<em>", "</em>", "chapterEnd"};
+static const char *const output_names[] = {"run", "emphasisOn", "emphasisOff", "chapterDone"};
+
+/* The first word of an event. */
+enum event_kind { OUTPUT_EVENT = 1, REPAIR_EVENT = 4 };
+
+#define TABLE_WORDS 64
+#define TOKENS 6
+#define EVENTS 16
+#define BUDGET 1000
+#define WORDS_OF_AN_EVENT 3
+
+struct chapter {
+    const char *name;
+    size_t token_count;
+    uint16_t tokens[TOKENS];
+};
+
+static const struct chapter chapters[] = {
+    {"nothing missing", 5, {TEXT, OPEN, TEXT, CLOSE, CHAPTER_END}},
+    {"a closing mark missing", 4, {TEXT, OPEN, TEXT, CHAPTER_END}},
+    {"a closing mark and the chapter's end missing", 3, {TEXT, OPEN, TEXT}},
+    {"two closing marks and the chapter's end missing", 4, {OPEN, TEXT, OPEN, TEXT}},
+};
+
+/* A walk of a chapter, as it is printed. */
+struct walked {
+    uint16_t number, left;
+    uint64_t events, read;
+    uint8_t buffer[2 * WORDS_OF_AN_EVENT * EVENTS];
+};
+
+#define COUNT(list) (sizeof(list) / sizeof((list)[0]))
+
+static uint8_t table[2 * TABLE_WORDS];
+
+static void put_words(uint8_t *bytes, const uint16_t *words, size_t count)
+{
+    size_t i;
+    for (i = 0; i < count; i++) {
+        bytes[2 * i] = (uint8_t)(words[i] >> 8);
+        bytes[2 * i + 1] = (uint8_t)(words[i] & 255);
+    }
+}
+
+static unsigned get_word(const uint8_t *bytes, size_t i)
+{
+    return (unsigned)bytes[2 * i] << 8 | bytes[2 * i + 1];
+}
+
+static void walk_chapter(struct walked *walked, const struct chapter *chapter, size_t words, uint16_t allowance)
+{
+    static uint8_t walk[SST_WALK_BYTES];
+    uint8_t tokens[2 * TOKENS], answers[2];
+    uint64_t steps;
+
+    put_words(tokens, chapter->tokens, chapter->token_count);
+    sst_fresh(walk, sizeof walk, allowance);
+    walked->number = sst_whole(table, 2 * words, tokens, 2 * chapter->token_count, answers, 0, BUDGET, walk, sizeof walk,
+                               walked->buffer, sizeof walked->buffer, &walked->events, &steps);
+    walked->left = sst_allowance(walk, sizeof walk);
+    walked->read = sst_read(walk, sizeof walk);
+}
+
+/* The event at index i in words; nothing past the last one. */
+static void describe(char *line, size_t size, const struct walked *walked, size_t i)
+{
+    unsigned kind, value;
+
+    line[0] = '\0';
+    if (i >= walked->events)
+        return;
+    kind = get_word(walked->buffer, WORDS_OF_AN_EVENT * i);
+    value = get_word(walked->buffer, WORDS_OF_AN_EVENT * i + 1);
+    if (kind == REPAIR_EVENT)
+        snprintf(line, size, "repaired %s", token_names[value]);
+    else if (kind == OUTPUT_EVENT)
+        snprintf(line, size, "output %s", output_names[value]);
+}
+
+static void show(const struct walked *strict, const struct walked *mending)
+{
+    char left[32], right[32];
+    size_t i;
+
+    for (i = 0; i < strict->events || i < mending->events; i++) {
+        describe(left, sizeof left, strict, i);
+        describe(right, sizeof right, mending, i);
+        if (right[0] == '\0')
+            printf("  %s\n", left);
+        else
+            printf("  %-24s%s\n", left, right);
+    }
+    snprintf(left, sizeof left, "answered %u, read %lu", (unsigned)strict->number, (unsigned long)strict->read);
+    printf("  %-24sanswered %u, read %lu, repairs left %u\n", left, (unsigned)mending->number, (unsigned long)mending->read,
+           (unsigned)mending->left);
+}
+
+int main(void)
+{
+    static struct walked strict, mending;
+    uint64_t start, len, words, finishing;
+    size_t i;
+    uint16_t number = sst_process((const uint8_t *)rules, strlen(rules), table, sizeof table, &start, &len, &words, &finishing);
+
+    if (number != 0) {
+        printf("refused %u\n", (unsigned)number);
+        return 1;
+    }
+    for (i = 0; i < COUNT(chapters); i++) {
+        walk_chapter(&strict, &chapters[i], (size_t)words, 0);
+        walk_chapter(&mending, &chapters[i], (size_t)words, 2);
+        printf("%s\n  %-24s%s\n", chapters[i].name, "no allowance", "an allowance of 2");
+        show(&strict, &mending);
+    }
+    return 0;
+}
