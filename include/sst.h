@@ -10,7 +10,7 @@
  *       walk. Walk and event buffer are unchanged, no event and no step is counted
  *   22  the walk waits: the last event written is the operation that wants an answer
  *   30  stopped: the token differs from the one required, or there is none, and no repair is left
- *   31  stopped: a token is required and there is none
+ *   31  stopped: any token is required and there is none; this is not repaired
  *   32  stopped: no label for the value of a choice without otherwise
  *   33  stopped: a call with 64 pending
  *   34  stopped: the answers of sst_whole are used up
@@ -52,8 +52,9 @@ uint16_t sst_process(const uint8_t *text, size_t text_len, uint8_t *table, size_
 /* The bytes of a walk. */
 #define SST_WALK_BYTES 158
 
-/* Writes a fresh walk that may repair so many tokens. Lent: walk, SST_WALK_BYTES bytes. Answers 0; 21 where the length is another, and then
- * nothing is written. */
+/* Writes a fresh walk. `allowance` is how many tokens it may repair: where the token that is required differs or is absent, the event 4, that
+ * token, 0 is written, one repair less is left, and the walk goes on, the present token unread. With 0 it stops with 30 there. Lent: walk,
+ * SST_WALK_BYTES bytes. Answers 0; 21 where the length is another, and then nothing is written. */
 uint16_t sst_fresh(uint8_t *walk, size_t walk_len, uint16_t allowance);
 
 /* A whole call: up to `budget` steps, with all the operations' answers as words. Read: table (words past 4,096 count for nothing), tokens,
