@@ -58,7 +58,7 @@ unfolding view.walkOf view.walkIn registersIn form.walkNamed
 named-is ph at rs ws p e f small =
     let result : at .result % 65536 ≡ getD ws 3 0 = ap (λ (r : Registers). r .result % 65536) e ∙ omega (arith, small 3) in
     let parameter : at .parameter % 65536 ≡ getD ws 4 0 = ap (λ (r : Registers). r .parameter % 65536) e ∙ omega (arith, small 4) in
-    let allowance : at .allowance ≡ getD ws 6 0 = ap (λ (r : Registers). r .allowance) e ∙ omega (arith, small 6) in
+    let allowance : at .allowance % 65536 ≡ getD ws 6 0 = ap (λ (r : Registers). r .allowance % 65536) e ∙ omega (arith, small 6) in
     λ i. record {
       phase = p i;
       location = e i .location;

@@ -18,7 +18,7 @@ puts s i ws = sets s (2 * i) (bytesOf ws)
 
 -- words 2 to 14 of a walk
 unfoldable pub registerWords : Registers → List ℕ
-registerWords r = r .location ∷ r .result % 65536 ∷ r .parameter % 65536 ∷ min (r .depth) 64 ∷ r .allowance ∷ (form.words64 (r .read) ++ form.words64 (r .used))
+registerWords r = r .location ∷ r .result % 65536 ∷ r .parameter % 65536 ∷ min (r .depth) 64 ∷ r .allowance % 65536 ∷ (form.words64 (r .read) ++ form.words64 (r .used))
 
 -- the registers that a walk's words name
 unfoldable pub registersIn : List ℕ → Registers
@@ -29,7 +29,7 @@ registersIn ws = record {
   parameter = getD ws 4 0;
   read = form.number64 (drop 7 ws);
   used = form.number64 (drop 11 ws);
-  allowance = getD ws 6 0 % 65536;
+  allowance = getD ws 6 0;
 }
 
 -- h says which walk the bytes s are, or that they are none; the walk it holds can be written

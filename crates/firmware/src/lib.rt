@@ -135,7 +135,7 @@ fn put_registers(out: &mut [u8], r: Registers)
         narrow(r.parameter),
         held_of(r.depth),
     );
-    put_word(out, ALLOWANCE_WORD, r.allowance);
+    put_word(out, ALLOWANCE_WORD, narrow(r.allowance));
     put_64(out, READ_WORD, r.read);
     put_64(out, USED_WORD, r.used);
 }
@@ -228,7 +228,7 @@ fn registers_of(s: &[u8]) -> Registers
         parameter: word(s, 4),
         read: read_64(s, READ_WORD),
         used: read_64(s, USED_WORD),
-        allowance: narrow(word(s, ALLOWANCE_WORD)),
+        allowance: word(s, ALLOWANCE_WORD),
     }
 }
 
@@ -282,7 +282,7 @@ fn fresh_walk(allowance: u16) -> Walk
         parameter: 0,
         read: 0,
         used: 0,
-        allowance,
+        allowance: wide(allowance),
     };
     Walk {
         phase: Phase::Going,
@@ -496,7 +496,7 @@ pub extern "C" fn sst_allowance(walk: &[u8]) -> u16
     if h.ok {
         let w = h.walk;
         let at = w.at;
-        at.allowance
+        narrow(at.allowance)
     } else {
         0
     }

@@ -76,7 +76,7 @@ module _ (room : ℕ) (r : Registers) (deep : r .depth ≤ 64) where
 
     mends : Keeps room (mendOf t room r)
     unfolding mendOf tellOf
-    mends = either room _ _ (ltb 0 (r .allowance)) (λ _. either room _ _ (leb 3 room) (λ h. (deep, leb-true 3 room h)) (λ _. tt)) (λ _. tt)
+    mends = either room _ _ (ltb 0 (r .allowance % 65536)) (λ _. either room _ _ (leb 3 room) (λ h. (deep, leb-true 3 room h)) (λ _. tt)) (λ _. tt)
 
     inputs : Keeps room (inputOf t k room r)
     unfolding inputOf

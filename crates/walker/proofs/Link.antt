@@ -114,7 +114,7 @@ module _ (room : ℕ) (r : Registers) (held : Held r) where
     mend-keeps : Keeps room (mendOf t room r)
     unfolding mendOf tellOf
     mend-keeps =
-        either (ltb 0 (r .allowance)) _ _
+        either (ltb 0 (r .allowance % 65536)) _ _
         (λ y. either (leb 3 room) _ _
         (λ z. tell {e = Repair (operand t (r .location))} (alike (moved (spentOne r) (r .location + 2)) refl refl) (leb-true 3 room z)) (λ z. full))
         (λ y. stop {x = Differs})

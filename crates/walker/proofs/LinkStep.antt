@@ -34,7 +34,7 @@ use Rattle.walker.specs.declared.Target.the-variants.{Label, Otherwise}
 use Rattle.walker.specs.View.{reasonOf, eventOf, walkIn}
 use Rattle.walker.specs.Linked.{Bytes}
 use Rattle.walker.specs.Shape.{size, findFrom, operand, otherwiseOf, labelOf, labelledOf, tableAt, labelsAt, insideTable, choiceOf, defaultOf, takeInput, takeOther, moved, readOne, withResult, withParameter, withDepth, spentOne, forwardOf, backOf, mendOf, inputOf, anyOf, tellOf, inputChoiceOf, callOf, backTo, returnOf, askOf, answerOf, actOf, operateOf, fetchedOf, stepOf}
-use Rattle.walker.proofs.LinkWords.{word-small, word-in, word-out, length-table, fetch-in, fetch-at, fetch-zero, fetch-behind, fetch-out, push-returns, pop-returns, length-returns, eqb-comm, one-more}
+use Rattle.walker.proofs.LinkWords.{word-small, word-in, word-out, length-table, fetch-in, fetch-at, fetch-zero, fetch-behind, fetch-out, push-returns, pop-returns, length-returns, eqb-comm, one-more, one-less}
 
 -- the walk of the machine inside a call that has written the events es
 unfoldable pub withEvents : List events.Event → machine.Walk → machine.Walk
@@ -175,8 +175,8 @@ module _ (t k : List ℕ) (m : Mode) (room n : ℕ) (es : List events.Event) (r 
   mend-same : Same (requiring (tableOf t) (wordsOf k) (operand t (r .location)) false (inCall es r rs)) (mendOf t room r)
   unfolding turn turnOf requiring mendOf tellOf withEvents walkIn machine.opened mends spent writing events.wrote eventOf reasonOf
   mend-same =
-      split (ltb 0 (r .allowance))
-      (λ y. rw y (split (leb 3 room)
+      split (ltb 0 (r .allowance % 65536))
+      (λ y. rw (y, ← one-less (r .allowance) (ltb-true 0 (r .allowance % 65536) y)) (split (leb 3 room)
       (λ z. rw (z, le-ltb room 3 (leb-true 3 room z)))
       (λ z. rw (z, lt-ltb room 3 (leb-false 3 room z)))))
       (λ y. rw y)

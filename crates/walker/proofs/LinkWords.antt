@@ -196,3 +196,7 @@ one-more n h =
 
 pub one-more-fits : (n : ℕ) → n < 18446744073709551616 → oneMore n < 18446744073709551616
 one-more-fits n h = let e = one-more n h in omega arith
+
+-- "the allowance falls by one", also where it is read modulo 65,536
+pub one-less : (n : ℕ) → 0 < n % 65536 → (n - 1) % 65536 ≡ n % 65536 - 1
+one-less n h = omega arith

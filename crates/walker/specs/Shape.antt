@@ -143,7 +143,7 @@ tellOf room l e r = if leb 3 room then Tells (moved r l) e else Full
 -- a required token that is not there: repaired while allowance is left
 unfoldable pub mendOf : List ℕ → ℕ → Registers → Next
 mendOf t room r =
-    if ltb 0 (r .allowance) then tellOf room (r .location + 2) (Repair (operand t (r .location))) (spentOne r) else Stop Differs
+    if ltb 0 (r .allowance % 65536) then tellOf room (r .location + 2) (Repair (operand t (r .location))) (spentOne r) else Stop Differs
 
 unfoldable pub inputOf : List ℕ → List ℕ → ℕ → Registers → Next
 inputOf t k room r =

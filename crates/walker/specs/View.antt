@@ -42,7 +42,7 @@ walkIn ph r returns = record {
   returns = reverse (take (r .depth) returns);
   result = r .result % 65536;
   parameter = r .parameter % 65536;
-  io = record { read = r .read; used = r .used; allowance = r .allowance; events = [] };
+  io = record { read = r .read; used = r .used; allowance = r .allowance % 65536; events = [] };
 }
 
 unfoldable pub walkOf : Walk → machine.Walk

@@ -97,8 +97,8 @@ pub struct Registers {
     // tokens read, answers used
     pub read: u64,
     pub used: u64,
-    // repairs left
-    pub allowance: u16,
+    // repairs left, read modulo 65,536 as result and parameter are
+    pub allowance: u64,
 }
 
 pub struct Walk {
@@ -484,7 +484,7 @@ impl Registers {
         ensures { λ r. ⌜ r ≡ mendOf (now (t .entry)) room self ⌝ }
     {
         let loc = self.location;
-        if 0 < self.allowance {
+        if 0 < narrow(self.allowance) {
             self.spend()
                 .tell(room, loc + 2, Event::Repair(word(t, loc)))
         } else {

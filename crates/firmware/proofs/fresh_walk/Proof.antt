@@ -1,14 +1,18 @@
--- `firmware::fresh_walk` meets its contract: both sides compute.
-use mathlib.Core.Path.{refl}
+-- `firmware::fresh_walk` meets its contract: both sides compute, but for the allowance.
+use mathlib.Core.Path.{ap}
+use native.Mathlib.Omega.{arith}
 use borrow.Author.Needs.{needs}
-use Rattle.machine.specs.Walk.{opened as walk-opened}
+use Rattle.machine.specs.Walk.{fresh, opened as walk-opened}
 use Rattle.walker.specs.View.{opened as view-opened}
 use Rattle.firmware.proofs.fresh_walk.Statement.{statement}
 use Rattle.firmware.proofs.fresh_walk.Tie as tie
 
+wide-requires : tie.Need-wide-requires
+wide-requires c κs = search needs
+
 returns : tie.Need-returns
 unfolding view-opened walk-opened
-returns c = (refl, search needs)
+returns c = (ap fresh (omega (arith, c .wide .ensures .0, c .wide .ensures .1)), search needs)
 
 pub fresh-walk-spec : {M : Type 1} → statement M
-fresh-walk-spec = tie.close (tie.spec returns)
+fresh-walk-spec = tie.close (tie.spec wide-requires returns)

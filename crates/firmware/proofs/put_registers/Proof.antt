@@ -24,6 +24,9 @@ held-of-requires c κs = search needs
 put-four-requires : tie.Need-put-four-requires
 put-four-requires c κs = search needs
 
+narrow-requires-3 : tie.Need-narrow-requires-3
+narrow-requires-3 c κs = search needs
+
 put-word-requires : tie.Need-put-word-requires
 put-word-requires c κs = search needs
 
@@ -39,18 +42,19 @@ same-length c = search needs
 returns : tie.Need-returns
 unfolding registerWords form.words64
 returns c =
-    let a = c .before .before .before .before .before .before .before .before .before .before .before .before .before .before .before .before .before .before .before .before .before .args in
+    let a = c .before .before .before .before .before .before .before .before .before .before .before .before .before .before .before .before .before .before .before .before .before .before .args in
     let s = a .out .now in
     let r = a .r in
     let first = r .location ∷ r .result % 65536 ∷ r .parameter % 65536 ∷ min (r .depth) 64 ∷ [] in
-    let left = r .allowance ∷ [] in
+    let left = r .allowance % 65536 ∷ [] in
     let read = form.words64 (r .read) in
     let used = form.words64 (r .used) in
-    let four = c .before .before .before .before .before .before .before .before .before .before .before .before .before .before .put-four .ensures in
-    let held = c .before .before .before .before .before .before .before .before .before .before .before .before .before .before .before .held-of .ensures in
-    let result = c .before .before .before .before .before .before .before .before .before .before .before .before .before .before .before .before .before .narrow .ensures in
-    let parameter = c .before .before .before .before .before .before .before .before .before .before .before .before .before .before .before .before .narrow2 .ensures in
-    c .before .before .put-642 .ensures ∙ rw (c .before .before .before .before .before .before .put-64 .ensures, c .before .before .before .before .before .before .before .before .before .before .put-word .ensures, four, held, result, parameter)
+    let four = c .before .before .before .before .before .before .before .before .before .before .before .before .before .before .before .put-four .ensures in
+    let held = c .before .before .before .before .before .before .before .before .before .before .before .before .before .before .before .before .held-of .ensures in
+    let result = c .before .before .before .before .before .before .before .before .before .before .before .before .before .before .before .before .before .before .narrow .ensures in
+    let parameter = c .before .before .before .before .before .before .before .before .before .before .before .before .before .before .before .before .before .narrow2 .ensures in
+    let allowance = c .before .before .before .before .before .before .before .before .before .before .before .narrow3 .ensures in
+    c .before .before .put-642 .ensures ∙ rw (c .before .before .before .before .before .before .put-64 .ensures, c .before .before .before .before .before .before .before .before .before .before .put-word .ensures, four, held, result, parameter, allowance)
     (ap (λ t. puts (puts t 7 read) 11 used) (puts-then s 2 first left 6 refl) ∙ ap (λ t. puts t 11 used) (puts-then s 2 (first ++ left) read 7 refl)
     ∙ puts-then s 2 ((first ++ left) ++ read) used 11 refl)
 
@@ -63,6 +67,7 @@ put-registers-spec =
     narrow-requires-2
     held-of-requires
     put-four-requires
+    narrow-requires-3
     put-word-requires
     put-64-requires
     put-64-requires-2

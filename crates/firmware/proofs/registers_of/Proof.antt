@@ -1,6 +1,4 @@
 -- `firmware::registers_of` meets its contract: field by field.
-use mathlib.Core.Path.{ap, _∙_}
-use Prim.Native.Nat.{_%_}
 use borrow.Author.Needs.{needs}
 use Rattle.firmware.specs.Writes.{registersIn}
 use Rattle.firmware.proofs.registers_of.Statement.{statement}
@@ -27,21 +25,17 @@ read-64-requires-2 c κs = search needs
 word-requires-5 : tie.Need-word-requires-5
 word-requires-5 c κs = search needs
 
-narrow-requires : tie.Need-narrow-requires
-narrow-requires c κs = search needs
-
 returns : tie.Need-returns
 unfolding registersIn
 returns c =
-    let location = c .before .before .before .before .before .before .before .word .ensures in
-    let depth = c .before .before .before .before .before .before .word2 .ensures in
-    let result = c .before .before .before .before .before .word3 .ensures in
-    let parameter = c .before .before .before .before .word4 .ensures in
-    let read = c .before .before .before .read-64 .ensures in
-    let used = c .before .before .read-642 .ensures in
-    let six = c .before .word5 .ensures in
-    let allowance = c .narrow .ensures in
-    (λ i. record { location = location .0 i; depth = depth .0 i; result = result .0 i; parameter = parameter .0 i; read = read i; used = used i; allowance = (allowance ∙ ap (λ x. x % 65536) (six .0)) i }, location .1)
+    let location = c .before .before .before .before .before .before .word .ensures in
+    let depth = c .before .before .before .before .before .word2 .ensures in
+    let result = c .before .before .before .before .word3 .ensures in
+    let parameter = c .before .before .before .word4 .ensures in
+    let read = c .before .before .read-64 .ensures in
+    let used = c .before .read-642 .ensures in
+    let allowance = c .word5 .ensures in
+    (λ i. record { location = location .0 i; depth = depth .0 i; result = result .0 i; parameter = parameter .0 i; read = read i; used = used i; allowance = allowance .0 i }, location .1)
 
 pub registers-of-spec : {M : Type 1} → statement M
 registers-of-spec =
@@ -54,5 +48,4 @@ registers-of-spec =
     read-64-requires
     read-64-requires-2
     word-requires-5
-    narrow-requires
     returns)

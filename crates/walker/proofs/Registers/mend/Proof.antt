@@ -1,12 +1,18 @@
 -- `Registers::mend` meets its contract.
+use mathlib.Core.Path.{subst}
+use Prim.Native.Nat.{_<_, _≤_}
+use native.Mathlib.Omega.{arith}
 use borrow.Author.Tests.{lt-ltb, le-ltb}
 use Rattle.walker.specs.Shape.{mendOf}
 use borrow.Author.Needs.{needs}
 use Rattle.walker.proofs.Registers.mend.Statement.{statement}
 use Rattle.walker.proofs.Registers.mend.Tie as tie
 
+narrow-requires : tie.Need-narrow-requires
+narrow-requires c κs = search needs
+
 spend-requires : tie.Need-spend-requires
-spend-requires c κs = search needs
+spend-requires c κs = omega (arith, c .before .narrow .ensures, c .if1 .taken)
 
 add-tell : tie.Need-add-tell
 add-tell c = search needs
@@ -19,12 +25,14 @@ tell-requires c κs = search needs
 
 returns : tie.Need-returns
 unfolding mendOf
-returns c = simp (lt-ltb _ _ (c .before .before .before .if1 .taken), c .tell .ensures, c .before .word .ensures, c .before .before .spend .ensures)
+returns c =
+    let left = subst (λ x. 0 < x) (c .before .before .before .before .narrow .ensures) (c .before .before .before .if1 .taken) in
+    simp (lt-ltb _ _ left, c .tell .ensures, c .before .word .ensures, c .before .before .spend .ensures)
 
 returns-2 : tie.Need-returns-2
 unfolding mendOf
-returns-2 c = simp (le-ltb _ _ (c .if1 .left))
+returns-2 c = simp (le-ltb _ _ (subst (λ x. x ≤ 0) (c .before .narrow .ensures) (c .if1 .left)))
 
 pub mend-spec : {M : Type 1} → statement M
 mend-spec =
-    tie.close (tie.spec spend-requires add-tell word-requires tell-requires returns returns-2)
+    tie.close (tie.spec narrow-requires spend-requires add-tell word-requires tell-requires returns returns-2)
