@@ -28,7 +28,7 @@ table = 768 ∷ 11 ∷ 5 ∷ 5 ∷ 0 ∷ 1 ∷ 5 ∷ 1 ∷ 0 ∷ 6 ∷ 12 ∷ 9 
 
 -- the walk after its last call: f, choice, emit, jumpForward and return are done
 abbrev ended : Walk
-ended = record { phase = stopped finished; location = 12; returns = []; result = 0; parameter = 0; io = record { read = 0; used = 1; events = [] } }
+ended = record { phase = stopped finished; location = 12; returns = []; result = 0; parameter = 0; io = record { read = 0; used = 1; allowance = 0; events = [] } }
 
 abbrev written : List Event
 written = operation 768 ∷ output 0 ∷ []
@@ -37,7 +37,7 @@ few : length {A = ℕ} (0 ∷ []) < 2 ^ 64
 few = omega arith
 
 -- paused: it waits after its first step (22), refuses a whole call and one with no answer (21), and ends with its answer
-pub in-pauses : Listed table [] (0 ∷ []) ended written 5 (0 ∷ 21 ∷ 21 ∷ 22 ∷ [])
+pub in-pauses : Listed table [] (0 ∷ []) 0 ended written 5 (0 ∷ 21 ∷ 21 ∷ 22 ∷ [])
 unfolding calling
 in-pauses =
     let waits = then-call begin (paused none) 9 9 tt in
@@ -46,7 +46,7 @@ in-pauses =
 
 -- in pieces, whole and paused calls mixed: an answer that it does not wait for is refused (21), a budget is done (36), an event has no room (35),
 -- it ends (0), refuses an answer again and repeats its end
-pub in-pieces : Listed table [] (0 ∷ []) ended written 5 (0 ∷ 21 ∷ 0 ∷ 35 ∷ 36 ∷ 21 ∷ [])
+pub in-pieces : Listed table [] (0 ∷ []) 0 ended written 5 (0 ∷ 21 ∷ 0 ∷ 35 ∷ 36 ∷ 21 ∷ [])
 unfolding calling
 in-pieces =
     let refuses = then-call begin (paused (some 5)) 9 9 tt in

@@ -81,7 +81,7 @@ module _ (T tokens : List ℕ) where
   reports m budget room w = call-tells (w .phase) m budget room w refl
 
   -- of the last call of a list
-  pub reports-last : {answers : List ℕ} {w : Walk} {es : List Event} {n number : ℕ} {ns : List ℕ} → Listed T tokens answers w es n (number ∷ ns) → Reports number (w .phase)
+  pub reports-last : {answers : List ℕ} {allowance : ℕ} {w : Walk} {es : List Event} {n number : ℕ} {ns : List ℕ} → Listed T tokens answers allowance w es n (number ∷ ns) → Reports number (w .phase)
   reports-last (then-call {w = w} l m budget room a) = reports m budget room w
 
 -- A reason's number is no other's, nor 21, 22, 35 or 36

@@ -225,6 +225,6 @@ unfolding wordsOf isStop goesOn holds allHold repairs plains cycles byTokens byR
 all-hold = tt
 
 -- Which answer is next goes by the choice operations in the events, also where the count of answers used stands at its greatest (R15).
-pub next-by-events : nextAnswer (5 ∷ 6 ∷ []) (record { read = 0; used = 18446744073709551615; events = operation 768 ∷ [] }) ≡ some 6
+pub next-by-events : nextAnswer (5 ∷ 6 ∷ []) (record { read = 0; used = 18446744073709551615; allowance = 0; events = operation 768 ∷ [] }) ≡ some 6
 unfolding Events.opened OwnWalk.opened
 next-by-events = refl

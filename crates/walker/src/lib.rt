@@ -479,14 +479,14 @@ impl Registers {
     }
 
     // A required token that is not there: repaired while allowance is left.
-    fn mend(self, t: &[u8], room: usize) -> Next
-        requires { ⌜ self .location < size (now t) ⌝ }
+    fn mend(self, t: &[u8], len: usize, room: usize) -> Next
+        requires { ⌜ (self .location < size (now t)) × (len ≡ 2) ⌝ }
         ensures { λ r. ⌜ r ≡ mendOf (now (t .entry)) room self ⌝ }
     {
         let loc = self.location;
         if 0 < narrow(self.allowance) {
             self.spend()
-                .tell(room, loc + 2, Event::Repair(word(t, loc)))
+                .tell(room, loc + len, Event::Repair(word(t, loc)))
         } else {
             Next::Stop(Reason::Differs)
         }
@@ -505,10 +505,10 @@ impl Registers {
             if word(tokens, k) == word(t, loc) {
                 Next::On(self.moved(loc + len).read_token())
             } else {
-                self.mend(t, room)
+                self.mend(t, len, room)
             }
         } else {
-            self.mend(t, room)
+            self.mend(t, len, room)
         }
     }
 
