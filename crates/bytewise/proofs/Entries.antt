@@ -83,24 +83,24 @@ lent-bytes words verdict lent h k =
 same-walk : {o : Option Walk} {v w : Walk} → o ≡ some v → o ≡ some w → v ≡ w
 same-walk {v = v} {w = w} e d = let x : some v ≡ some w = sym e ∙ d in cc
 
-words-begin : (prog : List Rule) (tokens answers : List ℕ) (es : List Event) (ws : List ℕ) → ws ≡ eventsWords es → RulesWrite prog tokens answers es
-    → RulesWriteWords prog tokens answers ws
-words-begin prog tokens answers es ws e h = record {
+words-begin : (prog : List Rule) (tokens answers : List ℕ) (allowance : ℕ) (es : List Event) (ws : List ℕ) → ws ≡ eventsWords es → RulesWrite prog tokens answers allowance es
+    → RulesWriteWords prog tokens answers allowance ws
+words-begin prog tokens answers allowance es ws e h = record {
   steps = h .steps;
   rest = h .begins .rest;
   begins = rw e (ap eventsWords (h .begins .whole) ∙ eventsWords-then es (h .begins .rest));
 }
 
-module _ (prog : List Rule) (table tokens answers : List ℕ) (bt : Below 256 table) (bk : Slice tokens) (ba : Slice answers) where
-  suffices-bytes : (b : ℕ) → Suffices prog (tableOf table) (wordsOf tokens) (wordsOf answers) b → SufficesBytes prog table tokens answers b
+module _ (prog : List Rule) (table tokens answers : List ℕ) (bt : Below 256 table) (bk : Slice tokens) (ba : Slice answers) (allowance : ℕ) (small : allowance < 65536) where
+  suffices-bytes : (b : ℕ) → Suffices prog (tableOf table) (wordsOf tokens) (wordsOf answers) allowance b → SufficesBytes prog table tokens answers allowance b
   unfolding wanted
   suffices-bytes b h s ws n ns l =
-      let st = byte-calls table tokens answers bt bk ba l in
+      let st = byte-calls table tokens answers bt bk ba allowance small l in
       go st (h (st .walk) (st .events) n ns (st .listed))
     where
-      go : (st : Stands table tokens answers s ws n ns)
-          → HasStopped (st .walk) ⊎ ((n < b) ⊎ WaitsPast prog (wordsOf tokens) (wordsOf answers) (st .walk) (st .events))
-          → StoppedBytes s ⊎ ((n < b) ⊎ WaitsPastBytes prog (wordsOf tokens) (wordsOf answers) s ws)
+      go : (st : Stands table tokens answers allowance s ws n ns)
+          → HasStopped (st .walk) ⊎ ((n < b) ⊎ WaitsPast prog (wordsOf tokens) (wordsOf answers) allowance (st .walk) (st .events))
+          → StoppedBytes s ⊎ ((n < b) ⊎ WaitsPastBytes prog (wordsOf tokens) (wordsOf answers) allowance s ws)
       go st (inl x) = inl (st .walk, st .read-back, x)
       go st (inr (inl x)) = inr (inl x)
       go st (inr (inr x)) = inr (inr record {
@@ -110,36 +110,37 @@ module _ (prog : List Rule) (table tokens answers : List ℕ) (bt : Below 256 ta
         rules-stop = x .rules-stop;
       })
 
-  agrees-bytes : Agrees prog (tableOf table) (wordsOf tokens) (wordsOf answers) → AgreesBytes prog table tokens answers
+  agrees-bytes : Agrees prog (tableOf table) (wordsOf tokens) (wordsOf answers) allowance → AgreesBytes prog table tokens answers allowance
   agrees-bytes a =
       record {
-        is-walk = λ l. (let st = byte-calls table tokens answers bt bk ba l in (st .walk, st .read-back));
-        events = λ l h. (let st = byte-calls table tokens answers bt bk ba l in
-            words-begin prog (wordsOf tokens) (wordsOf answers) (st .events) _ (st .words) (a .events (st .listed) (λ p. h (st .walk, st .read-back, p))));
-        events-waiting = λ l h x. (let st = byte-calls table tokens answers bt bk ba l in
-            words-begin prog (wordsOf tokens) (wordsOf answers ++ (x ∷ [])) (st .events) _ (st .words)
+        is-walk = λ l. (let st = byte-calls table tokens answers bt bk ba allowance small l in (st .walk, st .read-back));
+        events = λ l h. (let st = byte-calls table tokens answers bt bk ba allowance small l in
+            words-begin prog (wordsOf tokens) (wordsOf answers) allowance (st .events) _ (st .words) (a .events (st .listed) (λ p. h (st .walk, st .read-back, p))));
+        events-waiting = λ l h x. (let st = byte-calls table tokens answers bt bk ba allowance small l in
+            words-begin prog (wordsOf tokens) (wordsOf answers ++ (x ∷ [])) allowance (st .events) _ (st .words)
             (a .events-waiting (st .listed) (ap (λ (v : Walk). v .phase) (same-walk (st .read-back) (h .1)) ∙ h .2) x));
-        never-37 = λ l e. a .never-37 (byte-calls table tokens answers bt bk ba l .listed) e;
+        never-37 = λ l e. a .never-37 (byte-calls table tokens answers bt bk ba allowance small l .listed) e;
         stops = λ l d p. stopped-bytes l d p;
         says = λ l d. said l d;
         budget = λ h. (let x = a .budget h in (x .0, suffices-bytes (x .0) (x .1)));
       }
     where
-      said : {s ws : List ℕ} {n number : ℕ} {ns : List ℕ} {w : Walk} → ByteCalls table tokens answers s ws n (number ∷ ns) → walkOf s ≡ some w → Reports number (w .phase)
+      said : {s ws : List ℕ} {n number : ℕ} {ns : List ℕ} {w : Walk} → ByteCalls table tokens answers allowance s ws n (number ∷ ns) → walkOf s ≡ some w → Reports number (w .phase)
       said l d =
-          let st = byte-calls table tokens answers bt bk ba l in
+          let st = byte-calls table tokens answers bt bk ba allowance small l in
           rw (ap (λ (v : Walk). v .phase) (same-walk (st .read-back) d)) at (reports-last (tableOf table) (wordsOf tokens) (st .listed))
 
-      stopped-bytes : {s ws : List ℕ} {n : ℕ} {ns : List ℕ} {w : Walk} {r : Reason} → ByteCalls table tokens answers s ws n ns
-          → walkOf s ≡ some w → w .phase ≡ stopped r → RulesStopWords prog (wordsOf tokens) (wordsOf answers) r (w .io .read) (w .io .used) ws
+      stopped-bytes : {s ws : List ℕ} {n : ℕ} {ns : List ℕ} {w : Walk} {r : Reason} → ByteCalls table tokens answers allowance s ws n ns
+          → walkOf s ≡ some w → w .phase ≡ stopped r → RulesStopWords prog (wordsOf tokens) (wordsOf answers) allowance r (w .io .read) (w .io .used) (w .io .allowance) ws
       stopped-bytes {w = w} l d p =
-          let st = byte-calls table tokens answers bt bk ba l in
+          let st = byte-calls table tokens answers bt bk ba allowance small l in
           let q : st .walk ≡ w = same-walk (st .read-back) d in
           record {
-            io = record { read = st .walk .io .read; used = st .walk .io .used; events = st .events };
+            io = record { read = st .walk .io .read; used = st .walk .io .used; allowance = st .walk .io .allowance; events = st .events };
             stop = a .stops (st .listed) (ap (λ (v : Walk). v .phase) q ∙ p);
             reads = ap (λ (v : Walk). v .io .read) q;
             uses = ap (λ (v : Walk). v .io .used) q;
+            leaves = ap (λ (v : Walk). v .io .allowance) q;
             words = sym (st .words);
           }
 
@@ -151,15 +152,15 @@ at-entries text room words verdict e =
     record {
       prog = d .prog;
       means = d .means;
-      agrees = λ lent table l tokens answers bk ba.
+      agrees = λ lent table l tokens answers bk ba allowance small.
           (let x = lent-table words verdict lent (t .within-4096) in
-          agrees-bytes (d .prog) table tokens answers (bytes l) bk ba (rw (begins l) (d .agrees (x .0) (wordsOf tokens) (wordsOf answers))));
-      finishes = λ v number.
-          (let f = d .finishes v number in (
+          agrees-bytes (d .prog) table tokens answers (bytes l) bk ba allowance small (rw (begins l) (d .agrees (x .0) (wordsOf tokens) (wordsOf answers) allowance)));
+      finishes = λ v number allowance small.
+          (let f = d .finishes v number allowance in (
             f .0,
             λ lent table l tokens answers bk ba q.
                 (let x = lent-table words verdict lent (t .within-4096) in
-                suffices-bytes (d .prog) table tokens answers (bytes l) bk ba (f .0)
+                suffices-bytes (d .prog) table tokens answers (bytes l) bk ba allowance small (f .0)
                 (rw (begins l) (f .1 (x .0) (wordsOf tokens) (wordsOf answers) (length-wordsOf tokens ∙ q)))),
           ));
       sound = d .sound;

@@ -26,17 +26,17 @@ table = 0 ∷ 5 ∷ 0 ∷ 7 ∷ 0 ∷ 13 ∷ 3 ∷ 132 ∷ 2 ∷ 0 ∷ 3 ∷ 0 �
 
 -- the words that the calls of a fresh walk write, the first without an answer, the second with one; the buffers are longer than that
 abbrev one : Outcome
-one = callBytes table [] (paused none) 9 (walkBytes fresh) (replicate 23 170)
+one = callBytes table [] (paused none) 9 (walkBytes (fresh 0)) (replicate 23 170)
 
 abbrev two : Outcome
 two = callBytes table [] (paused (some 4)) 9 (one .walk) (replicate 6 170)
 
--- the numbers, the words of three events and of none, and of choice operations one; a token or a parameter is none
+-- the numbers, the words of three events and of none, and of choice operations one; a token, a repair or a parameter is none
 unfoldable pub holds : Bool
 holds =
     eqb (one .number) 22 && same (writtenWords one) (1 ∷ 7 ∷ 0 ∷ 3 ∷ 512 ∷ 900 ∷ 3 ∷ 768 ∷ 0 ∷ []) && eqb (choicesIn (writtenWords one)) 1
     && eqb (two .number) 0 && same (writtenWords two) []
-    && eqb (choicesIn (1 ∷ 900 ∷ 0 ∷ 2 ∷ 900 ∷ 0 ∷ 3 ∷ 1024 ∷ 5 ∷ 3 ∷ 767 ∷ 0 ∷ 3 ∷ 768 ∷ 0 ∷ [])) 2
+    && eqb (choicesIn (1 ∷ 900 ∷ 0 ∷ 2 ∷ 900 ∷ 0 ∷ 4 ∷ 900 ∷ 0 ∷ 3 ∷ 1024 ∷ 5 ∷ 3 ∷ 767 ∷ 0 ∷ 3 ∷ 768 ∷ 0 ∷ [])) 2
 
 pub all-hold : T holds
 unfolding holds Events.opened Bytes.opened Lengths.opened Decode.opened Walk.opened Step.opened Call.opened Form.opened ByteCalls.opened

@@ -10,7 +10,7 @@ use lib.ListN.{length, take, drop, getD, getElem?}
 use lib.Seq.{take-append-seam}
 use Rattle.base.specs.Common.{if_then_else_}
 use Rattle.agreement.specs.Demand.{wanted, Allowed, Listed, begin, then-call}
-use Rattle.events.specs.Events.{Event, output, signal, operation, operationWith, eventWords, isChoice, choices}
+use Rattle.events.specs.Events.{Event, output, signal, repair, operation, operationWith, eventWords, isChoice, choices}
 use Rattle.machine.proofs.Bytes.{length-wordsOf, length-tableOf}
 use Rattle.machine.proofs.Form.{walkOf-walkBytes}
 use Rattle.machine.specs.Small.{Small, SmallMode}
@@ -35,6 +35,7 @@ unfolding eventsWords eventWords
 length-eventsWords [] = refl
 length-eventsWords (output t ∷ es) = let ih = length-eventsWords es in omega arith
 length-eventsWords (signal t ∷ es) = let ih = length-eventsWords es in omega arith
+length-eventsWords (repair t ∷ es) = let ih = length-eventsWords es in omega arith
 length-eventsWords (operation t ∷ es) = let ih = length-eventsWords es in omega arith
 length-eventsWords (operationWith t v ∷ es) = let ih = length-eventsWords es in omega arith
 
@@ -48,6 +49,7 @@ unfolding choicesIn eventsWords eventWords choices isChoice
 choices-words [] = refl
 choices-words (output t ∷ es) = ap (λ (k : ℕ). 0 + k) (choices-words es)
 choices-words (signal t ∷ es) = ap (λ (k : ℕ). 0 + k) (choices-words es)
+choices-words (repair t ∷ es) = ap (λ (k : ℕ). 0 + k) (choices-words es)
 choices-words (operation t ∷ es) = ap (λ (k : ℕ). (if leb 768 t then 1 else 0) + k) (choices-words es)
 choices-words (operationWith t v ∷ es) = ap (λ (k : ℕ). (if leb 768 t then 1 else 0) + k) (choices-words es)
 
@@ -94,11 +96,11 @@ small-mode answers s ws (whole given) b h = rw h (small-words answers (b .bytes)
 small-mode answers s ws (paused none) b h = tt
 small-mode answers s ws (paused (some x)) b h = h .0
 
-module _ (table tokens answers : List ℕ) (bt : (i : ℕ) → getD table i 0 < 256) (bk : Slice tokens) (ba : Slice answers) where
-  step : {n : ℕ} {ns : List ℕ} (w : Walk) (es : List Event) → Fits w → Listed (tableOf table) (wordsOf tokens) (wordsOf answers) w es n ns
+module _ (table tokens answers : List ℕ) (bt : (i : ℕ) → getD table i 0 < 256) (bk : Slice tokens) (ba : Slice answers) (allowance : ℕ) (small : allowance < 65536) where
+  step : {n : ℕ} {ns : List ℕ} (w : Walk) (es : List Event) → Fits w → Listed (tableOf table) (wordsOf tokens) (wordsOf answers) allowance w es n ns
       → (m : Mode) (budget : ℕ) (buffer : List ℕ) → SmallMode m → Allowed (wordsOf answers) m (w .phase) es → (o : Outcome)
       → o ≡ outcome (some w) (walkBytes w) buffer (callWalk (tableOf table) (wordsOf tokens) m budget (count buffer))
-      → Stands table tokens answers (o .walk) (eventsWords es ++ writtenWords o) (n + o .steps) (o .number ∷ ns)
+      → Stands table tokens answers allowance (o .walk) (eventsWords es ++ writtenWords o) (n + o .steps) (o .number ∷ ns)
   unfolding outcome writtenWords
   step {n} {ns} w es f l m budget buffer sm h o e =
       let c = callWalk (tableOf table) (wordsOf tokens) m budget (count buffer) w in
@@ -114,12 +116,12 @@ module _ (table tokens answers : List ℕ) (bt : (i : ℕ) → getD table i 0 < 
         listed = then-call l m budget (count buffer) h;
       })
 
-  pub byte-calls : {s ws : List ℕ} {n : ℕ} {ns : List ℕ} → ByteCalls table tokens answers s ws n ns → Stands table tokens answers s ws n ns
+  pub byte-calls : {s ws : List ℕ} {n : ℕ} {ns : List ℕ} → ByteCalls table tokens answers allowance s ws n ns → Stands table tokens answers allowance s ws n ns
   unfolding eventsWords callBytes
-  byte-calls first = record { walk = fresh; events = []; bytes = refl; read-back = walkOf-walkBytes fresh fits-fresh; fits = fits-fresh; words = refl; listed = begin }
+  byte-calls first = record { walk = fresh allowance; events = []; bytes = refl; read-back = walkOf-walkBytes (fresh allowance) (fits-fresh allowance small); fits = fits-fresh allowance small; words = refl; listed = begin }
   byte-calls (next {s} {ws} {n} {ns} l m budget buffer h {o} e) = go (byte-calls l)
     where
-      go : Stands table tokens answers s ws n ns → Stands table tokens answers (o .walk) (ws ++ writtenWords o) (n + o .steps) (o .number ∷ ns)
+      go : Stands table tokens answers allowance s ws n ns → Stands table tokens answers allowance (o .walk) (ws ++ writtenWords o) (n + o .steps) (o .number ∷ ns)
       go st =
           let w = st .walk in
           let es = st .events in

@@ -27,7 +27,7 @@ returns : tie.Need-returns
 unfolding mendOf
 returns c =
     let left = subst (λ x. 0 < x) (c .before .before .before .before .narrow .ensures) (c .before .before .before .if1 .taken) in
-    simp (lt-ltb _ _ left, c .tell .ensures, c .before .word .ensures, c .before .before .spend .ensures, c .before .before .before .before .before .pre .1)
+    simp (lt-ltb _ _ left, c .tell .ensures, c .before .word .ensures, c .before .before .spend .ensures, c .before .before .before .before .before .before .pre .1)
 
 returns-2 : tie.Need-returns-2
 unfolding mendOf
