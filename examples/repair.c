@@ -1,6 +1,6 @@
 /* Walks chapters that miss marks, with no repair allowance and with one, and prints the events side by side.
  *
- *   cc -std=c99 -Iinclude examples/repair.c -L<folder of libfirmware.a> -lfirmware -o repair
+ *   cc -std=c99 examples/repair.c $(pkg-config --cflags --libs sst) -o repair
  *
  * A repair writes an event of its own, so that the reader can note where a chapter was mended. Where an input choice has no label for the
  * present token and no otherwise, a repair takes its first alternative: the rules below put the one first that closes what is open.
