@@ -1,5 +1,5 @@
 -- From the start of a tree with no quiet cycle the rules' own walk is over, reads or repairs within the tree's weight and what its ways take.
-use mathlib.Core.Bool.{Bool, true, false}
+use mathlib.Core.Bool.{Bool, true, false, _||_}
 use mathlib.Core.List.{List, [], _∷_}
 use mathlib.Core.Option.{Option, none, some}
 use mathlib.Core.Path.{_≡_, refl}
@@ -12,7 +12,7 @@ use lib.ListN.{length}
 use Rattle.base.specs.Common.{if_then_else_, member, given}
 use Rattle.base.specs.Tree.{plain, cycle, choice, done, _▸_, nil, alternative, absent, otherwise}
 use Rattle.events.specs.Events.{Event, output, signal, operation, operationWith, Reason, differs, missing, unlabelled, deep, Io, present, took, wrote, answered, mends, spent, repaired, is}
-use Rattle.finishing.specs.Finishing.{Way, toEnd, toExit, toBack, toGive, toCall, Away, away-exit, away-back, away-give, away-call, far-back, far-give, far-call, Path, path-emit, path-error, path-update, path-updateWith, path-call, path-calls, path-exit, path-back, path-give, path-out, path-in, path-selects, path-labelled, path-otherwise, Paths, paths-done, paths-here, paths-later, PathsSome, paths-this, paths-that, opens-operation, opens-operationWith, opens-rule, OpensElse, else-token, else-opens, Passed}
+use Rattle.finishing.specs.Finishing.{Way, toEnd, toExit, toBack, toGive, toCall, Away, away-exit, away-back, away-give, away-call, far-back, far-give, far-call, Path, path-emit, path-error, path-update, path-updateWith, path-call, path-calls, path-exit, path-back, path-give, path-out, path-in, path-selects, path-labelled, path-otherwise, path-named, path-unnamed, Paths, paths-done, paths-here, paths-later, PathsSome, paths-this, paths-that, PathsFor, for-this, for-that, opens-operation, opens-operationWith, OpensElse, else-token, else-opens, by-give, named, Gives, gives, Passed, passed}
 use Rattle.ownwalk.specs.OwnWalk.{Context, inCycle, inAlternative, inOtherwise, Pending, before, beforeChoice, Own, on, choosing, stopped, nowhere, labelled, labelledBy, chosen, repairedFirst, unmatched, ended, left, gaveBack, nextAnswer, asked, entered, ownPlain, ownChoice, own}
 use Rattle.program.proofs.Bounds.{SmallPlain, SmallSelector}
 use Rattle.program.specs.Program.{Plain, match, any, emit, error, exit, call, back, give, update, updateWith, Selector, byToken, byRule, byOperation, byOperationWith, Act, Acts, Alts, Other, Rule, bodyOf}
@@ -94,10 +94,20 @@ opt-more : {step : Own → Own} {n : ℕ} {q : Acts} {k : List Context} {ps : Li
 opt-more m h opt-none = opt-none
 opt-more m h (opt-some e) = opt-some (ends-more m h e)
 
-opt-if : {step : Own → Own} {n : ℕ} {q b : Acts} {k : List Context} {ps : List Pending} {io : Io} {f : Option Acts} (t : Bool) → Ends step n (on b (inAlternative q ∷ k) ps io) → Opt step n q k ps io f
-    → Opt step n q k ps io (if t then some b else f)
-opt-if true h e = opt-some h
+opt-if : {step : Own → Own} {n : ℕ} {q b : Acts} {k : List Context} {ps : List Pending} {io : Io} {f : Option Acts} (t : Bool) → (t ≡ true → Ends step n (on b (inAlternative q ∷ k) ps io))
+    → Opt step n q k ps io f → Opt step n q k ps io (if t then some b else f)
+opt-if true h e = opt-some (h refl)
 opt-if false h e = e
+
+-- no alternative has the label: none names the value
+unlabelled-unnamed : (v : ℕ) (al : Alts) → labelled v al ≡ none → named v al ≡ false
+unfolding labelled named
+unlabelled-unnamed v nil e = refl
+unlabelled-unnamed v (alternative ls b al) e = go (member v ls) e (λ d. unlabelled-unnamed v al d)
+  where
+    go : (t : Bool) → (if t then some b else labelled v al) ≡ none → (labelled v al ≡ none → named v al ≡ false) → (t || named v al) ≡ false
+    go true d ih = let z : _≡_ {A = ℕ} 0 1 = cc in absurd (omega arith)
+    go false d ih = ih d
 
 module _ {step : Own → Own} where
   step-to : {n : ℕ} {t : Own} (s : Own) → step s ≡ t → Ends step n t → Ends step (suc n) s
@@ -154,9 +164,9 @@ module _ {step : Own → Own} where
 
   -- a choice by a value, with what its labelled alternative and what otherwise takes
   value-ends : {n : ℕ} {q : Acts} {k : List Context} {ps : List Pending} {io : Io} {f : Option Acts} (s : Own) (o : Other) → step s ≡ chosen f o q k ps (stopped unlabelled io) io io → Opt step n q k ps io f
-      → Ends step n (chosen none o q k ps (stopped unlabelled io) io io) → Ends step (suc n) s
+      → (f ≡ none → Ends step n (chosen none o q k ps (stopped unlabelled io) io io)) → Ends step (suc n) s
   unfolding chosen
-  value-ends s o e opt-none h = step-to s e h
+  value-ends s o e opt-none h = step-to s e (h refl)
   value-ends s o e (opt-some x) h = step-to s e x
 
 module _ (prog : List Rule) where
@@ -179,6 +189,13 @@ module _ (prog : List Rule) where
     TameOther absent = Unit {0}
     TameOther (otherwise b) = Tames b
 
+  gives-passed : {r v : ℕ} → Gives prog r v → Passed prog r
+  gives-passed (gives l x) = passed l by-give x
+
+  for-some : {v : ℕ} {w : Way} {q : Alts} → PathsFor prog v w q → PathsSome prog w q
+  for-some (for-this e x) = paths-this x
+  for-some (for-that x) = paths-that (for-some x)
+
 module _ (prog : List Rule) (tokens answers : List ℕ) where
   abbrev pub EndsIn : ℕ → Own → Type 0
   EndsIn n s = Ends (own prog tokens answers) n s
@@ -187,9 +204,13 @@ module _ (prog : List Rule) (tokens answers : List ℕ) where
   abbrev pub Back : ℕ → List Pending → Type 0
   Back n ps = ((io : Io) → EndsIn n (ended [] ps io)) × ((v : ℕ) (io : Io) → EndsIn n (gaveBack v ps io))
 
+  -- the same where rule r returns quietly, with a value that it can return so
+  abbrev pub BackOf : ℕ → ℕ → List Pending → Type 0
+  BackOf r n ps = (Passed prog r → (io : Io) → EndsIn n (ended [] ps io)) × ((v : ℕ) → Gives prog r v → (io : Io) → EndsIn n (gaveBack v ps io))
+
   -- a call of r takes at most c, and n after it
   abbrev pub RuleEnds : ℕ → ℕ → Type 0
-  RuleEnds c r = r < length prog → (ps : List Pending) (n : ℕ) → (Passed prog r → Back n ps) → (io : Io) → EndsIn (c + n) (on (bodyOf prog r) [] ps io)
+  RuleEnds c r = r < length prog → (ps : List Pending) (n : ℕ) → BackOf r n ps → (io : Io) → EndsIn (c + n) (on (bodyOf prog r) [] ps io)
 
   -- where a path has come to: what follows takes at most n
   unfoldable pub Goal : ℕ → Acts → List Context → List Pending → ℕ → Way → Type 0
@@ -243,14 +264,14 @@ module _ (prog : List Rule) (tokens answers : List ℕ) where
     first-goal a q k ps n he ha (toGive v) p = goal-more n (weighs c q + n) q k ps (toGive v) away-give (omega arith) (ha (toGive v) away-give p)
     first-goal a q k ps n he ha (toCall r) p = ha (toCall r) away-call p
 
-    -- a choice by a value: x for the labelled alternatives, y for otherwise
-    pub choosing-ends : (n x y : ℕ) (al : Alts) (o : Other) (q : Acts) (k : List Context) (ps : List Pending) → ((v : ℕ) (io : Io) → Opt (own prog tokens answers) (x + (n + 1)) q k ps io (labelled v al))
-        → ((io : Io) → EndsIn (y + (n + 1)) (chosen none o q k ps (stopped unlabelled io) io io)) → (v : ℕ) (io : Io) → EndsIn (2 + x + y + n) (choosing v al o q k ps io)
+    -- a choice by the value v: x for the labelled alternatives, y for otherwise
+    pub choosing-ends : (n x y v : ℕ) (al : Alts) (o : Other) (q : Acts) (k : List Context) (ps : List Pending) → ((io : Io) → Opt (own prog tokens answers) (x + (n + 1)) q k ps io (labelled v al))
+        → (labelled v al ≡ none → (io : Io) → EndsIn (y + (n + 1)) (chosen none o q k ps (stopped unlabelled io) io io)) → (io : Io) → EndsIn (2 + x + y + n) (choosing v al o q k ps io)
     unfolding own
-    choosing-ends n x y al o q k ps ha ho v io =
+    choosing-ends n x y v al o q k ps ha ho io =
         ends-more _ (omega arith)
-        (value-ends {n = 1 + x + y + n} (choosing v al o q k ps io) o refl (opt-more (1 + x + y + n) (omega arith) (ha v io))
-        (ends-more (1 + x + y + n) (omega arith) (ho io)))
+        (value-ends {n = 1 + x + y + n} (choosing v al o q k ps io) o refl (opt-more (1 + x + y + n) (omega arith) (ha io))
+        (λ e. ends-more (1 + x + y + n) (omega arith) (ho e io)))
 
     plain-ends : (p : Plain) (q : Acts) (k : List Context) (ps : List Pending) (n : ℕ) → SmallPlain (length prog) p → ((w : Way) → Path prog w (plain p) → Goal c q k ps n w) → (io : Io)
         → EndsIn (weighPlain c p + n) (on (plain p ▸ q) k ps io)
@@ -267,7 +288,7 @@ module _ (prog : List Rule) (tokens answers : List ℕ) where
     plain-ends (call r) q k ps n ok h io =
         ends-more _ (omega arith)
         (test-ends (on (plain (call r) ▸ q) k ps io) (on (bodyOf prog r) [] (before q k ∷ ps) io) deep io (ltb (length ps) 64) refl
-        (h (toCall r) path-calls ok (before q k ∷ ps) n (λ p. (h toEnd (path-call p), λ v. h toEnd (path-call p))) io))
+        (h (toCall r) path-calls ok (before q k ∷ ps) n (λ p. h toEnd (path-call p), λ v g. h toEnd (path-call (gives-passed prog g))) io))
     plain-ends back q k ps n ok h io = ends-more _ (omega arith) (ends-step (h toBack path-back io))
     plain-ends (give v) q k ps n ok h io = ends-more _ (omega arith) (ends-step (h (toGive v) path-give io))
     plain-ends (update op) q k ps n ok h io = ends-more _ (omega arith) (ends-step (h toEnd path-update (wrote (operation op) io)))
@@ -288,24 +309,23 @@ module _ (prog : List Rule) (tokens answers : List ℕ) where
       act-ends (choice (byRule r) al o) q k ps n ok h io =
           ends-more _ (omega arith)
           (test-ends (on (choice (byRule r) al o ▸ q) k ps io) (on (bodyOf prog r) [] (beforeChoice al o q k ∷ ps) io) deep io (ltb (length ps) 64) refl
-          (h (toCall r) path-selects (ok .0) (beforeChoice al o q k ∷ ps) (2 + weighAlts c al + weighOther c o + n)
-          (λ p. (
-            λ io₁. ends-over over-nowhere,
-            choosing-ends n (weighAlts c al) (weighOther c o) al o q k ps (λ v io₁. alts-ends al q k ps n (ok .1) (λ w p₁. h w (path-labelled (opens-rule p) p₁)) v io₁)
-                (λ io₁. other-ends o (byRule r) al q k ps n unlabelled (ok .2) (else-opens (opens-rule p)) h io₁ io₁),
-          )) io))
+          (h (toCall r) path-selects (ok .0) (beforeChoice al o q k ∷ ps) (2 + weighAlts c al + weighOther c o + n) (
+            λ p io₁. ends-over over-nowhere,
+            λ v g. choosing-ends n (weighAlts c al) (weighOther c o) v al o q k ps (λ io₁. alts-ends al q k ps n v (ok .1) (λ w p. h w (path-named g p)) io₁)
+                (λ e io₁. unnamed-ends o r v al q k ps n unlabelled (ok .2) g (unlabelled-unnamed v al e) h io₁ io₁),
+          ) io))
       act-ends (choice (byOperation op) al o) q k ps n ok h io =
           ends-more _ (omega arith)
           (step-to (on (choice (byOperation op) al o ▸ q) k ps io) refl
           (asked-ends (nextAnswer answers io) (operation op) al o q k ps io
-          (choosing-ends n (weighAlts c al) (weighOther c o) al o q k ps (λ v io₁. alts-ends al q k ps n (ok .1) (λ w p₁. h w (path-labelled opens-operation p₁)) v io₁)
-          (λ io₁. other-ends o (byOperation op) al q k ps n unlabelled (ok .2) (else-opens opens-operation) h io₁ io₁))))
+          (λ v. choosing-ends n (weighAlts c al) (weighOther c o) v al o q k ps (λ io₁. alts-ends al q k ps n v (ok .1) (λ w p. h w (path-labelled opens-operation (for-some prog p))) io₁)
+          (λ e io₁. other-ends o (byOperation op) al q k ps n unlabelled (ok .2) (else-opens opens-operation) h io₁ io₁))))
       act-ends (choice (byOperationWith op u) al o) q k ps n ok h io =
           ends-more _ (omega arith)
           (step-to (on (choice (byOperationWith op u) al o ▸ q) k ps io) refl
           (asked-ends (nextAnswer answers io) (operationWith op u) al o q k ps io
-          (choosing-ends n (weighAlts c al) (weighOther c o) al o q k ps (λ v io₁. alts-ends al q k ps n (ok .1) (λ w p₁. h w (path-labelled opens-operationWith p₁)) v io₁)
-          (λ io₁. other-ends o (byOperationWith op u) al q k ps n unlabelled (ok .2) (else-opens opens-operationWith) h io₁ io₁))))
+          (λ v. choosing-ends n (weighAlts c al) (weighOther c o) v al o q k ps (λ io₁. alts-ends al q k ps n v (ok .1) (λ w p. h w (path-labelled opens-operationWith (for-some prog p))) io₁)
+          (λ e io₁. other-ends o (byOperationWith op u) al q k ps n unlabelled (ok .2) (else-opens opens-operationWith) h io₁ io₁))))
 
       pub acts-ends : (q : Acts) (k : List Context) (ps : List Pending) (n : ℕ) → Tames prog q → ((w : Way) → Paths prog w q → Goal c done k ps n w) → (io : Io) → EndsIn (weighs c q + n) (on q k ps io)
       acts-ends done k ps n ok h io = ends-more _ (omega arith) (h toEnd paths-done io)
@@ -314,15 +334,21 @@ module _ (prog : List Rule) (tokens answers : List ℕ) where
           (act-ends a q k ps (weighs c q + n) (ok .0)
           (first-goal a q k ps n (λ p io₁. acts-ends q k ps n (ok .1) (λ w p₁. h w (paths-later p p₁)) io₁) (λ w x p. h w (paths-here x p))) io)
 
-      pub other-ends : (o : Other) (s : Selector) (al : Alts) (q : Acts) (k : List Context) (ps : List Pending) (n : ℕ) (r : Reason) → TameOther prog o → OpensElse prog s
+      pub other-ends : (o : Other) (s : Selector) (al : Alts) (q : Acts) (k : List Context) (ps : List Pending) (n : ℕ) (r : Reason) → TameOther prog o → OpensElse s
           → ((w : Way) → Path prog w (choice s al o) → Goal c q k ps n w) → (io io′ : Io) → EndsIn (weighOther c o + (n + 1)) (chosen none o q k ps (stopped r io) io io′)
       other-ends absent s al q k ps n r ok op h io io′ = ends-over over-stopped
       other-ends (otherwise b) s al q k ps n r ok op h io io′ = acts-ends b (inOtherwise q ∷ k) ps (n + 1) ok (λ w p. otherwise-goal q k ps n w (h w (path-otherwise op p))) io
 
-      pub alts-ends : (al : Alts) (q : Acts) (k : List Context) (ps : List Pending) (n : ℕ) → TameAlts prog al → ((w : Way) → PathsSome prog w al → Goal c q k ps n w) → (v : ℕ) (io : Io)
+      -- where no label names the value that rule r returns
+      unnamed-ends : (o : Other) (r v : ℕ) (al : Alts) (q : Acts) (k : List Context) (ps : List Pending) (n : ℕ) (e : Reason) → TameOther prog o → Gives prog r v → named v al ≡ false
+          → ((w : Way) → Path prog w (choice (byRule r) al o) → Goal c q k ps n w) → (io io′ : Io) → EndsIn (weighOther c o + (n + 1)) (chosen none o q k ps (stopped e io) io io′)
+      unnamed-ends absent r v al q k ps n e ok g d h io io′ = ends-over over-stopped
+      unnamed-ends (otherwise b) r v al q k ps n e ok g d h io io′ = acts-ends b (inOtherwise q ∷ k) ps (n + 1) ok (λ w p. otherwise-goal q k ps n w (h w (path-unnamed g d p))) io
+
+      pub alts-ends : (al : Alts) (q : Acts) (k : List Context) (ps : List Pending) (n v : ℕ) → TameAlts prog al → ((w : Way) → PathsFor prog v w al → Goal c q k ps n w) → (io : Io)
           → Opt (own prog tokens answers) (weighAlts c al + (n + 1)) q k ps io (labelled v al)
-      alts-ends nil q k ps n ok h v io = opt-none
-      alts-ends (alternative ls b al) q k ps n ok h v io =
+      alts-ends nil q k ps n v ok h io = opt-none
+      alts-ends (alternative ls b al) q k ps n v ok h io =
           opt-if (member v ls)
-          (ends-more _ (omega arith) (acts-ends b (inAlternative q ∷ k) ps (n + 1) (ok .0) (λ w p. alternative-goal q k ps n w (h w (paths-this p))) io))
-          (opt-more _ (omega arith) (alts-ends al q k ps n (ok .1) (λ w p. h w (paths-that p)) v io))
+          (λ e. ends-more _ (omega arith) (acts-ends b (inAlternative q ∷ k) ps (n + 1) (ok .0) (λ w p. alternative-goal q k ps n w (h w (for-this e p))) io))
+          (opt-more _ (omega arith) (alts-ends al q k ps n v (ok .1) (λ w p. h w (for-that p)) io))

@@ -5,10 +5,10 @@ use native.Mathlib.Decide.{ℕ-discrete}
 use native.Mathlib.Omega.{arith}
 use Prim.Native.Nat.{ℕ, zero, suc, _+_, _≤_, _<_}
 use lib.ListN.{length}
-use Rattle.agreement.proofs.Bound.{over-nowhere, weighs, ends-over, ends-step, ends-more, Tame, Tames, TameAlts, TameOther, Back, RuleEnds, Goal, acts-ends}
+use Rattle.agreement.proofs.Bound.{over-nowhere, weighs, ends-over, ends-step, ends-more, Tame, Tames, TameAlts, TameOther, BackOf, RuleEnds, Goal, acts-ends}
 use Rattle.base.specs.Tree.{plain, cycle, choice, done, _▸_, nil, alternative, absent, otherwise}
 use Rattle.finishing.proofs.Bridge.{Calm, Calms, CalmAlts, CalmOther, Reach, reach-one, reach-more, bound-form}
-use Rattle.finishing.specs.Finishing.{Way, toEnd, toExit, toBack, toGive, toCall, by-end, by-back, by-give, Paths, Passed, passed, Finishing}
+use Rattle.finishing.specs.Finishing.{Way, toEnd, toExit, toBack, toGive, toCall, by-end, by-back, Paths, gives, passed, Finishing}
 use Rattle.ownwalk.specs.OwnWalk.{Pending, left, own}
 use Rattle.program.proofs.AcceptedWords.{accepted-small}
 use Rattle.program.proofs.Bounds.{Small, Smalls, SmallAlts, SmallOther, SmallProgram, SmallRule}
@@ -110,12 +110,12 @@ module _ (prog : List Rule) (ok : Accepted prog) (fin : Finishing prog) where
 
   module _ (tokens answers : List ℕ) where
     rule-goal : (r i : ℕ) (ps : List Pending) (n : ℕ) → r < length prog → ((s : ℕ) → Paths prog (toCall s) (bodyOf prog r) → RuleEnds prog tokens answers (costs prog i) s)
-        → (Passed prog r → Back prog tokens answers n ps) → (w : Way) → Paths prog w (bodyOf prog r) → Goal prog tokens answers (costs prog i) done [] ps (suc n) w
+        → BackOf prog tokens answers r n ps → (w : Way) → Paths prog w (bodyOf prog r) → Goal prog tokens answers (costs prog i) done [] ps (suc n) w
     unfolding Goal own left
-    rule-goal r i ps n l hc hp toEnd p = λ io. ends-step (hp (passed l by-end p) .0 io)
+    rule-goal r i ps n l hc hp toEnd p = λ io. ends-step (hp .0 (passed l by-end p) io)
     rule-goal r i ps n l hc hp toExit p = λ io. ends-over over-nowhere
-    rule-goal r i ps n l hc hp toBack p = λ io. ends-more _ (omega arith) (hp (passed l by-back p) .0 io)
-    rule-goal r i ps n l hc hp (toGive v) p = λ io. ends-more _ (omega arith) (hp (passed l by-give p) .1 v io)
+    rule-goal r i ps n l hc hp toBack p = λ io. ends-more _ (omega arith) (hp .0 (passed l by-back p) io)
+    rule-goal r i ps n l hc hp (toGive v) p = λ io. ends-more _ (omega arith) (hp .1 v (gives l p) io)
     rule-goal r i ps n l hc hp (toCall s) p = hc s p
 
     -- vs: rules met on the way, each of which comes to a call of r

@@ -144,11 +144,11 @@ module _ (prog : List Rule) (ok : Accepted prog) (fin : Finishing prog) (tokens 
 
   choose-ends : (al : Alts) (o : Other) (q : Acts) (k : List Context) (ps : List Pending) (n : ℕ) → TameAlts prog al → TameOther prog o → Tames prog q → After k ps n → (v : ℕ) (io : Io)
       → EndsIn prog tokens answers (2 + weighAlts (callCost prog) al + weighOther (callCost prog) o + (weighs (callCost prog) q + n)) (choosing v al o q k ps io)
-  choose-ends al o q k ps n ca co cq h =
+  choose-ends al o q k ps n ca co cq h v =
       let m = weighs (callCost prog) q + n in
-      choosing-ends prog tokens answers (callCost prog) m (weighAlts (callCost prog) al) (weighOther (callCost prog) o) al o q k ps
-      (alts-ends prog tokens answers (callCost prog) al q k ps m ca (λ w p. next-goal q cq h w))
-      (λ io. other-ends prog tokens answers (callCost prog) o (byOperation 0) al q k ps m unlabelled co (else-opens opens-operation) (λ w p. next-goal q cq h w) io io)
+      choosing-ends prog tokens answers (callCost prog) m (weighAlts (callCost prog) al) (weighOther (callCost prog) o) v al o q k ps
+      (alts-ends prog tokens answers (callCost prog) al q k ps m v ca (λ w p. next-goal q cq h w))
+      (λ e io. other-ends prog tokens answers (callCost prog) o (byOperation 0) al q k ps m unlabelled co (else-opens opens-operation) (λ w p. next-goal q cq h w) io io)
 
   past : {q : Acts} {k : List Context} (ps : List Pending) (n : ℕ) → Fits prog q k → Back prog tokens answers n ps → After k ps (weighAround prog k + n)
   unfolding left own ended weighAround Tame

@@ -9,10 +9,10 @@ use Prim.Native.Nat.{ℕ, zero, suc, _+_, _<_, _≤_}
 use lib.ListN.{length, getD}
 use Rattle.base.specs.Bools.{never, or, and, or₁, or₂, both, same, not-both, not-intro}
 use Rattle.program.specs.Program.{Rule, bodyOf}
-use Rattle.finishing.specs.Finishing.{toEnd, toExit, toBack, toGive, toCall, Paths, Comes, directly, through, Finishing}
-use Rattle.finishing.specs.Test.{calls, goalOf, loops, passedRules, reach, build, look, matrix, closure, some-below, arrow, finishing}
-use Rattle.finishing.proofs.Paths.{Found, found, sounds, completes, loops-sound, loops-complete}
-use Rattle.finishing.proofs.Rounds.{last, Closed, Sound, passed-sound, passed-closed}
+use Rattle.finishing.specs.Finishing.{Comes, directly, through, Finishing}
+use Rattle.finishing.specs.Test.{Known, calls, loops, known, reach, build, look, matrix, closure, some-below, arrow, finishing, Exact}
+use Rattle.finishing.proofs.Paths.{meets-call, to-call, Sound, Closed, sounds, completes, loops-sound, loops-complete}
+use Rattle.finishing.proofs.Rounds.{last, known-sound, known-closed}
 
 -- what stands in a matrix
 getD-build : {A : Type 0} (n i r : ℕ) (g : ℕ → A) (d : A) → r < n → getD (build n i g) r d ≡ g (i + r)
@@ -91,26 +91,18 @@ true-below (suc n) f e = elim (or (f n) (some-below n f) e) [
   | inr x ↦ let y = true-below n f x in (y .0, omega (arith, y .1), y .2)
 ]
 
--- what ps tells of finishing
-unfoldable pub tells : List Rule → (ℕ → Bool) → Bool
-tells prog ps = not (some-below (length prog) (λ r. loops ps (bodyOf prog r))) && not (some-below (length prog) (λ r. reach (arrow prog ps) (length prog) r r))
+-- what is known tells of finishing
+unfoldable pub tells : List Rule → Known → Bool
+tells prog kn = not (some-below (length prog) (λ r. loops kn (bodyOf prog r))) && not (some-below (length prog) (λ r. reach (arrow prog kn) (length prog) r r))
 
--- any ps that is sound and closed tells exactly
-module _ (prog : List Rule) (ps : ℕ → Bool) (so : Sound prog ps) (cl : Closed prog ps) where
-  come-one : {r s : ℕ} → r < length prog → Found (λ w. Paths prog w (bodyOf prog r)) (calls s) → Comes prog r s
-  unfolding goalOf
-  come-one l (found toEnd e p) = let z : _≡_ {A = Bool} false true = cc in never z
-  come-one l (found toExit e p) = let z : _≡_ {A = Bool} false true = cc in never z
-  come-one l (found toBack e p) = let z : _≡_ {A = Bool} false true = cc in never z
-  come-one l (found (toGive v) e p) = let z : _≡_ {A = Bool} false true = cc in never z
-  come-one {s = s} l (found (toCall t) e p) = let d : t ≡ s = cc in directly l (rw d at p)
-
-  reach-comes : (k r s : ℕ) → r < length prog → k ≤ length prog → reach (arrow prog ps) k r s ≡ true → Comes prog r s
+-- anything known that is sound and closed tells exactly
+module _ (prog : List Rule) (kn : Known) (so : Sound prog kn) (cl : Closed prog kn) where
+  reach-comes : (k r s : ℕ) → r < length prog → k ≤ length prog → reach (arrow prog kn) k r s ≡ true → Comes prog r s
   unfolding reach arrow
-  reach-comes zero r s l b e = come-one l (sounds prog ps so (bodyOf prog r) (calls s) e)
-  reach-comes (suc k) r s l b e = elim (or (reach (arrow prog ps) k r s) (reach (arrow prog ps) k r k && reach (arrow prog ps) k k s) e) [
+  reach-comes zero r s l b e = directly l (to-call _ s (sounds prog kn so (bodyOf prog r) (calls s) e))
+  reach-comes (suc k) r s l b e = elim (or (reach (arrow prog kn) k r s) (reach (arrow prog kn) k r k && reach (arrow prog kn) k k s) e) [
     | inl x ↦ reach-comes k r s l (omega arith) x
-    | inr x ↦ let y = and (reach (arrow prog ps) k r k) (reach (arrow prog ps) k k s) x in
+    | inr x ↦ let y = and (reach (arrow prog kn) k r k) (reach (arrow prog kn) k k s) x in
         through (reach-comes k r k l (omega arith) (y .0)) (reach-comes k k s (omega arith) (omega arith) (y .1))
   ]
 
@@ -118,48 +110,51 @@ module _ (prog : List Rule) (ps : ℕ → Bool) (so : Sound prog ps) (cl : Close
   comes-from (directly l p) = l
   comes-from (through x y) = comes-from x
 
-  comes-reach : {r s : ℕ} → Comes prog r s → reach (arrow prog ps) (length prog) r s ≡ true
-  unfolding arrow goalOf
-  comes-reach (directly {r = r} {s = s} l p) = reach-more (arrow prog ps) (length prog) r s (completes prog ps cl p)
-  comes-reach (through {r = r} {s = m} {t = s} x y) = reach-trans (arrow prog ps) (length prog) r m s (comes-from y) (comes-reach x) (comes-reach y)
+  comes-reach : {r s : ℕ} → Comes prog r s → reach (arrow prog kn) (length prog) r s ≡ true
+  unfolding arrow
+  comes-reach (directly {r = r} {s = s} l p) = reach-more (arrow prog kn) (length prog) r s (completes prog kn cl p meets-call)
+  comes-reach (through {r = r} {s = m} {t = s} x y) = reach-trans (arrow prog kn) (length prog) r m s (comes-from y) (comes-reach x) (comes-reach y)
 
-  pub tells-sound : tells prog ps ≡ true → Finishing prog
+  pub tells-sound : tells prog kn ≡ true → Finishing prog
   unfolding tells
   tells-sound e =
       let n = length prog in
-      let x = and (not (some-below n (λ r. loops ps (bodyOf prog r)))) (not (some-below n (λ r. reach (arrow prog ps) n r r))) e in
+      let x = and (not (some-below n (λ r. loops kn (bodyOf prog r)))) (not (some-below n (λ r. reach (arrow prog kn) n r r))) e in
       record {
-        cycles = λ r l d. not-both (some-below n (λ r. loops ps (bodyOf prog r))) (x .0) (below-true n (λ r. loops ps (bodyOf prog r)) r l (loops-complete prog ps cl d));
-        rules = λ r d. not-both (some-below n (λ r. reach (arrow prog ps) n r r)) (x .1) (below-true n (λ r. reach (arrow prog ps) n r r) r (comes-from d) (comes-reach d));
+        cycles = λ r l d. not-both (some-below n (λ r. loops kn (bodyOf prog r))) (x .0) (below-true n (λ r. loops kn (bodyOf prog r)) r l (loops-complete prog kn cl d));
+        rules = λ r d. not-both (some-below n (λ r. reach (arrow prog kn) n r r)) (x .1) (below-true n (λ r. reach (arrow prog kn) n r r) r (comes-from d) (comes-reach d));
       }
 
-  pub tells-complete : Finishing prog → tells prog ps ≡ true
+  pub tells-complete : Finishing prog → tells prog kn ≡ true
   unfolding tells
   tells-complete fin =
       let n = length prog in
-      both (not (some-below n (λ r. loops ps (bodyOf prog r)))) (not (some-below n (λ r. reach (arrow prog ps) n r r)))
-      (not-intro (some-below n (λ r. loops ps (bodyOf prog r))) (λ e. let y = true-below n (λ r. loops ps (bodyOf prog r)) e in fin .cycles (y .0) (y .1) (loops-sound prog ps so (bodyOf prog (y .0)) (y .2))))
-      (not-intro (some-below n (λ r. reach (arrow prog ps) n r r)) (λ e. let y = true-below n (λ r. reach (arrow prog ps) n r r) e in fin .rules (y .0) (reach-comes n (y .0) (y .0) (y .1) (omega arith) (y .2))))
+      both (not (some-below n (λ r. loops kn (bodyOf prog r)))) (not (some-below n (λ r. reach (arrow prog kn) n r r)))
+      (not-intro (some-below n (λ r. loops kn (bodyOf prog r))) (λ e. let y = true-below n (λ r. loops kn (bodyOf prog r)) e in fin .cycles (y .0) (y .1) (loops-sound prog kn so (bodyOf prog (y .0)) (y .2))))
+      (not-intro (some-below n (λ r. reach (arrow prog kn) n r r)) (λ e. let y = true-below n (λ r. reach (arrow prog kn) n r r) e in fin .rules (y .0) (reach-comes n (y .0) (y .0) (y .1) (omega arith) (y .2))))
 
 pub below-same : (n : ℕ) (f g : ℕ → Bool) → ((r : ℕ) → r < n → f r ≡ g r) → some-below n f ≡ some-below n g
 unfolding some-below
 below-same zero f g h = refl
 below-same (suc n) f g h = rw (h n (omega arith), below-same n f g (λ r l. h r (omega arith)))
 
-finishing-tells : (prog : List Rule) → finishing prog ≡ tells prog (passedRules prog)
+finishing-tells : (prog : List Rule) → finishing prog ≡ tells prog (known prog)
 unfolding finishing tells
 finishing-tells prog =
     let n = length prog in
-    let f = arrow prog (passedRules prog) in
-    ap (λ (b : Bool). not (some-below n (λ r. loops (passedRules prog) (bodyOf prog r))) && not b)
+    let f = arrow prog (known prog) in
+    ap (λ (b : Bool). not (some-below n (λ r. loops (known prog) (bodyOf prog r))) && not b)
     (below-same n (λ r. look (closure f n n) r r) (λ r. reach f n r r) (λ r l. closure-reach f n n r r (omega arith) l l))
 
 -- The test is exact.
 pub finishing-sound : (prog : List Rule) → finishing prog ≡ true → Finishing prog
-finishing-sound prog e = tells-sound prog (passedRules prog) (passed-sound prog) (passed-closed prog) (rw finishing-tells at e)
+finishing-sound prog e = tells-sound prog (known prog) (known-sound prog) (known-closed prog) (rw finishing-tells at e)
 
 pub finishing-complete : (prog : List Rule) → Finishing prog → finishing prog ≡ true
-finishing-complete prog fin = rw finishing-tells (tells-complete prog (passedRules prog) (passed-sound prog) (passed-closed prog) fin)
+finishing-complete prog fin = rw finishing-tells (tells-complete prog (known prog) (known-sound prog) (known-closed prog) fin)
+
+pub verdict-exact : (prog : List Rule) → Exact prog
+verdict-exact prog = record { sound = finishing-sound prog; complete = finishing-complete prog }
 
 -- whatever answers exactly when the program is finishing answers as the test does
 pub exact : (prog : List Rule) (b : Bool) → (b ≡ true → Finishing prog) → (Finishing prog → b ≡ true) → b ≡ finishing prog

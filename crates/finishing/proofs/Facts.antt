@@ -1,7 +1,7 @@
--- Programs that are finishing and programs that are not, by the definition, worked out by hand from document 01, section "Finishing". Each way
--- that a path goes on and each place of a cycle has a program that is not finishing because of it ("no"), and one beside it that is ("yes").
--- The comments give the programs' texts: `a` and `b` are tokens, `e` is an error, `x` and `y` are values of a type, `u` and `u(x)` are update
--- operations, `f` and `g(x)` choice operations.
+-- Programs that are finishing and programs that are not, by the definition, worked out by hand from document 01, section "Finishing", and 02,
+-- A.3. Each way that a path goes on and each place of a cycle has a program that is not finishing because of it ("no"), and one beside it that
+-- is ("yes"). The comments give the programs' texts: `a` and `b` are tokens, `e` is an error, `x`, `y` and `z` are values of a type, `u` and
+-- `u(x)` are update operations, `f` and `g(x)` choice operations.
 use mathlib.Core.Path.{_≡_, refl}
 use mathlib.Core.Bool.{Bool, true, false, _&&_, not}
 use mathlib.Core.List.{List, [], _∷_, _++_}
@@ -87,6 +87,14 @@ return = plain back
 abbrev giveX : Act
 giveX = plain (give 0)
 
+-- `>> y`
+abbrev giveY : Act
+giveY = plain (give 1)
+
+-- `>> z`
+abbrev giveZ : Act
+giveZ = plain (give 2)
+
 -- one action alone
 abbrev just : Act → Acts
 just x = x ▸ done
@@ -107,6 +115,22 @@ when-else s q r = choice s (alternative (0 ∷ []) q nil) (otherwise r)
 abbrev always : Selector → Acts → Act
 always s q = choice s nil (otherwise q)
 
+-- `[s | x: q | y: r | *: o ]`
+abbrev either-else : Selector → Acts → Acts → Acts → Act
+either-else s q r o = choice s (alternative (0 ∷ []) q (alternative (1 ∷ []) r nil)) (otherwise o)
+
+-- `[s | x, y: q | z: r ]`
+abbrev both-or : Selector → Acts → Acts → Act
+both-or s q r = choice s (alternative (0 ∷ 1 ∷ []) q (alternative (2 ∷ []) r nil)) absent
+
+-- `[ | a: >> x | *: >> y ]`: x after reading, y quietly
+abbrev x-reading : Acts
+x-reading = just (when-else byToken (just giveX) (just giveY))
+
+-- `[ | a: >> y | *: >> x ]`
+abbrev y-reading : Acts
+y-reading = just (when-else byToken (just giveY) (just giveX))
+
 -- `f`
 abbrev f : Selector
 f = byOperation 768
@@ -118,6 +142,14 @@ g = byOperationWith 1024 0
 -- `@N`
 abbrev byN : Selector
 byN = byRule 1
+
+-- `@O`
+abbrev byO : Selector
+byO = byRule 2
+
+-- `[f | x: >> x | y: >> y ]`: either, quietly
+abbrev x-or-y : Acts
+x-or-y = just (either f (just giveX) (just giveY))
 
 -- "It is quiet if it reads no token": each action in a cycle that it would be the whole of, and actions in a row
 unfoldable pub plains : List Fact
@@ -262,8 +294,8 @@ byOperations =
     ∷ yes (round (just (always g (just leave))))
     ∷ []
 
--- a choice by a rule is come through quietly if the rule is passed quietly, to the labelled alternatives and to otherwise alike; "ignores
--- .. returned values"
+-- a choice by a rule: "only the alternative that matches a value which the rule can return quietly, and otherwise if it can quietly return a
+-- value that no label names"
 unfoldable pub byRules : List Fact
 byRules =
     -- `M: { [@N | x: ] }; N >> t: >> x;`
@@ -275,9 +307,13 @@ byRules =
     -- `M: { [@N | x: > ] }; N >> t: >> x;`
     ∷ yes (round-by (just (when byN (just leave))) (just giveX))
     -- `M: { [@N | x: > | y: ] }; N >> t: >> x;`
-    ∷ no (round-by (just (either byN (just leave) done)) (just giveX))
+    ∷ yes (round-by (just (either byN (just leave) done)) (just giveX))
+    -- `M: { [@N | x: > | y: ] }; N >> t: >> y;`
+    ∷ no (round-by (just (either byN (just leave) done)) (just giveY))
     -- `M: { [@N | x: > | *: ] }; N >> t: >> x;`
-    ∷ no (round-by (just (when-else byN (just leave) done)) (just giveX))
+    ∷ yes (round-by (just (when-else byN (just leave) done)) (just giveX))
+    -- `M: { [@N | x: > | *: ] }; N >> t: >> y;`
+    ∷ no (round-by (just (when-else byN (just leave) done)) (just giveY))
     -- `M: { [@N | x: > | *: ] }; N >> t: a >> x;`
     ∷ yes (round-by (just (when-else byN (just leave) done)) (a ▸ giveX ▸ done))
     -- `M: { [@N | *: ] }; N >> t: >> x;`
@@ -289,11 +325,88 @@ byRules =
     -- `M: { [@N | x: ] }; N >> t: { ? >> x };`
     ∷ yes (round-by (just (when byN done)) (just (cycle (plain any ▸ giveX ▸ done))))
     -- `M: { [@N | x: ] }; N >> t: [ | a: >> x | *: >> y ];`
-    ∷ no (round-by (just (when byN done)) (just (when-else byToken (just giveX) (just (plain (give 1))))))
+    ∷ yes (round-by (just (when byN done)) x-reading)
+    -- `M: { [@N | x: ] }; N >> t: [ | a: >> y | *: >> x ];`
+    ∷ no (round-by (just (when byN done)) y-reading)
     -- `M: { [@N | x: ] }; N >> t: [ | a: >> x | *: ? >> y ];`
-    ∷ yes (round-by (just (when byN done)) (just (when-else byToken (just giveX) (plain any ▸ plain (give 1) ▸ done))))
+    ∷ yes (round-by (just (when byN done)) (just (when-else byToken (just giveX) (plain any ▸ giveY ▸ done))))
     -- `M: { [@N | x: ] }; N >> t: [f | x: a >> x | y: >> y ];`
-    ∷ no (round-by (just (when byN done)) (just (either f (a ▸ giveX ▸ done) (just (plain (give 1))))))
+    ∷ yes (round-by (just (when byN done)) (just (either f (a ▸ giveX ▸ done) (just giveY))))
+    -- `M: { [@N | x: ] }; N >> t: [f | x: >> x | y: a >> y ];`
+    ∷ no (round-by (just (when byN done)) (just (either f (just giveX) (a ▸ giveY ▸ done))))
+    ∷ []
+
+-- what the request (02, A.3) is about: which values a rule can return quietly, and what they open
+unfoldable pub returned : List Fact
+returned =
+    -- the request's example, x for true and y for false: `M: { [@N | x: | y: > ] }; N >> t: [ | a: >> x | *: >> y ];`
+    yes (round-by (just (either byN done (just leave))) x-reading)
+    -- the two values changed over: `M: { [@N | x: | y: > ] }; N >> t: [ | a: >> y | *: >> x ];`
+    ∷ no (round-by (just (either byN done (just leave))) y-reading)
+    -- both quietly: `M: { [@N | x: | y: > ] }; N >> t: [f | x: >> x | y: >> y ];`
+    ∷ no (round-by (just (either byN done (just leave))) x-or-y)
+    -- `M: { [@N | x: a | y: > ] }; N >> t: [f | x: >> x | y: >> y ];`
+    ∷ yes (round-by (just (either byN (just a) (just leave))) x-or-y)
+    -- the choice before goes by another return: `M: { [@N | x: | y: > ] [@N | x: > | y: ] }; N >> t: [f | x: >> x | y: >> y ];`
+    ∷ no (round-by (either byN done (just leave) ▸ either byN (just leave) done ▸ done) x-or-y)
+    -- `M: { [@N | x: | y: > ] [@N | x: > | y: ] }; N >> t: >> x;`
+    ∷ yes (round-by (either byN done (just leave) ▸ either byN (just leave) done ▸ done) (just giveX))
+    -- an alternative with two labels: `M: { [@N | x, y: | z: > ] }; N >> t: >> x;`
+    ∷ no (round-by (just (both-or byN done (just leave))) (just giveX))
+    -- `M: { [@N | x, y: | z: > ] }; N >> t: >> y;`
+    ∷ no (round-by (just (both-or byN done (just leave))) (just giveY))
+    -- `M: { [@N | x, y: | z: > ] }; N >> t: >> z;`
+    ∷ yes (round-by (just (both-or byN done (just leave))) (just giveZ))
+    -- otherwise, with one value that is not named: `M: { [@N | x: > | *: ] }; N >> t: [ | a: >> x | *: >> y ];`
+    ∷ no (round-by (just (when-else byN (just leave) done)) x-reading)
+    -- with one that is: `M: { [@N | x: > | *: ] }; N >> t: [ | a: >> y | *: >> x ];`
+    ∷ yes (round-by (just (when-else byN (just leave) done)) y-reading)
+    -- with both: `M: { [@N | x: > | *: ] }; N >> t: [f | x: >> x | y: >> y ];`
+    ∷ no (round-by (just (when-else byN (just leave) done)) x-or-y)
+    -- `M: { [@N | x: | *: > ] }; N >> t: [f | x: >> x | y: >> y ];`
+    ∷ no (round-by (just (when-else byN done (just leave))) x-or-y)
+    -- `M: { [@N | x: | *: > ] }; N >> t: [ | a: >> x | *: >> y ];`
+    ∷ yes (round-by (just (when-else byN done (just leave))) x-reading)
+    -- with labels for both: `M: { [@N | x: > | y: a | *: ] }; N >> t: [f | x: >> x | y: >> y ];`
+    ∷ yes (round-by (just (either-else byN (just leave) (just a) done)) x-or-y)
+    -- `M: { [@N | x: > | y: a | *: ] }; N >> t: >> z;`
+    ∷ no (round-by (just (either-else byN (just leave) (just a) done)) (just giveZ))
+    -- a value that no label names, without otherwise, where the walk stops: `M: { [@N | x: | y: > ] }; N >> t: [ | a: >> x | *: >> z ];`
+    ∷ yes (round-by (just (either byN done (just leave))) (just (when-else byToken (just giveX) (just giveZ))))
+    -- `M: [@N | x: ] @M; N >> t: >> y;`
+    ∷ yes (procedure (when byN done ▸ callM ▸ done) ∷ valued (just giveY) ∷ [])
+    -- `M: [@N | x: ] @M; N >> t: >> x;`
+    ∷ no (procedure (when byN done ▸ callM ▸ done) ∷ valued (just giveX) ∷ [])
+    -- a rule without a quiet return: `M: { [@N | x: | *: ] }; N >> t: a [f | x: >> x | y: >> y ];`
+    ∷ yes (round-by (just (when-else byN done done)) (a ▸ x-or-y))
+    -- `M: { [@N | x: | *: ] }; N >> t: { a };`
+    ∷ yes (round-by (just (when-else byN done done)) (just (cycle (just a))))
+    -- values from inside a cycle: `M: { [@N | x: | y: > ] }; N >> t: { [ | a: | *: >> y ] };`
+    ∷ yes (round-by (just (either byN done (just leave))) (just (cycle (just (when-else byToken done (just giveY))))))
+    -- `M: { [@N | x: | y: > ] }; N >> t: { [ | a: | *: >> x ] };`
+    ∷ no (round-by (just (either byN done (just leave))) (just (cycle (just (when-else byToken done (just giveX))))))
+    -- the first of two: `M: { [@N | x: > | y: ] }; N >> t: >> x >> y;`
+    ∷ yes (round-by (just (either byN (just leave) done)) (giveX ▸ giveY ▸ done))
+    -- an exit that a value opens: `M: { { [@N | x: > | y: a ] } }; N >> t: >> x;`
+    ∷ no (round-by (just (cycle (just (either byN (just leave) (just a))))) (just giveX))
+    -- `M: { { [@N | x: > | y: a ] } }; N >> t: >> y;`
+    ∷ yes (round-by (just (cycle (just (either byN (just leave) (just a))))) (just giveY))
+    -- a rule that is passed by a value, or not: `M: { @O }; N >> t: >> x; O: [@N | x: >> | y: a ] a;`
+    ∷ no (procedure (just (cycle (just callO))) ∷ valued (just giveX) ∷ procedure (either byN (just return) (just a) ▸ a ▸ done) ∷ [])
+    -- `M: { @O }; N >> t: >> y; O: [@N | x: >> | y: a ] a;`
+    ∷ yes (procedure (just (cycle (just callO))) ∷ valued (just giveY) ∷ procedure (either byN (just return) (just a) ▸ a ▸ done) ∷ [])
+    -- `M: { @O }; N >> t: >> y; O: [@N | x: ];`
+    ∷ yes (procedure (just (cycle (just callO))) ∷ valued (just giveY) ∷ procedure (just (when byN done)) ∷ [])
+    -- a value by another rule's: `M: { [@N | x: | y: > ] }; N >> t: [@O | x: >> x | y: >> y ]; O >> t: [ | a: >> x | *: >> y ];`
+    ∷ yes (procedure (just (cycle (just (either byN done (just leave))))) ∷ valued (just (either byO (just giveX) (just giveY))) ∷ valued x-reading ∷ [])
+    -- `M: { [@N | x: | y: > ] }; N >> t: [@O | x: >> y | y: >> x ]; O >> t: [ | a: >> x | *: >> y ];`
+    ∷ no (procedure (just (cycle (just (either byN done (just leave))))) ∷ valued (just (either byO (just giveY) (just giveX))) ∷ valued x-reading ∷ [])
+    -- `M: { [@N | x: | y: > ] }; N >> t: [@O | x: >> y | y: >> x ]; O >> t: [ | a: >> y | *: >> x ];`
+    ∷ yes (procedure (just (cycle (just (either byN done (just leave))))) ∷ valued (just (either byO (just giveY) (just giveX))) ∷ valued y-reading ∷ [])
+    -- the rule that gives it stands first: `M: ; N >> t: [ | a: >> x | *: >> y ]; O >> t: [@N | x: >> y | y: >> x ]; P: { [@O | x: > | y: ] };`
+    ∷ yes (procedure done ∷ valued x-reading ∷ valued (just (either byN (just giveY) (just giveX))) ∷ procedure (just (cycle (just (either byO (just leave) done)))) ∷ [])
+    -- `M: ; N >> t: [ | a: >> x | *: >> y ]; O >> t: [@N | x: >> y | y: >> x ]; P: { [@O | x: | y: > ] };`
+    ∷ no (procedure done ∷ valued x-reading ∷ valued (just (either byN (just giveY) (just giveX))) ∷ procedure (just (cycle (just (either byO done (just leave))))) ∷ [])
     ∷ []
 
 -- "A called rule is passed quietly if it has a quiet path to a return": to its end, or to a `>>` anywhere in it; directly, or because of
@@ -386,9 +499,15 @@ comes =
     -- `M: [@N | x: @M ]; N >> t: a >> x;`
     ∷ yes (procedure (just (when byN (just callM))) ∷ valued (a ▸ giveX ▸ done) ∷ [])
     -- `M: [@N | x: | *: @M ]; N >> t: >> x;`
-    ∷ no (procedure (just (when-else byN done (just callM))) ∷ valued (just giveX) ∷ [])
+    ∷ yes (procedure (just (when-else byN done (just callM))) ∷ valued (just giveX) ∷ [])
+    -- `M: [@N | x: | *: @M ]; N >> t: >> y;`
+    ∷ no (procedure (just (when-else byN done (just callM))) ∷ valued (just giveY) ∷ [])
     -- `M: [@N | x: | *: @M ]; N >> t: a >> x;`
     ∷ yes (procedure (just (when-else byN done (just callM))) ∷ valued (a ▸ giveX ▸ done) ∷ [])
+    -- `M: [@N | x: @M | y: ]; N >> t: [ | a: >> x | *: >> y ];`
+    ∷ yes (procedure (just (either byN (just callM) done)) ∷ valued x-reading ∷ [])
+    -- `M: [@N | x: @M | y: ]; N >> t: [ | a: >> y | *: >> x ];`
+    ∷ no (procedure (just (either byN (just callM) done)) ∷ valued y-reading ∷ [])
     -- `M: ; N >> t: [@N | x: a >> x ];`
     ∷ no (valued-only (just (when byN (a ▸ giveX ▸ done))))
     -- `M: ; N >> t: a [@N | x: >> x ];`
@@ -409,6 +528,18 @@ comes =
     ∷ no (procedure (just (when byN done)) ∷ valued (callM ▸ giveX ▸ done) ∷ [])
     -- `M: [@N | x: ]; N >> t: a @M >> x;`
     ∷ yes (procedure (just (when byN done)) ∷ valued (a ▸ callM ▸ giveX ▸ done) ∷ [])
+    -- `M: [@O | x: @N | y: ]; N: [@O | x: @M | y: ]; O >> t: [ | a: >> x | *: >> y ];`
+    ∷ yes (procedure (just (either byO (just callN) done)) ∷ procedure (just (either byO (just callM) done)) ∷ valued x-reading ∷ [])
+    -- `M: [@O | x: @N | y: ]; N: [@O | x: @M | y: ]; O >> t: [ | a: >> y | *: >> x ];`
+    ∷ no (procedure (just (either byO (just callN) done)) ∷ procedure (just (either byO (just callM) done)) ∷ valued y-reading ∷ [])
+    -- `M: ; N >> t: [@O | x: >> x ]; O >> t: [@N | x: >> x ];`
+    ∷ no (procedure done ∷ valued (just (when byO (just giveX))) ∷ valued (just (when byN (just giveX))) ∷ [])
+    -- `M: ; N >> t: a [@O | x: >> x ]; O >> t: [@N | x: >> x ];`
+    ∷ yes (procedure done ∷ valued (a ▸ when byO (just giveX) ▸ done) ∷ valued (just (when byN (just giveX))) ∷ [])
+    -- `M: ; N >> t: [@O | x: >> x | y: [@P | x: >> x ] ]; O >> t: [ | a: >> y | *: >> x ]; P >> t: [@N | x: >> x ];`
+    ∷ yes (procedure done ∷ valued (just (either byO (just giveX) (just (when (byRule 3) (just giveX))))) ∷ valued y-reading ∷ valued (just (when byN (just giveX))) ∷ [])
+    -- `M: ; N >> t: [@O | x: >> x | y: [@P | x: >> x ] ]; O >> t: [ | a: >> x | *: >> y ]; P >> t: [@N | x: >> x ];`
+    ∷ no (procedure done ∷ valued (just (either byO (just giveX) (just (when (byRule 3) (just giveX))))) ∷ valued x-reading ∷ valued (just (when byN (just giveX))) ∷ [])
     -- `M: @N; N: @O; O: @M;`
     ∷ no (procedure (just callN) ∷ procedure (just callO) ∷ procedure (just callM) ∷ [])
     -- `M: @N; N: @O; O: a @M;`
@@ -452,6 +583,12 @@ places =
     ∷ yes (one (just (when-else byToken done (just (cycle (just leave))))))
     -- `M: [@N | x: { } ]; N >> t: a >> x;`
     ∷ no (procedure (just (when byN (just (cycle done)))) ∷ valued (a ▸ giveX ▸ done) ∷ [])
+    -- an alternative that no value opens: `M: [@N | x: { } ]; N >> t: >> y;`
+    ∷ no (procedure (just (when byN (just (cycle done)))) ∷ valued (just giveY) ∷ [])
+    -- `M: [@N | x: { > } ]; N >> t: >> y;`
+    ∷ yes (procedure (just (when byN (just (cycle (just leave))))) ∷ valued (just giveY) ∷ [])
+    -- `M: [@N | x: | *: { } ]; N >> t: >> x;`
+    ∷ no (procedure (just (when-else byN done (just (cycle done)))) ∷ valued (just giveX) ∷ [])
     -- `M: [f | x: { } | y: ];`
     ∷ no (one (just (either f (just (cycle done)) done)))
     ∷ []
@@ -488,8 +625,8 @@ uncalled =
     ∷ []
 
 unfoldable pub cases : List Fact
-unfolding plains exits byTokens byOperations byRules passed comes places uncalled
-cases = plains ++ exits ++ byTokens ++ byOperations ++ byRules ++ passed ++ comes ++ places ++ uncalled
+unfolding plains exits byTokens byOperations byRules returned passed comes places uncalled
+cases = plains ++ exits ++ byTokens ++ byOperations ++ byRules ++ returned ++ passed ++ comes ++ places ++ uncalled
 
 -- The test computes them; it is exact, so they hold of the definition.
 

@@ -3,4 +3,5 @@ pub mod Paths
 pub mod Rounds
 pub mod Exact
 pub mod Bridge
+pub mod Wider
 pub mod Facts

@@ -1,8 +1,11 @@
 -- "A program is finishing exactly if no cycle has a quiet path from its start to its end and no rule can quietly come to a call of
 -- itself, directly or through others. All rules count, called or not."
+use mathlib.Core.Bool.{Bool, true, false, _||_}
 use mathlib.Core.List.{List}
+use mathlib.Core.Path.{_≡_}
 use Prim.Native.Nat.{ℕ, _<_}
 use lib.ListN.{length}
+use Rattle.base.specs.Common.{member}
 use Rattle.base.specs.Tree.{Action, plain, cycle, choice, Actions, done, _▸_, Alternatives, nil, alternative, Otherwise, absent, otherwise}
 use Rattle.program.specs.Program.{Plain, match, any, emit, error, exit, call, back, give, update, updateWith, Selector, byToken, byRule, byOperation, byOperationWith, Act, Acts, Alts, Other, Rule, bodyOf}
 
@@ -31,10 +34,27 @@ pub data Returns : Way → Type 0 where
   by-back : Returns toBack
   by-give : {v : ℕ} → Returns (toGive v)
 
+-- some label of the alternatives names the value
+unfoldable pub named : ℕ → Alts → Bool
+named v nil = false
+named v (alternative ls b q) = member v ls || named v q
+
+-- quietly through the selector to any labelled alternative: an operation's answer is any; one of an input choice reads a token, and a
+-- rule choice goes by the rule's value
+pub data Opens : Selector → Type 0 where
+  opens-operation : {op : ℕ} → Opens (byOperation op)
+  opens-operationWith : {op v : ℕ} → Opens (byOperationWith op v)
+
+-- quietly through the selector to otherwise, whatever the labels
+pub data OpensElse : Selector → Type 0 where
+  else-token : OpensElse byToken
+  else-opens : {s : Selector} → Opens s → OpensElse s
+
 module _ (prog : List Rule) where
   mutual
-    -- "A path takes any alternative and ignores answers and returned values .. It is quiet if it reads no token": a quiet path from
-    -- an action's start. A match and `?` have none.
+    -- "A path takes any alternative and ignores answers .. It is quiet if it reads no token": a quiet path from an action's start. A match
+    -- and `?` have none. Of a rule choice the last two say (02, A.3): "A quiet path through a rule choice shall take only the alternative that
+    -- matches a value which the rule can return quietly, and otherwise if it can quietly return a value that no label names."
     pub data Path : Way → Act → Type 0 where
       path-emit : {t : ℕ} → Path toEnd (plain (emit t))
       path-error : {t : ℕ} → Path toEnd (plain (error t))
@@ -51,6 +71,8 @@ module _ (prog : List Rule) where
       path-selects : {r : ℕ} {q : Alts} {o : Other} → Path (toCall r) (choice (byRule r) q o)
       path-labelled : {w : Way} {s : Selector} {q : Alts} {o : Other} → Opens s → PathsSome w q → Path w (choice s q o)
       path-otherwise : {w : Way} {s : Selector} {q : Alts} {b : Acts} → OpensElse s → Paths w b → Path w (choice s q (otherwise b))
+      path-named : {w : Way} {r v : ℕ} {q : Alts} {o : Other} → Gives r v → PathsFor v w q → Path w (choice (byRule r) q o)
+      path-unnamed : {w : Way} {r v : ℕ} {q : Alts} {b : Acts} → Gives r v → named v q ≡ false → Paths w b → Path w (choice (byRule r) q (otherwise b))
 
     -- the same of actions in a row
     pub data Paths : Way → Acts → Type 0 where
@@ -63,16 +85,14 @@ module _ (prog : List Rule) where
       paths-this : {w : Way} {ls : List ℕ} {b : Acts} {q : Alts} → Paths w b → PathsSome w (alternative ls b q)
       paths-that : {w : Way} {ls : List ℕ} {b : Acts} {q : Alts} → PathsSome w q → PathsSome w (alternative ls b q)
 
-    -- quietly through the selector to a labelled alternative; one of an input choice reads a token
-    pub data Opens : Selector → Type 0 where
-      opens-operation : {op : ℕ} → Opens (byOperation op)
-      opens-operationWith : {op v : ℕ} → Opens (byOperationWith op v)
-      opens-rule : {r : ℕ} → Passed r → Opens (byRule r)
+    -- through an alternative that a value matches
+    pub data PathsFor : ℕ → Way → Alts → Type 0 where
+      for-this : {v : ℕ} {w : Way} {ls : List ℕ} {b : Acts} {q : Alts} → member v ls ≡ true → Paths w b → PathsFor v w (alternative ls b q)
+      for-that : {v : ℕ} {w : Way} {ls : List ℕ} {b : Acts} {q : Alts} → PathsFor v w q → PathsFor v w (alternative ls b q)
 
-    -- quietly through the selector to otherwise
-    pub data OpensElse : Selector → Type 0 where
-      else-token : OpensElse byToken
-      else-opens : {s : Selector} → Opens s → OpensElse s
+    -- rule r can quietly return the value v
+    pub data Gives : ℕ → ℕ → Type 0 where
+      gives : {r v : ℕ} → r < length prog → Paths (toGive v) (bodyOf prog r) → Gives r v
 
     -- "A called rule is passed quietly if it has a quiet path to a return."
     pub data Passed : ℕ → Type 0 where

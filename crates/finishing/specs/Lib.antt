@@ -1,2 +1,3 @@
 pub mod Finishing
+pub mod Before
 pub mod Test
