@@ -44,6 +44,16 @@ acceptances =
     ∷ says "rules M: { { > } }; end" (1 ∷ 3 ∷ 2 ∷ 3 ∷ 2 ∷ 5 ∷ 9 ∷ []) false
     ∷ says "rules M: { @N }; N: { ? }; end" (8 ∷ 6 ∷ 2 ∷ 3 ∷ 9 ∷ 4 ∷ 2 ∷ 2 ∷ 9 ∷ []) true
     ∷ says "type t: x; rules M: ; N >> t: { { > } }; end" (9 ∷ 1 ∷ 3 ∷ 2 ∷ 3 ∷ 2 ∷ 5 ∷ []) false
+    -- a cycle over an optional item that is true only after reading (02, A.3); with the two values changed over
+    ∷ says "input: t; type B: false true; rules M: {[@OptionalItem | true: | false: > ]}; OptionalItem >> B: [ | t: >> true | *: >> false ]; end"
+    (8 ∷ 20 ∷ 11 ∷ 7 ∷ 1 ∷ 11 ∷ 1 ∷ 11 ∷ 1 ∷ 7 ∷ 2 ∷ 1 ∷ 8 ∷ 0 ∷ 8 ∷ 12 ∷ 2 ∷ 17 ∷ 9 ∷ 7 ∷ 6 ∷ 10 ∷ 1 ∷ 9 ∷ 1 ∷ 7 ∷ 1 ∷ 0 ∷ 7 ∷ 10 ∷ 0 ∷ 9 ∷ []) true
+    ∷ says "input: t; type B: false true; rules M: {[@OptionalItem | true: | false: > ]}; OptionalItem >> B: [ | t: >> false | *: >> true ]; end"
+    (8 ∷ 20 ∷ 11 ∷ 7 ∷ 1 ∷ 11 ∷ 1 ∷ 11 ∷ 1 ∷ 7 ∷ 2 ∷ 1 ∷ 8 ∷ 0 ∷ 8 ∷ 12 ∷ 2 ∷ 17 ∷ 9 ∷ 7 ∷ 6 ∷ 10 ∷ 0 ∷ 9 ∷ 1 ∷ 7 ∷ 1 ∷ 0 ∷ 7 ∷ 10 ∷ 1 ∷ 9 ∷ []) false
+    -- the same by otherwise
+    ∷ says "input: t; type B: x y; rules M: {[@O | x: > | *: ]}; O >> B: [ | t: >> y | *: >> x ]; end"
+    (8 ∷ 15 ∷ 11 ∷ 5 ∷ 1 ∷ 8 ∷ 1 ∷ 4 ∷ 1 ∷ 0 ∷ 6 ∷ 2 ∷ 12 ∷ 9 ∷ 7 ∷ 6 ∷ 10 ∷ 1 ∷ 9 ∷ 1 ∷ 7 ∷ 1 ∷ 0 ∷ 7 ∷ 10 ∷ 0 ∷ 9 ∷ []) true
+    ∷ says "input: t; type B: x y; rules M: {[@O | x: > | *: ]}; O >> B: [ | t: >> x | *: >> y ]; end"
+    (8 ∷ 15 ∷ 11 ∷ 5 ∷ 1 ∷ 8 ∷ 1 ∷ 4 ∷ 1 ∷ 0 ∷ 6 ∷ 2 ∷ 12 ∷ 9 ∷ 7 ∷ 6 ∷ 10 ∷ 0 ∷ 9 ∷ 1 ∷ 7 ∷ 1 ∷ 0 ∷ 7 ∷ 10 ∷ 1 ∷ 9 ∷ []) false
     ∷ []
 
 -- all of this file computes where this is unfolded
