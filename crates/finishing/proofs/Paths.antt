@@ -4,15 +4,14 @@ use mathlib.Core.Logic.{inl, inr}
 use mathlib.Core.Bool.{Bool, true, false, _&&_, _||_, not}
 use mathlib.Core.List.{List}
 use Prim.Native.Nat.{ℕ, _<_}
-use lib.Dec.{eqb}
 use lib.ListN.{length}
-use borrow.Author.Tests.{eqb-true, eq-eqb}
+use borrow.Author.Tests.{eqb-true, eq-eqb, not-true}
 use Rattle.base.specs.Bools.{never, or, and, or₁, or₂, both}
 use Rattle.base.specs.Common.{member}
 use Rattle.base.specs.Tree.{plain, cycle, choice, done, _▸_, nil, alternative, absent, otherwise}
 use Rattle.program.specs.Program.{Plain, match, any, emit, error, exit, call, back, give, update, updateWith, Selector, byToken, byRule, byOperation, byOperationWith, Act, Acts, Alts, Other, Rule, bodyOf}
 use Rattle.finishing.specs.Finishing as paths
-use Rattle.finishing.specs.Finishing.{Way, toEnd, toExit, toBack, toGive, toCall, Away, away-exit, away-back, away-give, away-call, Far, far-back, far-give, far-call, Returns, by-end, by-back, by-give, named, Path, path-emit, path-error, path-update, path-updateWith, path-call, path-calls, path-exit, path-back, path-give, path-out, path-around, path-in, path-selects, path-labelled, path-otherwise, path-named, path-unnamed, Paths, paths-done, paths-here, paths-later, PathsSome, paths-this, paths-that, PathsFor, for-this, for-that, Opens, opens-operation, opens-operationWith, OpensElse, else-token, else-opens, Gives, Passed, passed, Loop, loop-here, loop-in, loop-labelled, loop-otherwise, Loops, loops-here, loops-later, LoopsSome, loops-this, loops-that}
+use Rattle.finishing.specs.Finishing.{Way, toEnd, toExit, toBack, toGive, toCall, Away, away-exit, away-back, away-give, away-call, Far, far-back, far-give, far-call, Returns, by-end, by-back, by-give, named, Path, path-emit, path-error, path-update, path-updateWith, path-call, path-calls, path-exit, path-back, path-give, path-out, path-around, path-in, path-selects, path-labelled, path-otherwise, path-named, path-unnamed, Paths, paths-done, paths-here, paths-later, PathsSome, paths-this, paths-that, PathsFor, for-this, for-that, opens-operation, opens-operationWith, OpensElse, else-token, else-opens, Gives, Passed, passed, Loop, loop-here, loop-in, loop-labelled, loop-otherwise, Loops, loops-here, loops-later, LoopsSome, loops-this, loops-that}
 use Rattle.finishing.specs.Test.{Goal, end, leave, return, gives, calls, isEnd, isLeave, isReturn, isGive, isCall, isFar, Known, quietPlain, quiet, quiets, quietSome, quietNamed, quietOther, passes, loop, loops, loopsSome, loopsOther}
 
 -- the way is one to the goal
@@ -133,14 +132,6 @@ by-value r o (valued x p) = path-named x p
 
 later : {prog : List Rule} {r : ℕ} {w : Way} {ls : List ℕ} {b : Acts} {q : Alts} → Valued prog r w q → Valued prog r w (alternative ls b q)
 later (valued x p) = valued x (for-that p)
-
-not-true : (b : Bool) → not b ≡ true → b ≡ false
-not-true true e = never e
-not-true false e = refl
-
-not-false : (b : Bool) → b ≡ false → not b ≡ true
-not-false true e = let z : _≡_ {A = Bool} false true = cc in never z
-not-false false e = refl
 
 module _ (prog : List Rule) (k : Known) (h : Sound prog k) where
   plain-sound : (p : Plain) (g : Goal) → quietPlain k p g ≡ true → Found (λ w. Path prog w (plain p)) g
@@ -339,7 +330,7 @@ module _ (prog : List Rule) (k : Known) (h : Closed prog k) where
     complete {g = g} (path-unnamed {r = r} {v = v} {q = q} {b = b} x n y) m =
         or₂ (isCall r g) (quietNamed k r q g || (k .some-value r (λ v. not (named v q)) && quiets k b g))
         (or₂ (quietNamed k r q g) (k .some-value r (λ v. not (named v q)) && quiets k b g)
-        (both (k .some-value r (λ v. not (named v q))) (quiets k b g) (complete-gives x (λ v. not (named v q)) (not-false (named v q) n)) (completes y m)))
+        (both (k .some-value r (λ v. not (named v q))) (quiets k b g) (complete-gives x (λ v. not (named v q)) (ap not n)) (completes y m)))
 
     pub completes : {w : Way} {q : Acts} {g : Goal} → Paths prog w q → Meets w g → quiets k q g ≡ true
     completes paths-done m = end-true m

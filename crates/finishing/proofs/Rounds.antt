@@ -2,32 +2,24 @@
 use mathlib.Core.Path.{_≡_, refl, sym, ap}
 use mathlib.Core.Logic.{_⊎_, inl, inr}
 use mathlib.Core.Bool.{Bool, true, false, cond, _&&_, _||_, not}
-use mathlib.Core.List.{List, [], _∷_, _++_, List·Memᴰ, List·Memᴰ·head, List·Memᴰ·tail}
+use mathlib.Core.List.{List, [], _∷_, List·Memᴰ, List·Memᴰ·head, List·Memᴰ·tail, List·Memᴰ·append-cases, Memᴰ·append-left, Memᴰ·append-right}
 use mathlib.Core.Option.{Option, none, some}
 use native.Mathlib.Omega.{arith}
 use native.Mathlib.Decide.{decLt}
 use Prim.Native.Nat.{ℕ, zero, suc, _+_, _<_, _≤_}
 use lib.Dec.{eqb}
 use lib.ListN.{length}
-use borrow.Author.Tests.{eqb-true, eq-eqb}
+use borrow.Author.Tests.{eqb-true, eq-eqb, not-true}
 use Rattle.base.specs.Bools.{never, or, and, or₁, or₂, both, split}
 use Rattle.base.specs.Tree.{plain, cycle, choice, done, _▸_, nil, alternative, absent, otherwise}
-use Rattle.program.specs.Program.{Plain, match, any, emit, error, exit, call, back, give, update, updateWith, Selector, byToken, byRule, byOperation, byOperationWith, Act, Acts, Alts, Other, Rule, bodyOf}
+use Rattle.program.specs.Program.{Plain, match, any, emit, error, exit, call, back, give, update, updateWith, byToken, byRule, byOperation, byOperationWith, Act, Acts, Alts, Other, Rule, bodyOf}
 use Rattle.finishing.specs.Finishing.{named, Gives, Passed}
-use Rattle.finishing.specs.Test.{Goal, end, gives, isEnd, isLeave, isReturn, isGive, isCall, isFar, Known, quietPlain, quiet, quiets, quietSome, quietNamed, quietOther, Fact, passing, giving, same, within, tells-of, some-of, knownOf, holds, find, onward, grow, valuesPlain, values, valuesAll, valuesSome, valuesOther, givings, facts, known}
+use Rattle.finishing.specs.Test.{end, gives, isEnd, isLeave, isReturn, isGive, isCall, isFar, Known, quietPlain, quiet, quiets, quietSome, quietNamed, quietOther, Fact, passing, giving, same, within, tells-of, some-of, knownOf, holds, find, onward, grow, valuesPlain, values, valuesAll, valuesSome, valuesOther, givings, facts, known}
 use Rattle.finishing.proofs.Paths.{Given, Sound, Closed, passes-sound, gives-sound}
 
 -- a number below n + 1
 pub last : (n r : ℕ) → r < suc n → (r < n) ⊎ (r ≡ n)
 last n r h = elim (decLt r n) [ yes l ↦ inl l | no x ↦ inr (omega arith) ]
-
-in-left : {A : Type 0} {x : A} {l : List A} (m : List A) → List·Memᴰ x l → List·Memᴰ x (l ++ m)
-in-left m (List·Memᴰ·head p) = List·Memᴰ·head p
-in-left m (List·Memᴰ·tail i) = List·Memᴰ·tail (in-left m i)
-
-in-right : {A : Type 0} {x : A} (l : List A) {m : List A} → List·Memᴰ x m → List·Memᴰ x (l ++ m)
-in-right [] i = i
-in-right (y ∷ l) i = List·Memᴰ·tail (in-right l i)
 
 same-true : (e f : Fact) → same e f ≡ true → e ≡ f
 unfolding same
@@ -99,10 +91,6 @@ find-some t (g ∷ fs) f e =
     split (t g)
     (λ d. let z : some g ≡ some f = rw d at e in let y : f ≡ g = cc in (List·Memᴰ·head y, rw y d))
     (λ d. let ih = find-some t fs f (rw d at e) in (List·Memᴰ·tail (ih .0), ih .1))
-
-not-true : (b : Bool) → not b ≡ true → b ≡ false
-not-true true e = never e
-not-true false e = refl
 
 module _ (prog : List Rule) where
   -- the fact is one
@@ -207,39 +195,39 @@ module _ (k : Known) (u : ℕ) where
     value-in : (a : Act) → quiet k a (gives u) ≡ true → List·Memᴰ u (values a)
     value-in (plain p) e = plain-value p e
     value-in (cycle b) e = values-in b e
-    value-in (choice byToken q o) e = in-right (valuesSome q) (value-other o e)
+    value-in (choice byToken q o) e = Memᴰ·append-right (valuesSome q) (value-other o e)
     value-in (choice (byRule r) q o) e = elim (or (quietNamed k r q (gives u)) (k .some-value r (λ v. not (named v q)) && quietOther k o (gives u)) e) [
-      | inl y ↦ in-left (valuesOther o) (value-named q r y)
-      | inr y ↦ in-right (valuesSome q) (value-other o (and (k .some-value r (λ v. not (named v q))) (quietOther k o (gives u)) y .1))
+      | inl y ↦ Memᴰ·append-left (valuesOther o) (value-named q r y)
+      | inr y ↦ Memᴰ·append-right (valuesSome q) (value-other o (and (k .some-value r (λ v. not (named v q))) (quietOther k o (gives u)) y .1))
     ]
     value-in (choice (byOperation op) q o) e = elim (or (quietSome k q (gives u)) (quietOther k o (gives u)) e) [
-      | inl y ↦ in-left (valuesOther o) (value-some q y)
-      | inr y ↦ in-right (valuesSome q) (value-other o y)
+      | inl y ↦ Memᴰ·append-left (valuesOther o) (value-some q y)
+      | inr y ↦ Memᴰ·append-right (valuesSome q) (value-other o y)
     ]
     value-in (choice (byOperationWith op v) q o) e = elim (or (quietSome k q (gives u)) (quietOther k o (gives u)) e) [
-      | inl y ↦ in-left (valuesOther o) (value-some q y)
-      | inr y ↦ in-right (valuesSome q) (value-other o y)
+      | inl y ↦ Memᴰ·append-left (valuesOther o) (value-some q y)
+      | inr y ↦ Memᴰ·append-right (valuesSome q) (value-other o y)
     ]
 
     pub values-in : (q : Acts) → quiets k q (gives u) ≡ true → List·Memᴰ u (valuesAll q)
     values-in done e = never e
     values-in (a ▸ q) e = elim (or (quiet k a (gives u)) (quiet k a end && quiets k q (gives u)) e) [
-      | inl y ↦ in-left (valuesAll q) (value-in a y)
-      | inr y ↦ in-right (values a) (values-in q (and (quiet k a end) (quiets k q (gives u)) y .1))
+      | inl y ↦ Memᴰ·append-left (valuesAll q) (value-in a y)
+      | inr y ↦ Memᴰ·append-right (values a) (values-in q (and (quiet k a end) (quiets k q (gives u)) y .1))
     ]
 
     value-some : (q : Alts) → quietSome k q (gives u) ≡ true → List·Memᴰ u (valuesSome q)
     value-some nil e = never e
     value-some (alternative ls b q) e = elim (or (quiets k b (gives u)) (quietSome k q (gives u)) e) [
-      | inl y ↦ in-left (valuesSome q) (values-in b y)
-      | inr y ↦ in-right (valuesAll b) (value-some q y)
+      | inl y ↦ Memᴰ·append-left (valuesSome q) (values-in b y)
+      | inr y ↦ Memᴰ·append-right (valuesAll b) (value-some q y)
     ]
 
     value-named : (q : Alts) (r : ℕ) → quietNamed k r q (gives u) ≡ true → List·Memᴰ u (valuesSome q)
     value-named nil r e = never e
     value-named (alternative ls b q) r e = elim (or (k .some-value r _ && quiets k b (gives u)) (quietNamed k r q (gives u)) e) [
-      | inl y ↦ in-left (valuesSome q) (values-in b (and (k .some-value r _) (quiets k b (gives u)) y .1))
-      | inr y ↦ in-right (valuesAll b) (value-named q r y)
+      | inl y ↦ Memᴰ·append-left (valuesSome q) (values-in b (and (k .some-value r _) (quiets k b (gives u)) y .1))
+      | inr y ↦ Memᴰ·append-right (valuesAll b) (value-named q r y)
     ]
 
     value-other : (o : Other) → quietOther k o (gives u) ≡ true → List·Memᴰ u (valuesOther o)
@@ -256,17 +244,12 @@ unfolding givings ofRule
 givings-of prog r (v ∷ vs) l (List·Memᴰ·head p) = rw p l
 givings-of prog r (v ∷ vs) l (List·Memᴰ·tail i) = givings-of prog r vs l i
 
-in-either : {A : Type 0} {x : A} (l m : List A) → List·Memᴰ x (l ++ m) → List·Memᴰ x l ⊎ List·Memᴰ x m
-in-either [] m i = inr i
-in-either (y ∷ l) m (List·Memᴰ·head p) = inl (List·Memᴰ·head p)
-in-either (y ∷ l) m (List·Memᴰ·tail i) = elim (in-either l m i) [ inl j ↦ inl (List·Memᴰ·tail j) | inr j ↦ inr j ]
-
 module _ (prog : List Rule) where
   facts-of : (n : ℕ) → n ≤ length prog → (f : Fact) → List·Memᴰ f (facts prog n) → ofRule prog f
   unfolding facts ofRule
   facts-of zero h f m = elim m [ ]
   facts-of (suc n) h f (List·Memᴰ·head p) = rw p (omega arith)
-  facts-of (suc n) h f (List·Memᴰ·tail i) = elim (in-either (givings n (valuesAll (bodyOf prog n))) (facts prog n) i) [
+  facts-of (suc n) h f (List·Memᴰ·tail i) = elim (List·Memᴰ·append-cases (givings n (valuesAll (bodyOf prog n))) i) [
     | inl j ↦ givings-of prog n (valuesAll (bodyOf prog n)) (omega arith) j
     | inr j ↦ facts-of n (omega arith) f j
   ]
@@ -275,7 +258,7 @@ module _ (prog : List Rule) where
   unfolding facts
   passing-in zero r l = absurd (omega arith)
   passing-in (suc n) r l = elim (last n r l) [
-    | inl x ↦ List·Memᴰ·tail (in-right (givings n (valuesAll (bodyOf prog n))) (passing-in n r x))
+    | inl x ↦ List·Memᴰ·tail (Memᴰ·append-right (givings n (valuesAll (bodyOf prog n))) (passing-in n r x))
     | inr x ↦ List·Memᴰ·head (ap passing x)
   ]
 
@@ -283,9 +266,9 @@ module _ (prog : List Rule) where
   unfolding facts
   value-fact zero r v l m = absurd (omega arith)
   value-fact (suc n) r v l m = elim (last n r l) [
-    | inl x ↦ List·Memᴰ·tail (in-right (givings n (valuesAll (bodyOf prog n))) (value-fact n r v x m))
+    | inl x ↦ List·Memᴰ·tail (Memᴰ·append-right (givings n (valuesAll (bodyOf prog n))) (value-fact n r v x m))
     | inr x ↦ let y : List·Memᴰ v (valuesAll (bodyOf prog n)) = rw x at m in
-        let z : List·Memᴰ (giving n v) (facts prog (suc n)) = List·Memᴰ·tail (in-left (facts prog n) (giving-in n v y)) in
+        let z : List·Memᴰ (giving n v) (facts prog (suc n)) = List·Memᴰ·tail (Memᴰ·append-left (facts prog n) (giving-in n v y)) in
         rw x z
   ]
 

@@ -1,18 +1,15 @@
 -- "every program that was finishing still is": a quiet path now is one before.
 use mathlib.Core.List.{List}
-use mathlib.Core.Path.{_≡_}
-use mathlib.Core.Bool.{false}
-use Prim.Native.Nat.{ℕ, _<_}
-use Rattle.base.specs.Tree.{plain, cycle, choice, done, _▸_, nil, alternative, absent, otherwise}
-use Rattle.program.specs.Program.{Act, Acts, Alts, Rule, bodyOf}
+use Prim.Native.Nat.{ℕ}
+use Rattle.program.specs.Program.{Selector, Act, Acts, Alts, Rule}
 use Rattle.finishing.specs.Before as before
-use Rattle.finishing.specs.Finishing.{Way, by-give, Path, path-emit, path-error, path-update, path-updateWith, path-call, path-calls, path-exit, path-back, path-give, path-out, path-around, path-in, path-selects, path-labelled, path-otherwise, path-named, path-unnamed, Paths, paths-done, paths-here, paths-later, PathsSome, paths-this, paths-that, PathsFor, for-this, for-that, Opens, opens-operation, opens-operationWith, OpensElse, else-token, else-opens, Gives, gives, Passed, passed, Comes, directly, through, Loop, loop-here, loop-in, loop-labelled, loop-otherwise, Loops, loops-here, loops-later, LoopsSome, loops-this, loops-that, Finishing}
+use Rattle.finishing.specs.Finishing.{Way, by-give, Path, path-emit, path-error, path-update, path-updateWith, path-call, path-calls, path-exit, path-back, path-give, path-out, path-around, path-in, path-selects, path-labelled, path-otherwise, path-named, path-unnamed, Paths, paths-done, paths-here, paths-later, PathsSome, paths-this, paths-that, PathsFor, for-this, for-that, Opens, opens-operation, opens-operationWith, OpensElse, else-token, else-opens, Gives, gives, Passed, passed, Comes, directly, through, Loop, loop-here, loop-in, loop-labelled, loop-otherwise, Loops, loops-here, loops-later, LoopsSome, loops-this, loops-that}
 
-opens : {s : _} (prog : List Rule) → Opens s → before.Opens prog s
+opens : {s : Selector} (prog : List Rule) → Opens s → before.Opens prog s
 opens prog opens-operation = before.opens-operation
 opens prog opens-operationWith = before.opens-operationWith
 
-else-too : {s : _} (prog : List Rule) → OpensElse s → before.OpensElse prog s
+else-too : {s : Selector} (prog : List Rule) → OpensElse s → before.OpensElse prog s
 else-too prog else-token = before.else-token
 else-too prog (else-opens x) = before.else-opens (opens prog x)
 
