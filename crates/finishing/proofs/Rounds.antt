@@ -59,7 +59,7 @@ fewer-missing [] es e = omega arith
 fewer-missing (f ∷ fs) es e = omega (arith, one-more (same e f) (within es f), fewer-missing fs es e)
 
 -- one more among them is one less missing
-cons-missing : (fs es : List Fact) {e : Fact} → List·Memᴰ e fs → within es e ≡ false → missing fs (e ∷ es) < missing fs es
+pub cons-missing : (fs es : List Fact) {e : Fact} → List·Memᴰ e fs → within es e ≡ false → missing fs (e ∷ es) < missing fs es
 unfolding missing within
 cons-missing (f ∷ fs) es {e} (List·Memᴰ·head p) h =
     let x : same e f ≡ true = rw (← p) (same-self e) in
@@ -67,7 +67,7 @@ cons-missing (f ∷ fs) es {e} (List·Memᴰ·head p) h =
     rw (x, y) (omega (arith, fewer-missing fs es e))
 cons-missing (f ∷ fs) es {e} (List·Memᴰ·tail i) h = omega (arith, one-more (same e f) (within es f), cons-missing fs es i h)
 
-missing-le : (fs es : List Fact) → missing fs es ≤ length fs
+pub missing-le : (fs es : List Fact) → missing fs es ≤ length fs
 unfolding missing
 missing-le [] es = omega arith
 missing-le (f ∷ fs) es = split (within es f) (λ e. rw e (omega (arith, missing-le fs es))) (λ e. rw e (omega (arith, missing-le fs es)))
@@ -234,7 +234,7 @@ module _ (k : Known) (u : ℕ) where
     value-other absent e = never e
     value-other (otherwise b) e = values-in b e
 
-giving-in : (r v : ℕ) {vs : List ℕ} → List·Memᴰ v vs → List·Memᴰ (giving r v) (givings r vs)
+pub giving-in : (r v : ℕ) {vs : List ℕ} → List·Memᴰ v vs → List·Memᴰ (giving r v) (givings r vs)
 unfolding givings
 giving-in r v (List·Memᴰ·head p) = List·Memᴰ·head (ap (giving r) p)
 giving-in r v (List·Memᴰ·tail i) = List·Memᴰ·tail (giving-in r v i)

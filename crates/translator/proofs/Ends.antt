@@ -49,8 +49,9 @@ ready-laid {prog = prog} h l =
       rest = drop (length (rulesCells prog)) (h .before);
       number = sym (h .number);
       few = h .few;
-      ranges = accepted-range prog (h .accepts);
+      ranges = accepted-range prog (h .accepts) (h .choices);
       its = w .1;
+      short = omega (arith, appends-length (h .appends), h .room);
       begins = λ r x. h .begins l r (omega (arith, x, h .number));
     }
 

@@ -51,6 +51,7 @@ module _ {text rows : List ℕ} {n first at : ℕ} {p : Program} {names : Names}
       record {
         accepts = known .accepts prog e;
         labels = m .labels;
+        choices = m .choices;
         number = number;
         few = omega (arith, number, m .count, known .few);
         before = cs;

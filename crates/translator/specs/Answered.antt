@@ -22,6 +22,7 @@ use Rattle.symbols.specs.Rows.{held}
 use Rattle.syntax.specs.Parse.{parse}
 use Rattle.syntax.specs.Reading.{got}
 use Rattle.syntax.specs.Written.{Program}
+use Rattle.verdict.specs.Lies.{FewAll}
 use Rattle.words.specs.Words.{Word, wordsAt}
 use Rattle.translator.specs.declared.Answer.{Answer}
 
@@ -39,6 +40,7 @@ pub record Settles (a : means.Answer) (old new : List ℕ) (r : Answer) : Type 0
 pub record Ready (cells starts sorts : List ℕ) (rules filled : ℕ) (prog : List Rule) : Type 0 where
   pub accepts : Accepted prog
   pub labels : (r : ℕ) → r < length prog → FewLabelsAll (bodyOf prog r)
+  pub choices : (r : ℕ) → r < length prog → FewAll (bodyOf prog r)
   pub number : rules ≡ length prog
   pub few : rules ≤ 128
   pub before : List ℕ

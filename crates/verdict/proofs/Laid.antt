@@ -4,22 +4,26 @@ use mathlib.Core.Bool.{Bool, true, false}
 use mathlib.Core.List.{List, [], _∷_, _++_, append-assoc}
 use native.Mathlib.Omega.{arith}
 use native.Mathlib.Decide.{decLt}
-use Prim.Native.Nat.{ℕ, zero, suc, _+_, _<_}
-use lib.ListN.{length, drop, getD, length-append}
+use Prim.Native.Nat.{ℕ, zero, suc, _+_, _<_, _≤_}
+use lib.ListN.{length, take, drop, getD, length-append}
 use lib.Seq.{drop-at}
 use Rattle.base.specs.Tree.{plain, cycle, choice, done, _▸_, nil, alternative, absent, otherwise}
 use Rattle.program.specs.Accepted.{OkPlain, OkSelector, Ok, Oks, OkAlts, OkOther, Accepted}
 use Rattle.program.specs.Program.{Plain, match, any, emit, error, exit, call, back, give, update, updateWith, Selector, byToken, byRule, byOperation, byOperationWith, Act, Acts, Alts, Other, Rule, ruleOf, bodyOf}
 use Rattle.cells.specs.Cells.{plainCells, selectorCells, absentCell, actCells, actsCells, altsCells, otherCells, rulesCells, cellsStart}
-use Rattle.verdict.specs.Lies.{RangePlain, RangeSelector, Range, Ranges, RangeAlts, RangeOther, InRange, Lies, lies-plain, lies-cycle, lies-token, lies-rule, lies-operation, lies-operationWith, LiesAll, lies-done, lies-next, LiesRest, lies-absent, lies-absent-token, lies-otherwise, lies-alternative}
+use Rattle.verdict.specs.Lies.{RangePlain, RangeSelector, labelled, Few, FewAll, FewSome, FewOther, Range, Ranges, RangeAlts, RangeOther, InRange, Lies, lies-plain, lies-cycle, lies-token, lies-rule, lies-operation, lies-operationWith, LiesAll, lies-done, lies-next, LiesRest, lies-absent, lies-absent-token, lies-otherwise, lies-alternative}
 use Rattle.verdict.specs.Told.{Laid, Holds}
 
-lies-selector : (s : Selector) (q : Alts) (o : Other) (k : List ℕ) {l : List ℕ} → RangeSelector s → LiesRest l q o k → Lies (selectorCells s l) (choice s q o) k
+take-at : (l m : List ℕ) → take (length l) (l ++ m) ≡ l
+take-at [] m = refl
+take-at (x ∷ l) m = ap (λ (k : List ℕ). x ∷ k) (take-at l m)
+
+lies-selector : (s : Selector) (q : Alts) (o : Other) (k : List ℕ) {l : List ℕ} → RangeSelector s → labelled q ≤ 64 → LiesRest l q o k → Lies (selectorCells s l) (choice s q o) k
 unfolding selectorCells RangeSelector
-lies-selector byToken q o k h x = lies-token x
-lies-selector (byRule r) q o k h x = lies-rule x
-lies-selector (byOperation op) q o k h x = lies-operation (h .0) (h .1) x
-lies-selector (byOperationWith op v) q o k h x = lies-operationWith (h .0) (h .1) x
+lies-selector byToken q o k h y x = lies-token x
+lies-selector (byRule r) q o k h y x = lies-rule y x
+lies-selector (byOperation op) q o k h y x = lies-operation (h .0) (h .1) x
+lies-selector (byOperationWith op v) q o k h y x = lies-operationWith (h .0) (h .1) x
 
 lies-none : (s : Selector) (k : List ℕ) → LiesRest (absentCell s ∷ k) nil absent k
 unfolding absentCell
@@ -34,7 +38,7 @@ mutual
   pub lies : (a : Act) (k : List ℕ) → Range a → Lies (actCells a k) a k
   lies (plain p) k h = lies-plain refl h
   lies (cycle b) k h = lies-cycle (lies-all b k h)
-  lies (choice s q o) k h = lies-selector s q o k (h .0) (lies-rest q o (absentCell s) k (h .1) (lies-other s o k (h .2)))
+  lies (choice s q o) k h = lies-selector s q o k (h .0) (h .1) (lies-rest q o (absentCell s) k (h .2) (lies-other s o k (h .3)))
 
   lies-other : (s : Selector) (o : Other) (k : List ℕ) → RangeOther o → LiesRest (otherCells o (absentCell s) k) nil o k
   lies-other s absent k h = lies-none s k
@@ -45,7 +49,7 @@ mutual
   lies-rest (alternative ls b q) o c k h x =
       let m = altsCells q (otherCells o c k) in
       let y : LiesAll (drop (length ls) (ls ++ actsCells b m)) b m = rw (drop-at ls (actsCells b m) (length ls) refl) (lies-all b m (h .0)) in
-      lies-alternative (length ls) refl y (lies-rest q o c k (h .1) x)
+      lies-alternative (length ls) refl (take-at ls (actsCells b m)) y (lies-rest q o c k (h .1) x)
 
   pub lies-all : (q : Acts) (k : List ℕ) → Ranges q → LiesAll (actsCells q k) q k
   lies-all done k h = lies-done
@@ -158,24 +162,24 @@ module _ (prog : List Rule) where
   range-selector (byOperationWith op w) h = (h .0, h .1)
 
   mutual
-    unfolding Ok Range
+    unfolding Ok Range Few
 
-    range : (a : Act) (v c : Bool) → Ok prog a v c → Range a
-    range (plain p) v c h = range-plain p v c h
-    range (cycle b) v c h = ranges b v true h
-    range (choice s q o) v c h = (range-selector s (h .0), range-alts q v c (h .1), range-other o v c (h .2))
+    range : (a : Act) (v c : Bool) → Ok prog a v c → Few a → Range a
+    range (plain p) v c h f = range-plain p v c h
+    range (cycle b) v c h f = ranges b v true h f
+    range (choice s q o) v c h f = (range-selector s (h .0), f .0, range-alts q v c (h .1) (f .1), range-other o v c (h .2) (f .2))
 
-    ranges : (q : Acts) (v c : Bool) → Oks prog q v c → Ranges q
-    ranges done v c h = tt
-    ranges (a ▸ q) v c h = (range a v c (h .0), ranges q v c (h .1))
+    ranges : (q : Acts) (v c : Bool) → Oks prog q v c → FewAll q → Ranges q
+    ranges done v c h f = tt
+    ranges (a ▸ q) v c h f = (range a v c (h .0) (f .0), ranges q v c (h .1) (f .1))
 
-    range-alts : (q : Alts) (v c : Bool) → OkAlts prog q v c → RangeAlts q
-    range-alts nil v c h = tt
-    range-alts (alternative ls b q) v c h = (ranges b v c (h .1), range-alts q v c (h .2))
+    range-alts : (q : Alts) (v c : Bool) → OkAlts prog q v c → FewSome q → RangeAlts q
+    range-alts nil v c h f = tt
+    range-alts (alternative ls b q) v c h f = (ranges b v c (h .1) (f .0), range-alts q v c (h .2) (f .1))
 
-    range-other : (o : Other) (v c : Bool) → OkOther prog o v c → RangeOther o
-    range-other absent v c h = tt
-    range-other (otherwise b) v c h = ranges b v c h
+    range-other : (o : Other) (v c : Bool) → OkOther prog o v c → FewOther o → RangeOther o
+    range-other absent v c h f = tt
+    range-other (otherwise b) v c h f = ranges b v c h f
 
-  pub accepted-range : Accepted prog → InRange prog
-  accepted-range a = record { bodies = λ r l. ranges (bodyOf prog r) (ruleOf prog r .valued) false (a .in-order r l) }
+  pub accepted-range : Accepted prog → ((r : ℕ) → r < length prog → FewAll (bodyOf prog r)) → InRange prog
+  accepted-range a f = record { bodies = λ r l. ranges (bodyOf prog r) (ruleOf prog r .valued) false (a .in-order r l) (f r l) }

@@ -4,3 +4,8 @@ pub mod Scan
 pub mod Passing
 pub mod Table
 pub mod Laid
+pub mod Listed
+pub mod Stands
+pub mod Growth
+pub mod Looking
+pub mod Room

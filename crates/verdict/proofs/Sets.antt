@@ -1,11 +1,13 @@
 -- Sets of rules in two words.
-use Prim.Native.Nat.{ℕ, zero, suc, _-_, _*_, _/_, _%_, _^_, _<_, _≤_}
+use Prim.Native.Nat.{ℕ, zero, suc, _+_, _-_, _*_, _/_, _%_, _^_, _<_, _≤_}
 use mathlib.Core.Path.{_≡_, refl, sym, ap, _∙_}
-use mathlib.Core.Bool.{Bool, true, false, cond, _||_, xor}
+use mathlib.Core.Bool.{Bool, true, false, cond, _||_, _&&_, xor}
+use mathlib.Core.List.{List}
 use native.Mathlib.Omega.{arith}
 use native.Mathlib.Decide.{decLt}
 use native.Mathlib.Nat.{zero-div}
 use lib.Dec.{eqb, ltb}
+use lib.ListN.{getD}
 use lib.Bits.{bitOr, or-shr, or-mod, and-mask}
 use borrow.Author.Tests.{lt-ltb, le-ltb, eq-eqb, ne-eqb}
 use Rattle.base.specs.Bools.{never, same, split}
@@ -107,3 +109,30 @@ member-none k = go (ltb k 64) (ltb k 128)
     go true b = bit-zero k
     go false true = bit-zero (k - 64)
     go false false = refl
+
+-- Those of a row that are v, a bit for each, up to place j
+pub record Matching (vs : List ℕ) (v j : ℕ) (s : Rules) : Type 0 where
+  pub done : (i : ℕ) → i < j → i < 128 → member s i ≡ eqb v (getD vs i 0)
+  pub left : (i : ℕ) → j ≤ i → i < 128 → member s i ≡ false
+
+pub matching-start : (vs : List ℕ) (v : ℕ) → Matching vs v 0 (record { lo = 0; hi = 0 })
+matching-start vs v = record { done = λ i h b. absurd (omega arith); left = λ i h b. member-none i }
+
+pub matching-next : (vs : List ℕ) (v j x : ℕ) (s t : Rules) → x ≡ getD vs j 0 → ((k : ℕ) → k < 128 → member t k ≡ ((eqb v x && eqb j k) || member s k)) → Matching vs v j s → Matching vs v (j + 1) t
+matching-next vs v j x s t e h m = record {
+  done = λ i l b. elim (decLt i j) [
+    | yes y ↦ h i b ∙ (rw (ne-eqb j i (λ z. omega arith), m .done i y b) (other (eqb v x) (eqb v (getD vs i 0))))
+    | no y ↦
+        let q : j ≡ i = omega arith in
+        h i b ∙ (rw (eq-eqb j i q, m .left i (omega arith) b) (this (eqb v x) ∙ ap (λ (z : ℕ). eqb v z) (e ∙ ap (λ (z : ℕ). getD vs z 0) q)))
+  ];
+  left = λ i l b. h i b ∙ rw (ne-eqb j i (λ z. omega arith), m .left i (omega arith) b) (other (eqb v x) false);
+}
+  where
+    other : (a b : Bool) → ((a && false) || b) ≡ b
+    other true b = refl
+    other false b = refl
+
+    this : (a : Bool) → ((a && true) || false) ≡ a
+    this true = refl
+    this false = refl

@@ -9,10 +9,15 @@ use native.Mathlib.Numerals.{add-one}
 use lib.ListN.{length, getD, set, length-set}
 use lib.Seq.{getD-set-same, getD-set-other}
 use Rattle.program.specs.Program.{Rule, bodyOf}
-use Rattle.finishing.specs.Test.{loops, reach, some-below, arrow, finishing}
-use Rattle.verdict.specs.Told.{member, RuleTold, Laid, Exactly, rowOf, Puts, Widened, Closure, Arrows}
+use Rattle.finishing.specs.Test.{Known, loops, reach, some-below, arrow, finishing}
+use Rattle.verdict.specs.Told.{member, RuleTold, Laid, True, ClosedAt, someIn, knownIn, rowOf, Puts, Widened, Closure, Arrows}
 use Rattle.finishing.proofs.Rounds.{last}
-use Rattle.finishing.proofs.Exact.{tells, tells-sound, tells-complete, exact, below-same}
+use Rattle.finishing.proofs.Exact.{tells, tells-sound, tells-complete, exact, below-same, below-true, true-below}
+use Rattle.finishing.specs.Finishing.{Gives}
+use Rattle.finishing.proofs.Paths.{Sound, Closed, Given}
+use Rattle.base.specs.Bools.{and, both}
+use borrow.Author.Tests.{eqb-true}
+use lib.Dec.{eqb}
 use Rattle.verdict.specs.declared.Rules.{Rules}
 use Rattle.verdict.specs.declared.Ways.{Ways}
 
@@ -68,30 +73,30 @@ unfolding reach
 closing-next old mid new n k l w c = record { rows = λ r s h. rw add-one (w .rows r s h ∙ rw (c .rows r s h, c .rows r k h, c .rows k s l) refl) }
 
 -- The rows of the calls
-pub record Filling (cells starts : List ℕ) (n : ℕ) (ps : Rules) (r : ℕ) (b : Bool) (new : List ℕ) : Type 0 where
-  pub looping : (prog : List Rule) → length prog ≡ n → Laid cells starts prog → b ≡ some-below r (λ r. loops (member ps) (bodyOf prog r))
-  pub rows : (prog : List Rule) → length prog ≡ n → Laid cells starts prog → (j s : ℕ) → j < r → s < 128 → member (rowOf new j) s ≡ arrow prog (member ps) j s
+pub record Filling (cells starts : List ℕ) (n : ℕ) (kn : Known) (r : ℕ) (b : Bool) (new : List ℕ) : Type 0 where
+  pub looping : (prog : List Rule) → length prog ≡ n → Laid cells starts prog → b ≡ some-below r (λ r. loops kn (bodyOf prog r))
+  pub rows : (prog : List Rule) → length prog ≡ n → Laid cells starts prog → (j s : ℕ) → j < r → s < 128 → member (rowOf new j) s ≡ arrow prog kn j s
 
-pub filling-start : (cells starts : List ℕ) (n : ℕ) (ps : Rules) (new : List ℕ) → Filling cells starts n ps 0 false new
+pub filling-start : (cells starts : List ℕ) (n : ℕ) (kn : Known) (new : List ℕ) → Filling cells starts n kn 0 false new
 unfolding some-below
-filling-start cells starts n ps new = record { looping = λ prog e l. refl; rows = λ prog e l j s h b. absurd (omega arith) }
+filling-start cells starts n kn new = record { looping = λ prog e l. refl; rows = λ prog e l j s h b. absurd (omega arith) }
 
-pub filling-next : (cells starts : List ℕ) (n : ℕ) (ps : Rules) (r : ℕ) (b : Bool) (mid new : List ℕ) (w : Ways) → r < n → RuleTold cells starts r ps w → Puts mid r (w .calls) new
-    → Filling cells starts n ps r b mid → Filling cells starts n ps (r + 1) (b || w .looping) new
+pub filling-next : {vs : List ℕ} (cells starts : List ℕ) (n : ℕ) (kn : Known) (r : ℕ) (b : Bool) (mid new : List ℕ) (w : Ways) → r < n → RuleTold cells starts r kn vs w → Puts mid r (w .calls) new
+    → Filling cells starts n kn r b mid → Filling cells starts n kn (r + 1) (b || w .looping) new
 unfolding some-below arrow
-filling-next cells starts n ps r b mid new w h t p f = record {
+filling-next cells starts n kn r b mid new w h t p f = record {
   looping = λ prog e l.
-      let x = t .told (bodyOf prog r) (l .tail r) (l .lies r (omega arith)) in
+      let x = t .told (bodyOf prog r) (l .tail r) (l .lies r (omega arith)) .1 in
       rw (add-one, ← x .at-loops, ← f .looping prog e l) (or-comm b (w .looping));
   rows = λ prog e l j s k u. elim (last r j (omega arith)) [
     | inl y ↦ rw (p .there j (λ e. omega arith)) (f .rows prog e l j s y u)
-    | inr y ↦ let x = t .told (bodyOf prog r) (l .tail r) (l .lies r (omega arith)) in rw (y, p .here) (x .at-calls s u)
+    | inr y ↦ let x = t .told (bodyOf prog r) (l .tail r) (l .lies r (omega arith)) .1 in rw (y, p .here) (x .at-calls s u)
   ];
 }
 
-pub filling-done : (cells starts : List ℕ) (n : ℕ) (ps : Rules) (r : ℕ) (b : Bool) (new : List ℕ) → r ≡ n → Filling cells starts n ps r b new → Arrows cells starts n ps b new
-filling-done cells starts n ps r b new e f =
-    let g : Filling cells starts n ps n b new = rw e at f in
+pub filling-done : (cells starts : List ℕ) (n : ℕ) (kn : Known) (r : ℕ) (b : Bool) (new : List ℕ) → r ≡ n → Filling cells starts n kn r b new → Arrows cells starts n kn b new
+filling-done cells starts n kn r b new e f =
+    let g : Filling cells starts n kn n b new = rw e at f in
     record { looping = g .looping; rows = g .rows }
 
 -- one step of a test of all
@@ -109,21 +114,52 @@ neither : (a b : Bool) → not (a || b) ≡ (not a && not b)
 neither true b = refl
 neither false b = refl
 
+-- what is known is so: no more and no less than the definition asks for
+some-true : (n : ℕ) (f : ℕ → Bool) → some-below n f ≡ true → (i : ℕ) × (i < n) × (f i ≡ true)
+some-true n f e = true-below n f e
+
+given-by : (prog : List Rule) (a b v : ℕ) → a ≡ b → Gives prog a v → Gives prog b v
+given-by prog a b v e g = rw e at g
+
+pub sound-known : (prog : List Rule) (ps : Rules) (facts : List ℕ) (m : ℕ) → True prog ps facts m → Sound prog (knownIn ps facts m)
+unfolding knownIn someIn
+sound-known prog ps facts m t = record {
+  of-passed = t .passes;
+  of-values = λ r p e.
+      let x = some-true m (λ i. eqb (getD facts (2 * i) 0) r && p (getD facts (2 * i + 1) 0)) e in
+      let y = and (eqb (getD facts (2 * (x .0)) 0) r) (p (getD facts (2 * (x .0) + 1) 0)) (x .2) in
+      let z : getD facts (2 * (x .0)) 0 ≡ r = eqb-true (getD facts (2 * (x .0)) 0) r (y .0) in
+      record { value = getD facts (2 * (x .0) + 1) 0; quietly = given-by prog (getD facts (2 * (x .0)) 0) r (getD facts (2 * (x .0) + 1) 0) z (t .returns (x .0) (x .1)); has = y .1 };
+}
+
+some-more : (n : ℕ) (f g : ℕ → Bool) → ((i : ℕ) → f i ≡ true → g i ≡ true) → some-below n f ≡ true → some-below n g ≡ true
+some-more n f g h e = let x = true-below n f e in below-true n g (x .0) (x .1) (h (x .0) (x .2))
+
+pub closed-known : (prog : List Rule) (ps : Rules) (facts : List ℕ) (m : ℕ) → ((r : ℕ) → r < length prog → ClosedAt prog (knownIn ps facts m) r) → Closed prog (knownIn ps facts m)
+unfolding knownIn someIn
+closed-known prog ps facts m c = record {
+  of-passed = λ r l e. c r l .passing e;
+  of-values = λ r v p l e h. some-more m (λ i. eqb (getD facts (2 * i) 0) r && eqb (getD facts (2 * i + 1) 0) v) (λ i. eqb (getD facts (2 * i) 0) r && p (getD facts (2 * i + 1) 0))
+      (λ i x.
+      let y = and (eqb (getD facts (2 * i) 0) r) (eqb (getD facts (2 * i + 1) 0) v) x in
+      let z : getD facts (2 * i + 1) 0 ≡ v = eqb-true (getD facts (2 * i + 1) 0) v (y .1) in
+      both (eqb (getD facts (2 * i) 0) r) (p (getD facts (2 * i + 1) 0)) (y .0) (rw z h)) (c r l .giving v e);
+}
+
 -- the answer
-pub answer : (cells starts : List ℕ) (n : ℕ) (ps : Rules) (b d : Bool) (old new : List ℕ) → n ≤ 128
-    → ((prog : List Rule) → length prog ≡ n → Laid cells starts prog → Exactly prog ps) → Arrows cells starts n ps b old → Closure old n new → d ≡ some-below n (λ r. member (rowOf new r) r)
-    → (prog : List Rule) → length prog ≡ n → Laid cells starts prog → not (b || d) ≡ finishing prog
+pub answer : (cells starts : List ℕ) (n : ℕ) (kn : Known) (b d : Bool) (old new : List ℕ) → n ≤ 128
+    → Arrows cells starts n kn b old → Closure old n new → d ≡ some-below n (λ r. member (rowOf new r) r)
+    → (prog : List Rule) → length prog ≡ n → Laid cells starts prog → Sound prog kn → Closed prog kn → not (b || d) ≡ finishing prog
 unfolding tells
-answer cells starts n ps b d old new h p a c e prog q l =
-    let x = p prog q l in
-    let f : (r s : ℕ) → r < n → s < n → member (rowOf old r) s ≡ arrow prog (member ps) r s = λ r s u v. a .rows prog q l r s u (omega arith) in
-    let g : some-below n (λ r. member (rowOf new r) r) ≡ some-below n (λ r. reach (arrow prog (member ps)) n r r) =
-    below-same n (λ r. member (rowOf new r) r) (λ r. reach (arrow prog (member ps)) n r r)
-    (λ r u. c .rows r r u ∙ reach-same (λ r s. member (rowOf old r) s) (arrow prog (member ps)) n n r r f (omega arith) u u) in
-    let t : not (b || d) ≡ tells prog (member ps) = neither b d ∙ (rw (a .looping prog q l, e, g, ← q) refl) in
+answer cells starts n kn b d old new h a c e prog q l so cl =
+    let f : (r s : ℕ) → r < n → s < n → member (rowOf old r) s ≡ arrow prog kn r s = λ r s u v. a .rows prog q l r s u (omega arith) in
+    let g : some-below n (λ r. member (rowOf new r) r) ≡ some-below n (λ r. reach (arrow prog kn) n r r) =
+    below-same n (λ r. member (rowOf new r) r) (λ r. reach (arrow prog kn) n r r)
+    (λ r u. c .rows r r u ∙ reach-same (λ r s. member (rowOf old r) s) (arrow prog kn) n n r r f (omega arith) u u) in
+    let t : not (b || d) ≡ tells prog kn = neither b d ∙ (rw (a .looping prog q l, e, g, ← q) refl) in
     exact prog (not (b || d))
-    (λ z. tells-sound prog (member ps) (x .sound) (x .closed) (sym t ∙ z))
-    (λ z. t ∙ tells-complete prog (member ps) (x .sound) (x .closed) z)
+    (λ z. tells-sound prog kn so cl (sym t ∙ z))
+    (λ z. t ∙ tells-complete prog kn so cl z)
 
 pub closing-done : (old new : List ℕ) (n k : ℕ) → k ≡ n → Closing old n k new → Closure old n new
 closing-done old new n k e c =

@@ -4,10 +4,13 @@ ghost use Prim.Native.Nat.{ℕ, _+_, _-_, _<_, _≤_};
 ghost use mathlib.Core.Bool.{Bool, true, false, _||_, _&&_};
 ghost use mathlib.Core.List.{List};
 ghost use lib.Dec.{eqb};
-ghost use lib.ListN.{length, getD, drop};
+ghost use lib.ListN.{length, getD, take, drop};
+ghost use Prim.Native.Nat.{_*_};
+ghost use mathlib.Core.Bool.{not};
+ghost use Rattle.base.specs.Common.{member as listed};
 ghost use Rattle.program.specs.Program.{Rule};
 ghost use Rattle.finishing.specs.Test.{some-below};
-ghost use Rattle.verdict.specs.Told.{member, Simple, Then, Either, Cycled, Calling, Placed, pastCell, returnCell, takes, LeafTold, ActTold, ActsTold, AltsTold, RuleTold, FreshTold, Laid, Exactly, rowOf, Puts, Widened, Closure, Arrows, Verdict};
+ghost use Rattle.verdict.specs.Told.{member, someIn, knownIn, Simple, Giving, Then, Either, Cycled, Calling, Placed, pastCell, takes, LeafTold, ActTold, ActsTold, AltsTold, ValuedTold, Collected, RuleTold, rowOf, sought, GatheredTold, NotedTold, NotesTold, Joined, TriedTold, LookedTold, SweepTold, LearntTold, alike, Puts, Widened, Closure, Arrows, Verdict};
 
 // A set of rules, a bit for each: rules 0 to 63 in lo, 64 to 127 in hi.
 pub struct Rules {
@@ -15,15 +18,22 @@ pub struct Rules {
     pub hi: u64,
 }
 
-// The ways of quiet paths through some actions: to their end, to an exit, to a return, to calls; whether a cycle in them
-// has a quiet path from its start to its end; and the cell behind them.
+// The ways of quiet paths through some actions: to their end, to an exit, to a return, to calls, to returns of the values asked for (a bit for
+// each); whether a cycle in them has a quiet path from its start to its end; and the cell behind them.
 pub struct Ways {
     pub end: bool,
     pub exit: bool,
     pub ret: bool,
     pub looping: bool,
     pub calls: Rules,
+    pub given: Rules,
     pub next: usize,
+}
+
+// What is known of the rules: those that are passed quietly, and how many facts, of a rule and a value that it can quietly return.
+pub struct Learnt {
+    pub passed: Rules,
+    pub count: usize,
 }
 
 fn has(s: Rules, r: usize) -> bool
@@ -72,13 +82,20 @@ fn wide(x: u16) -> usize
 }
 
 // The cell at a place, 0 past the end.
-fn cell(cells: &[u16], at: usize) -> usize
+fn half(cells: &[u16], at: usize) -> u16
     ensures { λ r. ⌜ r ≡ getD (now (cells .entry)) at 0 ⌝ }
 {
     if at < cells.len() {
-        return wide(cells[at]);
+        return cells[at];
     }
     0
+}
+
+// The same as a number that places are counted in.
+fn cell(cells: &[u16], at: usize) -> usize
+    ensures { λ r. ⌜ r ≡ getD (now (cells .entry)) at 0 ⌝ }
+{
+    wide(half(cells, at))
 }
 
 // The place n cells on, the end at most.
@@ -94,7 +111,7 @@ fn ahead(cells: &[u16], at: usize, n: usize) -> usize
     cells.len()
 }
 
-// Ways with no calls and no cycle.
+// Ways with no calls, no value and no cycle.
 fn simple(end: bool, exit: bool, ret: bool, next: usize) -> Ways
     ensures { λ w. ⌜ Simple end exit ret next w ⌝ }
 {
@@ -104,6 +121,22 @@ fn simple(end: bool, exit: bool, ret: bool, next: usize) -> Ways
         ret,
         looping: false,
         calls: Rules { lo: 0, hi: 0 },
+        given: Rules { lo: 0, hi: 0 },
+        next,
+    }
+}
+
+// The ways of a `>>` with a value: of the values asked for those that it is.
+fn giving(given: Rules, next: usize) -> Ways
+    ensures { λ w. ⌜ Giving given next w ⌝ }
+{
+    Ways {
+        end: false,
+        exit: false,
+        ret: true,
+        looping: false,
+        calls: Rules { lo: 0, hi: 0 },
+        given,
         next,
     }
 }
@@ -114,6 +147,8 @@ fn then(w: Ways, a: Ways) -> Ways
 {
     let wc = w.calls;
     let ac = a.calls;
+    let wg = w.given;
+    let ag = a.given;
     if w.end {
         return Ways {
             end: a.end,
@@ -121,6 +156,7 @@ fn then(w: Ways, a: Ways) -> Ways
             ret: w.ret | a.ret,
             looping: w.looping | a.looping,
             calls: union(wc, ac),
+            given: union(wg, ag),
             next: a.next,
         };
     }
@@ -130,6 +166,7 @@ fn then(w: Ways, a: Ways) -> Ways
         ret: w.ret,
         looping: w.looping | a.looping,
         calls: wc,
+        given: wg,
         next: a.next,
     }
 }
@@ -140,6 +177,8 @@ fn either(w: Ways, a: Ways, on: bool) -> Ways
 {
     let wc = w.calls;
     let ac = a.calls;
+    let wg = w.given;
+    let ag = a.given;
     if on {
         return Ways {
             end: w.end | a.end,
@@ -147,6 +186,7 @@ fn either(w: Ways, a: Ways, on: bool) -> Ways
             ret: w.ret | a.ret,
             looping: w.looping | a.looping,
             calls: union(wc, ac),
+            given: union(wg, ag),
             next: a.next,
         };
     }
@@ -156,6 +196,7 @@ fn either(w: Ways, a: Ways, on: bool) -> Ways
         ret: w.ret,
         looping: w.looping | a.looping,
         calls: wc,
+        given: wg,
         next: a.next,
     }
 }
@@ -165,12 +206,14 @@ fn cycled(b: Ways) -> Ways
     ensures { λ r. ⌜ Cycled b r ⌝ }
 {
     let c = b.calls;
+    let g = b.given;
     Ways {
         end: b.exit,
         exit: false,
         ret: b.ret,
         looping: b.end | b.looping,
         calls: c,
+        given: g,
         next: b.next,
     }
 }
@@ -180,12 +223,14 @@ fn calling(b: Ways, r: usize) -> Ways
     ensures { λ w. ⌜ Calling b r w ⌝ }
 {
     let c = b.calls;
+    let g = b.given;
     Ways {
         end: b.end,
         exit: b.exit,
         ret: b.ret,
         looping: b.looping,
         calls: with(c, r),
+        given: g,
         next: b.next,
     }
 }
@@ -195,12 +240,14 @@ fn placed(b: Ways, next: usize) -> Ways
     ensures { λ w. ⌜ Placed b next w ⌝ }
 {
     let c = b.calls;
+    let g = b.given;
     Ways {
         end: b.end,
         exit: b.exit,
         ret: b.ret,
         looping: b.looping,
         calls: c,
+        given: g,
         next,
     }
 }
@@ -228,126 +275,439 @@ fn past(tag: usize) -> bool
     (tag == 5) | (tag == 6) | (256 <= tag)
 }
 
-// Such an action is a return.
-fn gives(tag: usize) -> bool
-    ensures { λ b. ⌜ b ≡ returnCell tag ⌝ }
+// The set, with r where it is to be.
+fn marked(s: Rules, r: usize, on: bool) -> Rules
+    ensures { λ t. ⌜ ((k : ℕ) → k < 128 → member t k ≡ ((on && eqb r k) || member s k)) ⌝ }
 {
-    (tag == 9) | (tag == 10)
+    if on {
+        return with(s, r);
+    }
+    s
+}
+
+// Of the values asked for those that are v, a bit for each.
+fn matches(wanted: &[u16], v: usize) -> Rules
+    ensures { λ s. ⌜ ((j : ℕ) → j < length (now (wanted .entry)) → j < 128 → member s j ≡ eqb v (getD (now (wanted .entry)) j 0)) ⌝ }
+{
+    let mut s = Rules { lo: 0, hi: 0 };
+    let mut j = 0;
+    while j < wanted.len() {
+        s = marked(s, j, v == cell(wanted, j));
+        j += 1;
+    }
+    s
 }
 
 // The ways of an action that holds no other.
-fn leaf(cells: &[u16], at: usize, ps: Rules) -> Ways
+fn leaf(cells: &[u16], at: usize, ps: Rules, wanted: &[u16]) -> Ways
     requires { ⌜ at < length (now cells) ⌝ }
-    ensures { λ w. ⌜ LeafTold (now (cells .entry)) at ps w ⌝ }
+    ensures { λ w. ⌜ LeafTold (now (cells .entry)) at ps (now (wanted .entry)) w ⌝ }
 {
     let tag = cell(cells, at);
     if tag == 8 {
         let r = cell(cells, at + 1);
         return calling(simple(has(ps, r), false, false, ahead(cells, at, 2)), r);
     }
-    simple(
-        past(tag),
-        tag == 1,
-        gives(tag),
-        ahead(cells, at, taken(tag)),
-    )
+    if tag == 10 {
+        return giving(matches(wanted, cell(cells, at + 1)), ahead(cells, at, 2));
+    }
+    simple(past(tag), tag == 1, tag == 9, ahead(cells, at, taken(tag)))
+}
+
+// Some cell from one place to another is v.
+fn holds(cells: &[u16], from: usize, to: usize, v: u16) -> bool
+    requires { ⌜ (from ≤ to) × (to ≤ length (now cells)) ⌝ }
+    ensures { λ b. ⌜ b ≡ listed v (take (to - from) (drop from (now (cells .entry)))) ⌝ }
+{
+    let mut i = from;
+    while i < to {
+        if cells[i] == v {
+            return true;
+        }
+        i += 1;
+    }
+    false
+}
+
+// Rule r is known to return v.
+fn told(facts: &[u16], m: usize, r: u16, v: u16) -> bool
+    requires { ⌜ 2 * m ≤ length (now facts) ⌝ }
+    ensures { λ b. ⌜ b ≡ someIn (now (facts .entry)) m r (λ u. eqb u v) ⌝ }
+{
+    let mut some = false;
+    let mut i = 0;
+    while i < m {
+        some = some | ((facts[2 * i] == r) & (facts[2 * i + 1] == v));
+        i += 1;
+    }
+    some
+}
+
+// Some value that rule r is known to return stands from one place to another.
+fn opened(cells: &[u16], from: usize, to: usize, facts: &[u16], m: usize, r: u16) -> bool
+    requires { ⌜ (from ≤ to) × (to ≤ length (now cells)) × (2 * m ≤ length (now facts)) ⌝ }
+    ensures { λ b. ⌜ b ≡ someIn (now (facts .entry)) m r (λ v. listed v (take (to - from) (drop from (now (cells .entry))))) ⌝ }
+{
+    let mut i = from;
+    while i < to {
+        if told(facts, m, r, cells[i]) {
+            return true;
+        }
+        i += 1;
+    }
+    false
+}
+
+// Fact i is that rule r returns a value that is none of the first n labels.
+fn lacks(labels: &[u16], n: usize, facts: &[u16], i: usize, r: u16) -> bool
+    requires { ⌜ (n ≤ length (now labels)) × (2 * i + 1 < length (now facts)) ⌝ }
+    ensures { λ b. ⌜ b ≡ (eqb (getD (now (facts .entry)) (2 * i) 0) r && not (listed (getD (now (facts .entry)) (2 * i + 1) 0) (take n (now (labels .entry))))) ⌝ }
+{
+    if facts[2 * i] == r {
+        return !holds(labels, 0, n, facts[2 * i + 1]);
+    }
+    false
+}
+
+// Some value that rule r is known to return is none of the first n labels.
+fn unnamed(labels: &[u16], n: usize, facts: &[u16], m: usize, r: u16) -> bool
+    requires { ⌜ (n ≤ length (now labels)) × (2 * m ≤ length (now facts)) ⌝ }
+    ensures { λ b. ⌜ b ≡ someIn (now (facts .entry)) m r (λ v. not (listed v (take n (now (labels .entry))))) ⌝ }
+{
+    let mut i = 0;
+    while i < m {
+        if lacks(labels, n, facts, i, r) {
+            return true;
+        }
+        i += 1;
+    }
+    false
+}
+
+// The labels with those from one place to another behind the first n, as many as there is room for; how many there are then.
+fn collected(cells: &[u16], from: usize, to: usize, labels: &mut [u16], n: usize) -> usize
+    requires { ⌜ (from ≤ to) × (to ≤ length (now cells)) × (n ≤ length (now labels)) ⌝ }
+    ensures within { λ k. ⌜ k ≤ length (now (labels .exit)) ⌝ }
+    ensures all { λ k. ⌜ Collected (now (cells .entry)) from to (now (labels .entry)) n (now (labels .exit)) k ⌝ }
+{
+    let mut i = from;
+    let mut k = n;
+    while i < to {
+        if labels.len() <= k {
+            return k;
+        }
+        labels[k] = cells[i];
+        k += 1;
+        i += 1;
+    }
+    k
 }
 
 // The ways of one action.
-fn act(cells: &[u16], at: usize, ps: Rules) -> Ways
-    requires { ⌜ at < length (now cells) ⌝ }
-    ensures { λ w. ⌜ ActTold (now (cells .entry)) at ps w ⌝ }
+fn act(cells: &[u16], at: usize, known: Learnt, facts: &[u16], wanted: &[u16]) -> Ways
+    requires { ⌜ (at < length (now cells)) × (2 * known .count ≤ length (now facts)) ⌝ }
+    ensures { λ w. ⌜ ActTold (now (cells .entry)) at (knownIn (known .passed) (now (facts .entry)) (known .count)) (now (wanted .entry)) w ⌝ }
 {
     let tag = cell(cells, at);
     if tag == 2 {
-        return cycled(acts(cells, at + 1, ps));
+        return cycled(acts(cells, at + 1, known, facts, wanted));
     }
     if tag == 7 {
-        return alts(cells, at + 1, ps, false, true);
+        return alts(cells, at + 1, known, facts, wanted, false, true);
     }
     if tag == 11 {
-        let r = cell(cells, at + 1);
-        let p = has(ps, r);
-        return calling(alts(cells, ahead(cells, at, 2), ps, p, p), r);
+        let r = half(cells, at + 1);
+        return calling(
+            valued(cells, ahead(cells, at, 2), known, facts, wanted, r),
+            wide(r),
+        );
     }
     if tag < 768 {
-        return leaf(cells, at, ps);
+        return leaf(cells, at, known.passed, wanted);
     }
     if tag < 1024 {
-        return alts(cells, at + 1, ps, true, true);
+        return alts(cells, at + 1, known, facts, wanted, true, true);
     }
-    alts(cells, ahead(cells, at, 2), ps, true, true)
+    alts(cells, ahead(cells, at, 2), known, facts, wanted, true, true)
 }
 
 // The ways of actions in a row.
-fn acts(cells: &[u16], at: usize, ps: Rules) -> Ways
-    requires { ⌜ at ≤ length (now cells) ⌝ }
-    ensures { λ w. ⌜ ActsTold (now (cells .entry)) at ps w ⌝ }
+fn acts(cells: &[u16], at: usize, known: Learnt, facts: &[u16], wanted: &[u16]) -> Ways
+    requires { ⌜ (at ≤ length (now cells)) × (2 * known .count ≤ length (now facts)) ⌝ }
+    ensures { λ w. ⌜ ActsTold (now (cells .entry)) at (knownIn (known .passed) (now (facts .entry)) (known .count)) (now (wanted .entry)) w ⌝ }
 {
     let mut w = simple(true, false, false, at);
     let mut i = at;
     while cell(cells, i) != 0 {
-        w = then(w, act(cells, i, ps));
+        w = then(w, act(cells, i, known, facts, wanted));
         i = w.next;
     }
     placed(w, ahead(cells, i, 1))
 }
 
-// The ways of alternatives, labelled ones counting where x, otherwise where y.
-fn alts(cells: &[u16], at: usize, ps: Rules, x: bool, y: bool) -> Ways
-    requires { ⌜ at ≤ length (now cells) ⌝ }
-    ensures { λ w. ⌜ AltsTold (now (cells .entry)) at ps x y w ⌝ }
+// The ways of alternatives by a token or an operation, labelled ones counting where x, otherwise where y.
+fn alts(
+    cells: &[u16],
+    at: usize,
+    known: Learnt,
+    facts: &[u16],
+    wanted: &[u16],
+    x: bool,
+    y: bool,
+) -> Ways
+    requires { ⌜ (at ≤ length (now cells)) × (2 * known .count ≤ length (now facts)) ⌝ }
+    ensures { λ w. ⌜ AltsTold (now (cells .entry)) at (knownIn (known .passed) (now (facts .entry)) (known .count)) (now (wanted .entry)) x y w ⌝ }
 {
     let mut w = simple(false, false, false, at);
     let mut i = at;
     let mut tag = cell(cells, at);
     while 64 <= tag {
-        let b = acts(cells, ahead(cells, i, tag - 63), ps);
+        let b = acts(cells, ahead(cells, i, tag - 63), known, facts, wanted);
         w = either(w, b, x);
         i = b.next;
         tag = cell(cells, i);
     }
     if tag == 13 {
-        return either(w, acts(cells, ahead(cells, i, 1), ps), y);
+        return either(w, acts(cells, ahead(cells, i, 1), known, facts, wanted), y);
+    }
+    placed(w, ahead(cells, i, 1))
+}
+
+// The ways of alternatives by the value of rule r: one counts that has a label among the values known of r, otherwise if one of them is no label.
+fn valued(cells: &[u16], at: usize, known: Learnt, facts: &[u16], wanted: &[u16], r: u16) -> Ways
+    requires { ⌜ (at ≤ length (now cells)) × (2 * known .count ≤ length (now facts)) ⌝ }
+    ensures { λ w. ⌜ ValuedTold (now (cells .entry)) at (knownIn (known .passed) (now (facts .entry)) (known .count)) (now (wanted .entry)) r w ⌝ }
+{
+    let mut labels = [0u16; 64];
+    let mut n = 0;
+    let mut w = simple(false, false, false, at);
+    let mut i = at;
+    let mut tag = cell(cells, at);
+    while 64 <= tag {
+        let from = ahead(cells, i, 1);
+        let to = ahead(cells, from, tag - 64);
+        n = collected(cells, from, to, &mut labels, n);
+        let b = acts(cells, to, known, facts, wanted);
+        w = either(w, b, opened(cells, from, to, facts, known.count, r));
+        i = b.next;
+        tag = cell(cells, i);
+    }
+    if tag == 13 {
+        let y = unnamed(&labels, n, facts, known.count, r);
+        return either(w, acts(cells, ahead(cells, i, 1), known, facts, wanted), y);
     }
     placed(w, ahead(cells, i, 1))
 }
 
 // The ways of a rule's actions.
-fn rule(cells: &[u16], starts: &[u16], r: usize, ps: Rules) -> Ways
-    ensures { λ w. ⌜ RuleTold (now (cells .entry)) (now (starts .entry)) r ps w ⌝ }
+fn rule(
+    cells: &[u16],
+    starts: &[u16],
+    r: usize,
+    known: Learnt,
+    facts: &[u16],
+    wanted: &[u16],
+) -> Ways
+    requires { ⌜ 2 * known .count ≤ length (now facts) ⌝ }
+    ensures { λ w. ⌜ RuleTold (now (cells .entry)) (now (starts .entry)) r (knownIn (known .passed) (now (facts .entry)) (known .count)) (now (wanted .entry)) w ⌝ }
 {
     let at = cell(starts, r);
-    acts(cells, ahead(cells, 0, at), ps)
+    acts(cells, ahead(cells, 0, at), known, facts, wanted)
 }
 
-// A rule that is passed quietly if those of ps are, and is not among them.
-fn fresh(cells: &[u16], starts: &[u16], r: usize, ps: Rules) -> bool
-    ensures { λ b. ⌜ FreshTold (now (cells .entry)) (now (starts .entry)) r ps b ⌝ }
+// Values to ask for: how many, and the cell behind the last one looked at.
+pub struct Query {
+    pub count: usize,
+    pub next: usize,
+}
+
+// A cell 10 (a `>>`, or any number that is 10) has behind it a value that rule r is not known to return.
+fn seeks(cells: &[u16], i: usize, facts: &[u16], m: usize, r: u16) -> bool
+    requires { ⌜ (i < length (now cells)) × (2 * m ≤ length (now facts)) ⌝ }
+    ensures { λ b. ⌜ b ≡ sought (now (cells .entry)) i (now (facts .entry)) m r ⌝ }
 {
-    if has(ps, r) {
-        return false;
+    if cell(cells, i) == 10 {
+        return !told(facts, m, r, half(cells, i + 1));
     }
-    let w = rule(cells, starts, r, ps);
-    w.end | w.ret
+    false
 }
 
-// The rules that are passed quietly.
-fn passed(cells: &[u16], starts: &[u16], n: usize) -> Rules
-    requires { ⌜ n ≤ 128 ⌝ }
-    ensures { λ ps. ⌜ ((prog : List Rule) → length prog ≡ n → Laid (now (cells .entry)) (now (starts .entry)) prog → Exactly prog ps) ⌝ }
+// The values behind the cells 10 from one place to another that rule r is not known to return, as many as can be asked for at once.
+fn gathered(
+    cells: &[u16],
+    from: usize,
+    to: usize,
+    facts: &[u16],
+    m: usize,
+    r: u16,
+    wanted: &mut [u16],
+) -> Query
+    requires { ⌜ (from ≤ to) × (to ≤ length (now cells)) × (2 * m ≤ length (now facts)) × (0 < length (now wanted)) ⌝ }
+    ensures { λ g. ⌜ GatheredTold (now (cells .entry)) from to (now (facts .entry)) m r (now (wanted .exit)) g ⌝ }
 {
-    let mut ps = Rules { lo: 0, hi: 0 };
-    let mut r = 0;
-    while r < n {
-        if fresh(cells, starts, r, ps) {
-            ps = with(ps, r);
-            r = 0;
-            continue;
+    let mut n = 0;
+    let mut i = from;
+    while i < to {
+        if seeks(cells, i, facts, m, r) {
+            if wanted.len() <= n {
+                return Query { count: n, next: i };
+            }
+            wanted[n] = half(cells, i + 1);
+            n += 1;
         }
-        r += 1;
+        i += 1;
+    }
+    Query { count: n, next: i }
+}
+
+// The facts with one more, that rule r returns v, if it is not among them and there is room; how many there are then.
+fn noted(facts: &mut [u16], m: usize, r: u16, v: u16) -> usize
+    requires { ⌜ 2 * m ≤ length (now facts) ⌝ }
+    ensures { λ k. ⌜ NotedTold (now (facts .entry)) m r v (now (facts .exit)) k ⌝ }
+{
+    if told(facts, m, r, v) {
+        return m;
+    }
+    if facts.len() - 2 * m < 2 {
+        return m;
+    }
+    facts[2 * m] = r;
+    facts[2 * m + 1] = v;
+    m + 1
+}
+
+// The facts with those of the first n values that rule r was seen to return; how many there are then.
+fn grown(facts: &mut [u16], m: usize, r: u16, wanted: &[u16], n: usize, given: Rules) -> usize
+    requires { ⌜ (2 * m ≤ length (now facts)) × (n ≤ length (now wanted)) ⌝ }
+    ensures { λ k. ⌜ NotesTold (now (facts .entry)) m r (now (wanted .entry)) n given (now (facts .exit)) k ⌝ }
+{
+    let mut k = m;
+    let mut j = 0;
+    while j < n {
+        if has(given, j) {
+            k = noted(facts, k, r, wanted[j]);
+        }
+        j += 1;
+    }
+    k
+}
+
+// What looks at a rule brought: what is known then, the cell up to which its values were tried, and the rule's end.
+pub struct Look {
+    pub known: Learnt,
+    pub at: usize,
+    pub end: usize,
+}
+
+// The rules passed, with r if it is on.
+fn joined(ps: Rules, r: usize, on: bool) -> Rules
+    ensures { λ qs. ⌜ Joined ps r on qs ⌝ }
+{
+    if on {
+        if !has(ps, r) {
+            return with(ps, r);
+        }
     }
     ps
+}
+
+// One look at rule r: it may be passed, and may return values that stand from one place to another, as many as can be asked for at once.
+fn tried(
+    cells: &[u16],
+    starts: &[u16],
+    r: u16,
+    k: Learnt,
+    facts: &mut [u16],
+    from: usize,
+    to: usize,
+) -> Look
+    requires { ⌜ (from ≤ to) × (to ≤ length (now cells)) × (2 * k .count ≤ length (now facts)) × (r < 128) ⌝ }
+    ensures { λ t. ⌜ TriedTold (now (cells .entry)) (now (starts .entry)) r k (now (facts .entry)) from to t (now (facts .exit)) ⌝ }
+{
+    let mut wanted = [0u16; 128];
+    let g = gathered(cells, from, to, facts, k.count, r, &mut wanted);
+    let w = rule(cells, starts, wide(r), k, facts, &wanted);
+    let ps = k.passed;
+    let given = w.given;
+    let count = grown(facts, k.count, r, &wanted, g.count, given);
+    Look {
+        known: Learnt {
+            passed: joined(ps, wide(r), w.end | w.ret),
+            count,
+        },
+        at: g.next,
+        end: w.next,
+    }
+}
+
+// Where rule r's cells are thought to end: where the next rule's begin. Nothing depends on it but the number of looks.
+fn bound(cells: &[u16], starts: &[u16], r: usize, at: usize) -> usize
+    requires { ⌜ (at ≤ length (now cells)) × (r < 128) ⌝ }
+    ensures { λ n. ⌜ (at ≤ n) × (n ≤ length (now (cells .entry))) ⌝ }
+{
+    let n = cell(starts, r + 1);
+    if n < at {
+        return at;
+    }
+    if cells.len() < n {
+        return at;
+    }
+    n
+}
+
+// One rule looked at until all its values have been tried.
+fn looked(cells: &[u16], starts: &[u16], r: u16, k: Learnt, facts: &mut [u16]) -> Learnt
+    requires { ⌜ (2 * k .count ≤ length (now facts)) × (r < 128) ⌝ }
+    ensures { λ j. ⌜ LookedTold (now (cells .entry)) (now (starts .entry)) r k (now (facts .entry)) j (now (facts .exit)) ⌝ }
+{
+    let at = ahead(cells, 0, cell(starts, wide(r)));
+    let to = bound(cells, starts, wide(r), at);
+    let mut t = tried(cells, starts, r, k, facts, at, to);
+    while t.at < t.end {
+        t = tried(cells, starts, r, t.known, facts, t.at, t.end);
+    }
+    t.known
+}
+
+// Every rule looked at.
+fn sweep(cells: &[u16], starts: &[u16], n: usize, k: Learnt, facts: &mut [u16]) -> Learnt
+    requires { ⌜ (2 * k .count ≤ length (now facts)) × (n ≤ 128) ⌝ }
+    ensures { λ j. ⌜ SweepTold (now (cells .entry)) (now (starts .entry)) n n k (now (facts .entry)) j (now (facts .exit)) ⌝ }
+{
+    let mut j = k;
+    let mut r = 0;
+    while r < n {
+        j = looked(cells, starts, r as u16, j, facts);
+        r += 1;
+    }
+    j
+}
+
+// The same is known.
+fn unchanged(j: Learnt, k: Learnt) -> bool
+    ensures { λ b. ⌜ b ≡ alike j k ⌝ }
+{
+    let js = j.passed;
+    let ks = k.passed;
+    (js.lo == ks.lo) & (js.hi == ks.hi) & (j.count == k.count)
+}
+
+// All that is known: sweeps until one brings nothing.
+fn settled(cells: &[u16], starts: &[u16], n: usize, facts: &mut [u16]) -> Learnt
+    requires { ⌜ n ≤ 128 ⌝ }
+    ensures { λ k. ⌜ LearntTold (now (cells .entry)) (now (starts .entry)) n k (now (facts .exit)) ⌝ }
+{
+    let mut k = Learnt {
+        passed: Rules { lo: 0, hi: 0 },
+        count: 0,
+    };
+    let mut more = true;
+    while more {
+        let j = sweep(cells, starts, n, k, facts);
+        more = !unchanged(j, k);
+        k = j;
+    }
+    k
 }
 
 // Row r of the table of calls.
@@ -407,14 +767,21 @@ fn closed(rows: &mut [u64], n: usize)
 }
 
 // The rows of the rules' calls, and whether a cycle has a quiet path from its start to its end.
-fn arrows(cells: &[u16], starts: &[u16], n: usize, ps: Rules, rows: &mut [u64]) -> bool
-    requires { ⌜ (n ≤ 128) × (256 ≤ length (now rows)) ⌝ }
-    ensures { λ b. ⌜ Arrows (now (cells .entry)) (now (starts .entry)) n ps b (now (rows .exit)) ⌝ }
+fn arrows(
+    cells: &[u16],
+    starts: &[u16],
+    n: usize,
+    k: Learnt,
+    facts: &[u16],
+    rows: &mut [u64],
+) -> bool
+    requires { ⌜ (n ≤ 128) × (256 ≤ length (now rows)) × (2 * k .count ≤ length (now facts)) ⌝ }
+    ensures { λ b. ⌜ Arrows (now (cells .entry)) (now (starts .entry)) n (knownIn (k .passed) (now (facts .entry)) (k .count)) b (now (rows .exit)) ⌝ }
 {
     let mut looping = false;
     let mut r = 0;
     while r < n {
-        let w = rule(cells, starts, r, ps);
+        let w = rule(cells, starts, r, k, facts, &facts[..0]);
         let c = w.calls;
         put(rows, r, c);
         looping = looping | w.looping;
@@ -442,9 +809,10 @@ fn decided(cells: &[u16], starts: &[u16], n: usize) -> bool
     requires { ⌜ n ≤ 128 ⌝ }
     ensures { λ b. ⌜ Verdict (now (cells .entry)) (now (starts .entry)) n b ⌝ }
 {
-    let ps = passed(cells, starts, n);
+    let mut facts = [0u16; 4224];
+    let k = settled(cells, starts, n, &mut facts);
     let mut rows = [0u64; 256];
-    let looping = arrows(cells, starts, n, ps, &mut rows);
+    let looping = arrows(cells, starts, n, k, &facts, &mut rows);
     closed(&mut rows, n);
     let again = itself(&rows, n);
     !(looping | again)

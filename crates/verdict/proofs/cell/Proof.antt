@@ -1,24 +1,16 @@
--- `verdict::cell` meets its contract: the cell itself, or the default past the end.
-use borrow.Author.Needs.{needs}
-use mathlib.Core.Path.{sym}
-use lib.ListN.{List·getD-eq-default}
+-- `verdict::cell` meets its contract.
+use mathlib.Core.Path.{_∙_}
 use Rattle.verdict.proofs.cell.Statement.{statement}
 use Rattle.verdict.proofs.cell.Tie as tie
 
-mul-wide : tie.Need-mul-wide
-mul-wide c = search needs
-
-shared-slice-read-wide : tie.Need-shared-slice-read-wide
-shared-slice-read-wide c = search needs
+half-requires : tie.Need-half-requires
+half-requires c κs = tt
 
 wide-requires : tie.Need-wide-requires
 wide-requires c κs = tt
 
 returns : tie.Need-returns
-returns c = search needs
-
-returns-2 : tie.Need-returns-2
-returns-2 c = sym (List·getD-eq-default (c .before .before .args .cells .now) 0 (c .if1 .left))
+returns c = c .wide .ensures ∙ c .before .half .ensures
 
 pub cell-spec : {M : Type 1} → statement M
-cell-spec = tie.close (tie.spec mul-wide shared-slice-read-wide wide-requires returns returns-2)
+cell-spec = tie.close (tie.spec half-requires wide-requires returns)
