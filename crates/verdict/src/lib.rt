@@ -12,6 +12,75 @@ ghost use Rattle.program.specs.Program.{Rule};
 ghost use Rattle.finishing.specs.Test.{some-below};
 ghost use Rattle.verdict.specs.Told.{member, someIn, knownIn, Simple, Giving, Then, Either, Cycled, Calling, Placed, pastCell, takes, LeafTold, ActTold, ActsTold, AltsTold, ValuedTold, Collected, RuleTold, rowOf, sought, GatheredTold, NotedTold, NotesTold, Joined, TriedTold, LookedTold, SweepTold, LearntTold, alike, Puts, Widened, Closure, Arrows, Verdict};
 
+// First cells, as crate `cells` has them: the end of a list of actions.
+const END: usize = 0;
+
+// An exit.
+const EXIT: usize = 1;
+
+// A cycle.
+const CYCLE: usize = 2;
+
+// `?`, any token.
+const ANY: usize = 4;
+
+// An output.
+const EMIT: usize = 5;
+
+// An error.
+const ERROR: usize = 6;
+
+// A choice by the present token.
+const BY_TOKEN: usize = 7;
+
+// A call.
+const CALL: usize = 8;
+
+// A return without a value.
+const BACK: usize = 9;
+
+// A `>>` with a value.
+const GIVE: usize = 10;
+
+// A choice by a rule's value.
+const BY_RULE: usize = 11;
+
+// Otherwise.
+const OTHERWISE: usize = 13;
+
+// An alternative; the number of its labels is added.
+const ALTERNATIVE: usize = 64;
+
+// Taken off such a cell it leaves the cells before the alternative's actions: itself and its labels.
+const PREFIX: usize = 63;
+
+// Operations by their numbers: the first update.
+const UPDATE: usize = 256;
+
+// The first update with a constant.
+const UPDATE_WITH: usize = 512;
+
+// The first choice operation.
+const ASK: usize = 768;
+
+// The first choice operation with a constant.
+const ASK_WITH: usize = 1024;
+
+// "128 rules".
+const MOST_RULES: usize = 128;
+
+// "64 labels a choice".
+const MOST_LABELS: usize = 64;
+
+// Values asked for at once, a bit each of two words.
+const MOST_WANTED: usize = 128;
+
+// The row of facts, two numbers each: no longer than a program's cells.
+const FACT_CELLS: usize = 4224;
+
+// The table of calls, two words for each rule.
+const CALL_WORDS: usize = 256;
+
 // A set of rules, a bit for each: rules 0 to 63 in lo, 64 to 127 in hi.
 pub struct Rules {
     pub lo: u64,
@@ -256,13 +325,13 @@ fn placed(b: Ways, next: usize) -> Ways
 fn taken(tag: usize) -> usize
     ensures { λ r. ⌜ r ≡ takes tag ⌝ }
 {
-    if (tag == 1) | (tag == 4) | (tag == 9) {
+    if (tag == EXIT) | (tag == ANY) | (tag == BACK) {
         return 1;
     }
-    if tag < 256 {
+    if tag < UPDATE {
         return 2;
     }
-    if tag < 512 {
+    if tag < UPDATE_WITH {
         return 1;
     }
     2
@@ -272,7 +341,7 @@ fn taken(tag: usize) -> usize
 fn past(tag: usize) -> bool
     ensures { λ b. ⌜ b ≡ pastCell tag ⌝ }
 {
-    (tag == 5) | (tag == 6) | (256 <= tag)
+    (tag == EMIT) | (tag == ERROR) | (UPDATE <= tag)
 }
 
 // The set, with r where it is to be.
@@ -304,14 +373,19 @@ fn leaf(cells: &[u16], at: usize, ps: Rules, wanted: &[u16]) -> Ways
     ensures { λ w. ⌜ LeafTold (now (cells .entry)) at ps (now (wanted .entry)) w ⌝ }
 {
     let tag = cell(cells, at);
-    if tag == 8 {
+    if tag == CALL {
         let r = cell(cells, at + 1);
         return calling(simple(has(ps, r), false, false, ahead(cells, at, 2)), r);
     }
-    if tag == 10 {
+    if tag == GIVE {
         return giving(matches(wanted, cell(cells, at + 1)), ahead(cells, at, 2));
     }
-    simple(past(tag), tag == 1, tag == 9, ahead(cells, at, taken(tag)))
+    simple(
+        past(tag),
+        tag == EXIT,
+        tag == BACK,
+        ahead(cells, at, taken(tag)),
+    )
 }
 
 // Some cell from one place to another is v.
@@ -409,23 +483,23 @@ fn act(cells: &[u16], at: usize, known: Learnt, facts: &[u16], wanted: &[u16]) -
     ensures { λ w. ⌜ ActTold (now (cells .entry)) at (knownIn (known .passed) (now (facts .entry)) (known .count)) (now (wanted .entry)) w ⌝ }
 {
     let tag = cell(cells, at);
-    if tag == 2 {
+    if tag == CYCLE {
         return cycled(acts(cells, at + 1, known, facts, wanted));
     }
-    if tag == 7 {
+    if tag == BY_TOKEN {
         return alts(cells, at + 1, known, facts, wanted, false, true);
     }
-    if tag == 11 {
+    if tag == BY_RULE {
         let r = half(cells, at + 1);
         return calling(
             valued(cells, ahead(cells, at, 2), known, facts, wanted, r),
             wide(r),
         );
     }
-    if tag < 768 {
+    if tag < ASK {
         return leaf(cells, at, known.passed, wanted);
     }
-    if tag < 1024 {
+    if tag < ASK_WITH {
         return alts(cells, at + 1, known, facts, wanted, true, true);
     }
     alts(cells, ahead(cells, at, 2), known, facts, wanted, true, true)
@@ -438,7 +512,7 @@ fn acts(cells: &[u16], at: usize, known: Learnt, facts: &[u16], wanted: &[u16]) 
 {
     let mut w = simple(true, false, false, at);
     let mut i = at;
-    while cell(cells, i) != 0 {
+    while cell(cells, i) != END {
         w = then(w, act(cells, i, known, facts, wanted));
         i = w.next;
     }
@@ -461,13 +535,13 @@ fn alts(
     let mut w = simple(false, false, false, at);
     let mut i = at;
     let mut tag = cell(cells, at);
-    while 64 <= tag {
-        let b = acts(cells, ahead(cells, i, tag - 63), known, facts, wanted);
+    while ALTERNATIVE <= tag {
+        let b = acts(cells, ahead(cells, i, tag - PREFIX), known, facts, wanted);
         w = either(w, b, x);
         i = b.next;
         tag = cell(cells, i);
     }
-    if tag == 13 {
+    if tag == OTHERWISE {
         return either(w, acts(cells, ahead(cells, i, 1), known, facts, wanted), y);
     }
     placed(w, ahead(cells, i, 1))
@@ -478,21 +552,21 @@ fn valued(cells: &[u16], at: usize, known: Learnt, facts: &[u16], wanted: &[u16]
     requires { ⌜ (at ≤ length (now cells)) × (2 * known .count ≤ length (now facts)) ⌝ }
     ensures { λ w. ⌜ ValuedTold (now (cells .entry)) at (knownIn (known .passed) (now (facts .entry)) (known .count)) (now (wanted .entry)) r w ⌝ }
 {
-    let mut labels = [0u16; 64];
+    let mut labels = [0u16; MOST_LABELS];
     let mut n = 0;
     let mut w = simple(false, false, false, at);
     let mut i = at;
     let mut tag = cell(cells, at);
-    while 64 <= tag {
+    while ALTERNATIVE <= tag {
         let from = ahead(cells, i, 1);
-        let to = ahead(cells, from, tag - 64);
+        let to = ahead(cells, from, tag - ALTERNATIVE);
         n = collected(cells, from, to, &mut labels, n);
         let b = acts(cells, to, known, facts, wanted);
         w = either(w, b, opened(cells, from, to, facts, known.count, r));
         i = b.next;
         tag = cell(cells, i);
     }
-    if tag == 13 {
+    if tag == OTHERWISE {
         let y = unnamed(&labels, n, facts, known.count, r);
         return either(w, acts(cells, ahead(cells, i, 1), known, facts, wanted), y);
     }
@@ -526,7 +600,7 @@ fn seeks(cells: &[u16], i: usize, facts: &[u16], m: usize, r: u16) -> bool
     requires { ⌜ (i < length (now cells)) × (2 * m ≤ length (now facts)) ⌝ }
     ensures { λ b. ⌜ b ≡ sought (now (cells .entry)) i (now (facts .entry)) m r ⌝ }
 {
-    if cell(cells, i) == 10 {
+    if cell(cells, i) == GIVE {
         return !told(facts, m, r, half(cells, i + 1));
     }
     false
@@ -624,7 +698,7 @@ fn tried(
     requires { ⌜ (from ≤ to) × (to ≤ length (now cells)) × (2 * k .count ≤ length (now facts)) × (r < 128) ⌝ }
     ensures { λ t. ⌜ TriedTold (now (cells .entry)) (now (starts .entry)) r k (now (facts .entry)) from to t (now (facts .exit)) ⌝ }
 {
-    let mut wanted = [0u16; 128];
+    let mut wanted = [0u16; MOST_WANTED];
     let g = gathered(cells, from, to, facts, k.count, r, &mut wanted);
     let w = rule(cells, starts, wide(r), k, facts, &wanted);
     let ps = k.passed;
@@ -809,9 +883,9 @@ fn decided(cells: &[u16], starts: &[u16], n: usize) -> bool
     requires { ⌜ n ≤ 128 ⌝ }
     ensures { λ b. ⌜ Verdict (now (cells .entry)) (now (starts .entry)) n b ⌝ }
 {
-    let mut facts = [0u16; 4224];
+    let mut facts = [0u16; FACT_CELLS];
     let k = settled(cells, starts, n, &mut facts);
-    let mut rows = [0u64; 256];
+    let mut rows = [0u64; CALL_WORDS];
     let looping = arrows(cells, starts, n, k, &facts, &mut rows);
     closed(&mut rows, n);
     let again = itself(&rows, n);
@@ -823,7 +897,7 @@ fn decided(cells: &[u16], starts: &[u16], n: usize) -> bool
 pub fn verdict(cells: &[u16], starts: &[u16], count: usize) -> bool
     ensures { λ b. ⌜ Verdict (now (cells .entry)) (now (starts .entry)) count b ⌝ }
 {
-    if count <= 128 {
+    if count <= MOST_RULES {
         return decided(cells, starts, count);
     }
     false
