@@ -105,6 +105,25 @@ module _ (cells starts : List ℕ) (r : ℕ) (j : Learnt) (old : List ℕ) (vs :
     within = gt .within;
   }
 
+-- a look after another at the same values
+pub tried-again : (cells starts : List ℕ) (r : ℕ) (j : Learnt) (old : List ℕ) (from to : ℕ) (t : Look) (mid : List ℕ) (u : Look) (new : List ℕ) → TriedTold cells starts r j old from to t mid → TriedTold cells starts r (t .known) mid from to u new → TriedTold cells starts r j old from to u new
+tried-again cells starts r j old from to t mid u new a b =
+    let w = a .looks .widens in
+    let v = b .looks .widens in
+    record {
+      looks = record {
+        widens = widens-trans j (t .known) (u .known) old mid new w v;
+        after = b .looks .after;
+        inside = b .looks .inside;
+        holds = λ prog l d x. b .looks .holds prog l d (a .looks .holds prog l d x);
+        ends = b .looks .ends;
+        passing = λ prog l d s. b .looks .passing prog l d (same-mid j (t .known) (u .known) old mid new w v s .1);
+        tried = λ prog l d s. b .looks .tried prog l d (same-mid j (t .known) (u .known) old mid new w v s .1);
+      };
+      further = b .further;
+      within = b .within;
+    }
+
 -- Looks one after the other
 pub looks-next : (cells starts : List ℕ) (r : ℕ) (j : Learnt) (old : List ℕ) (from : ℕ) (t : Look) (mid : List ℕ) (u : Look) (new : List ℕ)
     → Looks cells starts r j old from t mid → Looks cells starts r (t .known) mid (t .at) u new → Looks cells starts r j old from u new

@@ -714,6 +714,28 @@ fn tried(
     }
 }
 
+// The same until a look brings no value more: what one value opens may return the next.
+fn pressed(
+    cells: &[u16],
+    starts: &[u16],
+    r: u16,
+    k: Learnt,
+    facts: &mut [u16],
+    from: usize,
+    to: usize,
+) -> Look
+    requires { ⌜ (from ≤ to) × (to ≤ length (now cells)) × (2 * k .count ≤ length (now facts)) × (r < 128) ⌝ }
+    ensures { λ t. ⌜ TriedTold (now (cells .entry)) (now (starts .entry)) r k (now (facts .entry)) from to t (now (facts .exit)) ⌝ }
+{
+    let mut had = k.count;
+    let mut t = tried(cells, starts, r, k, facts, from, to);
+    while had < t.known.count {
+        had = t.known.count;
+        t = tried(cells, starts, r, t.known, facts, from, to);
+    }
+    t
+}
+
 // Where rule r's cells are thought to end: where the next rule's begin. Nothing depends on it but the number of looks.
 fn bound(cells: &[u16], starts: &[u16], r: usize, at: usize) -> usize
     requires { ⌜ (at ≤ length (now cells)) × (r < 128) ⌝ }
@@ -736,9 +758,9 @@ fn looked(cells: &[u16], starts: &[u16], r: u16, k: Learnt, facts: &mut [u16]) -
 {
     let at = ahead(cells, 0, cell(starts, wide(r)));
     let to = bound(cells, starts, wide(r), at);
-    let mut t = tried(cells, starts, r, k, facts, at, to);
+    let mut t = pressed(cells, starts, r, k, facts, at, to);
     while t.at < t.end {
-        t = tried(cells, starts, r, t.known, facts, t.at, t.end);
+        t = pressed(cells, starts, r, t.known, facts, t.at, t.end);
     }
     t.known
 }
