@@ -7,7 +7,7 @@ use native.Mathlib.Omega.{arith}
 use native.Mathlib.Decide.{decLt}
 use native.Mathlib.Nat.{zero-div}
 use lib.Dec.{eqb, ltb}
-use lib.ListN.{getD}
+use lib.ListN.{length, getD}
 use lib.Bits.{bitOr, or-shr, or-mod, and-mask}
 use borrow.Author.Tests.{lt-ltb, le-ltb, eq-eqb, ne-eqb}
 use Rattle.base.specs.Bools.{never, same, split}
@@ -114,6 +114,10 @@ member-none k = go (ltb k 64) (ltb k 128)
 pub record Matching (vs : List ℕ) (v j : ℕ) (s : Rules) : Type 0 where
   pub done : (i : ℕ) → i < j → i < 128 → member s i ≡ eqb v (getD vs i 0)
   pub left : (i : ℕ) → j ≤ i → i < 128 → member s i ≡ false
+
+-- none of them is v
+pub matching-none : (vs : List ℕ) (v : ℕ) → ((j : ℕ) → j < length vs → eqb v (getD vs j 0) ≡ false) → (j : ℕ) → j < length vs → j < 128 → member (record { lo = 0; hi = 0 }) j ≡ eqb v (getD vs j 0)
+matching-none vs v h j l b = member-none j ∙ sym (h j l)
 
 pub matching-start : (vs : List ℕ) (v : ℕ) → Matching vs v 0 (record { lo = 0; hi = 0 })
 matching-start vs v = record { done = λ i h b. absurd (omega arith); left = λ i h b. member-none i }

@@ -354,14 +354,30 @@ fn marked(s: Rules, r: usize, on: bool) -> Rules
     s
 }
 
+// Some value asked for is v. Without an early way out, so that several are compared at once.
+fn asks(wanted: &[u16], v: u16) -> bool
+    ensures { λ b. ⌜ (b ≡ false → (j : ℕ) → j < length (now (wanted .entry)) → eqb v (getD (now (wanted .entry)) j 0) ≡ false) ⌝ }
+{
+    let mut some = false;
+    let mut j = 0;
+    while j < wanted.len() {
+        some = some | (v == wanted[j]);
+        j += 1;
+    }
+    some
+}
+
 // Of the values asked for those that are v, a bit for each.
-fn matches(wanted: &[u16], v: usize) -> Rules
+fn matches(wanted: &[u16], v: u16) -> Rules
     ensures { λ s. ⌜ ((j : ℕ) → j < length (now (wanted .entry)) → j < 128 → member s j ≡ eqb v (getD (now (wanted .entry)) j 0)) ⌝ }
 {
     let mut s = Rules { lo: 0, hi: 0 };
+    if !asks(wanted, v) {
+        return s;
+    }
     let mut j = 0;
     while j < wanted.len() {
-        s = marked(s, j, v == cell(wanted, j));
+        s = marked(s, j, v == wanted[j]);
         j += 1;
     }
     s
@@ -378,7 +394,7 @@ fn leaf(cells: &[u16], at: usize, ps: Rules, wanted: &[u16]) -> Ways
         return calling(simple(has(ps, r), false, false, ahead(cells, at, 2)), r);
     }
     if tag == GIVE {
-        return giving(matches(wanted, cell(cells, at + 1)), ahead(cells, at, 2));
+        return giving(matches(wanted, half(cells, at + 1)), ahead(cells, at, 2));
     }
     simple(
         past(tag),

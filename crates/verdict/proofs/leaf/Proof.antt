@@ -30,11 +30,11 @@ calling-requires c κs = tt
 returns : tie.Need-returns
 returns c = call-told (c .before .before .before .before .before .before .before .before .before .args .wanted .now) (c .before .before .before .before .before .before .before .before .before .args .cells .now) (c .before .before .before .before .before .before .before .before .before .args .at) (c .before .before .before .before .before .before .before .before .before .args .ps) (c .before .simple .result) (c .calling .result) (c .before .before .before .before .cell2 .result) (c .before .before .ahead .result) (sym (c .before .before .before .before .before .before .cell .ensures) ∙ c .before .before .before .before .before .if1 .taken) (c .before .before .before .before .cell2 .ensures) (c .before .before .ahead .ensures .1 .0 (omega arith) (c .before .before .before .before .before .before .before .before .before .pre)) (c .before .before .ahead .ensures .0 .1) (c .before .before .ahead .ensures .1 .1) (rw (c .before .before .before .has .ensures) at (c .before .simple .ensures)) (c .calling .ensures)
 
-add-cell-2 : tie.Need-add-cell-2
-add-cell-2 c = omega arith
+add-half : tie.Need-add-half
+add-half c = omega arith
 
-cell-requires-3 : tie.Need-cell-requires-3
-cell-requires-3 c κs = tt
+half-requires : tie.Need-half-requires
+half-requires c κs = tt
 
 matches-requires : tie.Need-matches-requires
 matches-requires c κs = tt
@@ -46,7 +46,7 @@ giving-requires : tie.Need-giving-requires
 giving-requires c κs = tt
 
 returns-2 : tie.Need-returns-2
-returns-2 c = give-told (c .before .before .before .before .before .before .before .before .before .args .wanted .now) (c .before .before .before .before .before .before .before .before .before .args .cells .now) (c .before .before .before .before .before .before .before .before .before .args .at) (c .before .before .before .before .before .before .before .before .before .args .ps) (c .giving .result) (c .before .before .matches .result) (c .before .before .before .cell3 .result) (c .before .ahead2 .result) (sym (c .before .before .before .before .before .before .cell .ensures) ∙ c .before .before .before .before .if2 .taken) (c .before .before .before .cell3 .ensures) (c .before .ahead2 .ensures .1 .0 (omega arith) (c .before .before .before .before .before .before .before .before .before .pre)) (c .before .ahead2 .ensures .0 .1) (c .before .ahead2 .ensures .1 .1) (c .giving .ensures) (c .before .before .matches .ensures)
+returns-2 c = give-told (c .before .before .before .before .before .before .before .before .before .args .wanted .now) (c .before .before .before .before .before .before .before .before .before .args .cells .now) (c .before .before .before .before .before .before .before .before .before .args .at) (c .before .before .before .before .before .before .before .before .before .args .ps) (c .giving .result) (c .before .before .matches .result) (c .before .before .before .half .result) (c .before .ahead2 .result) (sym (c .before .before .before .before .before .before .cell .ensures) ∙ c .before .before .before .before .if2 .taken) (c .before .before .before .half .ensures) (c .before .ahead2 .ensures .1 .0 (omega arith) (c .before .before .before .before .before .before .before .before .before .pre)) (c .before .ahead2 .ensures .0 .1) (c .before .ahead2 .ensures .1 .1) (c .giving .ensures) (c .before .before .matches .ensures)
 
 past-requires : tie.Need-past-requires
 past-requires c κs = tt
@@ -75,8 +75,8 @@ leaf-spec =
     simple-requires
     calling-requires
     returns
-    add-cell-2
-    cell-requires-3
+    add-half
+    half-requires
     matches-requires
     ahead-requires-2
     giving-requires

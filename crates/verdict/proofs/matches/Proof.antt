@@ -1,8 +1,11 @@
--- `verdict::matches` meets its contract: one value more each time.
+-- `verdict::matches` meets its contract: none, or one value more each time.
 use Prim.Native.Nat.{_≤_, _-_}
+use mathlib.Core.Path.{refl}
 use native.Mathlib.Omega.{arith}
-use lib.ListN.{length}
-use Rattle.verdict.proofs.Sets.{Matching, matching-start, matching-next}
+use borrow.Author.Needs.{needs}
+use borrow.Author.Tests.{not-true}
+use lib.ListN.{length, getD}
+use Rattle.verdict.proofs.Sets.{Matching, matching-none, matching-start, matching-next}
 use Rattle.verdict.proofs.matches.Statement.{statement}
 use Rattle.verdict.proofs.matches.Tie as tie
 
@@ -12,11 +15,20 @@ Inv-loop wanted v s₀ j₀ s j = (j ≤ length wanted) × Matching wanted v j s
 abbrev μ-loop : tie.MeasureT-loop
 μ-loop wanted v s₀ j₀ s j = length wanted - j
 
-loop-holds : tie.Need-loop-holds Inv-loop μ-loop
-loop-holds c = (omega arith, matching-start (c .before .args .wanted .now) (c .before .args .v))
+asks-requires : tie.Need-asks-requires Inv-loop μ-loop
+asks-requires c κs = tt
 
-cell-requires : tie.Need-cell-requires Inv-loop μ-loop
-cell-requires c κs = tt
+returns : tie.Need-returns Inv-loop μ-loop
+returns c = matching-none (c .before .before .before .args .wanted .now) (c .before .before .before .args .v) (c .before .asks .ensures (not-true (c .before .asks .result) (c .if1 .taken)))
+
+loop-holds : tie.Need-loop-holds Inv-loop μ-loop
+loop-holds c = (omega arith, matching-start (c .before .before .before .args .wanted .now) (c .before .before .before .args .v))
+
+mul-marked : tie.Need-mul-marked Inv-loop μ-loop
+mul-marked c = search needs
+
+shared-slice-read-marked : tie.Need-shared-slice-read-marked Inv-loop μ-loop
+shared-slice-read-marked c = omega arith
 
 marked-requires : tie.Need-marked-requires Inv-loop μ-loop
 marked-requires c κs = tt
@@ -28,10 +40,10 @@ loop-less : tie.Need-loop-less Inv-loop μ-loop
 loop-less c = omega arith
 
 loop-again : tie.Need-loop-again Inv-loop μ-loop
-loop-again c = (omega arith, matching-next (c .before .before .before .before .before .args .wanted .now) (c .before .before .before .before .before .args .v) (c .before .before .before .loop .j) (c .before .cell .result) (c .before .before .before .loop .s) (c .marked .result) (c .before .cell .ensures) (c .marked .ensures) (c .before .before .before .loop .inv .1))
+loop-again c = (omega arith, matching-next (c .before .before .before .before .before .before .before .args .wanted .now) (c .before .before .before .before .before .before .before .args .v) (c .before .before .before .loop .j) (getD (c .before .before .before .before .before .before .before .args .wanted .now) (c .before .before .before .loop .j) 0) (c .before .before .before .loop .s) (c .marked .result) refl (c .marked .ensures) (c .before .before .before .loop .inv .1))
 
-returns : tie.Need-returns Inv-loop μ-loop
-returns c = λ j h b. c .before .loop .inv .1 .done j (omega arith) b
+returns-2 : tie.Need-returns-2 Inv-loop μ-loop
+returns-2 c = λ j h b. c .before .loop .inv .1 .done j (omega arith) b
 
 pub matches-spec : {M : Type 1} → statement M
-matches-spec = tie.close (tie.spec Inv-loop μ-loop loop-holds cell-requires marked-requires add-j loop-less loop-again returns)
+matches-spec = tie.close (tie.spec Inv-loop μ-loop asks-requires returns loop-holds mul-marked shared-slice-read-marked marked-requires add-j loop-less loop-again returns-2)
