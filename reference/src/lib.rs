@@ -8,8 +8,11 @@ pub mod side;
 pub mod tables;
 pub mod walker;
 
+pub mod before;
+pub mod choosers;
 pub mod processor;
 pub mod rules;
+pub mod verdict;
 
 pub mod faults;
 pub mod limits;

@@ -9,8 +9,21 @@ pub struct Text {
 }
 
 /// What hard programs are full of.
-pub const HARD: [&str; 10] =
-    ["names", "long names", "nesting", "labels", "calls", "cycles", "names, 20", "chosen", "chosen, 20", "strings, 20"];
+pub const HARD: [&str; 13] = [
+    "names",
+    "long names",
+    "nesting",
+    "labels",
+    "calls",
+    "cycles",
+    "names, 20",
+    "chosen",
+    "chosen, 20",
+    "strings, 20",
+    "values",
+    "value ring",
+    "value chain",
+];
 
 /// The sorts with names of four bytes, matched as often as the text has room for: any names, and ones chosen to be in one chain of the
 /// library's index. The one behind has chosen strings as well.
@@ -29,7 +42,10 @@ pub fn hard(sort: usize, bytes: usize) -> Text {
         PLAIN => names(bytes, 2, usize::MAX),
         7 => chosen(bytes, false, 2_000),
         CHOSEN => chosen(bytes, false, usize::MAX),
-        _ => chosen(bytes, true, usize::MAX),
+        9 => chosen(bytes, true, usize::MAX),
+        10 => values(bytes),
+        11 => value_ring(bytes),
+        _ => value_chain(bytes),
     };
     Text { name: HARD[sort], text: filled(text, bytes) }
 }
@@ -193,6 +209,57 @@ fn cycles(bytes: usize) -> String {
         }
     }
     text.push_str(";\nHelper: [ | token: | *: ];\nend\n");
+    text
+}
+
+/// The sections of a program with so many values of a type.
+fn valued(count: usize) -> String {
+    let values: String = (0..count).map(|i| format!("v{i}{}", if i % 16 == 15 { "\n" } else { " " })).collect();
+    format!("type T: {values};\nmechanism m: c >> T;\nrules\n")
+}
+
+/// One rule that returns each value by the one before, all of them quietly: its choices stand in backward order, so that going through the
+/// text from its start finds one value more each time. Up to 4,096 words.
+fn values(bytes: usize) -> String {
+    let count = (bytes.saturating_sub(120) / 28).clamp(2, 340);
+    let mut text = valued(count + 1);
+    text.push_str("M: ?;\nR >> T: [c | v0: >> v0 | *: ]\n");
+    for i in (0..count).rev() {
+        text.push_str(&format!("[@R|v{i}:>>v{}|*:]\n", i + 1));
+    }
+    text.push_str(">> v0;\nend\n");
+    text
+}
+
+/// The same with up to 127 rules: each returns a value by one of the next rule's, the last by one of the first's, round and round.
+fn value_ring(bytes: usize) -> String {
+    let count = (bytes.saturating_sub(160) / 36).clamp(2, 325);
+    let rules = (count / 2).clamp(1, 127);
+    let mut text = valued(count + 1);
+    text.push_str("M: ;\n");
+    for rule in 1..=rules {
+        let next = rule % rules + 1;
+        let first = if rule == rules { rules } else { rules - rule };
+        text.push_str(&format!("R{rule}>>T:{}", if rule == rules { "[c|v0:>>v0|*:]" } else { "" }));
+        for value in (first..count + 1).step_by(rules).rev() {
+            let otherwise = if value == first { "" } else { "|*:" };
+            text.push_str(&format!("[@R{next}|v{}:>>v{value}{otherwise}]", value - 1));
+        }
+        text.push_str(";\n");
+    }
+    text.push_str("end\n");
+    text
+}
+
+/// Up to 126 rules that return each value by one of the next rule's, the last by an operation; finishing.
+fn value_chain(bytes: usize) -> String {
+    let count = (bytes.saturating_sub(180) / 60).clamp(1, 126);
+    let mut text = valued(4);
+    text.push_str("M: {[@R1 | v0, v1, v2, v3: > ]};\n");
+    for rule in 1..=count {
+        text.push_str(&format!("R{rule}>>T:[@R{}|v0:>>v1|v1:>>v2|v2:>>v0|*:>>v3];\n", rule + 1));
+    }
+    text.push_str(&format!("R{} >> T: [c | v0: >> v0 | v1: >> v1 | *: >> v2];\nend\n", count + 1));
     text
 }
 

@@ -111,6 +111,7 @@ fn main() -> ExitCode {
     println!("median of {repetitions} repetitions, in microseconds a text");
     println!("{:<12}{:>7}{:>7}{:>12}{:>12}{:>12}{:>14}", "text", "bytes", "words", "lib", "rust", "lib/rust", "lib ns/byte");
     let mut most = (0.0, String::new());
+    let mut slowest = (0.0, String::new());
     let mut growth = Vec::new();
     for sizes in &works {
         let mut each = Vec::new();
@@ -129,11 +130,15 @@ fn main() -> ExitCode {
             if ratio > most.0 {
                 most = (ratio, format!("{name} of {bytes} bytes"));
             }
+            if ours > slowest.0 {
+                slowest = (ours, format!("{name} of {bytes} bytes"));
+            }
             each.push([ours, rust]);
         }
         growth.push((sizes[0].name, each));
     }
     println!("largest ratio: {:.2}, {}", most.0, most.1);
+    println!("slowest of the library: {:.2} ms, {}", slowest.0 * 1e3, slowest.1);
     println!("growth of the time from 1 to 8 KB, from 8 to 32 KB (8 and 4 would be in proportion)");
     for (name, each) in &growth {
         let by = |side: usize, from: usize| each[from + 1][side] / each[from][side];

@@ -9,6 +9,8 @@
 use std::collections::BTreeMap;
 use std::process::ExitCode;
 
+use reference::before;
+use reference::choosers;
 use reference::faults::{self, Fault};
 use reference::ffi;
 use reference::limits::{self, LIMITS};
@@ -54,6 +56,8 @@ struct Harness {
     shown: u64,
     numbers: Counts<u16>,
     verdicts: Counts<u64>,
+    /// The verdicts of programs rich in choice rules, with those before returned values were looked at.
+    choosers: Counts<(bool, bool)>,
     planted: Counts<u16>,
     limits: Counts<(usize, isize)>,
     pairs: Counts<(Limit, Limit)>,
@@ -612,10 +616,30 @@ fn walks(h: &mut Harness, seed: &mut Seed) {
     }
 }
 
+/// Programs rich in choice rules. One that was finishing before returned values were looked at still is; one that is finishing only since
+/// then stops too.
+fn choice_rules(h: &mut Harness, seed: &mut Seed) {
+    for _ in 0..120 {
+        let program = choosers::program(seed);
+        let text = choosers::text(&program).into_bytes();
+        let done = h.check(seed, &text, 1_024);
+        let (before, now) = (before::finishing(&program), done.finishing == 1);
+        h.expect(done.number == 0, || format!("a good program is refused: {done:?}\n{}", shown(&text)));
+        h.expect(now || !before, || format!("a program is no longer finishing\n{}", shown(&text)));
+        count(&mut h.choosers, (before, now));
+        if now && !before && seed.one_in(4) {
+            let (tokens, answers) = feed(seed, &program);
+            let allowance = seed.below(4) as u16;
+            let end = rules::walk(&program, &tokens, &answers, allowance, RULE_STEPS);
+            h.expect(end.reason.is_some(), || format!("a finishing program does not stop\n{}", shown(&text)));
+        }
+    }
+}
+
 /// A name, and a group of texts for a seed.
 type Group = (&'static str, fn(&mut Harness, &mut Seed));
 
-const GROUPS: [Group; 13] = [
+const GROUPS: [Group; 14] = [
     ("good programs", programs),
     ("large programs", large),
     ("planted faults", planted),
@@ -629,6 +653,7 @@ const GROUPS: [Group; 13] = [
     ("far beyond the limits", beyond_limits),
     ("lent sizes", lent_sizes),
     ("walks", walks),
+    ("choice rules", choice_rules),
 ];
 
 /// Prints how often each thing was met, and fails for one that never was.
@@ -645,6 +670,9 @@ fn report(h: &mut Harness) {
     line("answered", times(&h.numbers, &NUMBERS));
     let verdict = |value: u64| h.verdicts.get(&value).copied().unwrap_or(0);
     line("finishing", vec![("yes".to_string(), verdict(1)), ("no".to_string(), verdict(0))]);
+    let chooser = |before, now| h.choosers.get(&(before, now)).copied().unwrap_or(0);
+    let both = [("yes", chooser(true, true)), ("no", chooser(false, false)), ("yes by returned values", chooser(false, true))];
+    line("programs rich in choice rules", both.map(|(name, times)| (name.to_string(), times)).to_vec());
     line("planted", times(&h.planted, &NUMBERS[1..]));
     for (limit, (name, most)) in LIMITS.into_iter().enumerate() {
         let side = |past: isize| (format!("{}", most as isize + past), h.limits.get(&(limit, past)).copied().unwrap_or(0));
@@ -710,6 +738,7 @@ fn main() -> ExitCode {
         shown: 0,
         numbers: BTreeMap::new(),
         verdicts: BTreeMap::new(),
+        choosers: BTreeMap::new(),
         planted: BTreeMap::new(),
         limits: BTreeMap::new(),
         pairs: BTreeMap::new(),
