@@ -164,6 +164,159 @@ impl Maker<'_> {
     }
 }
 
+/// A program of up to 4,096 words in which some values are returned only after reading and others also quietly; its cycles go round by the
+/// first sort alone. So it is finishing, but for a slip here and there, if `slips`.
+pub fn large(seed: &mut Seed, slips: bool) -> Program {
+    let mut values: Vec<u16> = Vec::new();
+    let most = *seed.of(&[6, 20, 60, 260]);
+    for _ in 0..4 + seed.below(most) {
+        let value = seed.below(65_536) as u16;
+        if !values.contains(&value) {
+            values.push(value);
+        }
+    }
+    let after = values.split_off(values.len() / 2);
+    let rules = 2 + seed.below(126);
+    let deepest = seed.within(1, 31);
+    let slip = if slips { 1 + seed.below(20) } else { usize::MAX };
+    let mut maker = Careful { seed, after, quiet: values, rules, rule: 0, left: 0, deepest, slip };
+    let mut words: usize = 3_700;
+    let rules = (0..rules).map(|rule| {
+        maker.rule = rule;
+        maker.left = words / (rules - rule);
+        let room = maker.left;
+        let chooses = rule > 0 && (rule + 1 == rules || rule % 4 != 0);
+        let acts = maker.body(chooses);
+        words -= room - maker.left;
+        Rule { chooses, acts }
+    });
+    Program { rules: rules.collect() }
+}
+
+struct Careful<'a> {
+    seed: &'a mut Seed,
+    /// The values that are returned only after reading, and the others.
+    after: Vec<u16>,
+    quiet: Vec<u16>,
+    rules: usize,
+    rule: usize,
+    /// The words that this rule may still have.
+    left: usize,
+    deepest: usize,
+    /// One in so many places is wrong.
+    slip: usize,
+}
+
+impl Careful<'_> {
+    fn body(&mut self, chooses: bool) -> Vec<Act> {
+        let mut acts = Vec::new();
+        if chooses {
+            self.returns(&mut acts, 0, false);
+            return acts;
+        }
+        while self.take(30) {
+            let body = vec![self.round(1)];
+            acts.push(Act::Cycle(body));
+        }
+        acts
+    }
+
+    /// So many words, if there are.
+    fn take(&mut self, words: usize) -> bool {
+        let some = self.left >= words;
+        self.left = self.left.saturating_sub(words);
+        some
+    }
+
+    /// Whether this place is to be wrong.
+    fn slips(&mut self) -> bool {
+        self.slip < usize::MAX && self.seed.one_in(self.slip)
+    }
+
+    /// A choice rule further on.
+    fn called(&mut self) -> Option<usize> {
+        let rules: Vec<usize> = (self.rule + 1..self.rules).filter(|rule| *rule + 1 == self.rules || rule % 4 != 0).collect();
+        (!rules.is_empty()).then(|| *self.seed.of(&rules))
+    }
+
+    /// A value to return, after reading or perhaps quietly.
+    fn value(&mut self, read: bool) -> Act {
+        let after = (read && !self.seed.one_in(3)) != self.slips();
+        Act::Return(Some(*self.seed.of(if after { &self.after } else { &self.quiet })))
+    }
+
+    /// Labels of one sort, each once.
+    fn labels(&mut self, after: bool) -> Vec<u16> {
+        let mut labels = if after { self.after.clone() } else { self.quiet.clone() };
+        shuffle(self.seed, &mut labels);
+        let most = (self.left / 8).clamp(1, 32);
+        labels.truncate(1 + self.seed.below(labels.len().min(most)));
+        self.left = self.left.saturating_sub(2 * labels.len());
+        labels
+    }
+
+    /// Actions that end by returning a value.
+    fn returns(&mut self, acts: &mut Vec<Act>, depth: usize, mut read: bool) {
+        if self.seed.one_in(8) && self.take(2) {
+            acts.push(Act::Match(0));
+            read = true;
+        }
+        if self.seed.one_in(6) && self.take(1) {
+            acts.push(Act::Update(UPDATE, None));
+        }
+        let called = self.called().filter(|_| depth < self.deepest && self.left >= 30 && !self.seed.one_in(5));
+        self.left = self.left.saturating_sub(17);
+        let Some(called) = called else {
+            acts.push(if depth == self.deepest || self.left < 10 { self.value(read) } else { self.by_token(read) });
+            return;
+        };
+        // Where a value was returned that wants reading, something was read.
+        let mut alternatives = Vec::new();
+        for after in [true, false] {
+            if self.seed.one_in(4) {
+                continue;
+            }
+            let labels = self.labels(after);
+            let mut list = Vec::new();
+            if self.seed.one_in(6) {
+                // Past the choice, but only after reading.
+                if !after {
+                    list.push(Act::Any);
+                }
+            } else {
+                self.returns(&mut list, depth + 1, read || after);
+            }
+            alternatives.push((labels, list));
+        }
+        shuffle(self.seed, &mut alternatives);
+        let mut otherwise = Vec::new();
+        self.returns(&mut otherwise, depth + 1, read);
+        acts.push(Act::Choice(Choice { by: By::Rule(called), alternatives, otherwise: Some(otherwise) }));
+        acts.push(self.value(true));
+    }
+
+    /// A choice by the present token; with none of its labels a value is returned quietly.
+    fn by_token(&mut self, read: bool) -> Act {
+        let labelled = self.value(true);
+        let otherwise = self.value(read);
+        Act::Choice(Choice { by: By::Token, alternatives: vec![(vec![0], vec![labelled])], otherwise: Some(vec![otherwise]) })
+    }
+
+    /// The choice of a cycle: round by values that are returned after reading, out by all others.
+    fn round(&mut self, depth: usize) -> Act {
+        let Some(called) = self.called() else { return Act::Any };
+        let after = !self.slips();
+        let labels = self.labels(after);
+        let mut again = Vec::new();
+        if depth < self.deepest && self.take(30) {
+            let inner = self.round(depth + 2);
+            again.push(Act::Cycle(vec![inner]));
+        }
+        let alternatives = vec![(labels, again)];
+        Act::Choice(Choice { by: By::Rule(called), alternatives, otherwise: Some(vec![Act::Exit]) })
+    }
+}
+
 /// The program's text: a value's name has its number.
 pub fn text(program: &Program) -> String {
     let mut writer = Writer { values: BTreeSet::from([0]), text: String::new() };

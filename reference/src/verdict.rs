@@ -473,4 +473,17 @@ mod tests {
             assert!(times > 9, "{reading:?} is told apart by {times} programs");
         }
     }
+
+    #[test]
+    fn large_programs() {
+        let (mut yes, mut no) = (0, 0);
+        for number in 0..16 {
+            let program = choosers::large(&mut Seed::new(number), number % 2 == 1);
+            let now = finishing(&program);
+            assert_eq!(by_definition(&program, Reading::Right), now, "{number}");
+            yes += u32::from(now);
+            no += u32::from(!now);
+        }
+        assert!(yes > 0 && no > 0, "{yes} yes, {no} no");
+    }
 }

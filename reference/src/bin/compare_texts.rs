@@ -58,6 +58,8 @@ struct Harness {
     verdicts: Counts<u64>,
     /// The verdicts of programs rich in choice rules, with those before returned values were looked at.
     choosers: Counts<(bool, bool)>,
+    /// Those of large ones: whether the table has more than 2,048 words, and the verdict.
+    large: Counts<(bool, bool)>,
     planted: Counts<u16>,
     limits: Counts<(usize, isize)>,
     pairs: Counts<(Limit, Limit)>,
@@ -636,10 +638,23 @@ fn choice_rules(h: &mut Harness, seed: &mut Seed) {
     }
 }
 
+/// Programs of up to 4,096 words and 127 choice rules that are finishing by returned values, but for a slip here and there.
+fn large_choice_rules(h: &mut Harness, seed: &mut Seed) {
+    let slips = seed.one_in(2);
+    let program = choosers::large(seed, slips);
+    let text = choosers::text(&program).into_bytes();
+    let done = h.check(seed, &text, LARGEST);
+    h.expect(matches!(done.number, 0 | 20), || format!("a good program is refused: {done:?}\n{}", shown(&text)));
+    h.expect(slips || done.number != 0 || done.finishing == 1, || format!("not finishing without a slip\n{}", shown(&text)));
+    if done.number == 0 {
+        count(&mut h.large, (done.words > 2_048, done.finishing == 1));
+    }
+}
+
 /// A name, and a group of texts for a seed.
 type Group = (&'static str, fn(&mut Harness, &mut Seed));
 
-const GROUPS: [Group; 14] = [
+const GROUPS: [Group; 15] = [
     ("good programs", programs),
     ("large programs", large),
     ("planted faults", planted),
@@ -654,6 +669,7 @@ const GROUPS: [Group; 14] = [
     ("lent sizes", lent_sizes),
     ("walks", walks),
     ("choice rules", choice_rules),
+    ("large programs with choice rules", large_choice_rules),
 ];
 
 /// Prints how often each thing was met, and fails for one that never was.
@@ -673,6 +689,14 @@ fn report(h: &mut Harness) {
     let chooser = |before, now| h.choosers.get(&(before, now)).copied().unwrap_or(0);
     let both = [("yes", chooser(true, true)), ("no", chooser(false, false)), ("yes by returned values", chooser(false, true))];
     line("programs rich in choice rules", both.map(|(name, times)| (name.to_string(), times)).to_vec());
+    let large = |size, now| h.large.get(&(size, now)).copied().unwrap_or(0);
+    let sizes = [
+        ("yes", large(false, true)),
+        ("no", large(false, false)),
+        ("large, yes", large(true, true)),
+        ("large, no", large(true, false)),
+    ];
+    line("programs with up to 127 choice rules", sizes.map(|(name, times)| (name.to_string(), times)).to_vec());
     line("planted", times(&h.planted, &NUMBERS[1..]));
     for (limit, (name, most)) in LIMITS.into_iter().enumerate() {
         let side = |past: isize| (format!("{}", most as isize + past), h.limits.get(&(limit, past)).copied().unwrap_or(0));
@@ -739,6 +763,7 @@ fn main() -> ExitCode {
         numbers: BTreeMap::new(),
         verdicts: BTreeMap::new(),
         choosers: BTreeMap::new(),
+        large: BTreeMap::new(),
         planted: BTreeMap::new(),
         limits: BTreeMap::new(),
         pairs: BTreeMap::new(),
