@@ -19,7 +19,7 @@ mutual
   pub act-labelled : {ws ws′ : List Word} {a : Act} → ActIn ws ws′ a → Labelled a
   act-labelled (plain-in t) = tt
   act-labelled (cycle-in t q u) = acts-labelled q
-  act-labelled (choice-in t u v m) = alts-labelled m
+  act-labelled (choice-in t u v m) = let r = alts-labelled m in (omega (arith, r .0), r .1, r .2)
 
   pub acts-labelled : {ws ws′ : List Word} {q : Acts} → ActsIn ws ws′ q → LabelledAll q
   acts-labelled (none-in t d) = tt
