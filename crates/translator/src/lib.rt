@@ -31,22 +31,23 @@ fn refuse(table: &mut [u8], number: u16, start: usize, len: usize) -> Answer
     }
 }
 
-// The table and the verdict of the program in the buffers, or 20.
+// The table and the verdict of the program in the buffers, or 20. The spare room is written over.
 fn finish(
     size: usize,
     cells: &[u16],
     starts: &[u16],
     sorts: &[u8],
-    rules: usize,
-    filled: usize,
+    b: builder::Rules,
+    spare: &mut [u16],
     table: &mut [u8],
 ) -> Answer
-    ensures { λ r. ⌜ Finishes size (now (cells .entry)) (now (starts .entry)) (now (sorts .entry)) rules filled (now (table .entry)) (now (table .exit)) r ⌝ }
+    requires { ⌜ 4224 ≤ length (now spare) ⌝ }
+    ensures { λ r. ⌜ Finishes size (now (cells .entry)) (now (starts .entry)) (now (sorts .entry)) (b .rules) (b .count) (now (table .entry)) (now (table .exit)) r ⌝ }
 {
-    if 4224 < filled {
+    if 4224 < b.count {
         return refuse(table, 20, size, 0);
     }
-    let e = emitter::emit(cells, sorts, rules, table);
+    let e = emitter::emit(cells, sorts, b.rules, table);
     if e.fault != 0 {
         return Answer {
             number: 20,
@@ -56,7 +57,7 @@ fn finish(
             finishing: false,
         };
     }
-    let finishing = verdict::verdict(cells, starts, rules);
+    let finishing = verdict::verdict(cells, starts, b.rules, spare);
     Answer {
         number: 0,
         start: 0,
@@ -66,9 +67,16 @@ fn finish(
     }
 }
 
-// The rules, from the place `at` on, behind n declarations of which `first` is the first rule's.
-fn settle(text: &[u8], rows: &[u16], n: usize, first: usize, at: usize, table: &mut [u8]) -> Answer
-    requires { ⌜ (at ≤ length (now text)) × (first ≤ 512) × Kept (now text) (now rows) n ⌝ }
+// The rules, from the place `at` on, behind n declarations of which `first` is the first rule's. Once they are resolved the rows are spare room.
+fn settle(
+    text: &[u8],
+    rows: &mut [u16],
+    n: usize,
+    first: usize,
+    at: usize,
+    table: &mut [u8],
+) -> Answer
+    requires { ⌜ (at ≤ length (now text)) × (first ≤ 512) × Kept (now text) (now rows) n × (4224 ≤ length (now rows)) ⌝ }
     ensures { λ r. ⌜ Rests (now (text .entry)) (now (rows .entry)) n first at (now (table .entry)) (now (table .exit)) r ⌝ }
 {
     let mut cells = [0u16; 4224];
@@ -87,7 +95,7 @@ fn settle(text: &[u8], rows: &[u16], n: usize, first: usize, at: usize, table: &
     if b.fault != 0 {
         return refuse(table, b.fault, b.at, b.len);
     }
-    finish(text.len(), &cells, &starts, &sorts, b.rules, b.count, table)
+    finish(text.len(), &cells, &starts, &sorts, b, rows, table)
 }
 
 // A text that the syntax pass has read: its declarations, then its rules.
@@ -102,7 +110,7 @@ fn translate(text: &[u8], table: &mut [u8]) -> Answer
     if d.fault != 0 {
         return refuse(table, d.fault, d.at, d.len);
     }
-    settle(text, &rows, c.count, c.rules, c.at, table)
+    settle(text, &mut rows, c.count, c.rules, c.at, table)
 }
 
 // The table and the verdict of a text, or the number and the part of its first fault. Every lent word is written.

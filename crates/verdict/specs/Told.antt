@@ -314,5 +314,6 @@ pub record Holds (cells starts : List ℕ) (count : ℕ) (prog : List Rule) : Ty
   pub short : length cells ≤ 4224
   pub begins : (r : ℕ) → r < count → getD starts r 0 ≡ cellsStart 0 prog r
 
-pub record Verdict (cells starts : List ℕ) (count : ℕ) (b : Bool) : Type 0 where
-  pub exact : (prog : List Rule) → Holds cells starts count prog → b ≡ finishing prog
+-- with room for as many numbers as there can be cells, two for each fact
+pub record Verdict (cells starts : List ℕ) (count room : ℕ) (b : Bool) : Type 0 where
+  pub exact : (prog : List Rule) → 4224 ≤ room → Holds cells starts count prog → b ≡ finishing prog

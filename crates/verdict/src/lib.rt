@@ -75,9 +75,6 @@ const MOST_LABELS: usize = 64;
 // Values asked for at once, a bit each of two words.
 const MOST_WANTED: usize = 128;
 
-// The row of facts, two numbers each: no longer than a program's cells.
-const FACT_CELLS: usize = 4224;
-
 // The table of calls, two words for each rule.
 const CALL_WORDS: usize = 256;
 
@@ -917,26 +914,26 @@ fn itself(rows: &[u64], n: usize) -> bool
 }
 
 // The verdict on a program of n rules.
-fn decided(cells: &[u16], starts: &[u16], n: usize) -> bool
+fn decided(cells: &[u16], starts: &[u16], n: usize, facts: &mut [u16]) -> bool
     requires { ⌜ n ≤ 128 ⌝ }
-    ensures { λ b. ⌜ Verdict (now (cells .entry)) (now (starts .entry)) n b ⌝ }
+    ensures { λ b. ⌜ Verdict (now (cells .entry)) (now (starts .entry)) n (length (now (facts .entry))) b ⌝ }
 {
-    let mut facts = [0u16; FACT_CELLS];
-    let k = settled(cells, starts, n, &mut facts);
+    let k = settled(cells, starts, n, facts);
     let mut rows = [0u64; CALL_WORDS];
-    let looping = arrows(cells, starts, n, k, &facts, &mut rows);
+    let looping = arrows(cells, starts, n, k, facts, &mut rows);
     closed(&mut rows, n);
     let again = itself(&rows, n);
     !(looping | again)
 }
 
 // Whether the program of count rules is finishing whose cells these are, rule r's from the place that starts says on. At most 128 rules are
-// looked at: of more, and of cells that are no program's, the answer says nothing.
-pub fn verdict(cells: &[u16], starts: &[u16], count: usize) -> bool
-    ensures { λ b. ⌜ Verdict (now (cells .entry)) (now (starts .entry)) count b ⌝ }
+// looked at: of more, and of cells that are no program's, the answer says nothing. The facts are lent, two numbers each: room for as many numbers
+// as a program has cells, 4224 at most, is enough; of less the answer says nothing either.
+pub fn verdict(cells: &[u16], starts: &[u16], count: usize, facts: &mut [u16]) -> bool
+    ensures { λ b. ⌜ Verdict (now (cells .entry)) (now (starts .entry)) count (length (now (facts .entry))) b ⌝ }
 {
     if count <= MOST_RULES {
-        return decided(cells, starts, count);
+        return decided(cells, starts, count, facts);
     }
     false
 }

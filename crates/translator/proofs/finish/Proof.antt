@@ -39,14 +39,17 @@ returns-2 c = λ text prog e h. end-20 text (c .before .before .before .before .
 verdict-requires : tie.Need-verdict-requires
 verdict-requires c κs = search needs
 
--- src/lib.rt:34:1
 same-length-3 : tie.Need-same-length-3
 same-length-3 c = search needs
 
--- src/lib.rt:34:1
+same-length-4 : tie.Need-same-length-4
+same-length-4 c = search needs
+
 returns-3 : tie.Need-returns-3
 unfolding Emits
-returns-3 c = λ text prog e h. end-good text (c .before .before .before .before .before .emit .ensures prog (ready-cells h (omega (arith, c .before .before .before .before .before .before .before .if1 .left)))) (c .before .if2 .left) (c .verdict .ensures .exact prog (ready-laid h (omega (arith, c .before .before .before .before .before .before .before .if1 .left))))
+returns-3 c =
+    let l = c .before .before .before .before .before .before .before .before .before .before .if1 .left in
+    λ text prog e h. end-good text (c .before .before .before .before .before .before .before .before .emit .ensures prog (ready-cells h (omega (arith, l)))) (c .before .before .before .before .if2 .left) (c .before .before .verdict .ensures .exact prog (omega (arith, c .before .before .before .before .before .before .before .before .before .before .before .before .before .before .before .before .before .pre)) (ready-laid h (omega (arith, l))))
 
 pub finish-spec : {M : Type 1} → statement M
 finish-spec =
@@ -60,4 +63,5 @@ finish-spec =
     returns-2
     verdict-requires
     same-length-3
+    same-length-4
     returns-3)

@@ -34,6 +34,9 @@ refuse-requires c κs = search needs
 same-length : tie.Need-same-length
 same-length c = search needs
 
+same-length-2 : tie.Need-same-length-2
+same-length-2 c = search needs
+
 -- src/lib.rt:80:9
 returns : tie.Need-returns
 returns c = λ p names known. rest-wrong known (c .before .before .before .before .before .before .before .before .before .build .ensures) (c .before .before .before .before .if1 .taken) (c .before .before .refuse .ensures)
@@ -54,13 +57,15 @@ slice-aggregate-finish-3 c = search needs
 finish-requires : tie.Need-finish-requires
 finish-requires c κs = search needs
 
--- src/lib.rt:71:1
-same-length-2 : tie.Need-same-length-2
-same-length-2 c = search needs
+same-length-3 : tie.Need-same-length-3
+same-length-3 c = search needs
+
+same-length-4 : tie.Need-same-length-4
+same-length-4 c = search needs
 
 -- src/lib.rt:71:1
 returns-2 : tie.Need-returns-2
-returns-2 c = λ p names known. rest-good known (c .before .before .before .before .before .before .before .before .before .before .before .before .build .ensures) (c .before .before .before .before .before .before .before .if1 .left) refl refl (c .before .before .finish .ensures)
+returns-2 c = λ p names known. rest-good known (c .before .before .before .before .before .before .before .before .before .before .before .before .before .before .before .build .ensures) (c .before .before .before .before .before .before .before .before .before .before .if1 .left) refl refl (c .before .before .before .before .finish .ensures)
 
 pub settle-spec : {M : Type 1} → statement M
 settle-spec =
@@ -72,10 +77,12 @@ settle-spec =
     build-requires
     refuse-requires
     same-length
+    same-length-2
     returns
     slice-aggregate-finish
     slice-aggregate-finish-2
     slice-aggregate-finish-3
     finish-requires
-    same-length-2
+    same-length-3
+    same-length-4
     returns-2)

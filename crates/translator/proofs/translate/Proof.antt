@@ -43,13 +43,13 @@ slice-aggregate-settle : tie.Need-slice-aggregate-settle
 slice-aggregate-settle c = search needs
 
 settle-requires : tie.Need-settle-requires
-settle-requires c κs = (omega (arith, c .before .before .before .before .before .before .before .before .before .before .collect .ensures .inside), omega (arith, c .before .before .before .before .before .before .before .before .before .before .collect .ensures .early, c .before .before .before .before .before .before .before .before .before .before .collect .ensures .small), c .before .before .before .before .before .before .before .index .ensures .0)
+settle-requires c κs = (omega (arith, c .before .before .before .before .before .before .before .before .before .before .collect .ensures .inside), omega (arith, c .before .before .before .before .before .before .before .before .before .before .collect .ensures .early, c .before .before .before .before .before .before .before .before .before .before .collect .ensures .small), c .before .before .before .before .before .before .before .index .ensures .0, search needs)
 
 same-length-2 : tie.Need-same-length-2
 same-length-2 c = search needs
 
 returns-2 : tie.Need-returns-2
-returns-2 c = λ p ws e. declared-good _ p ws e _ (c .before .before .before .before .before .before .before .before .before .before .before .before .before .collect .ensures) refl (c .before .before .before .before .before .before .before .before .before .before .index .ensures .1 .1) (c .before .before .before .before .before .before .before .check-declarations .ensures) (c .before .before .before .before .before .if1 .left) (c .before .before .settle .ensures)
+returns-2 c = λ p ws e. declared-good _ p ws e _ (c .before .before .before .before .before .before .before .before .before .before .before .before .before .before .collect .ensures) refl (c .before .before .before .before .before .before .before .before .before .before .before .index .ensures .1 .1) (c .before .before .before .before .before .before .before .before .check-declarations .ensures) (c .before .before .before .before .before .before .if1 .left) (c .before .before .before .settle .ensures)
 
 pub translate-spec : {M : Type 1} → statement M
 translate-spec =
