@@ -172,30 +172,27 @@ looks-done cells starts r j old a from t new ea ed h x = record {
 }
 
 -- Sweeps
-pub sweep-start : (cells starts : List ℕ) (n : ℕ) (k : Learnt) (facts : List ℕ) → 2 * k .count ≤ length facts → SweepTold cells starts n 0 k facts k facts
+pub sweep-start : (cells starts : List ℕ) (n : ℕ) (k : Learnt) (facts : List ℕ) → 2 * k .count ≤ length facts → SweepTold cells starts n n k facts k facts
 sweep-start cells starts n k facts h = record {
   widens = widens-self k facts h;
   holds = λ prog e l t. t;
-  closed = λ prog e l q s r b. absurd (omega arith);
+  closed = λ prog e l q s r b c. absurd (omega arith);
 }
 
-pub sweep-next : (cells starts : List ℕ) (n r : ℕ) (j : Learnt) (old : List ℕ) (k : Learnt) (mid : List ℕ) (u : Learnt) (new : List ℕ) → r < n
-    → SweepTold cells starts n r j old k mid → LookedTold cells starts r k mid u new → SweepTold cells starts n (r + 1) j old u new
-sweep-next cells starts n r j old k mid u new h a b = record {
+pub sweep-next : (cells starts : List ℕ) (n r i : ℕ) (j : Learnt) (old : List ℕ) (k : Learnt) (mid : List ℕ) (u : Learnt) (new : List ℕ) → r ≡ suc i → r ≤ n
+    → SweepTold cells starts n r j old k mid → LookedTold cells starts i k mid u new → SweepTold cells starts n i j old u new
+sweep-next cells starts n r i j old k mid u new d h a b = record {
   widens = widens-trans j k u old mid new (a .widens) (b .widens);
   holds = λ prog e l t. b .holds prog (omega (arith, e)) l (a .holds prog e l t);
-  closed = λ prog e l q s i p.
-      let m = same-mid j k u old mid new (a .widens) (b .widens) q in
-      elim (last r i (omega arith)) [
-        | inl x ↦
-            let z = a .closed prog e l (m .0) (omega (arith, s, b .widens .facts .more, b .widens .facts .sized)) i x in
-            rw (widens-known k u mid new (b .widens) (m .1)) at z
-        | inr x ↦ rw x (b .closed prog (omega (arith, e)) l (m .1) s)
+  closed = λ prog e l q s m p c.
+      let w = same-mid j k u old mid new (a .widens) (b .widens) q in
+      elim (decLt i m) [
+        | yes x ↦
+            let z = a .closed prog e l (w .0) (omega (arith, s, b .widens .facts .more, b .widens .facts .sized)) m (omega arith) c in
+            rw (widens-known k u mid new (b .widens) (w .1)) at z
+        | no x ↦ let y : m ≡ i = omega arith in rw y (b .closed prog (omega (arith, e)) l (w .1) s)
       ];
 }
-
-pub sweep-done : (cells starts : List ℕ) (n r : ℕ) (j : Learnt) (old : List ℕ) (k : Learnt) (new : List ℕ) → r ≡ n → SweepTold cells starts n r j old k new → SweepTold cells starts n n j old k new
-sweep-done cells starts n r j old k new e t = rw e at t
 
 -- Sweeps until one brings nothing
 pub record Settling (cells starts : List ℕ) (n : ℕ) (more : Bool) (k : Learnt) (facts : List ℕ) : Type 0 where
@@ -212,12 +209,12 @@ settle-start cells starts n facts = record {
   closed = λ e. never (sym e);
 }
 
-pub settle-next : (cells starts : List ℕ) (n : ℕ) (more b : Bool) (k : Learnt) (mid : List ℕ) (j : Learnt) (new : List ℕ) → b ≡ alike j k → Settling cells starts n more k mid → SweepTold cells starts n n k mid j new → Settling cells starts n (not b) j new
+pub settle-next : (cells starts : List ℕ) (n : ℕ) (more b : Bool) (k : Learnt) (mid : List ℕ) (j : Learnt) (new : List ℕ) → b ≡ alike j k → Settling cells starts n more k mid → SweepTold cells starts n 0 k mid j new → Settling cells starts n (not b) j new
 settle-next cells starts n more b k mid j new e s t = record {
   room = t .widens .facts .room;
   apart = t .widens .facts .apart (s .apart);
   holds = λ prog d l. t .holds prog d l (s .holds prog d l);
-  closed = λ d prog q l h. t .closed prog q l (alike-same k j (sym e ∙ not-false b d)) h;
+  closed = λ d prog q l h r. t .closed prog q l (alike-same k j (sym e ∙ not-false b d)) h r (omega arith);
 }
 
 pub settle-done : (cells starts : List ℕ) (n : ℕ) (more : Bool) (k : Learnt) (facts : List ℕ) → more ≡ false → Settling cells starts n more k facts → LearntTold cells starts n k facts

@@ -271,11 +271,11 @@ pub record LookedTold (cells starts : List ℕ) (r : ℕ) (j : Learnt) (old : Li
   pub holds : (prog : List Rule) → r < length prog → Laid cells starts prog → True prog (j .passed) old (j .count) → True prog (k .passed) new (k .count)
   pub closed : (prog : List Rule) → r < length prog → Laid cells starts prog → Same j k → 2 * k .count + 1 < length new → ClosedAt prog (knownIn (k .passed) new (k .count)) r
 
--- the first i of n rules looked at
+-- of n rules those from the i-th on looked at
 pub record SweepTold (cells starts : List ℕ) (n i : ℕ) (j : Learnt) (old : List ℕ) (k : Learnt) (new : List ℕ) : Type 0 where
   pub widens : Widens j old k new
   pub holds : (prog : List Rule) → length prog ≡ n → Laid cells starts prog → True prog (j .passed) old (j .count) → True prog (k .passed) new (k .count)
-  pub closed : (prog : List Rule) → length prog ≡ n → Laid cells starts prog → Same j k → 2 * k .count + 1 < length new → (r : ℕ) → r < i → ClosedAt prog (knownIn (k .passed) new (k .count)) r
+  pub closed : (prog : List Rule) → length prog ≡ n → Laid cells starts prog → Same j k → 2 * k .count + 1 < length new → (r : ℕ) → i ≤ r → r < n → ClosedAt prog (knownIn (k .passed) new (k .count)) r
 
 -- what is known in the end is so, no fact stands twice, and nothing more follows if there was room
 pub record LearntTold (cells starts : List ℕ) (n : ℕ) (k : Learnt) (facts : List ℕ) : Type 0 where

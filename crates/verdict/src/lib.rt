@@ -778,16 +778,16 @@ fn looked(cells: &[u16], starts: &[u16], r: u16, k: Learnt, facts: &mut [u16]) -
     t.known
 }
 
-// Every rule looked at.
+// Every rule looked at, the last first: rules mostly call those that stand behind them.
 fn sweep(cells: &[u16], starts: &[u16], n: usize, k: Learnt, facts: &mut [u16]) -> Learnt
     requires { ⌜ (2 * k .count ≤ length (now facts)) × (n ≤ 128) ⌝ }
-    ensures { λ j. ⌜ SweepTold (now (cells .entry)) (now (starts .entry)) n n k (now (facts .entry)) j (now (facts .exit)) ⌝ }
+    ensures { λ j. ⌜ SweepTold (now (cells .entry)) (now (starts .entry)) n 0 k (now (facts .entry)) j (now (facts .exit)) ⌝ }
 {
     let mut j = k;
-    let mut r = 0;
-    while r < n {
+    let mut r = n;
+    while 0 < r {
+        r -= 1;
         j = looked(cells, starts, r as u16, j, facts);
-        r += 1;
     }
     j
 }
