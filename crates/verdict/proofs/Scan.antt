@@ -5,10 +5,10 @@ use mathlib.Core.Bool.{Bool, true, false, cond, _||_, _&&_, not, or-false, or-as
 use mathlib.Core.List.{List, [], _∷_, _++_}
 use native.Mathlib.Omega.{arith}
 use native.Mathlib.Numerals.{add-one}
-use lib.Dec.{eqb, ltb}
+use lib.Dec.{eqb, leb, ltb}
 use lib.ListN.{length, take, drop, getD, length-drop}
 use lib.Seq.{drop-cons, getD-drop, length-take-le}
-use borrow.Author.Tests.{lt-ltb, le-ltb, le-leb, ne-eqb}
+use borrow.Author.Tests.{lt-ltb, le-ltb, le-leb, ne-eqb, leb-true, leb-false, eqb-false}
 use Rattle.base.specs.Common.{if_then_else_, member as listed}
 use Rattle.base.specs.Tree.{plain, absent, otherwise}
 use Rattle.program.specs.Program.{Plain, match, any, emit, error, exit, call, back, give, update, updateWith, Act, Acts, Alts, Other}
@@ -17,7 +17,7 @@ use Rattle.finishing.specs.Finishing.{named}
 use Rattle.finishing.proofs.Exact.{below-same}
 use Rattle.cells.specs.Cells.{plainCells}
 use Rattle.verdict.specs.Lies.{RangePlain, labelled, Lies, lies-plain, lies-cycle, lies-token, lies-rule, lies-operation, lies-operationWith, LiesAll, lies-done, lies-next, LiesRest, lies-absent, lies-absent-token, lies-otherwise, lies-alternative}
-use Rattle.verdict.specs.Told.{member, someIn, knownIn, Tells, Simple, Giving, Then, Either, Cycled, Calling, Placed, pastCell, takes, LeafTold, ActTold, ActsTold, AltsTold, ValuedTold, among, byValue}
+use Rattle.verdict.specs.Told.{member, someIn, knownIn, Tells, Simple, Giving, Then, Either, Cycled, Calling, Placed, pastCell, takes, heads, LeafTold, ActTold, ActsTold, AltsTold, ValuedTold, among, byValue}
 use Rattle.verdict.specs.declared.Rules.{Rules}
 use Rattle.verdict.specs.declared.Ways.{Ways}
 
@@ -276,13 +276,22 @@ module _ (vs : List ℕ) where
   leaf-act-says ps w R t l a k n₂ n₇ n₁₁ b f (lies-operation h u x) = absurd (omega arith)
   leaf-act-says ps w R t l a k n₂ n₇ n₁₁ b f (lies-operationWith h u x) = absurd (omega arith)
 
-  pub leaf-act : (cells : List ℕ) (at : ℕ) (ps : Rules) (facts : List ℕ) (m : ℕ) (w : Ways) (t : ℕ) → at < length cells → t ≡ getD cells at 0 → (t ≡ 2 → ⊥) → (t ≡ 7 → ⊥) → (t ≡ 11 → ⊥) → t < 768 → LeafTold cells at ps vs w → ActTold cells at (knownIn ps facts m) vs w
-  leaf-act cells at ps facts m w t h e n₂ n₇ n₁₁ b s = record {
+  -- neither a choice by the token nor one by an operation
+  leaf-tests : (t : ℕ) → (eqb t 7 || leb 768 t) ≡ false → (t ≡ 7 → ⊥) × (t < 768)
+  leaf-tests t e = let o = go (eqb t 7) (leb 768 t) e in (eqb-false t 7 (o .0), leb-false 768 t (o .1))
+    where
+      go : (a b : Bool) → (a || b) ≡ false → (a ≡ false) × (b ≡ false)
+      go true b e = (e, cc)
+      go false b e = (refl, e)
+
+  pub leaf-act : (cells : List ℕ) (at : ℕ) (ps : Rules) (facts : List ℕ) (m : ℕ) (w : Ways) (t : ℕ) → at < length cells → t ≡ getD cells at 0 → (t ≡ 2 → ⊥) → (t ≡ 11 → ⊥) → (eqb t 7 || leb 768 t) ≡ false → LeafTold cells at ps vs w → ActTold cells at (knownIn ps facts m) vs w
+  leaf-act cells at ps facts m w t h e n₂ n₁₁ b s = record {
     after = s .after;
     within = s .within;
     told = λ a k l.
         let e₁ = front cells at t h (sym e) in
-        leaf-act-says (knownIn ps facts m) w (λ k. drop (w .next) cells ≡ k) t (drop (suc at) cells) a k n₂ n₇ n₁₁ b (λ p k f g. s .told facts m p k (e₁ ∙ f) g) (rw e₁ at l);
+        let n = leaf-tests t b in
+        leaf-act-says (knownIn ps facts m) w (λ k. drop (w .next) cells ≡ k) t (drop (suc at) cells) a k n₂ (n .0) n₁₁ (n .1) (λ p k f g. s .told facts m p k (e₁ ∙ f) g) (rw e₁ at l);
   }
 
   -- a cycle
@@ -313,34 +322,22 @@ module _ (vs : List ℕ) where
         (λ q k x. let y = s .told q k (rw add-one x) in (rw (c .next) (y .0), y .1)) c (rw (front cells at 2 h e) at l);
   }
 
-  -- a choice
-  token-says : (ps : Known) (w : Ways) (R : List ℕ → Type 0) (l : List ℕ) (a : Act) (k : List ℕ)
-      → ((q : Alts) (o : Other) (k : List ℕ) → LiesRest l q o k → R k × Tells vs w (among ps false true q o) (loopsSome ps q || loopsOther ps o)) → Lies (7 ∷ l) a k → R k × Tells vs w (quiet ps a) (loop ps a)
-  unfolding quiet loop among
-  token-says ps w R l a k f (lies-plain {p = p} e h) = absurd (leaf-head p k (7 ∷ l) e h .n7 refl)
-  token-says ps w R l a k f (lies-operation h u x) = absurd (omega arith)
-  token-says ps w R l a k f (lies-operationWith h u x) = absurd (omega arith)
-  token-says ps w R l a k f (lies-token {q = q} {o = o} x) = f q o k x
-
-  operation-says : (ps : Known) (w : Ways) (R : List ℕ → Type 0) (t : ℕ) (l : List ℕ) (a : Act) (k : List ℕ) → 768 ≤ t → t < 1024
-      → ((q : Alts) (o : Other) (k : List ℕ) → LiesRest l q o k → R k × Tells vs w (among ps true true q o) (loopsSome ps q || loopsOther ps o)) → Lies (t ∷ l) a k → R k × Tells vs w (quiet ps a) (loop ps a)
-  unfolding quiet loop among
-  operation-says ps w R t l a k b d f (lies-plain {p = p} e h) = let z = leaf-head p k (t ∷ l) e h .below in absurd (omega arith)
-  operation-says ps w R t l a k b d f (lies-cycle x) = absurd (omega arith)
-  operation-says ps w R t l a k b d f (lies-token x) = absurd (omega arith)
-  operation-says ps w R t l a k b d f (lies-rule y x) = absurd (omega arith)
-  operation-says ps w R t l a k b d f (lies-operation {q = q} {o = o} h u x) = f q o k x
-  operation-says ps w R t l a k b d f (lies-operationWith h u x) = absurd (omega arith)
-
-  operationWith-says : (ps : Known) (w : Ways) (R : List ℕ → Type 0) (t : ℕ) (l : List ℕ) (a : Act) (k : List ℕ) → 1024 ≤ t
-      → ((q : Alts) (o : Other) (k : List ℕ) → LiesRest (drop 1 l) q o k → R k × Tells vs w (among ps true true q o) (loopsSome ps q || loopsOther ps o)) → Lies (t ∷ l) a k → R k × Tells vs w (quiet ps a) (loop ps a)
-  unfolding quiet loop among
-  operationWith-says ps w R t l a k b f (lies-plain {p = p} e h) = let z = leaf-head p k (t ∷ l) e h .below in absurd (omega arith)
-  operationWith-says ps w R t l a k b f (lies-cycle x) = absurd (omega arith)
-  operationWith-says ps w R t l a k b f (lies-token x) = absurd (omega arith)
-  operationWith-says ps w R t l a k b f (lies-rule y x) = absurd (omega arith)
-  operationWith-says ps w R t l a k b f (lies-operation h u x) = absurd (omega arith)
-  operationWith-says ps w R t l a k b f (lies-operationWith {q = q} {o = o} h u x) = f q o k x
+  -- a choice by the token or by an operation
+  choice-says : (ps : Known) (w : Ways) (R : List ℕ → Type 0) (t n : ℕ) (x : Bool) (l : List ℕ) (a : Act) (k : List ℕ) → ((t ≡ 7 → ⊥) → 768 ≤ t) → x ≡ not (eqb t 7) → n ≡ heads t
+      → ((q : Alts) (o : Other) (k : List ℕ) → LiesRest (drop n (t ∷ l)) q o k → R k × Tells vs w (among ps x true q o) (loopsSome ps q || loopsOther ps o)) → Lies (t ∷ l) a k → R k × Tells vs w (quiet ps a) (loop ps a)
+  unfolding quiet loop among heads
+  choice-says ps w R t n x l a k b ex en f (lies-plain {p = p} e h) = let z = leaf-head p k (t ∷ l) e h in absurd (omega (arith, z .below, b (z .n7)))
+  choice-says ps w R t n x l a k b ex en f (lies-cycle z) = absurd (omega (arith, b (λ e. omega arith)))
+  choice-says ps w R t n x l a k b ex en f (lies-token {q = q} {o = o} z) = rw ex at (f q o k (rw en z))
+  choice-says ps w R t n x l a k b ex en f (lies-rule y z) = absurd (omega (arith, b (λ e. omega arith)))
+  choice-says ps w R t n x l a k b ex en f (lies-operation {q = q} {o = o} h u z) =
+      let e₁ : x ≡ true = ex ∙ ap not (ne-eqb t 7 (λ e. omega (arith, h))) in
+      let e₂ : n ≡ 1 = en ∙ rw (lt-ltb t 1024 u) refl in
+      rw e₁ at (f q o k (rw e₂ z))
+  choice-says ps w R t n x l a k b ex en f (lies-operationWith {q = q} {o = o} h u z) =
+      let e₁ : x ≡ true = ex ∙ ap not (ne-eqb t 7 (λ e. omega (arith, h))) in
+      let e₂ : n ≡ 2 = en ∙ rw (le-ltb t 1024 h) refl in
+      rw e₁ at (f q o k (rw e₂ z))
 
   rule-says : (ps : Known) (b w : Ways) (r : ℕ) (R : List ℕ → Type 0) (l : List ℕ) (a : Act) (k : List ℕ) → r ≡ getD l 0 0
       → ((q : Alts) (o : Other) (k : List ℕ) → labelled q ≤ 64 → LiesRest (drop 1 l) q o k → R k × Tells vs b (byValue ps r q o) (loopsSome ps q || loopsOther ps o)) → Calling b r w
@@ -362,37 +359,29 @@ module _ (vs : List ℕ) where
         },
       )
 
+  -- the first cell says that it is such a choice
+  chooses : (t : ℕ) → (eqb t 7 || leb 768 t) ≡ true → (t ≡ 7 → ⊥) → 768 ≤ t
+  chooses t e n = leb-true 768 t (rw (ne-eqb t 7 n) at e)
+
+  pub heads-some : (t : ℕ) → 0 < heads t
+  unfolding heads
+  heads-some t = go (ltb t 1024)
+    where
+      go : (a : Bool) → 0 < cond a 1 2
+      go true = omega arith
+      go false = omega arith
+
   -- what the alternatives' scan told, from the cell behind the head on
-  shifted : (cells : List ℕ) (at : ℕ) (ps : Known) (b w : Ways) (x y : Bool) (n m t : ℕ) → at < length cells → getD cells at 0 ≡ t → drop m cells ≡ drop n (drop at cells) → AltsTold cells m ps vs x y b → w .next ≡ b .next
-      → (q : Alts) (o : Other) (k : List ℕ) → LiesRest (drop n (t ∷ drop (suc at) cells)) q o k → (drop (w .next) cells ≡ k) × Tells vs b (among ps x y q o) (loopsSome ps q || loopsOther ps o)
-  shifted cells at ps b w x y n m t h e d s j q o k z =
-      let e₁ : drop m cells ≡ drop n (t ∷ drop (suc at) cells) = d ∙ ap (λ (l : List ℕ). drop n l) (front cells at t h e) in
-      let r = s .told q o k (rw e₁ z) in
-      (rw j (r .0), r .1)
-
-  pub token-told : (cells : List ℕ) (at : ℕ) (ps : Known) (w : Ways) → at < length cells → getD cells at 0 ≡ 7 → AltsTold cells (at + 1) ps vs false true w → ActTold cells at ps vs w
-  token-told cells at ps w h e s = record {
-    after = omega (arith, s .after);
-    within = s .within;
-    told = λ a k l. token-says ps w (λ k. drop (w .next) cells ≡ k) (drop (suc at) cells) a k
-        (λ q o k z. s .told q o k (rw add-one z)) (rw (front cells at 7 h e) at l);
-  }
-
-  pub operation-told : (cells : List ℕ) (at : ℕ) (ps : Known) (w : Ways) (t : ℕ) → at < length cells → t ≡ getD cells at 0 → 768 ≤ t → t < 1024 → AltsTold cells (at + 1) ps vs true true w → ActTold cells at ps vs w
-  operation-told cells at ps w t h e b d s = record {
-    after = omega (arith, s .after);
-    within = s .within;
-    told = λ a k l. operation-says ps w (λ k. drop (w .next) cells ≡ k) t (drop (suc at) cells) a k b d
-        (λ q o k z. s .told q o k (rw add-one z)) (rw (front cells at t h (sym e)) at l);
-  }
-
-  pub operationWith-told : (cells : List ℕ) (at : ℕ) (ps : Known) (w : Ways) (m t : ℕ) → at < length cells → t ≡ getD cells at 0 → 1024 ≤ t → at < m → drop m cells ≡ drop 2 (drop at cells) → AltsTold cells m ps vs true true w → ActTold cells at ps vs w
-  operationWith-told cells at ps w m t h e b u d s = record {
-    after = omega (arith, s .after);
-    within = s .within;
-    told = λ a k l. operationWith-says ps w (λ k. drop (w .next) cells ≡ k) t (drop (suc at) cells) a k b
-        (shifted cells at ps w w true true 2 m t h (sym e) d s refl) (rw (front cells at t h (sym e)) at l);
-  }
+  pub choice-told : (cells : List ℕ) (at : ℕ) (ps : Known) (w : Ways) (t n m : ℕ) (x : Bool) → at < length cells → t ≡ getD cells at 0 → (eqb t 7 || leb 768 t) ≡ true → x ≡ not (eqb t 7) → n ≡ heads t
+      → at < m → drop m cells ≡ drop n (drop at cells) → AltsTold cells m ps vs x true w → ActTold cells at ps vs w
+  choice-told cells at ps w t n m x h e b ex en u d s =
+      let e₁ = front cells at t h (sym e) in
+      let e₂ : drop m cells ≡ drop n (t ∷ drop (suc at) cells) = d ∙ ap (λ (l : List ℕ). drop n l) e₁ in
+      record {
+        after = omega (arith, s .after);
+        within = s .within;
+        told = λ a k l. choice-says ps w (λ k. drop (w .next) cells ≡ k) t n x (drop (suc at) cells) a k (chooses t b) ex en (λ q o k z. s .told q o k (rw e₂ z)) (rw e₁ at l);
+      }
 
   pub rule-told : (cells : List ℕ) (at : ℕ) (ps : Known) (b w : Ways) (r m : ℕ) → at < length cells → getD cells at 0 ≡ 11 → r ≡ getD cells (at + 1) 0 → at < m → drop m cells ≡ drop 2 (drop at cells)
       → ValuedTold cells m ps vs r b → Calling b r w → ActTold cells at ps vs w

@@ -114,6 +114,10 @@ pastCell t = (eqb t 5 || eqb t 6) || leb 256 t
 unfoldable pub takes : ℕ → ℕ
 takes t = cond ((eqb t 1 || eqb t 4) || eqb t 9) 1 (cond (ltb t 256) 2 (cond (ltb t 512) 1 2))
 
+-- the cells before the alternatives of a choice by the token or by an operation, by the first of them
+unfoldable pub heads : ℕ → ℕ
+heads t = cond (ltb t 1024) 1 2
+
 -- the scan of such an action, of any action, of actions, of alternatives, from the cell at on
 pub record LeafTold (cells : List ℕ) (at : ℕ) (ps : Rules) (vs : List ℕ) (w : Ways) : Type 0 where
   pub after : at < w .next

@@ -10,7 +10,7 @@ ghost use mathlib.Core.Bool.{not};
 ghost use Rattle.base.specs.Common.{member as listed};
 ghost use Rattle.program.specs.Program.{Rule};
 ghost use Rattle.finishing.specs.Test.{some-below};
-ghost use Rattle.verdict.specs.Told.{member, someIn, knownIn, Simple, Giving, Then, Either, Cycled, Calling, Placed, pastCell, takes, LeafTold, ActTold, ActsTold, AltsTold, ValuedTold, Collected, RuleTold, rowOf, sought, GatheredTold, NotedTold, NotesTold, Joined, TriedTold, LookedTold, SweepTold, LearntTold, alike, Puts, Widened, Closure, Arrows, Verdict};
+ghost use Rattle.verdict.specs.Told.{member, someIn, knownIn, Simple, Giving, Then, Either, Cycled, Calling, Placed, pastCell, takes, heads, LeafTold, ActTold, ActsTold, AltsTold, ValuedTold, Collected, RuleTold, rowOf, sought, GatheredTold, NotedTold, NotesTold, Joined, TriedTold, LookedTold, SweepTold, LearntTold, alike, Puts, Widened, Closure, Arrows, Verdict};
 
 // First cells, as crate `cells` has them: the end of a list of actions.
 const END: usize = 0;
@@ -334,6 +334,16 @@ fn taken(tag: usize) -> usize
     2
 }
 
+// The cells before the alternatives of a choice by the token or by an operation, by the first of them.
+fn head(tag: usize) -> usize
+    ensures { λ r. ⌜ r ≡ heads tag ⌝ }
+{
+    if tag < ASK_WITH {
+        return 1;
+    }
+    2
+}
+
 // A quiet path goes past such an action.
 fn past(tag: usize) -> bool
     ensures { λ b. ⌜ b ≡ pastCell tag ⌝ }
@@ -490,7 +500,7 @@ fn collected(cells: &[u16], from: usize, to: usize, labels: &mut [u16], n: usize
     k
 }
 
-// The ways of one action.
+// The ways of one action. Alternatives are scanned from one place here, so that the scan of nested ones needs no frame more.
 fn act(cells: &[u16], at: usize, known: Learnt, facts: &[u16], wanted: &[u16]) -> Ways
     requires { ⌜ (at < length (now cells)) × (2 * known .count ≤ length (now facts)) ⌝ }
     ensures { λ w. ⌜ ActTold (now (cells .entry)) at (knownIn (known .passed) (now (facts .entry)) (known .count)) (now (wanted .entry)) w ⌝ }
@@ -499,9 +509,6 @@ fn act(cells: &[u16], at: usize, known: Learnt, facts: &[u16], wanted: &[u16]) -
     if tag == CYCLE {
         return cycled(acts(cells, at + 1, known, facts, wanted));
     }
-    if tag == BY_TOKEN {
-        return alts(cells, at + 1, known, facts, wanted, false, true);
-    }
     if tag == BY_RULE {
         let r = half(cells, at + 1);
         return calling(
@@ -509,13 +516,12 @@ fn act(cells: &[u16], at: usize, known: Learnt, facts: &[u16], wanted: &[u16]) -
             wide(r),
         );
     }
-    if tag < ASK {
-        return leaf(cells, at, known.passed, wanted);
+    let token = tag == BY_TOKEN;
+    if token | (ASK <= tag) {
+        let to = ahead(cells, at, head(tag));
+        return alts(cells, to, known, facts, wanted, !token, true);
     }
-    if tag < ASK_WITH {
-        return alts(cells, at + 1, known, facts, wanted, true, true);
-    }
-    alts(cells, ahead(cells, at, 2), known, facts, wanted, true, true)
+    leaf(cells, at, known.passed, wanted)
 }
 
 // The ways of actions in a row.

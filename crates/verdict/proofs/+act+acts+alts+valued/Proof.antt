@@ -7,7 +7,7 @@ use lib.ListN.{length, take, drop, getD}
 use Rattle.program.specs.Program.{Acts, Alts, Other}
 use Rattle.verdict.specs.Lies.{labelled, LiesAll, LiesRest}
 use Rattle.verdict.specs.Told.{knownIn}
-use Rattle.verdict.proofs.Scan.{cycle-told, token-told, rule-told, leaf-act, operation-told, operationWith-told, Left, left-start, left-step, left-done, Rest, rest-start, rest-step, rest-closed, rest-other, RestBy, by-start, by-step, by-closed, by-other, unnamed-same, nonzero-lt}
+use Rattle.verdict.proofs.Scan.{cycle-told, rule-told, choice-told, heads-some, leaf-act, Left, left-start, left-step, left-done, Rest, rest-start, rest-step, rest-closed, rest-other, RestBy, by-start, by-step, by-closed, by-other, unnamed-same, nonzero-lt}
 use Prim.Native.Nat.{ℕ, _<_, _≤_, _-_, _*_, _+_}
 use borrow.Fn.Kinds.{In}
 use borrow.Fn.PlainCycle.{Measures, is, falls, and}
@@ -30,6 +30,7 @@ use Rattle.verdict.proofs.collected.Reads as collected-reads
 use Rattle.verdict.proofs.cycled.Reads as cycled-reads
 use Rattle.verdict.proofs.either.Reads as either-reads
 use Rattle.verdict.proofs.half.Reads as half-reads
+use Rattle.verdict.proofs.head.Reads as head-reads
 use Rattle.verdict.proofs.leaf.Reads as leaf-reads
 use Rattle.verdict.proofs.opened.Reads as opened-reads
 use Rattle.verdict.proofs.placed.Reads as placed-reads
@@ -77,7 +78,7 @@ abbrev valued-below : ℕ → In 3 valued-kinds.ps
 valued-below t = and 3 valued-kinds.ps (falls 3 valued-kinds.ps _<_ μ-valued t) valued.Pre
 
 abbrev act-claims : ℕ → act-lts.Claims
-act-claims t = (cell-reads.Asked, cell-reads.Learnt, acts-below t, acts.Post, cycled-reads.Asked, cycled-reads.Learnt, alts-below t, alts.Post, half-reads.Asked, half-reads.Learnt, ahead-reads.Asked, ahead-reads.Learnt, valued-below t, valued.Post, wide-reads.Asked, wide-reads.Learnt, calling-reads.Asked, calling-reads.Learnt, leaf-reads.Asked, leaf-reads.Learnt)
+act-claims t = (cell-reads.Asked, cell-reads.Learnt, acts-below t, acts.Post, cycled-reads.Asked, cycled-reads.Learnt, half-reads.Asked, half-reads.Learnt, ahead-reads.Asked, ahead-reads.Learnt, valued-below t, valued.Post, wide-reads.Asked, wide-reads.Learnt, calling-reads.Asked, calling-reads.Learnt, head-reads.Asked, head-reads.Learnt, alts-below t, alts.Post, leaf-reads.Asked, leaf-reads.Learnt)
 
 abbrev acts-claims : ℕ → acts-lts.Claims
 acts-claims t = (simple-reads.Asked, simple-reads.Learnt, cell-reads.Asked, cell-reads.Learnt, act-below t, act.Post, then-reads.Asked, then-reads.Learnt, ahead-reads.Asked, ahead-reads.Learnt, placed-reads.Asked, placed-reads.Learnt)
@@ -103,15 +104,6 @@ act-cycled-requires t c κs = tt
 act-returns : (t : ℕ) → act-lts.Need-returns (act-claims t) (act-at t) act.Post
 act-returns t c = let a = c .before .before .before .before .before .before .before .args in cycle-told (a .wanted .now) (a .cells .now) (a .at) (knownIn (a .known .passed) (a .facts .now) (a .known .count)) (c .before .acts .result) (c .cycled .result) (c .before .before .before .before .before .before .before .pre .1 .0) (sym (c .before .before .before .cell .ensures) ∙ c .before .before .if1 .taken) (c .before .acts .ensures) (c .cycled .ensures)
 
-act-add-alts : (t : ℕ) → act-lts.Need-add-alts (act-claims t) (act-at t) act.Post
-act-add-alts t c = omega arith
-
-act-alts-requires : (t : ℕ) → act-lts.Need-alts-requires (act-claims t) (act-at t) act.Post
-act-alts-requires t c κs = (omega arith, omega arith)
-
-act-returns-2 : (t : ℕ) → act-lts.Need-returns-2 (act-claims t) (act-at t) act.Post
-act-returns-2 t c = let a = c .before .before .before .before .before .before .before .args in token-told (a .wanted .now) (a .cells .now) (a .at) (knownIn (a .known .passed) (a .facts .now) (a .known .count)) (c .alts .result) (c .before .before .before .before .before .before .before .pre .1 .0) (sym (c .before .before .before .cell .ensures) ∙ c .before .if2 .taken) (c .alts .ensures)
-
 act-add-half : (t : ℕ) → act-lts.Need-add-half (act-claims t) (act-at t) act.Post
 act-add-half t c = omega arith
 
@@ -130,37 +122,38 @@ act-wide-requires t c κs = tt
 act-calling-requires : (t : ℕ) → act-lts.Need-calling-requires (act-claims t) (act-at t) act.Post
 act-calling-requires t c κs = tt
 
+act-returns-2 : (t : ℕ) → act-lts.Need-returns-2 (act-claims t) (act-at t) act.Post
+act-returns-2 t c =
+    let a = c .before .before .before .before .before .before .before .before .before .before .before .args in
+    let A = c .before .before .before .ahead .ensures in
+    let h = c .before .before .before .before .before .before .before .before .before .before .before .pre .1 .0 in
+    rule-told (a .wanted .now) (a .cells .now) (a .at) (knownIn (a .known .passed) (a .facts .now) (a .known .count)) (c .before .before .valued .result) (c .calling .result) (c .before .before .before .before .half .result) (c .before .before .before .ahead .result) h (sym (c .before .before .before .before .before .before .before .cell .ensures) ∙ c .before .before .before .before .before .if2 .taken) (c .before .before .before .before .half .ensures) (A .1 .0 (omega arith) h) (A .1 .1) (c .before .before .valued .ensures) (rw (c .before .wide .ensures) at (c .calling .ensures))
+
+act-head-requires : (t : ℕ) → act-lts.Need-head-requires (act-claims t) (act-at t) act.Post
+act-head-requires t c κs = tt
+
+act-ahead-requires-2 : (t : ℕ) → act-lts.Need-ahead-requires-2 (act-claims t) (act-at t) act.Post
+act-ahead-requires-2 t c κs = omega arith
+
+act-alts-requires : (t : ℕ) → act-lts.Need-alts-requires (act-claims t) (act-at t) act.Post
+act-alts-requires t c κs =
+    let z : 0 < c .before .head .result = rw (c .before .head .ensures) (heads-some (c .before .before .before .before .before .before .before .before .before .args .wanted .now) _) in
+    let m = c .ahead2 .ensures .1 .0 z (omega arith) in
+    (omega arith, omega arith)
+
 act-returns-3 : (t : ℕ) → act-lts.Need-returns-3 (act-claims t) (act-at t) act.Post
 act-returns-3 t c =
-    let A = c .before .before .before .ahead .ensures in
-    rule-told (c .before .before .before .before .before .before .before .before .before .before .before .before .args .wanted .now) (c .before .before .before .before .before .before .before .before .before .before .before .before .args .cells .now) (c .before .before .before .before .before .before .before .before .before .before .before .before .args .at) (knownIn (c .before .before .before .before .before .before .before .before .before .before .before .before .args .known .passed) (c .before .before .before .before .before .before .before .before .before .before .before .before .args .facts .now) (c .before .before .before .before .before .before .before .before .before .before .before .before .args .known .count)) (c .before .before .valued .result) (c .calling .result) (c .before .before .before .before .half .result) (c .before .before .before .ahead .result) (c .before .before .before .before .before .before .before .before .before .before .before .before .pre .1 .0) (sym (c .before .before .before .before .before .before .before .before .cell .ensures) ∙ c .before .before .before .before .before .if3 .taken) (c .before .before .before .before .half .ensures) (A .1 .0 (omega arith) (c .before .before .before .before .before .before .before .before .before .before .before .before .pre .1 .0)) (A .1 .1) (c .before .before .valued .ensures) (rw (c .before .wide .ensures) at (c .calling .ensures))
+    let a = c .before .before .before .before .before .before .before .before .before .before .args in
+    let A = c .before .ahead2 .ensures in
+    let h = c .before .before .before .before .before .before .before .before .before .before .pre .1 .0 in
+    let z : 0 < c .before .before .head .result = rw (c .before .before .head .ensures) (heads-some (a .wanted .now) _) in
+    choice-told (a .wanted .now) (a .cells .now) (a .at) (knownIn (a .known .passed) (a .facts .now) (a .known .count)) (c .alts .result) (c .before .before .before .before .before .before .cell .result) (c .before .before .head .result) (c .before .ahead2 .result) _ h (c .before .before .before .before .before .before .cell .ensures) (c .before .before .before .if3 .taken) refl (c .before .before .head .ensures) (A .1 .0 z h) (A .1 .1) (c .alts .ensures)
 
 act-leaf-requires : (t : ℕ) → act-lts.Need-leaf-requires (act-claims t) (act-at t) act.Post
 act-leaf-requires t c κs = omega arith
 
 act-returns-4 : (t : ℕ) → act-lts.Need-returns-4 (act-claims t) (act-at t) act.Post
-act-returns-4 t c = let a = c .before .before .before .before .before .before .before .before .before .args in leaf-act (a .wanted .now) (a .cells .now) (a .at) (a .known .passed) (a .facts .now) (a .known .count) (c .leaf .result) (c .before .before .before .before .before .cell .result) (c .before .before .before .before .before .before .before .before .before .pre .1 .0) (c .before .before .before .before .before .cell .ensures) (c .before .before .before .before .if1 .left) (c .before .before .before .if2 .left) (c .before .before .if3 .left) (c .before .if4 .taken) (c .leaf .ensures)
-
-act-add-alts-2 : (t : ℕ) → act-lts.Need-add-alts-2 (act-claims t) (act-at t) act.Post
-act-add-alts-2 t c = omega arith
-
-act-alts-requires-2 : (t : ℕ) → act-lts.Need-alts-requires-2 (act-claims t) (act-at t) act.Post
-act-alts-requires-2 t c κs = (omega arith, omega arith)
-
-act-returns-5 : (t : ℕ) → act-lts.Need-returns-5 (act-claims t) (act-at t) act.Post
-act-returns-5 t c = let a = c .before .before .before .before .before .before .before .before .before .before .args in operation-told (a .wanted .now) (a .cells .now) (a .at) (knownIn (a .known .passed) (a .facts .now) (a .known .count)) (c .alts2 .result) (c .before .before .before .before .before .before .cell .result) (c .before .before .before .before .before .before .before .before .before .before .pre .1 .0) (c .before .before .before .before .before .before .cell .ensures) (c .before .before .if4 .left) (c .before .if5 .taken) (c .alts2 .ensures)
-
-act-ahead-requires-2 : (t : ℕ) → act-lts.Need-ahead-requires-2 (act-claims t) (act-at t) act.Post
-act-ahead-requires-2 t c κs = omega arith
-
-act-alts-requires-3 : (t : ℕ) → act-lts.Need-alts-requires-3 (act-claims t) (act-at t) act.Post
-act-alts-requires-3 t c κs = let m = c .ahead2 .ensures .1 .0 (omega arith) (omega arith) in (omega arith, omega arith)
-
-act-returns-6 : (t : ℕ) → act-lts.Need-returns-6 (act-claims t) (act-at t) act.Post
-act-returns-6 t c =
-    let a = c .before .before .before .before .before .before .before .before .before .before .before .args in
-    let A = c .before .ahead2 .ensures in
-    operationWith-told (a .wanted .now) (a .cells .now) (a .at) (knownIn (a .known .passed) (a .facts .now) (a .known .count)) (c .alts3 .result) (c .before .ahead2 .result) (c .before .before .before .before .before .before .before .cell .result) (c .before .before .before .before .before .before .before .before .before .before .before .pre .1 .0) (c .before .before .before .before .before .before .before .cell .ensures) (c .before .before .if5 .left) (A .1 .0 (omega arith) (c .before .before .before .before .before .before .before .before .before .before .before .pre .1 .0)) (A .1 .1) (c .alts3 .ensures)
+act-returns-4 t c = let a = c .before .before .before .before .before .before .before .before .args in leaf-act (a .wanted .now) (a .cells .now) (a .at) (a .known .passed) (a .facts .now) (a .known .count) (c .leaf .result) (c .before .before .before .before .cell .result) (c .before .before .before .before .before .before .before .before .pre .1 .0) (c .before .before .before .before .cell .ensures) (c .before .before .before .if1 .left) (c .before .before .if2 .left) (c .before .if3 .left) (c .leaf .ensures)
 
 abbrev acts-Inv-loop : acts-lts.InvT-loop
 acts-Inv-loop cells at known facts wanted w₀ i₀ w i = (at ≤ i) × (i ≤ length cells) × ((t : Acts) (k : List ℕ) → LiesAll (drop at cells) t k → Left wanted cells i (knownIn (known .passed) facts (known .count)) w t k)
@@ -393,24 +386,19 @@ pub +act+acts+alts+valued-spec : {M : Type 1} → statement M
     (act-acts-requires t)
     (act-cycled-requires t)
     (act-returns t)
-    (act-add-alts t)
-    (act-alts-requires t)
-    (act-returns-2 t)
     (act-add-half t)
     (act-half-requires t)
     (act-ahead-requires t)
     (act-valued-requires t)
     (act-wide-requires t)
     (act-calling-requires t)
+    (act-returns-2 t)
+    (act-head-requires t)
+    (act-ahead-requires-2 t)
+    (act-alts-requires t)
     (act-returns-3 t)
     (act-leaf-requires t)
-    (act-returns-4 t)
-    (act-add-alts-2 t)
-    (act-alts-requires-2 t)
-    (act-returns-5 t)
-    (act-ahead-requires-2 t)
-    (act-alts-requires-3 t)
-    (act-returns-6 t))
+    (act-returns-4 t))
     (λ t. acts-lts.spec (acts-claims t) (acts-at t) acts.Post acts-Inv-loop acts-μ-loop
     (acts-simple-requires t)
     (acts-loop-holds t)
