@@ -23,7 +23,7 @@ use Rattle.program.specs.Accepted.{Labelled, NeedsLabel, OkPlain, OkSelector, O
 use Rattle.program.specs.Past.{isExit, exits, exitsAll, exitsSome, exitsOther, pastAll}
 use Rattle.program.specs.Program.{Plain, match, any, emit, error, exit, call, back, give, update, updateWith, Selector, byToken, byRule, byOperation, byOperationWith, Act, Acts, Alts, Other, Rule, ruleOf, bodyOf}
 use Rattle.program.specs.Table.{sizePlain, sizeSelector, sizeAbsent, countLabels, size, sizes, sizeAlts, sizeOther, labelWords, tableWords, firstOf, firstLabel, absentWords, choiceNumber, selectorWords, plainWords, code, codes, codeAlts, codeOther, endWords, sizeRule, rulesWords, place, table}
-use Rattle.agreement.proofs.Lay.{Entry, lookup, entries, Leads, leads-none, leads, Table, LayPlain, lay-match, lay-any, lay-emit, lay-error, lay-exit, lay-call, lay-back, lay-give, lay-update, lay-updateWith, Lay, lay-plain, lay-cycle, lay-token, lay-rule, lay-operation, lay-operationWith, Lays, lays-done, lays-cons, LayChoice, lay-choice, LayAlts, alts-nil, alts-cons, LayOther, other-input, other-end, other-is, At, at-place, End, end-rule}
+use Rattle.agreement.proofs.Lay.{Entry, lookup, entries, Leads, leads-none, leads, Entries, entries-nil, entries-cons, Table, LayPlain, lay-match, lay-any, lay-emit, lay-error, lay-exit, lay-call, lay-back, lay-give, lay-update, lay-updateWith, Lay, lay-plain, lay-cycle, lay-token, lay-rule, lay-operation, lay-operationWith, Lays, lays-done, lays-cons, LayChoice, lay-choice, LayAlts, alts-nil, alts-cons, LayOther, other-input, other-end, other-is, At, at-place, End, end-rule}
 
 -- Words in a table
 
@@ -125,6 +125,31 @@ module _ (T tokens : List ℕ) (u : ℕ) where
       near : (c p n : ℕ) → c + p + 2 * n ≡ c + (p + 2 * n)
       near c p n = omega arith
 
+-- the same, one entry after the other
+module _ (T : List ℕ) where
+  entries-at : {l l′ : ℕ} {ps : List Entry} → Entries T l ps → l ≡ l′ → Entries T l′ ps
+  entries-at {ps = ps} h p = subst (λ (i : ℕ). Entries T i ps) p h
+
+  entries-all : (ls : List ℕ) (ps : List Entry) (c d p l : ℕ) → l + d ≡ c → Seg T (c + p) (labelWords d p ls)
+      → Entries T (c + p + 2 * length ls) ps → Entries T (c + p) (entries ls l ps)
+  unfolding labelWords entries
+  entries-all [] ps c d p l e s h = entries-at h (omega arith)
+  entries-all (v ∷ ls) ps c d p l e (seg-cons f (seg-cons g s)) h =
+      let g₁ : fetch T (c + p + 1) ≡ some (d + (p + 1)) = rw (add-one (c + p)) g in
+      entries-cons {y = l} g₁ (omega arith)
+      (entries-at (entries-all ls ps c d (p + 2) l e (seg-at s (omega arith)) (entries-at h (omega arith))) (omega arith))
+
+  pairs-all : (q : Alts) (c p l : ℕ) → l + sizeAlts q ≡ c → Seg T (c + p) (tableWords p q) → Entries T (c + p) (pairs l q)
+  unfolding tableWords pairs sizeAlts
+  pairs-all nil c p l e s = entries-nil
+  pairs-all (alternative ls b q) c p l e s =
+      let d = sizes b + (2 + sizeAlts q) in
+      let a = labelWords d p ls in
+      let t = tableWords (p + 2 * length ls) q in
+      entries-all ls (pairs (l + sizes b + 2) q) c d p l e (seg-left a t s)
+      (entries-at (pairs-all q c (p + 2 * length ls) (l + sizes b + 2) (omega arith)
+      (seg-at (seg-right a t s) (omega (arith, length-labels d p ls)))) (omega arith))
+
 laid-table : (T : List ℕ) (q : Alts) (l : ℕ) (ws : List ℕ) → Seg T (l + sizeAlts q) (countLabels q ∷ (tableWords 1 q ++ ws))
     → Table T (l + sizeAlts q) (pairs l q)
 laid-table T q l ws (seg-cons f s) =
@@ -133,6 +158,7 @@ laid-table T q l ws (seg-cons f s) =
     record {
       count = rw (pairs-length l q) f;
       fits = le-leb (l + sizeAlts q + 2 * length (pairs l q)) (length T) (omega (arith, last, length-tableWords 1 q, pairs-length l q));
+      all = pairs-all T q (l + sizeAlts q) 1 l refl (seg-at left (omega arith));
       finds = λ tokens u. pairs-find T tokens u q (l + sizeAlts q) 1 l refl (seg-at left (omega arith));
     }
 

@@ -38,10 +38,16 @@ pub data Leads (T : List ℕ) : Option ℕ → Option ℕ → Type 0 where
   leads-none : Leads T none none
   leads : {l x y : ℕ} → fetch T l ≡ some x → l - x ≡ y → Leads T (some l) (some y)
 
+-- the distances behind the labels from l on lead to the entries' locations, one after the other
+pub data Entries (T : List ℕ) : ℕ → List Entry → Type 0 where
+  entries-nil : {l : ℕ} → Entries T l []
+  entries-cons : {l v x y : ℕ} {ps : List Entry} → fetch T (l + 1) ≡ some x → l + 1 - x ≡ y → Entries T (l + 2) ps → Entries T l ((v, y) ∷ ps)
+
 -- the choice table of these entries stands at c
 pub record Table (T : List ℕ) (c : ℕ) (ps : List Entry) : Type 0 where
   pub count : fetch T c ≡ some (length ps)
   pub fits : leb (c + 2 * length ps) (length T) ≡ true
+  pub all : Entries T (c + 1) ps
   pub finds : (tokens : List ℕ) (v : ℕ) → Leads T (seek T tokens v (length ps) (c + 1)) (lookup v ps)
 
 -- Walks

@@ -1,0 +1,5 @@
+pub mod Laws
+pub mod Visits
+pub mod Reaches
+pub mod Filing
+pub mod Loading

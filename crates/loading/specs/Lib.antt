@@ -1,0 +1,5 @@
+pub mod Reach
+pub mod Taking
+pub mod File
+pub mod Reading
+pub mod Promise

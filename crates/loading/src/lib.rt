@@ -1,0 +1,1 @@
+// Definitions only: table files and the check on loading.

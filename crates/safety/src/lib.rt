@@ -1,0 +1,1 @@
+// What the check on loading promises of walks and of the processor: theorems only.
