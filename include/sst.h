@@ -1,4 +1,4 @@
-/* S/SL tables: from a program's text to its table and verdict, and walking a table, whole or in pauses.
+/* S/SL tables: from a program's text to its table and verdict, table files, and walking a table, whole or in pauses.
  *
  * Words are 16 bits, high byte first; an odd last byte of a buffer counts for nothing and is never touched. A buffer is a pointer and
  * its length in bytes; the pointer is not null, also where the length is 0. Buffers of one call do not overlap. Nothing is kept between
@@ -16,7 +16,8 @@
  *   34  stopped: the answers of sst_whole are used up
  *   35  fewer than three words are left in the event buffer: call again with another one
  *   36  the budget is done: call again
- *   37  stopped: the table is no table of the processor's
+ *   37  stopped: the table is no table of the processor's. On a table that sst_load or sst_process has answered with 0 no walk from sst_fresh
+ *       comes to it, whatever the tokens, the answers and the allowance
  * Only 22, 35 and 36 leave a walk that can be called on; the other stops are final, and repeat.
  *
  * The number that sst_process answers (docs/FAULTS.md has a bad and a mended text for each):
@@ -31,6 +32,14 @@
  *    8  a choice rule that reaches its semicolon, `>>` without its value, or with one in a procedure rule
  *    9  over a limit
  *   20  the table passes the lent buffer or 4,096 words
+ *
+ * The number that sst_load and sst_write_file answer, tested in this order; with each but 0 all that was lent is zeroed:
+ *    0  loaded, or written
+ *   40  loading: bytes that are not exactly a table file (docs/LAYOUT.md), be it a byte more or less, another mark or count, a verdict word
+ *       above 1 or a length outside 1 to 4,096. Writing: such a verdict or such a length
+ *   20  the lent table, or the lent file buffer, is too short
+ *   41  a location that can be reached gives 37: every jump target, label, default, call and place after a call counts as possible,
+ *       starting at location 1
  */
 #ifndef SST_H
 #define SST_H
@@ -48,6 +57,16 @@ extern "C" {
  * refusal). Answers any number of the second list above. */
 uint16_t sst_process(const uint8_t *text, size_t text_len, uint8_t *table, size_t table_len, uint64_t *start, uint64_t *len,
                      uint64_t *words, uint64_t *finishing);
+
+/* Loads a table file. Read: file, any bytes. Lent: table, every whole word of which is written: the file's table and then zeros, or zeros alone
+ * with 40, 20 and 41; an odd last byte is kept. `*words` becomes the number of the table's words, `*verdict` the file's verdict word, 1 for
+ * "finishing" and 0 for not, which is what the sender claims: nothing here has tested it (both 0 with 40, 20 and 41). Answers a number of the
+ * third list above. Up to 4,096 words are loaded, so a table of SST_TABLE_BYTES bytes is never too short. */
+uint16_t sst_load(const uint8_t *file, size_t file_bytes, uint8_t *table, size_t table_bytes, uint64_t *words, uint64_t *verdict);
+
+/* The bytes of the longest table and of its file. */
+#define SST_TABLE_BYTES 8192
+#define SST_FILE_BYTES 8264
 
 /* The bytes of a walk. */
 #define SST_WALK_BYTES 158

@@ -1,3 +1,4 @@
 pub mod Writes
 pub mod Entries
 pub mod Processing
+pub mod Filing

@@ -9,7 +9,9 @@ ghost use Rattle.machine.specs.Bytes.{wordsOf, count};
 ghost use Rattle.machine.specs.Walk.{fresh};
 ghost use Rattle.machine.specs.Call.{whole};
 ghost use Rattle.machine.specs.Form as form;
+ghost use Rattle.loading.specs.File as files;
 ghost use Rattle.processor.specs.Process.{process, lentBytes};
+ghost use Rattle.firmware.specs.Filing.{hands};
 ghost use Rattle.firmware.specs.Processing.{flagOf, numbersOf, tells};
 ghost use Rattle.walker.specs.View as view;
 ghost use Rattle.firmware.specs.Writes.{puts, registerWords, registersIn, Holds};
@@ -526,5 +528,19 @@ pub extern "C" fn sst_process(
     *len = a.len as u64;
     *words = a.words as u64;
     *finishing = flag(a.finishing);
+    a.number
+}
+
+// Table files
+
+// A file's table is put into the lent one, if the loader takes it.
+#[no_mangle]
+pub extern "C" fn sst_load(file: &[u8], table: &mut [u8], words: &mut u64, verdict: &mut u64) -> u16
+    ensures { λ r. ⌜ hands r (now (words .exit)) (now (verdict .exit)) ≡ files.numbersOf (files.load (now (file .entry)) (count (now (table .entry)))) ⌝ }
+    ensures lent { λ _. ⌜ now (table .exit) ≡ files.lentBytes (files.load (now (file .entry)) (count (now (table .entry)))) (now (table .entry)) ⌝ }
+{
+    let a = loader::load(file, table);
+    *words = a.words as u64;
+    *verdict = a.verdict as u64;
     a.number
 }
