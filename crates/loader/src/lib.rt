@@ -11,7 +11,7 @@ ghost use Rattle.loading.specs.File.{tableNamed, isFile, load};
 ghost use Rattle.loading.specs.Reading.{formed};
 ghost use Rattle.loading.specs.Taking.{labelled, taken};
 ghost use Rattle.loader.specs.Marking.{work, markOf, marksOf, choiceOf, visitOf, Kept, Marked, Lies, Ready, Holds, Takes, Tells};
-ghost use Rattle.loader.specs.Records.{fullAt, lastAt, sizeNamed, zeroed, putWord, Loads};
+ghost use Rattle.loader.specs.Records.{fullAt, lastAt, sizeNamed, Loads};
 
 // The most words that a table has.
 const TABLE_WORDS: usize = 4096;
@@ -435,26 +435,6 @@ pub struct Loaded {
     pub verdict: usize,
 }
 
-// All whole words are 0.
-fn clear_words(out: &mut [u8])
-    ensures { λ _. ⌜ now (out .exit) ≡ zeroed (now (out .entry)) ⌝ }
-{
-    let n = out.len() / 2 * 2;
-    let mut i: usize = 0;
-    while i < n {
-        out[i] = 0;
-        i += 1;
-    }
-}
-
-fn put_word(out: &mut [u8], i: usize, x: u16)
-    requires { ⌜ 2 * i + 1 < length (now out) ⌝ }
-    ensures { λ _. ⌜ now (out .exit) ≡ putWord (now (out .entry)) i x ⌝ }
-{
-    out[2 * i] = (x / 256) as u8;
-    out[2 * i + 1] = (x % 256) as u8;
-}
-
 // The words of the table are copied from its file.
 fn copy_words(file: &[u8], n: usize, out: &mut [u8])
     requires { ⌜ (isFile (now file) ≡ true) × (n ≡ length (tableNamed (now file))) × (n ≤ 4096) × (2 * n ≤ length (now out)) ⌝ }
@@ -463,7 +443,7 @@ fn copy_words(file: &[u8], n: usize, out: &mut [u8])
     let mut k: usize = 0;
     while k < n {
         let x = machine::word(file, k + 2 * (k / RECORD_WORDS) + WORDS_AT);
-        put_word(out, k, x);
+        buffers::put_word(out, k, x);
         k += 1;
     }
 }
@@ -474,7 +454,7 @@ pub fn load(file: &[u8], table: &mut [u8]) -> Loaded
 {
     let n = file_words(file);
     let room = table.len() / 2;
-    clear_words(table);
+    buffers::clear_words(table);
     if n == 0 {
         return Loaded {
             number: NO_FILE,
@@ -492,7 +472,7 @@ pub fn load(file: &[u8], table: &mut [u8]) -> Loaded
     copy_words(file, n, table);
     let end = 2 * n;
     if !takes(&table[..end]) {
-        clear_words(table);
+        buffers::clear_words(table);
         return Loaded {
             number: GIVES_37,
             words: 0,
