@@ -4,4 +4,5 @@ pub mod Ways
 pub mod Exact
 pub mod Behind
 pub mod Files
+pub mod Inverse
 pub mod Readings

@@ -1,5 +1,6 @@
 pub mod Reach
 pub mod Taking
 pub mod File
+pub mod Inverse
 pub mod Reading
 pub mod Promise
