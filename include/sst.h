@@ -64,6 +64,12 @@ uint16_t sst_process(const uint8_t *text, size_t text_len, uint8_t *table, size_
  * third list above. Up to 4,096 words are loaded, so a table of SST_TABLE_BYTES bytes is never too short. */
 uint16_t sst_load(const uint8_t *file, size_t file_bytes, uint8_t *table, size_t table_bytes, uint64_t *words, uint64_t *verdict);
 
+/* Writes the file of a table and a verdict. Read: table, all of whose whole words are the table, so `table_bytes` is twice the `*words` of sst_process;
+ * verdict, 1 or 0. Lent: file, every whole word of which is written: the file's words and then zeros, or zeros alone with 40, 20 and 41; an odd last
+ * byte is kept. `*words` becomes the number of the file's words (0 with 40, 20 and 41). Answers a number of the third list above. A buffer of
+ * SST_FILE_BYTES bytes is never too short. What is written, sst_load takes. */
+uint16_t sst_write_file(const uint8_t *table, size_t table_bytes, uint64_t verdict, uint8_t *file, size_t file_bytes, uint64_t *words);
+
 /* The bytes of the longest table and of its file. */
 #define SST_TABLE_BYTES 8192
 #define SST_FILE_BYTES 8264

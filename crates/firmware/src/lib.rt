@@ -544,3 +544,20 @@ pub extern "C" fn sst_load(file: &[u8], table: &mut [u8], words: &mut u64, verdi
     *verdict = a.verdict as u64;
     a.number
 }
+
+// The file of a table and a verdict is put into the lent buffer, if the loader would take it.
+#[no_mangle]
+pub extern "C" fn sst_write_file(
+    table: &[u8],
+    verdict: u64,
+    file: &mut [u8],
+    words: &mut u64,
+) -> u16
+    ensures { λ r. ⌜ r ≡ files.numbersOf (files.store (wordsOf (now (table .entry))) verdict (count (now (file .entry)))) .number ⌝ }
+    ensures words { λ _. ⌜ now (words .exit) ≡ files.numbersOf (files.store (wordsOf (now (table .entry))) verdict (count (now (file .entry)))) .words ⌝ }
+    ensures lent { λ _. ⌜ now (file .exit) ≡ files.lentBytes (files.store (wordsOf (now (table .entry))) verdict (count (now (file .entry)))) (now (file .entry)) ⌝ }
+{
+    let a = writer::write_file(table, verdict, file);
+    *words = a.words as u64;
+    a.number
+}
