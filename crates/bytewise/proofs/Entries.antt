@@ -31,7 +31,7 @@ use Rattle.bytewise.specs.ByteCalls.{Slice, choicesIn, Waits, ByteCalls,
 -- The lent bytes
 
 -- the table in the lent bytes: the program's words, and something behind them
-lent-table : (words : List ℕ) (verdict : Bool) (lent : List ℕ) → length words ≤ 4096
+pub lent-table : (words : List ℕ) (verdict : Bool) (lent : List ℕ) → length words ≤ 4096
     → (more : List ℕ) × (tableOf (lentBytes (accepted words verdict) lent) ≡ words ++ more)
 unfolding tableOf lentBytes lentWords
 lent-table words verdict lent h =
@@ -45,10 +45,10 @@ lent-table words verdict lent h =
     )
 
 -- each number of the list is below the bound
-abbrev Below : ℕ → List ℕ → Type 0
+abbrev pub Below : ℕ → List ℕ → Type 0
 Below b s = (i : ℕ) → getD s i 0 < b
 
-below-then : (b : ℕ) (s r : List ℕ) → Below b s → Below b r → Below b (s ++ r)
+pub below-then : (b : ℕ) (s r : List ℕ) → Below b s → Below b r → Below b (s ++ r)
 below-then b [] r h k i = k i
 below-then b (x ∷ s) r h k zero = h 0
 below-then b (x ∷ s) r h k (suc i) = below-then b s r (λ j. h (suc j)) k i
@@ -58,7 +58,7 @@ below-zeros b zero h i = h
 below-zeros b (suc n) h zero = h
 below-zeros b (suc n) h (suc i) = below-zeros b n h i
 
-below-drop : (b n : ℕ) (s : List ℕ) → 0 < b → Below b s → Below b (drop n s)
+pub below-drop : (b n : ℕ) (s : List ℕ) → 0 < b → Below b s → Below b (drop n s)
 below-drop b zero s z h i = h i
 below-drop b (suc n) [] z h i = z
 below-drop b (suc n) (x ∷ s) z h i = below-drop b n s z (λ j. h (suc j)) i
@@ -70,7 +70,7 @@ below-bytes (w ∷ ws) h zero = omega (arith, h 0)
 below-bytes (w ∷ ws) h (suc zero) = omega arith
 below-bytes (w ∷ ws) h (suc (suc i)) = below-bytes ws (λ j. h (suc j)) i
 
-lent-bytes : (words : List ℕ) (verdict : Bool) (lent : List ℕ) → Below 65536 words → Below 256 lent → Below 256 (lentBytes (accepted words verdict) lent)
+pub lent-bytes : (words : List ℕ) (verdict : Bool) (lent : List ℕ) → Below 65536 words → Below 256 lent → Below 256 (lentBytes (accepted words verdict) lent)
 unfolding lentBytes lentWords
 lent-bytes words verdict lent h k =
     let zeros : List ℕ = replicate (count lent - length words) 0 in

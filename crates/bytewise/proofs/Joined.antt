@@ -60,14 +60,14 @@ written-is es buffer =
     let e = wordsOf-then (eventsWords es) (drop (length (bytesOf (eventsWords es))) buffer) in
     rw (e, sym (length-eventsWords es)) (take-append-seam (eventsWords es) (wordsOf (drop (length (bytesOf (eventsWords es))) buffer)))
 
-small-words : (s : List ℕ) → ((i : ℕ) → getD s i 0 < 256) → Small (wordsOf s)
+pub small-words : (s : List ℕ) → ((i : ℕ) → getD s i 0 < 256) → Small (wordsOf s)
 unfolding wordsOf
 small-words [] b i = omega arith
 small-words (h ∷ []) b i = omega arith
 small-words (h ∷ l ∷ s) b zero = omega (arith, b 0, b 1)
 small-words (h ∷ l ∷ s) b (suc i) = small-words s (λ k. b (suc (suc k))) i
 
-small-take : (n : ℕ) (l : List ℕ) → Small l → Small (take n l)
+pub small-take : (n : ℕ) (l : List ℕ) → Small l → Small (take n l)
 small-take zero l b i = omega arith
 small-take (suc n) [] b i = omega arith
 small-take (suc n) (x ∷ l) b zero = b 0

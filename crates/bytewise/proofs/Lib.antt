@@ -2,3 +2,4 @@
 pub mod Facts
 pub mod Joined
 pub mod Entries
+pub mod Loaded

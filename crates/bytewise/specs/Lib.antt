@@ -1,2 +1,3 @@
 pub mod ByteCalls
 pub mod AtEntries
+pub mod AtLoading

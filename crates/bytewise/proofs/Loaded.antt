@@ -1,0 +1,50 @@
+-- Where `sst_load` answers 0, no call over the bytes that it left answers 37.
+use mathlib.Core.Bool.{true}
+use mathlib.Core.List.{List, [], _∷_, _++_}
+use mathlib.Core.Path.{_≡_, refl, sym, ap, _∙_}
+use Prim.Native.Nat.{ℕ, zero, suc, _<_}
+use native.Mathlib.Omega.{arith}
+use lib.ListN.{length, take, drop}
+use Rattle.loading.proofs.Files.{table-file, length-allowed, loads-exactly, loads-0}
+use Rattle.loading.specs.File as files
+use Rattle.loading.specs.File.{blocks, tableNamed, done, load, Numbers, numbersOf}
+use Rattle.machine.specs.Bytes.{count, wordsOf, tableOf}
+use Rattle.processor.specs.Process.{accepted, lentWords, lentBytes}
+use Rattle.safety.proofs.Theorem.{loaded-never-37}
+use Rattle.bytewise.proofs.Entries.{lent-table, Below, below-then, below-drop, lent-bytes}
+use Rattle.bytewise.proofs.Joined.{small-words, small-take, byte-calls}
+use Rattle.bytewise.specs.AtLoading.{Loads, NeverBytes37}
+use Rattle.bytewise.specs.ByteCalls.{Slice}
+
+-- the words of a file's records are words of the file
+below-blocks : (n : ℕ) (ws : List ℕ) → Below 65536 ws → Below 65536 (blocks n ws)
+unfolding blocks
+below-blocks zero ws h = λ i. omega arith
+below-blocks (suc n) ws h =
+    below-then 65536 (take 256 (drop 2 ws)) (blocks n (drop 258 ws)) (small-take 256 (drop 2 ws) (below-drop 65536 2 ws (omega arith) h))
+    (below-blocks n (drop 258 ws) (below-drop 65536 258 ws (omega arith) h))
+
+below-named : (file : List ℕ) → Slice file → Below 65536 (tableNamed file)
+unfolding tableNamed
+below-named file s = below-blocks 16 (drop 4 (wordsOf file)) (below-drop 65536 4 (wordsOf file) (omega arith) (small-words file (s .bytes)))
+
+-- the lent bytes are what the processor would have left
+same-lent : (ws : List ℕ) (v : ℕ) (lent : List ℕ) → files.lentBytes (done ws v) lent ≡ lentBytes (accepted ws true) lent
+unfolding files.lentBytes files.lentWords lentBytes lentWords
+same-lent ws v lent = refl
+
+pub from-load : (file lent table : List ℕ) (x : Numbers) → Loads file lent table x → x .number ≡ 0 → NeverBytes37 table
+from-load file lent table x l z tokens answers bk ba allowance small s ws n number ns c =
+    let d = loads-0 file (count lent) (ap (λ (y : Numbers). y .number) (sym (l .numbers)) ∙ z) in
+    let T = d .0 in
+    let v = d .1 in
+    let e = loads-exactly file (count lent) T v .only-these (d .2) in
+    let low = length-allowed (length T) v (e .limits) in
+    let named : tableNamed file ≡ T = ap tableNamed (e .one-file) ∙ table-file T v low in
+    let left : table ≡ lentBytes (accepted T true) lent = l .bytes ∙ ap (λ (a : files.Answer). files.lentBytes a lent) (d .2) ∙ same-lent T v lent in
+    let more = lent-table T true lent low in
+    let words : Below 65536 T = rw named at (below-named file (l .source)) in
+    let bytes : Below 256 table = rw left (lent-bytes T true lent words (l .buffer .bytes)) in
+    let begins : tableOf table ≡ T ++ more .0 = ap tableOf left ∙ more .1 in
+    let st = byte-calls table tokens answers bytes bk ba allowance small c in
+    loaded-never-37 file (count lent) T v (more .0) (d .2) (wordsOf tokens) (wordsOf answers) allowance (st .walk) (st .events) n number ns (rw begins at (st .listed))
