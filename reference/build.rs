@@ -94,6 +94,20 @@ fn main() {
     }
 }
 
+/// The entries of the library, in the alphabet's order.
+const ENTRIES: &[&str] = &[
+    "allowance", //
+    "fresh",
+    "location",
+    "paused",
+    "phase",
+    "process",
+    "read",
+    "reason",
+    "used",
+    "whole",
+];
+
 /// Makes a libfirmware.a in `out` that shows nothing but the entries, so that what else the library holds cannot meet a namesake here.
 fn entries_only(library: &Path, out: &str) {
     let object = format!("{out}/firmware.o");
@@ -103,7 +117,7 @@ fn entries_only(library: &Path, out: &str) {
     run(Command::new("as").args(["--noexecstack", &format!("{before}.s"), "-o", &format!("{before}.o")]));
     let mut linker = Command::new("ld");
     linker.args(["-r", "--force-group-allocation", "-o", &object, &format!("{before}.o")]);
-    for entry in ["fresh", "whole", "paused", "phase", "reason", "location", "read", "used", "allowance", "process"] {
+    for entry in ENTRIES {
         linker.args(["-u", &format!("sst_{entry}")]);
     }
     run(linker.arg(library));
