@@ -98,6 +98,7 @@ fn main() {
 const ENTRIES: &[&str] = &[
     "allowance", //
     "fresh",
+    "load",
     "location",
     "paused",
     "phase",
@@ -106,6 +107,7 @@ const ENTRIES: &[&str] = &[
     "reason",
     "used",
     "whole",
+    "write_file",
 ];
 
 /// Makes a libfirmware.a in `out` that shows nothing but the entries, so that what else the library holds cannot meet a namesake here.

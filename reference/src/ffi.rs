@@ -1,6 +1,7 @@
 //! The C entries: of the library (`include/sst.h`, feature `lib`) and of the plain C walker (`c/walker.c`).
 #![allow(unsafe_code)]
 
+use crate::files::Files;
 use crate::side::{Inputs, Processor, Side};
 use crate::walker::Done;
 use std::ffi::c_void;
@@ -210,6 +211,17 @@ mod process {
             Processed { number, start, len, words, finishing }
         }
     }
+}
+
+#[cfg(feature = "lib")]
+mod files;
+
+/// The library's loader and writer, where they are linked.
+pub fn files() -> Option<&'static dyn Files> {
+    #[cfg(feature = "lib")]
+    return Some(&Library);
+    #[cfg(not(feature = "lib"))]
+    return None;
 }
 
 /// The library's processor, where it is linked.

@@ -15,7 +15,9 @@ pub mod processor;
 pub mod rules;
 pub mod verdict;
 
+pub mod crowded;
 pub mod faults;
+pub mod files;
 pub mod limits;
 pub mod pairs;
 pub mod programs;
