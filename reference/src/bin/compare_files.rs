@@ -96,9 +96,12 @@ impl Harness {
         true
     }
 
-    /// Walks a table that was taken, in calls of all sorts: never 37.
+    /// Walks a table that was taken, half of the time with any words behind it, in calls of all sorts: never 37.
     fn walk(&mut self, rng: &mut Rng, table: &[u16]) {
-        let table = bytes(table);
+        let mut table = bytes(table);
+        if rng.once_in(2) {
+            table.extend((0..rng.below(40)).map(|_| rng.draw() as u8));
+        }
         let (tokens, answers) = random::lead(rng, &table);
         let (tokens, answer_bytes) = (bytes(&tokens), bytes(&answers));
         let inputs = Inputs { table: &table, tokens: &tokens, answers: &answer_bytes };
