@@ -1,4 +1,5 @@
 pub mod Laws
+pub mod Passing
 pub mod Visits
 pub mod Reaches
 pub mod Filing

@@ -11,10 +11,19 @@ ghost use Rattle.loading.specs.File.{tableNamed, isFile, load};
 ghost use Rattle.loading.specs.Reading.{formed};
 ghost use Rattle.loading.specs.Taking.{labelled, taken};
 ghost use Rattle.loader.specs.Marking.{work, markOf, marksOf, choiceOf, visitOf, Kept, Marked, Lies, Ready, Holds, Takes, Tells};
+ghost use Rattle.loader.specs.Passing.{Passed, Through, Piece, Whole};
 ghost use Rattle.loader.specs.Records.{fullAt, lastAt, sizeNamed, Loads};
 
 // The most words that a table has.
 const TABLE_WORDS: usize = 4096;
+
+// Choice tables are gone through in blocks of 16 entries, each once, so that tables which many choices share or which overlap cost no more than their
+// entries. A block begins at a location that its words divide, or one behind it.
+const BLOCK: usize = 16;
+
+const BLOCK_WORDS: usize = 32;
+
+const BLOCKS: usize = 256;
 
 // The numbers of the instructions that do not go on with the word behind them.
 const JUMP_FORWARD: usize = 1;
@@ -65,10 +74,17 @@ pub struct Marks {
     pub tail: usize,
 }
 
-// An instruction of two words: its number and its operand.
+// An instruction of two words: its location, its number and its operand.
 struct Instruction {
+    at: usize,
     number: usize,
     operand: usize,
+}
+
+// Entries of a choice table: where the first label stands, and how many there are.
+struct Entries {
+    first: usize,
+    count: usize,
 }
 
 // The words of a table: those past 4,096 are outside it.
@@ -159,6 +175,90 @@ fn mark_labels(
     Marks { ok: true, tail: at }
 }
 
+// How many of the entries that are left stand in the block of the first one.
+fn piece(first: usize, left: usize) -> usize
+    requires { ⌜ 1 ≤ left ⌝ }
+    ensures { λ r. ⌜ Piece left r ⌝ }
+{
+    let here = (BLOCK_WORDS + 1 - first % BLOCK_WORDS) / 2;
+    if left < here { left } else { here }
+}
+
+// Whether the entries are a whole block.
+fn is_block(e: Entries) -> bool
+    ensures { λ r. ⌜ (r ≡ true → Whole (e .first) (e .count)) ⌝ }
+{
+    if e.count != BLOCK {
+        return false;
+    }
+    e.first % BLOCK_WORDS < 2
+}
+
+// Where the entries lead is marked, unless they are a block that was gone through.
+fn mark_piece(
+    table: &[u8],
+    e: Entries,
+    size: usize,
+    tail: usize,
+    seen: &mut [u8],
+    order: &mut [u16],
+    passed: &mut [u8],
+) -> Marks
+    requires { ⌜ Kept size tail (now seen) (now order) × Lies (tableOf (now table)) (e .count) (e .first) size × Passed (tableOf (now table)) size (now seen) (now passed) ⌝ }
+    ensures { λ r. ⌜ Through (tableOf (now (table .entry))) size (marksOf size (labelled (tableOf (now (table .entry))) (e .count) (e .first)) (work true tail (now (seen .entry)) (now (order .entry)))) (r .ok) (r .tail) (now (seen .exit)) (now (order .exit)) (now (passed .exit)) ⌝ }
+{
+    let first = e.first;
+    let n = e.count;
+    if !is_block(e) {
+        return mark_labels(table, n, first, size, tail, seen, order);
+    }
+    let block = first / BLOCK_WORDS * 2 + first % 2;
+    if passed[block] != 0 {
+        return Marks {
+            ok: true,
+            tail: tail,
+        };
+    }
+    let r = mark_labels(table, n, first, size, tail, seen, order);
+    if r.ok {
+        passed[block] = 1;
+    }
+    r
+}
+
+// Where the entries of a choice table lead is marked, block by block.
+fn mark_entries(
+    table: &[u8],
+    e: Entries,
+    size: usize,
+    tail: usize,
+    seen: &mut [u8],
+    order: &mut [u16],
+    passed: &mut [u8],
+) -> Marks
+    requires { ⌜ Kept size tail (now seen) (now order) × Lies (tableOf (now table)) (e .count) (e .first) size × Passed (tableOf (now table)) size (now seen) (now passed) ⌝ }
+    ensures { λ r. ⌜ Through (tableOf (now (table .entry))) size (marksOf size (labelled (tableOf (now (table .entry))) (e .count) (e .first)) (work true tail (now (seen .entry)) (now (order .entry)))) (r .ok) (r .tail) (now (seen .exit)) (now (order .exit)) (now (passed .exit)) ⌝ }
+{
+    let n = e.count;
+    let mut at = tail;
+    let mut i: usize = 0;
+    while i < n {
+        let first = e.first + 2 * i;
+        let k = piece(first, n - i);
+        let part = Entries {
+            first: first,
+            count: k,
+        };
+        let r = mark_piece(table, part, size, at, seen, order, passed);
+        if !r.ok {
+            return r;
+        }
+        at = r.tail;
+        i += k;
+    }
+    Marks { ok: true, tail: at }
+}
+
 // Two locations are marked.
 fn mark_two(
     m: usize,
@@ -186,9 +286,10 @@ fn mark_choice(
     tail: usize,
     seen: &mut [u8],
     order: &mut [u16],
+    passed: &mut [u8],
 ) -> Marks
-    requires { ⌜ Kept size tail (now seen) (now order) × (size ≡ length (tableOf (now table))) × (1 ≤ c) × (c < 1000000) ⌝ }
-    ensures { λ r. ⌜ Marked size (choiceOf (tableOf (now (table .entry))) c (work true tail (now (seen .entry)) (now (order .entry)))) (r .ok) (r .tail) (now (seen .exit)) (now (order .exit)) ⌝ }
+    requires { ⌜ Kept size tail (now seen) (now order) × (size ≡ length (tableOf (now table))) × (1 ≤ c) × (c < 1000000) × Passed (tableOf (now table)) size (now seen) (now passed) ⌝ }
+    ensures { λ r. ⌜ Through (tableOf (now (table .entry))) size (choiceOf (tableOf (now (table .entry))) c (work true tail (now (seen .entry)) (now (order .entry)))) (r .ok) (r .tail) (now (seen .exit)) (now (order .exit)) (now (passed .exit)) ⌝ }
 {
     if size < c {
         return Marks {
@@ -203,7 +304,11 @@ fn mark_choice(
             tail: tail,
         };
     }
-    let r = mark_labels(table, n, c + 1, size, tail, seen, order);
+    let all = Entries {
+        first: c + 1,
+        count: n,
+    };
+    let r = mark_entries(table, all, size, tail, seen, order, passed);
     if !r.ok {
         return r;
     }
@@ -241,32 +346,32 @@ fn visit_one(
 // An instruction of two words.
 fn visit_two(
     table: &[u8],
-    l: usize,
     i: Instruction,
     size: usize,
     tail: usize,
     seen: &mut [u8],
     order: &mut [u16],
+    passed: &mut [u8],
 ) -> Marks
-    requires { ⌜ Takes (tableOf (now table)) l (i .number) (i .operand) size tail (now seen) (now order) ⌝ }
-    ensures { λ r. ⌜ Marked size (visitOf (tableOf (now (table .entry))) l (work true tail (now (seen .entry)) (now (order .entry)))) (r .ok) (r .tail) (now (seen .exit)) (now (order .exit)) ⌝ }
+    requires { ⌜ Takes (tableOf (now table)) (i .at) (i .number) (i .operand) size tail (now seen) (now order) × Passed (tableOf (now table)) size (now seen) (now passed) ⌝ }
+    ensures { λ r. ⌜ Through (tableOf (now (table .entry))) size (visitOf (tableOf (now (table .entry))) (i .at) (work true tail (now (seen .entry)) (now (order .entry)))) (r .ok) (r .tail) (now (seen .exit)) (now (order .exit)) (now (passed .exit)) ⌝ }
 {
     if i.number == JUMP_FORWARD {
-        return mark(l + 1 + i.operand, size, tail, seen, order);
+        return mark(i.at + 1 + i.operand, size, tail, seen, order);
     }
     if i.number == JUMP_BACK {
-        return mark(back(l + 1, i.operand), size, tail, seen, order);
+        return mark(back(i.at + 1, i.operand), size, tail, seen, order);
     }
     if i.number == INPUT_CHOICE {
-        return mark_choice(table, l + 1 + i.operand, size, tail, seen, order);
+        return mark_choice(table, i.at + 1 + i.operand, size, tail, seen, order, passed);
     }
     if i.number == CALL {
-        return mark_two(i.operand, l + 2, size, tail, seen, order);
+        return mark_two(i.operand, i.at + 2, size, tail, seen, order);
     }
     if i.number == CHOICE {
-        return mark_choice(table, l + 1 + i.operand, size, tail, seen, order);
+        return mark_choice(table, i.at + 1 + i.operand, size, tail, seen, order, passed);
     }
-    mark(l + 2, size, tail, seen, order)
+    mark(i.at + 2, size, tail, seen, order)
 }
 
 // The ways from a location are marked, unless it gives 37.
@@ -277,9 +382,10 @@ fn visit(
     tail: usize,
     seen: &mut [u8],
     order: &mut [u16],
+    passed: &mut [u8],
 ) -> Marks
-    requires { ⌜ Ready (tableOf (now table)) l size tail (now seen) (now order) ⌝ }
-    ensures { λ r. ⌜ Marked size (visitOf (tableOf (now (table .entry))) l (work true tail (now (seen .entry)) (now (order .entry)))) (r .ok) (r .tail) (now (seen .exit)) (now (order .exit)) ⌝ }
+    requires { ⌜ Ready (tableOf (now table)) l size tail (now seen) (now order) × Passed (tableOf (now table)) size (now seen) (now passed) ⌝ }
+    ensures { λ r. ⌜ Through (tableOf (now (table .entry))) size (visitOf (tableOf (now (table .entry))) l (work true tail (now (seen .entry)) (now (order .entry)))) (r .ok) (r .tail) (now (seen .exit)) (now (order .exit)) (now (passed .exit)) ⌝ }
 {
     let i = machine::word(table, l - 1);
     let n = machine::instruction_length(i);
@@ -300,10 +406,11 @@ fn visit(
     }
     let x = word_at(table, l + 1);
     let two = Instruction {
+        at: l,
         number: wide(i),
         operand: x,
     };
-    visit_two(table, l, two, size, tail, seen, order)
+    visit_two(table, two, size, tail, seen, order, passed)
 }
 
 // All flags are 0.
@@ -318,9 +425,9 @@ fn clear(seen: &mut [u8])
     }
 }
 
-// Whether the table is taken; a flag for each location that can be reached. `order` is room for work.
-pub fn reach(table: &[u8], seen: &mut [u8], order: &mut [u16]) -> bool
-    requires { ⌜ (length (now seen) ≡ 4096) × (length (now order) ≡ 4096) ⌝ }
+// Whether the table is taken; a flag for each location that can be reached. `order` is room for work, and no block is passed yet.
+fn reach_all(table: &[u8], seen: &mut [u8], order: &mut [u16], passed: &mut [u8]) -> bool
+    requires { ⌜ (length (now seen) ≡ 4096) × (length (now order) ≡ 4096) × (now passed ≡ replicate 256 0) ⌝ }
     ensures { λ r. ⌜ Tells (tableOf (now (table .entry))) r (now (seen .exit)) ⌝ }
 {
     clear(seen);
@@ -333,7 +440,7 @@ pub fn reach(table: &[u8], seen: &mut [u8], order: &mut [u16]) -> bool
     let mut head: usize = 0;
     while head < tail {
         let l = wide(order[head]);
-        let r = visit(table, l, size, tail, seen, order);
+        let r = visit(table, l, size, tail, seen, order, passed);
         if !r.ok {
             return false;
         }
@@ -341,6 +448,15 @@ pub fn reach(table: &[u8], seen: &mut [u8], order: &mut [u16]) -> bool
         head += 1;
     }
     true
+}
+
+// Whether the table is taken; a flag for each location that can be reached. `order` is room for work.
+pub fn reach(table: &[u8], seen: &mut [u8], order: &mut [u16]) -> bool
+    requires { ⌜ (length (now seen) ≡ 4096) × (length (now order) ≡ 4096) ⌝ }
+    ensures { λ r. ⌜ Tells (tableOf (now (table .entry))) r (now (seen .exit)) ⌝ }
+{
+    let mut passed: [u8; BLOCKS] = [0; BLOCKS];
+    reach_all(table, seen, order, &mut passed)
 }
 
 // Whether the loader takes the table.
