@@ -5,11 +5,10 @@ use mathlib.Core.Logic.{_⊎_, inl, inr}
 use mathlib.Core.Path.{_≡_, refl, sym, ap, _∙_, subst}
 use Prim.Native.Nat.{ℕ, zero, suc, _+_, _*_, _-_, _/_, _%_, _<_, _≤_}
 use native.Mathlib.Omega.{arith}
-use lib.Dec.{eqb, leb, ltb}
-use lib.ListN.{length, getD, set, replicate, length-set, length-replicate, getD-replicate}
+use lib.Dec.{eqb, leb}
+use lib.ListN.{length, getD, set, replicate, length-set, length-replicate}
 use lib.Seq.{getD-set-same, getD-set-other}
-use native.Mathlib.Decide.{decLt}
-use borrow.Author.Tests.{eqb-true, eqb-false, leb-true, le-leb, ltb-true}
+use borrow.Author.Tests.{eqb-true, eqb-false, leb-true, le-leb}
 use Rattle.base.specs.Bools.{never, and, split}
 use Rattle.base.specs.Common.{if_then_else_, member}
 use Rattle.loading.proofs.Members.{member-head, member-tail, member-cons}
@@ -144,9 +143,6 @@ marks-same size (m ∷ ms) tail seen order a =
 pub not-whole : (first count : ℕ) → false ≡ true → Whole first count
 not-whole first count e = never e
 
-pub is-whole : (first count : ℕ) → count ≡ 16 → ltb (first % 32) 2 ≡ true → Whole first count
-is-whole first count e f = record { size = e; start = ltb-true (first % 32) 2 f }
-
 pub lies-part : {T : List ℕ} {n from size : ℕ} → Lies T n from size → (i k : ℕ) → i + k ≤ n → Lies T k (from + 2 * i) size
 lies-part l i k h = record { size-is = l .size-is; first = omega (arith, l .first); last = omega (arith, l .last) }
 
@@ -181,9 +177,6 @@ module _ {T : List ℕ} {n first size tail : ℕ} {seen order passed : List ℕ}
     };
   }
     where
-      v : Work
-      v = marksOf size (labelled T n first) (work true tail seen order)
-
       old : Passed T size seen′ passed
       old = through-marks tail order p (labelled T n first) m .passes
 
