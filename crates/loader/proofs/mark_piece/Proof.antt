@@ -1,8 +1,8 @@
+use lib.ListN.{length-set}
 use mathlib.Core.Path.{_≡_, refl, sym, _∙_}
 use native.Mathlib.Omega.{arith}
 use borrow.Author.Tests.{not-true, not-false}
 use Rattle.loader.proofs.Passing.{through-marks, piece-done, piece-new}
-use borrow.Author.Needs.{needs}
 use Rattle.loader.proofs.mark_piece.Statement.{statement}
 use Rattle.loader.proofs.mark_piece.Tie as tie
 
@@ -22,10 +22,10 @@ returns : tie.Need-returns
 returns c = through-marks _ _ (c .before .before .before .before .before .before .before .before .before .before .before .before .before .pre .2) _ (c .before .before .before .before .mark-labels .ensures)
 
 mul-block : tie.Need-mul-block
-mul-block c = search needs
+mul-block c = omega (arith, c .before .before .before .before .before .before .pre .1 .last, c .before .before .before .before .before .before .pre .0 .small)
 
 add-block : tie.Need-add-block
-add-block c = search needs
+add-block c = omega (arith, c .before .before .before .before .before .before .pre .1 .last, c .before .before .before .before .before .before .pre .0 .small)
 
 slice-read-if2 : tie.Need-slice-read-if2
 slice-read-if2 c = omega (arith, c .before .before .before .before .before .before .before .pre .2 .room, c .before .before .before .before .before .before .before .pre .1 .last, c .before .before .before .before .before .before .before .pre .0 .small, (c .before .before .is-block .ensures (not-false _ (c .before .if1 .left))) .size)
@@ -40,22 +40,22 @@ slice-write-passed : tie.Need-slice-write-passed
 slice-write-passed c = omega (arith, c .before .before .before .before .before .before .before .before .before .before .before .before .before .before .before .before .pre .2 .room, c .before .before .before .before .before .before .before .before .before .before .before .before .before .before .before .before .pre .1 .last, c .before .before .before .before .before .before .before .before .before .before .before .before .before .before .before .before .pre .0 .small, (c .before .before .before .before .before .before .before .before .before .before .before .is-block .ensures (not-false _ (c .before .before .before .before .before .before .before .before .before .before .if1 .left))) .size)
 
 same-length-3 : tie.Need-same-length-3
-same-length-3 c = search needs
+same-length-3 c = c .before .before .before .before .before .mark-labels2 .ensures .kept .flags ∙ sym (c .before .before .before .before .before .before .before .before .before .before .before .before .before .before .before .before .pre .0 .flags)
 
 same-length-4 : tie.Need-same-length-4
-same-length-4 c = search needs
+same-length-4 c = c .before .before .before .before .before .mark-labels2 .ensures .kept .row ∙ sym (c .before .before .before .before .before .before .before .before .before .before .before .before .before .before .before .before .pre .0 .row)
 
 same-length-5 : tie.Need-same-length-5
-same-length-5 c = search needs
+same-length-5 c = simp length-set
 
 returns-3 : tie.Need-returns-3
 returns-3 c = piece-new (c .before .before .before .before .before .before .before .before .before .before .before .before .before .before .before .before .pre .0) (c .before .before .before .before .before .before .before .before .before .before .before .before .before .before .before .before .pre .2) _ refl (c .before .before .before .before .before .before .before .before .before .before .before .is-block .ensures (not-false _ (c .before .before .before .before .before .before .before .before .before .before .if1 .left))) (c .before .before .before .before .before .mark-labels2 .ensures) (c .if3 .taken) (omega (arith, c .before .before .before .before .before .before .before .before .before .before .before .before .before .before .before .before .pre .1 .last, c .before .before .before .before .before .before .before .before .before .before .before .before .before .before .before .before .pre .0 .small, (c .before .before .before .before .before .before .before .before .before .before .before .is-block .ensures (not-false _ (c .before .before .before .before .before .before .before .before .before .before .if1 .left))) .size))
 
 same-length-6 : tie.Need-same-length-6
-same-length-6 c = search needs
+same-length-6 c = c .before .before .before .before .before .mark-labels2 .ensures .kept .flags ∙ sym (c .before .before .before .before .before .before .before .before .before .before .before .before .before .before .before .before .pre .0 .flags)
 
 same-length-7 : tie.Need-same-length-7
-same-length-7 c = search needs
+same-length-7 c = c .before .before .before .before .before .mark-labels2 .ensures .kept .row ∙ sym (c .before .before .before .before .before .before .before .before .before .before .before .before .before .before .before .before .pre .0 .row)
 
 returns-4 : tie.Need-returns-4
 returns-4 c = through-marks _ _ (c .before .before .before .before .before .before .before .before .before .before .before .before .before .before .before .before .pre .2) _ (c .before .before .before .before .before .mark-labels2 .ensures)

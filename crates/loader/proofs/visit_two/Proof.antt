@@ -1,15 +1,15 @@
+use native.Mathlib.Omega.{arith}
 use mathlib.Core.Path.{_≡_, refl, sym, _∙_}
 use Rattle.loader.proofs.Visits.{same-work, forward-is, back-is, input-choice-is, choice-is, call-is, on-is}
 use Rattle.loader.proofs.Passing.{through-visit, same-through}
-use borrow.Author.Needs.{needs}
 use Rattle.loader.proofs.visit_two.Statement.{statement}
 use Rattle.loader.proofs.visit_two.Tie as tie
 
 add-mark : tie.Need-add-mark
-add-mark c = search needs
+add-mark c = omega (arith, c .before .before .before .before .before .before .before .pre .0 .low, c .before .before .before .before .before .before .before .pre .0 .inside, c .before .before .before .before .before .before .before .pre .0 .holds .ready .kept .small)
 
 add-mark-2 : tie.Need-add-mark-2
-add-mark-2 c = search needs
+add-mark-2 c = omega (arith, c .before .before .before .before .before .before .before .before .pre .0 .low, c .before .before .before .before .before .before .before .before .pre .0 .inside, c .before .before .before .before .before .before .before .before .pre .0 .holds .ready .kept .small)
 
 mark-requires : tie.Need-mark-requires
 mark-requires c κs = c .before .before .before .before .before .before .before .before .before .before .pre .0 .holds .ready .kept
@@ -24,7 +24,7 @@ returns : tie.Need-returns
 returns c = through-visit _ _ (c .before .before .before .before .before .before .before .before .before .before .before .before .before .before .before .pre .1) _ (same-work (c .before .before .before .before .mark .ensures) (forward-is (c .before .before .before .before .before .before .before .before .before .before .before .before .before .before .before .pre .0) (c .before .before .before .before .before .before .before .before .before .if1 .taken)))
 
 add-back : tie.Need-add-back
-add-back c = search needs
+add-back c = omega (arith, c .before .before .before .before .before .before .before .before .before .pre .0 .low, c .before .before .before .before .before .before .before .before .before .pre .0 .inside, c .before .before .before .before .before .before .before .before .before .pre .0 .holds .ready .kept .small)
 
 back-requires : tie.Need-back-requires
 back-requires c κs = tt
@@ -42,13 +42,13 @@ returns-2 : tie.Need-returns-2
 returns-2 c = through-visit _ _ (c .before .before .before .before .before .before .before .before .before .before .before .before .before .before .before .before .before .pre .1) _ (same-work (c .before .before .before .before .mark2 .ensures) (back-is (c .before .before .before .before .before .before .before .before .before .before .before .before .before .before .before .before .before .pre .0) _ (c .before .before .before .before .before .before .before .before .before .if2 .taken) (c .before .before .before .before .before .before .before .back .ensures)))
 
 add-mark-choice : tie.Need-add-mark-choice
-add-mark-choice c = search needs
+add-mark-choice c = omega (arith, c .before .before .before .before .before .before .before .before .before .before .before .pre .0 .low, c .before .before .before .before .before .before .before .before .before .before .before .pre .0 .inside, c .before .before .before .before .before .before .before .before .before .before .before .pre .0 .holds .ready .kept .small)
 
 add-mark-choice-2 : tie.Need-add-mark-choice-2
-add-mark-choice-2 c = search needs
+add-mark-choice-2 c = omega (arith, c .before .before .before .before .before .before .before .before .before .before .before .before .pre .0 .low, c .before .before .before .before .before .before .before .before .before .before .before .before .pre .0 .inside, c .before .before .before .before .before .before .before .before .before .before .before .before .pre .0 .holds .ready .kept .small)
 
 mark-choice-requires : tie.Need-mark-choice-requires
-mark-choice-requires c κs = search needs
+mark-choice-requires c κs = (c .before .before .before .before .before .before .before .before .before .before .before .before .before .before .before .pre .0 .holds .ready .kept, c .before .before .before .before .before .before .before .before .before .before .before .before .before .before .before .pre .0 .holds .ready .size-is, omega arith, omega (arith, c .before .before .before .before .before .before .before .before .before .before .before .before .before .before .before .pre .0 .low, c .before .before .before .before .before .before .before .before .before .before .before .before .before .before .before .pre .0 .inside, c .before .before .before .before .before .before .before .before .before .before .before .before .before .before .before .pre .0 .holds .ready .kept .small), c .before .before .before .before .before .before .before .before .before .before .before .before .before .before .before .pre .1)
 
 same-length-5 : tie.Need-same-length-5
 same-length-5 c = c .before .before .before .before .before .before .mark-choice .ensures .marked .kept .flags ∙ sym (c .before .before .before .before .before .before .before .before .before .before .before .before .before .before .before .before .before .before .before .before .before .before .pre .0 .holds .ready .kept .flags)
@@ -63,7 +63,7 @@ returns-3 : tie.Need-returns-3
 returns-3 c = same-through (c .before .before .before .before .before .before .mark-choice .ensures) (input-choice-is (c .before .before .before .before .before .before .before .before .before .before .before .before .before .before .before .before .before .before .before .before .before .before .pre .0) (c .before .before .before .before .before .before .before .before .before .before .before .before .if3 .taken))
 
 add-mark-two : tie.Need-add-mark-two
-add-mark-two c = search needs
+add-mark-two c = omega (arith, c .before .before .before .before .before .before .before .before .before .before .before .before .before .pre .0 .low, c .before .before .before .before .before .before .before .before .before .before .before .before .before .pre .0 .inside, c .before .before .before .before .before .before .before .before .before .before .before .before .before .pre .0 .holds .ready .kept .small)
 
 mark-two-requires : tie.Need-mark-two-requires
 mark-two-requires c κs = c .before .before .before .before .before .before .before .before .before .before .before .before .before .before .before .pre .0 .holds .ready .kept
@@ -78,13 +78,13 @@ returns-4 : tie.Need-returns-4
 returns-4 c = through-visit _ _ (c .before .before .before .before .before .before .before .before .before .before .before .before .before .before .before .before .before .before .before .before .pre .1) _ (same-work (c .before .before .before .before .mark-two .ensures) (call-is (c .before .before .before .before .before .before .before .before .before .before .before .before .before .before .before .before .before .before .before .before .pre .0) (c .before .before .before .before .before .before .before .before .if4 .taken)))
 
 add-mark-choice-3 : tie.Need-add-mark-choice-3
-add-mark-choice-3 c = search needs
+add-mark-choice-3 c = omega (arith, c .before .before .before .before .before .before .before .before .before .before .before .before .before .before .before .pre .0 .low, c .before .before .before .before .before .before .before .before .before .before .before .before .before .before .before .pre .0 .inside, c .before .before .before .before .before .before .before .before .before .before .before .before .before .before .before .pre .0 .holds .ready .kept .small)
 
 add-mark-choice-4 : tie.Need-add-mark-choice-4
-add-mark-choice-4 c = search needs
+add-mark-choice-4 c = omega (arith, c .before .before .before .before .before .before .before .before .before .before .before .before .before .before .before .before .pre .0 .low, c .before .before .before .before .before .before .before .before .before .before .before .before .before .before .before .before .pre .0 .inside, c .before .before .before .before .before .before .before .before .before .before .before .before .before .before .before .before .pre .0 .holds .ready .kept .small)
 
 mark-choice-requires-2 : tie.Need-mark-choice-requires-2
-mark-choice-requires-2 c κs = search needs
+mark-choice-requires-2 c κs = (c .before .before .before .before .before .before .before .before .before .before .before .before .before .before .before .before .before .before .before .pre .0 .holds .ready .kept, c .before .before .before .before .before .before .before .before .before .before .before .before .before .before .before .before .before .before .before .pre .0 .holds .ready .size-is, omega arith, omega (arith, c .before .before .before .before .before .before .before .before .before .before .before .before .before .before .before .before .before .before .before .pre .0 .low, c .before .before .before .before .before .before .before .before .before .before .before .before .before .before .before .before .before .before .before .pre .0 .inside, c .before .before .before .before .before .before .before .before .before .before .before .before .before .before .before .before .before .before .before .pre .0 .holds .ready .kept .small), c .before .before .before .before .before .before .before .before .before .before .before .before .before .before .before .before .before .before .before .pre .1)
 
 same-length-10 : tie.Need-same-length-10
 same-length-10 c = c .before .before .before .before .before .before .mark-choice2 .ensures .marked .kept .flags ∙ sym (c .before .before .before .before .before .before .before .before .before .before .before .before .before .before .before .before .before .before .before .before .before .before .before .before .before .before .pre .0 .holds .ready .kept .flags)
@@ -99,7 +99,7 @@ returns-5 : tie.Need-returns-5
 returns-5 c = same-through (c .before .before .before .before .before .before .mark-choice2 .ensures) (choice-is (c .before .before .before .before .before .before .before .before .before .before .before .before .before .before .before .before .before .before .before .before .before .before .before .before .before .before .pre .0) (c .before .before .before .before .before .before .before .before .before .before .before .before .if5 .taken))
 
 add-mark-3 : tie.Need-add-mark-3
-add-mark-3 c = search needs
+add-mark-3 c = omega (arith, c .before .before .before .before .before .before .before .before .before .before .before .before .before .before .before .pre .0 .low, c .before .before .before .before .before .before .before .before .before .before .before .before .before .before .before .pre .0 .inside, c .before .before .before .before .before .before .before .before .before .before .before .before .before .before .before .pre .0 .holds .ready .kept .small)
 
 mark-requires-3 : tie.Need-mark-requires-3
 mark-requires-3 c κs = c .before .before .before .before .before .before .before .before .before .before .before .before .before .before .before .before .before .pre .0 .holds .ready .kept
