@@ -25,10 +25,10 @@ never-37 T more t tokens answers allowance w es n number ns l =
 pub loaded-never-37 : LoadedNever37
 loaded-never-37 file room ws verdict more e = never-37 ws more (loads-exactly file room ws verdict .only-these e .takes)
 
-within : (size : ℕ) (verdict : Bool) → 1 ≤ size → size ≤ 4096 → allowed size (claimOf verdict) ≡ true
+claim-allowed : (size : ℕ) (verdict : Bool) → 1 ≤ size → size ≤ 4096 → allowed size (claimOf verdict) ≡ true
 unfolding allowed claimOf
-within size true a b = rw (le-leb 1 size a, le-leb size 4096 b)
-within size false a b = rw (le-leb 1 size a, le-leb size 4096 b)
+claim-allowed size true a b = rw (le-leb 1 size a, le-leb size 4096 b)
+claim-allowed size false a b = rw (le-leb 1 size a, le-leb size 4096 b)
 
 pub accepted-loads : AcceptedLoads
 accepted-loads text room words verdict room′ e h =
@@ -36,7 +36,7 @@ accepted-loads text room words verdict room′ e h =
     let first : 1 ≤ length words = omega (arith, t .from 0, t .inside 0 (t .accepts .some-rule)) in
     loads-exactly _ room′ words (claimOf verdict) .all-these (record {
       one-file = refl;
-      limits = within (length words) verdict first (t .within-4096);
+      limits = claim-allowed (length words) verdict first (t .within-4096);
       long-enough = h;
       takes = written-taken text room words verdict e;
     })
