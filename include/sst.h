@@ -1,4 +1,5 @@
-/* S/SL tables: from a program's text to its table and verdict, table files, and walking a table, whole or in pauses.
+/* S/SL tables: from a program's text to its table and verdict, table files, walking a table, whole or in pauses, and from characters to input
+ * tokens.
  *
  * Words are 16 bits, high byte first; an odd last byte of a buffer counts for nothing and is never touched. A buffer is a pointer and
  * its length in bytes; the pointer is not null, also where the length is 0. Buffers of one call do not overlap. Nothing is kept between
@@ -40,6 +41,14 @@
  *   20  the lent table, or the lent file buffer, is too short
  *   41  a location that can be reached gives 37: every jump target, label, default, call and place after a call counts as possible,
  *       starting at location 1
+ *
+ * The number that sst_filter answers, the first of these that holds:
+ *    9  more than 64 entries
+ *   42  the first byte of an entry exceeds its last: the first such entry, from 0
+ *   43  a byte value is in two entries or more: the lowest such byte
+ *   44  a byte value is in no entry: the lowest such byte
+ *   20  the token buffer has fewer words than the text has bytes
+ *    0  accepted: the tokens are written
  */
 #ifndef SST_H
 #define SST_H
@@ -73,6 +82,14 @@ uint16_t sst_write_file(const uint8_t *table, size_t table_bytes, uint64_t verdi
 /* The bytes of the longest table and of its file. */
 #define SST_TABLE_BYTES 8192
 #define SST_FILE_BYTES 8264
+
+/* Turns a text into input tokens by a character filter. Read: filter, entries of four bytes (first byte, last byte, token, high byte first;
+ * docs/LAYOUT.md), up to three bytes behind the last whole one count for nothing; text, any bytes. Lent: tokens, written from its start with a
+ * word for each byte of the text, the token of the entry that has it; what stands behind is kept, and on a refusal all of it. `*at` becomes
+ * the entry (42) or the byte (43, 44) that the number names, else 0; `*written` the number of tokens, 0 on a refusal. Answers any number of
+ * the fourth list above. */
+uint16_t sst_filter(const uint8_t *filter, size_t filter_len, const uint8_t *text, size_t text_len, uint8_t *tokens, size_t tokens_len,
+                    uint64_t *at, uint64_t *written);
 
 /* The bytes of a walk. */
 #define SST_WALK_BYTES 158

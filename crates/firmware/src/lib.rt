@@ -11,6 +11,7 @@ ghost use Rattle.machine.specs.Call.{whole};
 ghost use Rattle.machine.specs.Form as form;
 ghost use Rattle.loading.specs.File as files;
 ghost use Rattle.processor.specs.Process.{process, lentBytes};
+ghost use Rattle.filtering.specs.Filter as filtering;
 ghost use Rattle.firmware.specs.Filing.{hands};
 ghost use Rattle.firmware.specs.Processing.{flagOf, numbersOf, tells};
 ghost use Rattle.walker.specs.View as view;
@@ -560,4 +561,22 @@ pub extern "C" fn sst_write_file(
     let a = writer::write_file(table, verdict, file);
     *words = a.words as u64;
     a.number
+}
+
+// The character filter, on bytes and numbers alone.
+#[no_mangle]
+pub extern "C" fn sst_filter(
+    filter: &[u8],
+    text: &[u8],
+    tokens: &mut [u8],
+    at: &mut u64,
+    written: &mut u64,
+) -> u16
+    ensures { λ r. ⌜ filtering.tells r (now (at .exit)) (now (written .exit)) ≡ filtering.numbersOf (filtering.filter (now (filter .entry)) (now (text .entry)) (count (now (tokens .entry)))) ⌝ }
+    ensures lent { λ _. ⌜ now (tokens .exit) ≡ filtering.bufferAfter (filtering.filter (now (filter .entry)) (now (text .entry)) (count (now (tokens .entry)))) (now (tokens .entry)) ⌝ }
+{
+    let r = filter::fold(filter, text, tokens);
+    *at = r.at as u64;
+    *written = r.written as u64;
+    r.number
 }
