@@ -97,6 +97,7 @@ fn main() {
 /// The entries of the library, in the alphabet's order.
 const ENTRIES: &[&str] = &[
     "allowance", //
+    "filter",
     "fresh",
     "load",
     "location",

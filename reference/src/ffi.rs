@@ -2,7 +2,7 @@
 #![allow(unsafe_code)]
 
 use crate::files::Files;
-use crate::side::{Inputs, Processor, Side};
+use crate::side::{Folder, Inputs, Processor, Side};
 use crate::walker::Done;
 use std::ffi::c_void;
 
@@ -222,6 +222,61 @@ pub fn files() -> Option<&'static dyn Files> {
     return Some(&Library);
     #[cfg(not(feature = "lib"))]
     return None;
+}
+
+#[cfg(feature = "lib")]
+mod fold {
+    use super::{Library, UNSET};
+    use crate::side::{Filtered, Folder};
+
+    unsafe extern "C" {
+        fn sst_filter(
+            filter: *const u8,
+            filter_len: usize,
+            text: *const u8,
+            text_len: usize,
+            tokens: *mut u8,
+            tokens_len: usize,
+            at: *mut u64,
+            written: *mut u64,
+        ) -> u16;
+    }
+
+    impl Folder for Library {
+        fn name(&self) -> &'static str {
+            "lib"
+        }
+
+        fn fold(&self, filter: &[u8], text: &[u8], tokens: &mut [u8]) -> Filtered {
+            let [mut at, mut written] = [UNSET; 2];
+            // Each pointer comes with the length of its own slice and is not null; the slices and numbers do not overlap.
+            let number = unsafe {
+                sst_filter(
+                    filter.as_ptr(),
+                    filter.len(),
+                    text.as_ptr(),
+                    text.len(),
+                    tokens.as_mut_ptr(),
+                    tokens.len(),
+                    &mut at,
+                    &mut written,
+                )
+            };
+            Filtered { number, at, written }
+        }
+    }
+}
+
+/// The library's character filter, where it is linked.
+#[cfg(feature = "lib")]
+pub fn folder() -> Option<&'static (dyn Folder + Sync)> {
+    Some(&Library)
+}
+
+/// The library's character filter, where it is linked.
+#[cfg(not(feature = "lib"))]
+pub fn folder() -> Option<&'static (dyn Folder + Sync)> {
+    None
 }
 
 /// The library's processor, where it is linked.

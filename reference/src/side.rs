@@ -41,6 +41,20 @@ pub trait Processor {
     fn process(&self, text: &[u8], table: &mut [u8]) -> Processed;
 }
 
+/// What a call of the character filter answers, the token buffer apart.
+#[derive(Clone, Copy, PartialEq, Eq, Debug)]
+pub struct Filtered {
+    pub number: u16,
+    pub at: u64,
+    pub written: u64,
+}
+
+/// The entry `sst_filter`.
+pub trait Folder {
+    fn name(&self) -> &'static str;
+    fn fold(&self, filter: &[u8], text: &[u8], tokens: &mut [u8]) -> Filtered;
+}
+
 /// The walker and the processor of this crate.
 pub struct Reference;
 
