@@ -3,6 +3,7 @@
 #![deny(unsafe_code)]
 
 pub mod ffi;
+pub mod filter;
 pub mod harness;
 pub mod random;
 pub mod side;
