@@ -88,7 +88,7 @@ struct Entries {
 }
 
 // The words of a table: those past 4,096 are outside it.
-fn size_of(table: &[u8]) -> usize
+pub fn size_of(table: &[u8]) -> usize
     ensures { λ r. ⌜ r ≡ length (tableOf (now (table .entry))) ⌝ }
 {
     let n = machine::count_words(table);
@@ -102,7 +102,7 @@ fn wide(x: u16) -> usize
 }
 
 // The word at a location of the table.
-fn word_at(table: &[u8], l: usize) -> usize
+pub fn word_at(table: &[u8], l: usize) -> usize
     requires { ⌜ (1 ≤ l) × (l ≤ length (tableOf (now table))) ⌝ }
     ensures { λ r. ⌜ (fetch (tableOf (now (table .entry))) l ≡ some r) × (r < 65536) ⌝ }
 {

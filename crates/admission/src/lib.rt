@@ -1,0 +1,128 @@
+// Rights over the operations: whether a table is admitted for the publisher who holds a granted set.
+ghost use mathlib.Core.Path.{_≡_};
+ghost use Prim.Native.Nat.{_-_, _^_, _<_, _≤_};
+ghost use Rattle.machine.specs.Bytes.{tableOf};
+ghost use Rattle.rights.specs.Rights.{granted, denied, says, admit};
+ghost use Rattle.admission.specs.Flags.{Flagged, AllFlagged, wrongAt};
+
+// The numbers of the operations.
+const OPERATIONS: usize = 256;
+
+const LAST_OPERATION: usize = 1279;
+
+// The most words that a table has.
+const TABLE_WORDS: usize = 4096;
+
+// What an admission answers where it turns a table away.
+const OUTSIDE: u16 = 41;
+
+const NOT_GRANTED: u16 = 48;
+
+// What an admission answers: 0, 41 or 48, and the location that 48 names.
+pub struct Admission {
+    pub number: u16,
+    pub location: usize,
+}
+
+// The value of bit j of a byte, the highest first.
+fn weight(j: usize) -> u8
+    requires { ⌜ j < 8 ⌝ }
+    ensures { λ r. ⌜ (r ≡ 2 ^ (7 - j)) × (0 < r) ⌝ }
+{
+    if j == 0 {
+        return 128;
+    }
+    if j == 1 {
+        return 64;
+    }
+    if j == 2 {
+        return 32;
+    }
+    if j == 3 {
+        return 16;
+    }
+    if j == 4 {
+        return 8;
+    }
+    if j == 5 {
+        return 4;
+    }
+    if j == 6 {
+        return 2;
+    }
+    1
+}
+
+// Whether the operation is in the set.
+fn grants(set: &[u8], op: usize) -> bool
+    requires { ⌜ 256 ≤ op ⌝ }
+    ensures { λ r. ⌜ r ≡ granted (now (set .entry)) op ⌝ }
+{
+    let k = op - OPERATIONS;
+    let i = k / 8;
+    if i < set.len() {
+        let b = set[i];
+        let w = weight(k % 8);
+        b / w % 2 == 1
+    } else {
+        false
+    }
+}
+
+// Whether an operation stands at l that can be reached and is not granted.
+fn is_wrong(table: &[u8], set: &[u8], seen: &[u8], l: usize) -> bool
+    requires { ⌜ Flagged (tableOf (now table)) (now seen) l ⌝ }
+    ensures { λ r. ⌜ r ≡ wrongAt (tableOf (now (table .entry))) (now (set .entry)) l ⌝ }
+{
+    if seen[l - 1] == 0 {
+        return false;
+    }
+    let i = loader::word_at(table, l);
+    if i < OPERATIONS {
+        return false;
+    }
+    if LAST_OPERATION < i {
+        return false;
+    }
+    !grants(set, i)
+}
+
+// The lowest location at which an operation is reached that is not granted; 0 if there is none.
+fn lowest_denied(table: &[u8], set: &[u8], seen: &[u8], size: usize) -> usize
+    requires { ⌜ AllFlagged (tableOf (now table)) (now seen) size ⌝ }
+    ensures { λ r. ⌜ r ≡ denied (tableOf (now (table .entry))) (now (set .entry)) ⌝ }
+{
+    let mut l: usize = 1;
+    while l <= size {
+        if is_wrong(table, set, seen, l) {
+            return l;
+        }
+        l += 1;
+    }
+    0
+}
+
+// Whether a table is admitted for the publisher who holds the set.
+pub fn admits(table: &[u8], set: &[u8]) -> Admission
+    ensures { λ r. ⌜ says (r .number) (r .location) ≡ admit (tableOf (now (table .entry))) (now (set .entry)) ⌝ }
+{
+    let mut seen = [0u8; TABLE_WORDS];
+    let mut order = [0u16; TABLE_WORDS];
+    if !loader::reach(table, &mut seen, &mut order) {
+        return Admission {
+            number: OUTSIDE,
+            location: 0,
+        };
+    }
+    let at = lowest_denied(table, set, &seen, loader::size_of(table));
+    if at == 0 {
+        return Admission {
+            number: 0,
+            location: 0,
+        };
+    }
+    Admission {
+        number: NOT_GRANTED,
+        location: at,
+    }
+}
