@@ -1,4 +1,5 @@
--- A walk on a taken table stands at reachable locations, and so do its return locations: no step leads out.
+-- A walk on a taken table stands at reachable locations, and so do its return locations: no step leads out, and every operation in the events
+-- stands at a reachable location.
 use mathlib.Core.Bool.{Bool, true, false, not}
 use mathlib.Core.List.{List, [], _∷_, _++_}
 use mathlib.Core.Logic.{_⊎_, inl, inr}
@@ -11,7 +12,7 @@ use lib.ListN.{length, drop}
 use Rattle.base.specs.Bools.{never, split}
 use Rattle.base.specs.Common.{if_then_else_, member, given}
 use Rattle.events.specs.Events
-use Rattle.events.specs.Events.{Event, repair, Reason, finished, differs, missing, unlabelled, deep, unanswered, outside, reasonNumber, Io, present, took, wrote, answer, answered, mends, spent, is}
+use Rattle.events.specs.Events.{Event, output, signal, repair, operation, operationWith, Reason, finished, differs, missing, unlabelled, deep, unanswered, outside, reasonNumber, Io, present, took, wrote, answer, answered, mends, spent, is}
 use Rattle.machine.specs.Call
 use Rattle.machine.specs.Call.{Mode, whole, paused, Called, ends, endsFor, writing, Turn, over, further, takes, handsOut, turn, keeps, run, callIn, callWalk}
 use Rattle.machine.specs.Decode.{fetch, Instruction, invalid, jump, input, inputAny, write, inputChoice, callRule, return, setResult, choice, endChoice, setParameter, update, updateWith, choose, chooseWith, decodeOperation, decodeTwo, decodeOne, decodeWord, decodeAt, decode}
@@ -21,10 +22,106 @@ use Rattle.machine.specs.Walk
 use Rattle.machine.specs.Walk.{Phase, going, waiting, stopped, Walk, fresh, moved, withReturns, withResult, withParameter, withIo, inPhase, withAnswer, first64, atRest}
 use Rattle.loading.specs.Reach.{fits, bad, gives37, Reachable, at-start, Taken}
 use Rattle.loading.specs.Taking.{backFrom, labelled, chosen, onward, ways}
+use Rattle.rights.specs.Rights.{operationOf}
 use Rattle.loading.proofs.Members.{member-head, member-tail, member-left, member-right}
 use Rattle.loading.proofs.Exact.{good-there}
 use Rattle.loading.proofs.Ways.{way}
 use Rattle.agreement.specs.Demand.{Allowed, Listed, begin, then-call}
+
+-- What an instruction writes of itself is no operation
+
+unfoldable Plain : Event → Bool
+Plain (output t) = true
+Plain (signal n) = true
+Plain (repair t) = true
+Plain (operation op) = false
+Plain (operationWith op v) = false
+
+unfoldable Writes : Instruction → Bool
+Writes invalid = true
+Writes (jump l) = true
+Writes (input t) = true
+Writes inputAny = true
+Writes (write e) = Plain e
+Writes (inputChoice c) = true
+Writes (callRule l) = true
+Writes return = true
+Writes (setResult v) = true
+Writes (choice c) = true
+Writes endChoice = true
+Writes (setParameter v) = true
+Writes (update op) = true
+Writes (updateWith op) = true
+Writes (choose op) = true
+Writes (chooseWith op) = true
+
+if-writes : (b : Bool) (x y : Instruction) → Writes x ≡ true → Writes y ≡ true → Writes (if b then x else y) ≡ true
+if-writes true x y p q = p
+if-writes false x y p q = q
+
+writes-operation : (i : ℕ) → Writes (decodeOperation i) ≡ true
+unfolding Writes decodeOperation
+writes-operation i =
+    if-writes (ltb i 512) (update i) _ refl (if-writes (ltb i 768) (updateWith i) _ refl (if-writes (ltb i 1024) (choose i) (chooseWith i) refl refl))
+
+writes-two : (l i x : ℕ) → Writes (decodeTwo l i x) ≡ true
+unfolding Writes Plain decodeTwo
+writes-two l i x =
+    if-writes (eqb i 1) (jump (l + 1 + x)) _ refl
+    (if-writes (eqb i 2) (jump (l + 1 - x)) _ refl
+    (if-writes (eqb i 3) (input x) _ refl
+    (if-writes (eqb i 5) (write (output x)) _ refl
+    (if-writes (eqb i 6) (write (signal x)) _ refl
+    (if-writes (eqb i 7) (inputChoice (l + 1 + x)) _ refl
+    (if-writes (eqb i 8) (callRule x) _ refl
+    (if-writes (eqb i 10) (setResult x) _ refl
+    (if-writes (eqb i 11) (choice (l + 1 + x)) (setParameter x) refl refl))))))))
+
+writes-one : (i : ℕ) → Writes (decodeOne i) ≡ true
+unfolding Writes decodeOne
+writes-one i =
+    if-writes (eqb i 4) inputAny _ refl
+    (if-writes (eqb i 9) return _ refl (if-writes (eqb i 12) endChoice (decodeOperation i) refl (writes-operation i)))
+
+writes-word : (l i : ℕ) (o : Option ℕ) → Writes (decodeWord l i o) ≡ true
+unfolding Writes decodeWord
+writes-word l i none = if-writes (eqb (lengthOf i) 1) (decodeOne i) invalid (writes-one i) refl
+writes-word l i (some x) =
+    if-writes (eqb (lengthOf i) 1) (decodeOne i) _ (writes-one i) (if-writes (eqb (lengthOf i) 2) (decodeTwo l i x) invalid (writes-two l i x) refl)
+
+writes-at : (l : ℕ) (i x : Option ℕ) → Writes (decodeAt l i x) ≡ true
+unfolding Writes decodeAt
+writes-at l none x = refl
+writes-at l (some i) x = writes-word l i x
+
+writes : (T : List ℕ) (l : ℕ) → Writes (decode T l) ≡ true
+unfolding decode
+writes T l = writes-at l (fetch T l) (fetch T (suc l))
+
+-- Where an event comes from: an operation's stands at a reachable location
+
+pub data Source (T : List ℕ) : Event → Type 0 where
+  of-output : {t : ℕ} → Source T (output t)
+  of-signal : {n : ℕ} → Source T (signal n)
+  of-repair : {t : ℕ} → Source T (repair t)
+  of-operation : {l op : ℕ} → Reachable T l → operationOf (decode T l) ≡ some op → Source T (operation op)
+  of-operationWith : {l op v : ℕ} → Reachable T l → operationOf (decode T l) ≡ some op → Source T (operationWith op v)
+
+pub data Sources (T : List ℕ) : List Event → Type 0 where
+  no-events : Sources T []
+  and-event : {e : Event} {es : List Event} → Source T e → Sources T es → Sources T (e ∷ es)
+
+pub sources-append : {T : List ℕ} {a b : List Event} → Sources T a → Sources T b → Sources T (a ++ b)
+sources-append no-events h = h
+sources-append (and-event s r) h = and-event s (sources-append r h)
+
+plain-source : (T : List ℕ) (e : Event) → Plain e ≡ true → Source T e
+unfolding Plain
+plain-source T (output t) h = of-output
+plain-source T (signal n) h = of-signal
+plain-source T (repair t) h = of-repair
+plain-source T (operation op) h = never h
+plain-source T (operationWith op v) h = never h
 
 -- return locations that are reachable
 pub data Back (T : List ℕ) : List ℕ → Type 0 where
@@ -39,6 +136,7 @@ back-drop (suc n) (back-cons r h) = back-drop n h
 pub record Stands (T : List ℕ) (w : Walk) : Type 0 where
   pub at : Reachable T (w .location)
   pub back : Back T (w .returns)
+  pub events : Sources T (w .io .events)
   pub live : w .phase ≡ stopped outside → ⊥
 
 module _ (T tokens : List ℕ) (good : Taken T) where
@@ -47,15 +145,15 @@ module _ (T tokens : List ℕ) (good : Taken T) where
   Fine goesOutside = ⊥
   Fine (stops r) = r ≡ outside → ⊥
   Fine (goes v) = Stands T v
-  Fine (tells e v) = Stands T v
-  Fine (asks e v) = Stands T v
+  Fine (tells e v) = Stands T v × Source T e
+  Fine (asks e v) = Stands T v × Source T e
 
   there : {l : ℕ} → Reachable T l → given (fetch T l) ≡ true
   there {l} r = good-there T l (good l r)
 
   goTo-fine : (l : ℕ) (w : Walk) → Reachable T l → Stands T w → Fine (goTo T tokens l w)
   unfolding goTo Fine moved
-  goTo-fine l w r s = rw (there r) (record { at = r; back = s .back; live = s .live })
+  goTo-fine l w r s = rw (there r) (record { at = r; back = s .back; events = s .events; live = s .live })
 
   if-fine : (b : Bool) (x y : Next) → Fine x → Fine y → Fine (if b then x else y)
   if-fine true x y p q = p
@@ -108,62 +206,64 @@ module _ (T tokens : List ℕ) (good : Taken T) where
   unfolding reasonNumber
   no-reason {r} e q = never (sym (rw q at e))
 
-  exec-fine : (i : Instruction) (w : Walk) → Stands T w → bad T i ≡ false
-      → ((m : ℕ) → member m (onward T (w .location) i) ≡ true → Reachable T m) → Fine (exec T tokens i w)
-  unfolding exec Fine bad onward reasonNumber calling returning requiring inputChoosing Walk.opened Events.opened
-  exec-fine invalid w s b f = never (sym b)
-  exec-fine (jump l) w s b f = goTo-fine l w (f l (member-head l [])) s
-  exec-fine (input t) w s b f = go (is t (present tokens (w .io))) (mends (w .io))
+  exec-fine : (i : Instruction) (w : Walk) → Stands T w → bad T i ≡ false → Writes i ≡ true
+      → ((m : ℕ) → member m (onward T (w .location) i) ≡ true → Reachable T m)
+      → ((op : ℕ) → operationOf i ≡ some op → operationOf (decode T (w .location)) ≡ some op) → Fine (exec T tokens i w)
+  unfolding exec Fine bad Writes onward operationOf reasonNumber calling returning requiring inputChoosing Walk.opened Events.opened
+  exec-fine invalid w s b wr f o = never (sym b)
+  exec-fine (jump l) w s b wr f o = goTo-fine l w (f l (member-head l [])) s
+  exec-fine (input t) w s b wr f o = go (is t (present tokens (w .io))) (mends (w .io))
     where
       here : Reachable T (w .location + 2)
       here = f (w .location + 2) (member-head (w .location + 2) [])
 
       go : (a m : Bool) → Fine (if a then goes (moved (w .location + 2) (withIo (took (w .io)) w)) else if m then tells (repair t) (moved (w .location + 2) (withIo (spent (w .io)) w)) else stops differs)
-      go true m = record { at = here; back = s .back; live = s .live }
-      go false true = record { at = here; back = s .back; live = s .live }
+      go true m = record { at = here; back = s .back; events = s .events; live = s .live }
+      go false true = (record { at = here; back = s .back; events = s .events; live = s .live }, of-repair)
       go false false = no-reason refl
-  exec-fine inputAny w s b f =
+  exec-fine inputAny w s b wr f o =
       if-fine (given (present tokens (w .io))) _ (stops missing)
-      (record { at = f (w .location + 1) (member-head (w .location + 1) []); back = s .back; live = s .live }) (no-reason refl)
-  exec-fine (write e) w s b f = record { at = f (w .location + 2) (member-head (w .location + 2) []); back = s .back; live = s .live }
-  exec-fine (inputChoice c) w s b f = go (present tokens (w .io))
+      (record { at = f (w .location + 1) (member-head (w .location + 1) []); back = s .back; events = s .events; live = s .live }) (no-reason refl)
+  exec-fine (write e) w s b wr f o = (record { at = f (w .location + 2) (member-head (w .location + 2) []); back = s .back; events = s .events; live = s .live }, plain-source T e wr)
+  exec-fine (inputChoice c) w s b wr f o = go (present tokens (w .io))
     where
       go : (t : Option ℕ) → Fine (inputChoosing T tokens t c w)
       go none = branched-fine (fetch T c) none c w w s s b f
       go (some t) =
-          branched-fine (fetch T c) (some t) c _ _ (record { at = s .at; back = s .back; live = s .live })
-          (record { at = s .at; back = s .back; live = s .live }) b f
-  exec-fine (callRule l) w s b f =
+          branched-fine (fetch T c) (some t) c _ _ (record { at = s .at; back = s .back; events = s .events; live = s .live })
+          (record { at = s .at; back = s .back; events = s .events; live = s .live }) b f
+  exec-fine (callRule l) w s b wr f o =
       let r : Reachable T l = f l (member-head l ((w .location + 2) ∷ [])) in
       let a : Reachable T (w .location + 2) = f (w .location + 2) (member-tail (w .location + 2) l ((w .location + 2) ∷ []) (member-head (w .location + 2) [])) in
       let g = there r in
       rw g
       (if-fine (ltb (length (w .returns)) 64) (goes (moved l (withReturns ((w .location + 2) ∷ w .returns) w))) (stops deep)
-      (record { at = r; back = back-cons a (s .back); live = s .live }) (no-reason refl))
-  exec-fine return w s b f = go (w .returns) (s .back)
+      (record { at = r; back = back-cons a (s .back); events = s .events; live = s .live }) (no-reason refl))
+  exec-fine return w s b wr f o = go (w .returns) (s .back)
     where
       go : (rs : List ℕ) → Back T rs → Fine (returning T tokens rs w)
       go [] h = no-reason refl
-      go (l ∷ rs) (back-cons r h) = goTo-fine l (withReturns rs w) r (record { at = s .at; back = h; live = s .live })
-  exec-fine (setResult v) w s b f = record { at = f (w .location + 2) (member-head (w .location + 2) []); back = s .back; live = s .live }
-  exec-fine (choice c) w s b f = branched-fine (fetch T c) (some (w .result)) c w w s s b f
-  exec-fine endChoice w s b f = no-reason refl
-  exec-fine (setParameter v) w s b f = record { at = f (w .location + 2) (member-head (w .location + 2) []); back = s .back; live = s .live }
-  exec-fine (update op) w s b f = record { at = f (w .location + 1) (member-head (w .location + 1) []); back = s .back; live = s .live }
-  exec-fine (updateWith op) w s b f = record { at = f (w .location + 1) (member-head (w .location + 1) []); back = s .back; live = s .live }
-  exec-fine (choose op) w s b f = record { at = f (w .location + 1) (member-head (w .location + 1) []); back = s .back; live = s .live }
-  exec-fine (chooseWith op) w s b f = record { at = f (w .location + 1) (member-head (w .location + 1) []); back = s .back; live = s .live }
+      go (l ∷ rs) (back-cons r h) = goTo-fine l (withReturns rs w) r (record { at = s .at; back = h; events = s .events; live = s .live })
+  exec-fine (setResult v) w s b wr f o = record { at = f (w .location + 2) (member-head (w .location + 2) []); back = s .back; events = s .events; live = s .live }
+  exec-fine (choice c) w s b wr f o = branched-fine (fetch T c) (some (w .result)) c w w s s b f
+  exec-fine endChoice w s b wr f o = no-reason refl
+  exec-fine (setParameter v) w s b wr f o = record { at = f (w .location + 2) (member-head (w .location + 2) []); back = s .back; events = s .events; live = s .live }
+  exec-fine (update op) w s b wr f o = (record { at = f (w .location + 1) (member-head (w .location + 1) []); back = s .back; events = s .events; live = s .live }, of-operation (s .at) (o op refl))
+  exec-fine (updateWith op) w s b wr f o = (record { at = f (w .location + 1) (member-head (w .location + 1) []); back = s .back; events = s .events; live = s .live }, of-operationWith (s .at) (o op refl))
+  exec-fine (choose op) w s b wr f o = (record { at = f (w .location + 1) (member-head (w .location + 1) []); back = s .back; events = s .events; live = s .live }, of-operation (s .at) (o op refl))
+  exec-fine (chooseWith op) w s b wr f o = (record { at = f (w .location + 1) (member-head (w .location + 1) []); back = s .back; events = s .events; live = s .live }, of-operationWith (s .at) (o op refl))
 
   step-fine : (w : Walk) → Stands T w → Fine (step T tokens w)
   unfolding step gives37 ways
   step-fine w s =
-      exec-fine (decode T (w .location)) w s (good (w .location) (s .at)) (λ m h. way T (s .at) h)
+      exec-fine (decode T (w .location)) w s (good (w .location) (s .at)) (writes T (w .location)) (λ m h. way T (s .at) h) (λ op e. e)
 
   -- Calls
 
   record Right (c : Called) : Type 0 where
     number : c .number ≡ 37 → ⊥
     walk : Stands T (c .walk)
+    events : Sources T (c .events)
 
   unfoldable Turned : Turn → Type 0
   Turned (over c) = Right c
@@ -171,22 +271,22 @@ module _ (T tokens : List ℕ) (good : Taken T) where
 
   rests : {w : Walk} → Stands T w → Stands T (atRest w)
   unfolding Walk.opened
-  rests {w} s = record { at = s .at; back = back-drop (length (w .returns) - 64) (s .back); live = s .live }
+  rests {w} s = record { at = s .at; back = back-drop (length (w .returns) - 64) (s .back); events = no-events; live = s .live }
 
-  written : (e : Event) {v : Walk} → Stands T v → Stands T (writing e v)
+  written : {e : Event} {v : Walk} → Stands T v → Source T e → Stands T (writing e v)
   unfolding writing Walk.opened Events.opened
-  written e s = record { at = s .at; back = s .back; live = s .live }
+  written s x = record { at = s .at; back = s .back; events = sources-append (s .events) (and-event x no-events); live = s .live }
 
   not-outside : {p : Phase} → going ≡ p → p ≡ stopped outside → ⊥
   not-outside e q = let z : _≡_ {A = ℕ} 0 1 = cc in omega arith
 
   takes-answer : {v : Walk} (x : ℕ) → Stands T v → Stands T (withAnswer x v)
   unfolding Walk.opened Events.opened
-  takes-answer x s = record { at = s .at; back = s .back; live = not-outside refl }
+  takes-answer x s = record { at = s .at; back = s .back; events = s .events; live = not-outside refl }
 
   ends-right : (number n : ℕ) (w : Walk) → (number ≡ 37 → ⊥) → Stands T w → Right (ends number n w)
   unfolding ends
-  ends-right number n w z s = record { number = z; walk = rests s }
+  ends-right number n w z s = record { number = z; walk = rests s; events = s .events }
 
   reason-37 : (r : Reason) → (r ≡ outside → ⊥) → reasonNumber r ≡ 37 → ⊥
   unfolding reasonNumber
@@ -205,13 +305,13 @@ module _ (T tokens : List ℕ) (good : Taken T) where
   unfolding endsFor Walk.opened
   endsFor-right r n w z s =
       ends-right (reasonNumber r) n (inPhase (stopped r) w) (reason-37 r z)
-      (record { at = s .at; back = s .back; live = λ e. z (stopped-is e) })
+      (record { at = s .at; back = s .back; events = s .events; live = λ e. z (stopped-is e) })
 
   waits-right : (n : ℕ) (w : Walk) → Stands T w → Right (ends 22 n (inPhase waiting w))
   unfolding Walk.opened
   waits-right n w s =
       ends-right 22 n (inPhase waiting w) (λ e. omega arith)
-      (record { at = s .at; back = s .back; live = λ e. let z : _≡_ {A = ℕ} 0 1 = cc in omega arith })
+      (record { at = s .at; back = s .back; events = s .events; live = λ e. let z : _≡_ {A = ℕ} 0 1 = cc in omega arith })
 
   turn-right : (m : Mode) (room n : ℕ) (w : Walk) (x : Next) → Stands T w → Fine x → Turned (turn m room n w x)
   unfolding turn Turned Fine handsOut takes
@@ -222,16 +322,16 @@ module _ (T tokens : List ℕ) (good : Taken T) where
     where
       go : (t : Bool) → Turned (if t then over (ends 35 n w) else further (room - 3) (writing e v))
       go true = ends-right 35 n w (λ q. omega arith) s
-      go false = written e f
+      go false = written (f .0) (f .1)
   turn-right m room n w (asks e v) s f = go (ltb room 3) m
     where
       some-answer : (o : Option ℕ) → Turned (takes o room n w e v)
       some-answer none = endsFor-right unanswered (n + 1) w (λ q. let z : _≡_ {A = ℕ} 0 1 = cc in omega arith) s
-      some-answer (some x) = takes-answer x (written e f)
+      some-answer (some x) = takes-answer x (written (f .0) (f .1))
 
       hands : (k : Mode) → Turned (handsOut k room n w e v)
       hands (whole answers) = some-answer (answer answers (w .io))
-      hands (paused x) = waits-right (n + 1) (writing e v) (written e f)
+      hands (paused x) = waits-right (n + 1) (writing e v) (written (f .0) (f .1))
 
       go : (t : Bool) (k : Mode) → Turned (if t then over (ends 35 n w) else handsOut k room n w e v)
       go true k = ends-right 35 n w (λ q. omega arith) s
@@ -248,10 +348,10 @@ module _ (T tokens : List ℕ) (good : Taken T) where
       go (further left v) h i = i left v h
 
   refused-right : (w : Walk) → Stands T w → Right (keeps 21 w)
-  refused-right w s = record { number = λ e. omega arith; walk = s }
+  refused-right w s = record { number = λ e. omega arith; walk = s; events = no-events }
 
   stopped-right : (r : Reason) (w : Walk) → w .phase ≡ stopped r → Stands T w → Right (keeps (reasonNumber r) w)
-  stopped-right r w e s = record { number = reason-37 r (λ q. s .live (e ∙ ap stopped q)); walk = s }
+  stopped-right r w e s = record { number = reason-37 r (λ q. s .live (e ∙ ap stopped q)); walk = s; events = no-events }
 
   callIn-right : (p : Phase) (m : Mode) (budget room : ℕ) (w : Walk) → w .phase ≡ p → Stands T w → Right (callIn T tokens p m budget room w)
   unfolding callIn
@@ -272,22 +372,23 @@ module _ (T tokens : List ℕ) (good : Taken T) where
   Last [] = Unit {0}
   Last (number ∷ ns) = number ≡ 37 → ⊥
 
-  pub record Led (w : Walk) (ns : List ℕ) : Type 0 where
+  pub record Led (w : Walk) (es : List Event) (ns : List ℕ) : Type 0 where
     pub walk : Stands T w
+    pub events : Sources T es
     pub number : Last ns
 
   fresh-stands : (allowance : ℕ) → Stands T (fresh allowance)
   unfolding fresh
-  fresh-stands allowance = record { at = at-start; back = back-nil; live = not-outside refl }
+  fresh-stands allowance = record { at = at-start; back = back-nil; events = no-events; live = not-outside refl }
 
-  pub led : {answers : List ℕ} {allowance : ℕ} {w : Walk} {es : List Event} {n : ℕ} {ns : List ℕ} → Listed T tokens answers allowance w es n ns → Led w ns
+  pub led : {answers : List ℕ} {allowance : ℕ} {w : Walk} {es : List Event} {n : ℕ} {ns : List ℕ} → Listed T tokens answers allowance w es n ns → Led w es ns
   unfolding Last callWalk
-  led {allowance = allowance} begin = record { walk = fresh-stands allowance; number = tt }
-  led (then-call {w = w} l m budget room a) =
+  led {allowance = allowance} begin = record { walk = fresh-stands allowance; events = no-events; number = tt }
+  led (then-call {w = w} {es = es} l m budget room a) =
       let h = led l in
       let r = callIn-right (w .phase) m budget room w refl (h .walk) in
-      record { walk = r .walk; number = r .number }
+      record { walk = r .walk; events = sources-append (h .events) (r .events); number = r .number }
 
-  pub last-37 : {number : ℕ} {ns : List ℕ} {w : Walk} → Led w (number ∷ ns) → number ≡ 37 → ⊥
+  pub last-37 : {number : ℕ} {ns : List ℕ} {w : Walk} {es : List Event} → Led w es (number ∷ ns) → number ≡ 37 → ⊥
   unfolding Last
   last-37 h = h .number
