@@ -1,8 +1,9 @@
 // Rights over the operations: whether a table is admitted for the publisher who holds a granted set.
 ghost use mathlib.Core.Path.{_≡_};
 ghost use Prim.Native.Nat.{_-_, _^_, _<_, _≤_};
-ghost use Rattle.machine.specs.Bytes.{tableOf};
-ghost use Rattle.rights.specs.Rights.{granted, denied, says, admit};
+ghost use Rattle.loading.specs.File.{load, lentBytes};
+ghost use Rattle.machine.specs.Bytes.{count, tableOf};
+ghost use Rattle.rights.specs.Rights.{granted, denied, says, admit, admitLoaded, tells};
 ghost use Rattle.admission.specs.Flags.{Flagged, AllFlagged, wrongAt};
 
 // The numbers of the operations.
@@ -21,6 +22,14 @@ const NOT_GRANTED: u16 = 48;
 // What an admission answers: 0, 41 or 48, and the location that 48 names.
 pub struct Admission {
     pub number: u16,
+    pub location: usize,
+}
+
+// What loading and admitting answers: 0, 40, 20, 41 or 48; the words of the table; the sender's verdict word; the location that 48 names.
+pub struct Outcome {
+    pub number: u16,
+    pub words: usize,
+    pub verdict: usize,
     pub location: usize,
 }
 
@@ -124,5 +133,29 @@ pub fn admits(table: &[u8], set: &[u8]) -> Admission
     Admission {
         number: NOT_GRANTED,
         location: at,
+    }
+}
+
+// A file is loaded into the lent table, and its table admitted or turned away; it stays there where an operation is not granted.
+pub fn load_admitted(file: &[u8], set: &[u8], table: &mut [u8]) -> Outcome
+    ensures { λ r. ⌜ tells (r .number) (r .words) (r .verdict) (r .location) ≡ admitLoaded (now (set .entry)) (load (now (file .entry)) (count (now (table .entry)))) ⌝ }
+    ensures lent { λ _. ⌜ now (table .exit) ≡ lentBytes (load (now (file .entry)) (count (now (table .entry)))) (now (table .entry)) ⌝ }
+{
+    let a = loader::load(file, table);
+    if a.number != 0 {
+        return Outcome {
+            number: a.number,
+            words: 0,
+            verdict: 0,
+            location: 0,
+        };
+    }
+    let end = 2 * a.words;
+    let v = admits(&table[..end], set);
+    Outcome {
+        number: v.number,
+        words: a.words,
+        verdict: a.verdict,
+        location: v.location,
     }
 }
