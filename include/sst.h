@@ -42,6 +42,9 @@
  *   41  a location that can be reached gives 37: every jump target, label, default, call and place after a call counts as possible,
  *       starting at location 1
  *
+ * The number that sst_admit answers, after 41 (sst_load_admitted: after 40, 20 and 41, all as sst_load does):
+ *   48  an operation at a location that can be reached is not in the granted set: the lowest such location
+ *
  * The number that sst_filter answers, the first of these that holds:
  *    9  more than 64 entries
  *   42  the first byte of an entry exceeds its last: the first such entry, from 0
@@ -79,6 +82,18 @@ uint16_t sst_load(const uint8_t *file, size_t file_bytes, uint8_t *table, size_t
  * SST_FILE_BYTES bytes is never too short. What is written, sst_load takes. */
 uint16_t sst_write_file(const uint8_t *table, size_t table_bytes, uint64_t verdict, uint8_t *file, size_t file_bytes, uint64_t *words);
 
+/* Whether a table is admitted for a publisher. Read: table, any bytes (words past 4,096 count for nothing, and what stands behind a loaded table
+ * changes nothing); set, the operations that the publisher was granted: a bit for each instruction number from 256 on, the highest bit of the
+ * first byte first (docs/LAYOUT.md); missing bytes grant nothing, and bits past 1,279 count for nothing. `*location` becomes the location that
+ * 48 names, else 0. Answers 0 where every operation at a location that can be reached is granted: then no walk from sst_fresh writes an event of
+ * any other; 41 for a table that sst_load would not take; 48. */
+uint16_t sst_admit(const uint8_t *table, size_t table_bytes, const uint8_t *set, size_t set_bytes, uint64_t *location);
+
+/* Loads a table file and admits its table in one call: file, table, `*words` and `*verdict` as with sst_load, set and `*location` as with sst_admit.
+ * With 48 the loaded table stays, and `*words` and `*verdict` are those of the file. Answers 0, 40, 20, 41, 48. */
+uint16_t sst_load_admitted(const uint8_t *file, size_t file_bytes, const uint8_t *set, size_t set_bytes, uint8_t *table,
+                           size_t table_bytes, uint64_t *words, uint64_t *verdict, uint64_t *location);
+
 /* The bytes of the longest table and of its file. */
 #define SST_TABLE_BYTES 8192
 #define SST_FILE_BYTES 8264
@@ -87,7 +102,7 @@ uint16_t sst_write_file(const uint8_t *table, size_t table_bytes, uint64_t verdi
  * docs/LAYOUT.md), up to three bytes behind the last whole one count for nothing; text, any bytes. Lent: tokens, written from its start with a
  * word for each byte of the text, the token of the entry that has it; what stands behind is kept, and on a refusal all of it. `*at` becomes
  * the entry (42) or the byte (43, 44) that the number names, else 0; `*written` the number of tokens, 0 on a refusal. Answers any number of
- * the fourth list above. */
+ * the fifth list above. */
 uint16_t sst_filter(const uint8_t *filter, size_t filter_len, const uint8_t *text, size_t text_len, uint8_t *tokens, size_t tokens_len,
                     uint64_t *at, uint64_t *written);
 

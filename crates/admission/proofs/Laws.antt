@@ -84,9 +84,9 @@ two-none l i x =
 one-none : (i : ℕ) → i < 256 → lengthOf i ≡ 1 → operationOf (decodeOne i) ≡ none
 unfolding operationOf decodeOne lengthRule
 one-none i h e = elim (decLe 1 i) [
-  no z ↦ (let d = length-none i (omega arith) in absurd (omega arith))
+  | no z ↦ (let d = length-none i (omega arith) in absurd (omega arith))
   | yes a ↦ elim (decLe i 13) [ no z ↦ (let d = length-between i (omega arith) (omega arith) in absurd (omega arith)) | yes b ↦ inner a b ]
-  ]
+]
   where
     go : (p q r : Bool) → _≡_ {A = ℕ} (if p || q || r then 1 else 2) 1
         → operationOf (if p then inputAny else (if q then return else (if r then endChoice else decodeOperation i))) ≡ none

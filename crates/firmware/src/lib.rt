@@ -5,11 +5,12 @@ ghost use Prim.Native.Nat.{_+_, _*_, _%_, _<_, _≤_, min};
 ghost use lib.ListN.{length, take, drop, getD};
 ghost use Rattle.base.specs.Common.{same as sameBytes};
 ghost use Rattle.events.specs.Events.{reasonNumber};
-ghost use Rattle.machine.specs.Bytes.{wordsOf, count};
+ghost use Rattle.machine.specs.Bytes.{wordsOf, tableOf, count};
 ghost use Rattle.machine.specs.Walk.{fresh};
 ghost use Rattle.machine.specs.Call.{whole};
 ghost use Rattle.machine.specs.Form as form;
 ghost use Rattle.loading.specs.File as files;
+ghost use Rattle.rights.specs.Rights as rights;
 ghost use Rattle.processor.specs.Process.{process, lentBytes};
 ghost use Rattle.filtering.specs.Filter as filtering;
 ghost use Rattle.firmware.specs.Filing.{hands};
@@ -560,6 +561,36 @@ pub extern "C" fn sst_write_file(
 {
     let a = writer::write_file(table, verdict, file);
     *words = a.words as u64;
+    a.number
+}
+
+// Whether a table is admitted for the publisher who holds the set.
+#[no_mangle]
+pub extern "C" fn sst_admit(table: &[u8], set: &[u8], location: &mut u64) -> u16
+    ensures { λ r. ⌜ rights.says r (now (location .exit)) ≡ rights.admit (tableOf (now (table .entry))) (now (set .entry)) ⌝ }
+{
+    let a = admission::admits(table, set);
+    *location = a.location as u64;
+    a.number
+}
+
+// A table file is loaded and its table admitted, on bytes and numbers alone.
+#[no_mangle]
+pub extern "C" fn sst_load_admitted(
+    file: &[u8],
+    set: &[u8],
+    table: &mut [u8],
+    words: &mut u64,
+    verdict: &mut u64,
+    location: &mut u64,
+) -> u16
+    ensures { λ r. ⌜ rights.tells r (now (words .exit)) (now (verdict .exit)) (now (location .exit)) ≡ rights.admitLoaded (now (set .entry)) (files.load (now (file .entry)) (count (now (table .entry)))) ⌝ }
+    ensures lent { λ _. ⌜ now (table .exit) ≡ files.lentBytes (files.load (now (file .entry)) (count (now (table .entry)))) (now (table .entry)) ⌝ }
+{
+    let a = admission::load_admitted(file, set, table);
+    *words = a.words as u64;
+    *verdict = a.verdict as u64;
+    *location = a.location as u64;
     a.number
 }
 

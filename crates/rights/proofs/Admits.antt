@@ -138,11 +138,13 @@ names-lowest T set l e = go (taken T) refl e
           takes = taken-Taken T t;
           reached = reached-reach T at (w .0);
           not-granted = not-true (right T set at) (w .1);
-          lowest = λ m r f. elim (decLe at m) [ yes h ↦ h
-              | no h ↦ (let q = fetch-inside T m (good-there T m (taken-Taken T t m r)) in
-                  let a = s .first m (q .0) (omega arith) in
-                  let b : (member m (reached T) && not (right T set m)) ≡ true = rw (reach-reached T t r, f) in
-                  never (sym a ∙ b)) ];
+          lowest = λ m r f. elim (decLe at m) [
+            | yes h ↦ h
+            | no h ↦ (let q = fetch-inside T m (good-there T m (taken-Taken T t m r)) in
+                let a = s .first m (q .0) (omega arith) in
+                let b : (member m (reached T) && not (right T set m)) ≡ true = rw (reach-reached T t r, f) in
+                never (sym a ∙ b))
+          ];
         }
       where
         one-at-least : (k : ℕ) → (k ≡ 0 → ⊥) → 1 ≤ k
