@@ -3,3 +3,4 @@ pub mod Facts
 pub mod Joined
 pub mod Entries
 pub mod Loaded
+pub mod Admitted

@@ -33,18 +33,31 @@ same-lent : (ws : List ℕ) (v : ℕ) (lent : List ℕ) → files.lentBytes (don
 unfolding files.lentBytes files.lentWords lentBytes lentWords
 same-lent ws v lent = refl
 
-pub from-load : (file lent table : List ℕ) (x : Numbers) → Loads file lent table x → x .number ≡ 0 → NeverBytes37 table
-from-load file lent table x l z tokens answers bk ba allowance small s ws n number ns c =
-    let d = loads-0 file (count lent) (ap (λ (y : Numbers). y .number) (sym (l .numbers)) ∙ z) in
+-- a file that was loaded: its table stands at the front of the lent bytes, with more behind it
+pub record Left (file lent table : List ℕ) : Type 0 where
+  pub T : List ℕ
+  pub v : ℕ
+  pub is : load file (count lent) ≡ done T v
+  pub more : List ℕ
+  pub bytes : Below 256 table
+  pub begins : tableOf table ≡ T ++ more
+
+pub left-by : (file lent table : List ℕ) → Slice file → Slice lent → table ≡ files.lentBytes (load file (count lent)) lent
+    → numbersOf (load file (count lent)) .number ≡ 0 → Left file lent table
+left-by file lent table sf sl b z =
+    let d = loads-0 file (count lent) z in
     let T = d .0 in
     let v = d .1 in
     let e = loads-exactly file (count lent) T v .only-these (d .2) in
     let low = length-allowed (length T) v (e .limits) in
     let named : tableNamed file ≡ T = ap tableNamed (e .one-file) ∙ table-file T v low in
-    let left : table ≡ lentBytes (accepted T true) lent = l .bytes ∙ ap (λ (a : files.Answer). files.lentBytes a lent) (d .2) ∙ same-lent T v lent in
+    let left : table ≡ lentBytes (accepted T true) lent = b ∙ ap (λ (a : files.Answer). files.lentBytes a lent) (d .2) ∙ same-lent T v lent in
     let more = lent-table T true lent low in
-    let words : Below 65536 T = rw named at (below-named file (l .source)) in
-    let bytes : Below 256 table = rw left (lent-bytes T true lent words (l .buffer .bytes)) in
-    let begins : tableOf table ≡ T ++ more .0 = ap tableOf left ∙ more .1 in
-    let st = byte-calls table tokens answers bytes bk ba allowance small c in
-    loaded-never-37 file (count lent) T v (more .0) (d .2) (wordsOf tokens) (wordsOf answers) allowance (st .walk) (st .events) n number ns (rw begins at (st .listed))
+    let words : Below 65536 T = rw named at (below-named file sf) in
+    record { T = T; v = v; is = d .2; more = more .0; bytes = rw left (lent-bytes T true lent words (sl .bytes)); begins = ap tableOf left ∙ more .1 }
+
+pub from-load : (file lent table : List ℕ) (x : Numbers) → Loads file lent table x → x .number ≡ 0 → NeverBytes37 table
+from-load file lent table x l z tokens answers bk ba allowance small s ws n number ns c =
+    let f = left-by file lent table (l .source) (l .buffer) (l .bytes) (ap (λ (y : Numbers). y .number) (sym (l .numbers)) ∙ z) in
+    let st = byte-calls table tokens answers (f .bytes) bk ba allowance small c in
+    loaded-never-37 file (count lent) (f .T) (f .v) (f .more) (f .is) (wordsOf tokens) (wordsOf answers) allowance (st .walk) (st .events) n number ns (rw (f .begins) at (st .listed))

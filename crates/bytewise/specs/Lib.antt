@@ -1,3 +1,4 @@
 pub mod ByteCalls
 pub mod AtEntries
 pub mod AtLoading
+pub mod AtAdmission
