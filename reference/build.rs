@@ -96,10 +96,12 @@ fn main() {
 
 /// The entries of the library, in the alphabet's order.
 const ENTRIES: &[&str] = &[
-    "allowance", //
+    "admit", //
+    "allowance",
     "filter",
     "fresh",
     "load",
+    "load_admitted",
     "location",
     "paused",
     "phase",

@@ -2,6 +2,7 @@
 #![allow(unsafe_code)]
 
 use crate::files::Files;
+use crate::rights::Rights;
 use crate::side::{Folder, Inputs, Processor, Side};
 use crate::walker::Done;
 use std::ffi::c_void;
@@ -305,6 +306,17 @@ pub fn stack_used<F: FnMut() + Send>(mut function: F, size: usize) -> Option<u64
     let mut stack = vec![0u8; size];
     let used = unsafe { cs_used(run::<F>, (&raw mut function).cast(), stack.as_mut_ptr(), stack.len()) };
     (used != 0).then_some(used)
+}
+
+#[cfg(feature = "lib")]
+mod rights;
+
+/// The library's admission, where it is linked.
+pub fn rights() -> Option<&'static dyn Rights> {
+    #[cfg(feature = "lib")]
+    return Some(&Library);
+    #[cfg(not(feature = "lib"))]
+    return None;
 }
 
 /// The library, where it is linked.

@@ -22,4 +22,5 @@ pub mod files;
 pub mod limits;
 pub mod pairs;
 pub mod programs;
+pub mod rights;
 pub mod texts;
