@@ -30,6 +30,22 @@ pub const HARD: [&str; 13] = [
 pub const PLAIN: usize = 6;
 pub const CHOSEN: usize = 8;
 
+/// The sizes of the texts that are timed.
+pub const SIZES: [usize; 3] = [1_024, 8_192, 32_768];
+
+/// The texts that are timed, in all sizes: a typical one and each hard sort.
+pub fn timed() -> Vec<[Text; 3]> {
+    let typical = SIZES.map(|size| typical(&mut Seed::new(7), size));
+    let hard = (0..HARD.len()).map(|sort| SIZES.map(|size| hard(sort, size)));
+    std::iter::once(typical).chain(hard).collect()
+}
+
+/// An update with its constant, inside as many choices as may be: resolving it needs the most stack.
+pub fn deep_update() -> Vec<u8> {
+    let (open, close) = ("[ | *: ".repeat(32), "]".repeat(32));
+    format!("type T: v; mechanism m: f(T); rules M: {open}f(v){close}; end").into_bytes()
+}
+
 /// A hard program of about so many bytes. Those with 20 pass the table's limit and are refused with it where they have more than 8 KB.
 pub fn hard(sort: usize, bytes: usize) -> Text {
     let text = match sort {

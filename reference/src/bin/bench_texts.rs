@@ -10,11 +10,10 @@ use std::process::ExitCode;
 
 use reference::ffi;
 use reference::limits::{self, LIMITS};
-use reference::programs::{self, CHOSEN, HARD, PLAIN, Text};
+use reference::programs::{self, CHOSEN, PLAIN, SIZES, Text};
 use reference::side::{Processed, Processor, Reference};
 use reference::texts::{self, Seed};
 
-const SIZES: [usize; 3] = [1_024, 8_192, 32_768];
 const LARGEST: usize = 2 * 4_096;
 /// The painted stack: much more than a processor should need.
 const STACK: usize = 8 << 20;
@@ -54,13 +53,6 @@ fn compare(sides: [&dyn Processor; 2], text: &[u8], repetitions: usize) -> [f64;
     times.map(|mut times| median(&mut times))
 }
 
-/// The texts of all sizes: a typical one and each hard sort.
-fn works() -> Vec<[Text; 3]> {
-    let typical = SIZES.map(|size| programs::typical(&mut Seed::new(7), size));
-    let hard = (0..HARD.len()).map(|sort| SIZES.map(|size| programs::hard(sort, size)));
-    std::iter::once(typical).chain(hard).collect()
-}
-
 /// The deepest stack over many texts: those that are timed, those around the limits, and small ones, good and damaged.
 fn stack(side: &'static (dyn Processor + Sync), works: &[[Text; 3]]) -> Option<(u64, String)> {
     let mut texts: Vec<(String, Vec<u8>)> = Vec::new();
@@ -73,6 +65,7 @@ fn stack(side: &'static (dyn Processor + Sync), works: &[[Text; 3]]) -> Option<(
             texts.extend(samples.into_iter().map(|sample| (format!("limit of {name}"), sample.text)));
         }
     }
+    texts.push(("an update with its constant, 32 deep".to_string(), programs::deep_update()));
     texts.extend(limits::beyond().into_iter().map(|(text, number)| (format!("far beyond a limit, {number}"), text)));
     texts.extend((0..400).map(|n| (format!("text {n}"), texts::text(&mut Seed::new(n), 40))));
     let mut table = vec![0; LARGEST];
@@ -107,7 +100,7 @@ fn main() -> ExitCode {
         eprintln!("built without the library");
         return ExitCode::from(2);
     };
-    let works = works();
+    let works = programs::timed();
     println!("median of {repetitions} repetitions, in microseconds a text");
     println!("{:<12}{:>7}{:>7}{:>12}{:>12}{:>12}{:>14}", "text", "bytes", "words", "lib", "rust", "lib/rust", "lib ns/byte");
     let mut most = (0.0, String::new());
