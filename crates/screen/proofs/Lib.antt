@@ -1,0 +1,4 @@
+pub mod Cuts
+pub mod Sizes
+pub mod Turns
+pub mod Facts

@@ -1,0 +1,1 @@
+// The screen of two books: definitions and laws only.
