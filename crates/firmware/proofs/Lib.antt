@@ -4,3 +4,4 @@ pub mod Walks
 pub mod Calls
 pub mod Processing
 pub mod Zero
+pub mod Screens

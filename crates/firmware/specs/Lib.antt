@@ -2,3 +2,4 @@ pub mod Writes
 pub mod Entries
 pub mod Processing
 pub mod Filing
+pub mod Turning

@@ -13,7 +13,9 @@ ghost use Rattle.loading.specs.File as files;
 ghost use Rattle.rights.specs.Rights as rights;
 ghost use Rattle.processor.specs.Process.{process, lentBytes};
 ghost use Rattle.filtering.specs.Filter as filtering;
+ghost use Rattle.screen.specs.Screen.{isBook, screenNumber, freshBytes, refreshBytes, turnBytes};
 ghost use Rattle.firmware.specs.Filing.{hands};
+ghost use Rattle.firmware.specs.Turning.{leaves};
 ghost use Rattle.firmware.specs.Processing.{flagOf, numbersOf, tells};
 ghost use Rattle.walker.specs.View as view;
 ghost use Rattle.firmware.specs.Writes.{puts, registerWords, registersIn, Holds};
@@ -34,6 +36,15 @@ const READ_WORD: usize = 7;
 const USED_WORD: usize = 11;
 
 const RETURNS_WORD: usize = 15;
+
+// The bytes of a screen of two books, and where its steps left begin.
+const BOOKS: u16 = 2;
+
+const SCREEN_BYTES: usize = 324;
+
+const LEFT_WORD: usize = 158;
+
+const LEFT_BYTE: usize = 316;
 
 // Whether some bytes are a walk, and which.
 struct Held {
@@ -212,7 +223,7 @@ fn word(s: &[u8], i: usize) -> u64
 
 // The four words from index i on as one number.
 fn read_64(s: &[u8], i: usize) -> u64
-    requires { ⌜ i < 79 ⌝ }
+    requires { ⌜ i < 324 ⌝ }
     ensures { λ r. ⌜ r ≡ form.number64 (drop i (wordsOf (now (s .entry)))) ⌝ }
 {
     word(s, i) * 281474976710656
@@ -396,6 +407,117 @@ pub extern "C" fn sst_paused(
     } else {
         refuse(written, steps)
     }
+}
+
+// Two books over one table
+
+// Whether the screen has its length and this book.
+fn is_book(book: u16, screen: &[u8]) -> bool
+    ensures { λ r. ⌜ r ≡ isBook book (now (screen .entry)) ⌝ }
+{
+    if book < BOOKS {
+        screen.len() == SCREEN_BYTES
+    } else {
+        false
+    }
+}
+
+// Fresh walks with their repair allowances, and no steps left.
+#[no_mangle]
+pub extern "C" fn sst_screen_fresh(screen: &mut [u8], allowance_0: u16, allowance_1: u16) -> u16
+    ensures { λ r. ⌜ (r ≡ screenNumber (now (screen .entry))) × (now (screen .exit) ≡ freshBytes allowance_0 allowance_1 (now (screen .entry))) ⌝ }
+{
+    if screen.len() != SCREEN_BYTES {
+        return 21;
+    }
+    put_walk(&mut screen[..WALK_BYTES], fresh_walk(allowance_0));
+    put_walk(&mut screen[WALK_BYTES..LEFT_BYTE], fresh_walk(allowance_1));
+    put_64(screen, LEFT_WORD, 0);
+    0
+}
+
+// The steps left are set anew.
+#[no_mangle]
+pub extern "C" fn sst_refresh(screen: &mut [u8], left: u64) -> u16
+    ensures { λ r. ⌜ (r ≡ screenNumber (now (screen .entry))) × (now (screen .exit) ≡ refreshBytes left (now (screen .entry))) ⌝ }
+{
+    if screen.len() != SCREEN_BYTES {
+        return 21;
+    }
+    put_64(screen, LEFT_WORD, left);
+    0
+}
+
+// A whole turn: a call of one book with the steps left, which fall by those done.
+#[no_mangle]
+pub extern "C" fn sst_turn_whole(
+    table: &[u8],
+    tokens: &[u8],
+    answers: &[u8],
+    book: u16,
+    screen: &mut [u8],
+    events: &mut [u8],
+    written: &mut u64,
+    steps: &mut u64,
+) -> u16
+    ensures { λ r. ⌜ leaves r (now (screen .exit)) (now (events .exit)) (now (written .exit)) (now (steps .exit)) ≡ turnBytes (now (table .entry)) (now (tokens .entry)) (whole (wordsOf (now (answers .entry)))) book (now (screen .entry)) (now (events .entry)) ⌝ }
+{
+    if !is_book(book, screen) {
+        return refuse(written, steps);
+    }
+    let left = read_64(screen, LEFT_WORD);
+    let from = book as usize * WALK_BYTES;
+    let end = from + WALK_BYTES;
+    let n = sst_whole(
+        table,
+        tokens,
+        answers,
+        left,
+        &mut screen[from..end],
+        events,
+        written,
+        steps,
+    );
+    let done = *steps;
+    put_64(screen, LEFT_WORD, left - done);
+    n
+}
+
+// A paused turn.
+#[no_mangle]
+pub extern "C" fn sst_turn_paused(
+    table: &[u8],
+    tokens: &[u8],
+    given: u16,
+    answer: u16,
+    book: u16,
+    screen: &mut [u8],
+    events: &mut [u8],
+    written: &mut u64,
+    steps: &mut u64,
+) -> u16
+    ensures { λ r. ⌜ leaves r (now (screen .exit)) (now (events .exit)) (now (written .exit)) (now (steps .exit)) ≡ turnBytes (now (table .entry)) (now (tokens .entry)) (handing given answer) book (now (screen .entry)) (now (events .entry)) ⌝ }
+{
+    if !is_book(book, screen) {
+        return refuse(written, steps);
+    }
+    let left = read_64(screen, LEFT_WORD);
+    let from = book as usize * WALK_BYTES;
+    let end = from + WALK_BYTES;
+    let n = sst_paused(
+        table,
+        tokens,
+        given,
+        answer,
+        left,
+        &mut screen[from..end],
+        events,
+        written,
+        steps,
+    );
+    let done = *steps;
+    put_64(screen, LEFT_WORD, left - done);
+    n
 }
 
 // The parts of a walk, of bytes that are none as include/sst.h says
