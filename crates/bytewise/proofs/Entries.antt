@@ -110,7 +110,7 @@ module _ (prog : List Rule) (table tokens answers : List ℕ) (bt : Below 256 ta
         rules-stop = x .rules-stop;
       })
 
-  agrees-bytes : Agrees prog (tableOf table) (wordsOf tokens) (wordsOf answers) allowance → AgreesBytes prog table tokens answers allowance
+  pub agrees-bytes : Agrees prog (tableOf table) (wordsOf tokens) (wordsOf answers) allowance → AgreesBytes prog table tokens answers allowance
   agrees-bytes a =
       record {
         is-walk = λ l. (let st = byte-calls table tokens answers bt bk ba allowance small l in (st .walk, st .read-back));

@@ -2,7 +2,9 @@
 use mathlib.Core.Bool.{Bool, true, _&&_}
 use mathlib.Core.List.{List, [], _∷_, _++_}
 use mathlib.Core.Option.{none, some}
+use mathlib.Core.Path.{refl}
 use Prim.Native.Nat.{ℕ}
+use native.Mathlib.Omega.{arith}
 use lib.Dec.{T, eqb}
 use lib.ListN.{replicate}
 use Rattle.base.specs.Common.{same}
@@ -17,8 +19,14 @@ use Rattle.machine.specs.Form
 use Rattle.machine.specs.Call.{Mode, whole, paused}
 use Rattle.machine.specs.Form.{walkBytes, Outcome, callBytes}
 use Rattle.machine.specs.Walk.{fresh}
+use Rattle.screen.specs.Items
+use Rattle.screen.specs.Items.{Item, turn, refresh}
+use Rattle.screen.specs.Screen
+use Rattle.screen.specs.Screen.{freshBytes}
+use Rattle.bytewise.specs.AtScreen
+use Rattle.bytewise.specs.AtScreen.{Asked}
 use Rattle.bytewise.specs.ByteCalls
-use Rattle.bytewise.specs.ByteCalls.{writtenWords, choicesIn}
+use Rattle.bytewise.specs.ByteCalls.{writtenWords, choicesIn, Hands}
 
 -- the table: emit 7, the update operation 512 with the parameter 900, the choice operation 768, return
 abbrev table : List ℕ
@@ -41,3 +49,11 @@ holds =
 pub all-hold : T holds
 unfolding holds Events.opened Bytes.opened Lengths.opened Decode.opened Walk.opened Step.opened Call.opened Form.opened ByteCalls.opened
 all-hold = tt
+
+-- what is asked of the turns of a book can be met: book 0 pauses, book 1 takes a turn of other tokens, book 0 is given its answer
+abbrev turns : List Item
+turns = turn 0 [] (paused (some 4)) (replicate 6 170) ∷ turn 1 (1 ∷ 2 ∷ 3 ∷ []) (whole []) [] ∷ turn 0 [] (paused none) (replicate 23 170) ∷ refresh 9 ∷ []
+
+pub asked : Asked table 0 [] (0 ∷ 4 ∷ []) (freshBytes 0 3 (replicate 324 170)) turns
+unfolding Asked Hands AtScreen.opened ByteCalls.opened Events.opened Bytes.opened Lengths.opened Decode.opened Walk.opened Step.opened Call.opened Form.opened Screen.opened Items.opened
+asked = (λ e. (refl, (omega arith, λ w. refl)), (λ e. absurd (omega arith), (λ e. (refl, tt), tt)))

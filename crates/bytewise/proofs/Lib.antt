@@ -4,3 +4,4 @@ pub mod Joined
 pub mod Entries
 pub mod Loaded
 pub mod Admitted
+pub mod Screens

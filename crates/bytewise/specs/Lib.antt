@@ -2,3 +2,4 @@ pub mod ByteCalls
 pub mod AtEntries
 pub mod AtLoading
 pub mod AtAdmission
+pub mod AtScreen
