@@ -279,6 +279,11 @@ fn value_chain(bytes: usize) -> String {
     text
 }
 
+/// Every kind of choice and operation, some choices without otherwise.
+pub const CHOICES: &str = "input: a b; output: o p; type t: v w x; mechanism m: c>>t d(t)>>t u(t) n; \
+    rules M: { [c | w: .o u(x) | x: @K] [d(w) | v: n | w: > | *: .p] [@N | v: ? | w: b] }; K: [ | a: u(v) | *: n]; \
+    N >> t: [ | a: >> v | b: >> w | *: >> x]; end";
+
 /// A mixed program of so many bytes: tokens, errors, types, operations and rules in the usual proportions, with comments.
 pub fn typical(seed: &mut Seed, bytes: usize) -> Text {
     loop {

@@ -61,6 +61,30 @@ pub fn follow(
     (walk.end, done)
 }
 
+/// The rules' own walk on its way: its end, its steps, and after each of them events written, tokens read, answers used and repairs left, once each.
+pub struct Own {
+    pub end: End,
+    pub steps: usize,
+    pub states: Vec<State>,
+}
+
+/// Events written, tokens read, answers used, repairs left.
+pub type State = (usize, u64, u64, u16);
+
+impl Own {
+    pub fn new(program: &Program, tokens: &[u16], answers: &[u16], allowance: u16, most: usize) -> Own {
+        let mut states = vec![(0, 0, 0, allowance)];
+        let look = |end: &End| {
+            let state = (end.events.len(), end.read, end.used, end.allowance);
+            if states.last() != Some(&state) {
+                states.push(state);
+            }
+        };
+        let (end, steps) = follow(program, tokens, answers, allowance, most, look);
+        Own { end, steps, states }
+    }
+}
+
 impl<'a> Walk<'a> {
     fn present(&self) -> Option<u16> {
         self.tokens.get(self.end.read as usize).copied()

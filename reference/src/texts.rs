@@ -681,6 +681,29 @@ pub fn lead(seed: &mut Seed, program: &Program) -> (Vec<u16>, Vec<u16>) {
     (tokens, answers)
 }
 
+/// Tokens and answers: ones that lead on, or any.
+pub fn feed(seed: &mut Seed, program: &Program) -> (Vec<u16>, Vec<u16>) {
+    let (mut tokens, mut answers) = lead(seed, program);
+    if seed.one_in(4) {
+        tokens.extend((0..seed.below(20)).map(|_| seed.below(6) as u16));
+    }
+    if seed.one_in(3) {
+        answers.extend((0..seed.below(20)).map(|_| seed.below(5) as u16));
+    }
+    if seed.one_in(6) && !tokens.is_empty() {
+        let at = seed.below(tokens.len());
+        tokens[at] = seed.draw() as u16;
+    }
+    if seed.one_in(3) && !answers.is_empty() {
+        let at = seed.below(answers.len());
+        answers[at] = seed.draw() as u16;
+    }
+    if seed.one_in(4) {
+        answers.truncate(seed.below(answers.len() + 1));
+    }
+    (tokens, answers)
+}
+
 fn mentioned(acts: &[Act], tokens: &mut Vec<u16>, values: &mut Vec<u16>) {
     for act in acts {
         match act {

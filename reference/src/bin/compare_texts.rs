@@ -15,9 +15,9 @@ use reference::faults::{self, Fault};
 use reference::ffi;
 use reference::limits::{self, LIMITS};
 use reference::pairs::{self, BESIDE, Case, Limit, Sample};
-use reference::processor::{Program, resolve};
+use reference::processor::resolve;
 use reference::programs;
-use reference::rules;
+use reference::rules::{self, Own};
 use reference::side::{Inputs, Processed, Processor, Reference, Side};
 use reference::tables::bytes;
 use reference::texts::{self, Seed, VOCABULARY, Words};
@@ -416,27 +416,6 @@ fn lent_sizes(h: &mut Harness, seed: &mut Seed) {
     }
 }
 
-/// The rules' own walk: its end, and the events, tokens read and answers used after each of its steps, once each.
-struct Own {
-    end: rules::End,
-    steps: usize,
-    states: Vec<(usize, u64, u64, u16)>,
-}
-
-impl Own {
-    fn new(program: &Program, tokens: &[u16], answers: &[u16], allowance: u16, most: usize) -> Own {
-        let mut states = vec![(0, 0, 0, allowance)];
-        let look = |end: &rules::End| {
-            let state = (end.events.len(), end.read, end.used, end.allowance);
-            if states.last() != Some(&state) {
-                states.push(state);
-            }
-        };
-        let (end, steps) = rules::follow(program, tokens, answers, allowance, most, look);
-        Own { end, steps, states }
-    }
-}
-
 /// A walk over a table in calls, with what its calls wrote and did.
 struct Run {
     walk: Vec<u8>,
@@ -554,34 +533,6 @@ fn table_walk(h: &mut Harness, seed: &mut Seed, feed: &Feed, own: &Own, pauses: 
     });
 }
 
-/// Tokens and answers: ones that lead on, or any.
-fn feed(seed: &mut Seed, program: &Program) -> (Vec<u16>, Vec<u16>) {
-    let (mut tokens, mut answers) = texts::lead(seed, program);
-    if seed.one_in(4) {
-        tokens.extend((0..seed.below(20)).map(|_| seed.below(6) as u16));
-    }
-    if seed.one_in(3) {
-        answers.extend((0..seed.below(20)).map(|_| seed.below(5) as u16));
-    }
-    if seed.one_in(6) && !tokens.is_empty() {
-        let at = seed.below(tokens.len());
-        tokens[at] = seed.draw() as u16;
-    }
-    if seed.one_in(3) && !answers.is_empty() {
-        let at = seed.below(answers.len());
-        answers[at] = seed.draw() as u16;
-    }
-    if seed.one_in(4) {
-        answers.truncate(seed.below(answers.len() + 1));
-    }
-    (tokens, answers)
-}
-
-/// Every kind of choice and operation, some choices without otherwise.
-const CHOICES: &str = "input: a b; output: o p; type t: v w x; mechanism m: c>>t d(t)>>t u(t) n; \
-    rules M: { [c | w: .o u(x) | x: @K] [d(w) | v: n | w: > | *: .p] [@N | v: ? | w: b] }; K: [ | a: u(v) | *: n]; \
-    N >> t: [ | a: >> v | b: >> w | *: >> x]; end";
-
 /// Accepted programs walked: their table, as the library wrote it, whole and in pauses, against the rules' own walk. One that is finishing stops.
 fn walks(h: &mut Harness, seed: &mut Seed) {
     for round in 0..24 {
@@ -590,7 +541,7 @@ fn walks(h: &mut Harness, seed: &mut Seed) {
                 let bytes = seed.within(1_024, 4_000);
                 programs::typical(seed, bytes).text
             }
-            2 | 3 => CHOICES.into(),
+            2 | 3 => programs::CHOICES.into(),
             _ => {
                 let size = 6 + seed.below(80);
                 let words = texts::good(seed, size);
@@ -603,7 +554,7 @@ fn walks(h: &mut Harness, seed: &mut Seed) {
         let Ok(program) = resolve(&text) else { continue };
         h.expect(done.number == 0, || format!("a good program is refused: {done:?}\n{}", shown(&text)));
         for _ in 0..3 {
-            let (tokens, answers) = feed(seed, &program);
+            let (tokens, answers) = texts::feed(seed, &program);
             let most = if done.finishing == 1 { RULE_STEPS } else { 40 * ENDLESS };
             let allowance = if seed.one_in(2) { 0 } else { seed.below(30) as u16 };
             let own = Own::new(&program, &tokens, &answers, allowance, most);
@@ -630,7 +581,7 @@ fn choice_rules(h: &mut Harness, seed: &mut Seed) {
         h.expect(now || !before, || format!("a program is no longer finishing\n{}", shown(&text)));
         count(&mut h.choosers, (before, now));
         if now && !before && seed.one_in(4) {
-            let (tokens, answers) = feed(seed, &program);
+            let (tokens, answers) = texts::feed(seed, &program);
             let allowance = seed.below(4) as u16;
             let end = rules::walk(&program, &tokens, &answers, allowance, RULE_STEPS);
             h.expect(end.reason.is_some(), || format!("a finishing program does not stop\n{}", shown(&text)));
