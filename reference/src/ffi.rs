@@ -3,6 +3,7 @@
 
 use crate::files::Files;
 use crate::rights::Rights;
+use crate::screen::Screens;
 use crate::side::{Folder, Inputs, Processor, Side};
 use crate::walker::Done;
 use std::ffi::c_void;
@@ -313,6 +314,17 @@ mod rights;
 
 /// The library's admission, where it is linked.
 pub fn rights() -> Option<&'static dyn Rights> {
+    #[cfg(feature = "lib")]
+    return Some(&Library);
+    #[cfg(not(feature = "lib"))]
+    return None;
+}
+
+#[cfg(feature = "lib")]
+mod screen;
+
+/// The library's turns of two books, where they are linked.
+pub fn screens() -> Option<&'static dyn Screens> {
     #[cfg(feature = "lib")]
     return Some(&Library);
     #[cfg(not(feature = "lib"))]

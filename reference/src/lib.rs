@@ -23,4 +23,5 @@ pub mod limits;
 pub mod pairs;
 pub mod programs;
 pub mod rights;
+pub mod screen;
 pub mod texts;

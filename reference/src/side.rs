@@ -77,7 +77,8 @@ impl Processor for Reference {
     }
 }
 
-const REFUSAL: Done = Done { number: REFUSED, written: 0, steps: 0 };
+/// What a call that is refused answers.
+pub const REFUSAL: Done = Done { number: REFUSED, written: 0, steps: 0 };
 
 impl Side for Reference {
     fn name(&self) -> &'static str {
