@@ -3,9 +3,10 @@
  *
  * Words are 16 bits, high byte first; an odd last byte of a buffer counts for nothing and is never touched. A buffer is a pointer and
  * its length in bytes; the pointer is not null, also where the length is 0. Buffers of one call do not overlap. Nothing is kept between
- * calls: the walk is the SST_WALK_BYTES bytes that the caller lends (docs/LAYOUT.md), and any bytes may be handed in.
+ * calls: the walk is the SST_WALK_BYTES bytes that the caller lends, a screen of two books its SST_SCREEN_BYTES bytes (docs/LAYOUT.md), and
+ * any bytes may be handed in.
  *
- * The number that a walk call answers:
+ * The number that a walk call answers, and a turn of a screen:
  *    0  the walk has stopped: it returned with nothing pending
  *   21  refused: an answer for a walk that is not waiting, none for one that is, a waiting one given to sst_whole, or bytes that are no
  *       walk. Walk and event buffer are unchanged, no event and no step is counted
@@ -127,6 +128,31 @@ uint16_t sst_whole(const uint8_t *table, size_t table_len, const uint8_t *tokens
 uint16_t sst_paused(const uint8_t *table, size_t table_len, const uint8_t *tokens, size_t tokens_len, uint16_t given, uint16_t answer,
                     uint64_t budget, uint8_t *walk, size_t walk_len, uint8_t *events, size_t events_len, uint64_t *written,
                     uint64_t *steps);
+
+/* Two books over one table. A screen is SST_SCREEN_BYTES bytes: the walk of book 0, the walk of book 1, each SST_WALK_BYTES bytes, and the steps
+ * left, 64 bits, high byte first (docs/LAYOUT.md). Both books draw on the steps left, which a refresh sets anew. A book's turns see and write
+ * its own walk and the steps left alone, so what the other book's bytes hold, and what it does, changes nothing but the steps that are left. */
+#define SST_SCREEN_BYTES 324
+
+/* Writes two fresh walks with their repair allowances, and 0 steps left: turns answer 36 until the first refresh. Lent: screen. Answers 0; 21 where
+ * the length is another, and then nothing is written. */
+uint16_t sst_screen_fresh(uint8_t *screen, size_t screen_len, uint16_t allowance_0, uint16_t allowance_1);
+
+/* Sets the steps left to any number; what was left is lost. Lent: screen, of which the last eight bytes are written and nothing is read. Answers 0; 21
+ * where the length is another, and then nothing is written. */
+uint16_t sst_refresh(uint8_t *screen, size_t screen_len, uint64_t left);
+
+/* A turn of book 0 or 1: the call sst_whole of that book's walk, its budget the steps left, which fall by `*steps`. Lent: screen, of which the
+ * book's walk and the steps left are read and written; events, `*written` and `*steps` as with sst_whole. Answers what sst_whole does, and 21 also
+ * for another book and another length. With 21 nothing is touched, and `*written` and `*steps` are 0. */
+uint16_t sst_turn_whole(const uint8_t *table, size_t table_len, const uint8_t *tokens, size_t tokens_len, const uint8_t *answers,
+                        size_t answers_len, uint16_t book, uint8_t *screen, size_t screen_len, uint8_t *events, size_t events_len,
+                        uint64_t *written, uint64_t *steps);
+
+/* The same with the call sst_paused. */
+uint16_t sst_turn_paused(const uint8_t *table, size_t table_len, const uint8_t *tokens, size_t tokens_len, uint16_t given,
+                         uint16_t answer, uint16_t book, uint8_t *screen, size_t screen_len, uint8_t *events, size_t events_len,
+                         uint64_t *written, uint64_t *steps);
 
 /* The parts of a walk; nothing is written. */
 
