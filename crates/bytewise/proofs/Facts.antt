@@ -20,7 +20,7 @@ use Rattle.machine.specs.Call.{Mode, whole, paused}
 use Rattle.machine.specs.Form.{walkBytes, Outcome, callBytes}
 use Rattle.machine.specs.Walk.{fresh}
 use Rattle.screen.specs.Items
-use Rattle.screen.specs.Items.{Item, turn, refresh}
+use Rattle.screen.specs.Items.{Item, turn, refill}
 use Rattle.screen.specs.Screen
 use Rattle.screen.specs.Screen.{freshBytes}
 use Rattle.bytewise.specs.AtScreen
@@ -52,8 +52,8 @@ all-hold = tt
 
 -- what is asked of the turns of a book can be met: book 0 pauses, book 1 takes a turn of other tokens, book 0 is given its answer
 abbrev turns : List Item
-turns = turn 0 [] (paused (some 4)) (replicate 6 170) ∷ turn 1 (1 ∷ 2 ∷ 3 ∷ []) (whole []) [] ∷ turn 0 [] (paused none) (replicate 23 170) ∷ refresh 9 ∷ []
+turns = turn 0 [] (paused (some 4)) (replicate 6 170) ∷ turn 1 (1 ∷ 2 ∷ 3 ∷ []) (whole []) [] ∷ turn 0 [] (paused none) (replicate 23 170) ∷ refill 0 9 ∷ []
 
-pub asked : Asked table 0 [] (0 ∷ 4 ∷ []) (freshBytes 0 3 (replicate 324 170)) turns
+pub asked : Asked table 0 [] (0 ∷ 4 ∷ []) (freshBytes 0 3 (replicate 332 170)) turns
 unfolding Asked Hands AtScreen.opened ByteCalls.opened Events.opened Bytes.opened Lengths.opened Decode.opened Walk.opened Step.opened Call.opened Form.opened Screen.opened Items.opened
 asked = (λ e. (refl, (omega arith, λ w. refl)), (λ e. absurd (omega arith), (λ e. (refl, tt), tt)))

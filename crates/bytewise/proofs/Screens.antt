@@ -1,7 +1,7 @@
 -- The turns of one book are a list of calls of that book alone, in every order, whatever the other book does.
 use mathlib.Core.Bool.{Bool, true, false}
-use mathlib.Core.List.{List, [], _∷_, _++_}
-use mathlib.Core.Path.{_≡_, refl, sym, ap, _∙_}
+use mathlib.Core.List.{List, [], _∷_, _++_, append-assoc}
+use mathlib.Core.Path.{_≡_, refl, sym, ap, _∙_, subst}
 use Prim.Native.Nat.{ℕ, _<_}
 use native.Mathlib.Omega.{arith}
 use lib.Dec.{eqb}
@@ -18,10 +18,10 @@ use Rattle.machine.specs.Walk.{fresh}
 use Rattle.processor.specs.Process.{accepted, process}
 use Rattle.program.specs.Program.{Rule}
 use Rattle.firmware.specs.Processing.{Numbers}
-use Rattle.screen.proofs.Sizes.{length-fresh, length-counter}
-use Rattle.screen.proofs.Turns.{every-turn, any-turn, refreshed, length-after, screen-is}
-use Rattle.screen.specs.Items.{Item, turn, refresh, ownView, screenAfter, after, hears, heard}
-use Rattle.screen.specs.Screen.{cut, screenSize, walkIn, leftIn, Turned, turnBytes, freshBytes}
+use Rattle.screen.proofs.Sizes.{length-fresh, length-freshBook}
+use Rattle.screen.proofs.Turns.{every-turn, refilled, kept, length-after, screen-is}
+use Rattle.screen.specs.Items.{Item, turn, refill, bookOf, ownView, screenAfter, after, hears, heard}
+use Rattle.screen.specs.Screen.{cut, screenSize, walkIn, leftIn, Turned, turnBytes, refillBytes, freshBook, freshBytes}
 use Rattle.bytewise.proofs.Entries.{Below, agrees-bytes, from-entries}
 use Rattle.bytewise.specs.AtEntries.{AgreesBytes, Processed}
 use Rattle.bytewise.specs.AtScreen.{wordsIn, stepsIn, numbersIn, Begins, Asked, Follows, InEveryOrder, OnScreen, FreshBegins}
@@ -33,31 +33,36 @@ module _ (table : List ℕ) (b : ℕ) (h : b < 2) (tokens answers : List ℕ) (a
   Leads s os = ByteCalls table tokens answers allowance s (wordsIn os) (stepsIn os) (numbersIn os)
 
   -- one turn of the book more
-  own-turn : (m : Mode) (r buffer : List ℕ) (os : List Outcome) (g : Turned) → ownView b g ≡ callBytes table tokens m (leftIn r) (walkIn b r) buffer
+  own-turn : (m : Mode) (r buffer : List ℕ) (os : List Outcome) (g : Turned) → ownView b g ≡ callBytes table tokens m (leftIn b r) (walkIn b r) buffer
       → Hands answers m (walkIn b r) (wordsIn os) → Leads (walkIn b r) os → Leads (walkIn b (g .screen)) (ownView b g ∷ os)
   unfolding ownView wordsIn stepsIn numbersIn
-  own-turn m r buffer os g e a l = next l m (leftIn r) buffer a {o = ownView b g} e
+  own-turn m r buffer os g e a l = next l m (leftIn b r) buffer a {o = ownView b g} e
 
   -- a turn of any number
   one-more : (c : ℕ) (given : List ℕ) (m : Mode) (r buffer : List ℕ) (os : List Outcome) → length r ≡ screenSize
       → (c ≡ b → (given ≡ tokens) × Hands answers m (walkIn b r) (wordsIn os)) → Leads (walkIn b r) os
       → Leads (walkIn b (turnBytes table given m c r buffer .screen)) (hears table b (turn c given m buffer) r os)
-  unfolding hears
+  unfolding hears screenAfter bookOf
   one-more c given m r buffer os k a l =
       split (eqb c b)
       (λ t. let d = eqb-true c b t in
       let w : given ≡ tokens = a d .0 in
       rw (t, d, w) (own-turn m r buffer os (turnBytes table tokens m b r buffer) (every-turn table tokens m b r buffer h k .alone) (a d .1) l))
-      (λ z. rw (z, any-turn table given m c r buffer k .other b h (λ q. eqb-false c b z (sym q))) l)
+      (λ z. rw (z, kept table (turn c given m buffer) r k .walk b h (λ q. eqb-false c b z (sym q))) l)
+
+  walk-refilled : (c n : ℕ) (r : List ℕ) → length r ≡ screenSize → walkIn b (refillBytes c n r) ≡ walkIn b r
+  unfolding screenAfter bookOf
+  walk-refilled c n r k =
+      split (eqb c b)
+      (λ t. let d = eqb-true c b t in rw d (refilled b n r h k .1))
+      (λ z. kept table (refill c n) r k .walk b h (λ q. eqb-false c b z (sym q)))
 
   pub projected : (r : List ℕ) → Begins b allowance r → (items : List Item) → Asked table b tokens answers r items → Leads (walkIn b (after table items r)) (heard table b items r)
   unfolding after screenAfter heard hears wordsIn stepsIn numbersIn Asked
   projected r g [] a = rw (g .afresh) first
   projected r g (turn c given m buffer ∷ items) a =
       one-more c given m (after table items r) buffer (heard table b items r) (length-after table items r (g .size)) (a .0) (projected r g items (a .1))
-  projected r g (refresh n ∷ items) a =
-      let k = length-after table items r (g .size) in
-      rw (refreshed n (after table items r) k .walks b h) (projected r g items a)
+  projected r g (refill c n ∷ items) a = subst (λ (s : List ℕ). Leads s (heard table b items r)) (sym (walk-refilled c n (after table items r) (length-after table items r (g .size)))) (projected r g items a)
 
   -- none of its turns answered 37: each was the last of a list
   module _ (prog : List Rule) (w : AgreesBytes prog table tokens answers allowance) where
@@ -73,7 +78,7 @@ module _ (table : List ℕ) (b : ℕ) (h : b < 2) (tokens answers : List ℕ) (a
     never r g (turn c given m buffer ∷ items) a =
         not-37 (eqb c b) (walkIn b (turnBytes table given m c (after table items r) buffer .screen)) (ownView b (turnBytes table given m c (after table items r) buffer)) (heard table b items r)
         (one-more c given m (after table items r) buffer (heard table b items r) (length-after table items r (g .size)) (a .0) (projected r g items (a .1))) (never r g items (a .1))
-    never r g (refresh n ∷ items) a = never r g items a
+    never r g (refill c n ∷ items) a = never r g items a
 
   pub followed : (prog : List Rule) → AgreesBytes prog table tokens answers allowance → (r : List ℕ) → Begins b allowance r → (items : List Item) → Asked table b tokens answers r items
       → Follows prog table tokens answers allowance (walkIn b (after table items r)) (heard table b items r)
@@ -101,13 +106,13 @@ on-any-table text room words verdict e table more bt q b h tokens answers bk ba 
     (agrees-bytes (d .prog) table tokens answers bt bk ba allowance small (rw q (d .agrees more (wordsOf tokens) (wordsOf answers) allowance))) r g items a
 
 pub fresh-begins : FreshBegins
-unfolding freshBytes walkIn cut
+unfolding freshBytes freshBook walkIn cut
 fresh-begins a₀ a₁ r k =
     let W₀ = walkBytes (fresh a₀) in
     let W₁ = walkBytes (fresh a₁) in
     let L = bytesOf (words64 0) in
-    let n : length (W₀ ++ (W₁ ++ L)) ≡ screenSize = omega (arith, length-append W₀ (W₁ ++ L), length-append W₁ L, length-fresh a₀, length-fresh a₁, length-counter 0) in
+    let n : length ((W₀ ++ L) ++ (W₁ ++ L)) ≡ screenSize = length-append (W₀ ++ L) (W₁ ++ L) ∙ omega (arith, length-freshBook a₀, length-freshBook a₁) in
     rw (screen-is r k) (
-      record { size = n; afresh = take-at W₀ (W₁ ++ L) 158 (length-fresh a₀) },
-      record { size = n; afresh = ap (take 158) (drop-at W₀ (W₁ ++ L) 158 (length-fresh a₀)) ∙ take-at W₁ L 158 (length-fresh a₁) },
+      record { size = n; afresh = ap (take 158) (append-assoc W₀ L (W₁ ++ L)) ∙ take-at W₀ (L ++ (W₁ ++ L)) 158 (length-fresh a₀) },
+      record { size = n; afresh = ap (take 158) (drop-at (W₀ ++ L) (W₁ ++ L) 166 (length-freshBook a₀)) ∙ take-at W₁ L 158 (length-fresh a₁) },
     )

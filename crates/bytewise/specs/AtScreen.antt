@@ -1,5 +1,5 @@
--- Two books over one table as a caller from C meets them: every list of turns and refreshes over the bytes of a screen, as `sst_turn_whole`,
--- `sst_turn_paused` and `sst_refresh` treat them, the last first.
+-- Two books over one table as a caller from C meets them: every list of turns and refills over the bytes of a screen, as `sst_turn_whole`,
+-- `sst_turn_paused` and `sst_refill` treat them, the last first.
 use mathlib.Core.Bool.{false}
 use mathlib.Core.List.{List, [], _∷_, _++_}
 use mathlib.Core.Option.{some}
@@ -13,7 +13,7 @@ use Rattle.machine.specs.Form.{walkBytes, walkOf, Outcome}
 use Rattle.machine.specs.Walk.{stopped, Walk, fresh}
 use Rattle.processor.specs.Process.{understood, meaning}
 use Rattle.program.specs.Program.{Rule}
-use Rattle.screen.specs.Items.{Item, turn, refresh, after, heard}
+use Rattle.screen.specs.Items.{Item, turn, refill, after, heard}
 use Rattle.screen.specs.Screen.{screenSize, walkIn, freshBytes}
 use Rattle.bytewise.specs.AtEntries.{RulesWriteWords, RulesStopWords}
 use Rattle.bytewise.specs.ByteCalls.{Slice, writtenWords, Waits, Hands, ByteCalls}
@@ -41,7 +41,7 @@ unfoldable pub Asked : List ℕ → ℕ → List ℕ → List ℕ → List ℕ �
 Asked table b tokens answers r [] = Unit {0}
 Asked table b tokens answers r (turn c given m buffer ∷ items) =
     (c ≡ b → (given ≡ tokens) × Hands answers m (walkIn b (after table items r)) (wordsIn (heard table b items r))) × Asked table b tokens answers r items
-Asked table b tokens answers r (refresh n ∷ items) = Asked table b tokens answers r items
+Asked table b tokens answers r (refill c n ∷ items) = Asked table b tokens answers r items
 
 -- what is claimed of a book: s the bytes of its walk, os what its turns gave
 pub record Follows (prog : List Rule) (table tokens answers : List ℕ) (allowance : ℕ) (s : List ℕ) (os : List Outcome) : Type 0 where

@@ -13,7 +13,7 @@ ghost use Rattle.loading.specs.File as files;
 ghost use Rattle.rights.specs.Rights as rights;
 ghost use Rattle.processor.specs.Process.{process, lentBytes};
 ghost use Rattle.filtering.specs.Filter as filtering;
-ghost use Rattle.screen.specs.Screen.{isBook, screenNumber, freshBytes, refreshBytes, turnBytes};
+ghost use Rattle.screen.specs.Screen.{isBook, screenNumber, freshBook, freshBytes, refillNumber, refillBytes, turnBytes};
 ghost use Rattle.firmware.specs.Filing.{hands};
 ghost use Rattle.firmware.specs.Turning.{leaves};
 ghost use Rattle.firmware.specs.Processing.{flagOf, numbersOf, tells};
@@ -37,14 +37,16 @@ const USED_WORD: usize = 11;
 
 const RETURNS_WORD: usize = 15;
 
-// The bytes of a screen of two books, and where its steps left begin.
+// The books of a screen, the bytes and words of each, and where its steps left begin.
 const BOOKS: u16 = 2;
 
-const SCREEN_BYTES: usize = 324;
+const BOOK_BYTES: usize = 166;
 
-const LEFT_WORD: usize = 158;
+const SCREEN_BYTES: usize = 332;
 
-const LEFT_BYTE: usize = 316;
+const BOOK_WORDS: usize = 83;
+
+const LEFT_WORD: usize = 79;
 
 // Whether some bytes are a walk, and which.
 struct Held {
@@ -422,7 +424,16 @@ fn is_book(book: u16, screen: &[u8]) -> bool
     }
 }
 
-// Fresh walks with their repair allowances, and no steps left.
+// A fresh walk with its repair allowance, and no steps left.
+fn fresh_book(seat: &mut [u8], allowance: u16)
+    requires { ⌜ length (now seat) ≡ 166 ⌝ }
+    ensures { λ _. ⌜ now (seat .exit) ≡ freshBook allowance ⌝ }
+{
+    put_walk(&mut seat[..WALK_BYTES], fresh_walk(allowance));
+    put_64(seat, LEFT_WORD, 0);
+}
+
+// Both books begin.
 #[no_mangle]
 pub extern "C" fn sst_screen_fresh(screen: &mut [u8], allowance_0: u16, allowance_1: u16) -> u16
     ensures { λ r. ⌜ (r ≡ screenNumber (now (screen .entry))) × (now (screen .exit) ≡ freshBytes allowance_0 allowance_1 (now (screen .entry))) ⌝ }
@@ -430,25 +441,31 @@ pub extern "C" fn sst_screen_fresh(screen: &mut [u8], allowance_0: u16, allowanc
     if screen.len() != SCREEN_BYTES {
         return 21;
     }
-    put_walk(&mut screen[..WALK_BYTES], fresh_walk(allowance_0));
-    put_walk(&mut screen[WALK_BYTES..LEFT_BYTE], fresh_walk(allowance_1));
-    put_64(screen, LEFT_WORD, 0);
+    fresh_book(&mut screen[..BOOK_BYTES], allowance_0);
+    fresh_book(&mut screen[BOOK_BYTES..], allowance_1);
     0
 }
 
-// The steps left are set anew.
-#[no_mangle]
-pub extern "C" fn sst_refresh(screen: &mut [u8], left: u64) -> u16
-    ensures { λ r. ⌜ (r ≡ screenNumber (now (screen .entry))) × (now (screen .exit) ≡ refreshBytes left (now (screen .entry))) ⌝ }
+// Where the steps left to a book begin.
+fn left_word(book: u16) -> usize
+    ensures { λ r. ⌜ r ≡ book * 83 + 79 ⌝ }
 {
-    if screen.len() != SCREEN_BYTES {
+    book as usize * BOOK_WORDS + LEFT_WORD
+}
+
+// The steps left to a book are set anew.
+#[no_mangle]
+pub extern "C" fn sst_refill(screen: &mut [u8], book: u16, left: u64) -> u16
+    ensures { λ r. ⌜ (r ≡ refillNumber book (now (screen .entry))) × (now (screen .exit) ≡ refillBytes book left (now (screen .entry))) ⌝ }
+{
+    if !is_book(book, screen) {
         return 21;
     }
-    put_64(screen, LEFT_WORD, left);
+    put_64(screen, left_word(book), left);
     0
 }
 
-// A whole turn: a call of one book with the steps left, which fall by those done.
+// A whole turn: a call of one book with the steps left to it, which fall by those done.
 #[no_mangle]
 pub extern "C" fn sst_turn_whole(
     table: &[u8],
@@ -465,8 +482,9 @@ pub extern "C" fn sst_turn_whole(
     if !is_book(book, screen) {
         return refuse(written, steps);
     }
-    let left = read_64(screen, LEFT_WORD);
-    let from = book as usize * WALK_BYTES;
+    let place = left_word(book);
+    let left = read_64(screen, place);
+    let from = book as usize * BOOK_BYTES;
     let end = from + WALK_BYTES;
     let n = sst_whole(
         table,
@@ -479,7 +497,7 @@ pub extern "C" fn sst_turn_whole(
         steps,
     );
     let done = *steps;
-    put_64(screen, LEFT_WORD, left - done);
+    put_64(screen, place, left - done);
     n
 }
 
@@ -501,8 +519,9 @@ pub extern "C" fn sst_turn_paused(
     if !is_book(book, screen) {
         return refuse(written, steps);
     }
-    let left = read_64(screen, LEFT_WORD);
-    let from = book as usize * WALK_BYTES;
+    let place = left_word(book);
+    let left = read_64(screen, place);
+    let from = book as usize * BOOK_BYTES;
     let end = from + WALK_BYTES;
     let n = sst_paused(
         table,
@@ -516,7 +535,7 @@ pub extern "C" fn sst_turn_paused(
         steps,
     );
     let done = *steps;
-    put_64(screen, LEFT_WORD, left - done);
+    put_64(screen, place, left - done);
     n
 }
 

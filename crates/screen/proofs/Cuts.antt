@@ -4,8 +4,9 @@ use mathlib.Core.Path.{_≡_, refl, sym, ap, _∙_}
 use Prim.Native.Nat.{ℕ, zero, suc, _+_, _*_, _≤_, _<_}
 use native.Mathlib.Omega.{arith}
 use lib.ListN.{length, take, drop, getD, length-append, length-drop, take-append-drop}
-use lib.Seq.{length-take-le, take-append-le, drop-append-le, take-append-seam, drop-at, drop-append-add, drop-drop, drop-nil, getD-drop}
+use lib.Seq.{length-take-le, take-append-le, drop-append-le, take-append-seam, drop-at, drop-append-add, drop-drop, drop-nil, getD-drop, getD-take}
 use Rattle.machine.specs.Bytes.{wordsOf}
+use Rattle.machine.specs.Form.{number64}
 use Rattle.screen.specs.Screen.{cut, patch}
 
 pub length-cut : (f n : ℕ) (r : List ℕ) → f + n ≤ length r → length (cut f n r) ≡ n
@@ -88,3 +89,21 @@ words-drop (suc i) s = let e : 2 * suc i ≡ suc (suc (2 * i)) = omega arith in 
     go [] h = refl
     go (x ∷ []) h = ap wordsOf (sym (drop-nil (suc (2 * i))))
     go (x ∷ y ∷ s) h = h s
+
+-- words up to an index
+words-take : (i : ℕ) (s : List ℕ) → wordsOf (take (2 * i) s) ≡ take i (wordsOf s)
+unfolding wordsOf
+words-take zero s = refl
+words-take (suc i) s = let e : 2 * suc i ≡ suc (suc (2 * i)) = omega arith in rw e (go s (words-take i))
+  where
+    go : (s : List ℕ) → ((t : List ℕ) → wordsOf (take (2 * i) t) ≡ take i (wordsOf t)) → wordsOf (take (suc (suc (2 * i))) s) ≡ take (suc i) (wordsOf s)
+    go [] h = refl
+    go (x ∷ []) h = refl
+    go (x ∷ y ∷ s) h = ap (λ (l : List ℕ). (x * 256 + y) ∷ l) (h s)
+
+-- a number of 64 bits is that of its eight bytes
+pub number-cut : (s : List ℕ) → number64 (wordsOf (take 8 s)) ≡ number64 (wordsOf s)
+unfolding number64
+number-cut s =
+    let ws = wordsOf s in
+    rw (words-take 4 s, getD-take 4 ws 0 0 (omega arith), getD-take 4 ws 1 0 (omega arith), getD-take 4 ws 2 0 (omega arith), getD-take 4 ws 3 0 (omega arith))

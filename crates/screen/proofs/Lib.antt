@@ -1,4 +1,5 @@
 pub mod Cuts
 pub mod Sizes
 pub mod Turns
+pub mod Isolation
 pub mod Facts

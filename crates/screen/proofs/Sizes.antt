@@ -18,6 +18,7 @@ use Rattle.machine.specs.Call.{Mode, whole, paused, Called, ends, endsFor, writ
 use Rattle.machine.specs.Form.{phaseWords, words64, returnWords, walkWords, walkBytes, number64, walkNamed, walkOf, outcome, callBytes}
 use Rattle.machine.specs.Step.{Next, goesOutside, stops, goes, tells, asks, step}
 use Rattle.machine.specs.Walk as walks
+use Rattle.screen.specs.Screen.{bookSize, freshBook}
 use Rattle.machine.specs.Walk.{Phase, going, waiting, stopped, Walk, atRest, withAnswer, inPhase, fresh}
 
 abbrev Shallow : Walk → Type 0
@@ -48,6 +49,10 @@ length-fresh a = length-walk (fresh a) (omega arith)
 pub length-counter : (n : ℕ) → length (bytesOf (words64 n)) ≡ 8
 unfolding words64
 length-counter n = length-bytesOf (words64 n)
+
+pub length-freshBook : (a : ℕ) → length (freshBook a) ≡ bookSize
+unfolding freshBook
+length-freshBook a = length-append (walkBytes (fresh a)) (bytesOf (words64 0)) ∙ omega (arith, length-fresh a, length-counter 0)
 
 number-back : (n : ℕ) → number64 (words64 n) ≡ n
 unfolding number64 words64

@@ -1,4 +1,4 @@
--- A turn answers and writes as its call alone, keeps the other book's bytes, and takes no more steps than are left.
+-- A turn answers and writes as its call alone, keeps the other book's bytes, and takes no more steps than are left to its book.
 use mathlib.Core.Bool.{Bool, true, false, _&&_}
 use mathlib.Core.List.{List, [], _∷_}
 use mathlib.Core.Option.{Option, none, some}
@@ -7,7 +7,7 @@ use Prim.Native.Nat.{ℕ, zero, suc, _+_, _*_, _-_, _<_, _≤_}
 use native.Mathlib.Omega.{arith}
 use lib.Dec.{eqb, ltb}
 use lib.ListN.{length, getD}
-use borrow.Author.Tests.{lt-ltb, le-ltb, ltb-true, ltb-false, eqb-true, eq-eqb, ne-eqb}
+use borrow.Author.Tests.{lt-ltb, le-ltb, ltb-true, ltb-false, eqb-true, eqb-false, eq-eqb, ne-eqb}
 use Rattle.base.specs.Common.{if_then_else_}
 use Rattle.base.specs.Bools.{both, and, split, never}
 use Rattle.machine.proofs.Keeps.{steps-budget}
@@ -18,9 +18,9 @@ use Rattle.machine.specs.Form.{words64, number64, walkOf, Outcome, outcome, cal
 use Rattle.machine.specs.Walk.{Walk}
 use Rattle.screen.proofs.Cuts.{length-cut, length-patch, cut-patch, cut-before, cut-behind, patch-same, small-cut}
 use Rattle.screen.proofs.Sizes.{length-call, length-counter, counter-back, counter-same}
-use Rattle.screen.specs.Items.{Item, turn, refresh, ownView, screenAfter, after, spent, granted}
+use Rattle.screen.specs.Items.{Item, turn, refill, bookOf, ownView, screenAfter, after, spent, granted}
 use Rattle.screen.specs.Promise.{OneTurn, EveryTurn, KeepsAllowance}
-use Rattle.screen.specs.Screen.{cut, patch, screenSize, walkIn, leftIn, withLeft, isScreen, isBook, Turned, taken, turnedAway, turnBytes, refreshBytes}
+use Rattle.screen.specs.Screen.{cut, patch, bookSize, screenSize, walkIn, leftIn, withLeft, isScreen, isBook, Turned, taken, turnedAway, turnBytes, refillBytes}
 
 -- both outcomes of a test
 
@@ -76,38 +76,61 @@ bytes-budget table tokens m budget walk buffer = go (walkOf walk)
 
 -- Parts of a record
 
-length-withLeft : (n : ℕ) (r : List ℕ) → length r ≡ screenSize → length (withLeft n r) ≡ screenSize
-unfolding withLeft
-length-withLeft n r k = let l = length-counter n in length-patch 316 (bytesOf (words64 n)) r (omega arith) ∙ k
+-- what stands in the bytes of book c is kept by what is written in those of another
+apart : (b c g n f : ℕ) (new r : List ℕ) → b < 2 → c < 2 → (c ≡ b → ⊥) → length r ≡ screenSize → c * bookSize ≤ g → g + n ≤ c * bookSize + bookSize → b * bookSize ≤ f → f + length new ≤ b * bookSize + bookSize
+    → cut g n (patch f new r) ≡ cut g n r
+apart zero zero g n f new r h i d k p q u v = absurd (d refl)
+apart zero (suc zero) g n f new r h i d k p q u v = cut-behind g n f (g - (f + length new)) new r (omega arith) (omega arith)
+apart (suc zero) zero g n f new r h i d k p q u v = cut-before g n f new r (omega arith) (omega arith)
+apart (suc zero) (suc zero) g n f new r h i d k p q u v = absurd (d refl)
+apart (suc (suc b)) c g n f new r h i d k p q u v = absurd (omega arith)
+apart zero (suc (suc c)) g n f new r h i d k p q u v = absurd (omega arith)
+apart (suc zero) (suc (suc c)) g n f new r h i d k p q u v = absurd (omega arith)
 
-left-set : (n : ℕ) (r : List ℕ) → length r ≡ screenSize → leftIn (withLeft n r) ≡ n
+module _ (b n : ℕ) (r : List ℕ) (h : b < 2) (k : length r ≡ screenSize) where
+  length-withLeft : length (withLeft b n r) ≡ screenSize
+  unfolding withLeft
+  length-withLeft = let l = length-counter n in length-patch (b * bookSize + 158) (bytesOf (words64 n)) r (omega arith) ∙ k
+
+  left-set : leftIn b (withLeft b n r) ≡ n
+  unfolding leftIn withLeft
+  left-set =
+      ap (λ (s : List ℕ). number64 (wordsOf s)) (cut-patch (b * bookSize + 158) 8 (bytesOf (words64 n)) r (length-counter n) (omega arith)) ∙ counter-back n
+
+  own-kept : walkIn b (withLeft b n r) ≡ walkIn b r
+  unfolding walkIn withLeft
+  own-kept = cut-before (b * bookSize) 158 (b * bookSize + 158) (bytesOf (words64 n)) r (omega arith) (omega arith)
+
+  module _ (c : ℕ) (i : c < 2) (d : c ≡ b → ⊥) where
+    other-walk : walkIn c (withLeft b n r) ≡ walkIn c r
+    unfolding walkIn withLeft
+    other-walk = let l = length-counter n in apart b c (c * bookSize) 158 (b * bookSize + 158) (bytesOf (words64 n)) r h i d k (omega arith) (omega arith) (omega arith) (omega arith)
+
+    other-left : leftIn c (withLeft b n r) ≡ leftIn c r
+    unfolding leftIn withLeft
+    other-left =
+        let l = length-counter n in
+        ap (λ (s : List ℕ). number64 (wordsOf s))
+        (apart b c (c * bookSize + 158) 8 (b * bookSize + 158) (bytesOf (words64 n)) r h i d k (omega arith) (omega arith) (omega arith) (omega arith))
+
+left-same : (b : ℕ) (r : List ℕ) → b < 2 → ((i : ℕ) → getD r i 0 < 256) → length r ≡ screenSize → withLeft b (leftIn b r) r ≡ r
 unfolding leftIn withLeft
-left-set n r k =
-    ap (λ (s : List ℕ). number64 (wordsOf s)) (cut-patch 316 8 (bytesOf (words64 n)) r (length-counter n) (omega arith)) ∙ counter-back n
-
-walk-kept : (c n : ℕ) (r : List ℕ) → c < 2 → length r ≡ screenSize → walkIn c (withLeft n r) ≡ walkIn c r
-unfolding walkIn withLeft
-walk-kept c n r h k = cut-before (c * 158) 158 316 (bytesOf (words64 n)) r (omega arith) (omega arith)
-
-apart : (b c : ℕ) (new r : List ℕ) → b < 2 → c < 2 → (c ≡ b → ⊥) → length r ≡ screenSize → length new ≡ 158 → cut (c * 158) 158 (patch (b * 158) new r) ≡ cut (c * 158) 158 r
-apart zero zero new r h i d k e = absurd (d refl)
-apart zero (suc zero) new r h i d k e = cut-behind 158 158 0 0 new r (omega arith) (omega arith)
-apart (suc zero) zero new r h i d k e = cut-before 0 158 158 new r (omega arith) (omega arith)
-apart (suc zero) (suc zero) new r h i d k e = absurd (d refl)
-apart (suc (suc b)) c new r h i d k e = absurd (omega arith)
-apart zero (suc (suc c)) new r h i d k e = absurd (omega arith)
-apart (suc zero) (suc (suc c)) new r h i d k e = absurd (omega arith)
-
-left-same : (r : List ℕ) → ((i : ℕ) → getD r i 0 < 256) → length r ≡ screenSize → withLeft (leftIn r) r ≡ r
-unfolding leftIn withLeft
-left-same r y k =
-    ap (λ (s : List ℕ). patch 316 s r) (counter-same (cut 316 8 r) (small-cut 316 8 r y) (length-cut 316 8 r (omega arith))) ∙ patch-same 316 8 r (omega arith)
+left-same b r h y k =
+    let f = b * bookSize + 158 in
+    ap (λ (s : List ℕ). patch f s r) (counter-same (cut f 8 r) (small-cut f 8 r y) (length-cut f 8 r (omega arith))) ∙ patch-same f 8 r (omega arith)
 
 -- One turn
 
 module _ (table tokens : List ℕ) (m : Mode) (b : ℕ) (r buffer : List ℕ) (h : b < 2) (k : length r ≡ screenSize) where
   abbrev call : Outcome
-  call = callBytes table tokens m (leftIn r) (walkIn b r) buffer
+  call = callBytes table tokens m (leftIn b r) (walkIn b r) buffer
+
+  -- the record with the walk that the call gives back, and the steps that are then left
+  abbrev put : List ℕ
+  put = patch (b * bookSize) (call .walk) r
+
+  abbrev rest : ℕ
+  rest = leftIn b r - call .steps
 
   pub turn-is : turnBytes table tokens m b r buffer ≡ taken b r call
   unfolding turnBytes
@@ -115,28 +138,39 @@ module _ (table tokens : List ℕ) (m : Mode) (b : ℕ) (r buffer : List ℕ) (h
 
   size-call : length (call .walk) ≡ 158
   unfolding walkIn
-  size-call = length-call table tokens m (leftIn r) (walkIn b r) buffer (length-cut (b * 158) 158 r (omega arith))
+  size-call = length-call table tokens m (leftIn b r) (walkIn b r) buffer (length-cut (b * bookSize) 158 r (omega arith))
 
-  size-put : length (patch (b * 158) (call .walk) r) ≡ screenSize
-  size-put = let l = size-call in length-patch (b * 158) (call .walk) r (omega arith) ∙ k
+  size-put : length put ≡ screenSize
+  size-put = let l = size-call in length-patch (b * bookSize) (call .walk) r (omega arith) ∙ k
 
-  own-walk : walkIn b (withLeft (leftIn r - call .steps) (patch (b * 158) (call .walk) r)) ≡ call .walk
-  own-walk = walk-kept b (leftIn r - call .steps) (patch (b * 158) (call .walk) r) h size-put ∙ unfold walkIn in cut-patch (b * 158) 158 (call .walk) r size-call (omega arith)
+  own-walk : walkIn b (withLeft b rest put) ≡ call .walk
+  own-walk = own-kept b rest put h size-put ∙ unfold walkIn in cut-patch (b * bookSize) 158 (call .walk) r size-call (omega arith)
 
-  unchanged : ((i : ℕ) → getD r i 0 < 256) → call .number ≡ 21 → withLeft (leftIn r - call .steps) (patch (b * 158) (call .walk) r) ≡ r
+  walk-apart : (c : ℕ) → c < 2 → (c ≡ b → ⊥) → walkIn c put ≡ walkIn c r
+  unfolding walkIn
+  walk-apart c i d = let l = size-call in apart b c (c * bookSize) 158 (b * bookSize) (call .walk) r h i d k (omega arith) (omega arith) (omega arith) (omega arith)
+
+  left-apart : (c : ℕ) → c < 2 → (c ≡ b → ⊥) → leftIn c put ≡ leftIn c r
+  unfolding leftIn
+  left-apart c i d =
+      let l = size-call in
+      ap (λ (s : List ℕ). number64 (wordsOf s)) (apart b c (c * bookSize + 158) 8 (b * bookSize) (call .walk) r h i d k (omega arith) (omega arith) (omega arith) (omega arith))
+
+  unchanged : ((i : ℕ) → getD r i 0 < 256) → call .number ≡ 21 → withLeft b rest put ≡ r
   unchanged y e =
-      let u = refused-unchanged table tokens m (leftIn r) (walkIn b r) buffer e in
-      let p : patch (b * 158) (call .walk) r ≡ r = ap (λ (w : List ℕ). patch (b * 158) w r) (u .walk-bytes) ∙ unfold walkIn in patch-same (b * 158) 158 r (omega arith) in
-      let n : leftIn r - call .steps ≡ leftIn r = omega (arith, u .no-step) in
-      ap₂ withLeft n p ∙ left-same r y k
+      let u = refused-unchanged table tokens m (leftIn b r) (walkIn b r) buffer e in
+      let p : put ≡ r = ap (λ (w : List ℕ). patch (b * bookSize) w r) (u .walk-bytes) ∙ unfold walkIn in patch-same (b * bookSize) 158 r (omega arith) in
+      let n : rest ≡ leftIn b r = omega (arith, u .no-step) in
+      ap₂ (withLeft b) n p ∙ left-same b r h y k
 
   one-turn : OneTurn table tokens m b r buffer (taken b r call)
   unfolding ownView taken
   one-turn = record {
     alone = λ i. record { number = call .number; walk = own-walk i; buffer = call .buffer; events = call .events; steps = call .steps };
-    falls = omega (arith, left-set (leftIn r - call .steps) (patch (b * 158) (call .walk) r) size-put, bytes-budget table tokens m (leftIn r) (walkIn b r) buffer);
-    other = λ c i d. walk-kept c (leftIn r - call .steps) (patch (b * 158) (call .walk) r) i size-put ∙ unfold walkIn in apart b c (call .walk) r h i d k size-call;
-    size = length-withLeft (leftIn r - call .steps) (patch (b * 158) (call .walk) r) size-put;
+    falls = omega (arith, left-set b rest put h size-put, bytes-budget table tokens m (leftIn b r) (walkIn b r) buffer);
+    other-walk = λ c i d. other-walk b rest put h size-put c i d ∙ walk-apart c i d;
+    other-left = λ c i d. other-left b rest put h size-put c i d ∙ left-apart c i d;
+    size = length-withLeft b rest put h size-put;
     refused = unchanged;
   }
 
@@ -144,49 +178,56 @@ pub every-turn : EveryTurn
 every-turn table tokens m b r buffer h k =
     subst (OneTurn table tokens m b r buffer) (sym (turn-is table tokens m b r buffer h k)) (one-turn table tokens m b r buffer h k)
 
--- Lists
-
-refresh-is : (n : ℕ) (r : List ℕ) → length r ≡ screenSize → refreshBytes n r ≡ withLeft n r
-unfolding refreshBytes
-refresh-is n r k = if-true (isScreen r) (withLeft n r) r (screen-is r k)
-
--- what a refresh leaves
-pub record Refreshed (n : ℕ) (r s : List ℕ) : Type 0 where
-  pub left : leftIn s ≡ n
-  pub walks : (c : ℕ) → c < 2 → walkIn c s ≡ walkIn c r
-  pub size : length s ≡ screenSize
-
-pub refreshed : (n : ℕ) (r : List ℕ) → length r ≡ screenSize → Refreshed n r (refreshBytes n r)
-refreshed n r k = subst (Refreshed n r) (sym (refresh-is n r k)) (record { left = left-set n r k; walks = λ c h. walk-kept c n r h k; size = length-withLeft n r k })
-
 -- a turn with a number that names no book, or of another length
 pub away : (table tokens : List ℕ) (m : Mode) (b : ℕ) (r buffer : List ℕ) → isBook b r ≡ false → turnBytes table tokens m b r buffer ≡ turnedAway r buffer
 unfolding turnBytes
-away table tokens m b r buffer e = if-false (isBook b r) (taken b r (callBytes table tokens m (leftIn r) (walkIn b r) buffer)) (turnedAway r buffer) e
+away table tokens m b r buffer e = if-false (isBook b r) (taken b r (callBytes table tokens m (leftIn b r) (walkIn b r) buffer)) (turnedAway r buffer) e
 
--- what a turn with any number leaves
-pub record AnyTurn (b : ℕ) (r : List ℕ) (g : Turned) : Type 0 where
-  pub size : length (g .screen) ≡ screenSize
-  pub falls : leftIn (g .screen) + g .steps ≡ leftIn r
-  pub other : (c : ℕ) → c < 2 → (c ≡ b → ⊥) → walkIn c (g .screen) ≡ walkIn c r
+-- Lists
 
-pub any-turn : (table tokens : List ℕ) (m : Mode) (b : ℕ) (r buffer : List ℕ) → length r ≡ screenSize → AnyTurn b r (turnBytes table tokens m b r buffer)
-unfolding turnedAway
-any-turn table tokens m b r buffer k =
-    split (ltb b 2)
-    (λ t. let o = every-turn table tokens m b r buffer (ltb-true b 2 t) k in record { size = o .size; falls = o .falls; other = o .other })
-    (λ z. subst (AnyTurn b r) (sym (away table tokens m b r buffer (no-book b r (ltb-false b 2 z)))) (record { size = k; falls = omega arith; other = λ c h d. refl }))
+-- what an item of any number leaves
+pub record Kept (c : ℕ) (r s : List ℕ) : Type 0 where
+  pub size : length s ≡ screenSize
+  pub walk : (b : ℕ) → b < 2 → (b ≡ c → ⊥) → walkIn b s ≡ walkIn b r
+  pub left : (b : ℕ) → b < 2 → (b ≡ c → ⊥) → leftIn b s ≡ leftIn b r
+
+pub refill-is : (b n : ℕ) (r : List ℕ) → b < 2 → length r ≡ screenSize → refillBytes b n r ≡ withLeft b n r
+unfolding refillBytes
+refill-is b n r h k = if-true (isBook b r) (withLeft b n r) r (book-is b r h k)
+
+-- of its own book a refill sets the steps left and keeps the walk
+pub refilled : (b n : ℕ) (r : List ℕ) → b < 2 → length r ≡ screenSize → (leftIn b (refillBytes b n r) ≡ n) × (walkIn b (refillBytes b n r) ≡ walkIn b r)
+refilled b n r h k = rw (refill-is b n r h k) (left-set b n r h k, own-kept b n r h k)
 
 module _ (table : List ℕ) where
+  pub kept : (i : Item) (r : List ℕ) → length r ≡ screenSize → Kept (bookOf i) r (screenAfter table i r)
+  unfolding screenAfter bookOf turnedAway refillBytes
+  kept (turn c tokens m buffer) r k =
+      split (ltb c 2)
+      (λ t. let o = every-turn table tokens m c r buffer (ltb-true c 2 t) k in record { size = o .size; walk = o .other-walk; left = o .other-left })
+      (λ z. let e = ap (λ (g : Turned). g .screen) (away table tokens m c r buffer (no-book c r (ltb-false c 2 z))) in subst (Kept c r) (sym e) (record { size = k; walk = λ b h d. refl; left = λ b h d. refl }))
+  kept (refill c n) r k =
+      split (ltb c 2)
+      (λ t. let h = ltb-true c 2 t in subst (Kept c r) (sym (refill-is c n r h k)) (record { size = length-withLeft c n r h k; walk = λ b i d. other-walk c n r h k b i d; left = λ b i d. other-left c n r h k b i d }))
+      (λ z. rw (no-book c r (ltb-false c 2 z)) (record { size = k; walk = λ b h d. refl; left = λ b h d. refl }))
+
   pub length-after : (items : List Item) (r : List ℕ) → length r ≡ screenSize → length (after table items r) ≡ screenSize
-  unfolding after screenAfter
+  unfolding after
   length-after [] r k = k
-  length-after (turn b tokens m buffer ∷ items) r k = any-turn table tokens m b (after table items r) buffer (length-after items r k) .size
-  length-after (refresh n ∷ items) r k = refreshed n (after table items r) (length-after items r k) .size
+  length-after (i ∷ items) r k = kept i (after table items r) (length-after items r k) .size
 
 pub keeps-allowance : KeepsAllowance
-unfolding after screenAfter spent granted
-keeps-allowance table [] r k = omega arith
-keeps-allowance table (turn b tokens m buffer ∷ items) r k =
-    omega (arith, keeps-allowance table items r k, any-turn table tokens m b (after table items r) buffer (length-after table items r k) .falls)
-keeps-allowance table (refresh n ∷ items) r k = omega (arith, refreshed n (after table items r) (length-after table items r k) .left)
+unfolding after screenAfter spent granted bookOf
+keeps-allowance table b h [] r k = omega arith
+keeps-allowance table b h (turn c tokens m buffer ∷ items) r k =
+    let s = after table items r in
+    let j = length-after table items r k in
+    split (eqb c b)
+    (λ t. let d = eqb-true c b t in rw (t, d) (omega (arith, keeps-allowance table b h items r k, every-turn table tokens m b s buffer h j .falls)))
+    (λ z. rw (z, kept table (turn c tokens m buffer) s j .left b h (λ q. eqb-false c b z (sym q))) (keeps-allowance table b h items r k))
+keeps-allowance table b h (refill c n ∷ items) r k =
+    let s = after table items r in
+    let j = length-after table items r k in
+    split (eqb c b)
+    (λ t. let d = eqb-true c b t in rw (t, d) (omega (arith, refilled b n s h j .0)))
+    (λ z. rw (z, kept table (refill c n) s j .left b h (λ q. eqb-false c b z (sym q))) (keeps-allowance table b h items r k))

@@ -1,5 +1,5 @@
--- "two books, walked in turn over the same table and drawing on a common allowance of steps (64 bits), set anew at each screen refresh": the screen as
--- bytes (docs/LAYOUT.md), and what is done with it over bytes alone.
+-- "two books, walked in turn over the same table", with "one counter for each book, set anew by its own refills": the screen as bytes (docs/LAYOUT.md),
+-- and what is done with it over bytes alone.
 use mathlib.Core.Bool.{Bool, _&&_}
 use mathlib.Core.List.{List, _++_}
 use Prim.Native.Nat.{ℕ, _+_, _*_, _-_}
@@ -19,20 +19,23 @@ cut f n r = take n (drop f r)
 unfoldable pub patch : ℕ → List ℕ → List ℕ → List ℕ
 patch f new r = take f r ++ (new ++ drop (f + length new) r)
 
--- the walk of book 0, the walk of book 1, the steps left: 158, 158 and 8 bytes
+-- for each book its walk and its steps left: 158 and 8 bytes
+abbrev pub bookSize : ℕ
+bookSize = 166
+
 abbrev pub screenSize : ℕ
-screenSize = 324
+screenSize = 332
 
 -- the bytes of a book's walk
 unfoldable pub walkIn : ℕ → List ℕ → List ℕ
-walkIn b r = cut (b * 158) 158 r
+walkIn b r = cut (b * bookSize) 158 r
 
--- the steps left: any eight bytes are a number
-unfoldable pub leftIn : List ℕ → ℕ
-leftIn r = number64 (wordsOf (cut 316 8 r))
+-- its steps left: any eight bytes are a number
+unfoldable pub leftIn : ℕ → List ℕ → ℕ
+leftIn b r = number64 (wordsOf (cut (b * bookSize + 158) 8 r))
 
-unfoldable pub withLeft : ℕ → List ℕ → List ℕ
-withLeft n r = patch 316 (bytesOf (words64 n)) r
+unfoldable pub withLeft : ℕ → ℕ → List ℕ → List ℕ
+withLeft b n r = patch (b * bookSize + 158) (bytesOf (words64 n)) r
 
 -- a screen, and one of its two books
 unfoldable pub isScreen : List ℕ → Bool
@@ -53,7 +56,7 @@ pub record Turned : Type 0 where
 unfoldable pub taken : ℕ → List ℕ → Outcome → Turned
 taken b r o = record {
   number = o .number;
-  screen = withLeft (leftIn r - o .steps) (patch (b * 158) (o .walk) r);
+  screen = withLeft b (leftIn b r - o .steps) (patch (b * bookSize) (o .walk) r);
   buffer = o .buffer;
   events = o .events;
   steps = o .steps;
@@ -66,21 +69,26 @@ turnedAway r buffer = record { number = 21; screen = r; buffer = buffer; events 
 -- "A turn is a walk call of one book": of the bytes of its walk, with the tokens, answers and event buffer that the turn is given
 unfoldable pub turnBytes : List ℕ → List ℕ → Mode → ℕ → List ℕ → List ℕ → Turned
 turnBytes table tokens m b r buffer =
-    if isBook b r then taken b r (callBytes table tokens m (leftIn r) (walkIn b r) buffer) else turnedAway r buffer
+    if isBook b r then taken b r (callBytes table tokens m (leftIn b r) (walkIn b r) buffer) else turnedAway r buffer
 
--- what a refresh and a fresh screen answer
+-- "set anew by its own refills": what was left is lost; the walk's bytes are not looked at
+unfoldable pub refillNumber : ℕ → List ℕ → ℕ
+refillNumber b r = if isBook b r then 0 else 21
+
+unfoldable pub refillBytes : ℕ → ℕ → List ℕ → List ℕ
+refillBytes b n r = if isBook b r then withLeft b n r else r
+
+-- two books, each a fresh walk with its repair allowance and no steps left
 unfoldable pub screenNumber : List ℕ → ℕ
 screenNumber r = if isScreen r then 0 else 21
 
--- "set anew at each screen refresh": what was left is lost
-unfoldable pub refreshBytes : ℕ → List ℕ → List ℕ
-refreshBytes n r = if isScreen r then withLeft n r else r
+unfoldable pub freshBook : ℕ → List ℕ
+freshBook allowance = walkBytes (fresh allowance) ++ bytesOf (words64 0)
 
--- two fresh walks with their repair allowances, and no steps left
 unfoldable pub freshBytes : ℕ → ℕ → List ℕ → List ℕ
-freshBytes a₀ a₁ r = if isScreen r then walkBytes (fresh a₀) ++ (walkBytes (fresh a₁) ++ bytesOf (words64 0)) else r
+freshBytes a₀ a₁ r = if isScreen r then freshBook a₀ ++ freshBook a₁ else r
 
 -- all of this file computes where this is unfolded
 unfoldable pub opened : Unit {0}
-unfolding cut patch walkIn leftIn withLeft isScreen isBook taken turnedAway turnBytes screenNumber refreshBytes freshBytes
+unfolding cut patch walkIn leftIn withLeft isScreen isBook taken turnedAway turnBytes refillNumber refillBytes screenNumber freshBook freshBytes
 opened = tt
