@@ -108,7 +108,7 @@ const ENTRIES: &[&str] = &[
     "process",
     "read",
     "reason",
-    "refresh",
+    "refill",
     "screen_fresh",
     "turn_paused",
     "turn_whole",

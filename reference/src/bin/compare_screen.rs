@@ -5,6 +5,7 @@
 //! Built without the library, this crate stands on both sides, and the plain C walker makes the calls alone.
 #![forbid(unsafe_code)]
 
+use std::ops::Range;
 use std::process::ExitCode;
 
 use reference::ffi;
@@ -14,15 +15,13 @@ use reference::processor::{Program, resolve};
 use reference::programs;
 use reference::random::{self, Rng};
 use reference::rules::Own;
-use reference::screen::{BOOKS, SCREEN_BYTES, Screens};
+use reference::screen::{BOOK_BYTES, BOOKS, SCREEN_BYTES, Screens};
 use reference::side::{Inputs, Processor, REFUSAL, Reference, Side};
 use reference::tables::bytes;
 use reference::texts::{self, Seed};
 use reference::walker::{Done, Phase, WALK_BYTES, Walk};
 
-const SEEDS: u64 = 1_500;
-/// Where the steps left begin.
-const LEFT: usize = BOOKS * WALK_BYTES;
+const SEEDS: u64 = 1_200;
 /// A book whose turn does not end in so many steps is given no more of them.
 const BOUND: u64 = 600;
 /// The bytes of a buffer that a turn of so many steps does not fill.
@@ -72,15 +71,25 @@ impl Turn<'_> {
     }
 }
 
-/// The bytes of a record that are a book's walk.
-fn half(book: u16) -> std::ops::Range<usize> {
-    let from = usize::from(book) * WALK_BYTES;
-    from..from + WALK_BYTES
+/// The bytes of a record that are a book's.
+fn half(book: u16) -> Range<usize> {
+    let from = usize::from(book) * BOOK_BYTES;
+    from..from + BOOK_BYTES
 }
 
-/// The steps left in a record of the right length.
-fn left(screen: &[u8]) -> u64 {
-    screen[LEFT..].iter().fold(0, |sum, byte| sum << 8 | u64::from(*byte))
+/// Those that are its walk.
+fn walk(book: u16) -> Range<usize> {
+    half(book).start..half(book).start + WALK_BYTES
+}
+
+/// Those that are its counter.
+fn counter(book: u16) -> Range<usize> {
+    walk(book).end..half(book).end
+}
+
+/// The steps left to a book in a record of the right length.
+fn left(screen: &[u8], book: u16) -> u64 {
+    screen[counter(book)].iter().fold(0, |sum, byte| sum << 8 | u64::from(*byte))
 }
 
 struct Harness {
@@ -116,29 +125,35 @@ impl Harness {
         (done, mine)
     }
 
-    /// A turn answers and writes as its call alone; the steps left fall by those done, and all else in the record is kept.
+    /// A turn answers and writes as its call alone; the steps left to its book fall by those done, and all else in the record is kept.
     fn alone(&mut self, turn: &Turn, before: &[u8], after: &[u8], events: &[u8], written: &[u8], done: Done) {
         let (mut wanted, mut events) = (before.to_vec(), events.to_vec());
         let mut alone = REFUSAL;
         if before.len() == SCREEN_BYTES && usize::from(turn.book) < BOOKS {
-            let budget = left(before);
-            alone = turn.alone(self.walker, budget, &mut wanted[half(turn.book)], &mut events);
-            wanted[LEFT..].copy_from_slice(&budget.wrapping_sub(alone.steps).to_be_bytes());
+            let budget = left(before, turn.book);
+            alone = turn.alone(self.walker, budget, &mut wanted[walk(turn.book)], &mut events);
+            wanted[counter(turn.book)].copy_from_slice(&budget.wrapping_sub(alone.steps).to_be_bytes());
         }
         let same = done == alone && after == wanted && written == events;
         self.tally.expect(same, || format!("{}  turn:  {done:?}\n  alone: {alone:?}", shown(turn, before)));
     }
 
-    /// Compares one refresh.
-    fn refresh(&mut self, rng: &mut Rng, screen: &mut [u8], left: u64) -> u16 {
+    /// Compares one refill: it sets the counter of its book, and nothing else.
+    fn refill(&mut self, rng: &mut Rng, screen: &mut [u8], book: u16, left: u64) -> u16 {
         let mut lent = Lent::new(rng, screen, self.exact);
-        let number = Reference.refresh(screen, left);
-        let theirs = self.other.refresh(lent.bytes_mut(), left);
+        let number = Reference.refill(screen, book, left);
+        let theirs = self.other.refill(lent.bytes_mut(), book, left);
         self.tally.expect(number == theirs && lent.is(screen), || {
             let before = words(lent.before());
-            format!("  refresh to {left}: {number} and {theirs}\n  before {before:?}\n  after {:?}", words(lent.bytes()))
+            format!("  refill of {book} to {left}: {number} and {theirs}\n  before {before:?}\n  after {:?}", words(lent.bytes()))
         });
-        self.tally.met(format!("refresh {number}"));
+        let mut wanted = lent.before().to_vec();
+        let fits = screen.len() == SCREEN_BYTES && usize::from(book) < BOOKS;
+        if fits {
+            wanted[counter(book)].copy_from_slice(&left.to_be_bytes());
+        }
+        self.tally.expect((number == 0) == fits && screen == wanted, || format!("  refill of {book} to {left}: {number}"));
+        self.tally.met(format!("refill {number}"));
         self.tally.met(format!("left {}", sort_of(left)));
         number
     }
@@ -161,32 +176,34 @@ impl Harness {
         self.fresh(rng, &mut screen, allowances);
         let mut wanted = vec![0; SCREEN_BYTES];
         for (book, allowance) in (0..).zip(allowances) {
-            self.walker.fresh(&mut wanted[half(book)], allowance);
+            self.walker.fresh(&mut wanted[walk(book)], allowance);
         }
         self.tally.expect(screen == wanted, || format!("  the fresh record is {screen:?}"));
         screen
     }
 
-    /// A turn after a refresh, where one is wanted, or where the steps left would be too many.
+    /// A turn after a refill, where one is wanted, or where the steps left would be too many.
     fn turn_in(&mut self, rng: &mut Rng, turn: &Turn, screen: &mut [u8]) -> (Done, Vec<u8>) {
-        if rng.once_in(4) || left(screen) == 0 && !rng.once_in(3) {
-            let left = steps(rng);
-            self.refresh(rng, screen, left);
+        if let Some(left) = refill(rng, turn, screen) {
+            self.refill(rng, screen, turn.book, left);
         }
-        if left(screen) > BOUND {
-            let mut copy = screen.to_vec();
-            copy[LEFT..].copy_from_slice(&BOUND.to_be_bytes());
-            let done = turn.go(&Reference, &mut copy, &mut [0; ROOMY]);
-            if done.number == 36 {
-                let left = rng.below(BOUND as usize + 1) as u64;
-                self.refresh(rng, screen, left);
-            }
-        }
-        let budget = left(screen);
-        self.tally.met(format!("turn with left {}", sort_of(budget)));
+        self.tally.met(format!("turn with left {}", sort_of(left(screen, turn.book))));
         self.tally.met(format!("buffer of {}", turn.size.min(20)));
         self.turn(rng, turn, screen)
     }
+}
+
+/// A refill before a turn, where one is wanted, or where the steps left would be too many.
+fn refill(rng: &mut Rng, turn: &Turn, screen: &[u8]) -> Option<u64> {
+    let before = left(screen, turn.book);
+    let now = if rng.once_in(4) || before == 0 && !rng.once_in(3) { steps(rng) } else { before };
+    let endless = now > BOUND && {
+        let mut copy = screen.to_vec();
+        copy[counter(turn.book)].copy_from_slice(&BOUND.to_be_bytes());
+        turn.go(&Reference, &mut copy, &mut [0; ROOMY]).number == 36
+    };
+    let now = if endless { rng.below(BOUND as usize + 1) as u64 } else { now };
+    (now != before).then_some(now)
 }
 
 /// What a turn was handed.
@@ -209,7 +226,7 @@ fn sort_of(left: u64) -> &'static str {
     }
 }
 
-/// Steps for a refresh.
+/// Steps for a refill.
 fn steps(rng: &mut Rng) -> u64 {
     match rng.below(12) {
         0 => 0,
@@ -261,11 +278,16 @@ impl Desk {
             4 | 5 => random::damaged(rng, 40),
             _ => random::foreign(rng, 60),
         };
+        Desk::over(h, rng, &table)
+    }
+
+    /// Such books over this table.
+    fn over(h: &Harness, rng: &mut Rng, table: &[u16]) -> Desk {
         let books = [(); BOOKS].map(|()| {
-            let (tokens, answers) = random::lead(rng, &bytes(&table));
+            let (tokens, answers) = random::lead(rng, &bytes(table));
             Book { tokens: lent(h, rng, &tokens), answers: lent(h, rng, &answers) }
         });
-        Desk { table: lent(h, rng, &table), books }
+        Desk { table: lent(h, rng, table), books }
     }
 
     fn inputs(&self, book: u16) -> Inputs<'_> {
@@ -276,7 +298,7 @@ impl Desk {
     /// A turn that suits the walk most of the time, and now and then not: an answer too many, or none for a walk that waits.
     fn turn(&self, rng: &mut Rng, book: u16, screen: &[u8]) -> Turn<'_> {
         let inputs = self.inputs(book);
-        let walk = screen.get(half(book)).and_then(Walk::decode);
+        let walk = screen.get(walk(book)).and_then(Walk::decode);
         let waits = walk.as_ref().is_some_and(|walk| walk.phase == Phase::Waiting);
         let kind = if rng.once_in(2) != waits && !rng.once_in(12) {
             Kind::Whole
@@ -301,7 +323,7 @@ fn allowances(rng: &mut Rng) -> [u16; BOOKS] {
     [(); BOOKS].map(|()| rng.pick(&[0, 0, 0, 1, 2, 30, 256, 65_535]))
 }
 
-/// Turns and refreshes in any order, from fresh walks.
+/// Turns and refills in any order, from fresh walks.
 fn orders(h: &mut Harness, rng: &mut Rng) {
     let desk = Desk::new(h, rng);
     let allowances = allowances(rng);
@@ -314,8 +336,8 @@ fn orders(h: &mut Harness, rng: &mut Rng) {
     desk.kept(h);
 }
 
-/// A book's bytes: a walk that no walker made, one with some bytes changed, or none at all.
-fn any_half(rng: &mut Rng, desk: &Desk, bytes: &mut [u8]) {
+/// The bytes of a walk: one that no walker made, one with some bytes changed, or none at all.
+fn any_walk(rng: &mut Rng, desk: &Desk, bytes: &mut [u8]) {
     let inputs = desk.inputs(0);
     let made = random::made_up(rng, inputs.table.len() / 2, inputs.tokens.len() / 2, inputs.answers.len() / 2);
     bytes.copy_from_slice(&made.encode());
@@ -337,11 +359,11 @@ fn halves(h: &mut Harness, rng: &mut Rng) {
     for _ in 0..6 {
         let mut screen: Vec<u8> = (0..SCREEN_BYTES).map(|_| rng.draw() as u8).collect();
         for book in 0..BOOKS as u16 {
-            any_half(rng, &desk, &mut screen[half(book)]);
+            any_walk(rng, &desk, &mut screen[walk(book)]);
         }
         for _ in 0..3 {
             let book = rng.below(BOOKS) as u16;
-            let is_walk = [book, 1 - book].map(|book| Walk::decode(&screen[half(book)]).is_some());
+            let is_walk = [book, 1 - book].map(|book| Walk::decode(&screen[walk(book)]).is_some());
             h.tally.met(format!("this half {}, the other {}", is_walk[0], is_walk[1]));
             let turn = desk.turn(rng, book, &screen);
             h.turn_in(rng, &turn, &mut screen);
@@ -356,21 +378,19 @@ fn lengths(h: &mut Harness, rng: &mut Rng) {
     let around: Vec<usize> = (SCREEN_BYTES - 9..=SCREEN_BYTES + 9).collect();
     let size = match rng.below(4) {
         0 => SCREEN_BYTES,
-        1 => rng.pick(&[0, 1, 8, 157, 158, 159, 166, 316, 332, 474, 640, 648, 65_536 + SCREEN_BYTES]),
+        1 => rng.pick(&[0, 1, 8, 157, 158, 159, 166, 316, 324, 498, 640, 664, 65_536 + SCREEN_BYTES]),
         _ => rng.pick(&around),
     };
     let allowances = allowances(rng);
     let mut screen = h.opened(rng, allowances);
     if rng.once_in(3) {
         let book = rng.below(BOOKS) as u16;
-        any_half(rng, &desk, &mut screen[half(book)]);
+        any_walk(rng, &desk, &mut screen[walk(book)]);
     }
     screen.resize(size, rng.pick(&[0, 0, 255]));
     for book in [0, 1, 2, 3, 255, 256, 257, 32_768, 65_535, rng.word()] {
-        if screen.len() == SCREEN_BYTES {
-            let left = rng.below(40) as u64;
-            h.refresh(rng, &mut screen, left);
-        }
+        let left = rng.below(40) as u64;
+        h.refill(rng, &mut screen, book, left);
         let turn = desk.turn(rng, book, &screen);
         let (done, _) = h.turn(rng, &turn, &mut screen);
         let (fits, known) = (size == SCREEN_BYTES, usize::from(book) < BOOKS);
@@ -378,9 +398,10 @@ fn lengths(h: &mut Harness, rng: &mut Rng) {
         h.tally.met(format!("length {fits}, book {known}"));
         h.tally.met(format!("book {book}"));
     }
-    let left = steps(rng);
-    let number = h.refresh(rng, &mut screen, left);
-    h.tally.expect((number == 0) == (size == SCREEN_BYTES), || format!("  refresh of {size} bytes: {number}"));
+    for book in [0, 1, 2, 65_535, rng.word()] {
+        let left = steps(rng);
+        h.refill(rng, &mut screen, book, left);
+    }
     let number = h.fresh(rng, &mut screen, allowances);
     h.tally.expect((number == 0) == (size == SCREEN_BYTES), || format!("  fresh of {size} bytes: {number}"));
     desk.kept(h);
@@ -461,12 +482,12 @@ fn accepted(h: &mut Harness, rng: &mut Rng) {
     for _ in 0..60 {
         let book = rng.below(BOOKS) as u16;
         let reader = &mut readers[usize::from(book)];
-        let Some(walk) = Walk::decode(&screen[half(book)]) else { break };
-        let Some(kind) = reader.kind(rng, walk.used as usize) else { continue };
-        if reader.own.end.reason.is_none() && left(&screen) > BOUND.saturating_sub(reader.steps) {
+        let Some(used) = Walk::decode(&screen[walk(book)]).map(|walk| walk.used as usize) else { break };
+        let Some(kind) = reader.kind(rng, used) else { continue };
+        if reader.own.end.reason.is_none() {
             // The rules' own walk was followed no further.
             let left = BOUND.saturating_sub(reader.steps).min(rng.below(60) as u64);
-            h.refresh(rng, &mut screen, left);
+            h.refill(rng, &mut screen, book, left);
         }
         let (tokens, answers) = (bytes(&reader.tokens), bytes(&reader.answers));
         let inputs = Inputs { table: &table, tokens: &tokens, answers: &answers };
@@ -476,7 +497,7 @@ fn accepted(h: &mut Harness, rng: &mut Rng) {
         reader.events.extend(words(&events).iter().take(3 * done.written as usize));
         reader.steps += done.steps;
         reader.number = done.number;
-        let follows = Walk::decode(&screen[half(book)]).is_some_and(|walk| reader.follows(rng, &walk));
+        let follows = Walk::decode(&screen[walk(book)]).is_some_and(|walk| reader.follows(rng, &walk));
         let (own, events) = (&reader.own.end, &reader.events);
         h.tally.expect(follows, || {
             let rules = format!("  rules: {own:?}\n  turns of book {book}: {} with {events:?}\n", done.number);
@@ -489,11 +510,80 @@ fn accepted(h: &mut Harness, rng: &mut Rng) {
     }
 }
 
-const GROUPS: [Group<Harness>; 4] = [
-    ("turns and refreshes in any order", orders, 20),
+/// An item of a run, with all that is handed in.
+enum Item<'a> {
+    /// A turn with its event buffer.
+    Turn(Turn<'a>, Vec<u8>),
+    /// A refill of a book.
+    Refill(u16, u64),
+}
+
+impl Item<'_> {
+    /// What the item answers, and what it leaves in its event buffer.
+    fn go(&self, side: &dyn Screens, screen: &mut [u8]) -> (Done, Vec<u8>) {
+        match self {
+            Item::Turn(turn, events) => {
+                let mut events = events.clone();
+                (turn.go(side, screen, &mut events), events)
+            }
+            Item::Refill(book, left) => (Done { number: side.refill(screen, *book, *left), written: 0, steps: 0 }, vec![]),
+        }
+    }
+}
+
+/// The next items of a book: a turn, and a refill before it where one is wanted.
+fn items<'a>(rng: &mut Rng, desk: &'a Desk, book: u16, screen: &[u8]) -> Vec<Item<'a>> {
+    let turn = desk.turn(rng, book, screen);
+    let events = (0..turn.size).map(|_| rng.draw() as u8).collect();
+    let refill = refill(rng, &turn, screen).map(|left| Item::Refill(book, left));
+    refill.into_iter().chain([Item::Turn(turn, events)]).collect()
+}
+
+/// Two runs with the same items of one book, mixed in any way with other items of the other book, whose bytes differ too: the same answers, events and
+/// bytes of this one.
+fn side_by_side(h: &mut Harness, rng: &mut Rng) {
+    let desk = Desk::new(h, rng);
+    let others = [(); 2].map(|()| Desk::over(h, rng, &words(desk.table.bytes())));
+    let (book, other) = if rng.once_in(2) { (0, 1) } else { (1, 0) };
+    let mut screens = [(); 2].map(|()| {
+        let mut screen: Vec<u8> = (0..SCREEN_BYTES).map(|_| rng.draw() as u8).collect();
+        any_walk(rng, &desk, &mut screen[walk(other)]);
+        screen
+    });
+    let own = if rng.once_in(4) {
+        screens[0][half(book)].to_vec()
+    } else {
+        [&Walk::mending(allowances(rng)[0]).encode()[..], &[0; 8]].concat()
+    };
+    screens.iter_mut().for_each(|screen| screen[half(book)].copy_from_slice(&own));
+    for _ in 0..rng.within(4, 16) {
+        for (screen, desk) in screens.iter_mut().zip(&others) {
+            for _ in 0..rng.below(4) {
+                let which = if rng.once_in(12) { rng.word().max(2) } else { other };
+                let items = if which == other { items(rng, desk, other, screen) } else { vec![Item::Refill(which, rng.draw())] };
+                items.iter().for_each(|item| _ = item.go(h.other, screen));
+            }
+        }
+        for item in items(rng, &desk, book, &screens[0]) {
+            let [first, second] = screens.each_mut().map(|screen| item.go(h.other, screen));
+            let same = first == second && screens[0][half(book)] == screens[1][half(book)];
+            h.tally.expect(same, || {
+                let [a, b] = screens.each_ref().map(|screen| words(screen));
+                format!("  book {book} in two runs: {:?} and {:?}\n  records {a:?}\n  and {b:?}", first.0, second.0)
+            });
+            h.tally.met(format!("in two runs {}", first.0.number));
+        }
+        let differ = screens[0][half(other)] != screens[1][half(other)];
+        h.tally.met(format!("the other half differs {differ}"));
+    }
+}
+
+const GROUPS: [Group<Harness>; 5] = [
+    ("turns and refills in any order", orders, 20),
     ("halves that are no walk", halves, 10),
     ("other lengths and books", lengths, 10),
     ("accepted programs against the rules' own walk", accepted, 12),
+    ("two runs side by side", side_by_side, 20),
 ];
 
 fn main() -> ExitCode {
@@ -512,7 +602,7 @@ fn main() -> ExitCode {
         |kind: &str, numbers: &[u16]| -> Vec<String> { numbers.iter().map(|number| format!("{kind} {number}")).collect() };
     h.tally.demand(least, &named("whole", &[0, 21, 30, 31, 32, 33, 34, 35, 36, 37]));
     h.tally.demand(least, &named("paused", &[0, 21, 22, 30, 31, 32, 33, 34, 35, 36, 37]));
-    h.tally.demand(least, &named("refresh", &[0, 21]));
+    h.tally.demand(least, &named("refill", &[0, 21]));
     h.tally.demand(least, &named("fresh", &[0, 21]));
     h.tally.demand(least, &named("program", &[0, 22, 30, 31, 32, 33, 34, 35, 36]));
     h.tally.demand(least, &named("book", &[0, 1, 2, 65_535]));
@@ -524,5 +614,7 @@ fn main() -> ExitCode {
     h.tally.demand(least, &both.map(|(this, other)| format!("this half {this}, the other {other}")));
     h.tally.demand(least, &both.map(|(length, book)| format!("length {length}, book {book}")));
     h.tally.demand(least, &["waits past the last answer".to_string()]);
+    h.tally.demand(least, &named("in two runs", &[0, 21, 22, 30, 31, 32, 33, 34, 35, 36, 37]));
+    h.tally.demand(least, &["the other half differs true".to_string()]);
     h.tally.end()
 }

@@ -7,7 +7,7 @@ use crate::walker::Done;
 
 unsafe extern "C" {
     fn sst_screen_fresh(screen: *mut u8, screen_len: usize, allowance_0: u16, allowance_1: u16) -> u16;
-    fn sst_refresh(screen: *mut u8, screen_len: usize, left: u64) -> u16;
+    fn sst_refill(screen: *mut u8, screen_len: usize, book: u16, left: u64) -> u16;
     fn sst_turn_whole(
         table: *const u8,
         table_len: usize,
@@ -51,8 +51,8 @@ impl Screens for Library {
         unsafe { sst_screen_fresh(screen.as_mut_ptr(), screen.len(), first, second) }
     }
 
-    fn refresh(&self, screen: &mut [u8], left: u64) -> u16 {
-        unsafe { sst_refresh(screen.as_mut_ptr(), screen.len(), left) }
+    fn refill(&self, screen: &mut [u8], book: u16, left: u64) -> u16 {
+        unsafe { sst_refill(screen.as_mut_ptr(), screen.len(), book, left) }
     }
 
     fn turn_whole(&self, inputs: Inputs, book: u16, screen: &mut [u8], events: &mut [u8]) -> Done {
