@@ -1,9 +1,10 @@
-/* Shows two books on a split screen: they are walked in turn over one table and draw on a common allowance of steps, set anew at each refresh.
+/* Shows two books on a split screen: they are walked in turn over one table, each with a counter of steps of its own, refilled at each refresh.
  *
  *   cc -std=c99 examples/split.c $(pkg-config --cflags --libs sst) -o split
  *
  * Book 0 is plain text: each line asks the page whether it fits, so its turns are paused ones. Book 1 has a long table and asks nothing: its
- * turns are whole ones. Each turn may do the steps that are left; a book that answers 36 goes on at the next refresh.
+ * turns are whole ones. A turn may do the steps that are left to its book; a book that answers 36 goes on after its next refill. However long
+ * the table of book 1, book 0 gets its steps at each refresh.
  */
 #include <stdio.h>
 #include <string.h>
@@ -31,7 +32,10 @@ enum number { WAITS = 22, SPENT = 36 };
 #define LINES 3
 #define ROWS 12
 #define BOOKS 2
-#define STEPS_A_REFRESH 40
+#define STEPS_A_REFILL 20
+
+/* A book's part of the screen: its walk, and its steps left in eight bytes. */
+#define BOOK_BYTES (SST_SCREEN_BYTES / BOOKS)
 
 static uint8_t table[2 * TABLE_WORDS];
 static uint8_t screen[SST_SCREEN_BYTES];
@@ -51,20 +55,21 @@ static void put_words(uint8_t *bytes, uint16_t word, size_t count)
     }
 }
 
-/* The steps left stand in the last eight bytes of the screen, high byte first. */
-static unsigned long steps_left(void)
+/* The steps left to a book stand behind its walk, high byte first. */
+static unsigned long steps_left(uint16_t book)
 {
+    const uint8_t *part = screen + book * BOOK_BYTES;
     unsigned long left = 0;
     size_t i;
-    for (i = SST_SCREEN_BYTES - 8; i < SST_SCREEN_BYTES; i++)
-        left = left << 8 | screen[i];
+    for (i = SST_WALK_BYTES; i < BOOK_BYTES; i++)
+        left = left << 8 | part[i];
     return left;
 }
 
 static void show(uint16_t book, uint16_t number, uint64_t written, uint64_t steps)
 {
     printf("  book %u: answered %u, events %lu, steps %lu, left %lu\n", (unsigned)book, (unsigned)number, (unsigned long)written,
-           (unsigned long)steps, steps_left());
+           (unsigned long)steps, steps_left(book));
     open_books[book] = number == WAITS || number == SPENT;
 }
 
@@ -112,8 +117,9 @@ int main(void)
     put_words(rows + 2 * ROWS, BOOK_END, 1);
     sst_screen_fresh(screen, sizeof screen, 0, 0);
     for (refreshes = 1; open_books[0] || open_books[1]; refreshes++) {
-        printf("refresh %u: %d steps\n", refreshes, STEPS_A_REFRESH);
-        sst_refresh(screen, sizeof screen, STEPS_A_REFRESH);
+        printf("refresh %u: %d steps for each book\n", refreshes, STEPS_A_REFILL);
+        for (number = 0; number < BOOKS; number++)
+            sst_refill(screen, sizeof screen, number, STEPS_A_REFILL);
         if (open_books[1])
             turn_rows();
         if (open_books[0])
@@ -121,7 +127,7 @@ int main(void)
     }
     for (number = 0; number < BOOKS; number++)
         printf("book %u: tokens read %lu, stopped with %u\n", (unsigned)number,
-               (unsigned long)sst_read(screen + number * SST_WALK_BYTES, SST_WALK_BYTES),
-               (unsigned)sst_reason(screen + number * SST_WALK_BYTES, SST_WALK_BYTES));
+               (unsigned long)sst_read(screen + number * BOOK_BYTES, SST_WALK_BYTES),
+               (unsigned)sst_reason(screen + number * BOOK_BYTES, SST_WALK_BYTES));
     return 0;
 }

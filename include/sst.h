@@ -129,21 +129,21 @@ uint16_t sst_paused(const uint8_t *table, size_t table_len, const uint8_t *token
                     uint64_t budget, uint8_t *walk, size_t walk_len, uint8_t *events, size_t events_len, uint64_t *written,
                     uint64_t *steps);
 
-/* Two books over one table. A screen is SST_SCREEN_BYTES bytes: the walk of book 0, the walk of book 1, each SST_WALK_BYTES bytes, and the steps
- * left, 64 bits, high byte first (docs/LAYOUT.md). Both books draw on the steps left, which a refresh sets anew. A book's turns see and write
- * its own walk and the steps left alone, so what the other book's bytes hold, and what it does, changes nothing but the steps that are left. */
-#define SST_SCREEN_BYTES 324
+/* Two books over one table. A screen is SST_SCREEN_BYTES bytes: for each book its walk, SST_WALK_BYTES bytes, and its steps left, 64 bits, high byte
+ * first, in one piece (docs/LAYOUT.md). A book's turns and refills see and write its own bytes alone: what the other book's bytes hold, what it is
+ * given and what it does changes nothing for this book. */
+#define SST_SCREEN_BYTES 332
 
-/* Writes two fresh walks with their repair allowances, and 0 steps left: turns answer 36 until the first refresh. Lent: screen. Answers 0; 21 where
- * the length is another, and then nothing is written. */
+/* Writes two fresh walks with their repair allowances, and 0 steps left to each book: turns answer 36 until its first refill. Lent: screen. Answers 0;
+ * 21 where the length is another, and then nothing is written. */
 uint16_t sst_screen_fresh(uint8_t *screen, size_t screen_len, uint16_t allowance_0, uint16_t allowance_1);
 
-/* Sets the steps left to any number; what was left is lost. Lent: screen, of which the last eight bytes are written and nothing is read. Answers 0; 21
- * where the length is another, and then nothing is written. */
-uint16_t sst_refresh(uint8_t *screen, size_t screen_len, uint64_t left);
+/* Sets the steps left to book 0 or 1 to any number; what was left is lost. Lent: screen, of which that book's counter is written and nothing is read:
+ * its walk may be any bytes. Answers 0; 21 for another book and another length, and then nothing is written. */
+uint16_t sst_refill(uint8_t *screen, size_t screen_len, uint16_t book, uint64_t left);
 
-/* A turn of book 0 or 1: the call sst_whole of that book's walk, its budget the steps left, which fall by `*steps`. Lent: screen, of which the
- * book's walk and the steps left are read and written; events, `*written` and `*steps` as with sst_whole. Answers what sst_whole does, and 21 also
+/* A turn of book 0 or 1: the call sst_whole of that book's walk, its budget the steps left to it, which fall by `*steps`. Lent: screen, of which
+ * the book's walk and counter are read and written; events, `*written` and `*steps` as with sst_whole. Answers what sst_whole does, and 21 also
  * for another book and another length. With 21 nothing is touched, and `*written` and `*steps` are 0. */
 uint16_t sst_turn_whole(const uint8_t *table, size_t table_len, const uint8_t *tokens, size_t tokens_len, const uint8_t *answers,
                         size_t answers_len, uint16_t book, uint8_t *screen, size_t screen_len, uint8_t *events, size_t events_len,
