@@ -5,8 +5,7 @@ ghost use lib.ListN.{length, take, drop};
 ghost use Rattle.machine.specs.Bytes.{count};
 ghost use Rattle.processor.specs.Process as means;
 ghost use Rattle.processor.specs.Process.{refused};
-ghost use Rattle.symbols.specs.Index.{Kept};
-ghost use Rattle.translator.specs.Answered.{Settles, Finishes, Rests, Translates, answered, faultWord};
+ghost use Rattle.translator.specs.Answered.{Settles, Finishes, Translates, answered, faultWord};
 
 // number 0: the table has `words` words, and the verdict is `finishing`. Else the number of the fault, and the part of the text at fault.
 pub struct Answer {
@@ -37,14 +36,14 @@ fn finish(
     cells: &[u16],
     starts: &[u16],
     sorts: &[u8],
-    b: builder::Rules,
+    b: frontend::Resolved,
     spare: &mut [u16],
     table: &mut [u8],
 ) -> Answer
     requires { ⌜ 4224 ≤ length (now spare) ⌝ }
-    ensures { λ r. ⌜ Finishes size (now (cells .entry)) (now (starts .entry)) (now (sorts .entry)) (b .rules) (b .count) (now (table .entry)) (now (table .exit)) r ⌝ }
+    ensures { λ r. ⌜ Finishes size (now (cells .entry)) (now (starts .entry)) (now (sorts .entry)) (b .rules) (b .cells) (now (table .entry)) (now (table .exit)) r ⌝ }
 {
-    if 4224 < b.count {
+    if frontend::CELLS < b.cells {
         return refuse(table, 20, size, 0);
     }
     let e = emitter::emit(cells, sorts, b.rules, table);
@@ -67,50 +66,20 @@ fn finish(
     }
 }
 
-// The rules, from the place `at` on, behind n declarations of which `first` is the first rule's. Once they are resolved the rows are spare room.
-fn settle(
-    text: &[u8],
-    rows: &mut [u16],
-    n: usize,
-    first: usize,
-    at: usize,
-    table: &mut [u8],
-) -> Answer
-    requires { ⌜ (at ≤ length (now text)) × (first ≤ 512) × Kept (now text) (now rows) n × (4224 ≤ length (now rows)) ⌝ }
-    ensures { λ r. ⌜ Rests (now (text .entry)) (now (rows .entry)) n first at (now (table .entry)) (now (table .exit)) r ⌝ }
-{
-    let mut cells = [0u16; 4224];
-    let mut starts = [0u16; 128];
-    let mut sorts = [0u8; 128];
-    let b = builder::build(
-        text,
-        rows,
-        n,
-        first,
-        at,
-        &mut cells,
-        &mut starts,
-        &mut sorts,
-    );
-    if b.fault != 0 {
-        return refuse(table, b.fault, b.at, b.len);
-    }
-    finish(text.len(), &cells, &starts, &sorts, b, rows, table)
-}
-
-// A text that the syntax pass has read: its declarations, then its rules.
+// A text that the syntax pass has read. Once its rules are resolved the rows are spare room.
 fn translate(text: &[u8], table: &mut [u8]) -> Answer
     requires { ⌜ length (now text) ≤ 32768 ⌝ }
     ensures { λ r. ⌜ Translates (now (text .entry)) (now (table .entry)) (now (table .exit)) r ⌝ }
 {
-    let mut rows = [0u16; 5632];
-    let c = collector::collect(text, &mut rows);
-    symbols::index(text, &mut rows, c.count);
-    let d = declarer::check_declarations(text, &rows, c.count);
-    if d.fault != 0 {
-        return refuse(table, d.fault, d.at, d.len);
+    let mut rows = [0u16; frontend::ROWS];
+    let mut cells = [0u16; frontend::CELLS];
+    let mut starts = [0u16; frontend::RULES];
+    let mut sorts = [0u8; frontend::RULES];
+    let b = frontend::resolve(text, &mut rows, &mut cells, &mut starts, &mut sorts);
+    if b.fault != 0 {
+        return refuse(table, b.fault, b.at, b.len);
     }
-    settle(text, &mut rows, c.count, c.rules, c.at, table)
+    finish(text.len(), &cells, &starts, &sorts, b, &mut rows, table)
 }
 
 // The table and the verdict of a text, or the number and the part of its first fault. Every lent word is written.

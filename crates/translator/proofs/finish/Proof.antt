@@ -1,7 +1,8 @@
 use borrow.Author.Needs.{needs}
 use native.Mathlib.Omega.{arith}
 use Rattle.emitter.specs.Emitted.{Emits}
-use Rattle.translator.proofs.Ends.{ready-cells, ready-laid, too-long, end-refused, end-20, end-good}
+use Rattle.frontend.proofs.Buffers.{ready-cells, ready-laid, too-long}
+use Rattle.translator.proofs.Ends.{end-refused, end-20, end-good}
 use Rattle.translator.proofs.finish.Statement.{statement}
 use Rattle.translator.proofs.finish.Tie as tie
 use Rattle.translator.proofs.finish.Reads as reads

@@ -1,7 +1,8 @@
 use borrow.Author.Needs.{needs}
 use native.Mathlib.Omega.{arith}
 use Rattle.grammar.proofs.ProgramIn.{parse-short}
-use Rattle.translator.proofs.Steps.{decides-fine, decides-fault, process-fault, at-word, refused-read}
+use Rattle.frontend.proofs.Steps.{decides-fine}
+use Rattle.translator.proofs.Steps.{refused-read}
 use Rattle.translator.proofs.process.Statement.{statement}
 use Rattle.translator.proofs.process.Tie as tie
 use Rattle.translator.proofs.process.Reads as reads

@@ -1,70 +1,90 @@
 use borrow.Author.Needs.{needs}
 use mathlib.Core.Path.{refl}
-use native.Mathlib.Omega.{arith}
-use Rattle.translator.proofs.Passes.{declared-wrong, declared-good}
-use Rattle.symbols.proofs.index.Reads as index-reads
+use Rattle.translator.proofs.Passes.{answered-wrong, answered-good}
 use Rattle.translator.proofs.translate.Statement.{statement}
 use Rattle.translator.proofs.translate.Tie as tie
 use Rattle.translator.proofs.translate.Reads as reads
 use Rattle.translator.proofs.translate.Lts as lts
-use Rattle.declarer.proofs.check_declarations.Reads as check-declarations-reads
-use Rattle.collector.proofs.collect.Reads as collect-reads
+use Rattle.translator.proofs.finish.Reads as finish-reads
 use Rattle.translator.proofs.refuse.Reads as refuse-reads
-use Rattle.translator.proofs.settle.Reads as settle-reads
+use Rattle.frontend.proofs.resolve.Reads as resolve-reads
 
-slice-aggregate-collect : tie.Need-slice-aggregate-collect
-slice-aggregate-collect c = search needs
+-- src/lib.rt:133:27
+slice-aggregate-resolve : tie.Need-slice-aggregate-resolve
+slice-aggregate-resolve c = search needs
 
-collect-requires : tie.Need-collect-requires
-collect-requires c κs = search needs
+-- src/lib.rt:133:38
+slice-aggregate-resolve-2 : tie.Need-slice-aggregate-resolve-2
+slice-aggregate-resolve-2 c = search needs
 
-slice-aggregate-index : tie.Need-slice-aggregate-index
-slice-aggregate-index c = search needs
+-- src/lib.rt:133:50
+slice-aggregate-resolve-3 : tie.Need-slice-aggregate-resolve-3
+slice-aggregate-resolve-3 c = search needs
 
-index-requires : tie.Need-index-requires
-index-requires c κs = (c .before .before .collect .ensures .size, omega (arith, c .before .before .collect .ensures .small, c .before .before .collect .ensures .early))
+-- src/lib.rt:133:63
+slice-aggregate-resolve-4 : tie.Need-slice-aggregate-resolve-4
+slice-aggregate-resolve-4 c = search needs
 
-slice-aggregate-check-declarations : tie.Need-slice-aggregate-check-declarations
-slice-aggregate-check-declarations c = search needs
+-- src/lib.rt:133:9
+resolve-requires : tie.Need-resolve-requires
+resolve-requires c κs = search needs
 
-check-declarations-requires : tie.Need-check-declarations-requires
-check-declarations-requires c κs = c .before .before .index .ensures .0
-
+-- src/lib.rt:135:9
 refuse-requires : tie.Need-refuse-requires
 refuse-requires c κs = search needs
 
+-- src/lib.rt:135:9
 same-length : tie.Need-same-length
 same-length c = search needs
 
+-- src/lib.rt:135:9
 returns : tie.Need-returns
-returns c = λ p ws e. declared-wrong _ p ws e _ (c .before .before .before .before .before .before .before .before .before .before .before .before .collect .ensures) refl (c .before .before .before .before .before .before .before .before .before .index .ensures .1 .1) (c .before .before .before .before .before .before .check-declarations .ensures) (c .before .before .before .before .if1 .taken) (c .before .before .refuse .ensures)
+returns c = λ p ws e. answered-wrong _ p ws e (c .before .before .before .before .before .before .before .before .before .before .resolve .ensures p ws e) (c .before .before .before .before .if1 .taken) (c .before .before .refuse .ensures)
 
-slice-aggregate-settle : tie.Need-slice-aggregate-settle
-slice-aggregate-settle c = search needs
+-- src/lib.rt:137:24
+slice-aggregate-finish : tie.Need-slice-aggregate-finish
+slice-aggregate-finish c = search needs
 
-settle-requires : tie.Need-settle-requires
-settle-requires c κs = (omega (arith, c .before .before .before .before .before .before .before .before .before .before .collect .ensures .inside), omega (arith, c .before .before .before .before .before .before .before .before .before .before .collect .ensures .early, c .before .before .before .before .before .before .before .before .before .before .collect .ensures .small), c .before .before .before .before .before .before .before .index .ensures .0, search needs)
+-- src/lib.rt:137:32
+slice-aggregate-finish-2 : tie.Need-slice-aggregate-finish-2
+slice-aggregate-finish-2 c = search needs
 
+-- src/lib.rt:137:41
+slice-aggregate-finish-3 : tie.Need-slice-aggregate-finish-3
+slice-aggregate-finish-3 c = search needs
+
+-- src/lib.rt:137:52
+slice-aggregate-finish-4 : tie.Need-slice-aggregate-finish-4
+slice-aggregate-finish-4 c = search needs
+
+-- src/lib.rt:137:5
+finish-requires : tie.Need-finish-requires
+finish-requires c κs = search needs
+
+-- src/lib.rt:125:1
 same-length-2 : tie.Need-same-length-2
 same-length-2 c = search needs
 
+-- src/lib.rt:125:1
 returns-2 : tie.Need-returns-2
-returns-2 c = λ p ws e. declared-good _ p ws e _ (c .before .before .before .before .before .before .before .before .before .before .before .before .before .before .collect .ensures) refl (c .before .before .before .before .before .before .before .before .before .before .before .index .ensures .1 .1) (c .before .before .before .before .before .before .before .before .check-declarations .ensures) (c .before .before .before .before .before .before .if1 .left) (c .before .before .before .settle .ensures)
+returns-2 c = λ p ws e. answered-good _ p ws e (c .before .before .before .before .before .before .before .before .before .before .before .before .before .before .before .resolve .ensures p ws e) (c .before .before .before .before .before .before .before .before .before .if1 .left) refl (c .before .before .before .finish .ensures)
 
 pub translate-spec : {M : Type 1} → statement M
 translate-spec =
     tie.close
     (tie.spec
-    slice-aggregate-collect
-    collect-requires
-    slice-aggregate-index
-    index-requires
-    slice-aggregate-check-declarations
-    check-declarations-requires
+    slice-aggregate-resolve
+    slice-aggregate-resolve-2
+    slice-aggregate-resolve-3
+    slice-aggregate-resolve-4
+    resolve-requires
     refuse-requires
     same-length
     returns
-    slice-aggregate-settle
-    settle-requires
+    slice-aggregate-finish
+    slice-aggregate-finish-2
+    slice-aggregate-finish-3
+    slice-aggregate-finish-4
+    finish-requires
     same-length-2
     returns-2)

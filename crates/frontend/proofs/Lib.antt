@@ -1,0 +1,5 @@
+pub mod Steps
+pub mod Few
+pub mod Rests
+pub mod Passes
+pub mod Buffers
