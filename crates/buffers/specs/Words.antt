@@ -1,4 +1,4 @@
--- What writing words into a lent buffer leaves there.
+-- What writing words and numbers of 64 bits into a lent buffer leaves there.
 use mathlib.Core.List.{List, _++_}
 use Prim.Native.Nat.{ℕ, _+_, _*_, _/_, _%_}
 use lib.ListN.{drop, set, replicate}
@@ -12,7 +12,12 @@ zeroed s = bytesOf (replicate (count s) 0) ++ drop (2 * count s) s
 unfoldable pub putWord : List ℕ → ℕ → ℕ → List ℕ
 putWord out i x = set (set out (2 * i) (x / 256)) (2 * i + 1) (x % 256)
 
+-- a buffer with the number n written as number i
+unfoldable pub putNumber : List ℕ → ℕ → ℕ → List ℕ
+putNumber out i n =
+    putWord (putWord (putWord (putWord out (4 * i) (n / 281474976710656)) (4 * i + 1) (n / 4294967296 % 65536)) (4 * i + 2) (n / 65536 % 65536)) (4 * i + 3) (n % 65536)
+
 -- all of this file computes where this is unfolded
 unfoldable pub opened : Unit {0}
-unfolding zeroed putWord
+unfolding zeroed putWord putNumber
 opened = tt
