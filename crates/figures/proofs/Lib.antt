@@ -1,0 +1,6 @@
+pub mod Steps
+pub mod Sums
+pub mod Bits
+pub mod Shelves
+pub mod Form
+pub mod Facts

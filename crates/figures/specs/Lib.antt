@@ -1,0 +1,5 @@
+pub mod Visits
+pub mod Figures
+pub mod ByRule
+pub mod Shelf
+pub mod Form

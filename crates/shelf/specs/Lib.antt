@@ -1,0 +1,3 @@
+pub mod ByText
+pub mod Books
+pub mod ByRows
