@@ -42,7 +42,7 @@ pub record Held (r : Registers) : Type 0 where
   pub depth : r .depth ≤ 64
   pub used : r .used < 18446744073709551616
 
-data Keeps (room : ℕ) : Next → Type 0 where
+pub data Keeps (room : ℕ) : Next → Type 0 where
   full : Keeps room Full
   out : Keeps room Next.Outside
   stop : {x : Reason} → Keeps room (Stop x)
@@ -172,7 +172,7 @@ module _ (room : ℕ) (r : Registers) (held : Held r) where
         either (eqb i 12) _ _ (λ y. stop {x = Unlabelled}) (λ y.
         either (eqb i 13) _ _ (λ y. goes-on (withParameter (moved r (l + 2)) x) refl refl) (λ y. out)))))))))))))
 
-    step-keeps : (a : List ℕ) (q : Bool) → Keeps room (stepOf rs t k a room q r)
+    pub step-keeps : (a : List ℕ) (q : Bool) → Keeps room (stepOf rs t k a room q r)
     unfolding stepOf fetchedOf
     step-keeps a q =
         let i = wordAt t (r .location - 1) in

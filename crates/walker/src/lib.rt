@@ -188,7 +188,7 @@ fn table_words(t: &[u8]) -> usize
 }
 
 // The word at index i, from 0: `machine::word` without its test.
-fn word(s: &[u8], i: usize) -> u16
+pub fn word(s: &[u8], i: usize) -> u16
     requires { ⌜ i < count (now s) ⌝ }
     ensures { λ r. ⌜ r ≡ wordAt (now (s .entry)) i ⌝ }
 {
@@ -221,7 +221,7 @@ const OPERATION_EVENT: u16 = 3;
 
 const REPAIR_EVENT: u16 = 4;
 
-fn put_event(out: &mut [u8], i: usize, e: Event)
+pub fn put_event(out: &mut [u8], i: usize, e: Event)
     requires { ⌜ i + 3 ≤ count (now out) ⌝ }
     ensures { λ _. ⌜ now (out .exit) ≡ putEvent (now (out .entry)) i e ⌝ }
 {
@@ -267,7 +267,7 @@ fn length_of(known: &[usize; 13], ins: u16) -> usize
 }
 
 // The number of a call that leaves a walk stopped.
-fn number_of(why: Reason) -> u16
+pub fn number_of(why: Reason) -> u16
     ensures { λ r. ⌜ r ≡ numberOf why ⌝ }
 {
     match why {
@@ -344,7 +344,7 @@ impl Registers {
     }
 
     // One more return location is held.
-    fn deeper(mut self) -> Registers
+    pub fn deeper(mut self) -> Registers
         requires { ⌜ self .depth < 64 ⌝ }
         ensures { λ r. ⌜ r ≡ withDepth self (self .depth + 1) ⌝ }
     {
@@ -810,7 +810,7 @@ impl Registers {
     }
 
     // One step of a walk that goes on.
-    fn next(
+    pub fn next(
         self,
         known: &[usize; 13],
         returns: &[u16; 64],

@@ -1,0 +1,4 @@
+pub mod Link
+pub mod Loop
+pub mod Form
+pub mod Adds

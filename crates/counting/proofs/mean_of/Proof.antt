@@ -1,0 +1,19 @@
+-- `counting::mean_of` meets its contract.
+use mathlib.Core.Path.{refl}
+use borrow.Author.Tests.{eq-eqb, ne-eqb}
+use Rattle.base.specs.Common.{if_then_else_}
+use borrow.Author.Needs.{needs}
+use Rattle.counting.proofs.mean_of.Statement.{statement}
+use Rattle.counting.proofs.mean_of.Tie as tie
+
+div-result : tie.Need-div-result
+div-result c = search needs
+
+returns : tie.Need-returns
+returns c = rw (eq-eqb (c .before .args .books) 0 (c .if1 .taken)) refl
+
+returns-2 : tie.Need-returns-2
+returns-2 c = rw (ne-eqb (c .before .args .books) 0 (c .if1 .left)) refl
+
+pub mean-of-spec : {M : Type 1} → statement M
+mean-of-spec = tie.close (tie.spec div-result returns returns-2)

@@ -1,0 +1,422 @@
+// Figures over a shelf of books (include/sst.h): a book's steps counted at their locations, over the walker's step, and the figures as bytes.
+// Nothing of this is in the walker's own loop.
+ghost use mathlib.Core.Bool.{true};
+ghost use mathlib.Core.Option.{none};
+ghost use mathlib.Core.Path.{_≡_};
+ghost use Prim.Native.Nat.{_+_, _*_, _-_, _/_, _%_, _<_, _≤_, _^_};
+ghost use lib.Count.{ones};
+ghost use lib.Dec.{eqb};
+ghost use lib.ListN.{length, take, drop, getD};
+ghost use Rattle.base.specs.Common.{if_then_else_, same};
+ghost use Rattle.machine.specs.Bytes.{count, wordAt, wordsOf, bytesOf};
+ghost use Rattle.figures.specs.Figures as sums;
+ghost use Rattle.figures.specs.Figures.{sum, bumps, bitsOf, packed};
+ghost use Rattle.figures.specs.Form as form;
+ghost use Rattle.figures.specs.Form.{numberAt, numbersAt, figuresNamed};
+ghost use Rattle.counting.specs.Counting.{freshAt, bookVisits, bookOf, Inside, toldOf, numbersOf, gives, reports};
+ghost use Rattle.walker.specs.Shape.{putEvent};
+use walker::Event;
+use walker::Next;
+use walker::Registers;
+
+// The numbers of calls that end otherwise than by a stop, and of figures that are none, or would pass 64 bits.
+const REFUSED: u16 = 21;
+
+const WAITS: u16 = 22;
+
+const FULL: u16 = 35;
+
+const SPENT: u16 = 36;
+
+const OUTSIDE: u16 = 37;
+
+const PAST: u16 = 46;
+
+// Figures as bytes (docs/LAYOUT.md): a count for each location, the words of their bits, books, total.
+const FIGURES_BYTES: usize = 33296;
+
+const LOCATIONS: usize = 4096;
+
+const BIT_WORDS: usize = 64;
+
+const BITS_NUMBER: usize = 4096;
+
+const BOOKS_NUMBER: usize = 4160;
+
+const TOTAL_NUMBER: usize = 4161;
+
+const NUMBERS: usize = 4162;
+
+const GREATEST: u64 = 18446744073709551615;
+
+// What adding a book tells: the call's number, the events written, the steps done.
+pub struct Told {
+    pub number: u16,
+    pub events: u64,
+    pub steps: u64,
+}
+
+// What figures say of the whole shelf.
+pub struct Report {
+    pub number: u16,
+    pub books: u64,
+    pub total: u64,
+    pub covered: u64,
+    pub mean: u64,
+    pub rest: u64,
+}
+
+// A book's call: its limits, and whether it writes events and counts or only measures.
+struct Book {
+    budget: u64,
+    allowance: u16,
+    writes: bool,
+}
+
+fn ended(number: u16, events: usize, steps: u64) -> Told
+    ensures { λ r. ⌜ r ≡ toldOf number events steps ⌝ }
+{
+    Told {
+        number,
+        events: events as u64,
+        steps,
+    }
+}
+
+// A book's call
+
+// The registers of a fresh walk.
+fn fresh_at(allowance: u16) -> Registers
+    ensures { λ r. ⌜ r ≡ freshAt allowance ⌝ }
+{
+    Registers {
+        location: 1,
+        depth: 0,
+        result: 0,
+        parameter: 0,
+        read: 0,
+        used: 0,
+        allowance: allowance as u64,
+    }
+}
+
+// One execution more of the location l, where a call writes.
+fn bump(counts: &mut [u64], l: usize, writes: bool)
+    requires { ⌜ (length (now counts) ≡ 4096) × (Inside l × (writes ≡ true → getD (now counts) (l - 1) 0 + 1 < 2 ^ 64)) ⌝ }
+    ensures { λ _. ⌜ now (counts .exit) ≡ (if writes then sums.bump (now (counts .entry)) l else now (counts .entry)) ⌝ }
+{
+    // 0 or 1 is added: no test in the loop
+    let one: u64 = if writes { 1 } else { 0 };
+    let i = l - 1;
+    let c = counts[i];
+    counts[i] = c + one;
+}
+
+// The event e at word i, where a call writes.
+fn tell(out: &mut [u8], i: usize, e: Event, writes: bool)
+    requires { ⌜ i + 3 ≤ count (now out) ⌝ }
+    ensures { λ _. ⌜ now (out .exit) ≡ (if writes then putEvent (now (out .entry)) i e else now (out .entry)) ⌝ }
+{
+    if writes {
+        walker::put_event(out, i, e);
+    }
+}
+
+// A whole call from a fresh walk, its steps counted at their locations; or only measured, and then nothing is written.
+fn count_book(
+    table: &[u8],
+    tokens: &[u8],
+    answers: &[u8],
+    b: Book,
+    out: &mut [u8],
+    counts: &mut [u64],
+) -> Told
+    requires { ⌜ (length (now counts) ≡ 4096) × (b .writes ≡ true → sum (now counts) + length (bookVisits (now table) (now tokens) (now answers) (b .budget) (b .allowance) (count (now out))) < 2 ^ 64) ⌝ }
+    ensures { λ r. ⌜ r ≡ toldOf (bookOf (now (table .entry)) (now (tokens .entry)) (now (answers .entry)) (b .budget) (b .allowance) (now (out .entry)) .number) (bookOf (now (table .entry)) (now (tokens .entry)) (now (answers .entry)) (b .budget) (b .allowance) (now (out .entry)) .events) (bookOf (now (table .entry)) (now (tokens .entry)) (now (answers .entry)) (b .budget) (b .allowance) (now (out .entry)) .steps) ⌝ }
+    ensures { λ _. ⌜ now (out .exit) ≡ (if b .writes then bookOf (now (table .entry)) (now (tokens .entry)) (now (answers .entry)) (b .budget) (b .allowance) (now (out .entry)) .out else now (out .entry)) ⌝ }
+    ensures { λ _. ⌜ now (counts .exit) ≡ (if b .writes then bumps (now (counts .entry)) (bookVisits (now (table .entry)) (now (tokens .entry)) (now (answers .entry)) (b .budget) (b .allowance) (count (now (out .entry)))) else now (counts .entry)) ⌝ }
+{
+    let mut at = fresh_at(b.allowance);
+    let mut returns = [0u16; 64];
+    let mut events: usize = 0;
+    let mut done: u64 = 0;
+    // words left for events
+    let mut room = machine::count_words(out);
+    let known = machine::LENGTHS;
+    while done < b.budget {
+        let here = at.location;
+        let x = at.next(&known, &returns, table, tokens, answers, room, false);
+        let next = done + 1;
+        match x {
+            Next::Full => return ended(FULL, events, done),
+            Next::Outside => return ended(OUTSIDE, events, done),
+            Next::Stop(why) => {
+                bump(counts, here, b.writes);
+                return ended(walker::number_of(why), events, next);
+            }
+            Next::On(q) => at = q,
+            Next::Tells(q, e) => {
+                tell(out, 3 * events, e, b.writes);
+                at = q;
+                events += 1;
+                room -= 3;
+            }
+            Next::Push(q, back) => {
+                let d = q.depth;
+                returns[d] = back;
+                at = q.deeper();
+            }
+            // a whole walk hands nothing out
+            Next::Waits(_, _) => return ended(WAITS, events, next),
+        }
+        bump(counts, here, b.writes);
+        done = next;
+    }
+    ended(SPENT, events, done)
+}
+
+// Figures as bytes
+
+fn word(s: &[u8], i: usize) -> u64
+    requires { ⌜ i < count (now s) ⌝ }
+    ensures { λ r. ⌜ (r ≡ wordAt (now (s .entry)) i) × (r < 65536) ⌝ }
+{
+    walker::word(s, i) as u64
+}
+
+// Number i, from 0.
+fn number_at(s: &[u8], i: usize) -> u64
+    requires { ⌜ 8 * i + 8 ≤ length (now s) ⌝ }
+    ensures { λ r. ⌜ r ≡ numberAt (wordsOf (now (s .entry))) i ⌝ }
+{
+    let k = 4 * i;
+    word(s, k) * 281474976710656
+        + word(s, k + 1) * 4294967296
+        + word(s, k + 2) * 65536
+        + word(s, k + 3)
+}
+
+fn counts_of(s: &[u8]) -> [u64; LOCATIONS]
+    requires { ⌜ length (now s) ≡ 33296 ⌝ }
+    ensures { λ r. ⌜ r ≡ numbersAt (wordsOf (now (s .entry))) 0 4096 ⌝ }
+{
+    let mut counts = [0u64; LOCATIONS];
+    let mut i: usize = 0;
+    while i < LOCATIONS {
+        counts[i] = number_at(s, i);
+        i += 1;
+    }
+    counts
+}
+
+// 1 for a location that was executed.
+fn flag(c: u64) -> u64
+    ensures { λ r. ⌜ (r ≡ sums.flag c) × (r < 2) ⌝ }
+{
+    if c == 0 { 0 } else { 1 }
+}
+
+// Word j of the bits: those of 64 locations, the first lowest.
+fn bits_of(counts: &[u64], j: usize) -> u64
+    requires { ⌜ (length (now counts) ≡ 4096) × (j < 64) ⌝ }
+    ensures { λ r. ⌜ r ≡ packed (take 64 (drop (j * 64) (now (counts .entry)))) ⌝ }
+{
+    let mut w: u64 = 0;
+    let mut i: usize = 64;
+    while 0 < i {
+        i -= 1;
+        w = w * 2 + flag(counts[j * 64 + i]);
+    }
+    w
+}
+
+// Whether the bits are those of the counts.
+fn covers(s: &[u8], counts: &[u64]) -> bool
+    requires { ⌜ (length (now s) ≡ 33296) × (length (now counts) ≡ 4096) ⌝ }
+    ensures { λ r. ⌜ r ≡ same (numbersAt (wordsOf (now (s .entry))) 4096 64) (bitsOf 64 (now (counts .entry))) ⌝ }
+{
+    let mut j: usize = 0;
+    while j < BIT_WORDS {
+        if number_at(s, BITS_NUMBER + j) != bits_of(counts, j) {
+            return false;
+        }
+        j += 1;
+    }
+    true
+}
+
+// Whether the counts add up to total: what they leave of it, so that no sum passes 64 bits.
+fn adds_up(counts: &[u64], total: u64) -> bool
+    ensures { λ r. ⌜ r ≡ eqb total (sum (now (counts .entry))) ⌝ }
+{
+    let mut left = total;
+    let mut i: usize = 0;
+    while i < counts.len() {
+        let c = counts[i];
+        if left < c {
+            return false;
+        }
+        left -= c;
+        i += 1;
+    }
+    left == 0
+}
+
+// Whether the parts of figures fit together.
+fn is_sound(s: &[u8], counts: &[u64]) -> bool
+    requires { ⌜ (length (now s) ≡ 33296) × (now counts ≡ numbersAt (wordsOf (now s)) 0 4096) ⌝ }
+    ensures { λ r. ⌜ r ≡ sums.sound (figuresNamed (wordsOf (now (s .entry)))) ⌝ }
+{
+    let books = number_at(s, BOOKS_NUMBER);
+    let total = number_at(s, TOTAL_NUMBER);
+    if books == 0 {
+        if total != 0 {
+            return false;
+        }
+    }
+    if covers(s, counts) {
+        adds_up(counts, total)
+    } else {
+        false
+    }
+}
+
+// Number i of figures with these counts, their bits, books and total.
+fn figure(counts: &[u64], books: u64, total: u64, i: usize) -> u64
+    requires { ⌜ (length (now counts) ≡ 4096) × (i < 4162) ⌝ }
+    ensures { λ r. ⌜ r ≡ getD (numbersOf (now (counts .entry)) books total) i 0 ⌝ }
+{
+    if i < BITS_NUMBER {
+        counts[i]
+    } else if i < BOOKS_NUMBER {
+        bits_of(counts, i - BITS_NUMBER)
+    } else if i < TOTAL_NUMBER {
+        books
+    } else {
+        total
+    }
+}
+
+fn put_figures(out: &mut [u8], counts: &[u64], books: u64, total: u64)
+    requires { ⌜ (length (now out) ≡ 33296) × (length (now counts) ≡ 4096) ⌝ }
+    ensures { λ _. ⌜ now (out .exit) ≡ bytesOf (form.numberWords (numbersOf (now (counts .entry)) books total)) ⌝ }
+{
+    let mut i: usize = 0;
+    while i < NUMBERS {
+        buffers::put_number(out, i, figure(counts, books, total, i));
+        i += 1;
+    }
+}
+
+// The ones of the bits.
+fn covered(s: &[u8]) -> u64
+    requires { ⌜ length (now s) ≡ 33296 ⌝ }
+    ensures { λ r. ⌜ r ≡ sums.covered (numbersAt (wordsOf (now (s .entry))) 4096 64) ⌝ }
+{
+    let mut n: u64 = 0;
+    let mut j: usize = 0;
+    while j < BIT_WORDS {
+        let w = number_at(s, BITS_NUMBER + j);
+        n += u64::count_ones(w) as u64;
+        j += 1;
+    }
+    n
+}
+
+// Adding a book
+
+// A book added to figures by a whole call from a fresh walk. Where its steps could take the total past 64 bits, they are measured first: with 46 nothing is written.
+pub fn add_book(
+    table: &[u8],
+    tokens: &[u8],
+    answers: &[u8],
+    budget: u64,
+    allowance: u16,
+    figures: &mut [u8],
+    events: &mut [u8],
+) -> Told
+    ensures { λ r. ⌜ gives r (now (figures .exit)) (now (events .exit)) ≡ form.addBytes (now (table .entry)) (now (tokens .entry)) (now (answers .entry)) budget allowance (now (figures .entry)) (now (events .entry)) ⌝ }
+{
+    if figures.len() != FIGURES_BYTES {
+        return ended(REFUSED, 0, 0);
+    }
+    let mut counts = counts_of(figures);
+    if !is_sound(figures, &counts) {
+        return ended(REFUSED, 0, 0);
+    }
+    let books = number_at(figures, BOOKS_NUMBER);
+    let total = number_at(figures, TOTAL_NUMBER);
+    if books == GREATEST {
+        return ended(PAST, 0, 0);
+    }
+    let left = GREATEST - total;
+    if left < budget {
+        let measured = Book {
+            budget,
+            allowance,
+            writes: false,
+        };
+        let m = count_book(table, tokens, answers, measured, events, &mut counts);
+        if left < m.steps {
+            return ended(PAST, 0, 0);
+        }
+    }
+    let added = Book {
+        budget,
+        allowance,
+        writes: true,
+    };
+    let r = count_book(table, tokens, answers, added, events, &mut counts);
+    put_figures(figures, &counts, books + 1, total + r.steps);
+    r
+}
+
+// Figures that are none.
+fn no_report() -> Report
+    ensures { λ r. ⌜ reports r ≡ form.reportOf none ⌝ }
+{
+    Report {
+        number: REFUSED,
+        books: 0,
+        total: 0,
+        covered: 0,
+        mean: 0,
+        rest: 0,
+    }
+}
+
+// Mean steps a book, whole part and remainder: both 0 for an empty shelf.
+fn mean_of(total: u64, books: u64) -> u64
+    ensures { λ r. ⌜ r ≡ (if eqb books 0 then 0 else total / books) ⌝ }
+{
+    if books == 0 { 0 } else { total / books }
+}
+
+fn rest_of(total: u64, books: u64) -> u64
+    ensures { λ r. ⌜ r ≡ (if eqb books 0 then 0 else total % books) ⌝ }
+{
+    if books == 0 { 0 } else { total % books }
+}
+
+// What figures say of the whole shelf.
+pub fn shelf_report(figures: &[u8]) -> Report
+    ensures { λ r. ⌜ reports r ≡ form.shelfBytes (now (figures .entry)) ⌝ }
+{
+    if figures.len() != FIGURES_BYTES {
+        return no_report();
+    }
+    let counts = counts_of(figures);
+    if !is_sound(figures, &counts) {
+        return no_report();
+    }
+    let books = number_at(figures, BOOKS_NUMBER);
+    let total = number_at(figures, TOTAL_NUMBER);
+    Report {
+        number: 0,
+        books,
+        total,
+        covered: covered(figures),
+        mean: mean_of(total, books),
+        rest: rest_of(total, books),
+    }
+}
