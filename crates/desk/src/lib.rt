@@ -1,0 +1,59 @@
+// The C entries of the release desk (include/sst-desk.h): figures over a shelf of books, and where a text's rules stand. They are no part of the
+// firmware's library: a second caller of the walker's step would make its own loop slower.
+ghost use mathlib.Core.Path.{_≡_};
+ghost use Rattle.mapping.specs.Mapping as mapping;
+ghost use Rattle.figures.specs.Form as figuring;
+ghost use Rattle.desk.specs.Leaves.{adds, reports};
+
+// The map of a text's rules, on bytes and numbers alone.
+#[no_mangle]
+pub extern "C" fn sst_rules(text: &[u8], rows: &mut [u8], rules: &mut u64) -> u16
+    ensures { λ r. ⌜ mapping.tells r (now (rules .exit)) ≡ mapping.numbersOf (mapping.mapRules (now (text .entry)) (mapping.roomIn (now (rows .entry)))) ⌝ }
+    ensures lent { λ _. ⌜ now (rows .exit) ≡ mapping.lentRows (mapping.mapRules (now (text .entry)) (mapping.roomIn (now (rows .entry)))) (now (rows .entry)) ⌝ }
+{
+    let a = mapper::map_rules(text, rows);
+    *rules = a.rules as u64;
+    a.number
+}
+
+// A book is added to figures, by a whole call from a fresh walk.
+#[no_mangle]
+pub extern "C" fn sst_add_book(
+    table: &[u8],
+    tokens: &[u8],
+    answers: &[u8],
+    budget: u64,
+    allowance: u16,
+    figures: &mut [u8],
+    events: &mut [u8],
+    written: &mut u64,
+    steps: &mut u64,
+) -> u16
+    ensures { λ r. ⌜ adds r (now (figures .exit)) (now (events .exit)) (now (written .exit)) (now (steps .exit)) ≡ figuring.addBytes (now (table .entry)) (now (tokens .entry)) (now (answers .entry)) budget allowance (now (figures .entry)) (now (events .entry)) ⌝ }
+{
+    let r = counting::add_book(table, tokens, answers, budget, allowance, figures, events);
+    *written = r.events;
+    *steps = r.steps;
+    r.number
+}
+
+// What figures say of the whole shelf.
+#[no_mangle]
+pub extern "C" fn sst_shelf(
+    figures: &[u8],
+    books: &mut u64,
+    total: &mut u64,
+    covered: &mut u64,
+    mean: &mut u64,
+    rest: &mut u64,
+) -> u16
+    ensures { λ r. ⌜ reports r (now (books .exit)) (now (total .exit)) (now (covered .exit)) (now (mean .exit)) (now (rest .exit)) ≡ figuring.shelfBytes (now (figures .entry)) ⌝ }
+{
+    let r = counting::shelf_report(figures);
+    *books = r.books;
+    *total = r.total;
+    *covered = r.covered;
+    *mean = r.mean;
+    *rest = r.rest;
+    r.number
+}

@@ -1,0 +1,52 @@
+/* S/SL tables at the release desk: figures over a shelf of books, and where the rules of a program stand in text and table. These entries are in
+ * libsst-desk.a, apart from the device's library; words, buffers and the numbers of walk calls and texts are those of sst.h.
+ *
+ * The number that sst_add_book answers, the first of these that holds; sst_shelf answers 21 or 0:
+ *   21  bytes that are no figures: another length, or parts that do not fit together (docs/LAYOUT.md). Figures and event buffer are unchanged
+ *   46  the number of books or the grand total would pass 64 bits, and so one of the figures. Figures and event buffer are unchanged
+ *    0  and the other numbers of sst_whole: what the book's own call answers; it is added, be it finished or not
+ */
+#ifndef SST_DESK_H
+#define SST_DESK_H
+
+#include "sst.h"
+
+#ifdef __cplusplus
+extern "C" {
+#endif
+
+/* The bytes of figures: 4,162 numbers of 64 bits, each 8 bytes, high byte first (docs/LAYOUT.md): how often each location 1 to 4,096 was executed; 64
+ * words with one bit a location; books; grand total. Empty figures are all zero bytes. */
+#define SST_FIGURES_BYTES 33296
+
+/* Adds a book to figures by a whole call from a fresh walk: table, tokens, answers and budget as with sst_whole, allowance as with sst_fresh. All
+ * books of one shelf are walked over the same table. Lent: figures, SST_FIGURES_BYTES bytes, read and written: each step that is done counts at the
+ * location of its instruction, also the step that stops the walk; 35, 36 and 37 do nothing and count nothing. Lent: events, written from its start
+ * with three words an event, the rest kept. `*written` becomes the number of events, `*steps` the number of steps (both 0 with 21 and 46). Answers
+ * a number of the list above. Where `budget` could take the grand total past 64 bits the book is walked twice, first without writing. */
+uint16_t sst_add_book(const uint8_t *table, size_t table_len, const uint8_t *tokens, size_t tokens_len, const uint8_t *answers,
+                      size_t answers_len, uint64_t budget, uint16_t allowance, uint8_t *figures, size_t figures_len, uint8_t *events,
+                      size_t events_len, uint64_t *written, uint64_t *steps);
+
+/* What figures say of the whole shelf. Read: figures, any bytes. `*books` becomes the number of books, `*total` the grand total of steps, `*covered` how
+ * many locations were executed at all, `*mean` and `*rest` the mean steps a book, whole part and remainder (both 0 for an empty shelf). Answers 0;
+ * 21 for bytes that are no figures, and then all five are 0. */
+uint16_t sst_shelf(const uint8_t *figures, size_t figures_len, uint64_t *books, uint64_t *total, uint64_t *covered, uint64_t *mean,
+                   uint64_t *rest);
+
+/* Maps a program's rules. Read: text, any bytes. Lent: rows, written from its start with SST_RULE_BYTES bytes for each rule, in text order: the start of
+ * its name in the text, the length of its name, the location of its first word in the table, each 64 bits, high byte first; bytes behind the last
+ * row are kept, and on a refusal all of them. A rule's words end where the next rule's begin, the last one's with the table. `*rules` becomes the
+ * number of rules, 0 on a refusal. Answers 0 for a text that sst_process accepts with a table of SST_TABLE_BYTES bytes, else the number that it gives
+ * there; then 20 where rows has no room for all of them. Room for SST_RULES rules is never too little. */
+uint16_t sst_rules(const uint8_t *text, size_t text_len, uint8_t *rows, size_t rows_len, uint64_t *rules);
+
+/* The most rules of a program, and the bytes of a rule's row. */
+#define SST_RULES 128
+#define SST_RULE_BYTES 24
+
+#ifdef __cplusplus
+}
+#endif
+
+#endif
