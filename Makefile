@@ -1,16 +1,18 @@
 # make list FILE=..        print a program's table and verdict
 # make table FILE=.. OUT=..   translate a program and write its table file
 # make load FILE=..        say what the loader says of a table file: number, words, the sender's verdict
-# make build               prove library and lister: target/lib/libsst.a, target/bin/lister
-# make install PREFIX=..   put library, header, pkg-config file, lister and its page below PREFIX (/usr/local); DESTDIR=.. for a package
+# make figures FILE=.. BOOKS=".."   figures over a shelf of books: executions by rule, and what was never executed
+# make build               prove libraries and lister: target/lib/libsst.a, target/lib/libsst-desk.a, target/bin/lister
+# make install PREFIX=..   put libraries, headers, pkg-config files, lister and its page below PREFIX (/usr/local); DESTDIR=.. for a package
 # make test                every check and test
 FILE ?= examples/scanner.ssl
 OUT ?= $(FILE:.ssl=.sst)
+BOOKS ?=
 PREFIX ?= /usr/local
 DESTDIR ?=
 SOURCES = crates.txt $(shell find crates -name '*.rt' -o -name '*.antt')
 
-.PHONY: list table load build install test
+.PHONY: list table load figures build install test
 .NOTPARALLEL:
 
 list:
@@ -24,9 +26,12 @@ table: target/bin/sst-file
 load: target/bin/sst-file
 	@target/bin/sst-file check "$(FILE)"
 
-target/bin/sst-file: tools/sst-file.c include/sst.h target/lib/libsst.a
+figures: target/bin/sst-figures
+	@target/bin/sst-figures "$(FILE)" $(BOOKS)
+
+target/bin/sst-file target/bin/sst-figures: target/bin/%: tools/%.c tools/input.h include/sst.h include/sst-desk.h target/lib/libsst.a
 	@mkdir -p target/bin
-	@$(CC) -std=c99 -Wall -Wextra -pedantic -O2 -Iinclude tools/sst-file.c -Ltarget/lib -lsst -o $@
+	@$(CC) -std=c99 -Wall -Wextra -pedantic -O2 -Iinclude $< -Ltarget/lib -lsst-desk -lsst -o $@
 
 build: target/lib/libsst.a target/bin/lister
 

@@ -5,40 +5,13 @@
  *
  * Status 0 where a file was written or taken, 1 where it was refused, 2 where a file could not be read or written.
  */
-#include <stdio.h>
 #include <string.h>
 
-#include "sst.h"
-
-/* One byte more than a text may have: an over-long text is refused with 9 whatever follows. */
-#define TEXT_BYTES 32769
+#include "input.h"
 
 static uint8_t text[TEXT_BYTES];
 static uint8_t table[SST_TABLE_BYTES];
 static uint8_t file[SST_FILE_BYTES + 1];
-
-enum status { DONE, REFUSED, FAILED };
-
-static enum status failed(const char *path)
-{
-    perror(path);
-    return FAILED;
-}
-
-/* The first bytes of a file, as many as there is room for; -1 where it cannot be read. */
-static long read_bytes(const char *path, uint8_t *bytes, size_t room)
-{
-    FILE *in = fopen(path, "rb");
-    size_t count;
-    int bad;
-
-    if (!in)
-        return -1;
-    count = fread(bytes, 1, room, in);
-    bad = ferror(in);
-    fclose(in);
-    return bad ? -1 : (long)count;
-}
 
 static int write_bytes(const char *path, const uint8_t *bytes, size_t count)
 {
@@ -60,10 +33,8 @@ static enum status write_file(const char *from, const char *to)
     if (count < 0)
         return failed(from);
     number = sst_process(text, (size_t)count, table, sizeof table, &start, &len, &words, &finishing);
-    if (number != 0) {
-        printf("refused %u: `make list FILE=%s` shows where\n", (unsigned)number, from);
-        return REFUSED;
-    }
+    if (number != 0)
+        return refused(number, from);
     number = sst_write_file(table, 2 * (size_t)words, finishing, file, SST_FILE_BYTES, &file_words);
     if (number != 0) {
         printf("not written: %u\n", (unsigned)number);
