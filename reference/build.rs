@@ -1,4 +1,4 @@
-//! Compiles the files of c/ and, with the feature `lib`, links libsst.a.
+//! Compiles the files of c/ and, with the feature `lib`, links libsst.a and libsst-desk.a.
 //!
 //! `SST_PAD` is the number of a build with padding before the walkers, for scripts/bench-spread; without it there is none.
 
@@ -80,22 +80,26 @@ fn main() {
     println!("cargo::rerun-if-env-changed=SST_LIB_DIR");
     if env::var_os("CARGO_FEATURE_LIB").is_some() {
         let Ok(dir) = env::var("SST_LIB_DIR") else {
-            fail("set SST_LIB_DIR to the folder of libsst.a, or build with --no-default-features")
+            fail("set SST_LIB_DIR to the folder of libsst.a and libsst-desk.a, or build with --no-default-features")
         };
-        let library = Path::new(&dir).join("libsst.a");
-        let Ok(library) = library.canonicalize() else {
-            fail(&format!("{}: not found; or build with --no-default-features", library.display()))
-        };
-        println!("cargo::rerun-if-changed={}", library.display());
-        entries_only(&library, &out);
-        println!("cargo::rustc-link-lib=static=firmware");
+        for (name, entries) in LIBRARIES {
+            let library = Path::new(&dir).join(format!("lib{name}.a"));
+            let Ok(library) = library.canonicalize() else {
+                fail(&format!("{}: not found; or build with --no-default-features", library.display()))
+            };
+            println!("cargo::rerun-if-changed={}", library.display());
+            entries_only(&library, entries, name, &out);
+            println!("cargo::rustc-link-lib=static={name}-entries");
+        }
         println!("cargo::rustc-link-lib=dylib=m");
         println!("cargo::rustc-link-lib=dylib=c");
     }
 }
 
-/// The entries of the library, in the alphabet's order.
-const ENTRIES: &[&str] = &[
+/// The libraries, each with its entries in the alphabet's order.
+const LIBRARIES: [(&str, &[&str]); 2] = [("sst", DEVICE), ("sst-desk", DESK)];
+const DESK: &[&str] = &["add_book", "rules", "shelf"];
+const DEVICE: &[&str] = &[
     "admit", //
     "allowance",
     "filter",
@@ -117,16 +121,16 @@ const ENTRIES: &[&str] = &[
     "write_file",
 ];
 
-/// Makes a libfirmware.a in `out` that shows nothing but the entries, so that what else the library holds cannot meet a namesake here.
-fn entries_only(library: &Path, out: &str) {
-    let object = format!("{out}/firmware.o");
-    let archive = format!("{out}/libfirmware.a");
-    let before = format!("{out}/before");
+/// Makes an archive in `out` that shows nothing but the entries, so that what else the library holds cannot meet a namesake here.
+fn entries_only(library: &Path, entries: &[&str], name: &str, out: &str) {
+    let object = format!("{out}/{name}.o");
+    let archive = format!("{out}/lib{name}-entries.a");
+    let before = format!("{out}/before-{name}");
     write(&format!("{before}.s"), &padding_section(LIBRARY));
     run(Command::new("as").args(["--noexecstack", &format!("{before}.s"), "-o", &format!("{before}.o")]));
     let mut linker = Command::new("ld");
     linker.args(["-r", "--force-group-allocation", "-o", &object, &format!("{before}.o")]);
-    for entry in ENTRIES {
+    for entry in entries {
         linker.args(["-u", &format!("sst_{entry}")]);
     }
     run(linker.arg(library));

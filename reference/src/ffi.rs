@@ -1,6 +1,7 @@
 //! The C entries: of the library (`include/sst.h`, feature `lib`) and of the plain C walker (`c/walker.c`).
 #![allow(unsafe_code)]
 
+use crate::figures::Figures;
 use crate::files::Files;
 use crate::rights::Rights;
 use crate::screen::Screens;
@@ -314,6 +315,17 @@ mod rights;
 
 /// The library's admission, where it is linked.
 pub fn rights() -> Option<&'static dyn Rights> {
+    #[cfg(feature = "lib")]
+    return Some(&Library);
+    #[cfg(not(feature = "lib"))]
+    return None;
+}
+
+#[cfg(feature = "lib")]
+mod figures;
+
+/// The library's figures over a shelf, where they are linked.
+pub fn figures() -> Option<&'static dyn Figures> {
     #[cfg(feature = "lib")]
     return Some(&Library);
     #[cfg(not(feature = "lib"))]

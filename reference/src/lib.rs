@@ -18,6 +18,7 @@ pub mod verdict;
 
 pub mod crowded;
 pub mod faults;
+pub mod figures;
 pub mod files;
 pub mod limits;
 pub mod pairs;
@@ -25,3 +26,4 @@ pub mod programs;
 pub mod rights;
 pub mod screen;
 pub mod texts;
+pub mod works;

@@ -32,7 +32,7 @@ pub fn process(text: &[u8], room_words: usize) -> Answer {
     match resolve(text) {
         Err((number, start, len)) => Answer::Refused { number, start, len },
         Ok(program) => {
-            let words = assemble(&program);
+            let (words, _) = assemble(&program);
             if words.len() > room_words || words.len() > MAX_TABLE {
                 return end(20);
             }
@@ -40,6 +40,28 @@ pub fn process(text: &[u8], room_words: usize) -> Answer {
             Answer::Accepted { table, finishing: finishing(&program) }
         }
     }
+}
+
+/// Where a rule stands: its name in the text, and the location of its first word.
+#[derive(Clone, Copy, PartialEq, Eq, Debug)]
+pub struct Place {
+    pub start: usize,
+    pub len: usize,
+    pub location: usize,
+}
+
+/// The rules of a text in their order, or the number that it is refused with where the largest table is lent.
+pub fn places(text: &[u8]) -> Result<Vec<Place>, u16> {
+    if let Answer::Refused { number, .. } = process(text, MAX_TABLE) {
+        return Err(number);
+    }
+    let program = resolve(text).map_err(|(number, ..)| number)?;
+    let words = words(text);
+    let mut parser = Parser::new(&words);
+    parser.program().map_err(|Stop(number, _)| number)?;
+    let names = parser.tree.bodies.iter().map(|body| words[body.name]);
+    let starts = assemble(&program).1;
+    Ok(names.zip(starts).map(|(name, location)| Place { start: name.start, len: name.len, location }).collect())
 }
 
 /// The lent bytes after the call.
@@ -272,6 +294,10 @@ struct Parser<'a> {
 }
 
 impl Parser<'_> {
+    fn new(words: &[Word]) -> Parser<'_> {
+        Parser { words, at: 0, tree: Tree::default(), over: Vec::new(), names: 0, rules: 0 }
+    }
+
     fn sort(&self) -> Sort {
         self.words[self.at].sort
     }
@@ -940,7 +966,7 @@ pub fn resolve(text: &[u8]) -> Result<Program, (u16, usize, usize)> {
     }
     let words = words(text);
     let show = |(at, number): (At, u16)| (number, words[at].start, words[at].len);
-    let mut parser = Parser { words: &words, at: 0, tree: Tree::default(), over: Vec::new(), names: 0, rules: 0 };
+    let mut parser = Parser::new(&words);
     let stop = parser.program().err();
     let Parser { tree, mut over, .. } = parser;
     let values = values(text, &words, &tree.sections, &mut over);
@@ -969,8 +995,8 @@ pub fn resolve(text: &[u8]) -> Result<Program, (u16, usize, usize)> {
 
 // ---------------------------------------------------------------- the table
 
-/// The words, of any size; the word at location n stands at n - 1.
-fn assemble(program: &Program) -> Vec<usize> {
+/// The words, of any size, and the locations of the rules' first ones; the word at location n stands at n - 1.
+fn assemble(program: &Program) -> (Vec<usize>, Vec<usize>) {
     let mut out = Assembly { words: Vec::new(), calls: Vec::new() };
     let mut starts = Vec::new();
     for rule in &program.rules {
@@ -983,7 +1009,7 @@ fn assemble(program: &Program) -> Vec<usize> {
     for (hole, rule) in out.calls {
         out.words[hole - 1] = starts[rule];
     }
-    out.words
+    (out.words, starts)
 }
 
 struct Assembly {
@@ -1134,6 +1160,18 @@ mod tests {
         accepted("input: a b; rules M: [ | b: ]; end", &[7, 3, 1, 8, 1, 1, 4, 3, 1, 2, 8, 9], true);
         accepted("rules M: @M; end", &[8, 1, 9], false);
         refused(7, "rules M: ^> ; end", 1);
+    }
+
+    #[test]
+    fn the_rules_places() {
+        let text = b"type t: v; rules M: [@N | v: ] ; % N:\n N >> t : >> v; L_1: ? ; end";
+        let place = |start, len, location| Place { start, len, location };
+        assert_eq!(places(text), Ok(vec![place(17, 1, 1), place(39, 1, 12), place(54, 3, 15)]));
+        assert_eq!(places(b"rules M: ; end"), Ok(vec![place(6, 1, 1)]));
+        assert_eq!(places(b"rules M: > ; end"), Err(7));
+        assert_eq!(places(b"rules M: "), Err(2));
+        let long = format!("rules M: {}; end", "?".repeat(4_096));
+        assert_eq!(places(long.as_bytes()), Err(20));
     }
 
     #[test]

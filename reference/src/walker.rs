@@ -151,8 +151,21 @@ pub fn whole(table: &[u8], tokens: &[u8], answers: &[u8], budget: u64, walk: &mu
     match walk.phase {
         Phase::Waiting => Done::nothing(REFUSED),
         Phase::Stopped(reason) => Done::nothing(reason as u16),
-        Phase::Going => run(table, tokens, Some(words(answers)), budget, walk, events),
+        Phase::Going => run(table, tokens, Some(words(answers)), budget, walk, events, |_| ()),
     }
+}
+
+/// A whole call from a fresh walk that shows the location of each instruction that it does.
+pub fn visit(
+    table: &[u8],
+    tokens: &[u8],
+    answers: &[u8],
+    budget: u64,
+    allowance: u16,
+    events: &mut [u8],
+    look: impl FnMut(usize),
+) -> Done {
+    run(table, tokens, Some(words(answers)), budget, &mut Walk::mending(allowance), events, look)
 }
 
 /// A paused call: an operation that wants an answer is handed out, and its answer is given to the next call.
@@ -167,7 +180,7 @@ pub fn paused(table: &[u8], tokens: &[u8], answer: Option<u16>, budget: u64, wal
         (Phase::Stopped(reason), None) => return Done::nothing(reason as u16),
         _ => return Done::nothing(REFUSED),
     }
-    run(table, tokens, None, budget, walk, events)
+    run(table, tokens, None, budget, walk, events, |_| ())
 }
 
 type Word = [u8; 2];
@@ -192,8 +205,16 @@ enum Halt {
 
 const OUTSIDE: Halt = Halt::Stop(Reason::Foreign);
 
-/// Does steps until the call ends. The walk is going on.
-fn run(table: &[u8], tokens: &[u8], answers: Option<&[Word]>, budget: u64, walk: &mut Walk, events: &mut [u8]) -> Done {
+/// Does steps until the call ends, and shows the location of each. The walk is going on.
+fn run(
+    table: &[u8],
+    tokens: &[u8],
+    answers: Option<&[Word]>,
+    budget: u64,
+    walk: &mut Walk,
+    events: &mut [u8],
+    mut look: impl FnMut(usize),
+) -> Done {
     let table = words(table);
     let mut machine = Machine {
         table: &table[..table.len().min(MAX_TABLE)],
@@ -211,13 +232,16 @@ fn run(table: &[u8], tokens: &[u8], answers: Option<&[Word]>, budget: u64, walk:
         written: 0,
     };
     let mut steps = 0;
+    let mut at = machine.location;
     let halt = loop {
         if steps == budget {
             break Halt::Budget;
         }
+        at = machine.location;
         if let Err(halt) = machine.step() {
             break halt;
         }
+        look(at);
         steps += 1;
     };
     let (number, phase, counted) = match halt {
@@ -227,6 +251,9 @@ fn run(table: &[u8], tokens: &[u8], answers: Option<&[Word]>, budget: u64, walk:
         Halt::Stop(Reason::Foreign) => (Reason::Foreign as u16, Phase::Stopped(Reason::Foreign), 0),
         Halt::Stop(reason) => (reason as u16, Phase::Stopped(reason), 1),
     };
+    if counted == 1 {
+        look(at);
+    }
     let done = Done { number, written: machine.written as u64, steps: steps + counted };
     // No location above 65,535 is ever gone to.
     let location = machine.location as u16;

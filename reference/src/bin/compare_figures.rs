@@ -1,0 +1,531 @@
+//! Compares the library's figures over a shelf of books with those of this crate, book by book, and their sums with the rules' places.
+//!
+//! compare_figures [--exact] [--trace] [seeds [first seed]]
+//!
+//! Built without the library, this crate stands on both sides, and the plain C walker makes the calls alone.
+#![forbid(unsafe_code)]
+
+use std::collections::BTreeSet;
+use std::process::ExitCode;
+
+use reference::crowded;
+use reference::faults;
+use reference::ffi;
+use reference::figures::{self, FIGURES_BYTES, Figures, PASSES, ROW_BYTES, SHORT, Shelf, Sums, visits};
+use reference::files::words;
+use reference::harness::{self, Compares, Group, Lent, Options, Tally};
+use reference::limits;
+use reference::processor::{MAX_TABLE, places};
+use reference::programs;
+use reference::random::{self, Rng};
+use reference::side::{Inputs, Processor, REFUSAL, Reference, Side};
+use reference::tables::bytes;
+use reference::texts::{self, Seed};
+use reference::walker::{Done, REFUSED, WALK_BYTES};
+
+const SEEDS: u64 = 900;
+/// A book that does not end in so many steps is given no more of them.
+const BOUND: u64 = 600;
+/// The bytes of a buffer that a book of so many steps does not fill.
+const ROOMY: usize = 6 * BOUND as usize + 6;
+/// The locations where words of coverage begin and end, and others.
+const LOCATIONS: [u16; 12] = [1, 2, 3, 5, 63, 64, 65, 128, 129, 4_032, 4_033, 4_096];
+
+/// A book to be added, but for the figures.
+#[derive(Clone, Copy)]
+struct Book<'a> {
+    inputs: Inputs<'a>,
+    budget: u64,
+    allowance: u16,
+    /// The bytes of the event buffer.
+    size: usize,
+}
+
+impl Book<'_> {
+    fn add(&self, side: &dyn Figures, figures: &mut [u8], events: &mut [u8]) -> Done {
+        side.add_book(self.inputs, self.budget, self.allowance, figures, events)
+    }
+
+    /// What it would answer, and the locations that it visits.
+    fn visits(&self) -> (Done, Vec<u16>) {
+        visits(self.inputs, self.budget, self.allowance, &mut vec![0; self.size])
+    }
+}
+
+struct Harness {
+    other: &'static dyn Figures,
+    walker: &'static dyn Side,
+    processor: &'static dyn Processor,
+    exact: bool,
+    tally: Tally,
+}
+
+impl Compares for Harness {
+    fn tally(&mut self) -> &mut Tally {
+        &mut self.tally
+    }
+}
+
+impl Harness {
+    /// Compares one book; the figures become what this crate leaves.
+    fn add(&mut self, rng: &mut Rng, book: &Book, figures: &mut [u8]) -> Done {
+        let mut lent = Lent::new(rng, figures, self.exact);
+        let mut events = Lent::random(rng, book.size, self.exact);
+        let mut mine = events.before().to_vec();
+        let done = book.add(&Reference, figures, &mut mine);
+        let Inputs { table, tokens, answers } = book.inputs;
+        let read = [table, tokens, answers].map(|bytes| Lent::new(rng, bytes, self.exact));
+        let [table, tokens, answers] = read.each_ref().map(Lent::bytes);
+        let theirs =
+            Book { inputs: Inputs { table, tokens, answers }, ..*book }.add(self.other, lent.bytes_mut(), events.bytes_mut());
+        let same = done == theirs && lent.is(figures) && events.is(&mine) && read.iter().all(Lent::kept);
+        self.tally.expect(same, || {
+            let differ = |what, same| if same { String::new() } else { format!("; the {what} differ") };
+            let bytes = differ("figures", lent.is(figures)) + &differ("event buffers", events.is(&mine));
+            let before = counted(lent.before());
+            format!("{}{before}  rust:  {done:?}\n  other: {theirs:?}{bytes}\n{}", shown(book), counted(lent.bytes()))
+        });
+        self.alone(book, events.before(), &mine, done);
+        self.tally.met(format!("add {}", done.number));
+        done
+    }
+
+    /// A book that is added answers and writes as the whole call from a fresh walk; one that is not changes nothing.
+    fn alone(&mut self, book: &Book, before: &[u8], after: &[u8], done: Done) {
+        let mut events = before.to_vec();
+        let mut alone = Done { number: done.number, ..REFUSAL };
+        if ![REFUSED, PASSES].contains(&done.number) {
+            let mut walk = [0; WALK_BYTES];
+            self.walker.fresh(&mut walk, book.allowance);
+            alone = self.walker.whole(book.inputs, book.budget, &mut walk, &mut events);
+        }
+        let same = done == alone && after == events;
+        self.tally.expect(same, || format!("{}  added: {done:?}\n  alone: {alone:?}", shown(book)));
+    }
+
+    /// Compares what is said of a shelf.
+    fn shelf(&mut self, rng: &mut Rng, figures: &[u8]) -> Shelf {
+        let lent = Lent::new(rng, figures, self.exact);
+        let shelf = Reference.shelf(figures);
+        let theirs = self.other.shelf(lent.bytes());
+        self.tally
+            .expect(shelf == theirs && lent.kept(), || format!("{}  rust:  {shelf:?}\n  other: {theirs:?}", counted(figures)));
+        self.tally.met(format!("shelf {}", shelf.number));
+        shelf
+    }
+
+    /// Compares the rows of a text's rules; the number, and what this crate leaves.
+    fn rules(&mut self, rng: &mut Rng, text: &[u8], size: usize) -> (u16, Vec<[u64; 3]>) {
+        let lent_text = Lent::new(rng, text, self.exact);
+        let mut rows = Lent::random(rng, size, self.exact);
+        let mut mine = rows.before().to_vec();
+        let done = Reference.rules(text, &mut mine);
+        let theirs = self.other.rules(lent_text.bytes(), rows.bytes_mut());
+        let same = done == theirs && rows.is(&mine) && lent_text.kept();
+        self.tally.expect(same, || {
+            let differ = if rows.is(&mine) { "" } else { "; the rows differ" };
+            format!("  {size} bytes of rows\n  rust:  {done:?}\n  other: {theirs:?}{differ}\n  text \"{}\"", cut(text))
+        });
+        self.tally.met(format!("rules {}", done.0));
+        let number = |bytes: &[u8]| bytes.iter().fold(0, |sum, byte| sum << 8 | u64::from(*byte));
+        let row = |row: &[u8; ROW_BYTES]| [&row[..8], &row[8..16], &row[16..]].map(number);
+        (done.0, mine.as_chunks().0.iter().take(done.1 as usize).map(row).collect())
+    }
+}
+
+/// What a book was handed.
+fn shown(book: &Book) -> String {
+    let Book { inputs, budget, allowance, size } = book;
+    let list = |name: &str, bytes: &[u8]| format!("  {name} of {} bytes: {:?}\n", bytes.len(), words(bytes));
+    let lists = [("table", inputs.table), ("tokens", inputs.tokens), ("answers", inputs.answers)];
+    let lists: String = lists.iter().map(|(name, bytes)| list(name, bytes)).collect();
+    format!("  budget {budget}, allowance {allowance}, event buffer of {size} bytes\n{lists}")
+}
+
+/// The numbers of figures that are not 0, with their places.
+fn counted(bytes: &[u8]) -> String {
+    let numbers = bytes.as_chunks::<8>().0.iter().map(|number| u64::from_be_bytes(*number)).enumerate();
+    let some: Vec<(usize, u64)> = numbers.filter(|(_, number)| *number > 0).take(60).collect();
+    format!("  figures of {} bytes, from 0: {some:?}\n", bytes.len())
+}
+
+/// A text, escaped so that it can be read, cut where it is long.
+fn cut(text: &[u8]) -> String {
+    text[..text.len().min(1_500)].escape_ascii().to_string()
+}
+
+/// A number of figures.
+fn get(figures: &[u8], index: usize) -> u64 {
+    figures[8 * index..][..8].iter().fold(0, |sum, byte| sum << 8 | u64::from(*byte))
+}
+
+fn put(figures: &mut [u8], index: usize, number: u64) {
+    figures[8 * index..][..8].copy_from_slice(&number.to_be_bytes());
+}
+
+/// Words as bytes, now and then with an odd last one.
+fn odd(rng: &mut Rng, words: &[u16]) -> Vec<u8> {
+    let mut bytes = bytes(words);
+    if rng.once_in(3) {
+        bytes.push(rng.pick(&[0, 1, 9, 255]));
+    }
+    bytes
+}
+
+/// A table of any sort.
+fn any_table(rng: &mut Rng) -> Vec<u8> {
+    let table = match rng.below(10) {
+        0..=3 => random::structured(rng, 40),
+        4 | 5 => random::damaged(rng, 40),
+        6 | 7 => random::foreign(rng, 60),
+        8 => crowded::shared(rng, 40),
+        _ => {
+            // To the last location, and past it.
+            let mut table = vec![256; rng.within(4_094, 4_098)];
+            table[..2].copy_from_slice(&[1, rng.within(4_085, 4_093) as u16]);
+            *table.last_mut().expect("a word") = 9;
+            table
+        }
+    };
+    odd(rng, &table)
+}
+
+/// Tokens and answers that lead on in a table.
+fn feed(rng: &mut Rng, table: &[u8]) -> (Vec<u8>, Vec<u8>) {
+    let (tokens, answers) = random::lead(rng, table);
+    (odd(rng, &tokens), odd(rng, &answers))
+}
+
+/// A book whose budget and event buffer are cut anywhere, or large.
+fn cut_book<'a>(rng: &mut Rng, inputs: Inputs<'a>) -> Book<'a> {
+    let allowance = rng.pick(&[0, 0, 0, 1, 2, 30, 65_535]);
+    let roomy = Book { inputs, budget: BOUND, allowance, size: ROOMY };
+    let (done, _) = roomy.visits();
+    let budget = match rng.below(4) {
+        0 | 1 => rng.below(done.steps as usize + 3) as u64,
+        2 if done.number != 36 => rng.pick(&[1 << 32, 1 << 63, u64::MAX - 1, u64::MAX]),
+        _ => BOUND,
+    };
+    let size = if rng.once_in(2) { rng.below(6 * done.written as usize + 8) } else { ROOMY };
+    Book { budget, size, ..roomy }
+}
+
+/// Shelves from empty figures: the sums of all books, made from the list of them, in the end.
+fn shelves(h: &mut Harness, rng: &mut Rng) {
+    let table = any_table(rng);
+    let mut figures = vec![0; FIGURES_BYTES];
+    let mut all = Vec::new();
+    for _ in 0..rng.below(6) {
+        let (tokens, answers) = feed(rng, &table);
+        let book = cut_book(rng, Inputs { table: &table, tokens: &tokens, answers: &answers });
+        let (done, visited) = book.visits();
+        let added = h.add(rng, &book, &mut figures);
+        h.tally.expect(added == done, || format!("{}  {added:?}, not {done:?}", shown(&book)));
+        if visited.contains(&4_096) {
+            h.tally.met("location 4096".to_string());
+        }
+        all.push(visited);
+    }
+    h.tally.expect(figures == Sums::of(&all).encode(), || format!("  sums of {} books: {}", all.len(), counted(&figures)));
+    let shelf = h.shelf(rng, &figures);
+    let locations = all.concat();
+    let (books, total) = (all.len() as u64, locations.len() as u64);
+    let covered = locations.iter().collect::<BTreeSet<_>>().len() as u64;
+    let (mean, rest) = if books == 0 { (0, 0) } else { (total / books, total % books) };
+    let wanted = Shelf { number: 0, books, total, covered, mean, rest };
+    h.tally.expect(shelf == wanted, || format!("  {shelf:?}, not {wanted:?}"));
+    h.tally.met(format!("books {books}"));
+    if books > 0 && rest > 0 {
+        h.tally.met("a remainder".to_string());
+    }
+}
+
+/// Figures whose parts fit: of a few locations, with any books; now and then with as many books as there can be.
+fn made_up(rng: &mut Rng) -> Vec<u8> {
+    let mut counts: Vec<(u16, u64)> = Vec::new();
+    for _ in 0..rng.below(8) {
+        let location = if rng.once_in(2) { rng.pick(&LOCATIONS) } else { rng.within(1, MAX_TABLE) as u16 };
+        let bits = rng.within(4, 64);
+        if counts.iter().all(|(other, _)| *other != location) {
+            counts.push((location, rng.draw() >> bits.min(63)));
+        }
+    }
+    let books = rng.pick(&[1, 2, 3, 1 << 32, u64::MAX - 1, u64::MAX]);
+    Sums::made_up(&counts, books).encode()
+}
+
+/// The ways to damage figures; all but the last ones make parts that do not fit.
+const DAMAGES: [&str; 11] = [
+    "bit",
+    "count",
+    "count gone",
+    "count moved",
+    "no book",
+    "total by one",
+    "total bit",
+    "sum past 64 bits",
+    "no counts",
+    "books",
+    "any byte",
+];
+
+/// Damages figures so; whether there was something to damage.
+fn damage(rng: &mut Rng, figures: &mut [u8], sort: usize) -> bool {
+    let total = get(figures, figures::TOTAL);
+    let counts: Vec<usize> = (0..MAX_TABLE).filter(|index| get(figures, *index) > 0).collect();
+    let at = if rng.once_in(2) || counts.is_empty() { rng.below(MAX_TABLE) } else { rng.pick(&counts) };
+    let one = if rng.once_in(2) { 1 } else { u64::MAX };
+    match DAMAGES[sort] {
+        "bit" => {
+            let word = figures::COVERAGE + at / 64;
+            let bits = get(figures, word) ^ 1 << (at % 64);
+            put(figures, word, bits);
+        }
+        "count" => put(figures, at, get(figures, at).wrapping_add(one)),
+        "count gone" if get(figures, at) > 0 => put(figures, at, 0),
+        "count moved" if get(figures, at) > 0 => {
+            let to = (at + rng.within(1, MAX_TABLE - 1)) % MAX_TABLE;
+            let sum = get(figures, at) + get(figures, to);
+            put(figures, to, sum);
+            put(figures, at, 0);
+        }
+        "no book" if total > 0 => put(figures, figures::BOOKS, 0),
+        "total by one" => put(figures, figures::TOTAL, total.wrapping_add(one)),
+        "total bit" => put(figures, figures::TOTAL, total ^ 1 << rng.below(64)),
+        "sum past 64 bits" if counts.len() > 1 => {
+            // Twice 2^63: the sum is the same but for a carry.
+            for index in [counts[0], counts[counts.len() - 1]] {
+                put(figures, index, get(figures, index) ^ 1 << 63);
+            }
+        }
+        "no counts" if total > 0 => figures[..8 * figures::BOOKS].fill(0),
+        "books" => put(figures, figures::BOOKS, rng.draw() | 1),
+        "any byte" => figures[rng.below(FIGURES_BYTES)] ^= 1 << rng.below(8),
+        _ => return false,
+    }
+    true
+}
+
+/// Figures whose parts do not fit together: 21, also where 46 would come.
+fn damaged(h: &mut Harness, rng: &mut Rng) {
+    let table = any_table(rng);
+    let (tokens, answers) = feed(rng, &table);
+    let book = cut_book(rng, Inputs { table: &table, tokens: &tokens, answers: &answers });
+    let good = made_up(rng);
+    let shelf = h.shelf(rng, &good);
+    h.tally.expect(shelf.number == 0, || format!("  {shelf:?}\n{}", counted(&good)));
+    let passes =
+        Reference.add_book(book.inputs, book.budget, book.allowance, &mut good.clone(), &mut vec![0; book.size]).number == PASSES;
+    for (sort, name) in DAMAGES.iter().enumerate() {
+        let mut figures = good.clone();
+        if !damage(rng, &mut figures, sort) {
+            continue;
+        }
+        let shelf = h.shelf(rng, &figures);
+        let done = h.add(rng, &book, &mut figures);
+        if !["books", "any byte"].contains(name) {
+            h.tally.expect(shelf.number == REFUSED && done == REFUSAL, || format!("  {name}: {done:?}, {shelf:?}"));
+            h.tally.met(format!("damaged: {name}"));
+            if passes {
+                h.tally.met("21 before 46".to_string());
+            }
+        }
+    }
+}
+
+/// Figures so near 2^64 that the book just fits, or just not.
+fn edges(h: &mut Harness, rng: &mut Rng) {
+    let table = any_table(rng);
+    let (tokens, answers) = feed(rng, &table);
+    let book = cut_book(rng, Inputs { table: &table, tokens: &tokens, answers: &answers });
+    let (alone, visited) = book.visits();
+    let most = u64::MAX - alone.steps;
+    for total in [most.saturating_sub(1), most, most.saturating_add(1), most.saturating_add(2), u64::MAX, rng.draw() >> 8] {
+        let books = rng.pick(&[1, 2, 1_000, u64::MAX - 2, u64::MAX - 1, u64::MAX]);
+        // In one location that the book visits, or in several.
+        let one = if visited.is_empty() || rng.once_in(4) { rng.pick(&LOCATIONS) } else { rng.pick(&visited) };
+        let part = if rng.once_in(2) { 0 } else { rng.draw().min(total) };
+        let other = if one == 77 { 78 } else { 77 };
+        let mut figures = Sums::made_up(&[(one, total - part), (other, part)], books).encode();
+        let before = figures.clone();
+        let (by_total, by_books) = (total > most, books == u64::MAX);
+        let done = h.add(rng, &book, &mut figures);
+        let wanted = if by_total || by_books { Done { number: PASSES, ..REFUSAL } } else { alone };
+        h.tally.expect(done == wanted, || format!("{}  {done:?}, not {wanted:?}\n{}", shown(&book), counted(&before)));
+        h.tally.expect((figures == before) == (done.number == PASSES), || format!("  {done:?} changed {}", counted(&before)));
+        h.tally.met(format!("past by total {by_total}, by books {by_books}"));
+        if total == most && !by_books && alone.steps > 0 {
+            h.tally.met("just fits".to_string());
+        }
+        if done.number == PASSES {
+            h.tally.met(format!("46 before {}", alone.number));
+        } else if books == u64::MAX - 1 {
+            h.tally.met("the last book".to_string());
+        }
+        h.shelf(rng, &figures);
+    }
+}
+
+/// Figures of other lengths.
+fn lengths(h: &mut Harness, rng: &mut Rng) {
+    let table = any_table(rng);
+    let (tokens, answers) = feed(rng, &table);
+    let book = cut_book(rng, Inputs { table: &table, tokens: &tokens, answers: &answers });
+    let near: Vec<usize> = (FIGURES_BYTES - 9..=FIGURES_BYTES + 9).collect();
+    let near = rng.pick(&near);
+    for size in [near, rng.pick(&[0, 1, 8, 16, 32_768, 33_280, 33_288, 33_304, 2 * FIGURES_BYTES])] {
+        let mut figures = made_up(rng);
+        figures.resize(size, 0);
+        let shelf = h.shelf(rng, &figures);
+        let done = h.add(rng, &book, &mut figures);
+        let right = size == FIGURES_BYTES;
+        h.tally
+            .expect((shelf.number == 0) == right && (done.number != REFUSED) == right, || format!("  {done:?} for {size} bytes"));
+        h.tally.met(format!("length {right}"));
+    }
+}
+
+/// A text that is accepted.
+fn good(rng: &mut Rng) -> Vec<u8> {
+    let mut seed = Seed::new(rng.draw());
+    match rng.below(8) {
+        0 => programs::CHOICES.into(),
+        1 => {
+            let bytes = seed.within(1_024, 4_000);
+            programs::typical(&mut seed, bytes).text
+        }
+        _ => {
+            let size = 6 + seed.below(80);
+            let words = texts::good(&mut seed, size);
+            texts::join(&mut seed, &words)
+        }
+    }
+}
+
+/// Shelves over the table of an accepted program, taken rule by rule too: the same grand total.
+fn by_rule(h: &mut Harness, rng: &mut Rng) {
+    let text = good(rng);
+    let mut table = vec![0; 2 * MAX_TABLE];
+    let done = h.processor.process(&text, &mut table);
+    let words = done.words as usize;
+    h.tally.expect(done.number == 0, || format!("  {done:?} for \"{}\"", cut(&text)));
+    // The table alone, with zeros behind it, or with anything.
+    match rng.below(3) {
+        0 => table.truncate(2 * words),
+        1 => {}
+        _ => table[2 * words..].fill_with(|| rng.below(12) as u8),
+    }
+    let (mut figures, mut all) = (vec![0; FIGURES_BYTES], Vec::new());
+    for _ in 0..rng.within(1, 4) {
+        let (tokens, answers) = feed(rng, &table);
+        let book = cut_book(rng, Inputs { table: &table, tokens: &tokens, answers: &answers });
+        h.add(rng, &book, &mut figures);
+        all.push(book.visits().1);
+    }
+    let locations = all.concat();
+    let size = ROW_BYTES * 128 + rng.below(9);
+    let (number, rows) = h.rules(rng, &text, size);
+    h.tally.expect(number == 0, || format!("  the rules of an accepted text: {number}"));
+    let ends = rows.iter().skip(1).map(|row| row[2]).chain([words as u64 + 1]);
+    let mut total = 0;
+    for ((row, end), place) in rows.iter().zip(ends).zip(places(&text).unwrap_or_default()) {
+        let sum: u64 = (row[2]..end).map(|location| get(&figures, location as usize - 1)).sum();
+        let own = locations.iter().filter(|location| (place.location as u64..end).contains(&u64::from(**location))).count();
+        h.tally.expect(sum == own as u64, || format!("  the rule at {}: {sum}, not {own}\n  \"{}\"", place.location, cut(&text)));
+        total += sum;
+    }
+    let shelf = h.shelf(rng, &figures);
+    let same = total == shelf.total && total == locations.len() as u64;
+    h.tally.expect(same, || format!("  rule by rule {total}, book by book {shelf:?}\n  \"{}\"", cut(&text)));
+    h.tally.met(format!("rules of a program: {}", rows.len().min(4)));
+    if total > 0 {
+        h.tally.met("sums by rule".to_string());
+    }
+}
+
+/// The rows of a text with buffers around the right size; a refused text has the processor's number.
+fn rows(h: &mut Harness, rng: &mut Rng, text: &[u8]) {
+    let mut table = vec![0; 2 * MAX_TABLE];
+    let done = h.processor.process(text, &mut table);
+    let size = rng.pick(&[0, 7, 23, 24, 25, 48, ROW_BYTES * 128, ROW_BYTES * 128 + 5]);
+    let (number, found) = h.rules(rng, text, size);
+    if done.number != 0 {
+        h.tally.expect(number == done.number, || format!("  {number}, not {done:?}\n  \"{}\"", cut(text)));
+        if number == SHORT {
+            h.tally.met("20 by the table".to_string());
+        }
+        return;
+    }
+    h.tally.expect([0, SHORT].contains(&number), || format!("  {number}, not {done:?}\n  \"{}\"", cut(text)));
+    let (_, all) = h.rules(rng, text, ROW_BYTES * 129);
+    h.tally.expect(number != 0 || found == all, || format!("  {found:?} and {all:?}"));
+    let right = ROW_BYTES * all.len();
+    for size in [right - 1, right, right + 1] {
+        let (number, _) = h.rules(rng, text, size);
+        h.tally.expect((number == 0) == (size >= right), || format!("  {number} for {size} of {right} bytes"));
+    }
+    h.tally.met(format!("{} rules", all.len()));
+}
+
+/// The rows of texts of all sorts, accepted and refused.
+fn texts_of_all_sorts(h: &mut Harness, rng: &mut Rng) {
+    let mut seed = Seed::new(rng.draw());
+    for _ in 0..4 {
+        let size = 4 + seed.below(40);
+        let text = texts::text(&mut seed, size);
+        rows(h, rng, &text);
+        let sort = seed.below(faults::SORTS);
+        let text = faults::plant(&mut seed, sort).text;
+        rows(h, rng, &text);
+    }
+    let text = good(rng);
+    rows(h, rng, &text);
+    if rng.once_in(8) {
+        // As often as all others: the limits of the table's words and of the rules.
+        let limit = if seed.one_in(2) { 2 + seed.below(2) } else { seed.below(limits::LIMITS.len()) };
+        limits::samples(&mut seed, limit).iter().for_each(|sample| rows(h, rng, &sample.text));
+    }
+    if rng.once_in(40) {
+        limits::beyond().iter().for_each(|(text, _)| rows(h, rng, text));
+    }
+}
+
+const GROUPS: [Group<Harness>; 6] = [
+    ("shelves", shelves, 12),
+    ("figures whose parts do not fit", damaged, 3),
+    ("near 2^64", edges, 6),
+    ("other lengths", lengths, 4),
+    ("rule by rule", by_rule, 6),
+    ("rows of rules", texts_of_all_sorts, 2),
+];
+
+fn main() -> ExitCode {
+    let Some(options) = Options::read(SEEDS) else { return Options::usage("compare_figures") };
+    let mut h = Harness {
+        other: ffi::figures().unwrap_or(&Reference),
+        walker: ffi::library().unwrap_or(&ffi::Plain),
+        processor: ffi::processor().unwrap_or(&Reference),
+        exact: options.exact,
+        tally: Tally::default(),
+    };
+    println!("rust against {}, calls alone of {}", h.other.name(), h.walker.name());
+    harness::run(&mut h, &GROUPS, &options);
+    let least = options.least();
+    let named =
+        |kind: &str, numbers: &[u16]| -> Vec<String> { numbers.iter().map(|number| format!("{kind} {number}")).collect() };
+    h.tally.demand(least, &named("add", &[0, 21, 30, 31, 32, 33, 34, 35, 36, 37, 46]));
+    h.tally.demand(least, &named("shelf", &[0, 21]));
+    h.tally.demand(least, &named("rules", &[0, 1, 2, 3, 4, 5, 6, 7, 8, 9, 20]));
+    h.tally.demand(least, &named("books", &[0, 1, 2, 5]));
+    h.tally.demand(least, &named("location", &[4_096]));
+    let surely: Vec<String> = DAMAGES[..DAMAGES.len() - 2].iter().map(|name| format!("damaged: {name}")).collect();
+    h.tally.demand(least, &surely);
+    let both = [(true, true), (true, false), (false, true), (false, false)];
+    h.tally.demand(least, &both.map(|(total, books)| format!("past by total {total}, by books {books}")));
+    h.tally.demand(least, &named("46 before", &[0, 30, 31, 32, 33, 34, 35, 36, 37]));
+    h.tally.demand(least, &["just fits", "the last book", "21 before 46", "a remainder"].map(str::to_string));
+    h.tally.demand(least, &["length true", "length false", "sums by rule", "20 by the table"].map(str::to_string));
+    h.tally.demand(least, &[1, 2, 3, 4].map(|rules| format!("rules of a program: {rules}")));
+    h.tally.demand(least, &[1, 2, 127, 128].map(|rules| format!("{rules} rules")));
+    h.tally.end()
+}
