@@ -14,10 +14,10 @@ use Rattle.program.specs.Table.{sizePlain, sizeSelector, sizeAbsent, countLabel
 use Rattle.program.specs.Accepted.{NeedsLabel}
 use Rattle.program.proofs.Lengths.{length-labels, length-tableWords, length-absent, length-selector, length-plain, length-code, length-codes, length-alts, length-other, length-rules, length-table}
 use Rattle.cells.specs.Cells.{absentCell}
+use Rattle.chains.specs.Chain.{placed}
 use Rattle.emitter.specs.Words.{words, setWord, puts, cut}
 use Rattle.emitter.specs.Stands.{IsSel, sel-token, sel-rule, sel-op, sel-opWith, Labels, lab-none, lab-more, IsPlain, is-match, is-any, is-emit, is-error, is-exit, is-call, is-back, is-give, is-update, is-updateWith, Is, is-plain, is-cycle, is-choice, IsAlts, is-nil, is-alt, IsOther, is-stop, is-other, IsAll, is-done, is-cons}
-use Rattle.emitter.specs.Heads.{cellsTable, wordsTable, cellsOf, wordsOf, openAfter, labelsIn, labelsAt, chooses, insOf, plainOf, selOf, firsts, wordsIn, startOf, plainAt, selAt}
-use Rattle.emitter.specs.Work.{Scanned, AltsScanned, OtherScanned, ItemDone, Wrote, ListDone, ActDone, CycleDone, LabelsDone, TableDone, AltsDone, OtherDone, AbsentDone}
+use Rattle.emitter.specs.Heads.{labelsIn, labelsAt, chooses, insOf, plainOf, selOf, firsts, wordsIn, startOf, plainAt, selAt, called, calledBy}
 use Rattle.emitter.specs.declared.Item.{Item}
 
 length-cond : (b : Bool) (s t : List ℕ) → length t ≡ length s → length (cond b t s) ≡ length s
@@ -118,3 +118,18 @@ pub cell-there : (cs : List ℕ) (p : ℕ) → (getD cs p 0 ≡ 0 → ⊥) → p
 cell-there [] p h = absurd (h refl)
 cell-there (c ∷ cs) zero h = omega arith
 cell-there (c ∷ cs) (suc p) h = omega (arith, cell-there cs p h)
+
+-- the slots after an item
+pub called-open : (slots : List ℕ) (r place : ℕ) → getD slots r 0 < placed → called slots r place ≡ set slots r place
+unfolding called
+called-open slots r place h = ap (λ (b : Bool). cond b (set slots r place) slots) (lt-ltb (getD slots r 0) placed h)
+
+pub called-placed : (slots : List ℕ) (r place : ℕ) → placed ≤ getD slots r 0 → called slots r place ≡ slots
+unfolding called
+called-placed slots r place h = ap (λ (b : Bool). cond b (set slots r place) slots) (le-ltb (getD slots r 0) placed h)
+
+pub by-call : (k c : ℕ) (slots : List ℕ) (r place : ℕ) → k ≡ c → calledBy k c slots r place ≡ called slots r place
+by-call k c slots r place h = ap (λ (b : Bool). cond b (called slots r place) slots) (eq-eqb k c h)
+
+pub not-by-call : (k c : ℕ) (slots : List ℕ) (r place : ℕ) → (k ≡ c → ⊥) → calledBy k c slots r place ≡ slots
+not-by-call k c slots r place h = ap (λ (b : Bool). cond b (called slots r place) slots) (ne-eqb k c h)

@@ -4,18 +4,19 @@ use mathlib.Core.Path.{_≡_}
 use mathlib.Core.Bool.{Bool, true, false, _&&_}
 use mathlib.Core.List.{List, [], _∷_, _++_}
 use lib.Dec.{leb}
-use lib.ListN.{length, getD, drop, replicate}
+use lib.ListN.{length, getD, drop, replicate, set}
 use Rattle.base.specs.Common.{if_then_else_}
 use Rattle.base.specs.Tree.{plain, cycle, choice, done, _▸_, nil, alternative, absent, otherwise}
 use Rattle.program.specs.Program.{Act, Acts, Alts, Other, Rule, ruleOf, bodyOf}
-use Rattle.program.specs.Table.{sizeRule, sizeRules, codes, endWords, rulesWords, place, table}
+use Rattle.program.specs.Table.{sizeRules, table}
 use Rattle.program.specs.Accepted.{Oks}
 use Rattle.cells.specs.Cells.{rulesCells}
 use Rattle.machine.specs.Bytes.{count, bytesOf}
 use Rattle.emitter.specs.Stands.{IsAll}
-use Rattle.emitter.specs.Words.{puts}
-use Rattle.emitter.specs.Heads.{startOf}
-use Rattle.emitter.specs.Work.{Wrote}
+use Rattle.chains.specs.Marks.{marksRule}
+use Rattle.chains.specs.Chain.{placed}
+use Rattle.emitter.specs.Words.{words, puts}
+use Rattle.emitter.specs.Work.{Done, PatchDone}
 
 -- every alternative has a label, and fewer than 192 ("64 labels a choice")
 unfoldable mutual
@@ -80,26 +81,19 @@ pub record EmitDone (prog : List Rule) (old new : List ℕ) (fault size : ℕ) :
 unfoldable pub Emits : List ℕ → List ℕ → ℕ → List ℕ → List ℕ → ℕ → ℕ → Type 0
 Emits cells sorts rules old new fault size = (prog : List Rule) → CellsOf cells sorts rules prog → EmitDone prog old new fault size
 
--- each rule's location, where there is room for it, and the whole size
-pub record Located (prog : List Rule) (starts : List ℕ) (size : ℕ) : Type 0 where
-  pub words : size ≡ sizeRules prog
-  pub places : (r : ℕ) → r < length prog → r < length starts → getD starts r 0 ≡ place 1 prog r
-
-unfoldable pub Locates : List ℕ → List ℕ → ℕ → List ℕ → ℕ → Type 0
-Locates cells sorts rules starts size = (prog : List Rule) → CellsOf cells sorts rules prog → Located prog starts size
-
 -- Inside: rules one after the other, by places
 
 pub data IsRules (cs sorts : List ℕ) (n : ℕ) : ℕ → ℕ → List Rule → Type 0 where
   rules-none : {p r : ℕ} → IsRules cs sorts n p r []
   rules-more : {p r e : ℕ} {b : Rule} {bs : List Rule} → IsAll cs n p e (b .body) → getD sorts r 0 ≡ sortOf (b .valued) → IsRules cs sorts n e (r + 1) bs → IsRules cs sorts n p r (b ∷ bs)
 
-abbrev pub ruleWords : (ℕ → ℕ) → Rule → List ℕ
-ruleWords start b = codes start (b .body) 0 ++ endWords (b .valued)
+unfoldable pub RuleDone : List ℕ → ℕ → List ℕ → List ℕ → ℕ → ℕ → List ℕ → List ℕ → ℕ → ℕ → Type 0
+RuleDone cs p old new at sort slots slots′ p′ at′ = (n : ℕ) (b : Rule) (e : ℕ) → n ≤ length slots → IsAll cs n p e (b .body) → sort ≡ sortOf (b .valued) → Done (marksRule b) e old new at 0 slots slots′ p′ at′ 0
 
-unfoldable pub RuleDone : List ℕ → List ℕ → ℕ → List ℕ → List ℕ → ℕ → ℕ → ℕ → ℕ → Type 0
-RuleDone cs starts p old new at sort p′ at′ = (n : ℕ) (b : Rule) (e : ℕ) → IsAll cs n p e (b .body) → sort ≡ sortOf (b .valued) → at + sizeRule b < 65536
-    → Wrote (ruleWords (startOf starts) b) old new at at′ × (p′ ≡ e)
+-- rule r begins at `at`
+unfoldable pub PlaceDone : List ℕ → List ℕ → ℕ → List ℕ → List ℕ → ℕ → Type 0
+PlaceDone slots slots′ r old new at = (slots′ ≡ set slots r (placed + at + 1)) × PatchDone old new (getD slots r 0) (at + 1) 0
 
-unfoldable pub RulesDone : List ℕ → List ℕ → ℕ → List ℕ → List ℕ → List ℕ → Type 0
-RulesDone cs sorts rules starts old new = (n : ℕ) (prog : List Rule) → IsRules cs sorts n 0 0 prog → rules ≡ length prog → sizeRules prog < 65536 → new ≡ puts old 0 (rulesWords (startOf starts) prog)
+unfoldable pub RulesDone : List ℕ → List ℕ → ℕ → List ℕ → List ℕ → List ℕ → ℕ → Type 0
+RulesDone cs sorts rules slots old new size = (prog : List Rule) → IsRules cs sorts (length prog) 0 0 prog → rules ≡ length prog → slots ≡ replicate 128 0
+    → (size ≡ sizeRules prog) × (sizeRules prog ≤ words old → sizeRules prog ≤ 4096 → new ≡ puts old 0 (table prog))

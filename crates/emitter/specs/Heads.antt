@@ -1,29 +1,13 @@
--- What a construct's first cell tells: its cells, its words, the lists that it opens; and the words of a plain action or a selector.
+-- What a construct's first cell tells, and the words of a plain action or a selector.
 use Prim.Native.Nat.{ℕ, _+_, _*_, _-_}
 use mathlib.Core.Bool.{cond}
 use mathlib.Core.List.{List, [], _∷_}
 use lib.Dec.{eqb, ltb}
-use lib.ListN.{length, getD}
+use lib.ListN.{length, getD, set}
+use Rattle.machine.specs.Bytes.{wordsOf}
+use Rattle.chains.specs.Chain.{placed}
 use Rattle.emitter.specs.Words.{cut}
 use Rattle.emitter.specs.declared.Item.{Item}
-
--- by the cells below 15
-abbrev pub cellsTable : List ℕ
-cellsTable = 1 ∷ 1 ∷ 1 ∷ 2 ∷ 1 ∷ 2 ∷ 2 ∷ 1 ∷ 2 ∷ 1 ∷ 2 ∷ 2 ∷ 1 ∷ 1 ∷ 1 ∷ []
-
-abbrev pub wordsTable : List ℕ
-wordsTable = 0 ∷ 2 ∷ 2 ∷ 2 ∷ 1 ∷ 2 ∷ 2 ∷ 3 ∷ 2 ∷ 1 ∷ 3 ∷ 5 ∷ 1 ∷ 0 ∷ 4 ∷ []
-
--- 15 to 63 begin nothing; 64 and more is an alternative with that many labels more than 64
-unfoldable pub cellsOf : ℕ → ℕ
-cellsOf k = cond (ltb k 15) (getD cellsTable k 0) (cond (ltb k 64) 1 (cond (ltb k 256) (k - 63) (cond (ltb k 512) 1 (cond (ltb k 768) 2 (cond (ltb k 1024) 1 2)))))
-
-unfoldable pub wordsOf : ℕ → ℕ
-wordsOf k = cond (ltb k 15) (getD wordsTable k 0) (cond (ltb k 64) 0 (cond (ltb k 256) (2 * (k - 63)) (cond (ltb k 512) 1 (cond (ltb k 768) 3 (cond (ltb k 1024) 4 6)))))
-
--- lists open after it, of d before it
-unfoldable pub openAfter : ℕ → ℕ → ℕ
-openAfter k d = cond (eqb k 0) (d - 1) (cond (eqb k 2) (d + 1) (cond (eqb k 13) (d + 1) (cond (ltb k 64) d (cond (ltb k 256) (d + 1) d))))
 
 -- how many labels the alternative at a cell has, 0: it is none
 unfoldable pub labelsIn : ℕ → ℕ
@@ -70,7 +54,7 @@ firsts n a b d = cond (eqb n 0) [] (cond (eqb n 1) (a ∷ []) (cond (eqb n 2) (a
 abbrev pub wordsIn : Item → List ℕ
 wordsIn w = firsts (w .count) (w .a) (w .b) (w .d)
 
--- where rule r starts, as a word
+-- a call's word: where rule r starts, or its newest open call
 unfoldable pub startOf : List ℕ → ℕ → ℕ
 startOf starts r = cut (getD starts r 0)
 
@@ -79,3 +63,26 @@ plainAt cs starts p = plainOf (getD cs p 0) (getD cs (p + 1) 0) (startOf starts 
 
 unfoldable pub selAt : List ℕ → List ℕ → ℕ → Item
 selAt cs starts p = selOf (getD cs p 0) (getD cs (p + 1) 0) (startOf starts (getD cs (p + 1) 0))
+
+-- the slots after a call of rule r whose word stands at `place`
+unfoldable pub called : List ℕ → ℕ → ℕ → List ℕ
+called slots r place = cond (ltb (getD slots r 0) placed) (set slots r place) slots
+
+-- the same after an item whose first cell is k, where `call` is that of a call
+abbrev pub calledBy : ℕ → ℕ → List ℕ → ℕ → ℕ → List ℕ
+calledBy k call slots r place = cond (eqb k call) (called slots r place) slots
+
+unfoldable pub calledAt : List ℕ → ℕ → ℕ → List ℕ → ℕ → List ℕ
+calledAt cs p call slots place = calledBy (getD cs p 0) call slots (getD cs (p + 1) 0) place
+
+-- the next older word of a chain, 0: there is none
+unfoldable pub linkAt : List ℕ → ℕ → ℕ
+linkAt s i = cond (ltb (getD (wordsOf s) i 0) i) (getD (wordsOf s) i 0) 0
+
+-- what a jump's word counts from: k 0, the beginning; else the word itself
+unfoldable pub anchor : ℕ → ℕ → ℕ
+anchor k j = cond (eqb k 0) 0 j
+
+-- where the alternative starts that follows the one whose jump is `older`; 0: it is the first
+unfoldable pub behind : ℕ → ℕ → ℕ
+behind older from = cond (eqb older 0) from (older + 1)

@@ -1,15 +1,19 @@
--- What each function of the emitter does: on any cells it keeps to its bounds, and whatever stands there is written, or measured.
+-- What each function of the emitter does: on any cells it keeps to its bounds, and whatever stands there is written, open jumps in their chains.
 use Prim.Native.Nat.{ℕ, _+_, _*_, _-_, _<_, _≤_}
 use mathlib.Core.Path.{_≡_}
 use mathlib.Core.List.{List, [], _∷_, _++_}
-use lib.ListN.{length}
+use lib.ListN.{length, getD, set}
 use Rattle.base.specs.Tree.{cycle}
 use Rattle.program.specs.Program.{Selector, Act, Acts, Alts, Other}
-use Rattle.program.specs.Table.{sizeAbsent, countLabels, size, sizes, sizeAlts, sizeOther, labelWords, tableWords, absentWords, code, codes, codeAlts, codeOther, endWords}
-use Rattle.emitter.specs.Words.{puts}
+use Rattle.program.specs.Table.{countLabels, labelWords, absentWords}
+use Rattle.chains.specs.Marks.{Mark, knowns, marks, marksAll, marksAlts, marksOther}
+use Rattle.chains.specs.Chain.{Chain, patched, Grown}
+use Rattle.emitter.specs.Words.{words, puts}
 use Rattle.emitter.specs.Stands.{Labels, Is, IsAlts, IsOther, IsAll}
-use Rattle.emitter.specs.Heads.{startOf, wordsIn, plainAt, selAt}
+use Rattle.emitter.specs.Heads.{wordsIn, anchor}
+use Rattle.emitter.specs.Ends.{Entry, entries, Ends, heads, rowLength, rowWords}
 use Rattle.emitter.specs.declared.Item.{Item}
+use Rattle.emitter.specs.declared.Row.{Row}
 
 -- Bounds: a place in the cells and a place in the table; a cell gives fewer than 400 words
 
@@ -30,18 +34,6 @@ pub record Passed (cs : List ℕ) (p at p′ at′ : ℕ) : Type 0 where
   pub inside : p′ ≤ length cs
   pub few : at′ + 400 * p ≤ at + 400 * p′
 
--- Sizes
-
-unfoldable pub Scanned : List ℕ → ℕ → ℕ → ℕ → Type 0
-Scanned cs p p′ w = (n : ℕ) (q : Acts) (e : ℕ) → IsAll cs n p e q → (w ≡ sizes q) × (p′ ≡ e)
-
--- the alternatives from p on, up to the cell that ends them
-unfoldable pub AltsScanned : List ℕ → ℕ → ℕ → ℕ → ℕ → Type 0
-AltsScanned cs p p′ w k = (n : ℕ) (s : Selector) (q : Alts) (o : Other) (f e : ℕ) → IsAlts cs n p f q → IsOther cs n s f e o → (w ≡ sizeAlts q) × (k ≡ countLabels q) × (p′ ≡ f)
-
-unfoldable pub OtherScanned : List ℕ → ℕ → ℕ → Type 0
-OtherScanned cs p w = (n : ℕ) (s : Selector) (o : Other) (e : ℕ) → IsOther cs n s p e o → w ≡ sizeOther o (sizeAbsent s)
-
 -- Words
 
 pub record ItemDone (cs : List ℕ) (w : Item) (p at : ℕ) (old new : List ℕ) (p′ at′ : ℕ) : Type 0 where
@@ -52,46 +44,67 @@ pub record ItemDone (cs : List ℕ) (w : Item) (p at : ℕ) (old new : List ℕ)
   pub inside : p′ ≤ length cs
   pub few : w .count ≤ 3
 
-pub record Wrote (ws : List ℕ) (old new : List ℕ) (at at′ : ℕ) : Type 0 where
-  pub after : at′ ≡ at + length ws
-  pub wrote : new ≡ puts old at ws
+-- a chain's target is known: its words, and no others, are written
+unfoldable pub PatchDone : List ℕ → List ℕ → ℕ → ℕ → ℕ → Type 0
+PatchDone old new n to k = (base ws ps : List ℕ) → old ≡ puts base 0 ws → length ws ≤ words base → to < 65536 → Chain ws n ps → new ≡ puts base 0 (patched ws (λ j. to - anchor k j) ps)
 
--- an exit goes to x
-unfoldable pub ListDone : List ℕ → List ℕ → ℕ → List ℕ → List ℕ → ℕ → ℕ → ℕ → ℕ → Type 0
-ListDone cs starts p old new at x p′ at′ =
-    (n : ℕ) (q : Acts) (e m : ℕ) → IsAll cs n p e q → x ≡ at + sizes q + m → x < 65536
-    → Wrote (codes (startOf starts) q m) old new at at′ × (p′ ≡ e)
+-- the words ws of a buffer have grown by those of ms: in `Grown`, each chain is this part's open jumps, newest first, then the chain before
+pub record Extended (ms : List Mark) (base ws new : List ℕ) (x x′ : ℕ) (slots slots′ : List ℕ) : Type 0 where
+  pub now : List ℕ
+  pub wrote : new ≡ puts base 0 now
+  pub grown : Grown ms ws now x x′ slots slots′
 
-unfoldable pub ActDone : List ℕ → List ℕ → ℕ → List ℕ → List ℕ → ℕ → ℕ → ℕ → ℕ → Type 0
-ActDone cs starts p old new at x p′ at′ =
-    (n : ℕ) (a : Act) (e m : ℕ) → Is cs n p e a → x ≡ at + size a + m → x < 65536
-    → Wrote (code (startOf starts) a m) old new at at′ × (p′ ≡ e)
+-- "while the table fits"
+pub record Emitted (ms : List Mark) (old new : List ℕ) (at x x′ : ℕ) (slots slots′ : List ℕ) : Type 0 where
+  pub grow : (base ws : List ℕ) → old ≡ puts base 0 ws → length ws ≡ at → at + length ms ≤ words base → at + length ms < 65536 → Extended ms base ws new x x′ slots slots′
 
-unfoldable pub CycleDone : List ℕ → List ℕ → ℕ → List ℕ → List ℕ → ℕ → ℕ → ℕ → Type 0
-CycleDone cs starts p old new at p′ at′ =
-    (n : ℕ) (b : Acts) (e m : ℕ) → IsAll cs n (p + 1) e b → at + sizes b + 2 < 65536
-    → Wrote (code (startOf starts) (cycle b) m) old new at at′ × (p′ ≡ e)
+pub record Done (ms : List Mark) (e : ℕ) (old new : List ℕ) (at x : ℕ) (slots slots′ : List ℕ) (p′ at′ x′ : ℕ) : Type 0 where
+  pub next : p′ ≡ e
+  pub after : at′ ≡ at + length ms
+  pub emitted : Emitted ms old new at x x′ slots slots′
+
+-- the newest open exit was x, a slot for each of the n rules
+unfoldable pub ListDone : List ℕ → ℕ → List ℕ → List ℕ → ℕ → ℕ → List ℕ → List ℕ → ℕ → ℕ → ℕ → Type 0
+ListDone cs p old new at x slots slots′ p′ at′ x′ = (n : ℕ) (q : Acts) (e : ℕ) → n ≤ length slots → IsAll cs n p e q → Done (marksAll q) e old new at x slots slots′ p′ at′ x′
+
+unfoldable pub ActDone : List ℕ → ℕ → List ℕ → List ℕ → ℕ → ℕ → List ℕ → List ℕ → ℕ → ℕ → ℕ → Type 0
+ActDone cs p old new at x slots slots′ p′ at′ x′ = (n : ℕ) (a : Act) (e : ℕ) → n ≤ length slots → Is cs n p e a → Done (marks a) e old new at x slots slots′ p′ at′ x′
+
+unfoldable pub CycleDone : List ℕ → ℕ → List ℕ → List ℕ → ℕ → ℕ → List ℕ → List ℕ → ℕ → ℕ → ℕ → Type 0
+CycleDone cs p old new at x slots slots′ p′ at′ x′ = (n : ℕ) (b : Acts) (e : ℕ) → n ≤ length slots → IsAll cs n (p + 1) e b → Done (marks (cycle b)) e old new at x slots slots′ p′ at′ x′
 
 -- the choice table's entries of one alternative, which begins at `from`
 unfoldable pub LabelsDone : List ℕ → ℕ → ℕ → List ℕ → List ℕ → ℕ → ℕ → Type 0
 LabelsDone cs p j old new at from = (ls : List ℕ) (d k : ℕ) → Labels cs p ls → length ls ≡ j → at ≡ from + (d + k) → at + 2 * j < 65536 → new ≡ puts old at (labelWords d k ls)
 
--- the choice table's entries from at on, the alternatives from `from` on
-unfoldable pub TableDone : List ℕ → ℕ → List ℕ → List ℕ → ℕ → ℕ → Type 0
-TableDone cs p old new at from = (n : ℕ) (s : Selector) (q : Alts) (o : Other) (f e k : ℕ) → IsAlts cs n p f q → IsOther cs n s f e o → at ≡ from + (sizeAlts q + k) → at + 2 * countLabels q < 65536
-    → new ≡ puts old at (tableWords k q)
+-- the choice table's entries up to `end`; the ends are those from n on, the alternatives begin at `from`
+unfoldable pub TableDone : List ℕ → List ℕ → List ℕ → ℕ → ℕ → ℕ → Type 0
+TableDone cs old new n from end = (base ws : List ℕ) (es : List Entry) → old ≡ puts base 0 ws → Ends cs ws from n es → from ≤ length ws → length ws + rowLength es ≡ end → end ≤ words base → end < 65536
+    → new ≡ puts base 0 (patched ws (λ j. 1) (heads es) ++ rowWords es end)
 
--- an end goes to `end`, an exit to x
-unfoldable pub AltsDone : List ℕ → List ℕ → ℕ → List ℕ → List ℕ → ℕ → ℕ → ℕ → Type 0
-AltsDone cs starts p old new at x end = (n : ℕ) (s : Selector) (q : Alts) (o : Other) (f e r z : ℕ) → IsAlts cs n p f q → IsOther cs n s f e o
-    → x ≡ at + sizeAlts q + (z + r) → end ≡ at + sizeAlts q + z → x < 65536 → new ≡ puts old at (codeAlts (startOf starts) q r z)
+-- alternatives: their ends are a chain of their own
+pub record AltsExtended (cs : List ℕ) (ms : List Mark) (es : List Entry) (at end : ℕ) (base ws new : List ℕ) (x x′ : ℕ) (slots slots′ : List ℕ) : Type 0 where
+  pub now : List ℕ
+  pub wrote : new ≡ puts base 0 now
+  pub grown : Grown ms ws now x x′ slots slots′
+  pub ends : Ends cs now at end es
+
+pub record AltsEmitted (cs : List ℕ) (ms : List Mark) (es : List Entry) (old new : List ℕ) (at end x x′ : ℕ) (slots slots′ : List ℕ) : Type 0 where
+  pub grow : (base ws : List ℕ) → old ≡ puts base 0 ws → length ws ≡ at → at + length ms ≤ words base → at + length ms < 65536 → AltsExtended cs ms es at end base ws new x x′ slots slots′
+
+pub record Rowed (cs : List ℕ) (q : Alts) (f : ℕ) (old new : List ℕ) (at x : ℕ) (slots slots′ : List ℕ) (r : Row) : Type 0 where
+  pub next : r .p ≡ f
+  pub after : r .at ≡ at + length (marksAlts q)
+  pub count : r .labels ≡ countLabels q
+  pub emitted : AltsEmitted cs (marksAlts q) (entries at q) old new at (r .end) x (r .exit) slots slots′
+
+unfoldable pub AltsDone : List ℕ → ℕ → List ℕ → List ℕ → ℕ → ℕ → List ℕ → List ℕ → Row → Type 0
+AltsDone cs p old new at x slots slots′ r = (n : ℕ) (s : Selector) (q : Alts) (o : Other) (f e : ℕ) → 1 < at → n ≤ length slots → IsAlts cs n p f q → IsOther cs n s f e o → Rowed cs q f old new at x slots slots′ r
 
 -- otherwise, or what stands for it; v: the first label, `from`: where the alternatives begin
-unfoldable pub OtherDone : List ℕ → List ℕ → ℕ → List ℕ → List ℕ → ℕ → ℕ → ℕ → ℕ → ℕ → ℕ → Type 0
-OtherDone cs starts p old new at x v from p′ at′ = (n : ℕ) (s : Selector) (o : Other) (e m : ℕ) → IsOther cs n s p e o → x ≡ at + sizeOther o (sizeAbsent s) + m → x < 65536
-    → Wrote (codeOther (startOf starts) o m (absentWords s v (at + 3 - from))) old new at at′ × (p′ ≡ e)
+unfoldable pub OtherDone : List ℕ → ℕ → List ℕ → List ℕ → ℕ → ℕ → ℕ → ℕ → List ℕ → List ℕ → ℕ → ℕ → ℕ → Type 0
+OtherDone cs p old new at x v from slots slots′ p′ at′ x′ = (n : ℕ) (s : Selector) (o : Other) (e : ℕ) → n ≤ length slots → IsOther cs n s p e o → Done (marksOther o (absentWords s v (at + 3 - from))) e old new at x slots slots′ p′ at′ x′
 
 -- what stands for no otherwise
-unfoldable pub AbsentDone : List ℕ → List ℕ → ℕ → List ℕ → List ℕ → ℕ → ℕ → ℕ → ℕ → ℕ → Type 0
-AbsentDone cs starts p old new at v from p′ at′ = (n : ℕ) (s : Selector) (o : Other) (e m : ℕ) → IsOther cs n s p e o → at + sizeOther o (sizeAbsent s) < 65536
-    → Wrote (codeOther (startOf starts) o m (absentWords s v (at + 3 - from))) old new at at′ × (p′ ≡ e)
+unfoldable pub AbsentDone : List ℕ → ℕ → List ℕ → List ℕ → ℕ → ℕ → ℕ → ℕ → ℕ → Type 0
+AbsentDone cs p old new at v from p′ at′ = (n : ℕ) (s : Selector) (o : Other) (e x : ℕ) (slots : List ℕ) → IsOther cs n s p e o → Done (marksOther o (absentWords s v (at + 3 - from))) e old new at x slots slots p′ at′ x

@@ -4,11 +4,10 @@ ghost use mathlib.Core.Path.{_≡_};
 ghost use mathlib.Core.List.{[], _∷_};
 ghost use Prim.Native.Nat.{ℕ, _+_, _*_, _-_, _<_, _≤_};
 ghost use lib.ListN.{length, getD, replicate, set};
-ghost use Rattle.program.specs.Table.{rulesWords};
 ghost use Rattle.emitter.specs.Words.{words, setWord, puts, cut};
-ghost use Rattle.emitter.specs.Heads.{firsts, plainOf, plainAt, chooses, insOf, selOf, selAt, labelsIn, labelsAt, cellsOf, wordsOf, openAfter, startOf};
-ghost use Rattle.emitter.specs.Work.{Room, Moved, Passed, Scanned, AltsScanned, OtherScanned, ItemDone, ListDone, ActDone, CycleDone, LabelsDone, TableDone, AltsDone, OtherDone, AbsentDone};
-ghost use Rattle.emitter.specs.Emitted.{Emits, Locates, RuleDone, RulesDone, zeroedBytes};
+ghost use Rattle.emitter.specs.Heads.{firsts, plainOf, plainAt, chooses, insOf, selOf, selAt, labelsIn, labelsAt, startOf, calledBy, calledAt, linkAt, anchor, behind};
+ghost use Rattle.emitter.specs.Work.{Room, Moved, Passed, ItemDone, PatchDone, ListDone, ActDone, CycleDone, LabelsDone, TableDone, AltsDone, OtherDone, AbsentDone};
+ghost use Rattle.emitter.specs.Emitted.{Emits, RuleDone, PlaceDone, RulesDone, zeroedBytes};
 
 // Writing words: past the last whole word nothing is written.
 
@@ -67,10 +66,11 @@ fn put_span(out: &mut [u8], at: usize, a: u16, to: usize, from: usize)
     put_two(out, at, a, span(to, from));
 }
 
-// A place in the cells and a place in the table.
+// A place in the cells, a place in the table, and the newest open exit of the cycle around it, 0: none.
 pub struct Spot {
     pub p: usize,
     pub at: usize,
+    pub exit: usize,
 }
 
 // The element at i, 0 past the end.
@@ -92,11 +92,71 @@ fn least(a: usize, b: usize) -> usize
     if a < b { a } else { b }
 }
 
-// Where rule i starts, as a word.
-fn start_at(starts: &[usize], i: usize) -> u16
-    ensures { λ r. ⌜ r ≡ startOf (now (starts .entry)) i ⌝ }
+// A rule's slot: its newest open call, 0: none, and once the rule is placed its location and PLACED.
+const PLACED: usize = 65536;
+
+fn slot(slots: &[usize], r: usize) -> usize
+    ensures { λ n. ⌜ n ≡ getD (now (slots .entry)) r 0 ⌝ }
 {
-    if i < starts.len() { low(starts[i]) } else { 0 }
+    if r < slots.len() { slots[r] } else { 0 }
+}
+
+fn put_slot(slots: &mut [usize], r: usize, n: usize)
+    ensures { λ _. ⌜ now (slots .exit) ≡ set (now (slots .entry)) r n ⌝ }
+{
+    if r < slots.len() {
+        slots[r] = n;
+    }
+}
+
+// The word of a call of rule r: its location, or the next older open call.
+fn start_at(slots: &[usize], r: usize) -> u16
+    ensures { λ w. ⌜ w ≡ startOf (now (slots .entry)) r ⌝ }
+{
+    low(slot(slots, r))
+}
+
+// After an item whose first cell is k, a call if that is `call`, of rule r and with its word at `place`: that is the rule's newest open call, if it is
+// not placed.
+fn call_at(slots: &mut [usize], k: u16, call: u16, r: usize, place: usize)
+    ensures { λ _. ⌜ now (slots .exit) ≡ calledBy k call (now (slots .entry)) r place ⌝ }
+{
+    if k == call {
+        if slot(slots, r) < PLACED {
+            put_slot(slots, r, place);
+        }
+    }
+}
+
+// The next older word of a chain, 0: there is none.
+fn older_at(out: &[u8], i: usize) -> usize
+    ensures { λ r. ⌜ (r ≡ linkAt (now (out .entry)) i) × (r ≤ i) × (0 < i → r < i) ⌝ }
+{
+    let w = wide(machine::word(out, i));
+    if w < i { w } else { 0 }
+}
+
+// What a jump's word is to hold: the distance from it, or the location itself.
+const LOCATION: usize = 0;
+
+const DISTANCE: usize = 1;
+
+fn anchor(k: usize, j: usize) -> usize
+    ensures { λ r. ⌜ r ≡ anchor k j ⌝ }
+{
+    if k == LOCATION { 0 } else { j }
+}
+
+// The target of the chain from `newest` on is known: each of its words gets its distance or location.
+fn patch(out: &mut [u8], newest: usize, to: usize, k: usize)
+    ensures { λ _. ⌜ PatchDone (now (out .entry)) (now (out .exit)) newest to k ⌝ }
+{
+    let mut j = newest;
+    while 0 < j {
+        let older = older_at(out, j);
+        put_word(out, j, span(to, anchor(k, j)));
+        j = older;
+    }
 }
 
 // A plain action or a selector: how many cells it takes, and its words, at most three.
@@ -194,109 +254,28 @@ fn put_some(out: &mut [u8], at: usize, n: usize, a: u16, b: u16, d: u16)
     put_three(out, at, a, b, d);
 }
 
-fn emit_plain(cells: &[u16], starts: &[usize], p: usize, out: &mut [u8], at: usize) -> Spot
+fn emit_plain(
+    cells: &[u16],
+    slots: &mut [usize],
+    p: usize,
+    out: &mut [u8],
+    at: usize,
+    x: usize,
+) -> Spot
     requires { ⌜ Room (now cells) p at × (p < length (now cells)) ⌝ }
-    ensures { λ r. ⌜ ItemDone (now (cells .entry)) (plainAt (now (cells .entry)) (now (starts .entry)) p) p at (now (out .entry)) (now (out .exit)) (r .p) (r .at) ⌝ }
+    ensures { λ r. ⌜ ItemDone (now (cells .entry)) (plainAt (now (cells .entry)) (now (slots .entry)) p) p at (now (out .entry)) (now (out .exit)) (r .p) (r .at) ⌝ }
+    ensures { λ r. ⌜ (now (slots .exit) ≡ calledAt (now (cells .entry)) p 8 (now (slots .entry)) (at + 1)) × (r .exit ≡ x) ⌝ }
 {
+    let k = cell(cells, p);
     let v = cell(cells, p + 1);
-    let w = plain_of(cell(cells, p), v, start_at(starts, wide(v)));
+    let r = wide(v);
+    let w = plain_of(k, v, start_at(slots, r));
     put_some(out, at, w.count, w.a, w.b, w.d);
+    call_at(slots, k, 8, r, at + 1);
     Spot {
         p: least(p + w.cells, cells.len()),
         at: at + w.count,
-    }
-}
-
-// The cells, the words and the open lists after a construct's head, by its first cell.
-const CELLS: [u8; 15] = [1, 1, 1, 2, 1, 2, 2, 1, 2, 1, 2, 2, 1, 1, 1];
-
-const WORDS: [u8; 15] = [0, 2, 2, 2, 1, 2, 2, 3, 2, 1, 3, 5, 1, 0, 4];
-
-fn small(x: u8) -> usize
-    ensures { λ r. ⌜ (r ≡ x) × (r < 256) ⌝ }
-{
-    x as usize
-}
-
-fn cells_of(k: u16) -> usize
-    ensures { λ r. ⌜ r ≡ cellsOf k ⌝ }
-{
-    if k < 15 {
-        return small(CELLS[wide(k)]);
-    }
-    if k < 64 {
-        return 1;
-    }
-    if k < 256 {
-        return wide(k - 63);
-    }
-    if k < 512 {
-        return 1;
-    }
-    if k < 768 {
-        return 2;
-    }
-    if k < 1024 { 1 } else { 2 }
-}
-
-fn words_of(k: u16) -> usize
-    ensures { λ r. ⌜ r ≡ wordsOf k ⌝ }
-{
-    if k < 15 {
-        return small(WORDS[wide(k)]);
-    }
-    if k < 64 {
-        return 0;
-    }
-    if k < 256 {
-        return 2 * wide(k - 63);
-    }
-    if k < 512 {
-        return 1;
-    }
-    if k < 768 {
-        return 3;
-    }
-    if k < 1024 { 4 } else { 6 }
-}
-
-fn open_after(k: u16, d: usize) -> usize
-    requires { ⌜ (0 < d) × (d < 2000000000) ⌝ }
-    ensures { λ r. ⌜ r ≡ openAfter k d ⌝ }
-{
-    if k == 0 {
-        return d - 1;
-    }
-    if k == 2 {
-        return d + 1;
-    }
-    if k == 13 {
-        return d + 1;
-    }
-    if k < 64 {
-        return d;
-    }
-    if k < 256 { d + 1 } else { d }
-}
-
-// The words of the list of actions at p, and where it ends: one pass over its cells.
-fn scan(cells: &[u16], p: usize) -> Spot
-    requires { ⌜ Room (now cells) p 0 ⌝ }
-    ensures { λ r. ⌜ Scanned (now (cells .entry)) p (r .p) (r .at) ⌝ }
-    ensures { λ r. ⌜ Moved (now (cells .entry)) p 0 (r .p) (r .at) ⌝ }
-{
-    let mut q = p;
-    let mut w = 0;
-    let mut d = 1;
-    while 0 < d {
-        let k = cell(cells, q);
-        d = open_after(k, d);
-        w = w + words_of(k);
-        q = q + cells_of(k);
-    }
-    Spot {
-        p: least(q, cells.len()),
-        at: w,
+        exit: x,
     }
 }
 
@@ -316,36 +295,6 @@ fn labels_at(cells: &[u16], p: usize) -> usize
 {
     let j = labels_in(cell(cells, p));
     if p + j < cells.len() { j } else { 0 }
-}
-
-// Alternatives: where they end, their words, their labels.
-pub struct Sizes {
-    pub p: usize,
-    pub words: usize,
-    pub labels: usize,
-}
-
-fn scan_alts(cells: &[u16], p: usize) -> Sizes
-    requires { ⌜ Room (now cells) p 0 ⌝ }
-    ensures { λ r. ⌜ AltsScanned (now (cells .entry)) p (r .p) (r .words) (r .labels) ⌝ }
-    ensures { λ r. ⌜ Moved (now (cells .entry)) p 0 (r .p) (r .words + 2 * r .labels) ⌝ }
-{
-    let mut q = p;
-    let mut w = 0;
-    let mut n = 0;
-    let mut j = labels_at(cells, q);
-    while 0 < j {
-        let s = scan(cells, q + 1 + j);
-        w = w + s.at + 2;
-        n = n + j;
-        q = s.p;
-        j = labels_at(cells, q);
-    }
-    Sizes {
-        p: q,
-        words: w,
-        labels: n,
-    }
 }
 
 // The selector's words.
@@ -389,16 +338,28 @@ fn sel_of(k: u16, v: u16, to: u16) -> Item
     }
 }
 
-fn emit_sel(cells: &[u16], starts: &[usize], p: usize, out: &mut [u8], at: usize) -> Spot
+fn emit_sel(
+    cells: &[u16],
+    slots: &mut [usize],
+    p: usize,
+    out: &mut [u8],
+    at: usize,
+    x: usize,
+) -> Spot
     requires { ⌜ Room (now cells) p at × (p < length (now cells)) ⌝ }
-    ensures { λ r. ⌜ ItemDone (now (cells .entry)) (selAt (now (cells .entry)) (now (starts .entry)) p) p at (now (out .entry)) (now (out .exit)) (r .p) (r .at) ⌝ }
+    ensures { λ r. ⌜ ItemDone (now (cells .entry)) (selAt (now (cells .entry)) (now (slots .entry)) p) p at (now (out .entry)) (now (out .exit)) (r .p) (r .at) ⌝ }
+    ensures { λ r. ⌜ (now (slots .exit) ≡ calledAt (now (cells .entry)) p 11 (now (slots .entry)) (at + 1)) × (r .exit ≡ x) ⌝ }
 {
+    let k = cell(cells, p);
     let v = cell(cells, p + 1);
-    let w = sel_of(cell(cells, p), v, start_at(starts, wide(v)));
+    let r = wide(v);
+    let w = sel_of(k, v, start_at(slots, r));
     put_some(out, at, w.count, w.a, w.b, w.d);
+    call_at(slots, k, 11, r, at + 1);
     Spot {
         p: least(p + w.cells, cells.len()),
         at: at + w.count,
+        exit: x,
     }
 }
 
@@ -418,23 +379,36 @@ fn emit_labels(cells: &[u16], p: usize, j: usize, out: &mut [u8], at: usize, fro
     }
 }
 
-// The choice table's entries.
-fn emit_table(cells: &[u16], p: usize, out: &mut [u8], at: usize, from: usize)
-    requires { ⌜ Room (now cells) p 0 × (at ≤ 1060000000) × (from ≤ at) ⌝ }
-    ensures { λ _. ⌜ TableDone (now (cells .entry)) p (now (out .entry)) (now (out .exit)) at from ⌝ }
+// Where the alternative starts that follows the one whose jump is `older`.
+fn behind(older: usize, from: usize) -> usize
+    requires { ⌜ older < 2000000000 ⌝ }
+    ensures { λ r. ⌜ r ≡ behind older from ⌝ }
 {
-    let mut q = p;
-    let mut l = at;
-    let mut f = from;
-    let mut j = labels_at(cells, q);
+    if older == 0 { from } else { older + 1 }
+}
+
+fn less(a: usize, b: usize) -> usize
+    ensures { λ r. ⌜ r ≡ a - b ⌝ }
+{
+    if b < a { a - b } else { 0 }
+}
+
+// The choice table's entries, the last alternative's first: the chain of ends leads from it to the first one. The word before an end has the cell
+// of its alternative, and gets its instruction.
+fn emit_table(cells: &[u16], out: &mut [u8], newest: usize, from: usize, end: usize)
+    requires { ⌜ (newest < 2000000000) × (end < 1100000000) ⌝ }
+    ensures { λ _. ⌜ TableDone (now (cells .entry)) (now (out .entry)) (now (out .exit)) newest from end ⌝ }
+{
+    let mut j = newest;
+    let mut l = end;
     while 0 < j {
-        let first = q + 1;
-        emit_labels(cells, first, j, out, l, f);
-        let s = scan(cells, first + j);
-        l = l + 2 * j;
-        f = f + s.at + 2;
-        q = s.p;
-        j = labels_at(cells, q);
+        let head = wide(machine::word(out, j - 1));
+        let n = labels_at(cells, head);
+        let older = older_at(out, j);
+        l = less(l, 2 * n);
+        emit_labels(cells, head + 1, n, out, l, behind(older, from));
+        put_word(out, j - 1, 1);
+        j = older;
     }
 }
 
@@ -457,33 +431,19 @@ fn ins_of(k: u16) -> u16
     if k == 7 { 7 } else { 11 }
 }
 
-// The words of otherwise, or of what stands for it.
-fn size_other(cells: &[u16], p: usize) -> usize
-    requires { ⌜ Room (now cells) p 0 ⌝ }
-    ensures { λ r. ⌜ OtherScanned (now (cells .entry)) p r ⌝ }
-    ensures { λ r. ⌜ r < 100000000 ⌝ }
-{
-    let k = cell(cells, p);
-    if k == 13 {
-        let s = scan(cells, least(p + 1, cells.len()));
-        return s.at;
-    }
-    if k == 14 { 4 } else { 1 }
-}
-
 // What stands for no otherwise: the first label's token and back to its alternative, or the end of the choice.
 fn emit_absent(
     cells: &[u16],
-    starts: &[usize],
     p: usize,
     out: &mut [u8],
     at: usize,
+    x: usize,
     v: u16,
     from: usize,
 ) -> Spot
     requires { ⌜ Room (now cells) p 0 × (at < 1100000000) ⌝ }
-    ensures { λ r. ⌜ ((getD (now (cells .entry)) p 0 ≡ 13 → ⊥) → AbsentDone (now (cells .entry)) (now (starts .entry)) p (now (out .entry)) (now (out .exit)) at v from (r .p) (r .at)) ⌝ }
-    ensures { λ r. ⌜ Moved (now (cells .entry)) p (at + 4) (r .p) (r .at) ⌝ }
+    ensures { λ r. ⌜ ((getD (now (cells .entry)) p 0 ≡ 13 → ⊥) → AbsentDone (now (cells .entry)) p (now (out .entry)) (now (out .exit)) at v from (r .p) (r .at)) ⌝ }
+    ensures { λ r. ⌜ Moved (now (cells .entry)) p (at + 4) (r .p) (r .at) × (r .exit ≡ x) ⌝ }
 {
     let next = least(p + 1, cells.len());
     let k = cell(cells, p);
@@ -493,99 +453,151 @@ fn emit_absent(
         return Spot {
             p: next,
             at: at + 4,
+            exit: x,
         };
     }
     put_one(out, at, 12);
     Spot {
         p: next,
         at: at + 1,
+        exit: x,
     }
 }
 
-fn emit_list(cells: &[u16], starts: &[usize], p: usize, out: &mut [u8], at: usize, x: usize) -> Spot
-    requires { ⌜ Room (now cells) p at ⌝ }
-    ensures { λ r. ⌜ ListDone (now (cells .entry)) (now (starts .entry)) p (now (out .entry)) (now (out .exit)) at x (r .p) (r .at) ⌝ }
-    ensures { λ r. ⌜ Moved (now (cells .entry)) p at (r .p) (r .at) ⌝ }
+fn emit_list(
+    cells: &[u16],
+    slots: &mut [usize],
+    p: usize,
+    out: &mut [u8],
+    at: usize,
+    x: usize,
+) -> Spot
+    requires { ⌜ Room (now cells) p at × (x < 2000000000) ⌝ }
+    ensures { λ r. ⌜ ListDone (now (cells .entry)) p (now (out .entry)) (now (out .exit)) at x (now (slots .entry)) (now (slots .exit)) (r .p) (r .at) (r .exit) ⌝ }
+    ensures { λ r. ⌜ Moved (now (cells .entry)) p at (r .p) (r .at) × (r .exit < 2000000000) ⌝ }
 {
     let mut q = p;
     let mut l = at;
+    let mut e = x;
     let mut k = cell(cells, q);
     while k != 0 {
-        let s = emit_act(cells, starts, q, out, l, x);
+        let s = emit_act(cells, slots, q, out, l, e);
         q = s.p;
         l = s.at;
+        e = s.exit;
         k = cell(cells, q);
     }
     Spot {
         p: least(q + 1, cells.len()),
         at: l,
+        exit: e,
     }
 }
 
-fn emit_act(cells: &[u16], starts: &[usize], p: usize, out: &mut [u8], at: usize, x: usize) -> Spot
-    requires { ⌜ Room (now cells) p at × (p < length (now cells)) ⌝ }
-    ensures { λ r. ⌜ ActDone (now (cells .entry)) (now (starts .entry)) p (now (out .entry)) (now (out .exit)) at x (r .p) (r .at) ⌝ }
-    ensures { λ r. ⌜ Passed (now (cells .entry)) p at (r .p) (r .at) ⌝ }
-{
-    let k = cell(cells, p);
-    if k == 1 {
-        put_span(out, at, 1, x, at + 1);
-        return Spot {
-            p: p + 1,
-            at: at + 2,
-        };
-    }
-    if k == 2 {
-        return emit_cycle(cells, starts, p, out, at);
-    }
-    if chooses(k) == 1 {
-        return emit_choice(cells, starts, p, out, at, x);
-    }
-    emit_plain(cells, starts, p, out, at)
-}
-
-fn emit_cycle(cells: &[u16], starts: &[usize], p: usize, out: &mut [u8], at: usize) -> Spot
-    requires { ⌜ Room (now cells) p at × (p < length (now cells)) ⌝ }
-    ensures { λ r. ⌜ CycleDone (now (cells .entry)) (now (starts .entry)) p (now (out .entry)) (now (out .exit)) at (r .p) (r .at) ⌝ }
-    ensures { λ r. ⌜ Passed (now (cells .entry)) p at (r .p) (r .at) ⌝ }
-{
-    let body = p + 1;
-    let w = scan(cells, body);
-    let s = emit_list(cells, starts, body, out, at, at + w.at + 2);
-    put_span(out, s.at, 2, s.at + 1, at);
-    Spot {
-        p: s.p,
-        at: s.at + 2,
-    }
-}
-
-fn emit_alts(
+fn emit_act(
     cells: &[u16],
-    starts: &[usize],
+    slots: &mut [usize],
     p: usize,
     out: &mut [u8],
     at: usize,
     x: usize,
-    end: usize,
-)
-    requires { ⌜ Room (now cells) p at ⌝ }
-    ensures { λ _. ⌜ AltsDone (now (cells .entry)) (now (starts .entry)) p (now (out .entry)) (now (out .exit)) at x end ⌝ }
+) -> Spot
+    requires { ⌜ Room (now cells) p at × (p < length (now cells)) × (x < 2000000000) ⌝ }
+    ensures { λ r. ⌜ ActDone (now (cells .entry)) p (now (out .entry)) (now (out .exit)) at x (now (slots .entry)) (now (slots .exit)) (r .p) (r .at) (r .exit) ⌝ }
+    ensures { λ r. ⌜ Passed (now (cells .entry)) p at (r .p) (r .at) × (r .exit < 2000000000) ⌝ }
+{
+    let k = cell(cells, p);
+    if k == 1 {
+        put_two(out, at, 1, low(x));
+        return Spot {
+            p: p + 1,
+            at: at + 2,
+            exit: at + 1,
+        };
+    }
+    if k == 2 {
+        return emit_cycle(cells, slots, p, out, at, x);
+    }
+    if chooses(k) == 1 {
+        return emit_choice(cells, slots, p, out, at, x);
+    }
+    emit_plain(cells, slots, p, out, at, x)
+}
+
+// A cycle's own exits are a chain of its own.
+fn emit_cycle(
+    cells: &[u16],
+    slots: &mut [usize],
+    p: usize,
+    out: &mut [u8],
+    at: usize,
+    x: usize,
+) -> Spot
+    requires { ⌜ Room (now cells) p at × (p < length (now cells)) × (x < 2000000000) ⌝ }
+    ensures { λ r. ⌜ CycleDone (now (cells .entry)) p (now (out .entry)) (now (out .exit)) at x (now (slots .entry)) (now (slots .exit)) (r .p) (r .at) (r .exit) ⌝ }
+    ensures { λ r. ⌜ Passed (now (cells .entry)) p at (r .p) (r .at) × (r .exit < 2000000000) ⌝ }
+{
+    let s = emit_list(cells, slots, p + 1, out, at, 0);
+    let end = s.at + 2;
+    put_span(out, s.at, 2, s.at + 1, at);
+    patch(out, s.exit, end, DISTANCE);
+    Spot {
+        p: s.p,
+        at: end,
+        exit: x,
+    }
+}
+
+// Alternatives: where they end, the newest open exit and end, their labels.
+pub struct Row {
+    pub p: usize,
+    pub at: usize,
+    pub exit: usize,
+    pub end: usize,
+    pub labels: usize,
+}
+
+// Behind each alternative stand its first cell, for the choice table, and the end before it.
+fn emit_alts(
+    cells: &[u16],
+    slots: &mut [usize],
+    p: usize,
+    out: &mut [u8],
+    at: usize,
+    x: usize,
+) -> Row
+    requires { ⌜ Room (now cells) p at × (x < 2000000000) ⌝ }
+    ensures { λ r. ⌜ AltsDone (now (cells .entry)) p (now (out .entry)) (now (out .exit)) at x (now (slots .entry)) (now (slots .exit)) r ⌝ }
+    ensures { λ r. ⌜ Moved (now (cells .entry)) p at (r .p) (r .at + 2 * r .labels) × (r .exit < 2000000000) × (r .end < 2000000000) ⌝ }
 {
     let mut q = p;
     let mut l = at;
+    let mut e = x;
+    let mut end = 0;
+    let mut n = 0;
     let mut j = labels_at(cells, q);
     while 0 < j {
-        let s = emit_list(cells, starts, q + 1 + j, out, l, x);
-        put_span(out, s.at, 1, end, s.at + 1);
+        let s = emit_list(cells, slots, q + 1 + j, out, l, e);
+        put_two(out, s.at, low(q), low(end));
+        end = s.at + 1;
+        n = n + j;
         q = s.p;
         l = s.at + 2;
+        e = s.exit;
         j = labels_at(cells, q);
+    }
+    Row {
+        p: q,
+        at: l,
+        exit: e,
+        end: end,
+        labels: n,
     }
 }
 
 fn emit_other(
     cells: &[u16],
-    starts: &[usize],
+    slots: &mut [usize],
     p: usize,
     out: &mut [u8],
     at: usize,
@@ -593,51 +605,52 @@ fn emit_other(
     v: u16,
     from: usize,
 ) -> Spot
-    requires { ⌜ Room (now cells) p at ⌝ }
-    ensures { λ r. ⌜ OtherDone (now (cells .entry)) (now (starts .entry)) p (now (out .entry)) (now (out .exit)) at x v from (r .p) (r .at) ⌝ }
-    ensures { λ r. ⌜ Moved (now (cells .entry)) p (at + 4) (r .p) (r .at) ⌝ }
+    requires { ⌜ Room (now cells) p at × (x < 2000000000) ⌝ }
+    ensures { λ r. ⌜ OtherDone (now (cells .entry)) p (now (out .entry)) (now (out .exit)) at x v from (now (slots .entry)) (now (slots .exit)) (r .p) (r .at) (r .exit) ⌝ }
+    ensures { λ r. ⌜ Moved (now (cells .entry)) p (at + 4) (r .p) (r .at) × (r .exit < 2000000000) ⌝ }
 {
     if cell(cells, p) == 13 {
-        return emit_list(cells, starts, p + 1, out, at, x);
+        return emit_list(cells, slots, p + 1, out, at, x);
     }
-    emit_absent(cells, starts, p, out, at, v, from)
+    emit_absent(cells, p, out, at, x, v, from)
 }
 
 fn emit_choice(
     cells: &[u16],
-    starts: &[usize],
+    slots: &mut [usize],
     p: usize,
     out: &mut [u8],
     at: usize,
     x: usize,
 ) -> Spot
-    requires { ⌜ Room (now cells) p at × (p < length (now cells)) × (chooses (getD (now cells) p 0) ≡ 1) ⌝ }
-    ensures { λ r. ⌜ ActDone (now (cells .entry)) (now (starts .entry)) p (now (out .entry)) (now (out .exit)) at x (r .p) (r .at) ⌝ }
-    ensures { λ r. ⌜ Passed (now (cells .entry)) p at (r .p) (r .at) ⌝ }
+    requires { ⌜ Room (now cells) p at × (p < length (now cells)) × (chooses (getD (now cells) p 0) ≡ 1) × (x < 2000000000) ⌝ }
+    ensures { λ r. ⌜ ActDone (now (cells .entry)) p (now (out .entry)) (now (out .exit)) at x (now (slots .entry)) (now (slots .exit)) (r .p) (r .at) (r .exit) ⌝ }
+    ensures { λ r. ⌜ Passed (now (cells .entry)) p at (r .p) (r .at) × (r .exit < 2000000000) ⌝ }
 {
     let ins = ins_of(cell(cells, p));
-    let a = emit_sel(cells, starts, p, out, at);
+    let a = emit_sel(cells, slots, p, out, at, x);
     let first = a.p;
     let here = a.at;
-    let z = scan_alts(cells, first);
     let from = here + 2;
-    let table = from + z.words;
+    put_two(out, here, ins, 0);
+    let z = emit_alts(cells, slots, first, out, from, x);
+    let table = z.at;
     let rest = table + 1 + 2 * z.labels;
-    let end = rest + size_other(cells, z.p);
-    put_span(out, here, ins, z.words + 1, 0);
-    emit_alts(cells, starts, first, out, from, x, end);
+    patch(out, here + 1, table, DISTANCE);
     put_one(out, table, z.labels);
-    emit_table(cells, first, out, table + 1, from);
-    emit_other(
+    emit_table(cells, out, z.end, from, rest);
+    let s = emit_other(
         cells,
-        starts,
+        slots,
         z.p,
         out,
         rest,
-        x,
+        z.exit,
         cell(cells, first + 1),
         from,
-    )
+    );
+    patch(out, z.end, s.at, DISTANCE);
+    s
 }
 
 // Zero words from at on; an odd last byte is not touched.
@@ -668,74 +681,62 @@ fn sort_at(sorts: &[u8], r: usize) -> u8
 }
 
 // One rule: its actions and, but in a choice rule, the return.
-fn emit_rule(cells: &[u16], starts: &[usize], p: usize, out: &mut [u8], at: usize, sort: u8) -> Spot
+fn emit_rule(
+    cells: &[u16],
+    slots: &mut [usize],
+    p: usize,
+    out: &mut [u8],
+    at: usize,
+    sort: u8,
+) -> Spot
     requires { ⌜ Room (now cells) p at ⌝ }
-    ensures { λ r. ⌜ RuleDone (now (cells .entry)) (now (starts .entry)) p (now (out .entry)) (now (out .exit)) at sort (r .p) (r .at) ⌝ }
+    ensures { λ r. ⌜ RuleDone (now (cells .entry)) p (now (out .entry)) (now (out .exit)) at sort (now (slots .entry)) (now (slots .exit)) (r .p) (r .at) ⌝ }
     ensures { λ r. ⌜ Moved (now (cells .entry)) p (at + 1) (r .p) (r .at) ⌝ }
 {
-    let w = scan(cells, p);
-    let s = emit_list(cells, starts, p, out, at, at + w.at);
+    let s = emit_list(cells, slots, p, out, at, 0);
+    patch(out, s.exit, s.at, DISTANCE);
     if sort == 0 {
         put_one(out, s.at, 9);
         return Spot {
             p: s.p,
             at: s.at + 1,
+            exit: 0,
         };
     }
     s
 }
 
-fn emit_rules(cells: &[u16], sorts: &[u8], rules: usize, starts: &[usize], out: &mut [u8])
+// Rule r begins: the calls that wait for it get its location, and so does its slot.
+fn place_rule(slots: &mut [usize], r: usize, out: &mut [u8], at: usize)
+    requires { ⌜ at < 2000000000 ⌝ }
+    ensures { λ _. ⌜ PlaceDone (now (slots .entry)) (now (slots .exit)) r (now (out .entry)) (now (out .exit)) at ⌝ }
+{
+    patch(out, slot(slots, r), at + 1, LOCATION);
+    put_slot(slots, r, PLACED + at + 1);
+}
+
+// The rules one after the other; the words of all of them.
+fn emit_rules(
+    cells: &[u16],
+    sorts: &[u8],
+    rules: usize,
+    slots: &mut [usize],
+    out: &mut [u8],
+) -> usize
     requires { ⌜ (length (now cells) ≤ 65536) × (rules ≤ 128) ⌝ }
-    ensures { λ _. ⌜ RulesDone (now (cells .entry)) (now (sorts .entry)) rules (now (starts .entry)) (now (out .entry)) (now (out .exit)) ⌝ }
+    ensures { λ n. ⌜ RulesDone (now (cells .entry)) (now (sorts .entry)) rules (now (slots .entry)) (now (out .entry)) (now (out .exit)) n ⌝ }
 {
     let mut q = 0;
     let mut l = 0;
     let mut r = 0;
     while r < rules {
-        let s = emit_rule(cells, starts, q, out, l, sort_at(sorts, r));
+        place_rule(slots, r, out, l);
+        let s = emit_rule(cells, slots, q, out, l, sort_at(sorts, r));
         q = s.p;
         l = s.at;
         r = r + 1;
     }
-}
-
-fn put_start(starts: &mut [usize], r: usize, l: usize)
-    ensures { λ _. ⌜ now (starts .exit) ≡ set (now (starts .entry)) r l ⌝ }
-{
-    if r < starts.len() {
-        starts[r] = l;
-    }
-}
-
-// The words of a rule's end.
-fn end_size(sort: u8) -> usize
-    ensures { λ n. ⌜ (sort ≡ 0 → n ≡ 1) × (sort ≡ 1 → n ≡ 0) × (n ≤ 1) ⌝ }
-{
-    if sort == 0 { 1 } else { 0 }
-}
-
-// Each rule's location, counted from 1, and the words of all of them; 0 for more than 128 rules or 65,536 cells.
-pub fn locate(cells: &[u16], sorts: &[u8], rules: usize, starts: &mut [usize]) -> usize
-    ensures { λ n. ⌜ Locates (now (cells .entry)) (now (sorts .entry)) rules (now (starts .exit)) n ⌝ }
-{
-    if 65536 < cells.len() {
-        return 0;
-    }
-    if 128 < rules {
-        return 0;
-    }
-    let mut q = 0;
-    let mut w = 0;
-    let mut r = 0;
-    while r < rules {
-        put_start(starts, r, w + 1);
-        let s = scan(cells, q);
-        w = w + s.at + end_size(sort_at(sorts, r));
-        q = s.p;
-        r = r + 1;
-    }
-    w
+    l
 }
 
 // 0, or 20 where the table does not fit; and the table's words.
@@ -756,8 +757,10 @@ pub fn emit(cells: &[u16], sorts: &[u8], rules: usize, table: &mut [u8]) -> Answ
         zero_from(table, 0);
         return Answer { fault: 20, size: 0 };
     }
-    let mut starts = [0usize; 128];
-    let size = locate(cells, sorts, rules, &mut starts);
+    let mut slots = [0usize; 128];
+    // no word is written past the room
+    let end = 2 * least(table.len() / 2, 4096);
+    let size = emit_rules(cells, sorts, rules, &mut slots, &mut table[..end]);
     if 4096 < size {
         zero_from(table, 0);
         return Answer {
@@ -772,7 +775,6 @@ pub fn emit(cells: &[u16], sorts: &[u8], rules: usize, table: &mut [u8]) -> Answ
             size: size,
         };
     }
-    emit_rules(cells, sorts, rules, &starts, table);
     zero_from(table, size);
     Answer {
         fault: 0,

@@ -6,7 +6,8 @@ use Prim.Native.Nat.{ℕ, suc, _/_, _<_, _≤_}
 use native.Mathlib.Omega.{arith}
 use lib.ListN.{length}
 use borrow.Author.Tests.{le-leb, lt-leb}
-use Rattle.emitter.specs.Emitted.{CellsOf, fits, Located, Locates}
+use Rattle.emitter.specs.Emitted.{CellsOf, fits}
+use Rattle.sizes.specs.Located.{Located, Locates}
 use Rattle.machine.specs.Bytes.{bytesOf, over}
 use Rattle.mapper.proofs.Laws.{held-map, inside}
 use Rattle.mapper.specs.Mapped.{Maps, Holds, heldRows, IsRead}

@@ -76,7 +76,7 @@ fn map_held(
     ensures { λ r. ⌜ MapsHeld (now (text .entry)) (now (rows .entry)) first (now (cells .entry)) (now (sorts .entry)) rules (now (out .entry)) (now (out .exit)) (r .number) (r .rules) ⌝ }
 {
     let mut places = [0usize; frontend::RULES];
-    if TABLE_WORDS < emitter::locate(cells, sorts, rules, &mut places) {
+    if TABLE_WORDS < sizes::locate(cells, sorts, rules, &mut places) {
         return Mapped {
             number: TOO_SHORT,
             rules: 0,

@@ -5,7 +5,7 @@ use mathlib.Core.List.{_∷_, []}
 use native.Mathlib.Omega.{arith}
 use lib.ListN.{length, getD}
 use Rattle.emitter.specs.Words.{puts, cut}
-use Rattle.emitter.proofs.Tables.{LabelsGo, labels-none, labels-more, labels-end}
+use Rattle.emitter.proofs.Labels.{LabelsGo, labels-none, labels-more, labels-end}
 use Rattle.emitter.proofs.emit_labels.Statement.{statement}
 use Rattle.emitter.proofs.emit_labels.Tie as tie
 use Rattle.emitter.proofs.emit_labels.Reads as reads

@@ -1,16 +1,18 @@
-use Prim.Native.Nat.{ℕ, _+_}
-use mathlib.Core.Path.{_≡_, refl, ap, sym, _∙_}
+use mathlib.Core.Path.{_≡_, refl, ap, sym, _∙_, subst}
 use native.Mathlib.Omega.{arith}
-use lib.ListN.{length, getD}
-use Rattle.emitter.specs.Words.{puts}
-use Rattle.emitter.specs.Heads.{plainOf, plainAt, wordsIn, firsts, startOf}
+use Prim.Native.Nat.{ℕ, _+_, _*_, _-_, _≤_, _<_}
+use lib.ListN.{length, getD, set}
+use mathlib.Core.List.{List}
+use Rattle.emitter.specs.Words.{words, setWord, puts, cut}
 use Rattle.emitter.specs.declared.Item.{Item}
+use Rattle.emitter.specs.Heads.{plainOf, plainAt, wordsIn, firsts, startOf, calledBy, calledAt}
 use Rattle.emitter.proofs.Laws.{Few, few}
 use borrow.Author.Needs.{needs}
 use Rattle.emitter.proofs.emit_plain.Statement.{statement}
 use Rattle.emitter.proofs.emit_plain.Tie as tie
 use Rattle.emitter.proofs.emit_plain.Reads as reads
 use Rattle.emitter.proofs.emit_plain.Lts as lts
+use Rattle.emitter.proofs.call_at.Reads as call-at-reads
 use Rattle.emitter.proofs.cell.Reads as cell-reads
 use Rattle.emitter.proofs.least.Reads as least-reads
 use Rattle.emitter.proofs.plain_of.Reads as plain-of-reads
@@ -18,84 +20,89 @@ use Rattle.emitter.proofs.put_some.Reads as put-some-reads
 use Rattle.emitter.proofs.start_at.Reads as start-at-reads
 use Rattle.emitter.proofs.wide.Reads as wide-reads
 
--- src/lib.rt:159:25
-add-cell : tie.Need-add-cell
-add-cell c = search needs
-
--- src/lib.rt:159:9
+-- src/lib.rt:269:9
 cell-requires : tie.Need-cell-requires
 cell-requires c κs = search needs
 
--- src/lib.rt:160:22
+-- src/lib.rt:270:25
+add-cell : tie.Need-add-cell
+add-cell c = search needs
+
+-- src/lib.rt:270:9
 cell-requires-2 : tie.Need-cell-requires-2
 cell-requires-2 c κs = search needs
 
--- src/lib.rt:160:58
+-- src/lib.rt:271:9
 wide-requires : tie.Need-wide-requires
 wide-requires c κs = search needs
 
--- src/lib.rt:160:41
+-- src/lib.rt:272:28
 start-at-requires : tie.Need-start-at-requires
 start-at-requires c κs = search needs
 
--- src/lib.rt:160:9
+-- src/lib.rt:272:9
 plain-of-requires : tie.Need-plain-of-requires
 plain-of-requires c κs = search needs
 
--- src/lib.rt:161:5
+-- src/lib.rt:273:5
 put-some-requires : tie.Need-put-some-requires
 put-some-requires c κs = search needs
 
--- src/lib.rt:162:21
+-- src/lib.rt:274:29
+add-call-at : tie.Need-add-call-at
+add-call-at c = search needs
+
+-- src/lib.rt:274:5
+call-at-requires : tie.Need-call-at-requires
+call-at-requires c κs = search needs
+
+-- src/lib.rt:276:18
 add-least : tie.Need-add-least
 unfolding plainAt
-add-least c = let a = c .before .before .before .before .before .before .before .before .before .before .before .before .before .args in
-    let h : c .before .before .before .before .before .plain-of .result ≡ plainAt (a .cells .now) (a .starts .now) (a .p) = cc in
-    let f = few (getD (a .cells .now) (a .p) 0) (getD (a .cells .now) (a .p + 1) 0) (startOf (a .starts .now) (getD (a .cells .now) (a .p + 1) 0)) in
-    let P = c .before .before .before .before .before .before .before .before .before .before .before .before .before .pre .0 in
-    omega (arith, ap (λ (w : Item). w .cells) h)
+add-least c = let a = c .before .before .before .before .before .before .before .before .before .before .before .before .before .before .before .before .before .before .args in let h : c .before .before .before .before .before .before .before .before .before .plain-of .result ≡ plainAt (a .cells .now) (a .slots .now) (a .p) = cc in let f = few (getD (a .cells .now) (a .p) 0) (getD (a .cells .now) (a .p + 1) 0) (startOf (a .slots .now) (getD (a .cells .now) (a .p + 1) 0)) in let P = c .before .before .before .before .before .before .before .before .before .before .before .before .before .before .before .before .before .before .pre .0 in omega (arith, ap (λ (w : Item). w .cells) h)
 
--- src/lib.rt:162:15
+-- src/lib.rt:276:12
 least-requires : tie.Need-least-requires
 least-requires c κs = search needs
 
--- src/lib.rt:162:52
-add-t16 : tie.Need-add-t16
+-- src/lib.rt:277:13
+add-t22 : tie.Need-add-t22
 unfolding plainAt
-add-t16 c = let a = c .before .before .before .before .before .before .before .before .before .before .before .before .before .before .before .args in
-    let h : c .before .before .before .before .before .before .before .plain-of .result ≡ plainAt (a .cells .now) (a .starts .now) (a .p) = cc in
-    let f = few (getD (a .cells .now) (a .p) 0) (getD (a .cells .now) (a .p + 1) 0) (startOf (a .starts .now) (getD (a .cells .now) (a .p + 1) 0)) in
-    let P = c .before .before .before .before .before .before .before .before .before .before .before .before .before .before .before .pre .0 in
-    omega (arith, ap (λ (w : Item). w .count) h)
+add-t22 c = let a = c .before .before .before .before .before .before .before .before .before .before .before .before .before .before .before .before .before .before .before .before .args in let h : c .before .before .before .before .before .before .before .before .before .before .before .plain-of .result ≡ plainAt (a .cells .now) (a .slots .now) (a .p) = cc in let f = few (getD (a .cells .now) (a .p) 0) (getD (a .cells .now) (a .p + 1) 0) (startOf (a .slots .now) (getD (a .cells .now) (a .p + 1) 0)) in let P = c .before .before .before .before .before .before .before .before .before .before .before .before .before .before .before .before .before .before .before .before .pre .0 in omega (arith, ap (λ (w : Item). w .count) h)
 
--- src/lib.rt:155:1
+-- src/lib.rt:257:1
 same-length : tie.Need-same-length
 same-length c = search needs
 
--- src/lib.rt:155:1
+-- src/lib.rt:257:1
+same-length-2 : tie.Need-same-length-2
+same-length-2 c = search needs
+
+-- src/lib.rt:257:1
 returns : tie.Need-returns
-unfolding plainAt
-returns c = let a = c .before .before .before .before .before .before .before .before .before .before .before .before .before .before .before .args in
-    let h : c .before .before .before .before .before .before .before .plain-of .result ≡ plainAt (a .cells .now) (a .starts .now) (a .p) = cc in
-    let f = few (getD (a .cells .now) (a .p) 0) (getD (a .cells .now) (a .p + 1) 0) (startOf (a .starts .now) (getD (a .cells .now) (a .p + 1) 0)) in
-    let P = c .before .before .before .before .before .before .before .before .before .before .before .before .before .before .before .pre .0 in
-    let L = c .before .least .ensures in
-    let e : c .before .before .before .before .before .before .before .plain-of .result .cells ≡ (plainAt (a .cells .now) (a .starts .now) (a .p)) .cells = ap (λ (w : Item). w .cells) h in
-    record { next = λ i. omega arith; after = ap (λ (w : Item). a .at + w .count) h; wrote = c .before .before .before .before .before .put-some .ensures ∙ ap (λ (w : Item). puts (a .out .now) (a .at) (wordsIn w)) h; on = omega arith; inside = omega arith; few = f .small }
+unfolding plainAt calledAt
+returns c = let a = c .before .before .before .before .before .before .before .before .before .before .before .before .before .before .before .before .before .before .before .before .args in let h : c .before .before .before .before .before .before .before .before .before .before .before .plain-of .result ≡ plainAt (a .cells .now) (a .slots .now) (a .p) = cc in let f = few (getD (a .cells .now) (a .p) 0) (getD (a .cells .now) (a .p + 1) 0) (startOf (a .slots .now) (getD (a .cells .now) (a .p + 1) 0)) in let P = c .before .before .before .before .before .before .before .before .before .before .before .before .before .before .before .before .before .before .before .before .pre .0 in let L = c .before .least .ensures in
+    let e : c .before .before .before .before .before .before .before .before .before .before .before .plain-of .result .cells ≡ (plainAt (a .cells .now) (a .slots .now) (a .p)) .cells = ap (λ (w : Item). w .cells) h in (
+      record { next = λ i. omega (arith, i, e, L); after = ap (λ (w : Item). a .at + w .count) h; wrote = c .before .before .before .before .before .before .before .before .before .put-some .ensures ∙ ap (λ (w : Item). puts (a .out .now) (a .at) (wordsIn w)) h; on = omega (arith, e, L, f .some-cells, c .before .before .before .before .before .before .before .before .before .before .before .before .before .before .before .before .before .before .before .before .pre .1); inside = omega (arith, L); few = f .small },
+      (c .before .before .before .before .before .call-at .ensures ∙ (ap (λ (i : ℕ). calledBy i 8 (a .slots .now) (c .before .before .before .before .before .before .before .before .before .before .before .before .before .before .wide .result) (a .at + 1)) (c .before .before .before .before .before .before .before .before .before .before .before .before .before .before .before .before .cell .ensures) ∙ ap (λ (i : ℕ). calledBy (getD (a .cells .now) (a .p) 0) 8 (a .slots .now) i (a .at + 1)) (c .before .before .before .before .before .before .before .before .before .before .before .before .before .before .wide .ensures .0 ∙ c .before .before .before .before .before .before .before .before .before .before .before .before .before .before .before .cell2 .ensures)), refl),
+    )
 
 pub emit-plain-spec : {M : Type 1} → statement M
 emit-plain-spec =
     tie.close
     (tie.spec
-    add-cell
     cell-requires
+    add-cell
     cell-requires-2
     wide-requires
     start-at-requires
     plain-of-requires
     put-some-requires
+    add-call-at
+    call-at-requires
     add-least
     least-requires
-    add-t16
+    add-t22
     same-length
+    same-length-2
     returns)

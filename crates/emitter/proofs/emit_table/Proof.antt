@@ -1,92 +1,102 @@
-use Prim.Native.Nat.{ℕ, _+_, _*_, _-_, _≤_, _<_}
-use mathlib.Core.Path.{_≡_, refl, ap, sym, _∙_}
+use borrow.Author.Needs.{needs}
+use mathlib.Core.Path.{_≡_, refl, ap, sym, _∙_, subst}
 use native.Mathlib.Omega.{arith}
-use lib.ListN.{length}
-use Rattle.emitter.specs.Heads.{labelsAt}
+use Prim.Native.Nat.{ℕ, _+_, _*_, _-_, _≤_, _<_}
+use lib.ListN.{length, getD, set}
+use mathlib.Core.List.{List}
+use Rattle.emitter.specs.Words.{words, setWord, puts, cut}
 use Rattle.emitter.proofs.Tables.{TableGo, table-none, table-more, table-end}
 use Rattle.emitter.proofs.emit_table.Statement.{statement}
 use Rattle.emitter.proofs.emit_table.Tie as tie
 use Rattle.emitter.proofs.emit_table.Reads as reads
 use Rattle.emitter.proofs.emit_table.Lts as lts
+use Rattle.emitter.proofs.behind.Reads as behind-reads
 use Rattle.emitter.proofs.emit_labels.Reads as emit-labels-reads
 use Rattle.emitter.proofs.labels_at.Reads as labels-at-reads
-use Rattle.emitter.proofs.scan.Reads as scan-reads
+use Rattle.emitter.proofs.less.Reads as less-reads
+use Rattle.emitter.proofs.older_at.Reads as older-at-reads
+use Rattle.emitter.proofs.put_word.Reads as put-word-reads
+use Rattle.emitter.proofs.wide.Reads as wide-reads
+use Rattle.machine.proofs.word.Reads as word-reads
 
 abbrev Inv-loop : tie.InvT-loop
-Inv-loop cells p out₀ at from q₀ l₀ f₀ j₀ out q l f j = (j ≡ labelsAt cells q) × (j < 192) × (0 < j → q + 1 + j ≤ length cells) × (p ≤ q) × (q ≤ length cells) × (l + 400 * p ≤ at + 400 * q) × (f + 400 * p ≤ from + 400 * q) × (length out ≡ length out₀) × TableGo cells p out₀ at from q l f out
+Inv-loop cells out₀ newest from end j₀ l₀ out j l = (length out ≡ length out₀) × (j ≤ newest) × (l ≤ end) × TableGo cells out₀ newest from end out j l
 
 abbrev μ-loop : tie.MeasureT-loop
-μ-loop cells p out₀ at from q₀ l₀ f₀ j₀ out q l f j = length cells - q
+μ-loop cells out₀ newest from end j₀ l₀ out j l = j
 
--- src/lib.rt:349:9
-labels-at-requires : tie.Need-labels-at-requires Inv-loop μ-loop
-labels-at-requires c κs = let P = c .before .before .pre .0 in let A = c .before .before .pre .1 in omega arith
-
--- src/lib.rt:350:5
+-- src/lib.rt:405:5
 loop-holds : tie.Need-loop-holds Inv-loop μ-loop
-loop-holds c = let P = c .before .before .before .pre .0 in let A = c .before .before .before .pre .1 in let l = c .labels-at .ensures in let a = c .before .before .before .args in (l .0, l .1, l .2, omega arith, omega arith, omega arith, omega arith, refl, table-none (a .cells .now) (a .p) (a .out .now) (a .at) (a .from))
+loop-holds c = (refl, omega arith, omega arith, table-none (c .before .before .args .cells .now) (c .before .before .args .out .now) (c .before .before .args .newest) (c .before .before .args .from) (c .before .before .args .end))
 
--- src/lib.rt:351:21
-add-first : tie.Need-add-first Inv-loop μ-loop
-add-first c = let P = c .before .before .before .before .before .pre .0 in let A = c .before .before .before .before .before .pre .1 in let o = c .before .loop in omega arith
+-- src/lib.rt:406:44
+sub-word : tie.Need-sub-word Inv-loop μ-loop
+sub-word c = omega arith
 
--- src/lib.rt:352:9
+-- src/lib.rt:406:25
+word-requires : tie.Need-word-requires Inv-loop μ-loop
+word-requires c κs = search needs
+
+-- src/lib.rt:406:13
+wide-requires : tie.Need-wide-requires Inv-loop μ-loop
+wide-requires c κs = search needs
+
+-- src/lib.rt:407:13
+labels-at-requires : tie.Need-labels-at-requires Inv-loop μ-loop
+labels-at-requires c κs = omega arith
+
+-- src/lib.rt:408:13
+older-at-requires : tie.Need-older-at-requires Inv-loop μ-loop
+older-at-requires c κs = search needs
+
+-- src/lib.rt:409:21
+mul-less : tie.Need-mul-less Inv-loop μ-loop
+mul-less c = omega arith
+
+-- src/lib.rt:409:9
+less-requires : tie.Need-less-requires Inv-loop μ-loop
+less-requires c κs = search needs
+
+-- src/lib.rt:410:28
+add-emit-labels : tie.Need-add-emit-labels Inv-loop μ-loop
+add-emit-labels c = omega arith
+
+-- src/lib.rt:410:49
+behind-requires : tie.Need-behind-requires Inv-loop μ-loop
+behind-requires c κs = let P = c .before .before .before .before .before .before .before .before .before .before .before .before .pre in let o = c .before .before .before .before .before .before .before .before .before .loop in omega arith
+
+-- src/lib.rt:410:9
 emit-labels-requires : tie.Need-emit-labels-requires Inv-loop μ-loop
-emit-labels-requires c κs = let P = c .before .before .before .before .before .before .pre .0 in let A = c .before .before .before .before .before .before .pre .1 in let o = c .before .before .loop in omega arith
+emit-labels-requires c κs = let P = c .before .before .before .before .before .before .before .before .before .before .before .before .before .pre in let o = c .before .before .before .before .before .before .before .before .before .before .loop in let w = c .before .before .before .before .before .before .wide .ensures in let n = c .before .before .before .before .before .labels-at .ensures in let e = c .before .before .less .ensures in omega arith
 
--- src/lib.rt:353:29
-add-scan : tie.Need-add-scan Inv-loop μ-loop
-add-scan c = let P = c .before .before .before .before .before .before .before .before .before .pre .0 in let A = c .before .before .before .before .before .before .before .before .before .pre .1 in let o = c .before .before .before .before .before .loop in omega (arith, o .inv .2 (c .before .before .before .before .loop-test .taken))
+-- src/lib.rt:411:23
+sub-put-word : tie.Need-sub-put-word Inv-loop μ-loop
+sub-put-word c = omega arith
 
--- src/lib.rt:353:13
-scan-requires : tie.Need-scan-requires Inv-loop μ-loop
-scan-requires c κs = let P = c .before .before .before .before .before .before .before .before .before .pre .0 in let A = c .before .before .before .before .before .before .before .before .before .pre .1 in let o = c .before .before .before .before .before .loop in record { inside = o .inv .2 (c .before .before .before .before .loop-test .taken); short = P .short; room = omega arith }
+-- src/lib.rt:411:9
+put-word-requires : tie.Need-put-word-requires Inv-loop μ-loop
+put-word-requires c κs = search needs
 
--- src/lib.rt:354:17
-mul-l : tie.Need-mul-l Inv-loop μ-loop
-mul-l c = let P = c .before .before .before .before .before .before .before .before .before .before .pre .0 in let A = c .before .before .before .before .before .before .before .before .before .before .pre .1 in let o = c .before .before .before .before .before .before .loop in omega arith
-
--- src/lib.rt:354:13
-add-l : tie.Need-add-l Inv-loop μ-loop
-add-l c = let P = c .before .before .before .before .before .before .before .before .before .before .pre .0 in let A = c .before .before .before .before .before .before .before .before .before .before .pre .1 in let o = c .before .before .before .before .before .before .loop in omega arith
-
--- src/lib.rt:355:13
-add-f : tie.Need-add-f Inv-loop μ-loop
-add-f c = let P = c .before .before .before .before .before .before .before .before .before .before .before .pre .0 in let A = c .before .before .before .before .before .before .before .before .before .before .before .pre .1 in let o = c .before .before .before .before .before .before .before .loop in let m = c .before .scan .ensures .1 in omega (arith, o .inv .2 (c .before .before .before .before .before .before .loop-test .taken), c .before .before .before .before .before .before .before .before .before .before .before .pre .1)
-
--- src/lib.rt:355:13
-add-f-2 : tie.Need-add-f-2 Inv-loop μ-loop
-add-f-2 c = let P = c .before .before .before .before .before .before .before .before .before .before .before .pre .0 in let A = c .before .before .before .before .before .before .before .before .before .before .before .pre .1 in let o = c .before .before .before .before .before .before .before .loop in let m = c .before .scan .ensures .1 in omega (arith, o .inv .2 (c .before .before .before .before .before .before .loop-test .taken), c .before .before .before .before .before .before .before .before .before .before .before .pre .1)
-
--- src/lib.rt:357:9
-labels-at-requires-2 : tie.Need-labels-at-requires-2 Inv-loop μ-loop
-labels-at-requires-2 c κs = let P = c .before .before .before .before .before .before .before .before .before .before .before .pre .0 in let A = c .before .before .before .before .before .before .before .before .before .before .before .pre .1 in let m = c .before .scan .ensures .1 in omega arith
-
--- src/lib.rt:350:5
+-- src/lib.rt:405:5
 loop-less : tie.Need-loop-less Inv-loop μ-loop
-loop-less c = let P = c .before .before .before .before .before .before .before .before .before .before .before .before .pre .0 in let A = c .before .before .before .before .before .before .before .before .before .before .before .before .pre .1 in let o = c .before .before .before .before .before .before .before .before .loop in let m = c .before .before .scan .ensures .1 in omega (arith, o .inv .2 (c .before .before .before .before .before .before .before .loop-test .taken))
+loop-less c = let h = c .before .before .before .before .before .before .before .before .before .before .older-at .ensures .2 (c .before .before .before .before .before .before .before .before .before .before .before .before .before .before .before .before .loop-test .taken) in omega arith
 
--- src/lib.rt:350:5
+-- src/lib.rt:405:5
 loop-again : tie.Need-loop-again Inv-loop μ-loop
-loop-again c = let P = c .before .before .before .before .before .before .before .before .before .before .before .before .pre .0 in let A = c .before .before .before .before .before .before .before .before .before .before .before .before .pre .1 in let o = c .before .before .before .before .before .before .before .before .loop in let a = c .before .before .before .before .before .before .before .before .before .before .before .before .args in let m = c .before .before .scan .ensures .1 in let l = c .labels-at2 .ensures in let h = o .inv .2 (c .before .before .before .before .before .before .before .loop-test .taken) in (
-  l .0,
-  l .1,
-  l .2,
+loop-again c = let h = c .before .before .before .before .before .before .before .before .before .before .older-at .ensures .2 (c .before .before .before .before .before .before .before .before .before .before .before .before .before .before .before .before .loop-test .taken) in let o = c .before .before .before .before .before .before .before .before .before .before .before .before .before .before .before .before .before .loop in let e = c .before .before .before .before .before .before .before .before .before .less .ensures in (
+  c .before .before .put-word .kept .0 ∙ (c .before .before .before .before .before .before .emit-labels .kept .1 .1 .1 .0 ∙ c .before .before .before .before .before .before .before .before .before .before .before .before .before .before .before .before .before .loop .inv .0),
   omega arith,
   omega arith,
-  omega arith,
-  omega arith,
-  c .before .before .before .before .before .emit-labels .kept .1 .1 .1 .0 ∙ o .inv .7,
-  table-more (a .cells .now) (a .p) (a .out .now) (a .at) (a .from) (o .q) (o .l) (o .f) (o .j) (c .before .before .scan .result .p) (c .before .before .scan .result .at) (o .out) _ (c .before .before .before .before .before .before .before .loop-test .taken) (o .inv .0) (c .before .before .before .before .before .emit-labels .ensures) (c .before .before .scan .ensures .0) (o .inv .8),
+  table-more (c .before .before .before .before .before .before .before .before .before .before .before .before .before .before .before .before .before .before .before .before .args .cells .now) (c .before .before .before .before .before .before .before .before .before .before .before .before .before .before .before .before .before .before .before .before .args .out .now) (c .before .before .before .before .before .before .before .before .before .before .before .before .before .before .before .before .before .before .before .before .args .newest) (c .before .before .before .before .before .before .before .before .before .before .before .before .before .before .before .before .before .before .before .before .args .from) (c .before .before .before .before .before .before .before .before .before .before .before .before .before .before .before .before .before .before .before .before .args .end) (c .before .before .before .before .before .before .before .before .before .before .before .before .before .before .before .before .before .loop .out) _ _ (c .before .before .before .before .before .before .before .before .before .before .before .before .before .before .before .before .before .loop .j) (c .before .before .before .before .before .before .before .before .before .before .before .before .before .before .before .before .before .loop .l) (c .before .before .before .before .before .before .before .before .before .before .before .before .before .wide .result) (c .before .before .before .before .before .before .before .before .before .before .before .before .labels-at .result) (c .before .before .before .before .before .before .before .before .before .before .older-at .result) (c .before .before .before .before .before .before .before .before .before .less .result) (c .before .before .before .before .before .before .before .before .before .before .before .before .before .before .before .before .loop-test .taken) (c .before .before .before .before .before .before .before .before .before .before .before .before .before .wide .ensures .0 ∙ c .before .before .before .before .before .before .before .before .before .before .before .before .before .before .word .ensures) (c .before .before .before .before .before .before .before .before .before .before .before .before .labels-at .ensures .0) (c .before .before .before .before .before .before .before .before .before .before .older-at .ensures .0) (c .before .before .before .before .before .before .before .before .before .less .ensures) _ (c .before .before .before .before .before .before .before .behind .ensures) (c .before .before .before .before .before .before .emit-labels .ensures) (c .before .before .put-word .ensures) (c .before .before .before .before .before .before .before .before .before .before .before .before .before .before .before .before .before .loop .inv .3),
 )
 
--- src/lib.rt:342:1
+-- src/lib.rt:399:1
 same-length : tie.Need-same-length Inv-loop μ-loop
-same-length c = c .before .loop .inv .7
+same-length c = c .before .loop .inv .0
 
--- src/lib.rt:342:1
+-- src/lib.rt:399:1
 returns : tie.Need-returns Inv-loop μ-loop
-returns c = let o = c .before .loop in let a = c .before .before .before .before .before .args in table-end (a .cells .now) (a .p) (a .out .now) (a .at) (a .from) (o .q) (o .l) (o .f) (o .out) (sym (o .inv .0) ∙ omega (arith, c .loop-test .left)) (o .inv .8)
+returns c = table-end (c .before .before .before .before .args .cells .now) (c .before .before .before .before .args .out .now) (c .before .before .before .before .args .newest) (c .before .before .before .before .args .from) (c .before .before .before .before .args .end) (c .before .loop .out) (c .before .loop .j) (c .before .loop .l) (omega (arith, c .loop-test .left)) (c .before .loop .inv .3)
 
 pub emit-table-spec : {M : Type 1} → statement M
 emit-table-spec =
@@ -94,17 +104,19 @@ emit-table-spec =
     (tie.spec
     Inv-loop
     μ-loop
-    labels-at-requires
     loop-holds
-    add-first
+    sub-word
+    word-requires
+    wide-requires
+    labels-at-requires
+    older-at-requires
+    mul-less
+    less-requires
+    add-emit-labels
+    behind-requires
     emit-labels-requires
-    add-scan
-    scan-requires
-    mul-l
-    add-l
-    add-f
-    add-f-2
-    labels-at-requires-2
+    sub-put-word
+    put-word-requires
     loop-less
     loop-again
     same-length

@@ -5,7 +5,7 @@ use Rattle.mapper.proofs.map_held.Statement.{statement}
 use Rattle.mapper.proofs.map_held.Tie as tie
 use Rattle.mapper.proofs.map_held.Reads as reads
 use Rattle.mapper.proofs.map_held.Lts as lts
-use Rattle.emitter.proofs.locate.Reads as locate-reads
+use Rattle.sizes.proofs.locate.Reads as locate-reads
 use Rattle.mapper.proofs.put_rows.Reads as put-rows-reads
 
 -- src/lib.rt:104:59

@@ -1,0 +1,3 @@
+-- The scan of the cells, and the rules' locations.
+pub mod Leave
+pub mod Places
