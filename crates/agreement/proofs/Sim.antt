@@ -57,7 +57,7 @@ pub data Running : Own → Io → Type 0 where
 
 -- Labels and entries
 
-lookupBy : Option ℕ → List Entry → Option ℕ
+unfoldable pub lookupBy : Option ℕ → List Entry → Option ℕ
 lookupBy none ps = none
 lookupBy (some u) ps = lookup u ps
 
@@ -124,7 +124,7 @@ module _ (T tokens : List ℕ) where
   unfolding landed
   landed-is l x y d taken w f e = rw (f, landed, e)
 
-  seek-leads : (w : Option ℕ) {c : ℕ} {ps : List Entry} → Table T c ps → Leads T (seekBy T tokens w (length ps) (c + 1)) (lookupBy w ps)
+  pub seek-leads : (w : Option ℕ) {c : ℕ} {ps : List Entry} → Table T c ps → Leads T (seekBy T tokens w (length ps) (c + 1)) (lookupBy w ps)
   unfolding seekBy lookupBy
   seek-leads none t = leads-none
   seek-leads (some u) t = t .finds tokens u
@@ -190,13 +190,13 @@ module _ (T : List ℕ) (start : ℕ → ℕ) (prog : List Rule) where
   at-choice-good (at-choice (lay-choice d t hq ho) hg hh) = rw d
 
   -- what follows an action that goes past; where an exit in it goes
-  rest-at : {v : Bool} (a : Act) {q : Acts} {k : List Context} {x m e : ℕ} → Lays T start prog v q x m e
+  pub rest-at : {v : Bool} (a : Act) {q : Acts} {k : List Context} {x m e : ℕ} → Lays T start prog v q x m e
       → (pastAll (a ▸ q) ≡ true → End T start prog v k e) → (exitsAll (a ▸ q) ≡ true → Out T start prog v k x)
       → past a ≡ true → At T start prog v q k m
   unfolding pastAll exitsAll
   rest-at a {q} hs hg hh g = at-place hs (λ gs. hg (both (past a) (pastAll q) g gs)) (λ h. hh (or₂ (exits a) (exitsAll q) h))
 
-  exit-out : {v : Bool} (a : Act) (q : Acts) {k : List Context} {x : ℕ} → (exitsAll (a ▸ q) ≡ true → Out T start prog v k x)
+  pub exit-out : {v : Bool} (a : Act) (q : Acts) {k : List Context} {x : ℕ} → (exitsAll (a ▸ q) ≡ true → Out T start prog v k x)
       → exits a ≡ true → Out T start prog v k x
   unfolding exitsAll
   exit-out a q hh g = hh (or₁ (exits a) (exitsAll q) g)
@@ -207,7 +207,7 @@ module _ (T : List ℕ) (start : ℕ → ℕ) (prog : List Rule) where
   pend-length (pend-choice a h) = ap suc (pend-length h)
 
   -- where a choice goes: by the labels of the tree and by the entries of the table
-  data Found (v : Bool) (x y : ℕ) (q : Alts) : Option Acts → Option ℕ → Type 0 where
+  pub data Found (v : Bool) (x y : ℕ) (q : Alts) : Option Acts → Option ℕ → Type 0 where
     found-none : Found v x y q none none
     found : {b : Acts} {a m : ℕ} → Lays T start prog v b x a m → decode T m ≡ jump y → (pastAll b ≡ true → pastSome q ≡ true)
         → (exitsAll b ≡ true → exitsSome q ≡ true) → Found v x y q (some b) (some a)
@@ -224,7 +224,7 @@ module _ (T : List ℕ) (start : ℕ → ℕ) (prog : List Rule) where
   if-found true h h′ = h
   if-found false h h′ = h′
 
-  alts-found : (u : ℕ) {v : Bool} {q : Alts} {x y l : ℕ} {ps : List Entry} → LayAlts T start prog v q x y l ps
+  pub alts-found : (u : ℕ) {v : Bool} {q : Alts} {x y l : ℕ} {ps : List Entry} → LayAlts T start prog v q x y l ps
       → Found v x y q (labelled u q) (lookup u ps)
   unfolding labelled lookup pastSome exitsSome
   alts-found u alts-nil = found-none
@@ -232,7 +232,7 @@ module _ (T : List ℕ) (start : ℕ → ℕ) (prog : List Rule) where
       rw (entries-lookup u ls l ps) (if-found (member u ls)
       (found h d (λ g. or₁ (pastAll b) (pastSome q) g) (λ g. or₁ (exitsAll b) (exitsSome q) g)) (found-later (alts-found u t)))
 
-  by-found : (w : Option ℕ) {v : Bool} {q : Alts} {x y l : ℕ} {ps : List Entry} → LayAlts T start prog v q x y l ps
+  pub by-found : (w : Option ℕ) {v : Bool} {q : Alts} {x y l : ℕ} {ps : List Entry} → LayAlts T start prog v q x y l ps
       → Found v x y q (labelledBy w q) (lookupBy w ps)
   unfolding labelledBy lookupBy
   by-found none h = found-none

@@ -165,7 +165,7 @@ not-nowhere : {io : Io} {w : Walk} → Same (rules.nowhere io) w → ⊥
 not-nowhere (both-going h e) = running-nowhere h
 not-nowhere (both-stopped r h e f) = let z : _≡_ {A = ℕ} 0 1 = cc in omega arith
 
-over-stops : {s : Own} {w : Walk} → Over s → Same s w → (r : Reason) × (w .phase ≡ stopped r)
+pub over-stops : {s : Own} {w : Walk} → Over s → Same s w → (r : Reason) × (w .phase ≡ stopped r)
 over-stops (over-stopped {r = r}) h = (r, stopped-same h refl)
 over-stops over-nowhere h = absurd (not-nowhere h)
 

@@ -1,0 +1,224 @@
+-- In the table of an accepted program every location that is reachable from a rule's start, without entering calls, is a place of a rule;
+-- every call there goes to a rule's start.
+use Prim.Native.Nat.{ℕ, suc, _+_, _-_, _*_, _<_}
+use native.Mathlib.Omega.{arith}
+use mathlib.Core.Path.{_≡_, refl, sym, ap, _∙_}
+use mathlib.Core.Bool.{Bool, true, false, _||_}
+use mathlib.Core.Option.{Option, none, some}
+use mathlib.Core.List.{List, [], _∷_, _++_}
+use lib.Dec.{eqb}
+use lib.ListN.{length}
+use borrow.Author.Tests.{eq-eqb}
+use Rattle.agreement.proofs.Laid.{program-laid}
+use Rattle.agreement.proofs.Lay as lay
+use Rattle.agreement.proofs.Lay.{Entry, lookup, Table, LayPlain, lay-match, lay-any, lay-emit, lay-error, lay-exit, lay-call, lay-back, lay-give, lay-update, lay-updateWith, Lay, lay-plain, lay-cycle, lay-token, lay-rule, lay-operation, lay-operationWith, Lays, lays-done, lays-cons, lay-choice, LayAlts, LayOther, other-input, other-end, other-is, At, at-place, End, end-rule, end-cycle, end-alternative, end-otherwise, Out, out-cycle, out-alternative, out-otherwise, AtChoice, at-choice}
+use Rattle.agreement.proofs.Sim.{lookupBy, rest-at, exit-out, Found, found-none, found, alts-found, by-found, seek-leads}
+use Rattle.base.specs.Bools.{or₁, or₂}
+use Rattle.base.specs.Common.{if_then_else_}
+use Rattle.base.specs.Tree.{plain, cycle, choice, done, _▸_}
+use Rattle.machine.specs.Decode.{fetch, Instruction, invalid, jump, input, inputAny, write, inputChoice, callRule, return, setResult, choice as byResult, endChoice, setParameter, update as updates, updateWith as updatesWith, choose, chooseWith, decode}
+use Rattle.machine.specs.Step.{seekBy}
+use Rattle.ownwalk.specs.OwnWalk.{Context, inCycle, inAlternative, inOtherwise, labelled}
+use Rattle.program.specs.Accepted.{Accepted}
+use Rattle.program.specs.Past.{plainPast, isExit, exits, exitsAll, exitsSome, exitsOther, past, pastAll, pastSome, pastOther}
+use Rattle.program.specs.Program.{Plain, match, any, emit, error, exit, call, update, updateWith, byToken, byRule, byOperation, byOperationWith, Act, Acts, Alts, Other, Rule, ruleOf, bodyOf}
+use Rattle.program.proofs.Places.{place-first}
+use Rattle.program.specs.Table.{place, table}
+use Rattle.figure.specs.Figure.{labelBy, backFrom, wayAmong, wayOf, wayOut, Leads, leads-jump, leads-input, leads-any, leads-write, leads-token, leads-call, leads-result, leads-choice, leads-parameter, leads-update, leads-updateWith, leads-choose, leads-chooseWith, Reached, at-start, further}
+use Rattle.figure.specs.Promise.{RuleStart, rule-start}
+use Rattle.figure.proofs.Frames.{Called, called-first, called-from}
+use Rattle.figure.proofs.Steps.{labels-seek}
+
+module _ (T : List ℕ) (start : ℕ → ℕ) (prog : List Rule) where
+  pub data IsStart (s : ℕ) : Type 0 where
+    is-start : (r : ℕ) → r < length prog → s ≡ start r → IsStart s
+
+  -- a place of a rule: before actions, before a choice by the result, or in the midst of the words of an action
+  pub data Spot : ℕ → Type 0 where
+    spot-at : {l : ℕ} {v : Bool} {q : Acts} {k : List Context} → At T start prog v q k l → Spot l
+    spot-choice : {l : ℕ} {v : Bool} {al : Alts} {o : Other} {q : Acts} {k : List Context} → AtChoice T start prog v al o q k l → Spot l
+    spot-return : {l : ℕ} → decode T l ≡ return → Spot l
+    spot-end : {l : ℕ} → decode T l ≡ endChoice → Spot l
+    spot-update : {l op : ℕ} → decode T l ≡ updatesWith op → Spot (l + 1) → Spot l
+    spot-choose : {l op : ℕ} → decode T l ≡ chooseWith op → Spot (l + 1) → Spot l
+    spot-jump : {l m : ℕ} → decode T l ≡ jump m → Spot m → Spot l
+    spot-input : {l u m : ℕ} → decode T l ≡ input u → decode T (l + 2) ≡ jump m → Spot m → Spot l
+
+  -- the instruction i at l leads to places only, and calls a rule
+  unfoldable pub Fine : ℕ → Instruction → Type 0
+  Fine l invalid = ⊥
+  Fine l (jump m) = Spot m
+  Fine l (input t) = Spot (l + 2)
+  Fine l inputAny = Spot (l + 1)
+  Fine l (write e) = Spot (l + 2)
+  Fine l (inputChoice c) = (v : Option ℕ) → Spot (wayOut T c v)
+  Fine l (callRule s) = IsStart s × Spot (l + 2)
+  Fine l return = Unit {0}
+  Fine l (setResult v) = Spot (l + 2)
+  Fine l (byResult c) = (v : Option ℕ) → Spot (wayOut T c v)
+  Fine l endChoice = Unit {0}
+  Fine l (setParameter v) = Spot (l + 2)
+  Fine l (updates op) = Spot (l + 1)
+  Fine l (updatesWith op) = Spot (l + 1)
+  Fine l (choose op) = Spot (l + 1)
+  Fine l (chooseWith op) = Spot (l + 1)
+
+  leads-fine : {l m : ℕ} {i : Instruction} → Fine l i → Leads T l i m → Spot m
+  unfolding Fine
+  leads-fine f leads-jump = f
+  leads-fine f leads-input = f
+  leads-fine f leads-any = f
+  leads-fine f leads-write = f
+  leads-fine f (leads-token v) = f v
+  leads-fine f leads-call = f .1
+  leads-fine f leads-result = f
+  leads-fine f (leads-choice v) = f v
+  leads-fine f leads-parameter = f
+  leads-fine f leads-update = f
+  leads-fine f leads-updateWith = f
+  leads-fine f leads-choose = f
+  leads-fine f leads-chooseWith = f
+
+  -- Choices
+
+  -- what is behind a choice: at the end of an alternative that goes past, and at an exit in one
+  data Behind (v : Bool) (al : Alts) (o : Other) (q : Acts) (k : List Context) (x e : ℕ) : Type 0 where
+    behind : ((pastSome al || pastOther o) ≡ true → At T start prog v q k e) → ((exitsSome al || exitsOther o) ≡ true → Out T start prog v k x) → Behind v al o q k x e
+
+  alternative-spot : {v : Bool} {al : Alts} {o : Other} {q : Acts} {k : List Context} {x e y : ℕ} {f : Option Acts} → Behind v al o q k x e → Found T start prog v x e al f (some y) → Spot y
+  alternative-spot {al = al} {o = o} (behind hg hh) (found h j a b) =
+      spot-at (at-place h (λ g. end-alternative j (hg (or₁ (pastSome al) (pastOther o) (a g)))) (λ g. out-alternative (hh (or₁ (exitsSome al) (exitsOther o) (b g)))))
+
+  default-spot : {v i : Bool} {al : Alts} {o : Other} {q : Acts} {k : List Context} {ps : List Entry} {x e l n : ℕ} → LayOther T start prog v i o x ps l e → LayAlts T start prog v al x e n ps
+      → Behind v al o q k x e → Spot l
+  unfolding lookup pastOther exitsOther
+  default-spot {al = al} (other-input {u = u} {a = a} {ps = ps} d j) ha hb =
+      let z : Found T start prog _ _ _ al (labelled u al) (if eqb u u then some a else lookup u ps) = alts-found T start prog u ha in
+      let y : Found T start prog _ _ _ al (labelled u al) (some a) = rw (eq-eqb u u refl) at z in
+      spot-input d j (alternative-spot hb y)
+  default-spot (other-end d) ha hb = spot-end d
+  default-spot {al = al} (other-is {b = b} h) ha (behind hg hh) =
+      spot-at (at-place h (λ g. end-otherwise (hg (or₂ (pastSome al) (pastAll b) g))) (λ g. out-otherwise (hh (or₂ (exitsSome al) (exitsAll b) g))))
+
+  way-spot : {v i : Bool} {al : Alts} {o : Other} {q : Acts} {k : List Context} {ps : List Entry} {x e m : ℕ} {f : Option Acts} {s t : Option ℕ} (c n : ℕ) → lay.Leads T s t
+      → Found T start prog v x e al f t → LayAlts T start prog v al x e m ps → LayOther T start prog v i o x ps (c + 1 + 2 * n) e → Behind v al o q k x e → Spot (wayAmong T c n s)
+  unfolding wayAmong backFrom
+  way-spot c n lay.leads-none h ha ho hb = default-spot ho ha hb
+  way-spot c n (lay.leads {y = y} f z) h ha ho hb = rw (f, z) (alternative-spot hb h)
+
+  ways-spot : {v i : Bool} {al : Alts} {o : Other} {q : Acts} {k : List Context} {ps : List Entry} {x e m : ℕ} (c : ℕ) → Table T c ps → LayAlts T start prog v al x e m ps
+      → LayOther T start prog v i o x ps (c + 1 + 2 * length ps) e → Behind v al o q k x e → (w : Option ℕ) → Spot (wayOut T c w)
+  unfolding wayOut wayOf
+  ways-spot {ps = ps} c t ha ho hb w =
+      rw (t .count, ← labels-seek T [] [] w (length ps) (c + 1)) (way-spot c (length ps) (seek-leads T [] w t) (by-found T start prog w ha) ha ho hb)
+
+  choice-fine : {v : Bool} {al : Alts} {o : Other} {q : Acts} {k : List Context} {l : ℕ} → AtChoice T start prog v al o q k l → Fine l (decode T l)
+  unfolding Fine
+  choice-fine (at-choice (lay-choice {c = c} d t ha ho) hg hh) = rw d (ways-spot c t ha ho (behind hg hh))
+
+  -- Places
+
+  out-spot : {v : Bool} {k : List Context} {x : ℕ} → Out T start prog v k x → Spot x
+  out-spot (out-cycle a) = spot-at a
+  out-spot (out-alternative o) = out-spot o
+  out-spot (out-otherwise o) = out-spot o
+
+  plain-fine : {v : Bool} {p : Plain} {q : Acts} {k : List Context} {x l m e : ℕ} → LayPlain T start prog v p x l m → Lays T start prog v q x m e
+      → (pastAll (plain p ▸ q) ≡ true → End T start prog v k e) → (exitsAll (plain p ▸ q) ≡ true → Out T start prog v k x) → Fine l (decode T l)
+  unfolding Fine past plainPast exits isExit
+  plain-fine (lay-match {t = t} d) hs hg hh = rw d (spot-at (rest-at T start prog (plain (match t)) hs hg hh refl))
+  plain-fine (lay-any d) hs hg hh = rw d (spot-at (rest-at T start prog (plain any) hs hg hh refl))
+  plain-fine (lay-emit {t = t} d) hs hg hh = rw d (spot-at (rest-at T start prog (plain (emit t)) hs hg hh refl))
+  plain-fine (lay-error {t = t} d) hs hg hh = rw d (spot-at (rest-at T start prog (plain (error t)) hs hg hh refl))
+  plain-fine {q = q} (lay-exit d) hs hg hh = rw d (out-spot (exit-out T start prog (plain exit) q hh refl))
+  plain-fine (lay-call {r = r} d c) hs hg hh = rw d (is-start r (c .there) refl, spot-at (rest-at T start prog (plain (call r)) hs hg hh refl))
+  plain-fine (lay-back z d) hs hg hh = rw d tt
+  plain-fine (lay-give z d d₁) hs hg hh = rw d (spot-return d₁)
+  plain-fine (lay-update {op = op} d) hs hg hh = rw d (spot-at (rest-at T start prog (plain (update op)) hs hg hh refl))
+  plain-fine (lay-updateWith {op = op} {u = u} d d₁) hs hg hh = rw d (spot-update d₁ (spot-at (rest-at T start prog (plain (updateWith op u)) hs hg hh refl)))
+
+  end-cycle-fine : {v : Bool} {b r : Acts} {k : List Context} {e : ℕ} → End T start prog v (inCycle b r ∷ k) e → Fine e (decode T e)
+  unfolding Fine
+  end-cycle-fine (end-cycle h d o) = rw d (spot-at (at-place h (λ x. end-cycle h d o) o))
+
+  mutual
+    unfolding Fine past exits pastAll
+
+    act-fine : (a : Act) {v : Bool} {q : Acts} {k : List Context} {x l m e : ℕ} → Lay T start prog v a x l m → Lays T start prog v q x m e
+        → (pastAll (a ▸ q) ≡ true → End T start prog v k e) → (exitsAll (a ▸ q) ≡ true → Out T start prog v k x) → Fine l (decode T l)
+    act-fine (plain p) (lay-plain h) hs hg hh = plain-fine h hs hg hh
+    act-fine (cycle b) {v = v} {q = q} {k = k} (lay-cycle {m = m} h d) hs hg hh =
+        let o : exitsAll b ≡ true → Out T start prog v (inCycle b q ∷ k) (m + 2) = λ y. out-cycle (rest-at T start prog (cycle b) hs hg hh y) in
+        acts-fine b h (λ g. end-cycle-fine (end-cycle h d o)) (λ g. end-cycle h d o) o
+    act-fine (choice byToken al ot) {q = q} (lay-token {c = c} nl d t ha ho) hs hg hh =
+        let here = choice byToken al ot in
+        rw d (ways-spot c t ha ho (behind (λ x. rest-at T start prog here hs hg hh x) (λ x. exit-out T start prog here q hh x)))
+    act-fine (choice (byRule r) al ot) {q = q} (lay-rule d c a) hs hg hh =
+        let here = choice (byRule r) al ot in
+        rw d (is-start r (c .there) refl, spot-choice (at-choice a (λ x. rest-at T start prog here hs hg hh x) (λ x. exit-out T start prog here q hh x)))
+    act-fine (choice (byOperation op) al ot) {q = q} (lay-operation d a) hs hg hh =
+        let here = choice (byOperation op) al ot in
+        rw d (spot-choice (at-choice a (λ x. rest-at T start prog here hs hg hh x) (λ x. exit-out T start prog here q hh x)))
+    act-fine (choice (byOperationWith op u) al ot) {q = q} (lay-operationWith d d₁ a) hs hg hh =
+        let here = choice (byOperationWith op u) al ot in
+        rw d (spot-choose d₁ (spot-choice (at-choice a (λ x. rest-at T start prog here hs hg hh x) (λ x. exit-out T start prog here q hh x))))
+
+    -- he: where they end, if they come there
+    acts-fine : (q : Acts) {v : Bool} {k : List Context} {x l e : ℕ} → Lays T start prog v q x l e → (pastAll q ≡ true → Fine e (decode T e))
+        → (pastAll q ≡ true → End T start prog v k e) → (exitsAll q ≡ true → Out T start prog v k x) → Fine l (decode T l)
+    acts-fine done lays-done he hg hh = he refl
+    acts-fine (a ▸ q) (lays-cons h hs) he hg hh = act-fine a h hs hg hh
+
+  end-fine : (k : List Context) {v : Bool} {e : ℕ} → End T start prog v k e → Fine e (decode T e)
+  unfolding Fine
+  end-fine [] (end-rule z d) = rw d tt
+  end-fine (inCycle b r ∷ k) h = end-cycle-fine h
+  end-fine (inAlternative r ∷ k) (end-alternative d a) = rw d (spot-at a)
+  end-fine (inOtherwise r ∷ k) (end-otherwise (at-place h hg hh)) = acts-fine r h (λ g. end-fine k (hg g)) hg hh
+
+  spot-fine : {l : ℕ} → Spot l → Fine l (decode T l)
+  unfolding Fine
+  spot-fine (spot-at (at-place {q = q} {k = k} h hg hh)) = acts-fine q h (λ g. end-fine k (hg g)) hg hh
+  spot-fine (spot-choice a) = choice-fine a
+  spot-fine (spot-return d) = rw d tt
+  spot-fine (spot-end d) = rw d tt
+  spot-fine (spot-update d s) = rw d s
+  spot-fine (spot-choose d s) = rw d s
+  spot-fine (spot-jump d s) = rw d s
+  spot-fine (spot-input d j s) = rw d (spot-jump j s)
+
+  reached-spot : {s l : ℕ} → Spot s → Reached T s l → Spot l
+  reached-spot h at-start = h
+  reached-spot h (further r c) = leads-fine (spot-fine (reached-spot h r)) c
+
+  module _ (laid : (r : ℕ) → r < length prog → At T start prog (ruleOf prog r .valued) (bodyOf prog r) [] (start r)) where
+    start-spot : {s : ℕ} → IsStart s → Spot s
+    start-spot (is-start r l e) = rw e (spot-at (laid r l))
+
+    call-start : {l m : ℕ} → Spot l → decode T l ≡ callRule m → IsStart m
+    unfolding Fine
+    call-start {l} {m} h d =
+        let f : Fine l (callRule m) = rw d at (spot-fine h) in
+        f .0
+
+    pub reached-call : {s l m : ℕ} → IsStart s → Reached T s l → decode T l ≡ callRule m → IsStart m
+    reached-call h r d = call-start (reached-spot (start-spot h) r) d
+
+    -- what is called is a rule
+    pub called-start : {s : ℕ} → IsStart 1 → Called T s → IsStart s
+    called-start h called-first = h
+    called-start h (called-from c r d) = call-start (reached-spot (start-spot (called-start h c)) r) d
+
+-- the rules of a program, in its table
+
+as-rule : {prog : List Rule} {T : List ℕ} {s : ℕ} → IsStart T (place 1 prog) prog s → RuleStart prog s
+as-rule (is-start r l e) = rule-start r l e
+
+pub called-rule : (prog : List Rule) (more : List ℕ) → Accepted prog → {s : ℕ} → Called (table prog ++ more) s → RuleStart prog s
+called-rule prog more a c =
+    let first : 1 ≡ place 1 prog 0 = sym (place-first 1 prog) in
+    as-rule (called-start (table prog ++ more) (place 1 prog) prog (program-laid prog more a) (is-start 0 (a .some-rule) first) c)
+
+-- what is called from a reachable place of a rule is a rule
+pub reached-rule : (prog : List Rule) (more : List ℕ) → Accepted prog → {s l m : ℕ} → RuleStart prog s → Reached (table prog ++ more) s l → decode (table prog ++ more) l ≡ callRule m → RuleStart prog m
+reached-rule prog more a {s} (rule-start r l e) h d = as-rule (reached-call (table prog ++ more) (place 1 prog) prog (program-laid prog more a) (is-start r l e) h d)
