@@ -1,0 +1,156 @@
+-- Choices by the present token, and values that a called rule sets.
+use mathlib.Core.Bool.{Bool, true, false, _||_}
+use mathlib.Core.List.{List, [], _∷_}
+use mathlib.Core.Option.{Option, none, some}
+use mathlib.Core.Path.{_≡_, refl, sym, ap, _∙_}
+use native.Mathlib.Decide.{decLt}
+use native.Mathlib.Numerals.{add-one}
+use native.Mathlib.Omega.{arith}
+use Prim.Native.Nat.{ℕ, zero, suc, _+_, _*_, _-_, _≤_, _<_, min}
+use lib.Dec.{eqb, ltb}
+use lib.ListN.{length, getD}
+use borrow.Author.Tests.{eqb-true}
+use Rattle.base.specs.Common.{if_then_else_}
+use Rattle.events.specs.Events.{Event, output, signal}
+use Rattle.loading.proofs.Members.{fetch-inside}
+use Rattle.machine.specs.Decode.{fetch, Instruction, invalid, jump, input, inputAny, write, inputChoice, callRule, return, setResult, choice, endChoice, setParameter, update, updateWith, choose, chooseWith, decodeOperation, decodeTwo, decodeOne, decodeWord, decodeAt, decode}
+use Rattle.machine.specs.Lengths.{lengths, lengthOf}
+use Rattle.figure.specs.Figure.{wayOut}
+use Rattle.meter.specs.Makes.{overAt, half, Makes, makes-token, makes-default, marks-label, makes-call-value}
+use Rattle.meter.specs.Shaped.{startOf, InRule}
+use Rattle.meter.specs.Steps.{flagOf, calledOf, Kept, Here, Steps, Only, only, Both, this, that, Raised, RaisedTwo, Ways, ways, WaysRaised, MakesAt, TokenVisited, CallsHere, ValueAt, value-at, ValueHere}
+use Rattle.meter.proofs.Raising.{stays, seq, covers, may}
+use Rattle.meter.proofs.Words.{default-way}
+
+-- A choice by the present token
+
+pub token-visited : {T : List ℕ} {c base r l k n flag : ℕ} {rows mid after : List ℕ} {a b e : Bool} → fetch T c ≡ some n → flag ≡ flagOf base → WaysRaised T c flag base rows mid a
+    → RaisedTwo base (overAt r) k (c + 1 + 2 * n) (k + 1) mid after b → e ≡ (a || b) → TokenVisited T c base r l k rows after e
+token-visited {T} {c} {base} {r} {l} {k} {n} {flag} f g x y q = rw q (record {
+  sized = y .sized ∙ x .sized;
+  steps = λ kp h d.
+      let s = x .steps kp (λ w. rw g (may kp h d (marks-label w))) in
+      covers (λ j v m. ask (rw (← g) at m)) (seq s (y .steps (s .kept) (may (s .kept) h d makes-token) (rw (← default-way T c f) (may (s .kept) h d makes-default))));
+})
+  where
+    ask : {S : List ℕ} {called : ℕ → ℕ} {fl j v : ℕ} {rows : List ℕ} → Makes T S called fl r l k (inputChoice c) j v → Both (Ways T c fl) (Both (Only (overAt r) k) (Only (c + 1 + 2 * n) (k + 1))) rows j v
+    ask makes-token = that (this only)
+    ask makes-default = that (that (rw (default-way T c f) only))
+    ask (marks-label w) = this (ways w)
+
+-- Where a value is set
+
+valueOf : Instruction → Option ℕ
+valueOf invalid = none
+valueOf (jump m) = none
+valueOf (input t) = none
+valueOf inputAny = none
+valueOf (write e) = none
+valueOf (inputChoice c) = none
+valueOf (callRule s) = none
+valueOf return = none
+valueOf (setResult v) = some v
+valueOf (choice c) = none
+valueOf endChoice = none
+valueOf (setParameter v) = none
+valueOf (update op) = none
+valueOf (updateWith op) = none
+valueOf (choose op) = none
+valueOf (chooseWith op) = none
+
+not-some : {A : Type 0} {v : ℕ} → _≡_ {A = Option ℕ} none (some v) → A
+not-some e = let z : _≡_ {A = ℕ} 0 1 = cc in absurd (omega arith)
+
+one-value : {A : Type 0} (i v : ℕ) → valueOf (decodeOne i) ≡ some v → A
+unfolding decodeOne decodeOperation valueOf
+one-value {A} i v = go (eqb i 4) (eqb i 9) (eqb i 12) (ltb i 512) (ltb i 768) (ltb i 1024)
+  where
+    go : (a b c d e f : Bool) → valueOf (if a then inputAny else if b then return else if c then endChoice else if d then update i else if e then updateWith i else if f then choose i else chooseWith i) ≡ some v → A
+    go true b c d e f z = not-some z
+    go false true c d e f z = not-some z
+    go false false true d e f z = not-some z
+    go false false false true e f z = not-some z
+    go false false false false true f z = not-some z
+    go false false false false false true z = not-some z
+    go false false false false false false z = not-some z
+
+two-value : (l i x v : ℕ) → valueOf (decodeTwo l i x) ≡ some v → (i ≡ 10) × (x ≡ v)
+unfolding decodeTwo valueOf
+two-value l i x v = go (eqb i 1) (eqb i 2) (eqb i 3) (eqb i 5) (eqb i 6) (eqb i 7) (eqb i 8) (eqb i 10) (eqb i 11) refl
+  where
+    go : (a b c d e f g h j : Bool) → eqb i 10 ≡ h → valueOf (if a then jump (l + 1 + x) else if b then jump (l + 1 - x) else if c then input x else if d then write (output x) else if e then write (signal x) else if f then inputChoice (l + 1 + x) else if g then callRule x else if h then setResult x else if j then choice (l + 1 + x) else setParameter x) ≡ some v → (i ≡ 10) × (x ≡ v)
+    go true b c d e f g h j y z = not-some z
+    go false true c d e f g h j y z = not-some z
+    go false false true d e f g h j y z = not-some z
+    go false false false true e f g h j y z = not-some z
+    go false false false false true f g h j y z = not-some z
+    go false false false false false true g h j y z = not-some z
+    go false false false false false false true h j y z = not-some z
+    go false false false false false false false true j y z = let q : x ≡ v = cc in (eqb-true i 10 y, q)
+    go false false false false false false false false true y z = not-some z
+    go false false false false false false false false false y z = not-some z
+
+set-words : (T : List ℕ) (p v : ℕ) → decode T p ≡ setResult v → (fetch T p ≡ some 10) × (fetch T (p + 1) ≡ some v)
+unfolding decode decodeAt decodeWord valueOf
+set-words T p v d = rw (add-one p) (go (fetch T p) (fetch T (suc p)) (ap valueOf d))
+  where
+    two : (i x : ℕ) (b c : Bool) → valueOf (if b then decodeOne i else if c then decodeTwo p i x else invalid) ≡ some v → (_≡_ {A = Option ℕ} (some i) (some 10)) × (_≡_ {A = Option ℕ} (some x) (some v))
+    two i x true c z = one-value i v z
+    two i x false true z = let y = two-value p i x v z in (ap some (y .0), ap some (y .1))
+    two i x false false z = not-some z
+
+    one : (i : ℕ) (b : Bool) → valueOf (if b then decodeOne i else invalid) ≡ some v → (_≡_ {A = Option ℕ} (some i) (some 10)) × (_≡_ {A = Option ℕ} none (some v))
+    one i true z = one-value i v z
+    one i false z = not-some z
+
+    go : (o u : Option ℕ) → valueOf (decodeAt p o u) ≡ some v → (o ≡ some 10) × (u ≡ some v)
+    go none u z = not-some z
+    go (some i) none z = one i (eqb (lengthOf i) 1) z
+    go (some i) (some x) z = two i x (eqb (lengthOf i) 1) (eqb (lengthOf i) 2) z
+
+set-decode : (T : List ℕ) (p : ℕ) {i v : ℕ} → fetch T p ≡ some i → i ≡ 10 → fetch T (p + 1) ≡ some v → decode T p ≡ setResult v
+unfolding decode decodeAt decodeWord decodeTwo lengthOf lengths
+set-decode T p {i} {v} f e g =
+    let f₁ : fetch T p ≡ some 10 = f ∙ ap some e in
+    let g₁ : fetch T (suc p) ≡ some v = rw (add-one p) at g in
+    rw (f₁, g₁) refl
+
+module _ {T S : List ℕ} {base k c p : ℕ} {rows : List ℕ} (kp : Kept T S base rows) where
+  no-value : ((v : ℕ) → decode T p ≡ setResult v → ⊥) → Steps T S (ValueAt T c k p) base rows rows false
+  no-value f = stays kp (λ i v m. absurd (none-here m))
+    where
+      none-here : {i v : ℕ} → ValueAt T c k p rows i v → ⊥
+      none-here (value-at {v = v} d z) = f v d
+
+  pub value-0 : p ≡ 0 → Steps T S (ValueAt T c k p) base rows rows false
+  value-0 e = no-value (λ v d. let z = fetch-inside T p (rw (set-words T p v d .0) refl) in omega (arith, z .0))
+
+  pub value-cut : length T ≤ p → Steps T S (ValueAt T c k p) base rows rows false
+  value-cut h = no-value (λ v d. let z = fetch-inside T (p + 1) (rw (set-words T p v d .1) refl) in omega (arith, z .1))
+
+  pub value-other : {i : ℕ} → fetch T p ≡ some i → (i ≡ 10 → ⊥) → Steps T S (ValueAt T c k p) base rows rows false
+  value-other {i} f n = no-value (λ v d. n (let z : some i ≡ some 10 = sym f ∙ set-words T p v d .0 in cc))
+
+  pub value-unreached : calledOf rows p ≡ 0 → Steps T S (ValueAt T c k p) base rows rows false
+  value-unreached e = stays kp (λ i v m. absurd (none-here m))
+    where
+      none-here : {i v : ℕ} → ValueAt T c k p rows i v → ⊥
+      none-here (value-at d z) = omega arith
+
+  pub value-raised : {r l i v m way u : ℕ} {after : List ℕ} {b : Bool} → ValueHere T S base r l k c p → fetch T p ≡ some i → i ≡ 10 → fetch T (p + 1) ≡ some v → m ≡ calledOf rows p → (m ≡ 0 → ⊥)
+      → way ≡ wayOut T c (some v) → u ≡ k + m + 3 → Raised base way u rows after b → Steps T S (ValueAt T c k p) base rows after b
+  value-raised {r} {l} {i} {v} {m} {way} {u} {after} {b} h f e g z s w y x =
+      let d = set-decode T p f e g in
+      let t : u ≡ k + calledOf rows p + 3 = y ∙ ap (λ (n : ℕ). k + n + 3) z in
+      let x₁ : Raised base (wayOut T c (some v)) (k + calledOf rows p + 3) rows after b = rw (w, t) at x in
+      covers (λ j n a. ask d a) (x₁ .steps kp (may kp (h .here .here) (h .here .calls) (makes d)))
+    where
+      ask : decode T p ≡ setResult v → {j n : ℕ} → ValueAt T c k p rows j n → Only (wayOut T c (some v)) (k + calledOf rows p + 3) rows j n
+      ask d (value-at {v = a} d₁ q) = let o : a ≡ v = (let o₁ : setResult a ≡ setResult v = sym d₁ ∙ d in cc) in rw o only
+
+      makes : decode T p ≡ setResult v → Makes T S (calledOf rows) (flagOf base) r l k (callRule (startOf S (h .rule))) (wayOut T c (some v)) (k + calledOf rows p + 3)
+      makes d = makes-call-value {s = startOf S (h .rule)} {p = p} (rw (h .here .is-index) (h .here .found)) (h .chooses) (rw (h .here .is-index) (h .in-rule)) d (positive (calledOf rows p) (λ n. s (z ∙ n)))
+        where
+          positive : (n : ℕ) → (n ≡ 0 → ⊥) → 0 < n
+          positive zero f = absurd (f refl)
+          positive (suc n) f = omega arith

@@ -1,0 +1,200 @@
+-- Laws of steps.
+use mathlib.Core.Bool.{Bool, true, false, _||_}
+use mathlib.Core.List.{List, [], _∷_}
+use mathlib.Core.Logic.{_⊎_, inl, inr}
+use mathlib.Core.Option.{Option, none, some}
+use mathlib.Core.Path.{_≡_, refl, sym, ap, _∙_}
+use native.Mathlib.Decide.{decLt}
+use native.Mathlib.Omega.{arith}
+use Prim.Native.Nat.{ℕ, zero, suc, _+_, _-_, _≤_, _<_, min}
+use lib.ListN.{length, getD, set, length-set}
+use lib.Seq.{getD-set-same, getD-set-other}
+use Rattle.base.specs.Bools.{never}
+use Rattle.machine.specs.Decode.{Instruction, decode}
+use Rattle.meter.specs.Makes.{Makes, overAt, backAt, half, cap, Origin, Comes, Ends, IsOver, IsBack, Sound, Stands, stands-place, stands-over, stands-back}
+use Rattle.meter.specs.Shaped.{startOf, InRule, Shaped}
+use Rattle.meter.proofs.Stands.{come, stands}
+use Rattle.meter.specs.Steps.{flagOf, rowOf, calledOf, left, Asked, Kept, Here, Steps, Only, only, Both, this, that, Raised, RaisedTwo}
+
+-- What the numbers have left
+
+left-set : (rows : List ℕ) (i v : ℕ) → i < length rows → getD rows i 0 < v → v ≤ cap → left (set rows i v) < left rows
+unfolding left
+left-set [] i v h l c = absurd (omega arith)
+left-set (n ∷ ns) zero v h l c = omega arith
+left-set (n ∷ ns) (suc i) v h l c = omega (arith, left-set ns i v (omega arith) l c)
+
+module _ {T S : List ℕ} where
+  fewer-comes : {flag l v w : ℕ} → w ≤ v → Comes T S flag l v → Comes T S flag l w
+  fewer-comes h c = record { rule = c .rule; begin = c .begin; before = c .before; is-rule = c .is-rule; reached = c .reached; origin = c .origin; prefix = c .prefix; enough = omega (arith, c .enough) }
+
+  -- a number may be raised at one place
+  sound-set : {row after : ℕ → ℕ} {flag i v w : ℕ} → length S ≤ 128 → ((j : ℕ) → (after j ≡ row j) ⊎ ((j ≡ i) × (after j ≡ w))) → w ≤ v → Stands T S flag i v → Sound T S row flag → Sound T S after flag
+  sound-set {row} {after} {flag} {i} {v} {w} few f h st so = record {
+    comes = λ l b p. comes l b p (f l) st;
+    overs = λ r b p. overs r b p (f (overAt r)) st;
+    backs = λ r b p. backs r b p (f (backAt r)) st;
+  }
+    where
+      comes : (l : ℕ) → l < 4097 → 0 < after l → (after l ≡ row l) ⊎ ((l ≡ i) × (after l ≡ w)) → Stands T S flag i v → Comes T S flag l (after l)
+      comes l b p (inl e) st = rw e (so .comes l b (omega arith))
+      comes l b p (inr e) (stands-place z c) = rw (e .1, e .0) (fewer-comes h c)
+      comes l b p (inr e) (stands-over r z y c) = absurd (omega (arith, e .0))
+      comes l b p (inr e) (stands-back r z y c) = absurd (omega (arith, e .0))
+
+      ends : {r : ℕ} {Is : _} → Ends T S flag r v Is → (u : ℕ) → u ≤ v → Ends T S flag r u Is
+      ends c u z = record { begin = c .begin; count = c .count; end = c .end; origin = c .origin; path = c .path; is = c .is; enough = omega (arith, c .enough) }
+
+      overs : (r : ℕ) → r < length S → 0 < after (overAt r) → (after (overAt r) ≡ row (overAt r)) ⊎ ((overAt r ≡ i) × (after (overAt r) ≡ w)) → Stands T S flag i v → Ends T S flag r (after (overAt r)) IsOver
+      overs r b p (inl e) st = rw e (so .overs r b (omega arith))
+      overs r b p (inr e) (stands-place z c) = absurd (omega (arith, e .0))
+      overs r b p (inr e) (stands-over q z y c) = let x : r ≡ q = omega (arith, e .0) in rw (e .1, x) (ends c w h)
+      overs r b p (inr e) (stands-back q z y c) = absurd (omega (arith, e .0))
+
+      backs : (r : ℕ) → r < length S → 0 < after (backAt r) → (after (backAt r) ≡ row (backAt r)) ⊎ ((backAt r ≡ i) × (after (backAt r) ≡ w)) → Stands T S flag i v → Ends T S flag r (after (backAt r)) IsBack
+      backs r b p (inl e) st = rw e (so .backs r b (omega arith))
+      backs r b p (inr e) (stands-place z c) = absurd (omega (arith, e .0))
+      backs r b p (inr e) (stands-over q z y c) = absurd (omega (arith, e .0))
+      backs r b p (inr e) (stands-back q z y c) = let x : r ≡ q = omega (arith, e .0) in rw (e .1, x) (ends c w h)
+
+  pub sound-low : {row after : ℕ → ℕ} {flag : ℕ} → length S ≤ 128 → ((j : ℕ) → j < half → after j ≡ row j) → Sound T S row flag → Sound T S after flag
+  sound-low few f so = record {
+    comes = λ l b p. let e = f l (omega arith) in rw e (so .comes l b (omega arith));
+    overs = λ r b p. let e = f (overAt r) (omega arith) in rw e (so .overs r b (omega arith));
+    backs = λ r b p. let e = f (backAt r) (omega arith) in rw e (so .backs r b (omega arith));
+  }
+
+-- One place of a list
+
+set-either : (rows : List ℕ) (i w j : ℕ) → i < length rows → (getD (set rows i w) j 0 ≡ getD rows j 0) ⊎ ((j ≡ i) × (getD (set rows i w) j 0 ≡ w))
+set-either rows i w j h = elim (decLt j i) [
+  | yes z ↦ inl (getD-set-other rows i j w 0 (λ e. omega arith))
+  | no z ↦ elim (decLt i j) [
+    | yes y ↦ inl (getD-set-other rows i j w 0 (λ e. omega arith))
+    | no y ↦ let e : j ≡ i = omega arith in
+        let q : getD (set rows i w) j 0 ≡ w = rw e (getD-set-same rows i w 0 h) in
+        inr (e, q)
+  ]
+]
+
+module _ {T S : List ℕ} {base : ℕ} where
+  -- a number is raised
+  kept-set : {rows : List ℕ} {i v w : ℕ} → Kept T S base rows → i < half → w ≤ v → w ≤ cap → Stands T S (flagOf base) i v → Kept T S base (set rows (base + i) w)
+  unfolding flagOf
+  kept-set {rows} {i} {v} {w} k h z low-cap st =
+      let n : base + i < length rows = elim (k .is-half) [ inl e ↦ omega (arith, k .sized) | inr e ↦ omega (arith, k .sized) ] in
+      record {
+        sized = length-set rows (base + i) w ∙ k .sized;
+        is-half = k .is-half;
+        shaped = k .shaped;
+        small = λ j. small j (set-either rows (base + i) w j n);
+        first = first (k .is-half) n;
+        row = sound-set (k .shaped .few) (λ j. moved (set-either rows (base + i) w (base + j) n)) z st (k .row);
+      }
+    where
+      moved : {j x a : ℕ} → (x ≡ a) ⊎ ((base + j ≡ base + i) × (x ≡ w)) → (x ≡ a) ⊎ ((j ≡ i) × (x ≡ w))
+      moved (inl e) = inl e
+      moved (inr e) = inr (omega (arith, e .0), e .1)
+
+      small : (j : ℕ) {x : ℕ} → (x ≡ getD rows j 0) ⊎ ((j ≡ base + i) × (x ≡ w)) → x ≤ cap
+      small j (inl e) = omega (arith, k .small j)
+      small j (inr e) = omega (arith, e .1)
+
+      low : {j x a : ℕ} → base ≡ 0 → (x ≡ a) ⊎ ((j ≡ base + i) × (x ≡ w)) → (x ≡ a) ⊎ ((j ≡ i) × (x ≡ w))
+      low b (inl e) = inl e
+      low b (inr e) = inr (omega (arith, e .0), e .1)
+
+      first : (base ≡ 0) ⊎ (base ≡ half) → base + i < length rows → Sound T S (calledOf (set rows (base + i) w)) 0
+      first (inl e) n = sound-set (k .shaped .few) (λ j. low e (set-either rows (base + i) w j n)) z (rw e at st) (k .first)
+      first (inr e) n = sound-low (k .shaped .few) (λ j l. getD-set-other rows (base + i) j w 0 (λ y. omega arith)) (k .first)
+
+  -- nothing is raised
+  pub stays : {M : Asked} {rows : List ℕ} → Kept T S base rows → ((i v : ℕ) → M rows i v → i < half → min v cap ≤ rowOf base rows i) → Steps T S M base rows rows false
+  stays k f = record { kept = k; grows = λ i. omega arith; low = λ i h. refl; high = λ i h. refl; same = λ e. refl; less = λ e. never e; all = λ e {i} {v} m h. f i v m h }
+
+  -- a number is raised: to v, or to the cap
+  pub raised : {rows : List ℕ} {i v w : ℕ} → Kept T S base rows → i < half → w ≡ min v cap → rowOf base rows i < w → Stands T S (flagOf base) i v → Steps T S (Only i v) base rows (set rows (base + i) w) true
+  raised {rows} {i} {v} {w} k h e l st =
+      let n : base + i < length rows = elim (k .is-half) [ inl e ↦ omega (arith, k .sized) | inr e ↦ omega (arith, k .sized) ] in
+      record {
+        kept = kept-set k h (omega arith) (omega arith) st;
+        grows = λ j. grows j (set-either rows (base + i) w j n);
+        low = λ j z. getD-set-other rows (base + i) j w 0 (λ y. omega arith);
+        high = λ j z. getD-set-other rows (base + i) j w 0 (λ y. omega arith);
+        same = λ z. never (sym z);
+        less = λ z. left-set rows (base + i) w n l (omega arith);
+        all = λ z. never (sym z);
+      }
+    where
+      grows : (j : ℕ) → (getD (set rows (base + i) w) j 0 ≡ getD rows j 0) ⊎ ((j ≡ base + i) × (getD (set rows (base + i) w) j 0 ≡ w)) → getD rows j 0 ≤ getD (set rows (base + i) w) j 0
+      grows j (inl e) = omega arith
+      grows j (inr e) = let z : getD rows j 0 < w = rw (e .0) l in omega (arith, e .1)
+
+  -- one step after the other
+  pub seq : {M N : Asked} {rows mid after : List ℕ} {a b : Bool} → Steps T S M base rows mid a → Steps T S N base mid after b → Steps T S (Both M N) base rows after (a || b)
+  seq {M} {N} {rows} {mid} {after} {a} {b} x y = record {
+    kept = y .kept;
+    grows = λ i. omega (arith, x .grows i, y .grows i);
+    low = λ i h. y .low i h ∙ x .low i h;
+    high = λ i h. y .high i h ∙ x .high i h;
+    same = λ e. y .same (second a b e) ∙ x .same (first a b e);
+    less = λ e. less a b e (x .less) (x .same) (y .less) (y .same);
+    all = λ e m h. all e m h;
+  }
+    where
+      first : (a b : Bool) → (a || b) ≡ false → a ≡ false
+      first true b e = e
+      first false b e = refl
+
+      second : (a b : Bool) → (a || b) ≡ false → b ≡ false
+      second true b e = never (sym e)
+      second false b e = e
+
+      less : (a b : Bool) → (a || b) ≡ true → (a ≡ true → left mid < left rows) → (a ≡ false → mid ≡ rows) → (b ≡ true → left after < left mid) → (b ≡ false → after ≡ mid) → left after < left rows
+      less true true e p q r s = omega (arith, p refl, r refl)
+      less true false e p q r s = rw (s refl) (p refl)
+      less false true e p q r s = rw (← q refl) (r refl)
+      less false false e p q r s = never e
+
+      all : (a || b) ≡ false → {i v : ℕ} → Both M N rows i v → i < half → min v cap ≤ rowOf base rows i
+      all e (this m) h = x .all (first a b e) m h
+      all e {i} {v} (that m) h =
+          let q = x .same (first a b e) in
+          let z : N mid i v = rw q m in
+          rw (← q) (y .all (second a b e) z h)
+
+  -- more is asked for by less
+  pub covers : {M N : Asked} {rows after : List ℕ} {a : Bool} → ((i v : ℕ) → N rows i v → M rows i v) → Steps T S M base rows after a → Steps T S N base rows after a
+  covers f x = record { kept = x .kept; grows = x .grows; low = x .low; high = x .high; same = x .same; less = x .less; all = λ e {i} {v} m h. x .all e (f i v m) h }
+
+-- Raising one place
+
+pub past : {base i v : ℕ} {rows : List ℕ} → half ≤ i → Raised base i v rows rows false
+past h = record { sized = refl; steps = λ k st. stays k (λ j w m z. absurd (outside m h z)) }
+  where
+    outside : {i v j w : ℕ} {rows : List ℕ} → Only i v rows j w → half ≤ i → j < half → ⊥
+    outside only h z = omega arith
+
+pub enough : {base i v : ℕ} {rows : List ℕ} → min v cap ≤ rowOf base rows i → Raised base i v rows rows false
+enough {base} h = record { sized = refl; steps = λ k st. stays k (λ j w m z. has base m h) }
+  where
+    has : (base : ℕ) {i v j w : ℕ} {rows : List ℕ} → Only i v rows j w → min v cap ≤ rowOf base rows i → min w cap ≤ rowOf base rows j
+    has base only z = z
+
+pub higher : {base i v w : ℕ} {rows : List ℕ} → i < half → w ≡ min v cap → rowOf base rows i < w → Raised base i v rows (set rows (base + i) w) true
+higher {base} {i} {w = w} {rows = rows} h e l = record { sized = length-set rows (base + i) w; steps = λ k st. raised k h e l (st h (omega arith)) }
+
+pub flag-small : (base : ℕ) → flagOf base ≤ 1
+unfolding flagOf
+flag-small zero = omega arith
+flag-small (suc b) = omega arith
+
+-- what an instruction asks for may be raised
+pub may : {T S : List ℕ} {base r l k j v : ℕ} {rows : List ℕ} {i : Instruction} → Kept T S base rows → Here T S base r l k → decode T l ≡ i → Makes T S (calledOf rows) (flagOf base) r l k i j v
+    → j < half → 0 < v → Stands T S (flagOf base) j v
+may {T} {S} {base} {rows = rows} k h d m z y =
+    stands T S (k .shaped) (calledOf rows) (k .first) (flagOf base) (flag-small base) (come T S (k .shaped) (calledOf rows) (k .first) (flagOf base) (flag-small base) (h .is-rule) (h .in-rule) (h .comes)) d m y
+
+-- two places, one after the other
+pub two : {base i v j w : ℕ} {rows mid after : List ℕ} {a b : Bool} → Raised base i v rows mid a → Raised base j w mid after b → RaisedTwo base i v j w rows after (a || b)
+two x y = record { sized = y .sized ∙ x .sized; steps = λ k s t. let z = x .steps k s in seq z (y .steps (z .kept) t) }

@@ -1,0 +1,122 @@
+use Rattle.meter.proofs.Visits.{WaysUpto, ways-first, ways-next, ways-all}
+use Rattle.machine.specs.Bytes.{tableOf}
+use Rattle.machine.proofs.Bytes.{length-tableOf}
+use borrow.Author.Needs.{needs}
+use Prim.Native.Nat.{_-_}
+use native.Mathlib.Omega.{arith}
+use Rattle.meter.proofs.raise_ways.Statement.{statement}
+use Rattle.meter.proofs.raise_ways.Tie as tie
+use Rattle.meter.proofs.raise_ways.Reads as reads
+use Rattle.meter.proofs.raise_ways.Lts as lts
+use Rattle.loader.proofs.word_at.Reads as word-at-reads
+use Rattle.meter.proofs.either.Reads as either-reads
+use Rattle.meter.proofs.raise.Reads as raise-reads
+use Rattle.meter.proofs.way_out.Reads as way-out-reads
+
+abbrev Inv-loop : tie.InvT-loop
+Inv-loop table c base v rows₀ n changed₀ i₀ rows changed i = WaysUpto (tableOf table) c v base n i rows₀ rows changed
+
+abbrev μ-loop : tie.MeasureT-loop
+μ-loop table c base v rows₀ n changed₀ i₀ rows changed i = n - i
+
+-- src/lib.rt:150:9
+word-at-requires : tie.Need-word-at-requires Inv-loop μ-loop
+word-at-requires c κs = (c .before .before .pre .0 .low, omega (arith, c .before .before .pre .0 .fits))
+
+-- src/lib.rt:153:5
+loop-holds : tie.Need-loop-holds Inv-loop μ-loop
+loop-holds c = ways-first (length-tableOf (c .before .before .before .args .table .now)) (c .before .before .before .pre .0) (c .word-at .ensures .0)
+
+-- src/lib.rt:154:60
+add-word-at : tie.Need-add-word-at Inv-loop μ-loop
+add-word-at c = omega arith
+
+-- src/lib.rt:154:68
+mul-word-at : tie.Need-mul-word-at Inv-loop μ-loop
+mul-word-at c = omega arith
+
+-- src/lib.rt:154:60
+add-word-at-2 : tie.Need-add-word-at-2 Inv-loop μ-loop
+add-word-at-2 c = omega arith
+
+-- src/lib.rt:154:37
+word-at-requires-2 : tie.Need-word-at-requires-2 Inv-loop μ-loop
+word-at-requires-2 c κs = (omega arith, omega arith)
+
+-- src/lib.rt:154:13
+way-out-requires : tie.Need-way-out-requires Inv-loop μ-loop
+way-out-requires c κs = c .before .before .before .before .before .before .pre .0
+
+-- src/lib.rt:155:13
+raise-requires : tie.Need-raise-requires Inv-loop μ-loop
+raise-requires c κs = (omega (arith, c .before .before .before .before .loop .inv .sized, c .before .before .before .before .before .before .before .before .pre .1), c .before .before .before .before .before .before .before .before .pre .2)
+
+-- src/lib.rt:156:9
+either-requires : tie.Need-either-requires Inv-loop μ-loop
+either-requires c κs = search needs
+
+-- src/lib.rt:157:9
+add-i : tie.Need-add-i Inv-loop μ-loop
+add-i c = omega arith
+
+-- src/lib.rt:153:5
+loop-less : tie.Need-loop-less Inv-loop μ-loop
+loop-less c = omega arith
+
+-- src/lib.rt:153:5
+loop-again : tie.Need-loop-again Inv-loop μ-loop
+loop-again c = ways-next (c .before .before .before .before .before .before .before .before .loop .inv) (search needs) (c .before .before .before .before .before .before .word-at2 .ensures .0) (c .before .before .before .before .before .way-out .ensures) (c .before .before .before .raise .ensures) (c .either .ensures)
+
+-- src/lib.rt:159:34
+add-raise : tie.Need-add-raise Inv-loop μ-loop
+add-raise c = omega arith
+
+-- src/lib.rt:159:42
+mul-raise : tie.Need-mul-raise Inv-loop μ-loop
+mul-raise c = omega arith
+
+-- src/lib.rt:159:34
+add-raise-2 : tie.Need-add-raise-2 Inv-loop μ-loop
+add-raise-2 c = omega arith
+
+-- src/lib.rt:159:9
+raise-requires-2 : tie.Need-raise-requires-2 Inv-loop μ-loop
+raise-requires-2 c κs = (omega (arith, c .before .before .loop .inv .sized, c .before .before .before .before .before .before .pre .1), c .before .before .before .before .before .before .pre .2)
+
+-- src/lib.rt:160:5
+either-requires-2 : tie.Need-either-requires-2 Inv-loop μ-loop
+either-requires-2 c κs = search needs
+
+-- src/lib.rt:146:1
+same-length : tie.Need-same-length Inv-loop μ-loop
+same-length c = search needs
+
+-- src/lib.rt:146:1
+returns : tie.Need-returns Inv-loop μ-loop
+returns c = ways-all (c .before .before .before .before .before .before .loop .inv) (search needs) (c .before .before .before .raise2 .ensures) (c .either2 .ensures)
+
+pub raise-ways-spec : {M : Type 1} → statement M
+raise-ways-spec =
+    tie.close
+    (tie.spec
+    Inv-loop
+    μ-loop
+    word-at-requires
+    loop-holds
+    add-word-at
+    mul-word-at
+    add-word-at-2
+    word-at-requires-2
+    way-out-requires
+    raise-requires
+    either-requires
+    add-i
+    loop-less
+    loop-again
+    add-raise
+    mul-raise
+    add-raise-2
+    raise-requires-2
+    either-requires-2
+    same-length
+    returns)

@@ -1,0 +1,3 @@
+pub mod Shaped
+pub mod Makes
+pub mod Steps

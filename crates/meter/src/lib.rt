@@ -1,0 +1,266 @@
+// The figure Q of a table: numbers by location, raised until none can be raised. The number of a location is one more than the most instructions before it on
+// a quiet path, 0 where none comes; behind the locations stand, for each rule, the most instructions of a path that is over, and of one that is back.
+// The first half begins at the rules' starts and says what a call adds; the second begins at every instruction that can be reached.
+ghost use mathlib.Core.Path.{_≡_};
+ghost use mathlib.Core.Bool.{Bool, true, false, _||_};
+ghost use mathlib.Core.Option.{none, some};
+ghost use Prim.Native.Nat.{_+_, _*_, _-_, _<_, _≤_, min};
+ghost use lib.ListN.{length, getD};
+ghost use Rattle.machine.specs.Bytes.{count, wordsOf, tableOf};
+ghost use Rattle.meter.specs.Steps.{flagOf, Kept, Here, Steps, Raised, Ways, MakesAt, RaisedTwo, WaysRaised, Visited, TokenVisited, ValueAt, ValueHere, CallsHere, Values, Behind, ChoiceAt, AskedAt, AskedBelow, AskedFrom, Settled};
+ghost use Rattle.machine.specs.Decode.{callRule, choice, decodeOne, decodeTwo, decode};
+ghost use Rattle.meter.specs.Shaped.{indexOf, endOf, InRule, Fits};
+ghost use Rattle.figure.specs.Figure.{wayOut};
+
+// Places in a half: the locations, then the paths of each rule that are over and those that are back.
+const OVER: usize = 4097;
+
+const BACK: usize = 4225;
+
+const HALF: usize = 4353;
+
+pub const ROWS: usize = 8706;
+
+// Past the greatest figure: numbers stop here.
+const CAP: u64 = 4294967296;
+
+// The instructions that end paths or branch.
+const JUMP_FORWARD: usize = 1;
+
+const JUMP_BACK: usize = 2;
+
+const INPUT: usize = 3;
+
+const INPUT_CHOICE: usize = 7;
+
+const CALL: usize = 8;
+
+const SET_RESULT: usize = 10;
+
+const CHOICE: usize = 11;
+
+const INPUT_ANY: usize = 4;
+
+const RETURN: usize = 9;
+
+const END_CHOICE: usize = 12;
+
+const FIRST_CHOOSE: usize = 768;
+
+// The number at an index.
+fn number(rows: &[u64], i: usize) -> u64
+    ensures { λ r. ⌜ r ≡ getD (now (rows .entry)) i 0 ⌝ }
+{
+    if i < rows.len() { rows[i] } else { 0 }
+}
+
+fn capped(v: u64) -> u64
+    ensures { λ r. ⌜ r ≡ min v 4294967296 ⌝ }
+{
+    if v < CAP { v } else { CAP }
+}
+
+fn either(a: bool, b: bool) -> bool
+    ensures { λ r. ⌜ r ≡ (a || b) ⌝ }
+{
+    if a { true } else { b }
+}
+
+// A number is raised, where it is less; locations past the last have none.
+fn raise(rows: &mut [u64], base: usize, i: usize, v: u64) -> bool
+    requires { ⌜ (length (now rows) ≡ 8706) × (base ≤ 4353) ⌝ }
+    ensures { λ r. ⌜ Raised base i v (now (rows .entry)) (now (rows .exit)) r ⌝ }
+{
+    if HALF <= i {
+        return false;
+    }
+    let at = base + i;
+    let w = capped(v);
+    if rows[at] < w {
+        rows[at] = w;
+        return true;
+    }
+    false
+}
+
+fn wide(x: u16) -> usize
+    ensures { λ r. ⌜ (r ≡ x) × (r < 65536) ⌝ }
+{
+    x as usize
+}
+
+// Back from a location by a distance; 0 where there is no such location.
+fn back(l: usize, x: usize) -> usize
+    ensures { λ r. ⌜ r ≡ l - x ⌝ }
+{
+    if x < l { l - x } else { 0 }
+}
+
+// What begins a path in the second half: every instruction that can be reached.
+fn mark_of(base: usize) -> u64
+    ensures { λ r. ⌜ r ≡ flagOf base ⌝ }
+{
+    if base == 0 { 0 } else { 1 }
+}
+
+// Which rule starts at a location; their number where none does.
+fn rule_at(starts: &[usize], s: usize) -> usize
+    ensures { λ r. ⌜ r ≡ indexOf (now (starts .entry)) s ⌝ }
+{
+    let mut r: usize = 0;
+    while r < starts.len() {
+        if starts[r] == s {
+            return r;
+        }
+        r += 1;
+    }
+    r
+}
+
+// Where the words of a rule end.
+fn end_of(starts: &[usize], r: usize, size: usize) -> usize
+    requires { ⌜ (r < 1000) × (size < 10000) ⌝ }
+    ensures { λ n. ⌜ n ≡ endOf size (now (starts .entry)) r ⌝ }
+{
+    if r + 1 < starts.len() {
+        starts[r + 1]
+    } else {
+        size + 1
+    }
+}
+
+// Where the choice with its table at c goes by a value.
+fn way_out(table: &[u8], c: usize, v: usize) -> usize
+    requires { ⌜ Fits (tableOf (now table)) c ⌝ }
+    ensures { λ r. ⌜ r ≡ wayOut (tableOf (now (table .entry))) c (some v) ⌝ }
+{
+    let n = loader::word_at(table, c);
+    let mut i: usize = 0;
+    while i < n {
+        let l = c + 1 + 2 * i;
+        if loader::word_at(table, l) == v {
+            return back(l + 1, loader::word_at(table, l + 1));
+        }
+        i += 1;
+    }
+    c + 1 + 2 * n
+}
+
+// Two places are raised.
+fn raise_two(rows: &mut [u64], base: usize, i: usize, v: u64, j: usize, w: u64) -> bool
+    requires { ⌜ (length (now rows) ≡ 8706) × (base ≤ 4353) ⌝ }
+    ensures { λ r. ⌜ RaisedTwo base i v j w (now (rows .entry)) (now (rows .exit)) r ⌝ }
+{
+    let a = raise(rows, base, i, v);
+    let b = raise(rows, base, j, w);
+    either(a, b)
+}
+
+// Every way out of the choice with its table at c.
+fn raise_ways(table: &[u8], c: usize, base: usize, v: u64, rows: &mut [u64]) -> bool
+    requires { ⌜ Fits (tableOf (now table)) c × (length (now rows) ≡ 8706) × (base ≤ 4353) ⌝ }
+    ensures { λ r. ⌜ WaysRaised (tableOf (now (table .entry))) c v base (now (rows .entry)) (now (rows .exit)) r ⌝ }
+{
+    let n = loader::word_at(table, c);
+    let mut changed = false;
+    let mut i: usize = 0;
+    while i < n {
+        let way = way_out(table, c, loader::word_at(table, c + 1 + 2 * i));
+        let more = raise(rows, base, way, v);
+        changed = either(changed, more);
+        i += 1;
+    }
+    let last = raise(rows, base, c + 1 + 2 * n, v);
+    either(changed, last)
+}
+
+// A place in a rule: the rule, the location and its number.
+struct Spot {
+    rule: usize,
+    at: usize,
+    number: u64,
+}
+
+// An instruction of one word.
+fn visit_one(i: usize, base: usize, here: Spot, rows: &mut [u64]) -> bool
+    requires { ⌜ (length (now rows) ≡ 8706) × (base ≤ 4353) × (here .rule < 128) × (here .at < 10000) × (here .number ≤ 4294967296) ⌝ }
+    ensures { λ r. ⌜ Visited (decodeOne i) base (here .rule) (here .at) (here .number) (now (rows .entry)) (now (rows .exit)) r ⌝ }
+{
+    let next = here.at + 1;
+    let over = OVER + here.rule;
+    if i == RETURN {
+        return raise(rows, base, BACK + here.rule, here.number);
+    }
+    if i == END_CHOICE {
+        return raise(rows, base, over, here.number);
+    }
+    if i == INPUT_ANY {
+        return raise_two(rows, base, over, here.number, next, mark_of(base));
+    }
+    if i < FIRST_CHOOSE {
+        return raise(rows, base, next, here.number + 1);
+    }
+    raise_two(rows, base, over, here.number, next, here.number + 1)
+}
+
+// A choice by the present token, with its table at c.
+fn visit_token(table: &[u8], c: usize, base: usize, here: Spot, rows: &mut [u64]) -> bool
+    requires { ⌜ Fits (tableOf (now table)) c × (length (now rows) ≡ 8706) × (base ≤ 4353) × (here .rule < 128) × (here .number ≤ 4294967296) ⌝ }
+    ensures { λ r. ⌜ TokenVisited (tableOf (now (table .entry))) c base (here .rule) (here .at) (here .number) (now (rows .entry)) (now (rows .exit)) r ⌝ }
+{
+    let a = raise_ways(table, c, base, mark_of(base), rows);
+    let default = c + 1 + 2 * loader::word_at(table, c);
+    let b = raise_two(
+        rows,
+        base,
+        OVER + here.rule,
+        here.number,
+        default,
+        here.number + 1,
+    );
+    either(a, b)
+}
+
+// Behind a call and through the choice with its table at c, by the value that is set at p.
+fn raise_value(
+    table: &[u8],
+    starts: &[usize],
+    p: usize,
+    c: usize,
+    base: usize,
+    here: Spot,
+    rows: &mut [u64],
+) -> bool
+    requires { ⌜ Kept (tableOf (now table)) (now starts) base (now rows) × ValueHere (tableOf (now table)) (now starts) base (here .rule) (here .at) (here .number) c p ⌝ }
+    ensures { λ r. ⌜ Steps (tableOf (now (table .entry))) (now (starts .entry)) (ValueAt (tableOf (now (table .entry))) c (here .number) p) base (now (rows .entry)) (now (rows .exit)) r ⌝ }
+{
+    if p == 0 {
+        return false;
+    }
+    if loader::size_of(table) <= p {
+        return false;
+    }
+    if loader::word_at(table, p) != SET_RESULT {
+        return false;
+    }
+    let m = number(rows, p);
+    if m == 0 {
+        return false;
+    }
+    let way = way_out(table, c, loader::word_at(table, p + 1));
+    raise(rows, base, way, here.number + m + 3)
+}
+
+// The location of the table of the choice at l; 0 where no choice stands.
+fn choice_at(table: &[u8], l: usize) -> usize
+    requires { ⌜ (1 ≤ l) × (l < 10000) ⌝ }
+    ensures { λ c. ⌜ ChoiceAt (tableOf (now (table .entry))) l c ⌝ }
+{
+    if loader::size_of(table) < l + 1 {
+        return 0;
+    }
+    if loader::word_at(table, l) != CHOICE {
+        return 0;
+    }
+    l + 1 + loader::word_at(table, l + 1)
+}
