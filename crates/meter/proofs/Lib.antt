@@ -6,3 +6,5 @@ pub mod Visits
 pub mod Twos
 pub mod Calls
 pub mod Laws
+pub mod Sweeps
+pub mod Seen

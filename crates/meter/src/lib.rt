@@ -264,3 +264,198 @@ fn choice_at(table: &[u8], l: usize) -> usize
     }
     l + 1 + loader::word_at(table, l + 1)
 }
+
+// The same for each value with which rule q can be back.
+fn raise_values(
+    table: &[u8],
+    starts: &[usize],
+    q: usize,
+    c: usize,
+    base: usize,
+    here: Spot,
+    rows: &mut [u64],
+) -> bool
+    requires { ⌜ Kept (tableOf (now table)) (now starts) base (now rows) × CallsHere (tableOf (now table)) (now starts) base (here .rule) (here .at) (here .number) q × (decode (tableOf (now table)) (here .at + 2) ≡ choice c) ⌝ }
+    ensures { λ r. ⌜ Steps (tableOf (now (table .entry))) (now (starts .entry)) (Values (tableOf (now (table .entry))) (now (starts .entry)) c (here .number) q (endOf (length (tableOf (now (table .entry)))) (now (starts .entry)) q)) base (now (rows .entry)) (now (rows .exit)) r ⌝ }
+{
+    let to = end_of(starts, q, loader::size_of(table));
+    let mut changed = false;
+    let mut p = starts[q];
+    while p < to {
+        let more = raise_value(table, starts, p, c, base, here, rows);
+        changed = either(changed, more);
+        p += 1;
+    }
+    changed
+}
+
+// What is behind a call of rule q.
+fn raise_behind(
+    table: &[u8],
+    starts: &[usize],
+    q: usize,
+    base: usize,
+    here: Spot,
+    rows: &mut [u64],
+) -> bool
+    requires { ⌜ Kept (tableOf (now table)) (now starts) base (now rows) × CallsHere (tableOf (now table)) (now starts) base (here .rule) (here .at) (here .number) q ⌝ }
+    ensures { λ r. ⌜ Steps (tableOf (now (table .entry))) (now (starts .entry)) (Behind (tableOf (now (table .entry))) (now (starts .entry)) (here .at) (here .number) q) base (now (rows .entry)) (now (rows .exit)) r ⌝ }
+{
+    let next = here.at + 2;
+    let c = choice_at(table, next);
+    if 0 < c {
+        return raise_values(table, starts, q, c, base, here, rows);
+    }
+    let m = number(rows, BACK + q);
+    if m == 0 {
+        return false;
+    }
+    raise(rows, base, next, here.number + m + 1)
+}
+
+// A call of the rule that starts at s.
+fn raise_call(
+    table: &[u8],
+    starts: &[usize],
+    s: usize,
+    base: usize,
+    here: Spot,
+    rows: &mut [u64],
+) -> bool
+    requires { ⌜ Kept (tableOf (now table)) (now starts) base (now rows) × Here (tableOf (now table)) (now starts) base (here .rule) (here .at) (here .number) × (decode (tableOf (now table)) (here .at) ≡ callRule s) ⌝ }
+    ensures { λ r. ⌜ Steps (tableOf (now (table .entry))) (now (starts .entry)) (MakesAt (tableOf (now (table .entry))) (now (starts .entry)) base (here .rule) (here .at) (here .number) (callRule s)) base (now (rows .entry)) (now (rows .exit)) r ⌝ }
+{
+    let q = rule_at(starts, s);
+    let o = here.number + number(rows, OVER + q);
+    let a = raise_two(rows, base, OVER + here.rule, o, here.at + 2, mark_of(base));
+    let b = raise_behind(table, starts, q, base, here, rows);
+    either(a, b)
+}
+
+// An instruction of two words.
+fn visit_two(
+    table: &[u8],
+    starts: &[usize],
+    i: usize,
+    x: usize,
+    base: usize,
+    here: Spot,
+    rows: &mut [u64],
+) -> bool
+    requires { ⌜ Kept (tableOf (now table)) (now starts) base (now rows) × Here (tableOf (now table)) (now starts) base (here .rule) (here .at) (here .number) × (decode (tableOf (now table)) (here .at) ≡ decodeTwo (here .at) i x) × (x < 65536) ⌝ }
+    ensures { λ r. ⌜ Steps (tableOf (now (table .entry))) (now (starts .entry)) (MakesAt (tableOf (now (table .entry))) (now (starts .entry)) base (here .rule) (here .at) (here .number) (decodeTwo (here .at) i x)) base (now (rows .entry)) (now (rows .exit)) r ⌝ }
+{
+    let l = here.at;
+    let more = here.number + 1;
+    if i == JUMP_FORWARD {
+        return raise(rows, base, l + 1 + x, more);
+    }
+    if i == JUMP_BACK {
+        return raise(rows, base, back(l + 1, x), more);
+    }
+    if i == INPUT {
+        return raise_two(
+            rows,
+            base,
+            OVER + here.rule,
+            here.number,
+            l + 2,
+            mark_of(base),
+        );
+    }
+    if i == INPUT_CHOICE {
+        return visit_token(table, l + 1 + x, base, here, rows);
+    }
+    if i == CALL {
+        return raise_call(table, starts, x, base, here, rows);
+    }
+    if i == CHOICE {
+        return raise_ways(table, l + 1 + x, base, more, rows);
+    }
+    raise(rows, base, l + 2, more)
+}
+
+// What the instruction at a location of a rule asks for.
+fn visit(table: &[u8], starts: &[usize], r: usize, l: usize, base: usize, rows: &mut [u64]) -> bool
+    requires { ⌜ Kept (tableOf (now table)) (now starts) base (now rows) × (r < length (now starts)) × InRule (tableOf (now table)) (now starts) r l ⌝ }
+    ensures { λ b. ⌜ Steps (tableOf (now (table .entry))) (now (starts .entry)) (AskedAt (tableOf (now (table .entry))) (now (starts .entry)) base r l) base (now (rows .entry)) (now (rows .exit)) b ⌝ }
+{
+    if l == 0 {
+        return false;
+    }
+    let size = loader::size_of(table);
+    if size < l {
+        return false;
+    }
+    let n = number(rows, base + l);
+    if n == 0 {
+        return false;
+    }
+    let here = Spot {
+        rule: r,
+        at: l,
+        number: n,
+    };
+    let i = machine::word(table, l - 1);
+    let k = machine::instruction_length(i);
+    if k == 0 {
+        return false;
+    }
+    if k == 1 {
+        return visit_one(wide(i), base, here, rows);
+    }
+    if size < l + 1 {
+        return false;
+    }
+    visit_two(
+        table,
+        starts,
+        wide(i),
+        loader::word_at(table, l + 1),
+        base,
+        here,
+        rows,
+    )
+}
+
+// What the instructions of a rule ask for.
+fn sweep_rule(table: &[u8], starts: &[usize], r: usize, base: usize, rows: &mut [u64]) -> bool
+    requires { ⌜ Kept (tableOf (now table)) (now starts) base (now rows) × (r < length (now starts)) ⌝ }
+    ensures { λ b. ⌜ Steps (tableOf (now (table .entry))) (now (starts .entry)) (AskedBelow (tableOf (now (table .entry))) (now (starts .entry)) base r (endOf (length (tableOf (now (table .entry)))) (now (starts .entry)) r)) base (now (rows .entry)) (now (rows .exit)) b ⌝ }
+{
+    let to = end_of(starts, r, loader::size_of(table));
+    let mut changed = false;
+    let mut l = starts[r];
+    while l < to {
+        let more = visit(table, starts, r, l, base, rows);
+        changed = either(changed, more);
+        l += 1;
+    }
+    changed
+}
+
+// One sweep over all rules, the last first: most rules call later ones.
+fn sweep(table: &[u8], starts: &[usize], base: usize, rows: &mut [u64]) -> bool
+    requires { ⌜ Kept (tableOf (now table)) (now starts) base (now rows) ⌝ }
+    ensures { λ b. ⌜ Steps (tableOf (now (table .entry))) (now (starts .entry)) (AskedFrom (tableOf (now (table .entry))) (now (starts .entry)) base 0) base (now (rows .entry)) (now (rows .exit)) b ⌝ }
+{
+    let mut changed = false;
+    let mut r = starts.len();
+    while 0 < r {
+        r -= 1;
+        let more = sweep_rule(table, starts, r, base, rows);
+        changed = either(changed, more);
+    }
+    changed
+}
+
+// Sweeps until nothing is raised.
+fn settle(table: &[u8], starts: &[usize], base: usize, rows: &mut [u64])
+    requires { ⌜ Kept (tableOf (now table)) (now starts) base (now rows) ⌝ }
+    ensures { λ _. ⌜ Settled (tableOf (now (table .entry))) (now (starts .entry)) base (now (rows .entry)) (now (rows .exit)) ⌝ }
+{
+    let mut changed = true;
+    while changed {
+        changed = sweep(table, starts, base, rows);
+    }
+}

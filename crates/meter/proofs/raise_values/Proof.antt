@@ -1,0 +1,88 @@
+use Rattle.meter.proofs.Sweeps.{ValuesUpto, values-first, values-next, values-all}
+use Rattle.meter.proofs.Laws.{start-end, is-end}
+use Rattle.machine.specs.Bytes.{tableOf}
+use borrow.Author.Needs.{needs}
+use mathlib.Core.Path.{_∙_}
+use Prim.Native.Nat.{_-_}
+use native.Mathlib.Omega.{arith}
+use Rattle.meter.proofs.raise_values.Statement.{statement}
+use Rattle.meter.proofs.raise_values.Tie as tie
+use Rattle.meter.proofs.raise_values.Reads as reads
+use Rattle.meter.proofs.raise_values.Lts as lts
+use Rattle.loader.proofs.size_of.Reads as size-of-reads
+use Rattle.meter.proofs.either.Reads as either-reads
+use Rattle.meter.proofs.end_of.Reads as end-of-reads
+use Rattle.meter.proofs.raise_value.Reads as raise-value-reads
+
+abbrev Inv-loop : tie.InvT-loop
+Inv-loop table starts q c base here rows₀ to changed₀ p₀ rows changed p = ValuesUpto (tableOf table) starts c (here .number) q base to p rows₀ rows changed
+
+abbrev μ-loop : tie.MeasureT-loop
+μ-loop table starts q c base here rows₀ to changed₀ p₀ rows changed p = to - p
+
+-- src/lib.rt:281:32
+size-of-requires : tie.Need-size-of-requires Inv-loop μ-loop
+size-of-requires c κs = search needs
+
+-- src/lib.rt:281:9
+end-of-requires : tie.Need-end-of-requires Inv-loop μ-loop
+end-of-requires c κs = (omega (arith, c .before .before .before .before .pre .1 .found, c .before .before .before .before .pre .0 .shaped .few), omega (arith, c .size-of .ensures, c .before .before .before .before .pre .0 .shaped .short))
+
+-- src/lib.rt:283:17
+mul-p : tie.Need-mul-p Inv-loop μ-loop
+mul-p c = omega (arith, c .before .before .before .before .before .pre .1 .found, c .before .before .before .before .before .pre .0 .shaped .few)
+
+-- src/lib.rt:283:17
+shared-slice-read-p : tie.Need-shared-slice-read-p Inv-loop μ-loop
+shared-slice-read-p c = c .before .before .before .before .before .before .pre .1 .found
+
+-- src/lib.rt:284:5
+loop-holds : tie.Need-loop-holds Inv-loop μ-loop
+loop-holds c = values-first (c .before .before .before .before .before .before .pre .0) (omega (arith, start-end (c .before .before .before .before .before .before .pre .0) (c .before .before .before .before .before .before .pre .1 .found), is-end _ _ (c .before .end-of .ensures) (c .before .before .size-of .ensures))) (is-end _ _ (c .before .end-of .ensures) (c .before .before .size-of .ensures))
+
+-- src/lib.rt:285:13
+raise-value-requires : tie.Need-raise-value-requires Inv-loop μ-loop
+raise-value-requires c κs = (c .before .before .loop .inv .steps .kept, record { rule = c .before .before .before .before .before .before .before .before .before .args .q; here = c .before .before .before .before .before .before .before .before .before .pre .1; chooses = c .before .before .before .before .before .before .before .before .before .pre .2; in-rule = record { from = c .before .before .loop .inv .from; to = omega (arith, c .before .loop-test .taken, c .before .before .loop .inv .is-end) } })
+
+-- src/lib.rt:286:9
+either-requires : tie.Need-either-requires Inv-loop μ-loop
+either-requires c κs = search needs
+
+-- src/lib.rt:287:9
+add-p : tie.Need-add-p Inv-loop μ-loop
+add-p c = omega arith
+
+-- src/lib.rt:284:5
+loop-less : tie.Need-loop-less Inv-loop μ-loop
+loop-less c = omega arith
+
+-- src/lib.rt:284:5
+loop-again : tie.Need-loop-again Inv-loop μ-loop
+loop-again c = values-next (c .before .before .before .before .before .before .loop .inv) (search needs) (c .before .before .before .raise-value .ensures) (c .either .ensures)
+
+-- src/lib.rt:269:1
+same-length : tie.Need-same-length Inv-loop μ-loop
+same-length c = search needs
+
+-- src/lib.rt:269:1
+returns : tie.Need-returns Inv-loop μ-loop
+returns c = values-all (c .before .loop .inv) (search needs)
+
+pub raise-values-spec : {M : Type 1} → statement M
+raise-values-spec =
+    tie.close
+    (tie.spec
+    Inv-loop
+    μ-loop
+    size-of-requires
+    end-of-requires
+    mul-p
+    shared-slice-read-p
+    loop-holds
+    raise-value-requires
+    either-requires
+    add-p
+    loop-less
+    loop-again
+    same-length
+    returns)

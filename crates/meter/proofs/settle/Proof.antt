@@ -1,0 +1,44 @@
+use Rattle.meter.proofs.Sweeps.{Settling, todo, settling-first, settling-next, todo-less, settled}
+use Rattle.machine.specs.Bytes.{tableOf}
+use borrow.Author.Needs.{needs}
+use native.Mathlib.Omega.{arith}
+use Rattle.meter.proofs.settle.Statement.{statement}
+use Rattle.meter.proofs.settle.Tie as tie
+use Rattle.meter.proofs.settle.Reads as reads
+use Rattle.meter.proofs.settle.Lts as lts
+use Rattle.meter.proofs.sweep.Reads as sweep-reads
+
+abbrev Inv-loop : tie.InvT-loop
+Inv-loop table starts base rows₀ changed₀ rows changed = Settling (tableOf table) starts base rows₀ rows changed
+
+abbrev μ-loop : tie.MeasureT-loop
+μ-loop table starts base rows₀ changed₀ rows changed = todo rows changed
+
+-- src/lib.rt:429:5
+loop-holds : tie.Need-loop-holds Inv-loop μ-loop
+loop-holds c = settling-first (c .before .before .before .pre)
+
+-- src/lib.rt:430:9
+sweep-requires : tie.Need-sweep-requires Inv-loop μ-loop
+sweep-requires c κs = c .before .before .loop .inv .kept
+
+-- src/lib.rt:429:5
+loop-less : tie.Need-loop-less Inv-loop μ-loop
+loop-less c = todo-less (c .before .before .before .before .loop-test .taken) (c .before .before .sweep .ensures)
+
+-- src/lib.rt:429:5
+loop-again : tie.Need-loop-again Inv-loop μ-loop
+loop-again c = settling-next (c .before .before .before .before .before .loop .inv) (c .before .before .sweep .ensures)
+
+-- src/lib.rt:424:1
+same-length : tie.Need-same-length Inv-loop μ-loop
+same-length c = search needs
+
+-- src/lib.rt:424:1
+returns : tie.Need-returns Inv-loop μ-loop
+returns c = settled (c .before .loop .inv) (c .loop-test .left)
+
+pub settle-spec : {M : Type 1} → statement M
+settle-spec =
+    tie.close
+    (tie.spec Inv-loop μ-loop loop-holds sweep-requires loop-less loop-again same-length returns)

@@ -1,0 +1,63 @@
+use Rattle.meter.proofs.Sweeps.{RulesFrom, rules-first, rules-next, rules-all}
+use Rattle.machine.specs.Bytes.{tableOf}
+use borrow.Author.Needs.{needs}
+use native.Mathlib.Omega.{arith}
+use Rattle.meter.proofs.sweep.Statement.{statement}
+use Rattle.meter.proofs.sweep.Tie as tie
+use Rattle.meter.proofs.sweep.Reads as reads
+use Rattle.meter.proofs.sweep.Lts as lts
+use Rattle.meter.proofs.either.Reads as either-reads
+use Rattle.meter.proofs.sweep_rule.Reads as sweep-rule-reads
+
+abbrev Inv-loop : tie.InvT-loop
+Inv-loop table starts base rows₀ changed₀ r₀ rows changed r = RulesFrom (tableOf table) starts base r rows₀ rows changed
+
+abbrev μ-loop : tie.MeasureT-loop
+μ-loop table starts base rows₀ changed₀ r₀ rows changed r = r
+
+-- src/lib.rt:415:5
+loop-holds : tie.Need-loop-holds Inv-loop μ-loop
+loop-holds c = rules-first (c .before .before .before .pre)
+
+-- src/lib.rt:416:9
+sub-r : tie.Need-sub-r Inv-loop μ-loop
+sub-r c = search needs
+
+-- src/lib.rt:417:13
+sweep-rule-requires : tie.Need-sweep-rule-requires Inv-loop μ-loop
+sweep-rule-requires c κs = (c .before .before .loop .inv .steps .kept, omega (arith, c .before .before .loop .inv .upto))
+
+-- src/lib.rt:418:9
+either-requires : tie.Need-either-requires Inv-loop μ-loop
+either-requires c κs = search needs
+
+-- src/lib.rt:415:5
+loop-less : tie.Need-loop-less Inv-loop μ-loop
+loop-less c = omega arith
+
+-- src/lib.rt:415:5
+loop-again : tie.Need-loop-again Inv-loop μ-loop
+loop-again c = rules-next (c .before .before .before .before .before .before .loop .inv) (search needs) (c .before .before .before .sweep-rule .ensures) (c .either .ensures)
+
+-- src/lib.rt:409:1
+same-length : tie.Need-same-length Inv-loop μ-loop
+same-length c = search needs
+
+-- src/lib.rt:409:1
+returns : tie.Need-returns Inv-loop μ-loop
+returns c = rules-all (c .before .loop .inv) (search needs)
+
+pub sweep-spec : {M : Type 1} → statement M
+sweep-spec =
+    tie.close
+    (tie.spec
+    Inv-loop
+    μ-loop
+    loop-holds
+    sub-r
+    sweep-rule-requires
+    either-requires
+    loop-less
+    loop-again
+    same-length
+    returns)
