@@ -8,3 +8,4 @@ pub mod Calls
 pub mod Laws
 pub mod Sweeps
 pub mod Seen
+pub mod Finds

@@ -170,19 +170,19 @@ module _ {T S : List ℕ} {base : ℕ} where
 -- Raising one place
 
 pub past : {base i v : ℕ} {rows : List ℕ} → half ≤ i → Raised base i v rows rows false
-past h = record { sized = refl; steps = λ k st. stays k (λ j w m z. absurd (outside m h z)) }
+past h = record { sized = refl; at-least = λ z y. absurd (omega arith); steps = λ k st. stays k (λ j w m z. absurd (outside m h z)) }
   where
     outside : {i v j w : ℕ} {rows : List ℕ} → Only i v rows j w → half ≤ i → j < half → ⊥
     outside only h z = omega arith
 
 pub enough : {base i v : ℕ} {rows : List ℕ} → min v cap ≤ rowOf base rows i → Raised base i v rows rows false
-enough {base} h = record { sized = refl; steps = λ k st. stays k (λ j w m z. has base m h) }
+enough {base} h = record { sized = refl; at-least = λ z y. h; steps = λ k st. stays k (λ j w m z. has base m h) }
   where
     has : (base : ℕ) {i v j w : ℕ} {rows : List ℕ} → Only i v rows j w → min v cap ≤ rowOf base rows i → min w cap ≤ rowOf base rows j
     has base only z = z
 
 pub higher : {base i v w : ℕ} {rows : List ℕ} → i < half → w ≡ min v cap → rowOf base rows i < w → Raised base i v rows (set rows (base + i) w) true
-higher {base} {i} {w = w} {rows = rows} h e l = record { sized = length-set rows (base + i) w; steps = λ k st. raised k h e l (st h (omega arith)) }
+higher {base} {i} {w = w} {rows = rows} h e l = record { sized = length-set rows (base + i) w; at-least = λ z y. omega (arith, getD-set-same rows (base + i) w 0 z); steps = λ k st. raised k h e l (st h (omega arith)) }
 
 pub flag-small : (base : ℕ) → flagOf base ≤ 1
 unfolding flagOf

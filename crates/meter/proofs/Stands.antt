@@ -239,3 +239,16 @@ module _ (T S : List ℕ) (sh : Shaped T S) (called : ℕ → ℕ) (so : Sound T
     stands d makes-choose-over h = over-here d does-choose-stop
     stands d makes-chooseWith h = on d leads-chooseWith (λ n e p. does-chooseWith p)
     stands d makes-chooseWith-over h = over-here d does-chooseWith-stop
+
+-- a rule's start may have the number 1
+pub start-stands : {T S : List ℕ} {flag r : ℕ} → Shaped T S → r < length S → Stands T S flag (startOf S r) 1
+start-stands {T} {S} {flag} {r} sh h = stands-place (omega (arith, sh .inside h at-start .1, sh .short)) (record {
+  rule = r;
+  begin = startOf S r;
+  before = 0;
+  is-rule = h;
+  reached = at-start;
+  origin = the-start refl;
+  prefix = record { then-path = λ n e p. long (omega arith) (record { end = e; alike = same-end e; path = p }) };
+  enough = omega arith;
+})

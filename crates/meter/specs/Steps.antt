@@ -71,6 +71,7 @@ pub data Both (M N : Asked) (rows : List ℕ) (i v : ℕ) : Type 0 where
 -- one place is raised, whatever table the numbers are of
 pub record Raised (base i v : ℕ) (rows after : List ℕ) (b : Bool) : Type 0 where
   pub sized : length after ≡ length rows
+  pub at-least : base + i < length rows → i < half → min v cap ≤ rowOf base after i
   pub steps : {T S : List ℕ} → Kept T S base rows → (i < half → 0 < v → Stands T S (flagOf base) i v) → Steps T S (Only i v) base rows after b
 
 -- two places are raised

@@ -7,7 +7,7 @@ ghost use mathlib.Core.Option.{none, some};
 ghost use Prim.Native.Nat.{_+_, _*_, _-_, _<_, _≤_, min};
 ghost use lib.ListN.{length, getD};
 ghost use Rattle.machine.specs.Bytes.{count, wordsOf, tableOf};
-ghost use Rattle.meter.specs.Steps.{flagOf, Kept, Here, Steps, Raised, Ways, MakesAt, RaisedTwo, WaysRaised, Visited, TokenVisited, ValueAt, ValueHere, CallsHere, Values, Behind, ChoiceAt, AskedAt, AskedBelow, AskedFrom, Settled};
+ghost use Rattle.meter.specs.Steps.{flagOf, Kept, Here, Steps, Raised, Ways, MakesAt, RaisedTwo, WaysRaised, Visited, TokenVisited, ValueAt, ValueHere, CallsHere, Values, Behind, ChoiceAt, AskedAt, AskedBelow, AskedFrom, Begun, Settled};
 ghost use Rattle.machine.specs.Decode.{callRule, choice, decodeOne, decodeTwo, decode};
 ghost use Rattle.meter.specs.Shaped.{indexOf, endOf, InRule, Fits};
 ghost use Rattle.figure.specs.Figure.{wayOut};
@@ -457,5 +457,17 @@ fn settle(table: &[u8], starts: &[usize], base: usize, rows: &mut [u64])
     let mut changed = true;
     while changed {
         changed = sweep(table, starts, base, rows);
+    }
+}
+
+// The rules' starts get the number 1.
+fn begin(table: &[u8], starts: &[usize], base: usize, rows: &mut [u64])
+    requires { ⌜ Kept (tableOf (now table)) (now starts) base (now rows) ⌝ }
+    ensures { λ _. ⌜ Begun (tableOf (now (table .entry))) (now (starts .entry)) base (now (rows .entry)) (now (rows .exit)) ⌝ }
+{
+    let mut r: usize = 0;
+    while r < starts.len() {
+        raise(rows, base, starts[r], 1);
+        r += 1;
     }
 }

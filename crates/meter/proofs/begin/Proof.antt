@@ -1,0 +1,70 @@
+use Rattle.meter.proofs.Finds.{BegunUpto, begun-first, begun-next, begun-all}
+use Rattle.meter.proofs.Laws.{room}
+use Rattle.machine.specs.Bytes.{tableOf}
+use borrow.Author.Needs.{needs}
+use lib.ListN.{length}
+use Prim.Native.Nat.{_-_}
+use native.Mathlib.Omega.{arith}
+use Rattle.meter.proofs.begin.Statement.{statement}
+use Rattle.meter.proofs.begin.Tie as tie
+use Rattle.meter.proofs.begin.Reads as reads
+use Rattle.meter.proofs.begin.Lts as lts
+use Rattle.meter.proofs.raise.Reads as raise-reads
+
+abbrev Inv-loop : tie.InvT-loop
+Inv-loop table starts base rows₀ r₀ rows r = BegunUpto (tableOf table) starts base r rows₀ rows
+
+abbrev μ-loop : tie.MeasureT-loop
+μ-loop table starts base rows₀ r₀ rows r = length starts - r
+
+-- src/lib.rt:469:5
+loop-holds : tie.Need-loop-holds Inv-loop μ-loop
+loop-holds c = begun-first (c .before .before .before .pre)
+
+-- src/lib.rt:470:27
+mul-raise : tie.Need-mul-raise Inv-loop μ-loop
+mul-raise c = search needs
+
+-- src/lib.rt:470:27
+shared-slice-read-raise : tie.Need-shared-slice-read-raise Inv-loop μ-loop
+shared-slice-read-raise c = search needs
+
+-- src/lib.rt:470:9
+raise-requires : tie.Need-raise-requires Inv-loop μ-loop
+raise-requires c κs = (c .before .before .before .loop .inv .kept .sized, room (c .before .before .before .before .before .before .before .pre))
+
+-- src/lib.rt:471:9
+add-r : tie.Need-add-r Inv-loop μ-loop
+add-r c = search needs
+
+-- src/lib.rt:469:5
+loop-less : tie.Need-loop-less Inv-loop μ-loop
+loop-less c = search needs
+
+-- src/lib.rt:469:5
+loop-again : tie.Need-loop-again Inv-loop μ-loop
+loop-again c = begun-next (c .before .before .before .before .before .before .loop .inv) (search needs) (c .before .before .raise .ensures)
+
+-- src/lib.rt:464:1
+same-length : tie.Need-same-length Inv-loop μ-loop
+same-length c = search needs
+
+-- src/lib.rt:464:1
+returns : tie.Need-returns Inv-loop μ-loop
+returns c = begun-all (c .before .loop .inv) (search needs)
+
+pub begin-spec : {M : Type 1} → statement M
+begin-spec =
+    tie.close
+    (tie.spec
+    Inv-loop
+    μ-loop
+    loop-holds
+    mul-raise
+    shared-slice-read-raise
+    raise-requires
+    add-r
+    loop-less
+    loop-again
+    same-length
+    returns)
