@@ -1,21 +1,17 @@
 -- The rules' starts are begun.
-use mathlib.Core.Bool.{Bool, true, false}
+use mathlib.Core.Bool.{Bool}
 use mathlib.Core.List.{List}
 use mathlib.Core.Logic.{_⊎_, inl, inr}
-use mathlib.Core.Option.{Option, none, some}
-use mathlib.Core.Path.{_≡_, refl, sym, ap, _∙_}
+use mathlib.Core.Path.{_≡_, refl, _∙_}
 use native.Mathlib.Decide.{decLt}
 use native.Mathlib.Omega.{arith}
-use Prim.Native.Nat.{ℕ, zero, suc, _+_, _-_, _≤_, _<_, min}
-use lib.ListN.{length, getD, replicate}
-use Rattle.figure.specs.Figure.{Reached, at-start, End, Quiet, Bounds, Figure, Long}
-use Rattle.meter.specs.Makes.{overAt, backAt, half, cap, Closed, Origin, the-start, any-place, Prefix, Comes, Ends, IsOver, IsBack, Sound, Stands, stands-place}
-use Rattle.meter.specs.Shaped.{startOf, InRule, Shaped}
-use Rattle.meter.specs.Steps.{flagOf, rowOf, calledOf, Kept, Steps, Only, only, Raised, AskedAt, asked-at, AskedFrom, asked-from, Greatest, Begun, Settled}
-use Rattle.meter.proofs.Bounds.{Most, bounds}
+use Prim.Native.Nat.{ℕ, _+_, _≤_, _<_}
+use lib.ListN.{length, getD}
+use Rattle.figure.specs.Figure.{at-start}
+use Rattle.meter.specs.Makes.{half}
+use Rattle.meter.specs.Shaped.{startOf}
+use Rattle.meter.specs.Steps.{rowOf, Kept, Steps, Only, Raised, Begun}
 use Rattle.meter.proofs.Stands.{start-stands}
-
--- The starts
 
 pub record BegunUpto (T S : List ℕ) (base r : ℕ) (rows after : List ℕ) : Type 0 where
   pub kept : Kept T S base after

@@ -9,3 +9,4 @@ pub mod Laws
 pub mod Sweeps
 pub mod Seen
 pub mod Finds
+pub mod Figures

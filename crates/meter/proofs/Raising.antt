@@ -11,7 +11,8 @@ use lib.ListN.{length, getD, set, length-set}
 use lib.Seq.{getD-set-same, getD-set-other}
 use Rattle.base.specs.Bools.{never}
 use Rattle.machine.specs.Decode.{Instruction, decode}
-use Rattle.meter.specs.Makes.{Makes, overAt, backAt, half, cap, Origin, Comes, Ends, IsOver, IsBack, Sound, Stands, stands-place, stands-over, stands-back}
+use Rattle.figure.specs.Figure.{End}
+use Rattle.meter.specs.Makes.{Makes, half, cap, Ends, Sound, Stands, stands-place, stands-over, stands-back}
 use Rattle.meter.specs.Shaped.{startOf, InRule, Shaped}
 use Rattle.meter.proofs.Stands.{come, stands}
 use Rattle.meter.specs.Steps.{flagOf, rowOf, calledOf, left, Asked, Kept, Here, Steps, Only, only, Both, this, that, Raised, RaisedTwo}
@@ -25,44 +26,28 @@ left-set (n ∷ ns) zero v h l c = omega arith
 left-set (n ∷ ns) (suc i) v h l c = omega (arith, left-set ns i v (omega arith) l c)
 
 module _ {T S : List ℕ} where
-  fewer-comes : {flag l v w : ℕ} → w ≤ v → Comes T S flag l v → Comes T S flag l w
-  fewer-comes h c = record { rule = c .rule; begin = c .begin; before = c .before; is-rule = c .is-rule; reached = c .reached; origin = c .origin; prefix = c .prefix; enough = omega (arith, c .enough) }
+  -- a path with v instructions has also fewer
+  fewer : {flag i v w : ℕ} → w ≤ v → Stands T S flag i v → Stands T S flag i w
+  fewer {flag} {i} {v} {w} h = go
+    where
+      ends : {r : ℕ} {Is : End → Type 0} → Ends T S flag r v Is → Ends T S flag r w Is
+      ends c = record { begin = c .begin; count = c .count; end = c .end; origin = c .origin; path = c .path; is = c .is; enough = omega (arith, c .enough) }
+
+      go : Stands T S flag i v → Stands T S flag i w
+      go (stands-place z c) = stands-place z (record { rule = c .rule; begin = c .begin; before = c .before; is-rule = c .is-rule; reached = c .reached; origin = c .origin; prefix = c .prefix; enough = omega (arith, c .enough) })
+      go (stands-over r z y c) = stands-over r z y (ends c)
+      go (stands-back r z y c) = stands-back r z y (ends c)
 
   -- a number may be raised at one place
-  sound-set : {row after : ℕ → ℕ} {flag i v w : ℕ} → length S ≤ 128 → ((j : ℕ) → (after j ≡ row j) ⊎ ((j ≡ i) × (after j ≡ w))) → w ≤ v → Stands T S flag i v → Sound T S row flag → Sound T S after flag
-  sound-set {row} {after} {flag} {i} {v} {w} few f h st so = record {
-    comes = λ l b p. comes l b p (f l) st;
-    overs = λ r b p. overs r b p (f (overAt r)) st;
-    backs = λ r b p. backs r b p (f (backAt r)) st;
-  }
+  sound-set : {row after : ℕ → ℕ} {flag i v w : ℕ} → ((j : ℕ) → (after j ≡ row j) ⊎ ((j ≡ i) × (after j ≡ w))) → w ≤ v → Stands T S flag i v → Sound T S row flag → Sound T S after flag
+  sound-set {row} {after} {flag} {i} {v} {w} f h st so = record { stands = λ j b p. at-place j b p (f j) }
     where
-      comes : (l : ℕ) → l < 4097 → 0 < after l → (after l ≡ row l) ⊎ ((l ≡ i) × (after l ≡ w)) → Stands T S flag i v → Comes T S flag l (after l)
-      comes l b p (inl e) st = rw e (so .comes l b (omega arith))
-      comes l b p (inr e) (stands-place z c) = rw (e .1, e .0) (fewer-comes h c)
-      comes l b p (inr e) (stands-over r z y c) = absurd (omega (arith, e .0))
-      comes l b p (inr e) (stands-back r z y c) = absurd (omega (arith, e .0))
+      at-place : (j : ℕ) → j < half → 0 < after j → (after j ≡ row j) ⊎ ((j ≡ i) × (after j ≡ w)) → Stands T S flag j (after j)
+      at-place j b p (inl e) = rw e (so .stands j b (omega arith))
+      at-place j b p (inr e) = rw (e .1, e .0) (fewer h st)
 
-      ends : {r : ℕ} {Is : _} → Ends T S flag r v Is → (u : ℕ) → u ≤ v → Ends T S flag r u Is
-      ends c u z = record { begin = c .begin; count = c .count; end = c .end; origin = c .origin; path = c .path; is = c .is; enough = omega (arith, c .enough) }
-
-      overs : (r : ℕ) → r < length S → 0 < after (overAt r) → (after (overAt r) ≡ row (overAt r)) ⊎ ((overAt r ≡ i) × (after (overAt r) ≡ w)) → Stands T S flag i v → Ends T S flag r (after (overAt r)) IsOver
-      overs r b p (inl e) st = rw e (so .overs r b (omega arith))
-      overs r b p (inr e) (stands-place z c) = absurd (omega (arith, e .0))
-      overs r b p (inr e) (stands-over q z y c) = let x : r ≡ q = omega (arith, e .0) in rw (e .1, x) (ends c w h)
-      overs r b p (inr e) (stands-back q z y c) = absurd (omega (arith, e .0))
-
-      backs : (r : ℕ) → r < length S → 0 < after (backAt r) → (after (backAt r) ≡ row (backAt r)) ⊎ ((backAt r ≡ i) × (after (backAt r) ≡ w)) → Stands T S flag i v → Ends T S flag r (after (backAt r)) IsBack
-      backs r b p (inl e) st = rw e (so .backs r b (omega arith))
-      backs r b p (inr e) (stands-place z c) = absurd (omega (arith, e .0))
-      backs r b p (inr e) (stands-over q z y c) = absurd (omega (arith, e .0))
-      backs r b p (inr e) (stands-back q z y c) = let x : r ≡ q = omega (arith, e .0) in rw (e .1, x) (ends c w h)
-
-  pub sound-low : {row after : ℕ → ℕ} {flag : ℕ} → length S ≤ 128 → ((j : ℕ) → j < half → after j ≡ row j) → Sound T S row flag → Sound T S after flag
-  sound-low few f so = record {
-    comes = λ l b p. let e = f l (omega arith) in rw e (so .comes l b (omega arith));
-    overs = λ r b p. let e = f (overAt r) (omega arith) in rw e (so .overs r b (omega arith));
-    backs = λ r b p. let e = f (backAt r) (omega arith) in rw e (so .backs r b (omega arith));
-  }
+  pub sound-low : {row after : ℕ → ℕ} {flag : ℕ} → ((j : ℕ) → j < half → after j ≡ row j) → Sound T S row flag → Sound T S after flag
+  sound-low f so = record { stands = λ j b p. let e = f j b in rw e (so .stands j b (omega arith)) }
 
 -- One place of a list
 
@@ -89,7 +74,7 @@ module _ {T S : List ℕ} {base : ℕ} where
         shaped = k .shaped;
         small = λ j. small j (set-either rows (base + i) w j n);
         first = first (k .is-half) n;
-        row = sound-set (k .shaped .few) (λ j. moved (set-either rows (base + i) w (base + j) n)) z st (k .row);
+        row = sound-set (λ j. moved (set-either rows (base + i) w (base + j) n)) z st (k .row);
       }
     where
       moved : {j x a : ℕ} → (x ≡ a) ⊎ ((base + j ≡ base + i) × (x ≡ w)) → (x ≡ a) ⊎ ((j ≡ i) × (x ≡ w))
@@ -105,8 +90,8 @@ module _ {T S : List ℕ} {base : ℕ} where
       low b (inr e) = inr (omega (arith, e .0), e .1)
 
       first : (base ≡ 0) ⊎ (base ≡ half) → base + i < length rows → Sound T S (calledOf (set rows (base + i) w)) 0
-      first (inl e) n = sound-set (k .shaped .few) (λ j. low e (set-either rows (base + i) w j n)) z (rw e at st) (k .first)
-      first (inr e) n = sound-low (k .shaped .few) (λ j l. getD-set-other rows (base + i) j w 0 (λ y. omega arith)) (k .first)
+      first (inl e) n = sound-set (λ j. low e (set-either rows (base + i) w j n)) z (rw e at st) (k .first)
+      first (inr e) n = sound-low (λ j l. getD-set-other rows (base + i) j w 0 (λ y. omega arith)) (k .first)
 
   -- nothing is raised
   pub stays : {M : Asked} {rows : List ℕ} → Kept T S base rows → ((i v : ℕ) → M rows i v → i < half → min v cap ≤ rowOf base rows i) → Steps T S M base rows rows false

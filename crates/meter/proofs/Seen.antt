@@ -21,6 +21,7 @@ use Rattle.meter.specs.Shaped.{InRule}
 use Rattle.meter.specs.Steps.{flagOf, rowOf, calledOf, Kept, Here, Steps, MakesAt, Visited, AskedAt, asked-at}
 use Rattle.meter.proofs.Laws.{not-nothing}
 use Rattle.meter.proofs.Raising.{stays, covers}
+use Rattle.meter.proofs.Stands.{comes-at}
 
 no-word : (T : List ℕ) (l : ℕ) → (given (fetch T l) ≡ true → ⊥) → decode T l ≡ invalid
 no-word T l f = go (given (fetch T l)) refl
@@ -75,6 +76,6 @@ module _ {T S : List ℕ} {base r l : ℕ} {rows : List ℕ} (kp : Kept T S base
   pub visit-here : {n : ℕ} → r < length S → InRule T S r l → l ≤ length T → n ≡ rowOf base rows l → (n ≡ 0 → ⊥) → Here T S base r l n
   visit-here {n} hr i h e f =
       let p : 0 < rowOf base rows l = omega (arith, not-nothing f) in
-      let c = kp .row .comes l (omega (arith, kp .shaped .short)) p in
+      let c = comes-at (kp .row) l (omega (arith, kp .shaped .short)) p in
       let c₁ : Comes T S (flagOf base) l n = rw e c in
       record { is-rule = hr; in-rule = i; comes = c₁; small = omega (arith, kp .small (base + l)) }

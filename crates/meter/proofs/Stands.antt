@@ -57,7 +57,7 @@ is-over-path : {T : List ℕ} {b n : ℕ} {e : End} → IsOver e → Quiet T b n
 is-over-path is-over p = p
 
 -- an instruction stands in the table
-set-inside : (T : List ℕ) (l : ℕ) {v : ℕ} → decode T l ≡ setResult v → l ≤ length T
+pub set-inside : (T : List ℕ) (l : ℕ) {v : ℕ} → decode T l ≡ setResult v → l ≤ length T
 set-inside T l {v} d = go (given (fetch T l)) refl
   where
     go : (b : Bool) → given (fetch T l) ≡ b → l ≤ length T
@@ -70,6 +70,33 @@ set-inside T l {v} d = go (given (fetch T l)) refl
 from-start : {T : List ℕ} {s b : ℕ} → Origin T 0 s b → b ≡ s
 from-start (the-start e) = e
 from-start (any-place h r) = absurd (omega arith)
+
+-- what stands at a place, and at the two numbers of a rule
+
+pub comes-at : {T S : List ℕ} {row : ℕ → ℕ} {flag : ℕ} → Sound T S row flag → (l : ℕ) → l < 4097 → 0 < row l → Comes T S flag l (row l)
+comes-at {T} {S} {row} {flag} so l h p = go (so .stands l (omega arith) p)
+  where
+    go : Stands T S flag l (row l) → Comes T S flag l (row l)
+    go (stands-place z c) = c
+    go (stands-over r z y c) = absurd (omega arith)
+    go (stands-back r z y c) = absurd (omega arith)
+
+module _ {T S : List ℕ} {row : ℕ → ℕ} {flag : ℕ} (few : length S ≤ 128) (so : Sound T S row flag) (r : ℕ) (hr : r < length S) where
+  over-at : 0 < row (overAt r) → Ends T S flag r (row (overAt r)) IsOver
+  over-at p = go (so .stands (overAt r) (omega arith) p)
+    where
+      go : {v : ℕ} → Stands T S flag (overAt r) v → Ends T S flag r v IsOver
+      go (stands-place z c) = absurd (omega arith)
+      go (stands-over q z y c) = let e : r ≡ q = omega arith in rw e c
+      go (stands-back q z y c) = absurd (omega arith)
+
+  back-at : 0 < row (backAt r) → Ends T S flag r (row (backAt r)) IsBack
+  back-at p = go (so .stands (backAt r) (omega arith) p)
+    where
+      go : {v : ℕ} → Stands T S flag (backAt r) v → Ends T S flag r v IsBack
+      go (stands-place z c) = absurd (omega arith)
+      go (stands-over q z y c) = absurd (omega arith)
+      go (stands-back q z y c) = let e : r ≡ q = omega arith in rw e c
 
 module _ (T S : List ℕ) (sh : Shaped T S) (called : ℕ → ℕ) (so : Sound T S called 0) (flag : ℕ) (fl : flag ≤ 1) where
   -- a path comes to l of rule r
@@ -165,7 +192,7 @@ module _ (T S : List ℕ) (sh : Shaped T S) (called : ℕ → ℕ) (so : Sound T
 
       call-over : Stands T S flag (overAt r) (k + called (overAt (indexOf S s)))
       call-over = elim (decLt 0 (called (overAt (indexOf S s)))) [
-        | yes h ↦ let w = so .overs (indexOf S s) q h in over-with (here d (does-call-over (to-rule (w .origin) (is-over-path (w .is) (w .path))))) (omega (arith, w .enough))
+        | yes h ↦ let w = over-at (sh .few) so (indexOf S s) q h in over-with (here d (does-call-over (to-rule (w .origin) (is-over-path (w .is) (w .path))))) (omega (arith, w .enough))
         | no h ↦ over-with (here d does-call-stop) (omega arith)
       ]
 
@@ -182,7 +209,7 @@ module _ (T S : List ℕ) (sh : Shaped T S) (called : ℕ → ℕ) (so : Sound T
       })
 
       call-back : isChoice (decode T (l + 2)) ≡ false → 0 < called (backAt (indexOf S s)) → Stands T S flag (l + 2) (k + called (backAt (indexOf S s)) + 1)
-      call-back b h = let w = so .backs (indexOf S s) q h in go (w .is) (w .path) (w .origin) (w .enough)
+      call-back b h = let w = back-at (sh .few) so (indexOf S s) q h in go (w .is) (w .path) (w .origin) (w .enough)
         where
           plain : {b : Bool} {y : Option ℕ} {m : ℕ} → Given b y → b ≡ false → Quiet T s none m (back y) → Quiet T s none m (back none)
           plain given-none z p = p
@@ -193,7 +220,7 @@ module _ (T S : List ℕ) (sh : Shaped T S) (called : ℕ → ℕ) (so : Sound T
 
       call-value : {x p v : ℕ} → decode T (l + 2) ≡ choice x → InRule T S (indexOf S s) p → decode T p ≡ setResult v → 0 < called p → Stands T S flag (wayOut T x (some v)) (k + called p + 3)
       call-value {x} {p} {v} b i g h =
-          let w = so .comes p (omega (arith, sh .short, set-inside T p g)) h in
+          let w = comes-at so p (omega (arith, sh .short, set-inside T p g)) h in
           go w (sh .apart (w .is-rule) q (sh .stays (w .is-rule) (w .reached)) i)
         where
           go : (w : Comes T S 0 p (called p)) → w .rule ≡ indexOf S s → Stands T S flag (wayOut T x (some v)) (k + called p + 3)

@@ -1,3 +1,4 @@
 pub mod Shaped
 pub mod Makes
 pub mod Steps
+pub mod Found

@@ -113,14 +113,12 @@ module _ (T S : List ℕ) where
     pub is : Is end
     pub enough : v ≤ count
 
-  -- every number is that of a path
-  pub record Sound (row : ℕ → ℕ) (flag : ℕ) : Type 0 where
-    pub comes : (l : ℕ) → l < 4097 → 0 < row l → Comes flag l (row l)
-    pub overs : (r : ℕ) → r < length S → 0 < row (overAt r) → Ends flag r (row (overAt r)) IsOver
-    pub backs : (r : ℕ) → r < length S → 0 < row (backAt r) → Ends flag r (row (backAt r)) IsBack
-
   -- a place of a half may have the number v
   pub data Stands (flag i v : ℕ) : Type 0 where
     stands-place : i < 4097 → Comes flag i v → Stands flag i v
     stands-over : (r : ℕ) → r < length S → i ≡ overAt r → Ends flag r v IsOver → Stands flag i v
     stands-back : (r : ℕ) → r < length S → i ≡ backAt r → Ends flag r v IsBack → Stands flag i v
+
+  -- every number is that of a path
+  pub record Sound (row : ℕ → ℕ) (flag : ℕ) : Type 0 where
+    pub stands : (i : ℕ) → i < half → 0 < row i → Stands flag i (row i)

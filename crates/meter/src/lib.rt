@@ -5,11 +5,12 @@ ghost use mathlib.Core.Path.{_≡_};
 ghost use mathlib.Core.Bool.{Bool, true, false, _||_};
 ghost use mathlib.Core.Option.{none, some};
 ghost use Prim.Native.Nat.{_+_, _*_, _-_, _<_, _≤_, min};
-ghost use lib.ListN.{length, getD};
+ghost use lib.ListN.{length, getD, replicate};
 ghost use Rattle.machine.specs.Bytes.{count, wordsOf, tableOf};
-ghost use Rattle.meter.specs.Steps.{flagOf, Kept, Here, Steps, Raised, Ways, MakesAt, RaisedTwo, WaysRaised, Visited, TokenVisited, ValueAt, ValueHere, CallsHere, Values, Behind, ChoiceAt, AskedAt, AskedBelow, AskedFrom, Begun, Settled};
+ghost use Rattle.meter.specs.Steps.{flagOf, Kept, Here, Steps, Raised, Ways, MakesAt, RaisedTwo, WaysRaised, Visited, TokenVisited, ValueAt, ValueHere, CallsHere, Values, Behind, ChoiceAt, AskedAt, AskedBelow, AskedFrom, Greatest, Begun, Settled};
 ghost use Rattle.machine.specs.Decode.{callRule, choice, decodeOne, decodeTwo, decode};
-ghost use Rattle.meter.specs.Shaped.{indexOf, endOf, InRule, Fits};
+ghost use Rattle.meter.specs.Shaped.{indexOf, endOf, InRule, Fits, Shaped};
+ghost use Rattle.meter.specs.Found.{Found};
 ghost use Rattle.figure.specs.Figure.{wayOut};
 
 // Places in a half: the locations, then the paths of each rule that are over and those that are back.
@@ -470,4 +471,45 @@ fn begin(table: &[u8], starts: &[usize], base: usize, rows: &mut [u64])
         raise(rows, base, starts[r], 1);
         r += 1;
     }
+}
+
+// The greatest number from an index on.
+fn greatest(rows: &[u64], from: usize) -> u64
+    ensures { λ r. ⌜ Greatest (now (rows .entry)) from r ⌝ }
+{
+    let mut most: u64 = 0;
+    let mut i = from;
+    while i < rows.len() {
+        let v = number(rows, i);
+        if most < v {
+            most = v;
+        }
+        i += 1;
+    }
+    most
+}
+
+// All numbers are 0.
+fn clear(rows: &mut [u64])
+    requires { ⌜ length (now rows) ≡ 8706 ⌝ }
+    ensures { λ _. ⌜ now (rows .exit) ≡ replicate 8706 0 ⌝ }
+{
+    let mut i: usize = 0;
+    while i < ROWS {
+        rows[i] = 0;
+        i += 1;
+    }
+}
+
+// The figure of a table whose rules start at these locations; 4,294,967,296 where it is more than 4,294,967,295. The numbers are lent.
+pub fn figure(table: &[u8], starts: &[usize], rows: &mut [u64]) -> u64
+    requires { ⌜ Shaped (tableOf (now table)) (now starts) × (length (now rows) ≡ 8706) ⌝ }
+    ensures { λ q. ⌜ Found (tableOf (now (table .entry))) (now (starts .entry)) q ⌝ }
+{
+    clear(rows);
+    begin(table, starts, 0, rows);
+    settle(table, starts, 0, rows);
+    begin(table, starts, HALF, rows);
+    settle(table, starts, HALF, rows);
+    greatest(rows, HALF + OVER)
 }
