@@ -1,14 +1,14 @@
 -- In the table of an accepted program every location that is reachable from a rule's start, without entering calls, is a place of a rule;
 -- every call there goes to a rule's start.
-use Prim.Native.Nat.{ℕ, suc, _+_, _-_, _*_, _<_}
+use Prim.Native.Nat.{ℕ, suc, _+_, _-_, _*_, _≤_, _<_}
 use native.Mathlib.Omega.{arith}
 use mathlib.Core.Path.{_≡_, refl, sym, ap, _∙_}
 use mathlib.Core.Bool.{Bool, true, false, _||_}
 use mathlib.Core.Option.{Option, none, some}
-use mathlib.Core.List.{List, [], _∷_, _++_}
+use mathlib.Core.List.{List, [], _∷_, _++_, append-nil}
 use lib.Dec.{eqb}
 use lib.ListN.{length}
-use borrow.Author.Tests.{eq-eqb}
+use borrow.Author.Tests.{eq-eqb, leb-true}
 use Rattle.agreement.proofs.Laid.{program-laid}
 use Rattle.agreement.proofs.Lay as lay
 use Rattle.agreement.proofs.Lay.{Entry, lookup, Table, LayPlain, lay-match, lay-any, lay-emit, lay-error, lay-exit, lay-call, lay-back, lay-give, lay-update, lay-updateWith, Lay, lay-plain, lay-cycle, lay-token, lay-rule, lay-operation, lay-operationWith, Lays, lays-done, lays-cons, lay-choice, LayAlts, LayOther, other-input, other-end, other-is, At, at-place, End, end-rule, end-cycle, end-alternative, end-otherwise, Out, out-cycle, out-alternative, out-otherwise, AtChoice, at-choice}
@@ -44,18 +44,24 @@ module _ (T : List ℕ) (start : ℕ → ℕ) (prog : List Rule) where
     spot-jump : {l m : ℕ} → decode T l ≡ jump m → Spot m → Spot l
     spot-input : {l u m : ℕ} → decode T l ≡ input u → decode T (l + 2) ≡ jump m → Spot m → Spot l
 
-  -- the instruction i at l leads to places only, and calls a rule
+  -- the choice table at c lies inside
+  pub record Inside (c : ℕ) : Type 0 where
+    pub labels : ℕ
+    pub is-count : fetch T c ≡ some labels
+    pub fits : c + 2 * labels ≤ length T
+
+  -- the instruction i at l leads to places only, and calls a rule; its choice table lies inside; a value is set before a return
   unfoldable pub Fine : ℕ → Instruction → Type 0
   Fine l invalid = ⊥
   Fine l (jump m) = Spot m
   Fine l (input t) = Spot (l + 2)
   Fine l inputAny = Spot (l + 1)
   Fine l (write e) = Spot (l + 2)
-  Fine l (inputChoice c) = (v : Option ℕ) → Spot (wayOut T c v)
+  Fine l (inputChoice c) = Inside c × ((v : Option ℕ) → Spot (wayOut T c v))
   Fine l (callRule s) = IsStart s × Spot (l + 2)
   Fine l return = Unit {0}
-  Fine l (setResult v) = Spot (l + 2)
-  Fine l (byResult c) = (v : Option ℕ) → Spot (wayOut T c v)
+  Fine l (setResult v) = (decode T (l + 2) ≡ return) × Spot (l + 2)
+  Fine l (byResult c) = Inside c × ((v : Option ℕ) → Spot (wayOut T c v))
   Fine l endChoice = Unit {0}
   Fine l (setParameter v) = Spot (l + 2)
   Fine l (updates op) = Spot (l + 1)
@@ -69,10 +75,10 @@ module _ (T : List ℕ) (start : ℕ → ℕ) (prog : List Rule) where
   leads-fine f leads-input = f
   leads-fine f leads-any = f
   leads-fine f leads-write = f
-  leads-fine f (leads-token v) = f v
+  leads-fine f (leads-token v) = f .1 v
   leads-fine f leads-call = f .1
-  leads-fine f leads-result = f
-  leads-fine f (leads-choice v) = f v
+  leads-fine f leads-result = f .1
+  leads-fine f (leads-choice v) = f .1 v
   leads-fine f leads-parameter = f
   leads-fine f leads-update = f
   leads-fine f leads-updateWith = f
@@ -112,9 +118,12 @@ module _ (T : List ℕ) (start : ℕ → ℕ) (prog : List Rule) where
   ways-spot {ps = ps} c t ha ho hb w =
       rw (t .count, ← labels-seek T [] [] w (length ps) (c + 1)) (way-spot c (length ps) (seek-leads T [] w t) (by-found T start prog w ha) ha ho hb)
 
+  table-inside : {c : ℕ} {ps : List Entry} → Table T c ps → Inside c
+  table-inside {c} {ps} t = record { labels = length ps; is-count = t .count; fits = leb-true (c + 2 * length ps) (length T) (t .fits) }
+
   choice-fine : {v : Bool} {al : Alts} {o : Other} {q : Acts} {k : List Context} {l : ℕ} → AtChoice T start prog v al o q k l → Fine l (decode T l)
   unfolding Fine
-  choice-fine (at-choice (lay-choice {c = c} d t ha ho) hg hh) = rw d (ways-spot c t ha ho (behind hg hh))
+  choice-fine (at-choice (lay-choice {c = c} d t ha ho) hg hh) = rw d (table-inside t, ways-spot c t ha ho (behind hg hh))
 
   -- Places
 
@@ -133,7 +142,7 @@ module _ (T : List ℕ) (start : ℕ → ℕ) (prog : List Rule) where
   plain-fine {q = q} (lay-exit d) hs hg hh = rw d (out-spot (exit-out T start prog (plain exit) q hh refl))
   plain-fine (lay-call {r = r} d c) hs hg hh = rw d (is-start r (c .there) refl, spot-at (rest-at T start prog (plain (call r)) hs hg hh refl))
   plain-fine (lay-back z d) hs hg hh = rw d tt
-  plain-fine (lay-give z d d₁) hs hg hh = rw d (spot-return d₁)
+  plain-fine (lay-give z d d₁) hs hg hh = rw d (d₁, spot-return d₁)
   plain-fine (lay-update {op = op} d) hs hg hh = rw d (spot-at (rest-at T start prog (plain (update op)) hs hg hh refl))
   plain-fine (lay-updateWith {op = op} {u = u} d d₁) hs hg hh = rw d (spot-update d₁ (spot-at (rest-at T start prog (plain (updateWith op u)) hs hg hh refl)))
 
@@ -152,7 +161,7 @@ module _ (T : List ℕ) (start : ℕ → ℕ) (prog : List Rule) where
         acts-fine b h (λ g. end-cycle-fine (end-cycle h d o)) (λ g. end-cycle h d o) o
     act-fine (choice byToken al ot) {q = q} (lay-token {c = c} nl d t ha ho) hs hg hh =
         let here = choice byToken al ot in
-        rw d (ways-spot c t ha ho (behind (λ x. rest-at T start prog here hs hg hh x) (λ x. exit-out T start prog here q hh x)))
+        rw d (table-inside t, ways-spot c t ha ho (behind (λ x. rest-at T start prog here hs hg hh x) (λ x. exit-out T start prog here q hh x)))
     act-fine (choice (byRule r) al ot) {q = q} (lay-rule d c a) hs hg hh =
         let here = choice (byRule r) al ot in
         rw d (is-start r (c .there) refl, spot-choice (at-choice a (λ x. rest-at T start prog here hs hg hh x) (λ x. exit-out T start prog here q hh x)))
@@ -201,6 +210,9 @@ module _ (T : List ℕ) (start : ℕ → ℕ) (prog : List Rule) where
         let f : Fine l (callRule m) = rw d at (spot-fine h) in
         f .0
 
+    pub reached-fine : {s l : ℕ} → IsStart s → Reached T s l → Fine l (decode T l)
+    reached-fine h r = spot-fine (reached-spot (start-spot h) r)
+
     pub reached-call : {s l m : ℕ} → IsStart s → Reached T s l → decode T l ≡ callRule m → IsStart m
     reached-call h r d = call-start (reached-spot (start-spot h) r) d
 
@@ -222,3 +234,10 @@ called-rule prog more a c =
 -- what is called from a reachable place of a rule is a rule
 pub reached-rule : (prog : List Rule) (more : List ℕ) → Accepted prog → {s l m : ℕ} → RuleStart prog s → Reached (table prog ++ more) s l → decode (table prog ++ more) l ≡ callRule m → RuleStart prog m
 reached-rule prog more a {s} (rule-start r l e) h d = as-rule (reached-call (table prog ++ more) (place 1 prog) prog (program-laid prog more a) (is-start r l e) h d)
+
+-- every instruction that is reachable from a rule's start is as it should be
+pub rule-fine : (prog : List Rule) → Accepted prog → {s l : ℕ} → RuleStart prog s → Reached (table prog) s l → Fine (table prog) (place 1 prog) prog l (decode (table prog) l)
+rule-fine prog a {s} {l} (rule-start r b e) h =
+    let h₁ : Reached (table prog ++ []) s l = rw (append-nil (table prog)) h in
+    let f = reached-fine (table prog ++ []) (place 1 prog) prog (program-laid prog [] a) (is-start r b e) h₁ in
+    rw (append-nil (table prog)) at f

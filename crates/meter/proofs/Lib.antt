@@ -10,3 +10,4 @@ pub mod Sweeps
 pub mod Seen
 pub mod Finds
 pub mod Figures
+pub mod Programs

@@ -2,3 +2,4 @@ pub mod Shaped
 pub mod Makes
 pub mod Steps
 pub mod Found
+pub mod Starts
