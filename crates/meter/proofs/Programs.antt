@@ -14,11 +14,10 @@ use Rattle.base.specs.Common.{if_then_else_, given}
 use Rattle.loading.proofs.Members.{fetch-inside, outside-invalid}
 use Rattle.machine.specs.Decode.{fetch, Instruction, invalid, inputChoice, callRule, return, setResult, choice, decode}
 use Rattle.program.specs.Accepted.{Accepted}
-use Rattle.program.specs.Program.{Rule}
+use Rattle.program.specs.Program.{Rule, ruleOf}
 use Rattle.program.specs.Table.{sizeRule, place, table}
 use Rattle.figure.specs.Figure.{Reached}
-use Rattle.figure.specs.Promise.{RuleStart, rule-start}
-use Rattle.figure.proofs.Spots.{Inside, Fine, is-start, IsStart, rule-fine}
+use Rattle.figure.proofs.Spots.{Stage, plainly, choosing, giving, Returns, returns-value, returns-plain, Spot, CallsThen, calls-plain, calls-choice, Inside, Fine, Place, spot-fine, start-spot, program-laid-here, rule-place}
 use Rattle.meter.specs.Shaped.{indexOf, startOf, endOf, InRule, Fits, HasTable, by-token, by-result}
 use Rattle.meter.specs.Starts.{startsFrom, startsIn}
 
@@ -91,27 +90,34 @@ module _ (prog : List Rule) where
   ]
 
   module _ (a : Accepted prog) {r l : ℕ} (hr : r < length S) (h : Reached T (startOf S r) l) where
-    fine : Fine T (place 1 prog) prog l (decode T l)
-    fine =
+    here : Place T (place 1 prog) prog (ruleOf prog r .valued) l
+    here =
         let n : r < length prog = omega (arith, starts-length 1 prog) in
-        rule-fine prog a (rule-start r n (start-place 1 prog r n)) h
+        rule-place prog a r n (start-place 1 prog r n) h
+
+    fine : Fine T (place 1 prog) prog (ruleOf prog r .valued) (here .stage) l (decode T l)
+    fine = spot-fine T (place 1 prog) prog (here .spot)
 
     pub rules-inside : (1 ≤ l) × (l ≤ length T)
     unfolding Fine
-    rules-inside = valid-inside T l (λ e. let f : Fine T (place 1 prog) prog l invalid = rw e at fine in f)
+    rules-inside = valid-inside T l (λ e. let f : Fine T (place 1 prog) prog (ruleOf prog r .valued) (here .stage) l invalid = rw e at fine in f)
 
     -- a value is set before a return only
     pub rules-give : {v : ℕ} → decode T l ≡ setResult v → decode T (l + 2) ≡ return
     unfolding Fine
-    rules-give {v} e = let f : Fine T (place 1 prog) prog l (setResult v) = rw e at fine in f .0
+    rules-give {v} e = let f : Fine T (place 1 prog) prog (ruleOf prog r .valued) (here .stage) l (setResult v) = rw e at fine in f .1
 
     -- calls go to rules
     pub rules-call : {s : ℕ} → decode T l ≡ callRule s → indexOf S s < length S
     unfolding Fine
-    rules-call {s} e = let f : Fine T (place 1 prog) prog l (callRule s) = rw e at fine in go (f .0)
+    rules-call {s} e = let f : Fine T (place 1 prog) prog (ruleOf prog r .valued) (here .stage) l (callRule s) = rw e at fine in go (f .1)
       where
-        go : IsStart T (place 1 prog) prog s → indexOf S s < length S
-        go (is-start q b z) = index-found S s q (omega (arith, starts-length 1 prog)) (z ∙ sym (start-place 1 prog q b))
+        index : (q : ℕ) → q < length prog → s ≡ place 1 prog q → indexOf S s < length S
+        index q b z = index-found S s q (omega (arith, starts-length 1 prog)) (z ∙ sym (start-place 1 prog q b))
+
+        go : CallsThen T (place 1 prog) prog (ruleOf prog r .valued) s (l + 2) → indexOf S s < length S
+        go (calls-plain q c z s) = index q (c .there) z
+        go (calls-choice q c z s) = index q (c .there) z
 
     -- choice tables lie inside
     pub rules-table : {c : ℕ} → HasTable c (decode T l) → Fits T c
@@ -123,6 +129,6 @@ module _ (prog : List Rule) where
             let g : given (fetch T c) ≡ true = rw (i .is-count) refl in
             record { count = i .labels; is-count = i .is-count; low = fetch-inside T c g .0; fits = i .fits }
 
-        go : (i : Instruction) → HasTable c i → Fine T (place 1 prog) prog l i → Fits T c
-        go (inputChoice d) by-token f = fits (f .0)
-        go (choice d) by-result f = fits (f .0)
+        go : (i : Instruction) → HasTable c i → Fine T (place 1 prog) prog (ruleOf prog r .valued) (here .stage) l i → Fits T c
+        go (inputChoice d) by-token f = fits (f .1)
+        go (choice d) by-result f = fits (f .1)
