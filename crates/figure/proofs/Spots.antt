@@ -35,6 +35,11 @@ pub data Stage : Type 0 where
   choosing : Stage
   giving : Stage
 
+-- a choice goes by the value of a rule that gives one
+abbrev pub behindCall : Bool → Stage
+behindCall false = plainly
+behindCall true = choosing
+
 -- a return: of a value that was set, in a rule that gives one
 pub data Returns : Bool → Stage → Type 0 where
   returns-value : Returns true giving
@@ -56,9 +61,12 @@ module _ (T : List ℕ) (start : ℕ → ℕ) (prog : List Rule) where
     spot-input : {l u m : ℕ} → decode T l ≡ input u → decode T (l + 2) ≡ jump m → Spot v plainly m → Spot v plainly l
 
   -- a call of a rule that starts at s, and then the place l
-  pub data CallsThen (v : Bool) (s l : ℕ) : Type 0 where
-    calls-plain : (r : ℕ) → Calls prog r false → s ≡ start r → Spot v plainly l → CallsThen v s l
-    calls-choice : (r : ℕ) → Calls prog r true → s ≡ start r → Spot v choosing l → CallsThen v s l
+  pub record CallsThen (v : Bool) (s l : ℕ) : Type 0 where
+    pub rule : ℕ
+    pub valued : Bool
+    pub calls : Calls prog rule valued
+    pub is-rule : s ≡ start rule
+    pub next : Spot v (behindCall valued) l
 
   -- the choice table at c lies inside
   pub record Inside (c : ℕ) : Type 0 where
@@ -93,10 +101,6 @@ module _ (T : List ℕ) (start : ℕ → ℕ) (prog : List Rule) where
   placed : {v : Bool} {g : Stage} {l : ℕ} → Spot v g l → Place v l
   placed {g = g} s = record { stage = g; spot = s }
 
-  after-call : {v : Bool} {s l : ℕ} → CallsThen v s l → Place v l
-  after-call (calls-plain r c e s) = placed s
-  after-call (calls-choice r c e s) = placed s
-
   leads-fine : {v : Bool} (g : Stage) {l m : ℕ} {i : Instruction} → Fine v g l i → Leads T l i m → Place v m
   unfolding Fine
   leads-fine g f leads-jump = placed (f .1)
@@ -104,7 +108,7 @@ module _ (T : List ℕ) (start : ℕ → ℕ) (prog : List Rule) where
   leads-fine g f leads-any = placed (f .1)
   leads-fine g f leads-write = placed (f .1)
   leads-fine g f (leads-token w) = placed (f .2 w)
-  leads-fine g f leads-call = after-call (f .1)
+  leads-fine g f leads-call = placed (f .1 .next)
   leads-fine g f leads-result = placed (f .2)
   leads-fine g f (leads-choice w) = placed (f .2 w)
   leads-fine g f leads-parameter = placed (f .1)
@@ -168,7 +172,7 @@ module _ (T : List ℕ) (start : ℕ → ℕ) (prog : List Rule) where
   plain-fine (lay-emit {t = t} d) hs hg hh = rw d (refl, spot-at (rest-at T start prog (plain (emit t)) hs hg hh refl))
   plain-fine (lay-error {t = t} d) hs hg hh = rw d (refl, spot-at (rest-at T start prog (plain (error t)) hs hg hh refl))
   plain-fine {q = q} (lay-exit d) hs hg hh = rw d (refl, out-spot (exit-out T start prog (plain exit) q hh refl))
-  plain-fine (lay-call {r = r} d c) hs hg hh = rw d (refl, calls-plain r c refl (spot-at (rest-at T start prog (plain (call r)) hs hg hh refl)))
+  plain-fine (lay-call {r = r} d c) hs hg hh = rw d (refl, record { rule = r; valued = false; calls = c; is-rule = refl; next = spot-at (rest-at T start prog (plain (call r)) hs hg hh refl) })
   plain-fine (lay-back z d) hs hg hh = rw (d, z) returns-plain
   plain-fine (lay-give z d d₁) hs hg hh = rw d (refl, d₁, spot-return z d₁)
   plain-fine (lay-update {op = op} d) hs hg hh = rw d (refl, spot-at (rest-at T start prog (plain (update op)) hs hg hh refl))
@@ -192,7 +196,7 @@ module _ (T : List ℕ) (start : ℕ → ℕ) (prog : List Rule) where
         rw d (refl, table-inside t, ways-spot c t ha ho (behind (λ x. rest-at T start prog here hs hg hh x) (λ x. exit-out T start prog here q hh x)))
     act-fine (choice (byRule r) al ot) {q = q} (lay-rule d c a) hs hg hh =
         let here = choice (byRule r) al ot in
-        rw d (refl, calls-choice r c refl (spot-choice (at-choice a (λ x. rest-at T start prog here hs hg hh x) (λ x. exit-out T start prog here q hh x))))
+        rw d (refl, record { rule = r; valued = true; calls = c; is-rule = refl; next = spot-choice (at-choice a (λ x. rest-at T start prog here hs hg hh x) (λ x. exit-out T start prog here q hh x)) })
     act-fine (choice (byOperation op) al ot) {q = q} (lay-operation d a) hs hg hh =
         let here = choice (byOperation op) al ot in
         rw d (refl, spot-choice (at-choice a (λ x. rest-at T start prog here hs hg hh x) (λ x. exit-out T start prog here q hh x)))
@@ -240,11 +244,7 @@ module _ (T : List ℕ) (start : ℕ → ℕ) (prog : List Rule) where
     unfolding Fine
     call-start {v} {l} {m} h d =
         let f : Fine v (h .stage) l (callRule m) = rw d at (spot-fine (h .spot)) in
-        go (f .1)
-      where
-        go : CallsThen v m (l + 2) → IsStart m
-        go (calls-plain r c e s) = is-start r (c .there) e
-        go (calls-choice r c e s) = is-start r (c .there) e
+        is-start (f .1 .rule) (f .1 .calls .there) (f .1 .is-rule)
 
     pub reached-call : {s l m : ℕ} → IsStart s → Reached T s l → decode T l ≡ callRule m → IsStart m
     reached-call (is-start q b e) r d = call-start (reached-place q b e r) d

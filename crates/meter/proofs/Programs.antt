@@ -9,16 +9,17 @@ use Prim.Native.Nat.{ℕ, zero, suc, _+_, _*_, _≤_, _<_}
 use lib.Dec.{eqb, ltb}
 use lib.ListN.{length, getD}
 use borrow.Author.Tests.{eq-eqb, lt-ltb}
+use Rattle.agreement.proofs.Lay.{At}
 use Rattle.base.specs.Bools.{never}
 use Rattle.base.specs.Common.{if_then_else_, given}
 use Rattle.loading.proofs.Members.{fetch-inside, outside-invalid}
-use Rattle.machine.specs.Decode.{fetch, Instruction, invalid, inputChoice, callRule, return, setResult, choice, decode}
+use Rattle.machine.specs.Decode.{fetch, Instruction, invalid, jump, input, inputAny, write, inputChoice, callRule, return, setResult, choice, endChoice, setParameter, update, updateWith, choose, chooseWith, decode}
 use Rattle.program.specs.Accepted.{Accepted}
-use Rattle.program.specs.Program.{Rule, ruleOf}
+use Rattle.program.specs.Program.{Rule, ruleOf, bodyOf}
 use Rattle.program.specs.Table.{sizeRule, place, table}
-use Rattle.figure.specs.Figure.{Reached}
-use Rattle.figure.proofs.Spots.{Stage, plainly, choosing, giving, Returns, returns-value, returns-plain, Spot, CallsThen, calls-plain, calls-choice, Inside, Fine, Place, spot-fine, start-spot, program-laid-here, rule-place}
-use Rattle.meter.specs.Shaped.{indexOf, startOf, endOf, InRule, Fits, HasTable, by-token, by-result}
+use Rattle.figure.specs.Figure.{Reached, End, over, back, Quiet, quiet, Does, does-jump, does-input, does-any, does-write, does-token, does-default, does-call-over, does-call, does-call-stop, does-return, does-result, does-choice, does-end, does-parameter, does-update, does-updateWith, does-choose, does-chooseWith, does-choose-stop, does-chooseWith-stop}
+use Rattle.figure.proofs.Spots.{Stage, plainly, choosing, giving, Returns, returns-value, returns-plain, Spot, behindCall, CallsThen, Inside, Fine, Place, spot-fine, start-spot, program-laid-here, rule-place}
+use Rattle.meter.specs.Shaped.{indexOf, startOf, endOf, InRule, isChoice, Given, given-none, given-some, Fits, HasTable, by-token, by-result}
 use Rattle.meter.specs.Starts.{startsFrom, startsIn}
 
 -- The starts
@@ -68,6 +69,112 @@ valid-inside T l f = go (given (fetch T l)) refl
     go true e = fetch-inside T l e
     go false e = absurd (f (outside-invalid T l e))
 
+-- What a rule gives
+
+-- what is known of the result at a place
+data Knows : Stage → Option ℕ → Type 0 where
+  knows-none : Knows plainly none
+  knows-any : {x : Option ℕ} → Knows choosing x
+  knows-some : {u : ℕ} → Knows giving (some u)
+
+return-given : {v : Bool} {g : Stage} {x : Option ℕ} → Returns v g → Knows g x → Given v x
+return-given returns-value knows-some = given-some
+return-given returns-plain knows-none = given-none
+
+-- a path of a rule ends so: over, or back with a value exactly if the rule gives one
+data Gives (v : Bool) : End → Type 0 where
+  gives-over : Gives v over
+  gives-back : {y : Option ℕ} → Given v y → Gives v (back y)
+
+given-back : {v : Bool} {y : Option ℕ} → Gives v (back y) → Given v y
+given-back (gives-back g) = g
+
+plain-known : {b : Bool} {x : Option ℕ} → Gives b (back x) → b ≡ false → Knows plainly x
+plain-known (gives-back g) e = go g e
+  where
+    go : {b : Bool} {x : Option ℕ} → Given b x → b ≡ false → Knows plainly x
+    go given-none e = knows-none
+    go given-some e = never (sym e)
+
+behind-known : (b : Bool) {v : Bool} {x : Option ℕ} → v ≡ b → Gives v (back x) → Knows (behindCall b) x
+behind-known true e h = knows-any
+behind-known false e h = plain-known h e
+
+given-by : {a b : Bool} {y : Option ℕ} → a ≡ b → Given a y → Given b y
+given-by e g = rw e at g
+
+unfoldable isChoosing : Stage → Bool
+isChoosing plainly = false
+isChoosing choosing = true
+isChoosing giving = false
+
+choosing-behind : (b : Bool) → isChoosing (behindCall b) ≡ b
+unfolding isChoosing
+choosing-behind true = refl
+choosing-behind false = refl
+
+module _ (T : List ℕ) (start : ℕ → ℕ) (prog : List Rule) (laid : (r : ℕ) → r < length prog → At T start prog (ruleOf prog r .valued) (bodyOf prog r) [] (start r)) where
+  mutual
+    unfolding Fine
+
+    path-gives : {v : Bool} {g : Stage} {l n : ℕ} {x : Option ℕ} {e : End} → Spot T start prog v g l → Knows g x → Quiet T l x n e → Gives v e
+    path-gives {v} {g} s k (quiet d) = does-give v g (spot-fine T start prog s) k d
+
+    does-give : (v : Bool) (g : Stage) {l n : ℕ} {x : Option ℕ} {e : End} {i : Instruction} → Fine T start prog v g l i → Knows g x → Does T l x i n e → Gives v e
+    does-give v g f k (does-jump p) = path-gives (f .1) (rw (f .0) at k) p
+    does-give v g f k does-input = gives-over
+    does-give v g f k does-any = gives-over
+    does-give v g f k (does-write p) = path-gives (f .1) (rw (f .0) at k) p
+    does-give v g f k does-token = gives-over
+    does-give v g f k (does-default p) = path-gives (f .2 none) knows-none p
+    does-give v g f k (does-call-over p) = gives-over
+    does-give v g f k (does-call p t e) = let c = f .1 in path-gives (c .next) (behind-known (c .valued) (c .calls .sort) (path-gives (start-spot T start prog laid (c .rule) (c .calls .there) (c .is-rule)) knows-none p)) t
+    does-give v g f k does-call-stop = gives-over
+    does-give v g f k does-return = gives-back (return-given f k)
+    does-give v g f k (does-result p) = path-gives (f .2) knows-some p
+    does-give v g f k (does-choice w h p) = path-gives (f .2 w) knows-none p
+    does-give v g f k does-end = gives-over
+    does-give v g f k (does-parameter p) = path-gives (f .1) (rw (f .0) at k) p
+    does-give v g f k (does-update p) = path-gives (f .1) (rw (f .0) at k) p
+    does-give v g f k (does-updateWith p) = path-gives (f .1) (rw (f .0) at k) p
+    does-give v g f k (does-choose p) = path-gives (f .1) knows-any p
+    does-give v g f k (does-chooseWith p) = path-gives (f .1) knows-any p
+    does-give v g f k does-choose-stop = gives-over
+    does-give v g f k does-chooseWith-stop = gives-over
+
+  -- a choice stands where one goes by the result
+  stage-choice : (v : Bool) (g : Stage) (l : ℕ) (i : Instruction) → Fine T start prog v g l i → isChoice i ≡ isChoosing g
+  unfolding Fine isChoice isChoosing
+  stage-choice v g l invalid f = absurd f
+  stage-choice v g l (jump m) f = rw (f .0) refl
+  stage-choice v g l (input t) f = rw (f .0) refl
+  stage-choice v g l inputAny f = rw (f .0) refl
+  stage-choice v g l (write e) f = rw (f .0) refl
+  stage-choice v g l (inputChoice c) f = rw (f .0) refl
+  stage-choice v g l (callRule s) f = rw (f .0) refl
+  stage-choice v g l return f = go f
+    where
+      go : {v : Bool} {g : Stage} → Returns v g → false ≡ isChoosing g
+      go returns-value = refl
+      go returns-plain = refl
+  stage-choice v g l (setResult u) f = rw (f .0) refl
+  stage-choice v g l (choice c) f = rw (f .0) refl
+  stage-choice v g l endChoice f = rw f refl
+  stage-choice v g l (setParameter u) f = rw (f .0) refl
+  stage-choice v g l (update op) f = rw (f .0) refl
+  stage-choice v g l (updateWith op) f = rw (f .0) refl
+  stage-choice v g l (choose op) f = rw (f .0) refl
+  stage-choice v g l (chooseWith op) f = rw (f .0) refl
+
+  -- a rule gives a value exactly if a choice stands behind its call
+  called-given : {v : Bool} {s l m : ℕ} {y : Option ℕ} → CallsThen T start prog v s l → Quiet T s none m (back y) → Given (isChoice (decode T l)) y
+  called-given {v} {l = l} c p =
+      let z = given-back (path-gives (start-spot T start prog laid (c .rule) (c .calls .there) (c .is-rule)) knows-none p) in
+      let q = stage-choice v (behindCall (c .valued)) l (decode T l) (spot-fine T start prog (c .next)) in
+      given-by (c .calls .sort ∙ sym (q ∙ choosing-behind (c .valued))) z
+
+-- The table of a program
+
 module _ (prog : List Rule) where
   abbrev T : List ℕ
   T = table prog
@@ -110,14 +217,11 @@ module _ (prog : List Rule) where
     -- calls go to rules
     pub rules-call : {s : ℕ} → decode T l ≡ callRule s → indexOf S s < length S
     unfolding Fine
-    rules-call {s} e = let f : Fine T (place 1 prog) prog (ruleOf prog r .valued) (here .stage) l (callRule s) = rw e at fine in go (f .1)
-      where
-        index : (q : ℕ) → q < length prog → s ≡ place 1 prog q → indexOf S s < length S
-        index q b z = index-found S s q (omega (arith, starts-length 1 prog)) (z ∙ sym (start-place 1 prog q b))
-
-        go : CallsThen T (place 1 prog) prog (ruleOf prog r .valued) s (l + 2) → indexOf S s < length S
-        go (calls-plain q c z s) = index q (c .there) z
-        go (calls-choice q c z s) = index q (c .there) z
+    rules-call {s} e =
+        let f : Fine T (place 1 prog) prog (ruleOf prog r .valued) (here .stage) l (callRule s) = rw e at fine in
+        let c = f .1 in
+        let n = c .calls .there in
+        index-found S s (c .rule) (omega (arith, starts-length 1 prog)) (c .is-rule ∙ sym (start-place 1 prog (c .rule) n))
 
     -- choice tables lie inside
     pub rules-table : {c : ℕ} → HasTable c (decode T l) → Fits T c
@@ -132,3 +236,10 @@ module _ (prog : List Rule) where
         go : (i : Instruction) → HasTable c i → Fine T (place 1 prog) prog (ruleOf prog r .valued) (here .stage) l i → Fits T c
         go (inputChoice d) by-token f = fits (f .1)
         go (choice d) by-result f = fits (f .1)
+
+    -- a rule gives a value exactly if a choice stands behind its calls
+    pub rules-answer : {s m : ℕ} {y : Option ℕ} → decode T l ≡ callRule s → Quiet T s none m (back y) → Given (isChoice (decode T (l + 2))) y
+    unfolding Fine
+    rules-answer {s} e p =
+        let f : Fine T (place 1 prog) prog (ruleOf prog r .valued) (here .stage) l (callRule s) = rw e at fine in
+        called-given T (place 1 prog) prog (program-laid-here prog a) (f .1) p
