@@ -19,7 +19,7 @@ use Rattle.program.specs.Program.{Rule, ruleOf, bodyOf}
 use Rattle.program.specs.Table.{sizeRule, place, table}
 use Rattle.figure.specs.Figure.{Reached, End, over, back, Quiet, quiet, Does, does-jump, does-input, does-any, does-write, does-token, does-default, does-call-over, does-call, does-call-stop, does-return, does-result, does-choice, does-end, does-parameter, does-update, does-updateWith, does-choose, does-chooseWith, does-choose-stop, does-chooseWith-stop}
 use Rattle.figure.proofs.Spots.{Stage, plainly, choosing, giving, Returns, returns-value, returns-plain, Spot, behindCall, CallsThen, Inside, Fine, Place, spot-fine, start-spot, program-laid-here, rule-place}
-use Rattle.meter.specs.Shaped.{indexOf, startOf, endOf, InRule, isChoice, Given, given-none, given-some, Fits, HasTable, by-token, by-result}
+use Rattle.meter.specs.Shaped.{indexOf, startOf, endOf, InRule, isChoice, Given, given-none, given-some, Fits, HasTable, by-token, by-result, Shaped}
 use Rattle.meter.specs.Starts.{startsFrom, startsIn}
 
 -- The starts
@@ -243,3 +243,17 @@ module _ (prog : List Rule) where
     rules-answer {s} e p =
         let f : Fine T (place 1 prog) prog (ruleOf prog r .valued) (here .stage) l (callRule s) = rw e at fine in
         called-given T (place 1 prog) prog (program-laid-here prog a) (f .1) p
+
+  -- the shape of a program's table, if its rules keep to their words
+  pub rules-shaped : Accepted prog → length T ≤ 4096 → length prog ≤ 128 → ((r l : ℕ) → r < length S → Reached T (startOf S r) l → InRule T S r l) → Shaped T S
+  rules-shaped a short few stay = record {
+    short = short;
+    few = omega (arith, starts-length 1 prog);
+    inside = λ hr h. rules-inside a hr h;
+    stays = λ {r} {l} hr h. stay r l hr h;
+    apart = λ h z i j. rules-apart h z i j;
+    tables = λ hr h t. rules-table a hr h t;
+    calls = λ hr h e. rules-call a hr h e;
+    gives = λ hr h e. rules-give a hr h e;
+    answers = λ hr h e p. rules-answer a hr h e p;
+  }
