@@ -12,14 +12,20 @@ use borrow.Author.Tests.{eq-eqb, lt-ltb}
 use Rattle.agreement.proofs.Lay.{At}
 use Rattle.base.specs.Bools.{never}
 use Rattle.base.specs.Common.{if_then_else_, given}
+use Rattle.finishing.specs.Finishing.{Finishing}
 use Rattle.loading.proofs.Members.{fetch-inside, outside-invalid}
 use Rattle.machine.specs.Decode.{fetch, Instruction, invalid, jump, input, inputAny, write, inputChoice, callRule, return, setResult, choice, endChoice, setParameter, update, updateWith, choose, chooseWith, decode}
 use Rattle.program.specs.Accepted.{Accepted}
 use Rattle.program.specs.Program.{Rule, ruleOf, bodyOf}
 use Rattle.program.specs.Table.{sizeRule, place, table}
 use Rattle.figure.specs.Figure.{Reached, End, over, back, Quiet, quiet, Does, does-jump, does-input, does-any, does-write, does-token, does-default, does-call-over, does-call, does-call-stop, does-return, does-result, does-choice, does-end, does-parameter, does-update, does-updateWith, does-choose, does-chooseWith, does-choose-stop, does-chooseWith-stop}
+use Rattle.figure.specs.Count.{figure}
+use Rattle.figure.specs.Promise.{RuleStart, rule-start}
+use Rattle.figure.proofs.Battery.{figure-settles}
 use Rattle.figure.proofs.Spots.{Stage, plainly, choosing, giving, Returns, returns-value, returns-plain, Spot, behindCall, CallsThen, Inside, Fine, Place, spot-fine, start-spot, program-laid-here, rule-place}
 use Rattle.meter.specs.Shaped.{indexOf, startOf, endOf, InRule, isChoice, Given, given-none, given-some, Fits, HasTable, by-token, by-result, Shaped}
+use Rattle.meter.specs.Found.{Starts, starts, Found}
+use Rattle.meter.specs.Makes.{cap}
 use Rattle.meter.specs.Starts.{startsFrom, startsIn}
 
 -- The starts
@@ -257,3 +263,26 @@ module _ (prog : List Rule) where
     gives = λ hr h e. rules-give a hr h e;
     answers = λ hr h e p. rules-answer a hr h e p;
   }
+
+  -- What is found is the program's figure
+
+  as-rule : {s : ℕ} → Starts S s → RuleStart prog s
+  as-rule (starts r h e) = let n : r < length prog = omega (arith, starts-length 1 prog) in rule-start r n (e ∙ start-place 1 prog r n)
+
+  as-start : {s : ℕ} → RuleStart prog s → Starts S s
+  as-start (rule-start r h e) = starts r (omega (arith, starts-length 1 prog)) (e ∙ sym (start-place 1 prog r h))
+
+  module _ (a : Accepted prog) (f : Finishing prog) {q : ℕ} (found : Found T S q) where
+    pub found-figure : q < cap → 0 < q → figure prog ≡ some q
+    found-figure h z =
+        let g = found .exact h z in
+        figure-settles prog a f .figure-only q (record {
+          exact = record { bounds = record { most = λ s r p. g .bounds .most (as-start s) r p }; start = g .start; location = g .location; end = g .end; is-start = as-rule (g .is-start); reached = g .reached; path = g .path };
+          small = omega arith;
+        })
+
+    -- "47 for Q above 4,294,967,295"
+    pub found-long : cap ≤ q → figure prog ≡ none
+    found-long h =
+        let g = found .long h in
+        figure-settles prog a f .long-only (record { start = g .start; location = g .location; end = g .end; count = g .count; is-start = as-rule (g .is-start); reached = g .reached; path = g .path; long = g .long })
