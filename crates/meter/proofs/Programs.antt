@@ -1,4 +1,4 @@
--- What the table of an accepted program has of the shape that the code asks for.
+-- What the table of an accepted program has of the shape that the code asks for; what is found there is its figure.
 use mathlib.Core.Bool.{Bool, true, false}
 use mathlib.Core.List.{List, [], _∷_}
 use mathlib.Core.Option.{Option, none, some}
@@ -21,8 +21,9 @@ use Rattle.program.specs.Table.{sizeRule, place, table}
 use Rattle.figure.specs.Figure.{Reached, End, over, back, Quiet, quiet, Does, does-jump, does-input, does-any, does-write, does-token, does-default, does-call-over, does-call, does-call-stop, does-return, does-result, does-choice, does-end, does-parameter, does-update, does-updateWith, does-choose, does-chooseWith, does-choose-stop, does-chooseWith-stop}
 use Rattle.figure.specs.Count.{figure}
 use Rattle.figure.specs.Promise.{RuleStart, rule-start}
-use Rattle.figure.proofs.Battery.{figure-settles}
+use Rattle.figure.proofs.Battery.{figure-exact, figure-long, figure-settles}
 use Rattle.figure.proofs.Spots.{Stage, plainly, choosing, giving, Returns, returns-value, returns-plain, Spot, behindCall, CallsThen, Inside, Fine, Place, spot-fine, start-spot, program-laid-here, rule-place}
+use Rattle.meter.proofs.Bounds.{some-instruction}
 use Rattle.meter.specs.Shaped.{indexOf, startOf, endOf, InRule, isChoice, Given, given-none, given-some, Fits, HasTable, by-token, by-result, Shaped}
 use Rattle.meter.specs.Found.{Starts, starts, Found}
 use Rattle.meter.specs.Makes.{cap}
@@ -273,9 +274,17 @@ module _ (prog : List Rule) where
   as-start (rule-start r h e) = starts r (omega (arith, starts-length 1 prog)) (e ∙ sym (start-place 1 prog r h))
 
   module _ (a : Accepted prog) (f : Finishing prog) {q : ℕ} (found : Found T S q) where
-    pub found-figure : q < cap → 0 < q → figure prog ≡ some q
-    found-figure h z =
-        let g = found .exact h z in
+    -- there is a path: the figure's own, or one that is too long
+    found-some : q < cap → 0 < q
+    found-some h = go (figure prog) refl
+      where
+        go : (o : Option ℕ) → figure prog ≡ o → 0 < q
+        go none e = let g = figure-long prog a e in omega (arith, g .long, found .bounds h .most (as-start (g .is-start)) (g .reached) (g .path))
+        go (some r) e = let g = figure-exact prog a f r e .exact in omega (arith, some-instruction (g .path), found .bounds h .most (as-start (g .is-start)) (g .reached) (g .path))
+
+    pub found-figure : q < cap → figure prog ≡ some q
+    found-figure h =
+        let g = found .exact h (found-some h) in
         figure-settles prog a f .figure-only q (record {
           exact = record { bounds = record { most = λ s r p. g .bounds .most (as-start s) r p }; start = g .start; location = g .location; end = g .end; is-start = as-rule (g .is-start); reached = g .reached; path = g .path };
           small = omega arith;
