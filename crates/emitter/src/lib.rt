@@ -1,4 +1,4 @@
-// The emitter: from a program's cells to the sizes of its rules and the words of its table.
+// The emitter: from a program's cells to the words of its table, in one pass.
 // Nothing is asked of the cells: on any cells each function ends and keeps to its bounds.
 ghost use mathlib.Core.Path.{_≡_};
 ghost use mathlib.Core.List.{[], _∷_};
