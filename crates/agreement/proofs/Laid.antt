@@ -7,9 +7,9 @@ use mathlib.Core.Path.{_≡_, refl, sym, ap, _∙_, subst}
 use mathlib.Core.Logic.{inl, inr}
 use mathlib.Core.Bool.{Bool, true, false}
 use mathlib.Core.Option.{Option, none, some}
-use mathlib.Core.List.{List, [], _∷_, _++_}
+use mathlib.Core.List.{List, [], _∷_, _++_, append-nil}
 use lib.Dec.{eqb}
-use lib.ListN.{length}
+use lib.ListN.{length, replicate}
 use borrow.Author.Tests.{le-leb, lt-leb, lt-ltb, le-ltb, ne-eqb}
 use Rattle.base.specs.Bools.{never, or}
 use Rattle.base.specs.Common.{if_then_else_}
@@ -42,6 +42,11 @@ unfolding fetch
 seg-self [] = seg-nil
 seg-self (w ∷ ws) = seg-cons refl (seg-weaken w (seg-self ws))
 
+-- zeros before them
+seg-behind : (n : ℕ) (ws : List ℕ) → Seg (replicate n 0 ++ ws) (suc n) ws
+seg-behind zero ws = seg-self ws
+seg-behind (suc n) ws = seg-weaken 0 (seg-behind n ws)
+
 seg-at : {T : List ℕ} {l l′ : ℕ} {ws : List ℕ} → Seg T l ws → l ≡ l′ → Seg T l′ ws
 seg-at {T} {ws = ws} h p = subst (λ (i : ℕ). Seg T i ws) p h
 
@@ -56,7 +61,7 @@ seg-right (w ∷ a) b (seg-cons f h) = seg-at (seg-right a b h) (omega arith)
 seg-after : {T : List ℕ} {l : ℕ} (k : ℕ) (a b : List ℕ) → length a ≡ k → Seg T l (a ++ b) → Seg T (l + k) b
 seg-after k a b e s = seg-at (seg-right a b s) (omega arith)
 
-fetch-le : (T : List ℕ) (l w : ℕ) → fetch T l ≡ some w → l ≤ length T
+pub fetch-le : (T : List ℕ) (l w : ℕ) → fetch T l ≡ some w → l ≤ length T
 unfolding fetch
 fetch-le T zero w h = omega arith
 fetch-le [] (suc i) w h = let z : _≡_ {A = ℕ} 0 1 = cc in absurd (omega arith)
@@ -427,19 +432,24 @@ module _ (T : List ℕ) (start : ℕ → ℕ) (prog : List Rule) where
   rule-end true q l h s g = never (sym (h refl) ∙ g)
   rule-end false q l h s g = end-rule refl (seg-return s)
 
+  -- a rule that stands at l
+  rule-laid : (b : Rule) (l : ℕ) (ws : List ℕ) → Oks prog (b .body) (b .valued) false → (b .valued ≡ true → pastAll (b .body) ≡ false)
+      → Seg T l (codes start (b .body) 0 ++ (endWords (b .valued) ++ ws)) → At T start prog (b .valued) (b .body) [] l
+  rule-laid b l ws ok en s =
+      let w = codes start (b .body) 0 in
+      let t = endWords (b .valued) in
+      let s₂ = seg-after (sizes (b .body)) w (t ++ ws) (length-codes start (b .body) 0) s in
+      at-place {x = 0} (laids (b .body) (b .valued) false 0 0 l ok (λ e. never e) (seg-left w (t ++ ws) s))
+      (rule-end (b .valued) (b .body) (l + sizes (b .body)) en (seg-left t ws s₂))
+      (λ x. absurd (no-exits prog (b .body) (b .valued) ok x))
+
   -- every rule of a list that stands at l
   rules-laid : (bs : List Rule) (l : ℕ) → ((i : ℕ) → i < length bs → Oks prog (bodyOf bs i) (ruleOf bs i .valued) false)
       → ((i : ℕ) → i < length bs → ruleOf bs i .valued ≡ true → pastAll (bodyOf bs i) ≡ false) → Seg T l (rulesWords start bs)
       → (i : ℕ) → i < length bs → At T start prog (ruleOf bs i .valued) (bodyOf bs i) [] (place l bs i)
   unfolding rulesWords place sizeRule ruleOf bodyOf
   rules-laid [] l ok en s i h = absurd (omega arith)
-  rules-laid (b ∷ bs) l ok en s zero h =
-      let w = codes start (b .body) 0 in
-      let t = endWords (b .valued) in
-      let s₂ = seg-after (sizes (b .body)) w (t ++ rulesWords start bs) (length-codes start (b .body) 0) s in
-      at-place {x = 0} (laids (b .body) (b .valued) false 0 0 l (ok 0 h) (λ e. never e) (seg-left w (t ++ rulesWords start bs) s))
-      (rule-end (b .valued) (b .body) (l + sizes (b .body)) (en 0 h) (seg-left t (rulesWords start bs) s₂))
-      (λ x. absurd (no-exits prog (b .body) (b .valued) (ok 0 h) x))
+  rules-laid (b ∷ bs) l ok en s zero h = rule-laid b l (rulesWords start bs) (ok 0 h) (en 0 h) s
   rules-laid (b ∷ bs) l ok en s (suc i) h =
       let w = codes start (b .body) 0 in
       let t = endWords (b .valued) in
@@ -453,3 +463,16 @@ pub program-laid : (prog : List Rule) (more : List ℕ) → Accepted prog → (i
 unfolding table
 program-laid prog more a =
     rules-laid (table prog ++ more) (place 1 prog) prog prog 1 (a .in-order) (a .no-end) (seg-left (table prog) more (seg-self (table prog ++ more)))
+
+-- the words of rule r
+abbrev pub ownWords : List Rule → ℕ → List ℕ
+ownWords prog r = codes (place 1 prog) (bodyOf prog r) 0 ++ endWords (ruleOf prog r .valued)
+
+-- a rule stands so too where its own words are all that there is
+pub rule-alone : (prog : List Rule) → Accepted prog → (r n : ℕ) → r < length prog
+    → At (replicate n 0 ++ ownWords prog r) (place 1 prog) prog (ruleOf prog r .valued) (bodyOf prog r) [] (suc n)
+unfolding bodyOf
+rule-alone prog a r n h =
+    let b = ruleOf prog r in
+    rule-laid (replicate n 0 ++ ownWords prog r) (place 1 prog) prog b (suc n) [] (a .in-order r h) (a .no-end r h)
+    (rw (append-nil (endWords (b .valued))) (seg-behind n (ownWords prog r)))

@@ -22,7 +22,7 @@ element-more [] more i x e = let z : _≡_ {A = ℕ} 0 1 = cc in absurd (omega a
 element-more (v ∷ T) more zero x e = e
 element-more (v ∷ T) more (suc i) x e = element-more T more i x e
 
-element-within : (T more : List ℕ) (i : ℕ) → i < length T → getElem? (T ++ more) i ≡ getElem? T i
+pub element-within : (T more : List ℕ) (i : ℕ) → i < length T → getElem? (T ++ more) i ≡ getElem? T i
 element-within [] more i h = absurd (omega arith)
 element-within (v ∷ T) more zero h = refl
 element-within (v ∷ T) more (suc i) h = element-within T more i (omega arith)
@@ -42,29 +42,31 @@ data Alike : Next → Next → Type 0 where
   alike-out : {n : Next} → Alike goesOutside n
   alike : {n : Next} → Alike n n
 
-data AlikeAt : Instruction → Instruction → Type 0 where
+pub data AlikeAt : Instruction → Instruction → Type 0 where
   alike-none : {i : Instruction} → AlikeAt invalid i
   alike-at : {i : Instruction} → AlikeAt i i
 
+if-at : (b : Bool) (i j : Instruction) → AlikeAt (if b then i else invalid) (if b then i else j)
+if-at true i j = alike-at
+if-at false i j = alike-none
+
+word-alike : (l i : ℕ) (f g : Option ℕ) → ((x : ℕ) → f ≡ some x → g ≡ some x) → AlikeAt (decodeWord l i f) (decodeWord l i g)
+unfolding decodeWord
+word-alike l i none none h = alike-at
+word-alike l i none (some y) h = if-at (eqb (lengthOf i) 1) (decodeOne i) (if eqb (lengthOf i) 2 then decodeTwo l i y else invalid)
+word-alike l i (some x) g h = rw (h x refl) alike-at
+
+-- the word at l and the one behind it, in the one table and in the other
+pub words-alike : (l : ℕ) (f f₁ g g₁ : Option ℕ) → ((x : ℕ) → f ≡ some x → g ≡ some x) → ((x : ℕ) → f₁ ≡ some x → g₁ ≡ some x) → AlikeAt (decodeAt l f f₁) (decodeAt l g g₁)
+unfolding decodeAt
+words-alike l none f₁ g g₁ h k = alike-none
+words-alike l (some i) f₁ g g₁ h k = rw (h i refl) (word-alike l i f₁ g₁ k)
+
 module _ (T more : List ℕ) where
-  if-at : (b : Bool) (i j : Instruction) → AlikeAt (if b then i else invalid) (if b then i else j)
-  if-at true i j = alike-at
-  if-at false i j = alike-none
-
-  word-alike : (l i : ℕ) (f g : Option ℕ) → ((x : ℕ) → f ≡ some x → g ≡ some x) → AlikeAt (decodeWord l i f) (decodeWord l i g)
-  unfolding decodeWord
-  word-alike l i none none h = alike-at
-  word-alike l i none (some y) h = if-at (eqb (lengthOf i) 1) (decodeOne i) (if eqb (lengthOf i) 2 then decodeTwo l i y else invalid)
-  word-alike l i (some x) g h = rw (h x refl) alike-at
-
-  decode-at : (l : ℕ) (f g : Option ℕ) → ((x : ℕ) → f ≡ some x → g ≡ some x) → AlikeAt (decodeAt l f (fetch T (suc l))) (decodeAt l g (fetch (T ++ more) (suc l)))
-  unfolding decodeAt
-  decode-at l none g h = alike-none
-  decode-at l (some i) g h = rw (h i refl) (word-alike l i (fetch T (suc l)) (fetch (T ++ more) (suc l)) (λ x e. fetch-more T more (suc l) x e))
-
   decode-alike : (l : ℕ) → AlikeAt (decode T l) (decode (T ++ more) l)
   unfolding decode
-  decode-alike l = decode-at l (fetch T l) (fetch (T ++ more) l) (λ x e. fetch-more T more l x e)
+  decode-alike l =
+      words-alike l (fetch T l) (fetch T (suc l)) (fetch (T ++ more) l) (fetch (T ++ more) (suc l)) (λ x e. fetch-more T more l x e) (λ x e. fetch-more T more (suc l) x e)
 
   module _ (tokens : List ℕ) where
     goTo-alike : (l : ℕ) (w : Walk) → Alike (goTo T tokens l w) (goTo (T ++ more) tokens l w)

@@ -98,7 +98,7 @@ module _ (T : List ℕ) (start : ℕ → ℕ) (prog : List Rule) where
     pub stage : Stage
     pub spot : Spot v stage l
 
-  placed : {v : Bool} {g : Stage} {l : ℕ} → Spot v g l → Place v l
+  pub placed : {v : Bool} {g : Stage} {l : ℕ} → Spot v g l → Place v l
   placed {g = g} s = record { stage = g; spot = s }
 
   leads-fine : {v : Bool} (g : Stage) {l m : ℕ} {i : Instruction} → Fine v g l i → Leads T l i m → Place v m
@@ -228,7 +228,7 @@ module _ (T : List ℕ) (start : ℕ → ℕ) (prog : List Rule) where
   spot-fine (spot-jump d s) = rw d (refl, s)
   spot-fine (spot-input d j s) = rw d (refl, spot-jump j s)
 
-  reached-spot : {v : Bool} {s l : ℕ} → Place v s → Reached T s l → Place v l
+  pub reached-spot : {v : Bool} {s l : ℕ} → Place v s → Reached T s l → Place v l
   reached-spot h at-start = h
   reached-spot h (further r c) = let p = reached-spot h r in leads-fine (p .stage) (spot-fine (p .spot)) c
 
