@@ -22,7 +22,7 @@ use Rattle.program.specs.Program.{Rule, ruleOf, bodyOf}
 use Rattle.program.specs.Table.{codes, endWords, sizeRule, rulesWords, place, table}
 use Rattle.figure.specs.Figure.{labelAt, labelBy, backFrom, wayAmong, wayOf, wayOut, Leads, leads-jump, leads-input, leads-any, leads-write, leads-token, leads-call, leads-result, leads-choice, leads-parameter, leads-update, leads-updateWith, leads-choose, leads-chooseWith, Reached, at-start, further}
 use Rattle.figure.proofs.More.{element-within, AlikeAt, alike-none, alike-at, words-alike}
-use Rattle.figure.proofs.Spots.{Stage, Spot, spot-at, Inside, Fine, Place, placed, spot-fine, reached-spot}
+use Rattle.figure.proofs.Spots.{Stage, spot-at, Fine, Place, placed, spot-fine, reached-spot}
 
 -- Choice tables stand behind their instruction
 
@@ -136,7 +136,7 @@ module _ (T W : List ℕ) (n : ℕ) (same : (l : ℕ) → n < l → l ≤ length
         let d₁ : Leads T l (decode W l) m = rw (decode-same l h (place-valid q)) at d in
         further r₁ (leads-same v (q .stage) l h (decode-ahead W l) (spot-fine W start prog (q .spot)) d₁)
 
-    pub reached-within : {v : Bool} {s l : ℕ} → Place W start prog v s → Reached T s l → (n < l) × (l ≤ length W)
+    reached-within : {v : Bool} {s l : ℕ} → Place W start prog v s → Reached T s l → (n < l) × (l ≤ length W)
     reached-within {l = l} p r = only l (place-valid (reached-spot W start prog p (reached-same p r)))
 
 -- Zeros and then a rule's words
@@ -198,8 +198,9 @@ rule-keeps prog a {l} r h reached =
     let t = endWords (ruleOf prog r .valued) in
     let rest = rulesWords (place 1 prog) (drop (suc r) prog) in
     let own = ownWords prog r in
+    let alone = replicate n 0 ++ own in
     let d : drop n (table prog) ≡ own ++ rest = place-words prog r n h e ∙ sym (append-assoc w t rest) in
-    let q = reached-within (table prog) (replicate n 0 ++ own) n (own-same n own (table prog) rest d) (λ k f. (behind n own k f, within n own k f)) (place 1 prog) prog
-            (placed (replicate n 0 ++ own) (place 1 prog) prog (spot-at (rule-alone prog a r n h))) (rw e at reached) in
+    let p : Place alone (place 1 prog) prog (ruleOf prog r .valued) (suc n) = placed alone (place 1 prog) prog (spot-at (rule-alone prog a r n h)) in
+    let q = reached-within (table prog) alone n (own-same n own (table prog) rest d) (λ k f. (behind n own k f, within n own k f)) (place 1 prog) prog p (rw e at reached) in
     let size = length-codes (place 1 prog) (bodyOf prog r) 0 in
     (omega (arith, q .0), omega (arith, q .1, length-append (replicate n 0) own, length-replicate {A = ℕ} n 0, length-append w t, size))

@@ -30,7 +30,7 @@ each p n ks seen (r ∷ rs) =
     next (λ ms. length ms ≡ suc (length rs)) (λ ms. length ms ≡ length rs) (rulesMean p n ks (r .rule .text ∷ seen) rs) _ (each p n ks (r .rule .text ∷ seen) rs) (λ ms h.
     yields (λ ms. length ms ≡ suc (length rs)) (m ∷ ms) (ap suc h)))
 
-all-understood : (p : Program) → Yields (λ prog. length prog ≡ length (p .rules)) (understand p)
+pub all-understood : (p : Program) → Yields (λ prog. length prog ≡ length (p .rules)) (understand p)
 unfolding understand
 all-understood p =
     next (λ prog. length prog ≡ length (p .rules)) Any (declareSections p (p .sections) nobody) _ (any (declareSections p (p .sections) nobody)) (λ n _.

@@ -11,3 +11,4 @@ pub mod Seen
 pub mod Finds
 pub mod Figures
 pub mod Programs
+pub mod Texts

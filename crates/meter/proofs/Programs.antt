@@ -1,4 +1,4 @@
--- What the table of an accepted program has of the shape that the code asks for; what is found there is its figure.
+-- The table of an accepted program has the shape that the code asks for; what is found there is its figure.
 use mathlib.Core.Bool.{Bool, true, false}
 use mathlib.Core.List.{List, [], _∷_}
 use mathlib.Core.Option.{Option, none, some}
@@ -8,13 +8,15 @@ use native.Mathlib.Omega.{arith}
 use Prim.Native.Nat.{ℕ, zero, suc, _+_, _*_, _≤_, _<_}
 use lib.Dec.{eqb, ltb}
 use lib.ListN.{length, getD}
-use borrow.Author.Tests.{eq-eqb, lt-ltb}
+use borrow.Author.Tests.{eq-eqb, lt-ltb, le-ltb}
 use Rattle.agreement.proofs.Lay.{At}
 use Rattle.base.specs.Bools.{never}
 use Rattle.base.specs.Common.{if_then_else_, given}
 use Rattle.finishing.specs.Finishing.{Finishing}
 use Rattle.loading.proofs.Members.{fetch-inside, outside-invalid}
 use Rattle.machine.specs.Decode.{fetch, Instruction, invalid, jump, input, inputAny, write, inputChoice, callRule, return, setResult, choice, endChoice, setParameter, update, updateWith, choose, chooseWith, decode}
+use Rattle.program.proofs.Lengths.{length-table}
+use Rattle.program.proofs.Places.{place-next, place-fits}
 use Rattle.program.specs.Accepted.{Accepted}
 use Rattle.program.specs.Program.{Rule, ruleOf, bodyOf}
 use Rattle.program.specs.Table.{sizeRule, place, table}
@@ -22,6 +24,7 @@ use Rattle.figure.specs.Figure.{Reached, End, over, back, Quiet, quiet, Does, d
 use Rattle.figure.specs.Count.{figure}
 use Rattle.figure.specs.Promise.{RuleStart, rule-start}
 use Rattle.figure.proofs.Battery.{figure-exact, figure-long, figure-settles}
+use Rattle.figure.proofs.Keeps.{rule-keeps}
 use Rattle.figure.proofs.Spots.{Stage, plainly, choosing, giving, Returns, returns-value, returns-plain, Spot, behindCall, CallsThen, Inside, Fine, Place, spot-fine, start-spot, program-laid-here, rule-place}
 use Rattle.meter.proofs.Bounds.{some-instruction}
 use Rattle.meter.specs.Shaped.{indexOf, startOf, endOf, InRule, isChoice, Given, given-none, given-some, Fits, HasTable, by-token, by-result, Shaped}
@@ -203,6 +206,25 @@ module _ (prog : List Rule) where
     | no y ↦ elim (decLt q r) [ yes x ↦ absurd (rule-before x h j i) | no x ↦ omega arith ]
   ]
 
+  -- as many words as its size says are those of rule r
+  rule-end : (r : ℕ) → r < length prog → place 1 prog r + sizeRule (ruleOf prog r) ≤ endOf (length T) S r
+  unfolding endOf
+  rule-end r h = elim (decLt (r + 1) (length S)) [
+    | yes y ↦ let e : endOf (length T) S r ≡ startOf S (r + 1) = rw (lt-ltb (r + 1) (length S) y) refl in
+        let z : r + 1 ≡ suc r = omega arith in
+        omega (arith, e, starts-length 1 prog, start-place 1 prog (r + 1) (omega (arith, starts-length 1 prog)), ap (place 1 prog) z, place-next 1 prog r h)
+    | no y ↦ let e : endOf (length T) S r ≡ length T + 1 = rw (le-ltb (r + 1) (length S) (omega arith)) refl in
+        omega (arith, e, place-fits 1 prog r h, length-table prog)
+  ]
+
+  -- a rule does not leave its words
+  pub rules-stay : Accepted prog → {r l : ℕ} → r < length S → Reached T (startOf S r) l → InRule T S r l
+  rules-stay a {r} {l} hr h =
+      let n : r < length prog = omega (arith, starts-length 1 prog) in
+      let s = start-place 1 prog r n in
+      let k = rule-keeps prog a r n (rw s at h) in
+      record { from = omega (arith, s, k .0); to = omega (arith, rule-end r n, k .1) }
+
   module _ (a : Accepted prog) {r l : ℕ} (hr : r < length S) (h : Reached T (startOf S r) l) where
     here : Place T (place 1 prog) prog (ruleOf prog r .valued) l
     here =
@@ -251,13 +273,13 @@ module _ (prog : List Rule) where
         let f : Fine T (place 1 prog) prog (ruleOf prog r .valued) (here .stage) l (callRule s) = rw e at fine in
         called-given T (place 1 prog) prog (program-laid-here prog a) (f .1) p
 
-  -- the shape of a program's table, if its rules keep to their words
-  pub rules-shaped : Accepted prog → length T ≤ 4096 → length prog ≤ 128 → ((r l : ℕ) → r < length S → Reached T (startOf S r) l → InRule T S r l) → Shaped T S
-  rules-shaped a short few stay = record {
+  -- the shape of a program's table
+  pub rules-shaped : Accepted prog → length T ≤ 4096 → length prog ≤ 128 → Shaped T S
+  rules-shaped a short few = record {
     short = short;
     few = omega (arith, starts-length 1 prog);
     inside = λ hr h. rules-inside a hr h;
-    stays = λ {r} {l} hr h. stay r l hr h;
+    stays = λ hr h. rules-stay a hr h;
     apart = λ h z i j. rules-apart h z i j;
     tables = λ hr h t. rules-table a hr h t;
     calls = λ hr h e. rules-call a hr h e;
