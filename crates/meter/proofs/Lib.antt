@@ -1,5 +1,6 @@
 pub mod Bounds
 pub mod Stands
+pub mod Store
 pub mod Raising
 pub mod Words
 pub mod Visits

@@ -3,3 +3,4 @@ pub mod Makes
 pub mod Steps
 pub mod Found
 pub mod Starts
+pub mod Store

@@ -5,12 +5,13 @@ ghost use mathlib.Core.Path.{_≡_};
 ghost use mathlib.Core.Bool.{Bool, true, false, _||_};
 ghost use mathlib.Core.Option.{none, some};
 ghost use Prim.Native.Nat.{_+_, _*_, _-_, _<_, _≤_, min};
-ghost use lib.ListN.{length, getD, replicate};
+ghost use lib.ListN.{length, getD, set, replicate};
 ghost use Rattle.machine.specs.Bytes.{count, wordsOf, tableOf};
 ghost use Rattle.meter.specs.Steps.{flagOf, Kept, Here, Steps, Raised, Ways, MakesAt, RaisedTwo, WaysRaised, Visited, TokenVisited, ValueAt, ValueHere, CallsHere, Values, Behind, ChoiceAt, AskedAt, AskedBelow, AskedFrom, Greatest, Begun, Settled};
 ghost use Rattle.machine.specs.Decode.{callRule, choice, decodeOne, decodeTwo, decode};
 ghost use Rattle.meter.specs.Shaped.{indexOf, endOf, InRule, Fits, Shaped};
 ghost use Rattle.meter.specs.Found.{Found};
+ghost use Rattle.meter.specs.Store.{atCap, numbersOf};
 ghost use Rattle.figure.specs.Figure.{wayOut};
 
 // Places in a half: the locations, then the paths of each rule that are over and those that are back.
@@ -20,10 +21,15 @@ const BACK: usize = 4225;
 
 const HALF: usize = 4353;
 
-pub const ROWS: usize = 8706;
-
 // Past the greatest figure: numbers stop here.
 const CAP: u64 = 4294967296;
+
+// The store of the numbers: a word for each, then a bit for each, set where the number is CAP.
+const NUMBERS: usize = 8706;
+
+const WORD_BITS: usize = 32;
+
+pub const ROWS: usize = 8979;
 
 // The instructions that end paths or branch.
 const JUMP_FORWARD: usize = 1;
@@ -48,11 +54,39 @@ const END_CHOICE: usize = 12;
 
 const FIRST_CHOOSE: usize = 768;
 
-// The number at an index.
-fn number(rows: &[u64], i: usize) -> u64
-    ensures { λ r. ⌜ r ≡ getD (now (rows .entry)) i 0 ⌝ }
+// Whether the number at an index is CAP.
+fn at_cap(rows: &[u32], i: usize) -> bool
+    requires { ⌜ (length (now rows) ≡ 8979) × (i < 8706) ⌝ }
+    ensures { λ r. ⌜ r ≡ atCap (now (rows .entry)) i ⌝ }
 {
-    if i < rows.len() { rows[i] } else { 0 }
+    (rows[NUMBERS + i / WORD_BITS] >> (i % WORD_BITS)) & 1 == 1
+}
+
+// The number at an index.
+fn number(rows: &[u32], i: usize) -> u64
+    requires { ⌜ length (now rows) ≡ 8979 ⌝ }
+    ensures { λ r. ⌜ r ≡ getD (numbersOf (now (rows .entry))) i 0 ⌝ }
+{
+    if NUMBERS <= i {
+        return 0;
+    }
+    if at_cap(rows, i) {
+        return CAP;
+    }
+    rows[i] as u64
+}
+
+// A number becomes v, which is more: no bit is ever cleared.
+fn put(rows: &mut [u32], i: usize, v: u64)
+    requires { ⌜ (length (now rows) ≡ 8979) × (i < 8706) × (getD (numbersOf (now rows)) i 0 < v) × (v ≤ 4294967296) ⌝ }
+    ensures { λ _. ⌜ numbersOf (now (rows .exit)) ≡ set (numbersOf (now (rows .entry))) i v ⌝ }
+{
+    if v < CAP {
+        rows[i] = v as u32;
+        return;
+    }
+    let at = NUMBERS + i / WORD_BITS;
+    rows[at] = rows[at] | (1 << (i % WORD_BITS));
 }
 
 fn capped(v: u64) -> u64
@@ -68,17 +102,17 @@ fn either(a: bool, b: bool) -> bool
 }
 
 // A number is raised, where it is less; locations past the last have none.
-fn raise(rows: &mut [u64], base: usize, i: usize, v: u64) -> bool
-    requires { ⌜ (length (now rows) ≡ 8706) × (base ≤ 4353) ⌝ }
-    ensures { λ r. ⌜ Raised base i v (now (rows .entry)) (now (rows .exit)) r ⌝ }
+fn raise(rows: &mut [u32], base: usize, i: usize, v: u64) -> bool
+    requires { ⌜ (length (now rows) ≡ 8979) × (base ≤ 4353) ⌝ }
+    ensures { λ r. ⌜ Raised base i v (numbersOf (now (rows .entry))) (numbersOf (now (rows .exit))) r ⌝ }
 {
     if HALF <= i {
         return false;
     }
     let at = base + i;
     let w = capped(v);
-    if rows[at] < w {
-        rows[at] = w;
+    if number(rows, at) < w {
+        put(rows, at, w);
         return true;
     }
     false
@@ -148,9 +182,9 @@ fn way_out(table: &[u8], c: usize, v: usize) -> usize
 }
 
 // Two places are raised.
-fn raise_two(rows: &mut [u64], base: usize, i: usize, v: u64, j: usize, w: u64) -> bool
-    requires { ⌜ (length (now rows) ≡ 8706) × (base ≤ 4353) ⌝ }
-    ensures { λ r. ⌜ RaisedTwo base i v j w (now (rows .entry)) (now (rows .exit)) r ⌝ }
+fn raise_two(rows: &mut [u32], base: usize, i: usize, v: u64, j: usize, w: u64) -> bool
+    requires { ⌜ (length (now rows) ≡ 8979) × (base ≤ 4353) ⌝ }
+    ensures { λ r. ⌜ RaisedTwo base i v j w (numbersOf (now (rows .entry))) (numbersOf (now (rows .exit))) r ⌝ }
 {
     let a = raise(rows, base, i, v);
     let b = raise(rows, base, j, w);
@@ -158,9 +192,9 @@ fn raise_two(rows: &mut [u64], base: usize, i: usize, v: u64, j: usize, w: u64) 
 }
 
 // Every way out of the choice with its table at c.
-fn raise_ways(table: &[u8], c: usize, base: usize, v: u64, rows: &mut [u64]) -> bool
-    requires { ⌜ Fits (tableOf (now table)) c × (length (now rows) ≡ 8706) × (base ≤ 4353) ⌝ }
-    ensures { λ r. ⌜ WaysRaised (tableOf (now (table .entry))) c v base (now (rows .entry)) (now (rows .exit)) r ⌝ }
+fn raise_ways(table: &[u8], c: usize, base: usize, v: u64, rows: &mut [u32]) -> bool
+    requires { ⌜ Fits (tableOf (now table)) c × (length (now rows) ≡ 8979) × (base ≤ 4353) ⌝ }
+    ensures { λ r. ⌜ WaysRaised (tableOf (now (table .entry))) c v base (numbersOf (now (rows .entry))) (numbersOf (now (rows .exit))) r ⌝ }
 {
     let n = loader::word_at(table, c);
     let mut changed = false;
@@ -183,9 +217,9 @@ struct Spot {
 }
 
 // An instruction of one word.
-fn visit_one(i: usize, base: usize, here: Spot, rows: &mut [u64]) -> bool
-    requires { ⌜ (length (now rows) ≡ 8706) × (base ≤ 4353) × (here .rule < 128) × (here .at < 10000) × (here .number ≤ 4294967296) ⌝ }
-    ensures { λ r. ⌜ Visited (decodeOne i) base (here .rule) (here .at) (here .number) (now (rows .entry)) (now (rows .exit)) r ⌝ }
+fn visit_one(i: usize, base: usize, here: Spot, rows: &mut [u32]) -> bool
+    requires { ⌜ (length (now rows) ≡ 8979) × (base ≤ 4353) × (here .rule < 128) × (here .at < 10000) × (here .number ≤ 4294967296) ⌝ }
+    ensures { λ r. ⌜ Visited (decodeOne i) base (here .rule) (here .at) (here .number) (numbersOf (now (rows .entry))) (numbersOf (now (rows .exit))) r ⌝ }
 {
     let next = here.at + 1;
     let over = OVER + here.rule;
@@ -205,9 +239,9 @@ fn visit_one(i: usize, base: usize, here: Spot, rows: &mut [u64]) -> bool
 }
 
 // A choice by the present token, with its table at c.
-fn visit_token(table: &[u8], c: usize, base: usize, here: Spot, rows: &mut [u64]) -> bool
-    requires { ⌜ Fits (tableOf (now table)) c × (length (now rows) ≡ 8706) × (base ≤ 4353) × (here .rule < 128) × (here .number ≤ 4294967296) ⌝ }
-    ensures { λ r. ⌜ TokenVisited (tableOf (now (table .entry))) c base (here .rule) (here .at) (here .number) (now (rows .entry)) (now (rows .exit)) r ⌝ }
+fn visit_token(table: &[u8], c: usize, base: usize, here: Spot, rows: &mut [u32]) -> bool
+    requires { ⌜ Fits (tableOf (now table)) c × (length (now rows) ≡ 8979) × (base ≤ 4353) × (here .rule < 128) × (here .number ≤ 4294967296) ⌝ }
+    ensures { λ r. ⌜ TokenVisited (tableOf (now (table .entry))) c base (here .rule) (here .at) (here .number) (numbersOf (now (rows .entry))) (numbersOf (now (rows .exit))) r ⌝ }
 {
     let a = raise_ways(table, c, base, mark_of(base), rows);
     let default = c + 1 + 2 * loader::word_at(table, c);
@@ -230,10 +264,10 @@ fn raise_value(
     c: usize,
     base: usize,
     here: Spot,
-    rows: &mut [u64],
+    rows: &mut [u32],
 ) -> bool
-    requires { ⌜ Kept (tableOf (now table)) (now starts) base (now rows) × ValueHere (tableOf (now table)) (now starts) base (here .rule) (here .at) (here .number) c p ⌝ }
-    ensures { λ r. ⌜ Steps (tableOf (now (table .entry))) (now (starts .entry)) (ValueAt (tableOf (now (table .entry))) c (here .number) p) base (now (rows .entry)) (now (rows .exit)) r ⌝ }
+    requires { ⌜ Kept (tableOf (now table)) (now starts) base (numbersOf (now rows)) × ValueHere (tableOf (now table)) (now starts) base (here .rule) (here .at) (here .number) c p × (length (now rows) ≡ 8979) ⌝ }
+    ensures { λ r. ⌜ Steps (tableOf (now (table .entry))) (now (starts .entry)) (ValueAt (tableOf (now (table .entry))) c (here .number) p) base (numbersOf (now (rows .entry))) (numbersOf (now (rows .exit))) r ⌝ }
 {
     if p == 0 {
         return false;
@@ -274,10 +308,10 @@ fn raise_values(
     c: usize,
     base: usize,
     here: Spot,
-    rows: &mut [u64],
+    rows: &mut [u32],
 ) -> bool
-    requires { ⌜ Kept (tableOf (now table)) (now starts) base (now rows) × CallsHere (tableOf (now table)) (now starts) base (here .rule) (here .at) (here .number) q × (decode (tableOf (now table)) (here .at + 2) ≡ choice c) ⌝ }
-    ensures { λ r. ⌜ Steps (tableOf (now (table .entry))) (now (starts .entry)) (Values (tableOf (now (table .entry))) (now (starts .entry)) c (here .number) q (endOf (length (tableOf (now (table .entry)))) (now (starts .entry)) q)) base (now (rows .entry)) (now (rows .exit)) r ⌝ }
+    requires { ⌜ Kept (tableOf (now table)) (now starts) base (numbersOf (now rows)) × CallsHere (tableOf (now table)) (now starts) base (here .rule) (here .at) (here .number) q × (decode (tableOf (now table)) (here .at + 2) ≡ choice c) × (length (now rows) ≡ 8979) ⌝ }
+    ensures { λ r. ⌜ Steps (tableOf (now (table .entry))) (now (starts .entry)) (Values (tableOf (now (table .entry))) (now (starts .entry)) c (here .number) q (endOf (length (tableOf (now (table .entry)))) (now (starts .entry)) q)) base (numbersOf (now (rows .entry))) (numbersOf (now (rows .exit))) r ⌝ }
 {
     let to = end_of(starts, q, loader::size_of(table));
     let mut changed = false;
@@ -297,10 +331,10 @@ fn raise_behind(
     q: usize,
     base: usize,
     here: Spot,
-    rows: &mut [u64],
+    rows: &mut [u32],
 ) -> bool
-    requires { ⌜ Kept (tableOf (now table)) (now starts) base (now rows) × CallsHere (tableOf (now table)) (now starts) base (here .rule) (here .at) (here .number) q ⌝ }
-    ensures { λ r. ⌜ Steps (tableOf (now (table .entry))) (now (starts .entry)) (Behind (tableOf (now (table .entry))) (now (starts .entry)) (here .at) (here .number) q) base (now (rows .entry)) (now (rows .exit)) r ⌝ }
+    requires { ⌜ Kept (tableOf (now table)) (now starts) base (numbersOf (now rows)) × CallsHere (tableOf (now table)) (now starts) base (here .rule) (here .at) (here .number) q × (length (now rows) ≡ 8979) ⌝ }
+    ensures { λ r. ⌜ Steps (tableOf (now (table .entry))) (now (starts .entry)) (Behind (tableOf (now (table .entry))) (now (starts .entry)) (here .at) (here .number) q) base (numbersOf (now (rows .entry))) (numbersOf (now (rows .exit))) r ⌝ }
 {
     let next = here.at + 2;
     let c = choice_at(table, next);
@@ -321,10 +355,10 @@ fn raise_call(
     s: usize,
     base: usize,
     here: Spot,
-    rows: &mut [u64],
+    rows: &mut [u32],
 ) -> bool
-    requires { ⌜ Kept (tableOf (now table)) (now starts) base (now rows) × Here (tableOf (now table)) (now starts) base (here .rule) (here .at) (here .number) × (decode (tableOf (now table)) (here .at) ≡ callRule s) ⌝ }
-    ensures { λ r. ⌜ Steps (tableOf (now (table .entry))) (now (starts .entry)) (MakesAt (tableOf (now (table .entry))) (now (starts .entry)) base (here .rule) (here .at) (here .number) (callRule s)) base (now (rows .entry)) (now (rows .exit)) r ⌝ }
+    requires { ⌜ Kept (tableOf (now table)) (now starts) base (numbersOf (now rows)) × Here (tableOf (now table)) (now starts) base (here .rule) (here .at) (here .number) × (decode (tableOf (now table)) (here .at) ≡ callRule s) × (length (now rows) ≡ 8979) ⌝ }
+    ensures { λ r. ⌜ Steps (tableOf (now (table .entry))) (now (starts .entry)) (MakesAt (tableOf (now (table .entry))) (now (starts .entry)) base (here .rule) (here .at) (here .number) (callRule s)) base (numbersOf (now (rows .entry))) (numbersOf (now (rows .exit))) r ⌝ }
 {
     let q = rule_at(starts, s);
     let o = here.number + number(rows, OVER + q);
@@ -341,10 +375,10 @@ fn visit_two(
     x: usize,
     base: usize,
     here: Spot,
-    rows: &mut [u64],
+    rows: &mut [u32],
 ) -> bool
-    requires { ⌜ Kept (tableOf (now table)) (now starts) base (now rows) × Here (tableOf (now table)) (now starts) base (here .rule) (here .at) (here .number) × (decode (tableOf (now table)) (here .at) ≡ decodeTwo (here .at) i x) × (x < 65536) ⌝ }
-    ensures { λ r. ⌜ Steps (tableOf (now (table .entry))) (now (starts .entry)) (MakesAt (tableOf (now (table .entry))) (now (starts .entry)) base (here .rule) (here .at) (here .number) (decodeTwo (here .at) i x)) base (now (rows .entry)) (now (rows .exit)) r ⌝ }
+    requires { ⌜ Kept (tableOf (now table)) (now starts) base (numbersOf (now rows)) × Here (tableOf (now table)) (now starts) base (here .rule) (here .at) (here .number) × (decode (tableOf (now table)) (here .at) ≡ decodeTwo (here .at) i x) × (x < 65536) × (length (now rows) ≡ 8979) ⌝ }
+    ensures { λ r. ⌜ Steps (tableOf (now (table .entry))) (now (starts .entry)) (MakesAt (tableOf (now (table .entry))) (now (starts .entry)) base (here .rule) (here .at) (here .number) (decodeTwo (here .at) i x)) base (numbersOf (now (rows .entry))) (numbersOf (now (rows .exit))) r ⌝ }
 {
     let l = here.at;
     let more = here.number + 1;
@@ -377,9 +411,9 @@ fn visit_two(
 }
 
 // What the instruction at a location of a rule asks for.
-fn visit(table: &[u8], starts: &[usize], r: usize, l: usize, base: usize, rows: &mut [u64]) -> bool
-    requires { ⌜ Kept (tableOf (now table)) (now starts) base (now rows) × (r < length (now starts)) × InRule (tableOf (now table)) (now starts) r l ⌝ }
-    ensures { λ b. ⌜ Steps (tableOf (now (table .entry))) (now (starts .entry)) (AskedAt (tableOf (now (table .entry))) (now (starts .entry)) base r l) base (now (rows .entry)) (now (rows .exit)) b ⌝ }
+fn visit(table: &[u8], starts: &[usize], r: usize, l: usize, base: usize, rows: &mut [u32]) -> bool
+    requires { ⌜ Kept (tableOf (now table)) (now starts) base (numbersOf (now rows)) × (r < length (now starts)) × InRule (tableOf (now table)) (now starts) r l × (length (now rows) ≡ 8979) ⌝ }
+    ensures { λ b. ⌜ Steps (tableOf (now (table .entry))) (now (starts .entry)) (AskedAt (tableOf (now (table .entry))) (now (starts .entry)) base r l) base (numbersOf (now (rows .entry))) (numbersOf (now (rows .exit))) b ⌝ }
 {
     if l == 0 {
         return false;
@@ -420,9 +454,9 @@ fn visit(table: &[u8], starts: &[usize], r: usize, l: usize, base: usize, rows: 
 }
 
 // What the instructions of a rule ask for.
-fn sweep_rule(table: &[u8], starts: &[usize], r: usize, base: usize, rows: &mut [u64]) -> bool
-    requires { ⌜ Kept (tableOf (now table)) (now starts) base (now rows) × (r < length (now starts)) ⌝ }
-    ensures { λ b. ⌜ Steps (tableOf (now (table .entry))) (now (starts .entry)) (AskedBelow (tableOf (now (table .entry))) (now (starts .entry)) base r (endOf (length (tableOf (now (table .entry)))) (now (starts .entry)) r)) base (now (rows .entry)) (now (rows .exit)) b ⌝ }
+fn sweep_rule(table: &[u8], starts: &[usize], r: usize, base: usize, rows: &mut [u32]) -> bool
+    requires { ⌜ Kept (tableOf (now table)) (now starts) base (numbersOf (now rows)) × (r < length (now starts)) × (length (now rows) ≡ 8979) ⌝ }
+    ensures { λ b. ⌜ Steps (tableOf (now (table .entry))) (now (starts .entry)) (AskedBelow (tableOf (now (table .entry))) (now (starts .entry)) base r (endOf (length (tableOf (now (table .entry)))) (now (starts .entry)) r)) base (numbersOf (now (rows .entry))) (numbersOf (now (rows .exit))) b ⌝ }
 {
     let to = end_of(starts, r, loader::size_of(table));
     let mut changed = false;
@@ -436,9 +470,9 @@ fn sweep_rule(table: &[u8], starts: &[usize], r: usize, base: usize, rows: &mut 
 }
 
 // One sweep over all rules, the last first: most rules call later ones.
-fn sweep(table: &[u8], starts: &[usize], base: usize, rows: &mut [u64]) -> bool
-    requires { ⌜ Kept (tableOf (now table)) (now starts) base (now rows) ⌝ }
-    ensures { λ b. ⌜ Steps (tableOf (now (table .entry))) (now (starts .entry)) (AskedFrom (tableOf (now (table .entry))) (now (starts .entry)) base 0) base (now (rows .entry)) (now (rows .exit)) b ⌝ }
+fn sweep(table: &[u8], starts: &[usize], base: usize, rows: &mut [u32]) -> bool
+    requires { ⌜ Kept (tableOf (now table)) (now starts) base (numbersOf (now rows)) × (length (now rows) ≡ 8979) ⌝ }
+    ensures { λ b. ⌜ Steps (tableOf (now (table .entry))) (now (starts .entry)) (AskedFrom (tableOf (now (table .entry))) (now (starts .entry)) base 0) base (numbersOf (now (rows .entry))) (numbersOf (now (rows .exit))) b ⌝ }
 {
     let mut changed = false;
     let mut r = starts.len();
@@ -451,9 +485,9 @@ fn sweep(table: &[u8], starts: &[usize], base: usize, rows: &mut [u64]) -> bool
 }
 
 // Sweeps until nothing is raised.
-fn settle(table: &[u8], starts: &[usize], base: usize, rows: &mut [u64])
-    requires { ⌜ Kept (tableOf (now table)) (now starts) base (now rows) ⌝ }
-    ensures { λ _. ⌜ Settled (tableOf (now (table .entry))) (now (starts .entry)) base (now (rows .entry)) (now (rows .exit)) ⌝ }
+fn settle(table: &[u8], starts: &[usize], base: usize, rows: &mut [u32])
+    requires { ⌜ Kept (tableOf (now table)) (now starts) base (numbersOf (now rows)) × (length (now rows) ≡ 8979) ⌝ }
+    ensures { λ _. ⌜ Settled (tableOf (now (table .entry))) (now (starts .entry)) base (numbersOf (now (rows .entry))) (numbersOf (now (rows .exit))) ⌝ }
 {
     let mut changed = true;
     while changed {
@@ -462,9 +496,9 @@ fn settle(table: &[u8], starts: &[usize], base: usize, rows: &mut [u64])
 }
 
 // The rules' starts get the number 1.
-fn begin(table: &[u8], starts: &[usize], base: usize, rows: &mut [u64])
-    requires { ⌜ Kept (tableOf (now table)) (now starts) base (now rows) ⌝ }
-    ensures { λ _. ⌜ Begun (tableOf (now (table .entry))) (now (starts .entry)) base (now (rows .entry)) (now (rows .exit)) ⌝ }
+fn begin(table: &[u8], starts: &[usize], base: usize, rows: &mut [u32])
+    requires { ⌜ Kept (tableOf (now table)) (now starts) base (numbersOf (now rows)) × (length (now rows) ≡ 8979) ⌝ }
+    ensures { λ _. ⌜ Begun (tableOf (now (table .entry))) (now (starts .entry)) base (numbersOf (now (rows .entry))) (numbersOf (now (rows .exit))) ⌝ }
 {
     let mut r: usize = 0;
     while r < starts.len() {
@@ -474,12 +508,13 @@ fn begin(table: &[u8], starts: &[usize], base: usize, rows: &mut [u64])
 }
 
 // The greatest number from an index on.
-fn greatest(rows: &[u64], from: usize) -> u64
-    ensures { λ r. ⌜ Greatest (now (rows .entry)) from r ⌝ }
+fn greatest(rows: &[u32], from: usize) -> u64
+    requires { ⌜ length (now rows) ≡ 8979 ⌝ }
+    ensures { λ r. ⌜ Greatest (numbersOf (now (rows .entry))) from r ⌝ }
 {
     let mut most: u64 = 0;
     let mut i = from;
-    while i < rows.len() {
+    while i < NUMBERS {
         let v = number(rows, i);
         if most < v {
             most = v;
@@ -490,9 +525,9 @@ fn greatest(rows: &[u64], from: usize) -> u64
 }
 
 // All numbers are 0.
-fn clear(rows: &mut [u64])
-    requires { ⌜ length (now rows) ≡ 8706 ⌝ }
-    ensures { λ _. ⌜ now (rows .exit) ≡ replicate 8706 0 ⌝ }
+fn clear(rows: &mut [u32])
+    requires { ⌜ length (now rows) ≡ 8979 ⌝ }
+    ensures { λ _. ⌜ numbersOf (now (rows .exit)) ≡ replicate 8706 0 ⌝ }
 {
     let mut i: usize = 0;
     while i < ROWS {
@@ -502,8 +537,8 @@ fn clear(rows: &mut [u64])
 }
 
 // The figure of a table whose rules start at these locations; 4,294,967,296 where it is more than 4,294,967,295. The numbers are lent.
-pub fn figure(table: &[u8], starts: &[usize], rows: &mut [u64]) -> u64
-    requires { ⌜ Shaped (tableOf (now table)) (now starts) × (length (now rows) ≡ 8706) ⌝ }
+pub fn figure(table: &[u8], starts: &[usize], rows: &mut [u32]) -> u64
+    requires { ⌜ Shaped (tableOf (now table)) (now starts) × (length (now rows) ≡ 8979) ⌝ }
     ensures { λ q. ⌜ Found (tableOf (now (table .entry))) (now (starts .entry)) q ⌝ }
 {
     clear(rows);

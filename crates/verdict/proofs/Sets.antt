@@ -98,7 +98,7 @@ member-high s r k g l h = elim (decLt k 64) [
       ∙ (ap (λ (b : Bool). bit (s .hi) (k - 64) || b) (bit-one (r - 64) (k - 64) (omega arith) (omega arith) ∙ e) ∙ or-swap (bit (s .hi) (k - 64)) (eqb r k)))
 ]
 
-bit-zero : (k : ℕ) → bit 0 k ≡ false
+pub bit-zero : (k : ℕ) → bit 0 k ≡ false
 bit-zero k = bit-mod 0 k ∙ ap (λ (n : ℕ). eqb (n % 2) 1) (zero-div (2 ^ k))
 
 pub member-none : (k : ℕ) → member (record { lo = 0; hi = 0 }) k ≡ false

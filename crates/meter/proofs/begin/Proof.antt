@@ -1,3 +1,5 @@
+use Rattle.meter.specs.Store.{numbersOf}
+use mathlib.Core.Path.{_≡_}
 use Rattle.meter.proofs.Finds.{BegunUpto, begun-first, begun-next, begun-all}
 use Rattle.meter.proofs.Laws.{room}
 use Rattle.machine.specs.Bytes.{tableOf}
@@ -12,14 +14,14 @@ use Rattle.meter.proofs.begin.Lts as lts
 use Rattle.meter.proofs.raise.Reads as raise-reads
 
 abbrev Inv-loop : tie.InvT-loop
-Inv-loop table starts base rows₀ r₀ rows r = BegunUpto (tableOf table) starts base r rows₀ rows
+Inv-loop table starts base rows₀ r₀ rows r = (BegunUpto (tableOf table) starts base r (numbersOf rows₀) (numbersOf rows)) × (length rows ≡ 8979)
 
 abbrev μ-loop : tie.MeasureT-loop
 μ-loop table starts base rows₀ r₀ rows r = length starts - r
 
 -- src/lib.rt:469:5
 loop-holds : tie.Need-loop-holds Inv-loop μ-loop
-loop-holds c = begun-first (c .before .before .before .pre)
+loop-holds c = (begun-first (c .before .before .before .pre .0), search needs)
 
 -- src/lib.rt:470:27
 mul-raise : tie.Need-mul-raise Inv-loop μ-loop
@@ -31,7 +33,7 @@ shared-slice-read-raise c = search needs
 
 -- src/lib.rt:470:9
 raise-requires : tie.Need-raise-requires Inv-loop μ-loop
-raise-requires c κs = (c .before .before .before .loop .inv .kept .sized, room (c .before .before .before .before .before .before .before .pre))
+raise-requires c κs = (c .before .before .before .loop .inv .1, room (c .before .before .before .before .before .before .before .pre .0))
 
 -- src/lib.rt:471:9
 add-r : tie.Need-add-r Inv-loop μ-loop
@@ -43,7 +45,7 @@ loop-less c = search needs
 
 -- src/lib.rt:469:5
 loop-again : tie.Need-loop-again Inv-loop μ-loop
-loop-again c = begun-next (c .before .before .before .before .before .before .loop .inv) (search needs) (c .before .before .raise .ensures)
+loop-again c = (begun-next (c .before .before .before .before .before .before .loop .inv .0) (search needs) (c .before .before .raise .ensures), search needs)
 
 -- src/lib.rt:464:1
 same-length : tie.Need-same-length Inv-loop μ-loop
@@ -51,7 +53,7 @@ same-length c = search needs
 
 -- src/lib.rt:464:1
 returns : tie.Need-returns Inv-loop μ-loop
-returns c = begun-all (c .before .loop .inv) (search needs)
+returns c = begun-all (c .before .loop .inv .0) (search needs)
 
 pub begin-spec : {M : Type 1} → statement M
 begin-spec =

@@ -1,3 +1,4 @@
+use Rattle.meter.proofs.Store.{cleared-numbers}
 use Rattle.meter.proofs.Figures.{ClearedUpto, cleared-first, cleared-next, cleared-all}
 use borrow.Author.Needs.{needs}
 use Prim.Native.Nat.{_-_}
@@ -8,10 +9,10 @@ use Rattle.meter.proofs.clear.Reads as reads
 use Rattle.meter.proofs.clear.Lts as lts
 
 abbrev Inv-loop : tie.InvT-loop
-Inv-loop rows₀ i₀ rows i = ClearedUpto 8706 rows₀ i rows
+Inv-loop rows₀ i₀ rows i = ClearedUpto 8979 rows₀ i rows
 
 abbrev μ-loop : tie.MeasureT-loop
-μ-loop rows₀ i₀ rows i = 8706 - i
+μ-loop rows₀ i₀ rows i = 8979 - i
 
 -- src/lib.rt:498:5
 loop-holds : tie.Need-loop-holds Inv-loop μ-loop
@@ -43,7 +44,7 @@ same-length c = search needs
 
 -- src/lib.rt:493:1
 returns : tie.Need-returns Inv-loop μ-loop
-returns c = cleared-all (c .before .loop .inv) (search needs)
+returns c = cleared-numbers _ (cleared-all (c .before .loop .inv) (search needs))
 
 pub clear-spec : {M : Type 1} → statement M
 clear-spec =

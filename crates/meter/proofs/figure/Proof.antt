@@ -15,7 +15,7 @@ clear-requires c κs = search needs
 
 -- src/lib.rt:510:5
 begin-requires : tie.Need-begin-requires
-begin-requires c κs = cleared-kept (c .before .before .before .before .before .before .before .before .pre .0) (c .before .before .before .clear .ensures)
+begin-requires c κs = (cleared-kept (c .before .before .before .before .before .before .before .before .pre .0) (c .before .before .before .clear .ensures), search needs)
 
 -- src/lib.rt:511:5
 settle-requires : tie.Need-settle-requires
@@ -23,7 +23,7 @@ settle-requires c κs = search needs
 
 -- src/lib.rt:512:5
 begin-requires-2 : tie.Need-begin-requires-2
-begin-requires-2 c κs = second-kept (c .before .before .before .before .before .before .before .before .before .before .before .clear .ensures) (c .before .before .before .before .before .before .before .begin .ensures) (c .before .before .before .settle .ensures)
+begin-requires-2 c κs = (second-kept (c .before .before .before .before .before .before .before .before .before .before .before .clear .ensures) (c .before .before .before .before .before .before .before .begin .ensures) (c .before .before .before .settle .ensures), search needs)
 
 -- src/lib.rt:513:5
 settle-requires-2 : tie.Need-settle-requires-2

@@ -13,7 +13,7 @@ choice-at-requires : tie.Need-choice-at-requires
 choice-at-requires c κs = (omega arith, omega (arith, here-inside (c .before .before .before .before .pre .0) (c .before .before .before .before .pre .1 .here) .1))
 
 raise-values-requires : tie.Need-raise-values-requires
-raise-values-requires c κs = (c .before .before .before .before .before .before .before .pre .0, c .before .before .before .before .before .before .before .pre .1, c .before .before .choice-at .ensures .is-choice (c .before .if1 .taken))
+raise-values-requires c κs = (c .before .before .before .before .before .before .before .pre .0, c .before .before .before .before .before .before .before .pre .1, c .before .before .choice-at .ensures .is-choice (c .before .if1 .taken), c .before .before .before .before .before .before .before .pre .2)
 
 same-length : tie.Need-same-length
 same-length c = search needs
@@ -40,7 +40,7 @@ add-raise-2 : tie.Need-add-raise-2
 add-raise-2 c = omega (arith, c .before .before .before .number .ensures, c .before .before .before .before .before .before .before .before .before .before .before .pre .0 .small (4225 + c .before .before .before .before .before .before .before .before .before .before .before .args .q), c .before .before .before .before .before .before .before .before .before .before .before .pre .1 .here .small)
 
 raise-requires : tie.Need-raise-requires
-raise-requires c κs = (c .before .before .before .before .before .before .before .before .before .before .before .pre .0 .sized, room (c .before .before .before .before .before .before .before .before .before .before .before .pre .0))
+raise-requires c κs = (c .before .before .before .before .before .before .before .before .before .before .before .pre .2, room (c .before .before .before .before .before .before .before .before .before .before .before .pre .0))
 
 same-length-3 : tie.Need-same-length-3
 same-length-3 c = search needs

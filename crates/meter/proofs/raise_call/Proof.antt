@@ -28,10 +28,10 @@ mark-of-requires : tie.Need-mark-of-requires
 mark-of-requires c κs = search needs
 
 raise-two-requires : tie.Need-raise-two-requires
-raise-two-requires c κs = (c .before .before .before .before .before .before .before .before .before .before .before .pre .0 .sized, room (c .before .before .before .before .before .before .before .before .before .before .before .pre .0))
+raise-two-requires c κs = (c .before .before .before .before .before .before .before .before .before .before .before .pre .3, room (c .before .before .before .before .before .before .before .before .before .before .before .pre .0))
 
 raise-behind-requires : tie.Need-raise-behind-requires
-raise-behind-requires c κs = (call-first (c .before .before .before .before .before .before .before .before .before .before .before .before .before .before .before .pre .0) (c .before .before .before .before .before .before .before .before .before .before .before .before .before .before .before .pre .1) (c .before .before .before .before .before .before .before .before .before .before .before .before .before .before .before .pre .2) (c .before .before .before .before .before .before .before .before .before .before .before .rule-at .ensures) (c .before .before .before .before .before .before .before .before .before .number .ensures) (c .before .before .before .before .mark-of .ensures) refl (c .before .before .before .raise-two .ensures) .kept, called-here (c .before .before .before .before .before .before .before .before .before .before .before .before .before .before .before .pre .0) (c .before .before .before .before .before .before .before .before .before .before .before .before .before .before .before .pre .1) (c .before .before .before .before .before .before .before .before .before .before .before .before .before .before .before .pre .2) (c .before .before .before .before .before .before .before .before .before .before .before .rule-at .ensures))
+raise-behind-requires c κs = (call-first (c .before .before .before .before .before .before .before .before .before .before .before .before .before .before .before .pre .0) (c .before .before .before .before .before .before .before .before .before .before .before .before .before .before .before .pre .1) (c .before .before .before .before .before .before .before .before .before .before .before .before .before .before .before .pre .2) (c .before .before .before .before .before .before .before .before .before .before .before .rule-at .ensures) (c .before .before .before .before .before .before .before .before .before .number .ensures) (c .before .before .before .before .mark-of .ensures) refl (c .before .before .before .raise-two .ensures) .kept, called-here (c .before .before .before .before .before .before .before .before .before .before .before .before .before .before .before .pre .0) (c .before .before .before .before .before .before .before .before .before .before .before .before .before .before .before .pre .1) (c .before .before .before .before .before .before .before .before .before .before .before .before .before .before .before .pre .2) (c .before .before .before .before .before .before .before .before .before .before .before .rule-at .ensures), search needs)
 
 either-requires : tie.Need-either-requires
 either-requires c κs = search needs

@@ -46,7 +46,7 @@ add-raise-2 : tie.Need-add-raise-2
 add-raise-2 c = omega (arith, c .before .before .before .before .before .number .ensures, c .before .before .before .before .before .before .before .before .before .before .before .before .before .before .before .pre .0 .small (c .before .before .before .before .before .before .before .before .before .before .before .before .before .before .before .args .p), c .before .before .before .before .before .before .before .before .before .before .before .before .before .before .before .pre .1 .here .here .small)
 
 raise-requires : tie.Need-raise-requires
-raise-requires c κs = (c .before .before .before .before .before .before .before .before .before .before .before .before .before .before .before .pre .0 .sized, room (c .before .before .before .before .before .before .before .before .before .before .before .before .before .before .before .pre .0))
+raise-requires c κs = (c .before .before .before .before .before .before .before .before .before .before .before .before .before .before .before .pre .2, room (c .before .before .before .before .before .before .before .before .before .before .before .before .before .before .before .pre .0))
 
 same-length-2 : tie.Need-same-length-2
 same-length-2 c = search needs

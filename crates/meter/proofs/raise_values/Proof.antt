@@ -1,8 +1,10 @@
+use Rattle.meter.specs.Store.{numbersOf}
+use lib.ListN.{length}
 use Rattle.meter.proofs.Sweeps.{ValuesUpto, values-first, values-next, values-all}
 use Rattle.meter.proofs.Laws.{start-end, is-end}
 use Rattle.machine.specs.Bytes.{tableOf}
 use borrow.Author.Needs.{needs}
-use mathlib.Core.Path.{_∙_}
+use mathlib.Core.Path.{_≡_}
 use Prim.Native.Nat.{_-_}
 use native.Mathlib.Omega.{arith}
 use Rattle.meter.proofs.raise_values.Statement.{statement}
@@ -15,7 +17,7 @@ use Rattle.meter.proofs.end_of.Reads as end-of-reads
 use Rattle.meter.proofs.raise_value.Reads as raise-value-reads
 
 abbrev Inv-loop : tie.InvT-loop
-Inv-loop table starts q c base here rows₀ to changed₀ p₀ rows changed p = ValuesUpto (tableOf table) starts c (here .number) q base to p rows₀ rows changed
+Inv-loop table starts q c base here rows₀ to changed₀ p₀ rows changed p = (ValuesUpto (tableOf table) starts c (here .number) q base to p (numbersOf rows₀) (numbersOf rows) changed) × (length rows ≡ 8979)
 
 abbrev μ-loop : tie.MeasureT-loop
 μ-loop table starts q c base here rows₀ to changed₀ p₀ rows changed p = to - p
@@ -38,11 +40,11 @@ shared-slice-read-p c = c .before .before .before .before .before .before .pre .
 
 -- src/lib.rt:284:5
 loop-holds : tie.Need-loop-holds Inv-loop μ-loop
-loop-holds c = values-first (c .before .before .before .before .before .before .pre .0) (omega (arith, start-end (c .before .before .before .before .before .before .pre .0) (c .before .before .before .before .before .before .pre .1 .found), is-end _ _ (c .before .end-of .ensures) (c .before .before .size-of .ensures))) (is-end _ _ (c .before .end-of .ensures) (c .before .before .size-of .ensures))
+loop-holds c = (values-first (c .before .before .before .before .before .before .pre .0) (omega (arith, start-end (c .before .before .before .before .before .before .pre .0) (c .before .before .before .before .before .before .pre .1 .found), is-end _ _ (c .before .end-of .ensures) (c .before .before .size-of .ensures))) (is-end _ _ (c .before .end-of .ensures) (c .before .before .size-of .ensures)), search needs)
 
 -- src/lib.rt:285:13
 raise-value-requires : tie.Need-raise-value-requires Inv-loop μ-loop
-raise-value-requires c κs = (c .before .before .loop .inv .steps .kept, record { rule = c .before .before .before .before .before .before .before .before .before .args .q; here = c .before .before .before .before .before .before .before .before .before .pre .1; chooses = c .before .before .before .before .before .before .before .before .before .pre .2; in-rule = record { from = c .before .before .loop .inv .from; to = omega (arith, c .before .loop-test .taken, c .before .before .loop .inv .is-end) } })
+raise-value-requires c κs = (c .before .before .loop .inv .0 .steps .kept, record { rule = c .before .before .before .before .before .before .before .before .before .args .q; here = c .before .before .before .before .before .before .before .before .before .pre .1; chooses = c .before .before .before .before .before .before .before .before .before .pre .2; in-rule = record { from = c .before .before .loop .inv .0 .from; to = omega (arith, c .before .loop-test .taken, c .before .before .loop .inv .0 .is-end) } }, c .before .before .loop .inv .1)
 
 -- src/lib.rt:286:9
 either-requires : tie.Need-either-requires Inv-loop μ-loop
@@ -58,7 +60,7 @@ loop-less c = omega arith
 
 -- src/lib.rt:284:5
 loop-again : tie.Need-loop-again Inv-loop μ-loop
-loop-again c = values-next (c .before .before .before .before .before .before .loop .inv) (search needs) (c .before .before .before .raise-value .ensures) (c .either .ensures)
+loop-again c = (values-next (c .before .before .before .before .before .before .loop .inv .0) (search needs) (c .before .before .before .raise-value .ensures) (c .either .ensures), search needs)
 
 -- src/lib.rt:269:1
 same-length : tie.Need-same-length Inv-loop μ-loop
@@ -66,7 +68,7 @@ same-length c = search needs
 
 -- src/lib.rt:269:1
 returns : tie.Need-returns Inv-loop μ-loop
-returns c = values-all (c .before .loop .inv) (search needs)
+returns c = values-all (c .before .loop .inv .0) (search needs)
 
 pub raise-values-spec : {M : Type 1} → statement M
 raise-values-spec =

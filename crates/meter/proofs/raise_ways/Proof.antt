@@ -1,3 +1,6 @@
+use Rattle.meter.specs.Store.{numbersOf}
+use mathlib.Core.Path.{_≡_}
+use lib.ListN.{length}
 use Rattle.meter.proofs.Visits.{WaysUpto, ways-first, ways-next, ways-all}
 use Rattle.machine.specs.Bytes.{tableOf}
 use Rattle.machine.proofs.Bytes.{length-tableOf}
@@ -14,7 +17,7 @@ use Rattle.meter.proofs.raise.Reads as raise-reads
 use Rattle.meter.proofs.way_out.Reads as way-out-reads
 
 abbrev Inv-loop : tie.InvT-loop
-Inv-loop table c base v rows₀ n changed₀ i₀ rows changed i = WaysUpto (tableOf table) c v base n i rows₀ rows changed
+Inv-loop table c base v rows₀ n changed₀ i₀ rows changed i = (WaysUpto (tableOf table) c v base n i (numbersOf rows₀) (numbersOf rows) changed) × (length rows ≡ 8979)
 
 abbrev μ-loop : tie.MeasureT-loop
 μ-loop table c base v rows₀ n changed₀ i₀ rows changed i = n - i
@@ -25,7 +28,7 @@ word-at-requires c κs = (c .before .before .pre .0 .low, omega (arith, c .befor
 
 -- src/lib.rt:153:5
 loop-holds : tie.Need-loop-holds Inv-loop μ-loop
-loop-holds c = ways-first (length-tableOf (c .before .before .before .args .table .now)) (c .before .before .before .pre .0) (c .word-at .ensures .0)
+loop-holds c = (ways-first (length-tableOf (c .before .before .before .args .table .now)) (c .before .before .before .pre .0) (c .word-at .ensures .0), search needs)
 
 -- src/lib.rt:154:60
 add-word-at : tie.Need-add-word-at Inv-loop μ-loop
@@ -49,7 +52,7 @@ way-out-requires c κs = c .before .before .before .before .before .before .pre 
 
 -- src/lib.rt:155:13
 raise-requires : tie.Need-raise-requires Inv-loop μ-loop
-raise-requires c κs = (omega (arith, c .before .before .before .before .loop .inv .sized, c .before .before .before .before .before .before .before .before .pre .1), c .before .before .before .before .before .before .before .before .pre .2)
+raise-requires c κs = (c .before .before .before .before .loop .inv .1, c .before .before .before .before .before .before .before .before .pre .2)
 
 -- src/lib.rt:156:9
 either-requires : tie.Need-either-requires Inv-loop μ-loop
@@ -65,7 +68,7 @@ loop-less c = omega arith
 
 -- src/lib.rt:153:5
 loop-again : tie.Need-loop-again Inv-loop μ-loop
-loop-again c = ways-next (c .before .before .before .before .before .before .before .before .loop .inv) (search needs) (c .before .before .before .before .before .before .word-at2 .ensures .0) (c .before .before .before .before .before .way-out .ensures) (c .before .before .before .raise .ensures) (c .either .ensures)
+loop-again c = (ways-next (c .before .before .before .before .before .before .before .before .loop .inv .0) (search needs) (c .before .before .before .before .before .before .word-at2 .ensures .0) (c .before .before .before .before .before .way-out .ensures) (c .before .before .before .raise .ensures) (c .either .ensures), search needs)
 
 -- src/lib.rt:159:34
 add-raise : tie.Need-add-raise Inv-loop μ-loop
@@ -81,7 +84,7 @@ add-raise-2 c = omega arith
 
 -- src/lib.rt:159:9
 raise-requires-2 : tie.Need-raise-requires-2 Inv-loop μ-loop
-raise-requires-2 c κs = (omega (arith, c .before .before .loop .inv .sized, c .before .before .before .before .before .before .pre .1), c .before .before .before .before .before .before .pre .2)
+raise-requires-2 c κs = (c .before .before .loop .inv .1, c .before .before .before .before .before .before .pre .2)
 
 -- src/lib.rt:160:5
 either-requires-2 : tie.Need-either-requires-2 Inv-loop μ-loop
@@ -93,7 +96,7 @@ same-length c = search needs
 
 -- src/lib.rt:146:1
 returns : tie.Need-returns Inv-loop μ-loop
-returns c = ways-all (c .before .before .before .before .before .before .loop .inv) (search needs) (c .before .before .before .raise2 .ensures) (c .either2 .ensures)
+returns c = ways-all (c .before .before .before .before .before .before .loop .inv .0) (search needs) (c .before .before .before .raise2 .ensures) (c .either2 .ensures)
 
 pub raise-ways-spec : {M : Type 1} → statement M
 raise-ways-spec =

@@ -1,3 +1,6 @@
+use Rattle.meter.specs.Store.{numbersOf}
+use mathlib.Core.Path.{_≡_}
+use lib.ListN.{length}
 use Rattle.meter.proofs.Sweeps.{Settling, todo, settling-first, settling-next, todo-less, settled}
 use Rattle.machine.specs.Bytes.{tableOf}
 use borrow.Author.Needs.{needs}
@@ -9,18 +12,18 @@ use Rattle.meter.proofs.settle.Lts as lts
 use Rattle.meter.proofs.sweep.Reads as sweep-reads
 
 abbrev Inv-loop : tie.InvT-loop
-Inv-loop table starts base rows₀ changed₀ rows changed = Settling (tableOf table) starts base rows₀ rows changed
+Inv-loop table starts base rows₀ changed₀ rows changed = (Settling (tableOf table) starts base (numbersOf rows₀) (numbersOf rows) changed) × (length rows ≡ 8979)
 
 abbrev μ-loop : tie.MeasureT-loop
-μ-loop table starts base rows₀ changed₀ rows changed = todo rows changed
+μ-loop table starts base rows₀ changed₀ rows changed = todo (numbersOf rows) changed
 
 -- src/lib.rt:429:5
 loop-holds : tie.Need-loop-holds Inv-loop μ-loop
-loop-holds c = settling-first (c .before .before .before .pre)
+loop-holds c = (settling-first (c .before .before .before .pre .0), search needs)
 
 -- src/lib.rt:430:9
 sweep-requires : tie.Need-sweep-requires Inv-loop μ-loop
-sweep-requires c κs = c .before .before .loop .inv .kept
+sweep-requires c κs = (c .before .before .loop .inv .0 .kept, c .before .before .loop .inv .1)
 
 -- src/lib.rt:429:5
 loop-less : tie.Need-loop-less Inv-loop μ-loop
@@ -28,7 +31,7 @@ loop-less c = todo-less (c .before .before .before .before .loop-test .taken) (c
 
 -- src/lib.rt:429:5
 loop-again : tie.Need-loop-again Inv-loop μ-loop
-loop-again c = settling-next (c .before .before .before .before .before .loop .inv) (c .before .before .sweep .ensures)
+loop-again c = (settling-next (c .before .before .before .before .before .loop .inv .0) (c .before .before .sweep .ensures), search needs)
 
 -- src/lib.rt:424:1
 same-length : tie.Need-same-length Inv-loop μ-loop
@@ -36,7 +39,7 @@ same-length c = search needs
 
 -- src/lib.rt:424:1
 returns : tie.Need-returns Inv-loop μ-loop
-returns c = settled (c .before .loop .inv) (c .loop-test .left)
+returns c = settled (c .before .loop .inv .0) (c .loop-test .left)
 
 pub settle-spec : {M : Type 1} → statement M
 settle-spec =

@@ -1,3 +1,6 @@
+use Rattle.meter.specs.Store.{numbersOf}
+use mathlib.Core.Path.{_≡_}
+use lib.ListN.{length}
 use Rattle.meter.proofs.Sweeps.{RulesFrom, rules-first, rules-next, rules-all}
 use Rattle.machine.specs.Bytes.{tableOf}
 use borrow.Author.Needs.{needs}
@@ -10,14 +13,14 @@ use Rattle.meter.proofs.either.Reads as either-reads
 use Rattle.meter.proofs.sweep_rule.Reads as sweep-rule-reads
 
 abbrev Inv-loop : tie.InvT-loop
-Inv-loop table starts base rows₀ changed₀ r₀ rows changed r = RulesFrom (tableOf table) starts base r rows₀ rows changed
+Inv-loop table starts base rows₀ changed₀ r₀ rows changed r = (RulesFrom (tableOf table) starts base r (numbersOf rows₀) (numbersOf rows) changed) × (length rows ≡ 8979)
 
 abbrev μ-loop : tie.MeasureT-loop
 μ-loop table starts base rows₀ changed₀ r₀ rows changed r = r
 
 -- src/lib.rt:415:5
 loop-holds : tie.Need-loop-holds Inv-loop μ-loop
-loop-holds c = rules-first (c .before .before .before .pre)
+loop-holds c = (rules-first (c .before .before .before .pre .0), search needs)
 
 -- src/lib.rt:416:9
 sub-r : tie.Need-sub-r Inv-loop μ-loop
@@ -25,7 +28,7 @@ sub-r c = search needs
 
 -- src/lib.rt:417:13
 sweep-rule-requires : tie.Need-sweep-rule-requires Inv-loop μ-loop
-sweep-rule-requires c κs = (c .before .before .loop .inv .steps .kept, omega (arith, c .before .before .loop .inv .upto))
+sweep-rule-requires c κs = (c .before .before .loop .inv .0 .steps .kept, omega (arith, c .before .before .loop .inv .0 .upto), c .before .before .loop .inv .1)
 
 -- src/lib.rt:418:9
 either-requires : tie.Need-either-requires Inv-loop μ-loop
@@ -37,7 +40,7 @@ loop-less c = omega arith
 
 -- src/lib.rt:415:5
 loop-again : tie.Need-loop-again Inv-loop μ-loop
-loop-again c = rules-next (c .before .before .before .before .before .before .loop .inv) (search needs) (c .before .before .before .sweep-rule .ensures) (c .either .ensures)
+loop-again c = (rules-next (c .before .before .before .before .before .before .loop .inv .0) (search needs) (c .before .before .before .sweep-rule .ensures) (c .either .ensures), search needs)
 
 -- src/lib.rt:409:1
 same-length : tie.Need-same-length Inv-loop μ-loop
@@ -45,7 +48,7 @@ same-length c = search needs
 
 -- src/lib.rt:409:1
 returns : tie.Need-returns Inv-loop μ-loop
-returns c = rules-all (c .before .loop .inv) (search needs)
+returns c = rules-all (c .before .loop .inv .0) (search needs)
 
 pub sweep-spec : {M : Type 1} → statement M
 sweep-spec =

@@ -1,3 +1,6 @@
+use Rattle.meter.specs.Store.{numbersOf}
+use mathlib.Core.Path.{_≡_}
+use lib.ListN.{length}
 use Rattle.meter.proofs.Sweeps.{SweptUpto, swept-first, swept-next, swept-all}
 use Rattle.meter.proofs.Laws.{start-end, is-end}
 use Rattle.machine.specs.Bytes.{tableOf}
@@ -14,7 +17,7 @@ use Rattle.meter.proofs.end_of.Reads as end-of-reads
 use Rattle.meter.proofs.visit.Reads as visit-reads
 
 abbrev Inv-loop : tie.InvT-loop
-Inv-loop table starts r base rows₀ to changed₀ l₀ rows changed l = SweptUpto (tableOf table) starts base r to l rows₀ rows changed
+Inv-loop table starts r base rows₀ to changed₀ l₀ rows changed l = (SweptUpto (tableOf table) starts base r to l (numbersOf rows₀) (numbersOf rows) changed) × (length rows ≡ 8979)
 
 abbrev μ-loop : tie.MeasureT-loop
 μ-loop table starts r base rows₀ to changed₀ l₀ rows changed l = to - l
@@ -37,11 +40,11 @@ shared-slice-read-l c = c .before .before .before .before .before .before .pre .
 
 -- src/lib.rt:400:5
 loop-holds : tie.Need-loop-holds Inv-loop μ-loop
-loop-holds c = swept-first (c .before .before .before .before .before .before .pre .0) (omega (arith, start-end (c .before .before .before .before .before .before .pre .0) (c .before .before .before .before .before .before .pre .1), is-end _ _ (c .before .end-of .ensures) (c .before .before .size-of .ensures))) (is-end _ _ (c .before .end-of .ensures) (c .before .before .size-of .ensures))
+loop-holds c = (swept-first (c .before .before .before .before .before .before .pre .0) (omega (arith, start-end (c .before .before .before .before .before .before .pre .0) (c .before .before .before .before .before .before .pre .1), is-end _ _ (c .before .end-of .ensures) (c .before .before .size-of .ensures))) (is-end _ _ (c .before .end-of .ensures) (c .before .before .size-of .ensures)), search needs)
 
 -- src/lib.rt:401:13
 visit-requires : tie.Need-visit-requires Inv-loop μ-loop
-visit-requires c κs = (c .before .before .loop .inv .steps .kept, c .before .before .before .before .before .before .before .before .before .pre .1, record { from = c .before .before .loop .inv .from; to = omega (arith, c .before .before .loop .inv .is-end) })
+visit-requires c κs = (c .before .before .loop .inv .0 .steps .kept, c .before .before .before .before .before .before .before .before .before .pre .1, record { from = c .before .before .loop .inv .0 .from; to = omega (arith, c .before .before .loop .inv .0 .is-end) }, c .before .before .loop .inv .1)
 
 -- src/lib.rt:402:9
 either-requires : tie.Need-either-requires Inv-loop μ-loop
@@ -57,7 +60,7 @@ loop-less c = omega arith
 
 -- src/lib.rt:400:5
 loop-again : tie.Need-loop-again Inv-loop μ-loop
-loop-again c = swept-next (c .before .before .before .before .before .before .loop .inv) (search needs) (c .before .before .before .visit .ensures) (c .either .ensures)
+loop-again c = (swept-next (c .before .before .before .before .before .before .loop .inv .0) (search needs) (c .before .before .before .visit .ensures) (c .either .ensures), search needs)
 
 -- src/lib.rt:393:1
 same-length : tie.Need-same-length Inv-loop μ-loop
@@ -65,7 +68,7 @@ same-length c = search needs
 
 -- src/lib.rt:393:1
 returns : tie.Need-returns Inv-loop μ-loop
-returns c = swept-all (c .before .loop .inv) (search needs)
+returns c = swept-all (c .before .loop .inv .0) (search needs)
 
 pub sweep-rule-spec : {M : Type 1} → statement M
 sweep-rule-spec =

@@ -49,7 +49,7 @@ wide-requires : tie.Need-wide-requires
 wide-requires c κs = search needs
 
 visit-one-requires : tie.Need-visit-one-requires
-visit-one-requires c κs = (c .before .before .before .before .before .before .before .before .before .before .before .before .before .before .before .pre .0 .sized, room (c .before .before .before .before .before .before .before .before .before .before .before .before .before .before .before .pre .0), rule-small (c .before .before .before .before .before .before .before .before .before .before .before .before .before .before .before .pre .0) (visit-here (c .before .before .before .before .before .before .before .before .before .before .before .before .before .before .before .pre .0) (c .before .before .before .before .before .before .before .before .before .before .before .before .before .before .before .pre .1) (c .before .before .before .before .before .before .before .before .before .before .before .before .before .before .before .pre .2) (omega (arith, c .before .before .before .before .before .before .before .before .before .before .size-of .ensures, c .before .before .before .before .before .before .before .before .before .if2 .left)) (c .before .before .before .before .before .before .before .number .ensures) (c .before .before .before .before .before .before .if3 .left)), omega (arith, c .before .before .before .before .before .before .before .before .before .before .size-of .ensures, c .before .before .before .before .before .before .before .before .before .if2 .left, c .before .before .before .before .before .before .before .before .before .before .before .before .before .before .before .pre .0 .shaped .short), (visit-here (c .before .before .before .before .before .before .before .before .before .before .before .before .before .before .before .pre .0) (c .before .before .before .before .before .before .before .before .before .before .before .before .before .before .before .pre .1) (c .before .before .before .before .before .before .before .before .before .before .before .before .before .before .before .pre .2) (omega (arith, c .before .before .before .before .before .before .before .before .before .before .size-of .ensures, c .before .before .before .before .before .before .before .before .before .if2 .left)) (c .before .before .before .before .before .before .before .number .ensures) (c .before .before .before .before .before .before .if3 .left)) .small)
+visit-one-requires c κs = (c .before .before .before .before .before .before .before .before .before .before .before .before .before .before .before .pre .3, room (c .before .before .before .before .before .before .before .before .before .before .before .before .before .before .before .pre .0), rule-small (c .before .before .before .before .before .before .before .before .before .before .before .before .before .before .before .pre .0) (visit-here (c .before .before .before .before .before .before .before .before .before .before .before .before .before .before .before .pre .0) (c .before .before .before .before .before .before .before .before .before .before .before .before .before .before .before .pre .1) (c .before .before .before .before .before .before .before .before .before .before .before .before .before .before .before .pre .2) (omega (arith, c .before .before .before .before .before .before .before .before .before .before .size-of .ensures, c .before .before .before .before .before .before .before .before .before .if2 .left)) (c .before .before .before .before .before .before .before .number .ensures) (c .before .before .before .before .before .before .if3 .left)), omega (arith, c .before .before .before .before .before .before .before .before .before .before .size-of .ensures, c .before .before .before .before .before .before .before .before .before .if2 .left, c .before .before .before .before .before .before .before .before .before .before .before .before .before .before .before .pre .0 .shaped .short), (visit-here (c .before .before .before .before .before .before .before .before .before .before .before .before .before .before .before .pre .0) (c .before .before .before .before .before .before .before .before .before .before .before .before .before .before .before .pre .1) (c .before .before .before .before .before .before .before .before .before .before .before .before .before .before .before .pre .2) (omega (arith, c .before .before .before .before .before .before .before .before .before .before .size-of .ensures, c .before .before .before .before .before .before .before .before .before .if2 .left)) (c .before .before .before .before .before .before .before .number .ensures) (c .before .before .before .before .before .before .if3 .left)) .small)
 
 same-length-3 : tie.Need-same-length-3
 same-length-3 c = search needs
@@ -76,7 +76,7 @@ word-at-requires : tie.Need-word-at-requires
 word-at-requires c κs = (omega arith, omega (arith, c .before .before .before .before .before .before .before .before .before .before .size-of .ensures, c .before .if6 .left))
 
 visit-two-requires : tie.Need-visit-two-requires
-visit-two-requires c κs = (c .before .before .before .before .before .before .before .before .before .before .before .before .before .before .before .before .before .pre .0, (visit-here (c .before .before .before .before .before .before .before .before .before .before .before .before .before .before .before .before .before .pre .0) (c .before .before .before .before .before .before .before .before .before .before .before .before .before .before .before .before .before .pre .1) (c .before .before .before .before .before .before .before .before .before .before .before .before .before .before .before .before .before .pre .2) (omega (arith, c .before .before .before .before .before .before .before .before .before .before .before .before .size-of .ensures, c .before .before .before .before .before .before .before .before .before .before .before .if2 .left)) (c .before .before .before .before .before .before .before .before .before .number .ensures) (c .before .before .before .before .before .before .before .before .if3 .left)), decode-both _ _ _ _ (here-word (c .before .before .before .before .before .before .before .before .before .before .before .before .before .before .before .before .before .args .table .now) (c .before .before .before .before .before .before .before .before .before .before .before .before .before .before .before .before .before .args .l) (c .before .before .before .before .before .before .before .before .before .before .before .before .before .if1 .left) (omega (arith, c .before .before .before .before .before .before .before .before .before .before .before .before .size-of .ensures, c .before .before .before .before .before .before .before .before .before .before .before .if2 .left)) (c .before .before .before .before .before .before .before .word .ensures)) (two-words _ _ (c .before .before .before .before .before .before .instruction-length .ensures) (c .before .before .before .before .before .if4 .left) (c .before .before .before .before .if5 .left)) (c .before .word-at .ensures .0) ∙ ap (λ n. decodeTwo (c .before .before .before .before .before .before .before .before .before .before .before .before .before .before .before .before .before .args .l) n (c .before .word-at .result)) (sym (c .before .before .wide2 .ensures .0)), c .before .word-at .ensures .1)
+visit-two-requires c κs = (c .before .before .before .before .before .before .before .before .before .before .before .before .before .before .before .before .before .pre .0, (visit-here (c .before .before .before .before .before .before .before .before .before .before .before .before .before .before .before .before .before .pre .0) (c .before .before .before .before .before .before .before .before .before .before .before .before .before .before .before .before .before .pre .1) (c .before .before .before .before .before .before .before .before .before .before .before .before .before .before .before .before .before .pre .2) (omega (arith, c .before .before .before .before .before .before .before .before .before .before .before .before .size-of .ensures, c .before .before .before .before .before .before .before .before .before .before .before .if2 .left)) (c .before .before .before .before .before .before .before .before .before .number .ensures) (c .before .before .before .before .before .before .before .before .if3 .left)), decode-both _ _ _ _ (here-word (c .before .before .before .before .before .before .before .before .before .before .before .before .before .before .before .before .before .args .table .now) (c .before .before .before .before .before .before .before .before .before .before .before .before .before .before .before .before .before .args .l) (c .before .before .before .before .before .before .before .before .before .before .before .before .before .if1 .left) (omega (arith, c .before .before .before .before .before .before .before .before .before .before .before .before .size-of .ensures, c .before .before .before .before .before .before .before .before .before .before .before .if2 .left)) (c .before .before .before .before .before .before .before .word .ensures)) (two-words _ _ (c .before .before .before .before .before .before .instruction-length .ensures) (c .before .before .before .before .before .if4 .left) (c .before .before .before .before .if5 .left)) (c .before .word-at .ensures .0) ∙ ap (λ n. decodeTwo (c .before .before .before .before .before .before .before .before .before .before .before .before .before .before .before .before .before .args .l) n (c .before .word-at .result)) (sym (c .before .before .wide2 .ensures .0)), c .before .word-at .ensures .1, c .before .before .before .before .before .before .before .before .before .before .before .before .before .before .before .before .before .pre .3)
 
 same-length-5 : tie.Need-same-length-5
 same-length-5 c = search needs

@@ -30,7 +30,7 @@ add-raise-two-2 : tie.Need-add-raise-two-2
 add-raise-two-2 c = omega (arith, c .before .before .before .before .before .before .before .before .before .before .before .pre .4)
 
 raise-two-requires : tie.Need-raise-two-requires
-raise-two-requires c κs = (omega (arith, c .before .before .before .before .before .before .raise-ways .ensures .sized, c .before .before .before .before .before .before .before .before .before .before .before .pre .1), c .before .before .before .before .before .before .before .before .before .before .before .pre .2)
+raise-two-requires c κs = (search needs, c .before .before .before .before .before .before .before .before .before .before .before .pre .2)
 
 either-requires : tie.Need-either-requires
 either-requires c κs = search needs

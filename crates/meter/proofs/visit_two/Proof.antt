@@ -16,7 +16,7 @@ add-raise-2 : tie.Need-add-raise-2
 add-raise-2 c = omega (arith, here-inside (c .before .before .before .before .before .before .pre .0) (c .before .before .before .before .before .before .pre .1) .1, c .before .before .before .before .before .before .pre .3)
 
 raise-requires : tie.Need-raise-requires
-raise-requires c κs = (c .before .before .before .before .before .before .pre .0 .sized, room (c .before .before .before .before .before .before .pre .0))
+raise-requires c κs = (c .before .before .before .before .before .before .pre .4, room (c .before .before .before .before .before .before .pre .0))
 
 same-length : tie.Need-same-length
 same-length c = search needs
@@ -31,7 +31,7 @@ back-requires : tie.Need-back-requires
 back-requires c κs = search needs
 
 raise-requires-2 : tie.Need-raise-requires-2
-raise-requires-2 c κs = (c .before .before .before .before .before .before .before .before .pre .0 .sized, room (c .before .before .before .before .before .before .before .before .pre .0))
+raise-requires-2 c κs = (c .before .before .before .before .before .before .before .before .pre .4, room (c .before .before .before .before .before .before .before .before .pre .0))
 
 same-length-2 : tie.Need-same-length-2
 same-length-2 c = search needs
@@ -49,7 +49,7 @@ mark-of-requires : tie.Need-mark-of-requires
 mark-of-requires c κs = search needs
 
 raise-two-requires : tie.Need-raise-two-requires
-raise-two-requires c κs = (c .before .before .before .before .before .before .before .before .before .before .pre .0 .sized, room (c .before .before .before .before .before .before .before .before .before .before .pre .0))
+raise-two-requires c κs = (c .before .before .before .before .before .before .before .before .before .before .pre .4, room (c .before .before .before .before .before .before .before .before .before .before .pre .0))
 
 same-length-3 : tie.Need-same-length-3
 same-length-3 c = search needs
@@ -64,7 +64,7 @@ add-visit-token-2 : tie.Need-add-visit-token-2
 add-visit-token-2 c = omega (arith, here-inside (c .before .before .before .before .before .before .before .before .pre .0) (c .before .before .before .before .before .before .before .before .pre .1) .1, c .before .before .before .before .before .before .before .before .pre .3)
 
 visit-token-requires : tie.Need-visit-token-requires
-visit-token-requires c κs = (token-fits (c .before .before .before .before .before .before .before .before .before .pre .0) (c .before .before .before .before .before .before .before .before .before .pre .1) _ _ (c .before .before .before .before .before .before .before .before .before .pre .2) (c .before .if4 .taken), c .before .before .before .before .before .before .before .before .before .pre .0 .sized, room (c .before .before .before .before .before .before .before .before .before .pre .0), rule-small (c .before .before .before .before .before .before .before .before .before .pre .0) (c .before .before .before .before .before .before .before .before .before .pre .1), c .before .before .before .before .before .before .before .before .before .pre .1 .small)
+visit-token-requires c κs = (token-fits (c .before .before .before .before .before .before .before .before .before .pre .0) (c .before .before .before .before .before .before .before .before .before .pre .1) _ _ (c .before .before .before .before .before .before .before .before .before .pre .2) (c .before .if4 .taken), c .before .before .before .before .before .before .before .before .before .pre .4, room (c .before .before .before .before .before .before .before .before .before .pre .0), rule-small (c .before .before .before .before .before .before .before .before .before .pre .0) (c .before .before .before .before .before .before .before .before .before .pre .1), c .before .before .before .before .before .before .before .before .before .pre .1 .small)
 
 same-length-4 : tie.Need-same-length-4
 same-length-4 c = search needs
@@ -73,7 +73,7 @@ returns-4 : tie.Need-returns-4
 returns-4 c = two-token (c .before .before .before .before .before .before .before .before .before .before .before .before .pre .0) (c .before .before .before .before .before .before .before .before .before .before .before .before .pre .1) _ _ (c .before .before .before .before .before .before .before .before .before .before .before .before .pre .2) (c .before .before .before .before .if4 .taken) (c .before .before .visit-token .ensures)
 
 raise-call-requires : tie.Need-raise-call-requires
-raise-call-requires c κs = (c .before .before .before .before .before .before .before .before .before .before .pre .0, c .before .before .before .before .before .before .before .before .before .before .pre .1, as-call _ _ _ _ (c .before .before .before .before .before .before .before .before .before .before .pre .2) (c .before .if5 .taken))
+raise-call-requires c κs = (c .before .before .before .before .before .before .before .before .before .before .pre .0, c .before .before .before .before .before .before .before .before .before .before .pre .1, as-call _ _ _ _ (c .before .before .before .before .before .before .before .before .before .before .pre .2) (c .before .if5 .taken), c .before .before .before .before .before .before .before .before .before .before .pre .4)
 
 same-length-5 : tie.Need-same-length-5
 same-length-5 c = search needs
@@ -88,7 +88,7 @@ add-raise-ways-2 : tie.Need-add-raise-ways-2
 add-raise-ways-2 c = omega (arith, here-inside (c .before .before .before .before .before .before .before .before .before .before .pre .0) (c .before .before .before .before .before .before .before .before .before .before .pre .1) .1, c .before .before .before .before .before .before .before .before .before .before .pre .3)
 
 raise-ways-requires : tie.Need-raise-ways-requires
-raise-ways-requires c κs = (result-fits (c .before .before .before .before .before .before .before .before .before .before .before .pre .0) (c .before .before .before .before .before .before .before .before .before .before .before .pre .1) _ _ (c .before .before .before .before .before .before .before .before .before .before .before .pre .2) (c .before .if6 .taken), c .before .before .before .before .before .before .before .before .before .before .before .pre .0 .sized, room (c .before .before .before .before .before .before .before .before .before .before .before .pre .0))
+raise-ways-requires c κs = (result-fits (c .before .before .before .before .before .before .before .before .before .before .before .pre .0) (c .before .before .before .before .before .before .before .before .before .before .before .pre .1) _ _ (c .before .before .before .before .before .before .before .before .before .before .before .pre .2) (c .before .if6 .taken), c .before .before .before .before .before .before .before .before .before .before .before .pre .4, room (c .before .before .before .before .before .before .before .before .before .before .before .pre .0))
 
 same-length-6 : tie.Need-same-length-6
 same-length-6 c = search needs
@@ -100,7 +100,7 @@ add-raise-3 : tie.Need-add-raise-3
 add-raise-3 c = omega (arith, here-inside (c .before .before .before .before .before .before .before .before .before .before .before .pre .0) (c .before .before .before .before .before .before .before .before .before .before .before .pre .1) .1)
 
 raise-requires-3 : tie.Need-raise-requires-3
-raise-requires-3 c κs = (c .before .before .before .before .before .before .before .before .before .before .before .pre .0 .sized, room (c .before .before .before .before .before .before .before .before .before .before .before .pre .0))
+raise-requires-3 c κs = (c .before .before .before .before .before .before .before .before .before .before .before .pre .4, room (c .before .before .before .before .before .before .before .before .before .before .before .pre .0))
 
 same-length-7 : tie.Need-same-length-7
 same-length-7 c = search needs

@@ -1,0 +1,140 @@
+-- Laws of the store of the numbers.
+use mathlib.Core.Bool.{true, false, _||_, or-false}
+use mathlib.Core.List.{List}
+use mathlib.Core.Path.{_≡_, refl, sym, ap, _∙_}
+use native.Mathlib.Nat.{zero-add, mod-eq-of-lt}
+use native.Mathlib.Omega.{arith}
+use Prim.Native.Nat.{ℕ, zero, suc, _+_, _*_, _/_, _%_, _^_, _≤_, _<_}
+use lib.Bits.{bitOr}
+use lib.Dec.{eqb}
+use lib.ListN.{length, getD, set, replicate, length-set, length-replicate, getD-replicate, List·getD-eq-default}
+use lib.Pow.{pow-lt}
+use lib.Seq.{ext-getD, getD-set-same, getD-set-other}
+use borrow.Author.Tests.{eq-eqb, ne-eqb, eqb-true, eqb-false}
+use Rattle.base.specs.Bools.{split, or₂}
+use Rattle.verdict.specs.Told.{bit}
+use Rattle.verdict.proofs.Sets.{bit-or, bit-one, bit-zero}
+use Rattle.meter.specs.Makes.{cap}
+use Rattle.meter.specs.Store.{atCap, numberIn, numbersFrom, numbersOf}
+
+-- The numbers one by one
+
+module _ (ws : List ℕ) where
+  length-from : (i n : ℕ) → length (numbersFrom ws i n) ≡ n
+  unfolding numbersFrom
+  length-from i zero = refl
+  length-from i (suc n) = ap suc (length-from (i + 1) n)
+
+  getD-from : (i n k : ℕ) → k < n → getD (numbersFrom ws i n) k 0 ≡ numberIn ws (i + k)
+  unfolding numbersFrom
+  getD-from i zero k h = absurd (omega arith)
+  getD-from i (suc n) zero h = let e : i ≡ i + 0 = omega arith in ap (λ (j : ℕ). numberIn ws j) e
+  getD-from i (suc n) (suc k) h = let e : i + 1 + k ≡ i + suc k = omega arith in getD-from (i + 1) n k (omega arith) ∙ ap (λ (j : ℕ). numberIn ws j) e
+
+  pub length-numbers : length (numbersOf ws) ≡ 8706
+  unfolding numbersOf
+  length-numbers = length-from 0 8706
+
+  number-is : (i : ℕ) → i < 8706 → getD (numbersOf ws) i 0 ≡ numberIn ws i
+  unfolding numbersOf
+  number-is i h = getD-from 0 8706 i h ∙ ap (λ (j : ℕ). numberIn ws j) (zero-add i)
+
+  pub number-past : (i : ℕ) → 8706 ≤ i → getD (numbersOf ws) i 0 ≡ 0
+  number-past i h = List·getD-eq-default (numbersOf ws) 0 {n = i} (omega (arith, length-numbers))
+
+  in-cap : (i : ℕ) → atCap ws i ≡ true → numberIn ws i ≡ cap
+  unfolding numberIn
+  in-cap i e = rw e refl
+
+  in-word : (i : ℕ) → atCap ws i ≡ false → numberIn ws i ≡ getD ws i 0
+  unfolding numberIn
+  in-word i e = rw e refl
+
+  pub number-cap : (i : ℕ) → i < 8706 → atCap ws i ≡ true → getD (numbersOf ws) i 0 ≡ cap
+  number-cap i h e = number-is i h ∙ in-cap i e
+
+  pub number-word : (i : ℕ) → i < 8706 → atCap ws i ≡ false → getD (numbersOf ws) i 0 ≡ getD ws i 0
+  number-word i h e = number-is i h ∙ in-word i e
+
+-- the bits and the words decide
+same-number : (ws after : List ℕ) (i : ℕ) → atCap after i ≡ atCap ws i → getD after i 0 ≡ getD ws i 0 → numberIn after i ≡ numberIn ws i
+unfolding numberIn
+same-number ws after i b w = rw (b, w) refl
+
+-- A number that is put
+
+one-changed : (ws after : List ℕ) (i v : ℕ) → i < 8706 → numberIn after i ≡ v → ((j : ℕ) → j < 8706 → (j ≡ i → ⊥) → numberIn after j ≡ numberIn ws j) → numbersOf after ≡ set (numbersOf ws) i v
+one-changed ws after i v h e f =
+    ext-getD 0 (numbersOf after) (set (numbersOf ws) i v) (length-numbers after ∙ sym (length-set (numbersOf ws) i v ∙ length-numbers ws)) (λ j l. one j (omega (arith, length-numbers after)))
+  where
+    one : (j : ℕ) → j < 8706 → getD (numbersOf after) j 0 ≡ getD (set (numbersOf ws) i v) j 0
+    one j l = number-is after j l ∙ split (eqb j i)
+        (λ t. let q = eqb-true j i t in rw q (e ∙ sym (getD-set-same (numbersOf ws) i v 0 (omega (arith, length-numbers ws)))))
+        (λ t. let q = eqb-false j i t in f j l q ∙ sym (getD-set-other (numbersOf ws) i j v 0 q ∙ number-is ws j l))
+
+module _ (ws : List ℕ) (i v : ℕ) (sized : length ws ≡ 8979) (inside : i < 8706) where
+  not-cap : getD (numbersOf ws) i 0 < v → v ≤ cap → atCap ws i ≡ false
+  not-cap h l = split (atCap ws i) (λ t. absurd (omega (arith, number-cap ws i inside t))) (λ f. f)
+
+  -- below the cap: in its word
+  pub put-word : getD (numbersOf ws) i 0 < v → v < cap → numbersOf (set ws i v) ≡ set (numbersOf ws) i v
+  unfolding atCap
+  put-word h l = one-changed ws (set ws i v) i v inside
+      (in-word (set ws i v) i (bits i inside ∙ not-cap h (omega arith)) ∙ getD-set-same ws i v 0 (omega arith))
+      (λ j m d. same-number ws (set ws i v) j (bits j m) (getD-set-other ws i j v 0 d))
+    where
+      bits : (j : ℕ) → j < 8706 → atCap (set ws i v) j ≡ atCap ws j
+      bits j m = ap (λ (w : ℕ). bit w (j % 32)) (getD-set-other ws i (8706 + j / 32) v 0 (λ e. omega arith))
+
+  -- the cap: by its bit
+  abbrev at : ℕ
+  at = 8706 + i / 32
+
+  abbrev one-bit : ℕ
+  one-bit = 1 * 2 ^ (i % 32) % 4294967296
+
+  abbrev marked : List ℕ
+  marked = set ws at (bitOr (getD ws at 0) one-bit)
+
+  bit-32 : (k : ℕ) → k < 32 → bit one-bit k ≡ eqb (i % 32) k
+  bit-32 k h =
+      let p : 2 ^ (i % 32) < 2 ^ 32 = pow-lt {j = 32} (omega arith) in
+      let e : one-bit ≡ 1 * 2 ^ (i % 32) % 18446744073709551616 = mod-eq-of-lt (omega arith) ∙ sym (mod-eq-of-lt (omega arith)) in
+      rw e (bit-one (i % 32) k (omega arith) (omega arith))
+
+  bits-marked : (j : ℕ) → j / 32 ≡ i / 32 → atCap marked j ≡ (atCap ws j || eqb (i % 32) (j % 32))
+  unfolding atCap
+  bits-marked j e =
+      ap (λ (q : ℕ). bit (getD marked (8706 + q) 0) (j % 32)) e
+      ∙ ap (λ (w : ℕ). bit w (j % 32)) (getD-set-same ws at (bitOr (getD ws at 0) one-bit) 0 (omega arith))
+      ∙ bit-or (getD ws at 0) one-bit (j % 32)
+      ∙ rw (bit-32 (j % 32) (omega arith), e) refl
+
+  bits-others : (j : ℕ) → (j ≡ i → ⊥) → atCap marked j ≡ atCap ws j
+  unfolding atCap
+  bits-others j d = split (eqb (j / 32) (i / 32))
+      (λ t. bits-marked j (eqb-true (j / 32) (i / 32) t) ∙ rw (ne-eqb (i % 32) (j % 32) (λ q. d (omega (arith, eqb-true (j / 32) (i / 32) t)))) (or-false (atCap ws j)))
+      (λ t. elsewhere (eqb-false (j / 32) (i / 32) t))
+    where
+      elsewhere : (j / 32 ≡ i / 32 → ⊥) → atCap marked j ≡ atCap ws j
+      elsewhere e = ap (λ (w : ℕ). bit w (j % 32)) (getD-set-other ws at (8706 + j / 32) (bitOr (getD ws at 0) one-bit) 0 (λ q. e (omega arith)))
+
+  pub put-cap : v ≡ cap → numbersOf marked ≡ set (numbersOf ws) i v
+  put-cap e = one-changed ws marked i v inside
+      (in-cap marked i (bits-marked i refl ∙ or₂ (atCap ws i) (eqb (i % 32) (i % 32)) (eq-eqb (i % 32) (i % 32) refl)) ∙ sym e)
+      (λ j m d. same-number ws marked j (bits-others j d) (getD-set-other ws at j (bitOr (getD ws at 0) one-bit) 0 (λ q. omega arith)))
+
+-- No numbers
+
+pub cleared-numbers : (ws : List ℕ) → ws ≡ replicate 8979 0 → numbersOf ws ≡ replicate 8706 0
+unfolding atCap
+cleared-numbers ws e = ext-getD 0 (numbersOf ws) (replicate 8706 0) (length-numbers ws ∙ sym (length-replicate {A = ℕ} 8706 0)) (λ i h. none i (omega (arith, length-numbers ws)))
+  where
+    zero-word : (i : ℕ) → i < 8979 → getD ws i 0 ≡ 0
+    zero-word i h = ap (λ (l : List ℕ). getD l i 0) e ∙ getD-replicate 8979 i 0 0 h
+
+    no-bit : (i : ℕ) → i < 8706 → atCap ws i ≡ false
+    no-bit i h = ap (λ (w : ℕ). bit w (i % 32)) (zero-word (8706 + i / 32) (omega arith)) ∙ bit-zero (i % 32)
+
+    none : (i : ℕ) → i < 8706 → getD (numbersOf ws) i 0 ≡ getD (replicate 8706 0) i 0
+    none i h = number-word ws i h (no-bit i h) ∙ zero-word i (omega arith) ∙ sym (getD-replicate 8706 i 0 0 h)
