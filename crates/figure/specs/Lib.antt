@@ -1,3 +1,4 @@
 pub mod Figure
 pub mod Count
 pub mod Promise
+pub mod Told

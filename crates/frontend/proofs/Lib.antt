@@ -3,3 +3,4 @@ pub mod Few
 pub mod Rests
 pub mod Passes
 pub mod Buffers
+pub mod Meant

@@ -61,3 +61,14 @@ pub data Resolves (text rows cells starts sorts : List ℕ) (r : Resolved) (p : 
 -- a text that is read, resolved
 abbrev pub ResolvesRead : List ℕ → List ℕ → List ℕ → List ℕ → List ℕ → Resolved → Type 0
 ResolvesRead text rows cells starts sorts r = (p : Program) (ws : List Word) → parse text ≡ got p ws → Resolves text rows cells starts sorts r p (understand p)
+
+-- the syntax pass has read the text
+pub record IsRead (text : List ℕ) : Type 0 where
+  pub tree : Program
+  pub rest : List Word
+  pub reads : parse text ≡ got tree rest
+
+-- the buffers hold some program
+pub record Filled (cells starts sorts : List ℕ) (rules filled : ℕ) : Type 0 where
+  pub prog : List Rule
+  pub ready : Ready cells starts sorts rules filled prog

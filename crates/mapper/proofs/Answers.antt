@@ -10,7 +10,7 @@ use Rattle.emitter.specs.Emitted.{CellsOf, fits}
 use Rattle.sizes.specs.Located.{Located, Locates}
 use Rattle.machine.specs.Bytes.{bytesOf, over}
 use Rattle.mapper.proofs.Laws.{held-map, inside}
-use Rattle.mapper.specs.Mapped.{Maps, Holds, heldRows, IsRead}
+use Rattle.mapper.specs.Mapped.{Maps, Holds, heldRows}
 use Rattle.mapping.specs.Mapping as mapping
 use Rattle.mapping.specs.Mapping.{Row, rowsFrom, rowsOf, rowsRead, ruleRows, Answer, mapped, refused, mapOf, mapRules, numbersOf, roomIn, rowsWords, lentRows}
 use Rattle.names.specs.Known.{Checked, good, wrong}
@@ -25,7 +25,8 @@ use Rattle.syntax.specs.Reading.{got, fault}
 use Rattle.syntax.specs.Written as written
 use Rattle.syntax.specs.Written.{Program}
 use Rattle.frontend.proofs.Buffers.{ready-cells, refused-20, accepts-it, too-long}
-use Rattle.frontend.proofs.Steps.{decides-fine, decides-fault, process-fault, process-read, checked-wrong, checked-good}
+use Rattle.frontend.proofs.Meant.{its-meaning}
+use Rattle.frontend.proofs.Steps.{decides-fault, process-fault, process-read, checked-wrong, checked-good}
 use Rattle.frontend.specs.Resolving.{Ready, Rowed, Resolves, meant, mistaken}
 use Rattle.frontend.specs.declared.Resolved.{Resolved}
 use Rattle.words.specs.Words.{Word}
@@ -98,21 +99,7 @@ as-read : (text : List ℕ) (room : ℕ) (p : Program) (ws : List Word) → pars
 unfolding mapRules ruleRows rowsRead
 as-read text room p ws e m u = rw (process-read text 4096 p ws e, e, u) refl
 
--- a text that has no fault: what it means, in the buffers
-pub record Meant (text rows cells starts sorts : List ℕ) (r : Resolved) (p : Program) : Type 0 where
-  pub prog : List Rule
-  pub means : understand p ≡ good prog
-  pub ready : Ready cells starts sorts (r .rules) (r .cells) prog
-  pub rowed : Rowed text rows (r .first) (r .rules) p
-
 module _ {text rows cells starts sorts : List ℕ} {r : Resolved} {p : Program} (resolved : Resolves text rows cells starts sorts r p (understand p)) where
-  pub its-meaning : r .fault ≡ 0 → Meant text rows cells starts sorts r p
-  its-meaning z = go (understand p) refl resolved
-    where
-      go : (m : Checked (List Rule)) → understand p ≡ m → Resolves text rows cells starts sorts r p m → Meant text rows cells starts sorts r p
-      go (good prog) u (meant q ready rowed) = record { prog = prog; means = u; ready = ready; rowed = rowed }
-      go (wrong k w) u (mistaken q nonzero start len) = absurd (nonzero (sym q ∙ z))
-
   module _ (ws : List Word) (e : parse text ≡ got p ws) (old : List ℕ) where
     pub read-wrong : (r .fault ≡ 0 → ⊥) → Maps (mapRules text (roomIn old)) (r .fault) 0 old old
     unfolding mapOf
@@ -129,21 +116,18 @@ module _ {text rows cells starts sorts : List ℕ} {r : Resolved} {p : Program} 
 
     pub read-long : r .fault ≡ 0 → 4224 < r .cells → Maps (mapRules text (roomIn old)) 20 0 old old
     read-long z l =
-        let h = its-meaning z in
+        let h = its-meaning resolved z in
         maps-refused (read-good (h .prog) (h .means) ∙ map-long text (h .prog) (rowsFrom (h .prog) 0 (p .rules)) (roomIn old) (too-long 4096 (h .ready) l)) refl
 
     pub read-held : (z : r .fault ≡ 0) → r .cells ≤ 4224 → {number rules : ℕ} {new : List ℕ}
         → ((p : Program) (prog : List Rule) → CellsOf cells sorts (r .rules) prog → Rowed text rows (r .first) (r .rules) p
         → Maps (mapOf (rowsFrom prog 0 (p .rules)) (roomIn old) (answerFor text 4096 (meaning prog))) number rules old new) → Maps (mapRules text (roomIn old)) number rules old new
-    read-held z l f = let h = its-meaning z in rw (read-good (h .prog) (h .means)) (f p (h .prog) (ready-cells (h .ready) l) (h .rowed))
+    read-held z l f = let h = its-meaning resolved z in rw (read-good (h .prog) (h .means)) (f p (h .prog) (ready-cells (h .ready) l) (h .rowed))
 
   pub its-place : r .fault ≡ 0 → Holds (r .first) (r .rules)
-  its-place z = let h = its-meaning z in record { few = h .ready .few; inside = inside (h .rowed) }
+  its-place z = let h = its-meaning resolved z in record { few = h .ready .few; inside = inside (h .rowed) }
 
 -- Any text
-
-pub text-read : {text : List ℕ} {out : Out} → Decides out (parse text) → out .fault ≡ 0 → IsRead text
-text-read d z = let h = decides-fine d z in record { tree = h .value; rest = h .rest; reads = h .is }
 
 pub text-wrong : (text : List ℕ) {out : Out} {old : List ℕ} → Decides out (parse text) → (out .fault ≡ 0 → ⊥) → Maps (mapRules text (roomIn old)) (out .fault) 0 old old
 unfolding mapRules mapOf

@@ -9,11 +9,8 @@ use Rattle.mapping.specs.Mapping.{Row, rowOf, rowsFrom, Answer, mapOf, numbersO
 use Rattle.processor.specs.Process.{answerFor, meaning}
 use Rattle.program.specs.Program.{Rule}
 use Rattle.symbols.specs.Rows.{declAt}
-use Rattle.syntax.specs.Parse.{parse}
-use Rattle.syntax.specs.Reading.{got}
 use Rattle.syntax.specs.Written.{Program}
 use Rattle.frontend.specs.Resolving.{Rowed}
-use Rattle.words.specs.Words.{Word}
 
 -- the numbers and the lent bytes are the answer's
 pub record Maps (a : Answer) (number rules : ℕ) (old new : List ℕ) : Type 0 where
@@ -38,12 +35,6 @@ pub record Holds (first rules : ℕ) : Type 0 where
 abbrev pub MapsHeld : List ℕ → List ℕ → ℕ → List ℕ → List ℕ → ℕ → List ℕ → List ℕ → ℕ → ℕ → Type 0
 MapsHeld text rows first cells sorts rules old new number listed = (p : Program) (prog : List Rule) → CellsOf cells sorts rules prog → Rowed text rows first rules p
     → Maps (mapOf (rowsFrom prog 0 (p .rules)) (roomIn old) (answerFor text 4096 (meaning prog))) number listed old new
-
--- the syntax pass has read the text
-pub record IsRead (text : List ℕ) : Type 0 where
-  pub tree : Program
-  pub rest : List Word
-  pub reads : parse text ≡ got tree rest
 
 -- all of this file computes where this is unfolded
 unfoldable pub opened : Unit {0}

@@ -4,7 +4,8 @@ ghost use Prim.Native.Nat.{_+_, _*_, _<_, _≤_};
 ghost use lib.ListN.{length};
 ghost use Rattle.machine.specs.Bytes.{bytesOf, over};
 ghost use Rattle.mapping.specs.Mapping.{rowWords, rowsWords, roomIn, mapRules};
-ghost use Rattle.mapper.specs.Mapped.{Puts, heldRows, Maps, IsRead, Holds, MapsHeld};
+ghost use Rattle.frontend.specs.Resolving.{IsRead};
+ghost use Rattle.mapper.specs.Mapped.{Puts, heldRows, Maps, Holds, MapsHeld};
 
 // A row: three numbers of 64 bits.
 const ROW_BYTES: usize = 24;

@@ -1,4 +1,5 @@
 pub mod Parts
+pub mod Measured
 pub mod Ends
 pub mod Steps
 pub mod Passes

@@ -1,5 +1,6 @@
 use borrow.Author.Needs.{needs}
-use Rattle.mapper.proofs.Answers.{text-read, text-wrong}
+use Rattle.frontend.proofs.Meant.{text-read}
+use Rattle.mapper.proofs.Answers.{text-wrong}
 use Rattle.mapper.proofs.map_rules.Statement.{statement}
 use Rattle.mapper.proofs.map_rules.Tie as tie
 use Rattle.mapper.proofs.map_rules.Reads as reads

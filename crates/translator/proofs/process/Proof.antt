@@ -1,7 +1,5 @@
 use borrow.Author.Needs.{needs}
-use native.Mathlib.Omega.{arith}
-use Rattle.grammar.proofs.ProgramIn.{parse-short}
-use Rattle.frontend.proofs.Steps.{decides-fine}
+use Rattle.frontend.proofs.Meant.{text-read}
 use Rattle.translator.proofs.Steps.{refused-read}
 use Rattle.translator.proofs.process.Statement.{statement}
 use Rattle.translator.proofs.process.Tie as tie
@@ -29,7 +27,7 @@ returns c = refused-read _ (c .before .before .before .before .before .before .c
 
 -- src/lib.rt:115:5
 translate-requires : tie.Need-translate-requires
-translate-requires c κs = let h = decides-fine (c .before .before .before .check-syntax .ensures) (c .before .if1 .left) in parse-short _ (h .value) (h .rest) (h .is)
+translate-requires c κs = text-read (c .before .before .before .check-syntax .ensures) (c .before .if1 .left)
 
 -- src/lib.rt:108:1
 same-length-2 : tie.Need-same-length-2
@@ -37,7 +35,7 @@ same-length-2 c = search needs
 
 -- src/lib.rt:108:1
 returns-2 : tie.Need-returns-2
-returns-2 c = let h = decides-fine (c .before .before .before .before .before .before .check-syntax .ensures) (c .before .before .before .before .if1 .left) in c .before .before .translate .ensures (h .value) (h .rest) (h .is)
+returns-2 c = c .before .before .translate .ensures
 
 pub process-spec : {M : Type 1} → statement M
 process-spec =

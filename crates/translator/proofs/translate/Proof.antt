@@ -1,6 +1,7 @@
 use borrow.Author.Needs.{needs}
 use mathlib.Core.Path.{refl}
-use Rattle.translator.proofs.Passes.{answered-wrong, answered-good}
+use Rattle.grammar.proofs.ProgramIn.{parse-short}
+use Rattle.translator.proofs.Passes.{answered-wrong, answered-good, filled}
 use Rattle.translator.proofs.translate.Statement.{statement}
 use Rattle.translator.proofs.translate.Tie as tie
 use Rattle.translator.proofs.translate.Reads as reads
@@ -27,7 +28,7 @@ slice-aggregate-resolve-4 c = search needs
 
 -- src/lib.rt:133:9
 resolve-requires : tie.Need-resolve-requires
-resolve-requires c κs = search needs
+resolve-requires c κs = (parse-short _ (c .before .before .before .before .before .before .pre .tree) (c .before .before .before .before .before .before .pre .rest) (c .before .before .before .before .before .before .pre .reads), search needs, search needs, search needs, search needs)
 
 -- src/lib.rt:135:9
 refuse-requires : tie.Need-refuse-requires
@@ -39,7 +40,9 @@ same-length c = search needs
 
 -- src/lib.rt:135:9
 returns : tie.Need-returns
-returns c = λ p ws e. answered-wrong _ p ws e (c .before .before .before .before .before .before .before .before .before .before .resolve .ensures p ws e) (c .before .before .before .before .if1 .taken) (c .before .before .refuse .ensures)
+returns c =
+    let i = c .before .before .before .before .before .before .before .before .before .before .before .before .before .before .before .before .before .pre in
+    answered-wrong _ (i .tree) (i .rest) (i .reads) (c .before .before .before .before .before .before .before .before .before .before .resolve .ensures (i .tree) (i .rest) (i .reads)) (c .before .before .before .before .if1 .taken) (c .before .before .refuse .ensures)
 
 -- src/lib.rt:137:24
 slice-aggregate-finish : tie.Need-slice-aggregate-finish
@@ -59,7 +62,9 @@ slice-aggregate-finish-4 c = search needs
 
 -- src/lib.rt:137:5
 finish-requires : tie.Need-finish-requires
-finish-requires c κs = search needs
+finish-requires c κs =
+    let i = c .before .before .before .before .before .before .before .before .before .before .before .before .before .before .before .before .before .before .pre in
+    (search needs, filled _ (i .tree) (i .rest) (i .reads) (c .before .before .before .before .before .before .before .before .before .before .before .resolve .ensures (i .tree) (i .rest) (i .reads)) (c .before .before .before .before .before .if1 .left))
 
 -- src/lib.rt:125:1
 same-length-2 : tie.Need-same-length-2
@@ -67,7 +72,9 @@ same-length-2 c = search needs
 
 -- src/lib.rt:125:1
 returns-2 : tie.Need-returns-2
-returns-2 c = λ p ws e. answered-good _ p ws e (c .before .before .before .before .before .before .before .before .before .before .before .before .before .before .before .resolve .ensures p ws e) (c .before .before .before .before .before .before .before .before .before .if1 .left) refl (c .before .before .before .finish .ensures)
+returns-2 c =
+    let i = c .before .before .before .before .before .before .before .before .before .before .before .before .before .before .before .before .before .before .before .before .before .before .pre in
+    answered-good _ (i .tree) (i .rest) (i .reads) (c .before .before .before .before .before .before .before .before .before .before .before .before .before .before .before .resolve .ensures (i .tree) (i .rest) (i .reads)) (c .before .before .before .before .before .before .before .before .before .if1 .left) refl (c .before .before .before .finish .ensures)
 
 pub translate-spec : {M : Type 1} → statement M
 translate-spec =
