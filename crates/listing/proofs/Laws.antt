@@ -11,7 +11,7 @@ use lib.ListN.{length, getD, set, take, drop, length-append, length-drop, take-a
 use lib.Seq.{sets, sets-eq, length-sets, set-out, drop-cons, drop-length, length-take-le, take-all, take-append-le, take-take, take-append-seam}
 use Rattle.base.specs.Common.{if_then_else_}
 use Rattle.machine.specs.Bytes.{over}
-use Rattle.listing.specs.Listing.{digits, decimal}
+use Rattle.listing.specs.Listing.{digits, decimal, figureLine}
 use Rattle.listing.specs.Written.{Puts, filled, longest, Listed}
 
 -- Writing
@@ -179,3 +179,14 @@ length-5 n h = length-tens 4 n (omega arith)
 
 pub decimal-short : {n : ℕ} {s t : List ℕ} {i j : ℕ} → n < 18446744073709551616 → Puts (decimal n) s i t j → j ≤ i + 20
 decimal-short {n} h p = omega (arith, length-tens 19 n (omega arith), p .next)
+
+-- The line of the figure
+
+pub figure-none : {q : ℕ} (s : List ℕ) (i : ℕ) → q ≡ 0 → Puts (figureLine q) s i s i
+unfolding figureLine
+figure-none s i e = rw e (record { bytes = refl; next = omega arith })
+
+pub figure-some : (n : ℕ) {s t u : List ℕ} {i j k : ℕ} → (n ≡ 0 → ⊥) → Puts (decimal n) s i t j → Puts (10 ∷ []) t j u k → Puts (figureLine n) s i u k
+unfolding figureLine
+figure-some zero z p q = absurd (z refl)
+figure-some (suc n) z p q = puts-then p q

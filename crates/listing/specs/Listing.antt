@@ -43,20 +43,25 @@ verdictEnd false = bytes "no\n"
 unfoldable pub heading : ℕ → Bool → List ℕ
 heading n verdict = bytes "table " ++ decimal n ++ bytes " finishing " ++ verdictEnd verdict
 
+-- "The lister prints Q, alone and decimal, on a second line before the words for finishing programs; with 47 that line is absent": 0 stands for no Q
+unfoldable pub figureLine : ℕ → List ℕ
+figureLine zero = []
+figureLine (suc q) = decimal (suc q) ++ bytes "\n"
+
 -- "then a line for each location and its word"; "locations from 1"
-unfoldable pub tableListing : List ℕ → Bool → List ℕ
-tableListing words verdict = heading (length words) verdict ++ wordLines 1 words
+unfoldable pub tableListing : List ℕ → Bool → ℕ → List ℕ
+tableListing words verdict figure = heading (length words) verdict ++ figureLine figure ++ wordLines 1 words
 
 -- "`refused 7 line 1`: number, and line of the word"
 unfoldable pub refusalListing : ℕ → ℕ → List ℕ
 refusalListing number line = bytes "refused " ++ decimal number ++ bytes " line " ++ decimal line ++ bytes "\n"
 
--- what is printed for a text that got this answer
-unfoldable pub listing : List ℕ → Answer → List ℕ
-listing text (accepted words verdict) = tableListing words verdict
-listing text (refused number part) = refusalListing number (lineAt text (part .start))
+-- what is printed for a text that got this answer and has this figure
+unfoldable pub listing : List ℕ → Answer → ℕ → List ℕ
+listing text (accepted words verdict) figure = tableListing words verdict figure
+listing text (refused number part) figure = refusalListing number (lineAt text (part .start))
 
 -- all of this file computes where this is unfolded
 unfoldable pub opened : Unit {0}
-unfolding digits decimal lineFeeds lineAt wordLine wordLines verdictEnd heading tableListing refusalListing listing
+unfolding digits decimal lineFeeds lineAt wordLine wordLines verdictEnd heading figureLine tableListing refusalListing listing
 opened = tt

@@ -4,7 +4,7 @@ ghost use mathlib.Core.List.{[], _∷_};
 ghost use Prim.Native.Nat.{_+_, _*_, _%_, _<_, _≤_, min};
 ghost use lib.ListN.{length, take};
 ghost use Rattle.machine.specs.Bytes.{wordsOf, tableOf};
-ghost use Rattle.listing.specs.Listing.{decimal, lineFeeds, lineAt, wordLine, wordLines, verdictEnd, heading, tableListing, refusalListing};
+ghost use Rattle.listing.specs.Listing.{decimal, lineFeeds, lineAt, wordLine, wordLines, verdictEnd, heading, figureLine, tableListing, refusalListing};
 ghost use Rattle.listing.specs.Written.{Puts, Listed};
 
 // "Table words past 4,096 are outside the table."
@@ -107,7 +107,7 @@ fn wide(x: u16) -> usize
 
 // The lines of the table's first words.
 fn put_words(table: &[u8], words: usize, out: &mut [u8], at: usize) -> usize
-    requires { ⌜ (words ≤ 4096) × (2 * words ≤ length (now table)) × (at ≤ 50) ⌝ }
+    requires { ⌜ (words ≤ 4096) × (2 * words ≤ length (now table)) × (at ≤ 71) ⌝ }
     ensures { λ r. ⌜ Puts (wordLines 1 (take words (wordsOf (now (table .entry))))) (now (out .entry)) at (now (out .exit)) r ⌝ }
     ensures { λ r. ⌜ r ≤ at + 11 * words ⌝ }
 {
@@ -143,16 +143,30 @@ fn put_heading(out: &mut [u8], words: usize, finishing: bool) -> usize
     put_verdict(out, d, finishing)
 }
 
+// The line of the figure, none for 0.
+fn put_figure(out: &mut [u8], at: usize, figure: u64) -> usize
+    requires { ⌜ at ≤ 50 ⌝ }
+    ensures { λ r. ⌜ Puts (figureLine figure) (now (out .entry)) at (now (out .exit)) r ⌝ }
+    ensures { λ r. ⌜ r ≤ at + 21 ⌝ }
+{
+    if figure == 0 {
+        return at;
+    }
+    let a = put_decimal(out, at, figure as usize);
+    put_byte(out, a, b'\n')
+}
+
 // A whole listing: as much of it as the lent buffer holds is written, from the buffer's start on, and the answer is the length of all of it. So it is
 // complete exactly if the answer is at most the buffer's length; LONGEST bytes are enough for any.
 
-// The listing of a table's first words, high byte first, and its verdict; `words` past the end of the table are not there.
-pub fn list_table(table: &[u8], words: usize, finishing: bool, out: &mut [u8]) -> usize
-    ensures { λ r. ⌜ Listed (tableListing (take words (tableOf (now (table .entry)))) finishing) (now (out .entry)) (now (out .exit)) r ⌝ }
+// The listing of a table's first words, high byte first, its verdict and its figure, 0 for none; `words` past the end of the table are not there.
+pub fn list_table(table: &[u8], words: usize, finishing: bool, figure: u64, out: &mut [u8]) -> usize
+    ensures { λ r. ⌜ Listed (tableListing (take words (tableOf (now (table .entry)))) finishing figure) (now (out .entry)) (now (out .exit)) r ⌝ }
 {
     let n = least(words, least(table.len() / 2, TABLE_WORDS));
-    let at = put_heading(out, n, finishing);
-    put_words(table, n, out, at)
+    let a = put_heading(out, n, finishing);
+    let b = put_figure(out, a, figure);
+    put_words(table, n, out, b)
 }
 
 // The listing of a refusal.
