@@ -11,6 +11,7 @@ use lib.ListN.{length, take, drop, replicate, length-append, length-take}
 use lib.Seq.{take-all, take-length, take-take, length-take-le}
 use Rattle.acceptance.proofs.Numbers.{never-0}
 use Rattle.base.specs.Common.{if_then_else_}
+use Rattle.figure.specs.Told.{Told, figureOf}
 use Rattle.finishing.specs.Test.{finishing}
 use Rattle.machine.specs.Bytes.{count, wordsOf, tableOf, bytesOf}
 use Rattle.processor.specs.Process as means
@@ -52,9 +53,10 @@ over-long text room h = go (ltb 32768 (length text)) refl
     go true e = at-end
     go false e = absurd (omega (arith, ltb-false 32768 (length text) e))
 
-over-long-answer : (text : List ℕ) (room : ℕ) → 32768 < length text → answered (process text room) ≡ record { number = 9; start = length text; len = 0; words = 0; finishing = false }
+over-long-answer : (text : List ℕ) (room : ℕ) (f : Told) → 32768 < length text
+    → answered (process text room) f ≡ record { number = 9; start = length text; len = 0; words = 0; finishing = false; figure = f .figure; check = f .number }
 unfolding answered
-over-long-answer text room h = rw (over-long text room h) refl
+over-long-answer text room f h = rw (over-long text room h) refl
 
 -- What is kept of an input
 
@@ -75,31 +77,31 @@ module _ (kept rest : List ℕ) (e : kept ≡ take 32769 (kept ++ rest)) where
 
 -- The listing of a refusal
 
-refusal : (text : List ℕ) (a : means.Answer) (s : Answer) → s ≡ answered a → (s .number ≡ 0 → ⊥) → refusalListing (s .number) (lineAt text (s .start)) ≡ listing text a
+refusal : (text : List ℕ) (a : means.Answer) (f : Told) (s : Answer) (q : ℕ) → s ≡ answered a f → (s .number ≡ 0 → ⊥) → refusalListing (s .number) (lineAt text (s .start)) ≡ listing text a q
 unfolding answered listing
-refusal text (accepted ws verdict) s e n = absurd (n (ap (λ (x : Answer). x .number) e))
-refusal text (refused number at) s e n = ap (λ (x : Answer). refusalListing (x .number) (lineAt text (x .start))) e
+refusal text (accepted ws verdict) f s q e n = absurd (n (ap (λ (x : Answer). x .number) e))
+refusal text (refused number at) f s q e n = ap (λ (x : Answer). refusalListing (x .number) (lineAt text (x .start))) e
 
 -- of a text that is over-long, the line of its end
 end-line : (kept rest : List ℕ) → lineAt kept (length kept) + lineFeeds rest ≡ lineAt (kept ++ rest) (length (kept ++ rest))
 unfolding lineAt
 end-line kept rest = rw (take-length kept, take-length (kept ++ rest)) (omega (arith, feeds-append kept rest))
 
-refused-listing : (kept rest : List ℕ) (s : Answer) (line : ℕ) → kept ≡ take 32769 (kept ++ rest) → s ≡ answered (process kept 4096) → (s .number ≡ 0 → ⊥)
-    → line ≡ lineAt kept (s .start) + lineFeeds rest → refusalListing (s .number) line ≡ listing (kept ++ rest) (process (kept ++ rest) 4096)
+refused-listing : (kept rest : List ℕ) (f : Told) (s : Answer) (line : ℕ) (figure : ℕ) → kept ≡ take 32769 (kept ++ rest) → s ≡ answered (process kept 4096) f → (s .number ≡ 0 → ⊥)
+    → line ≡ lineAt kept (s .start) + lineFeeds rest → refusalListing (s .number) line ≡ listing (kept ++ rest) (process (kept ++ rest) 4096) figure
 unfolding lineFeeds listing
-refused-listing kept rest s line e d n q = go (ltb 32768 (length kept)) refl
+refused-listing kept rest f s line figure e d n q = go (ltb 32768 (length kept)) refl
   where
-    go : (t : Bool) → ltb 32768 (length kept) ≡ t → refusalListing (s .number) line ≡ listing (kept ++ rest) (process (kept ++ rest) 4096)
+    go : (t : Bool) → ltb 32768 (length kept) ≡ t → refusalListing (s .number) line ≡ listing (kept ++ rest) (process (kept ++ rest) 4096) figure
     go true t =
         let h : 32768 < length kept = ltb-true 32768 (length kept) t in
-        let x : s ≡ record { number = 9; start = length kept; len = 0; words = 0; finishing = false } = d ∙ over-long-answer kept 4096 h in
+        let x : s ≡ record { number = 9; start = length kept; len = 0; words = 0; finishing = false; figure = f .figure; check = f .number } = d ∙ over-long-answer kept 4096 f h in
         let g : line ≡ lineAt (kept ++ rest) (length (kept ++ rest)) = q ∙ ap (λ (a : Answer). lineAt kept (a .start) + lineFeeds rest) x ∙ end-line kept rest in
         rw (over-long (kept ++ rest) 4096 (omega (arith, length-append kept rest)), g) (ap (λ (a : Answer). refusalListing (a .number) (lineAt (kept ++ rest) (length (kept ++ rest)))) x)
     go false t =
         let h : length kept ≤ 32768 = omega (arith, ltb-false 32768 (length kept) t) in
         let g : line ≡ lineAt kept (s .start) = omega (arith, q, ap lineFeeds (none-left kept rest e h)) in
-        rw (← kept-whole kept rest e h, g) (refusal kept (process kept 4096) s d n)
+        rw (← kept-whole kept rest e h, g) (refusal kept (process kept 4096) f s figure d n)
 
 -- The listing of an accepted text
 
@@ -114,76 +116,77 @@ unfolding bytesOf
 bytes-append [] b = refl
 bytes-append (x ∷ a) b = ap (λ (s : List ℕ). x / 256 ∷ x % 256 ∷ s) (bytes-append a b)
 
-acceptance : (text lent : List ℕ) (a : means.Answer) (s : Answer) {after : List ℕ} → ((number : ℕ) (at : Part) → a ≡ refused number at → number ≡ 0 → ⊥) → s ≡ answered a → after ≡ lentBytes a lent → s .number ≡ 0 → s .words ≤ 4096
-    → tableListing (take (s .words) (tableOf after)) (s .finishing) ≡ listing text a
+acceptance : (text lent : List ℕ) (a : means.Answer) (told : Told) (s : Answer) {after : List ℕ} → ((number : ℕ) (at : Part) → a ≡ refused number at → number ≡ 0 → ⊥) → s ≡ answered a told → after ≡ lentBytes a lent → s .number ≡ 0 → s .words ≤ 4096
+    → tableListing (take (s .words) (tableOf after)) (s .finishing) (s .figure) ≡ listing text a (told .figure)
 unfolding answered listing lentBytes lentWords tableOf
-acceptance text lent (refused number at) s h e q n m = absurd (h number at refl (sym (ap (λ (x : Answer). x .number) e) ∙ n))
-acceptance text lent (accepted ws verdict) s {after} x e q n m =
+acceptance text lent (refused number at) told s h e q n m = absurd (h number at refl (sym (ap (λ (x : Answer). x .number) e) ∙ n))
+acceptance text lent (accepted ws verdict) told s {after} x e q n m =
     let d : s .words ≡ length ws = ap (λ (x : Answer). x .words) e in
     let f : s .finishing ≡ verdict = ap (λ (x : Answer). x .finishing) e in
+    let g : s .figure ≡ told .figure = ap (λ (x : Answer). x .figure) e in
     let z : List ℕ = replicate (count lent - length ws) 0 in
     let y : after ≡ bytesOf ws ++ (bytesOf z ++ drop (2 * count lent) lent) = q ∙ ap (λ (b : List ℕ). b ++ drop (2 * count lent) lent) (bytes-append ws z) ∙ append-assoc (bytesOf ws) (bytesOf z) (drop (2 * count lent) lent) in
     let w : take (s .words) (wordsOf after) ≡ ws = ap (λ (k : ℕ). take k (wordsOf after)) d ∙ ap (λ (b : List ℕ). take (length ws) (wordsOf b)) y ∙ words-back ws (bytesOf z ++ drop (2 * count lent) lent) in
-    rw (take-take (s .words) 4096 (wordsOf after) m, w, f) refl
+    rw (take-take (s .words) 4096 (wordsOf after) m, w, f, g) refl
 
 -- "or 4,096 words"
-few : (text : List ℕ) (room : ℕ) (u : Understood) (s : Answer) → s ≡ answered (answerFor text room u) → s .words ≤ 4096
+few : (text : List ℕ) (room : ℕ) (u : Understood) (f : Told) (s : Answer) → s ≡ answered (answerFor text room u) f → s .words ≤ 4096
 unfolding answered answerFor
-few text room (faulty n w) s e = let d : s .words ≡ 0 = ap (λ (x : Answer). x .words) e in omega arith
-few text room (meaning prog) s e = go (leb (sizeRules prog) room) (leb (sizeRules prog) 4096) refl (ap (λ (x : Answer). x .words) e)
+few text room (faulty n w) f s e = let d : s .words ≡ 0 = ap (λ (x : Answer). x .words) e in omega arith
+few text room (meaning prog) f s e = go (leb (sizeRules prog) room) (leb (sizeRules prog) 4096) refl (ap (λ (x : Answer). x .words) e)
   where
     go : (a b : Bool) → leb (sizeRules prog) 4096 ≡ b
-        → s .words ≡ answered (if a && b then accepted (table prog) (finishing prog) else refused 20 (partOf (endOf text))) .words → s .words ≤ 4096
+        → s .words ≡ answered (if a && b then accepted (table prog) (finishing prog) else refused 20 (partOf (endOf text))) f .words → s .words ≤ 4096
     go true true q d = omega (arith, d, length-table prog, leb-true (sizeRules prog) 4096 q)
     go true false q d = omega (arith, d)
     go false b q d = omega (arith, d)
 
-few-words : {lent after : List ℕ} {s : Answer} (kept : List ℕ) (room : ℕ) → Settles (process kept room) lent after s → s .words ≤ 4096
+few-words : {lent after : List ℕ} {f : Told} {s : Answer} (kept : List ℕ) (room : ℕ) → Settles (process kept room) f lent after s → s .words ≤ 4096
 unfolding process
-few-words {s = s} kept room d = few kept room (understood kept) s (d .answer)
+few-words {f = f} {s = s} kept room d = few kept room (understood kept) f s (d .answer)
 
-accepted-listing : (kept rest lent after : List ℕ) (s : Answer) → kept ≡ take 32769 (kept ++ rest) → count lent ≡ 4096 → Settles (process kept (count lent)) lent after s → s .number ≡ 0
-    → tableListing (take (s .words) (tableOf after)) (s .finishing) ≡ listing (kept ++ rest) (process (kept ++ rest) 4096)
+accepted-listing : (kept rest lent after : List ℕ) (s : Answer) → kept ≡ take 32769 (kept ++ rest) → count lent ≡ 4096 → Settles (process kept (count lent)) (figureOf kept (count lent)) lent after s → s .number ≡ 0
+    → tableListing (take (s .words) (tableOf after)) (s .finishing) (s .figure) ≡ listing (kept ++ rest) (process (kept ++ rest) 4096) (figureOf (kept ++ rest) 4096 .figure)
 accepted-listing kept rest lent after s e c d n = go (ltb 32768 (length kept)) refl
   where
-    go : (t : Bool) → ltb 32768 (length kept) ≡ t → tableListing (take (s .words) (tableOf after)) (s .finishing) ≡ listing (kept ++ rest) (process (kept ++ rest) 4096)
-    go true t = absurd (omega (arith, n, ap (λ (a : Answer). a .number) (d .answer ∙ over-long-answer kept (count lent) (ltb-true 32768 (length kept) t))))
+    go : (t : Bool) → ltb 32768 (length kept) ≡ t → tableListing (take (s .words) (tableOf after)) (s .finishing) (s .figure) ≡ listing (kept ++ rest) (process (kept ++ rest) 4096) (figureOf (kept ++ rest) 4096 .figure)
+    go true t = absurd (omega (arith, n, ap (λ (a : Answer). a .number) (d .answer ∙ over-long-answer kept (count lent) (figureOf kept (count lent)) (ltb-true 32768 (length kept) t))))
     go false t =
         let h : length kept ≤ 32768 = omega (arith, ltb-false 32768 (length kept) t) in
-        rw (← kept-whole kept rest e h, ← c) (acceptance kept lent (process kept (count lent)) s (never-0 kept (count lent)) (d .answer) (d .lent) n (few-words kept (count lent) d))
+        rw (← kept-whole kept rest e h, ← c) (acceptance kept lent (process kept (count lent)) (figureOf kept (count lent)) s (never-0 kept (count lent)) (d .answer) (d .lent) n (few-words kept (count lent) d))
 
 -- The word at fault
 
-same-word : (kept rest : List ℕ) → kept ≡ take 32769 (kept ++ rest) → faultWord kept (answered (process kept 4096)) ≡ faultWord (kept ++ rest) (answered (process (kept ++ rest) 4096))
+same-word : (kept rest : List ℕ) → kept ≡ take 32769 (kept ++ rest) → faultWord kept (answered (process kept 4096) (figureOf kept 4096)) ≡ faultWord (kept ++ rest) (answered (process (kept ++ rest) 4096) (figureOf (kept ++ rest) 4096))
 unfolding faultWord
 same-word kept rest e = go (ltb 32768 (length kept)) refl
   where
-    go : (t : Bool) → ltb 32768 (length kept) ≡ t → faultWord kept (answered (process kept 4096)) ≡ faultWord (kept ++ rest) (answered (process (kept ++ rest) 4096))
+    go : (t : Bool) → ltb 32768 (length kept) ≡ t → faultWord kept (answered (process kept 4096) (figureOf kept 4096)) ≡ faultWord (kept ++ rest) (answered (process (kept ++ rest) 4096) (figureOf (kept ++ rest) 4096))
     go true t =
         let h : 32768 < length kept = ltb-true 32768 (length kept) t in
-        rw (over-long-answer kept 4096 h, over-long-answer (kept ++ rest) 4096 (omega (arith, length-append kept rest))) refl
+        rw (over-long-answer kept 4096 (figureOf kept 4096) h, over-long-answer (kept ++ rest) 4096 (figureOf (kept ++ rest) 4096) (omega (arith, length-append kept rest))) refl
     go false t =
         let h : length kept ≤ 32768 = omega (arith, ltb-false 32768 (length kept) t) in
-        ap (λ (text : List ℕ). faultWord text (answered (process text 4096))) (kept-whole kept rest e h)
+        ap (λ (text : List ℕ). faultWord text (answered (process text 4096) (figureOf text 4096))) (kept-whole kept rest e h)
 
 -- The two ends of `list`
 
-shows : {kept lent after new : List ℕ} {s : Answer} {feeds r : ℕ} → count lent ≡ 4096 → Settles (process kept (count lent)) lent after s
-    → ((rest : List ℕ) → kept ≡ take 32769 (kept ++ rest) → feeds ≡ lineFeeds rest → take r new ≡ listing (kept ++ rest) (process (kept ++ rest) 4096))
+shows : {kept lent after new : List ℕ} {s : Answer} {feeds r : ℕ} → count lent ≡ 4096 → Settles (process kept (count lent)) (figureOf kept (count lent)) lent after s
+    → ((rest : List ℕ) → kept ≡ take 32769 (kept ++ rest) → feeds ≡ lineFeeds rest → take r new ≡ listing (kept ++ rest) (process (kept ++ rest) 4096) (figureOf (kept ++ rest) 4096 .figure))
     → Prints kept feeds new (record { len = r; answer = s })
 shows {kept} c d f pieces e q = record {
   listed = f (flatten pieces) e (q ∙ count-on 0 pieces ∙ zero-add (lineFeeds (flatten pieces)));
   word = ap (faultWord kept) (rw c at (d .answer)) ∙ same-word kept (flatten pieces) e;
 }
 
-pub list-accepted : {kept lent after old new : List ℕ} {s : Answer} {feeds r : ℕ} → count lent ≡ 4096 → Settles (process kept (count lent)) lent after s → longest ≤ length old
-    → s .number ≡ 0 → Listed (tableListing (take (s .words) (tableOf after)) (s .finishing)) old new r → Prints kept feeds new (record { len = r; answer = s })
+pub list-accepted : {kept lent after old new : List ℕ} {s : Answer} {feeds r : ℕ} → count lent ≡ 4096 → Settles (process kept (count lent)) (figureOf kept (count lent)) lent after s → longest ≤ length old
+    → s .number ≡ 0 → Listed (tableListing (take (s .words) (tableOf after)) (s .finishing) (s .figure)) old new r → Prints kept feeds new (record { len = r; answer = s })
 list-accepted {kept} {lent} {after} {s = s} c d room n l = shows c d (λ rest e q. listed-whole l room ∙ accepted-listing kept rest lent after s e c d n)
 
-pub list-refused : {kept lent after old new : List ℕ} {s : Answer} {feeds line r : ℕ} → count lent ≡ 4096 → Settles (process kept (count lent)) lent after s → longest ≤ length old
+pub list-refused : {kept lent after old new : List ℕ} {s : Answer} {feeds line r : ℕ} → count lent ≡ 4096 → Settles (process kept (count lent)) (figureOf kept (count lent)) lent after s → longest ≤ length old
     → (s .number ≡ 0 → ⊥) → line ≡ lineAt kept (s .start) → Listed (refusalListing (s .number) (line + feeds)) old new r → Prints kept feeds new (record { len = r; answer = s })
 list-refused {kept} {s = s} {feeds} {line} c d room n q l =
-    shows c d (λ rest e f. listed-whole l room ∙ refused-listing kept rest s (line + feeds) e (rw c at (d .answer)) n (omega (arith, q, f)))
+    shows c d (λ rest e f. listed-whole l room ∙ refused-listing kept rest (figureOf kept 4096) s (line + feeds) (figureOf (kept ++ rest) 4096 .figure) e (rw c at (d .answer)) n (omega (arith, q, f)))
 
 -- the bytes to print lie within the buffer
 pub counted : {xs old new : List ℕ} {r : ℕ} → Listed xs old new r → longest ≤ length new → Counts r new

@@ -3,6 +3,7 @@ use mathlib.Core.List.{List, [], _∷_, _++_, flatten}
 use mathlib.Core.Path.{_≡_}
 use Prim.Native.Nat.{ℕ, _+_, _≤_}
 use lib.ListN.{length, take}
+use Rattle.figure.specs.Told.{figureOf}
 use Rattle.listing.specs.Listing.{lineFeeds, listing}
 use Rattle.processor.specs.Process.{process}
 use Rattle.translator.specs.Answered.{answered, faultWord}
@@ -25,10 +26,10 @@ unfoldable pub countOn : ℕ → List (List ℕ) → ℕ
 countOn feeds [] = feeds
 countOn feeds (piece ∷ pieces) = countOn (feeds + lineFeeds piece) pieces
 
--- What is printed for an input: its listing, the answer being that of a table with room for 4,096 words; and the part that is shown is that at fault.
+-- What is printed for an input: its listing, the answer being that of a table with room for 4,096 words, with the figure of that text; and the part that is shown is that at fault.
 pub record Shown (input kept new : List ℕ) (r : Printed) : Type 0 where
-  pub listed : take (r .len) new ≡ listing input (process input 4096)
-  pub word : faultWord kept (r .answer) ≡ faultWord input (answered (process input 4096))
+  pub listed : take (r .len) new ≡ listing input (process input 4096) (figureOf input 4096 .figure)
+  pub word : faultWord kept (r .answer) ≡ faultWord input (answered (process input 4096) (figureOf input 4096))
 
 -- The input is what is kept of it, its first 32,769 bytes, which is enough to see that it is over-long, and then the pieces whose line feeds were counted.
 abbrev pub Prints : List ℕ → ℕ → List ℕ → Printed → Type 0

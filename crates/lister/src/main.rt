@@ -1,4 +1,4 @@
-// The lister: reads a program on standard input and prints its table and verdict, or the number and line of its fault, and then shows the word at fault.
+// The lister: reads a program on standard input and prints its table, verdict and figure, or the number and line of its fault, and then shows the word at fault.
 ghost use Prim.Native.Nat.{_≤_};
 ghost use lib.ListN.{length};
 ghost use Rattle.io.specs.Counts.{Counts};
@@ -32,7 +32,7 @@ fn list(kept: &[u8], feeds: usize, out: &mut [u8]) -> Printed
     let mut table = [0u8; TABLE_BYTES];
     let answer = translator::process(kept, &mut table);
     if answer.number == 0 {
-        let len = listing::list_table(&table, answer.words, answer.finishing, out);
+        let len = listing::list_table(&table, answer.words, answer.finishing, answer.figure, out);
         return Printed { len, answer };
     }
     let line = listing::lines_before(kept, answer.start) + feeds;
