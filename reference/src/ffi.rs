@@ -3,6 +3,7 @@
 
 use crate::figures::Figures;
 use crate::files::Files;
+use crate::quiet::Measurer;
 use crate::rights::Rights;
 use crate::screen::Screens;
 use crate::side::{Folder, Inputs, Processor, Side};
@@ -329,6 +330,17 @@ pub fn figures() -> Option<&'static dyn Figures> {
     #[cfg(feature = "lib")]
     return Some(&Library);
     #[cfg(not(feature = "lib"))]
+    return None;
+}
+
+#[cfg(feature = "figure")]
+mod quiet;
+
+/// The library's processor with figures of programs, where it is linked.
+pub fn measurer() -> Option<&'static dyn Measurer> {
+    #[cfg(feature = "figure")]
+    return Some(&Library);
+    #[cfg(not(feature = "figure"))]
     return None;
 }
 

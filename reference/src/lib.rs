@@ -11,8 +11,10 @@ pub mod tables;
 pub mod walker;
 
 pub mod before;
+pub mod chains;
 pub mod choosers;
 pub mod processor;
+pub mod quiet;
 pub mod rules;
 pub mod verdict;
 
@@ -25,5 +27,6 @@ pub mod pairs;
 pub mod programs;
 pub mod rights;
 pub mod screen;
+pub mod slow;
 pub mod texts;
 pub mod works;

@@ -6,6 +6,7 @@
 //! 4. `assemble` writes the words and patches the distances afterwards
 //! 5. `verdict::finishing` searches the program's quiet paths
 
+use crate::quiet::{Figure, figure};
 use crate::verdict::finishing;
 use std::collections::{HashMap, HashSet};
 
@@ -36,10 +37,19 @@ pub fn process(text: &[u8], room_words: usize) -> Answer {
             if words.len() > room_words || words.len() > MAX_TABLE {
                 return end(20);
             }
-            let table = words.iter().map(|word| u16::try_from(*word).expect("a distance in a small table")).collect();
-            Answer::Accepted { table, finishing: finishing(&program) }
+            Answer::Accepted { table: narrow(&words), finishing: finishing(&program) }
         }
     }
+}
+
+/// The words of a program whose table is not too long, and the locations of the rules' first ones.
+pub fn table(program: &Program) -> (Vec<u16>, Vec<usize>) {
+    let (words, starts) = assemble(program);
+    (narrow(&words), starts)
+}
+
+fn narrow(words: &[usize]) -> Vec<u16> {
+    words.iter().map(|word| u16::try_from(*word).expect("a distance in a small table")).collect()
 }
 
 /// Where a rule stands: its name in the text, and the location of its first word.
@@ -87,6 +97,9 @@ pub fn listing(text: &[u8]) -> String {
         Answer::Accepted { table, finishing } => {
             let verdict = if finishing { "yes" } else { "no" };
             let mut out = format!("table {} finishing {verdict}\n", table.len());
+            if let Ok(Figure::Most(most)) = resolve(text).map(|program| figure(&program)) {
+                out.push_str(&format!("{most}\n"));
+            }
             for (i, word) in table.iter().enumerate() {
                 out.push_str(&format!("{} {word}\n", i + 1));
             }
@@ -1176,7 +1189,7 @@ mod tests {
 
     #[test]
     fn the_lister() {
-        assert_eq!(listing(b"rules M: ; end"), "table 1 finishing yes\n1 9\n");
+        assert_eq!(listing(b"rules M: ; end"), "table 1 finishing yes\n1\n1 9\n");
         assert_eq!(listing(b"rules M: > ; end"), "refused 7 line 1\n");
         assert_eq!(listing(b"rules M:\n;\n"), "refused 2 line 3\n");
         assert_eq!(listing(b"rules M: { } ; end"), "table 3 finishing no\n1 2\n2 1\n3 9\n");

@@ -9,7 +9,7 @@ pub struct Text {
 }
 
 /// What hard programs are full of.
-pub const HARD: [&str; 13] = [
+pub const HARD: [&str; 14] = [
     "names",
     "long names",
     "nesting",
@@ -23,6 +23,7 @@ pub const HARD: [&str; 13] = [
     "values",
     "value ring",
     "value chain",
+    "calls back",
 ];
 
 /// The sorts with names of four bytes, matched as often as the text has room for: any names, and ones chosen to be in one chain of the
@@ -61,7 +62,8 @@ pub fn hard(sort: usize, bytes: usize) -> Text {
         9 => chosen(bytes, true, usize::MAX),
         10 => values(bytes),
         11 => value_ring(bytes),
-        _ => value_chain(bytes),
+        12 => value_chain(bytes),
+        _ => calls_back(bytes),
     };
     Text { name: HARD[sort], text: filled(text, bytes) }
 }
@@ -202,6 +204,21 @@ fn calls(bytes: usize) -> String {
             text.push_str(&format!("@{} ", name(i + 1)).repeat(each));
         }
         text.push_str(";\n");
+    }
+    text.push_str("end\n");
+    text
+}
+
+/// Each rule calls the one before, inside three cycles: the figure of each is known only after that.
+fn calls_back(bytes: usize) -> String {
+    let (open, close) = ("{[|*:".repeat(3), ">]}".repeat(3));
+    let mut text = String::from("rules\nR0: ;\n");
+    for rule in 1..128 {
+        let next = format!("R{rule}: {open}@R{}{close};\n", rule - 1);
+        if text.len() + next.len() + 4 > bytes {
+            break;
+        }
+        text.push_str(&next);
     }
     text.push_str("end\n");
     text
