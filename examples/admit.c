@@ -59,8 +59,8 @@ static const char *name_of(unsigned operation)
 /* What a publisher sends: the file of a program; answers its bytes. */
 static size_t send(const char *text, uint8_t *file, size_t file_bytes)
 {
-    uint64_t start, len, words, finishing;
-    sst_process((const uint8_t *)text, strlen(text), table, sizeof table, &start, &len, &words, &finishing);
+    uint64_t start, len, words, finishing, figure, figure_number;
+    sst_process((const uint8_t *)text, strlen(text), table, sizeof table, &start, &len, &words, &finishing, &figure, &figure_number);
     sst_write_file(table, 2 * (size_t)words, finishing, file, file_bytes, &words);
     return 2 * (size_t)words;
 }

@@ -79,9 +79,9 @@ static void report_rules(size_t table_words)
 
 int main(void)
 {
-    uint64_t start, len, words, finishing;
+    uint64_t start, len, words, finishing, figure, figure_number;
 
-    if (sst_process((const uint8_t *)text, strlen(text), table, sizeof table, &start, &len, &words, &finishing) != 0)
+    if (sst_process((const uint8_t *)text, strlen(text), table, sizeof table, &start, &len, &words, &finishing, &figure, &figure_number) != 0)
         return 1;
     report();
     add("plain", plain, sizeof plain);

@@ -154,9 +154,9 @@ static void show_tokens(uint64_t written)
 int main(void)
 {
     uint8_t filter[ENTRY_BYTES * MOST_ENTRIES];
-    uint64_t start, len, words, finishing, at, written;
+    uint64_t start, len, words, finishing, figure, figure_number, at, written;
     size_t i, filter_bytes;
-    uint16_t number = sst_process((const uint8_t *)scanner, strlen(scanner), table, sizeof table, &start, &len, &words, &finishing);
+    uint16_t number = sst_process((const uint8_t *)scanner, strlen(scanner), table, sizeof table, &start, &len, &words, &finishing, &figure, &figure_number);
 
     if (number != 0) {
         printf("refused %u\n", (unsigned)number);

@@ -122,16 +122,21 @@ int main(void)
     size_t i, k;
     for (i = 0; i < COUNT(programs); i++) {
         const struct program *program = &programs[i];
-        uint64_t start, len, words, finishing;
+        uint64_t start, len, words, finishing, figure, figure_number;
         unsigned number = sst_process((const uint8_t *)program->text, strlen(program->text), table, 2 * program->table_words, &start,
-                                      &len, &words, &finishing);
+                                      &len, &words, &finishing, &figure, &figure_number);
         printf("%s\n", program->name);
         if (number != 0) {
             printf("  refused %u line %u, at %lu: \"%.*s\"\n", number, line_of(program->text, start), (unsigned long)start, (int)len,
                    program->text + start);
             continue;
         }
-        printf("  words %lu, finishing %s:", (unsigned long)words, finishing ? "yes" : "no");
+        printf("  words %lu, finishing %s", (unsigned long)words, finishing ? "yes" : "no");
+        if (figure_number != 0)
+            printf(", no figure: %lu", (unsigned long)figure_number);
+        else if (figure != 0)
+            printf(", figure %lu", (unsigned long)figure);
+        printf(":");
         for (k = 0; k < (size_t)words; k++)
             printf(" %u", get_word(table, k));
         printf("\n");

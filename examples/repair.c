@@ -121,9 +121,9 @@ static void show(const struct walked *strict, const struct walked *mending)
 int main(void)
 {
     static struct walked strict, mending;
-    uint64_t start, len, words, finishing;
+    uint64_t start, len, words, finishing, figure, figure_number;
     size_t i;
-    uint16_t number = sst_process((const uint8_t *)rules, strlen(rules), table, sizeof table, &start, &len, &words, &finishing);
+    uint16_t number = sst_process((const uint8_t *)rules, strlen(rules), table, sizeof table, &start, &len, &words, &finishing, &figure, &figure_number);
 
     if (number != 0) {
         printf("refused %u\n", (unsigned)number);

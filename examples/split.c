@@ -102,8 +102,8 @@ static void turn_rows(void)
 
 int main(void)
 {
-    uint64_t start, len, words, finishing;
-    uint16_t number = sst_process((const uint8_t *)rules, strlen(rules), table, sizeof table, &start, &len, &words, &finishing);
+    uint64_t start, len, words, finishing, figure, figure_number;
+    uint16_t number = sst_process((const uint8_t *)rules, strlen(rules), table, sizeof table, &start, &len, &words, &finishing, &figure, &figure_number);
     unsigned refreshes;
 
     if (number != 0) {

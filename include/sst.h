@@ -34,6 +34,7 @@
  *    8  a choice rule that reaches its semicolon, `>>` without its value, or with one in a procedure rule
  *    9  over a limit
  *   20  the table passes the lent buffer or 4,096 words
+ * 47 is not among them: a program whose figure passes 4,294,967,295 is accepted, and `*figure_number` says 47.
  *
  * The number that sst_load and sst_write_file answer, tested in this order; with each but 0 all that was lent is zeroed:
  *    0  loaded, or written
@@ -67,9 +68,12 @@ extern "C" {
 /* Translates a program. Read: text, any bytes. Lent: table, every whole word of which is written: the table's words and then zeros, or zeros
  * alone on a refusal. `*start` and `*len` become the part of the text at fault (0 and 0 on acceptance; the empty part at the end for 20
  * and for a text over 32,768 bytes), `*words` the number of the table's words, `*finishing` 1 where the verdict is "finishing" (both 0 on a
- * refusal). Answers any number of the second list above. */
+ * refusal). For a finishing program `*figure` becomes its figure Q, which is at least 1, and `*figure_number` 0: no walk of n tokens and
+ * allowance r from sst_fresh, its calls as in demand 3, needs more than 65 * figure * (n + r + 1) steps. Where Q is above 4,294,967,295
+ * `*figure_number` becomes 47 and `*figure` 0; that is no refusal: the answer is 0, and table and verdict are as without it. Both are 0 for a
+ * program that is not finishing and on a refusal. Answers any number of the second list above. */
 uint16_t sst_process(const uint8_t *text, size_t text_len, uint8_t *table, size_t table_len, uint64_t *start, uint64_t *len,
-                     uint64_t *words, uint64_t *finishing);
+                     uint64_t *words, uint64_t *finishing, uint64_t *figure, uint64_t *figure_number);
 
 /* Loads a table file. Read: file, any bytes. Lent: table, every whole word of which is written: the file's table and then zeros, or zeros alone
  * with 40, 20 and 41; an odd last byte is kept. `*words` becomes the number of the table's words, `*verdict` the file's verdict word, 1 for

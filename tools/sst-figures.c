@@ -360,7 +360,7 @@ static enum status report(void)
 int main(int argc, char **argv)
 {
     static struct book book;
-    uint64_t start, len, words, finishing;
+    uint64_t start, len, words, finishing, figure, figure_number;
     enum status status;
     uint16_t number;
     long count;
@@ -373,7 +373,7 @@ int main(int argc, char **argv)
     count = read_bytes(argv[1], text, sizeof text);
     if (count < 0)
         return failed(argv[1]);
-    number = sst_process(text, (size_t)count, table, sizeof table, &start, &len, &words, &finishing);
+    number = sst_process(text, (size_t)count, table, sizeof table, &start, &len, &words, &finishing, &figure, &figure_number);
     table_words = (size_t)words;
     if (number == 0)
         number = find_rules((size_t)count);

@@ -26,13 +26,13 @@ static int write_bytes(const char *path, const uint8_t *bytes, size_t count)
 
 static enum status write_file(const char *from, const char *to)
 {
-    uint64_t start, len, words, finishing, file_words;
+    uint64_t start, len, words, finishing, figure, figure_number, file_words;
     uint16_t number;
     long count = read_bytes(from, text, sizeof text);
 
     if (count < 0)
         return failed(from);
-    number = sst_process(text, (size_t)count, table, sizeof table, &start, &len, &words, &finishing);
+    number = sst_process(text, (size_t)count, table, sizeof table, &start, &len, &words, &finishing, &figure, &figure_number);
     if (number != 0)
         return refused(number, from);
     number = sst_write_file(table, 2 * (size_t)words, finishing, file, SST_FILE_BYTES, &file_words);

@@ -32,16 +32,16 @@ int main(int count, char **arguments) {
         size_t bytes = fread(text, 1, sizeof text, file);
         fclose(file);
         double least = 1;
-        uint64_t start, len, words, finishing;
+        uint64_t start, len, words, finishing, figure, figure_number;
         int tries = atoi(arguments[1]);
         if (tries == 0) {
-            sst_process(text, bytes, table, sizeof table, &start, &len, &words, &finishing);
+            sst_process(text, bytes, table, sizeof table, &start, &len, &words, &finishing, &figure, &figure_number);
             continue;
         }
         for (int left = tries; left > 0; left--) {
             double began = now();
             for (int call = 0; call < CALLS; call++)
-                sst_process(text, bytes, table, sizeof table, &start, &len, &words, &finishing);
+                sst_process(text, bytes, table, sizeof table, &start, &len, &words, &finishing, &figure, &figure_number);
             double one = (now() - began) / CALLS;
             if (one < least) least = one;
         }

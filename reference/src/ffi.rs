@@ -175,45 +175,13 @@ side! {
 }
 
 #[cfg(feature = "lib")]
-mod process {
-    use super::{Library, UNSET};
-    use crate::side::{Processed, Processor};
-
-    unsafe extern "C" {
-        fn sst_process(
-            text: *const u8,
-            text_len: usize,
-            table: *mut u8,
-            table_len: usize,
-            start: *mut u64,
-            len: *mut u64,
-            words: *mut u64,
-            finishing: *mut u64,
-        ) -> u16;
+impl Processor for Library {
+    fn name(&self) -> &'static str {
+        "lib"
     }
 
-    impl Processor for Library {
-        fn name(&self) -> &'static str {
-            "lib"
-        }
-
-        fn process(&self, text: &[u8], table: &mut [u8]) -> Processed {
-            let [mut start, mut len, mut words, mut finishing] = [UNSET; 4];
-            // Each pointer comes with the length of its own slice and is not null; the slices and numbers do not overlap.
-            let number = unsafe {
-                sst_process(
-                    text.as_ptr(),
-                    text.len(),
-                    table.as_mut_ptr(),
-                    table.len(),
-                    &mut start,
-                    &mut len,
-                    &mut words,
-                    &mut finishing,
-                )
-            };
-            Processed { number, start, len, words, finishing }
-        }
+    fn process(&self, text: &[u8], table: &mut [u8]) -> crate::side::Processed {
+        self.measure(text, table).processed
     }
 }
 
@@ -333,14 +301,14 @@ pub fn figures() -> Option<&'static dyn Figures> {
     return None;
 }
 
-#[cfg(feature = "figure")]
+#[cfg(feature = "lib")]
 mod quiet;
 
 /// The library's processor with figures of programs, where it is linked.
 pub fn measurer() -> Option<&'static dyn Measurer> {
-    #[cfg(feature = "figure")]
+    #[cfg(feature = "lib")]
     return Some(&Library);
-    #[cfg(not(feature = "figure"))]
+    #[cfg(not(feature = "lib"))]
     return None;
 }
 

@@ -15,6 +15,7 @@ use Rattle.agreement.proofs.Theorem.{agreement}
 use Rattle.agreement.specs.Reports.{Reports}
 use Rattle.agreement.specs.Demand.{eventsOf, Begins, wanted, Agrees, Suffices, HasStopped, WaitsPast, Finishes, Demand3, RulesStop, RulesWrite, Listed}
 use Rattle.events.specs.Events.{Event, Reason, Io}
+use Rattle.figure.specs.Told.{figureOf}
 use Rattle.firmware.proofs.Zero.{accepts-0}
 use Rattle.firmware.specs.Processing.{Numbers}
 use Rattle.machine.proofs.Bytes.{length-wordsOf}
@@ -92,7 +93,7 @@ words-begin prog tokens answers allowance es ws e h = record {
 }
 
 module _ (prog : List Rule) (table tokens answers : List ℕ) (bt : Below 256 table) (bk : Slice tokens) (ba : Slice answers) (allowance : ℕ) (small : allowance < 65536) where
-  suffices-bytes : (b : ℕ) → Suffices prog (tableOf table) (wordsOf tokens) (wordsOf answers) allowance b → SufficesBytes prog table tokens answers allowance b
+  pub suffices-bytes : (b : ℕ) → Suffices prog (tableOf table) (wordsOf tokens) (wordsOf answers) allowance b → SufficesBytes prog table tokens answers allowance b
   unfolding wanted
   suffices-bytes b h s ws n ns l =
       let st = byte-calls table tokens answers bt bk ba allowance small l in
@@ -144,43 +145,48 @@ module _ (prog : List Rule) (table tokens answers : List ℕ) (bt : Below 256 ta
             words = sym (st .words);
           }
 
+-- A text that is accepted: the bytes that are left, and the table in them
+
+module _ (text : List ℕ) (room : ℕ) (words : List ℕ) (verdict : Bool) (e : process text room ≡ accepted words verdict) {lent table : List ℕ} (l : Leaves text words verdict lent table) where
+  left : table ≡ lentBytes (accepted words verdict) lent
+  left = l .bytes ∙ ap (λ (a : Answer). lentBytes a lent) (l .answer)
+
+  -- what stands behind the table
+  pub behind : List ℕ
+  behind = lent-table words verdict lent (accepted-table text room words verdict e .within-4096) .0
+
+  pub begins : tableOf table ≡ words ++ behind
+  unfolding behind
+  begins = ap tableOf left ∙ lent-table words verdict lent (accepted-table text room words verdict e .within-4096) .1
+
+  pub left-bytes : Below 256 table
+  left-bytes = rw left (lent-bytes words verdict lent (accepted-table text room words verdict e .small) (l .buffer .bytes))
+
 -- Demand 3 at the entries: its only hypothesis is that the processor accepts the text
 pub at-entries : (text : List ℕ) (room : ℕ) (words : List ℕ) (verdict : Bool) → process text room ≡ accepted words verdict → AtEntries text words verdict
 at-entries text room words verdict e =
     let d = agreement text room words verdict e in
-    let t = accepted-table text room words verdict e in
     record {
       prog = d .prog;
       means = d .means;
       agrees = λ lent table l tokens answers bk ba allowance small.
-          (let x = lent-table words verdict lent (t .within-4096) in
-          agrees-bytes (d .prog) table tokens answers (bytes l) bk ba allowance small (rw (begins l) (d .agrees (x .0) (wordsOf tokens) (wordsOf answers) allowance)));
+          agrees-bytes (d .prog) table tokens answers (left-bytes text room words verdict e l) bk ba allowance small
+          (rw (begins text room words verdict e l) (d .agrees (behind text room words verdict e l) (wordsOf tokens) (wordsOf answers) allowance));
       finishes = λ v number allowance small.
           (let f = d .finishes v number allowance in (
             f .0,
             λ lent table l tokens answers bk ba q.
-                (let x = lent-table words verdict lent (t .within-4096) in
-                suffices-bytes (d .prog) table tokens answers (bytes l) bk ba allowance small (f .0)
-                (rw (begins l) (f .1 (x .0) (wordsOf tokens) (wordsOf answers) (length-wordsOf tokens ∙ q)))),
+                suffices-bytes (d .prog) table tokens answers (left-bytes text room words verdict e l) bk ba allowance small (f .0)
+                (rw (begins text room words verdict e l) (f .1 (behind text room words verdict e l) (wordsOf tokens) (wordsOf answers) (length-wordsOf tokens ∙ q))),
           ));
       sound = d .sound;
       complete = d .complete;
     }
-  where
-    left : {lent table : List ℕ} → Leaves text words verdict lent table → table ≡ lentBytes (accepted words verdict) lent
-    left {lent} l = l .bytes ∙ ap (λ (a : Answer). lentBytes a lent) (l .answer)
-
-    begins : {lent table : List ℕ} (l : Leaves text words verdict lent table)
-        → tableOf table ≡ words ++ lent-table words verdict lent (accepted-table text room words verdict e .within-4096) .0
-    begins {lent} l = ap tableOf (left l) ∙ lent-table words verdict lent (accepted-table text room words verdict e .within-4096) .1
-
-    bytes : {lent table : List ℕ} → Leaves text words verdict lent table → Below 256 table
-    bytes {lent} l = rw (left l) (lent-bytes words verdict lent (accepted-table text room words verdict e .small) (l .buffer .bytes))
 
 -- the same from what `sst_process` left: where it answers 0, all of it holds of the bytes that it left
 pub from-entries : (text lent table : List ℕ) (x : Numbers) → Processed text lent table x → x .number ≡ 0 → Claimed text lent table x
 from-entries text lent table x p z =
-    let a = accepts-0 text (count lent) x (p .numbers) z in
+    let a = accepts-0 text (count lent) (figureOf text (count lent)) x (p .numbers) z in
     record {
       words = a .0;
       verdict = a .1;

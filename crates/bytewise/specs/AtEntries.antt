@@ -11,6 +11,7 @@ use lib.ListN.{length, getElem?}
 use Rattle.agreement.specs.Demand.{eventsOf, RulesStop, HasStopped}
 use Rattle.agreement.specs.Reports.{Reports}
 use Rattle.events.specs.Events.{Event, Reason, unanswered, Io}
+use Rattle.figure.specs.Told.{figureOf}
 use Rattle.finishing.specs.Finishing.{Finishing}
 use Rattle.firmware.specs.Processing.{Numbers, flagOf, numbersOf}
 use Rattle.machine.specs.Bytes.{count, wordsOf}
@@ -98,7 +99,7 @@ pub record AtEntries (text words : List ℕ) (verdict : Bool) : Type 0 where
 -- what `sst_process` leaves with its caller, by its contract: the numbers x, and `table` in the buffer where `lent` was
 pub record Processed (text lent table : List ℕ) (x : Numbers) : Type 0 where
   pub buffer : Slice lent
-  pub numbers : x ≡ numbersOf (process text (count lent))
+  pub numbers : x ≡ numbersOf (process text (count lent)) (figureOf text (count lent))
   pub bytes : table ≡ lentBytes (process text (count lent)) lent
 
 -- what a caller has whom it answers 0: the number of words and the verdict that it told him, and the claim for the bytes that it left

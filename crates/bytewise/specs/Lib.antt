@@ -3,3 +3,4 @@ pub mod AtEntries
 pub mod AtLoading
 pub mod AtAdmission
 pub mod AtScreen
+pub mod AtFigure

@@ -16,6 +16,7 @@ ghost use Rattle.filtering.specs.Filter as filtering;
 ghost use Rattle.screen.specs.Screen.{isBook, screenNumber, freshBook, freshBytes, refillNumber, refillBytes, turnBytes};
 ghost use Rattle.firmware.specs.Filing.{hands};
 ghost use Rattle.firmware.specs.Turning.{leaves};
+ghost use Rattle.figure.specs.Told.{figureOf};
 ghost use Rattle.firmware.specs.Processing.{flagOf, numbersOf, tells};
 ghost use Rattle.walker.specs.View as view;
 ghost use Rattle.firmware.specs.Writes.{puts, registerWords, registersIn, Holds};
@@ -662,8 +663,10 @@ pub extern "C" fn sst_process(
     len: &mut u64,
     words: &mut u64,
     finishing: &mut u64,
+    figure: &mut u64,
+    check: &mut u64,
 ) -> u16
-    ensures { λ r. ⌜ tells r (now (start .exit)) (now (len .exit)) (now (words .exit)) (now (finishing .exit)) ≡ numbersOf (process (now (text .entry)) (count (now (table .entry)))) ⌝ }
+    ensures { λ r. ⌜ tells r (now (start .exit)) (now (len .exit)) (now (words .exit)) (now (finishing .exit)) (now (figure .exit)) (now (check .exit)) ≡ numbersOf (process (now (text .entry)) (count (now (table .entry)))) (figureOf (now (text .entry)) (count (now (table .entry)))) ⌝ }
     ensures lent { λ _. ⌜ now (table .exit) ≡ lentBytes (process (now (text .entry)) (count (now (table .entry)))) (now (table .entry)) ⌝ }
 {
     let a = translator::process(text, table);
@@ -671,6 +674,8 @@ pub extern "C" fn sst_process(
     *len = a.len as u64;
     *words = a.words as u64;
     *finishing = flag(a.finishing);
+    *figure = a.figure;
+    *check = a.check as u64;
     a.number
 }
 

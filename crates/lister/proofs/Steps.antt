@@ -11,11 +11,13 @@ use lib.ListN.{length, take, drop, replicate, length-append, length-take}
 use lib.Seq.{take-all, take-length, take-take, length-take-le}
 use Rattle.acceptance.proofs.Numbers.{never-0}
 use Rattle.base.specs.Common.{if_then_else_}
+use Rattle.figure.proofs.Battery.{figure-exact}
 use Rattle.figure.specs.Told.{Told, figureOf}
 use Rattle.finishing.specs.Test.{finishing}
 use Rattle.machine.specs.Bytes.{count, wordsOf, tableOf, bytesOf}
 use Rattle.processor.specs.Process as means
 use Rattle.processor.specs.Process.{Part, Understood, meaning, faulty, readIn, understood, accepted, refused, answerFor, process, partOf, lentWords, lentBytes}
+use Rattle.meter.proofs.Bounds.{some-instruction}
 use Rattle.program.proofs.Lengths.{length-table}
 use Rattle.program.specs.Table.{sizeRules, table}
 use Rattle.syntax.specs.Parse.{parse, endOf, program}
@@ -29,7 +31,7 @@ use Rattle.listing.proofs.Laws.{listed-whole}
 use Rattle.listing.proofs.Lines.{feeds-append, feeds-few}
 use Rattle.io.specs.Counts.{Counts}
 use Rattle.lister.specs.declared.Piece.{Piece}
-use Rattle.lister.specs.Prints.{countOn, Counted, Prints}
+use Rattle.lister.specs.Prints.{countOn, Counted, Prints, FigureShown}
 
 -- Counting in pieces is counting the whole
 
@@ -199,3 +201,7 @@ line-most text i e = omega (arith, e, feeds-few (take i text), length-take i tex
 
 pub counted-most : {feeds : ℕ} {buffer : List ℕ} {r : Piece} → Counted feeds buffer r → r .feeds ≤ feeds + length buffer
 counted-most {feeds} {buffer} {r} k = omega (arith, k .count, feeds-few (take (r .len) buffer), length-take (r .len) buffer)
+
+-- a figure is that of a path, and every path has an instruction
+pub figure-shown : FigureShown
+figure-shown prog a f q e = some-instruction (figure-exact prog a f q e .exact .path)

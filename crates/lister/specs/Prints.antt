@@ -1,11 +1,16 @@
 -- What the lister promises. "The lister reads a program on standard input."
 use mathlib.Core.List.{List, [], _∷_, _++_, flatten}
+use mathlib.Core.Option.{some}
 use mathlib.Core.Path.{_≡_}
-use Prim.Native.Nat.{ℕ, _+_, _≤_}
+use Prim.Native.Nat.{ℕ, _+_, _≤_, _<_}
 use lib.ListN.{length, take}
+use Rattle.figure.specs.Count.{figure}
 use Rattle.figure.specs.Told.{figureOf}
+use Rattle.finishing.specs.Finishing.{Finishing}
 use Rattle.listing.specs.Listing.{lineFeeds, listing}
 use Rattle.processor.specs.Process.{process}
+use Rattle.program.specs.Accepted.{Accepted}
+use Rattle.program.specs.Program.{Rule}
 use Rattle.translator.specs.Answered.{answered, faultWord}
 use Rattle.lister.specs.declared.Piece.{Piece}
 use Rattle.lister.specs.declared.Printed.{Printed}
@@ -35,3 +40,7 @@ pub record Shown (input kept new : List ℕ) (r : Printed) : Type 0 where
 abbrev pub Prints : List ℕ → ℕ → List ℕ → Printed → Type 0
 Prints kept feeds new r = (pieces : List (List ℕ)) → kept ≡ take 32769 (kept ++ flatten pieces) → feeds ≡ countOn 0 pieces
     → Shown (kept ++ flatten pieces) kept new r
+
+-- No figure is 0, so the line of the figure is printed for every finishing program that has one.
+abbrev pub FigureShown : Type 0
+FigureShown = (prog : List Rule) → Accepted prog → Finishing prog → (q : ℕ) → figure prog ≡ some q → 0 < q

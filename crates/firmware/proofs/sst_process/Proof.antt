@@ -14,11 +14,14 @@ process-requires c κs = search needs
 flag-requires : tie.Need-flag-requires
 flag-requires c κs = search needs
 
+cast-check : tie.Need-cast-check
+cast-check c = search needs
+
 same-length : tie.Need-same-length
 same-length c = search needs
 
 returns : tie.Need-returns
-returns c = (numbers-told _ _ _ (c .before .before .before .process .ensures .answer) (c .flag .ensures), c .before .before .before .process .ensures .lent)
+returns c = (numbers-told _ _ _ _ (c .before .before .before .before .process .ensures .answer) (c .before .flag .ensures), c .before .before .before .before .process .ensures .lent)
 
 pub sst-process-spec : {M : Type 1} → statement M
-sst-process-spec = tie.close (tie.spec process-requires flag-requires same-length returns)
+sst-process-spec = tie.close (tie.spec process-requires flag-requires cast-check same-length returns)
