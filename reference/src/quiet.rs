@@ -228,8 +228,10 @@ impl Measurer for Reference {
 mod tests {
     use super::*;
     use crate::choosers;
+    use crate::files;
     use crate::processor::{listing, resolve, table};
     use crate::texts::{self, Seed};
+    use std::collections::BTreeSet;
 
     fn figure_of(text: &str) -> Figure {
         figure(&resolve(text.as_bytes()).expect("a good text"))
@@ -304,6 +306,25 @@ mod tests {
         let mut bytes = [0xEE; 400];
         let Measured { processed, figure, figure_number } = Reference.measure(doubling(31, 3).as_bytes(), &mut bytes);
         assert_eq!((processed.number, processed.words, processed.finishing, figure, figure_number), (0, 154, 1, 0, 47));
+    }
+
+    #[test]
+    fn reached_as_by_the_loader() {
+        for number in 0..300 {
+            let mut seed = Seed::new(number);
+            let (table, _) = table(&choosers::program(&mut seed));
+            let by_loader = files::reached(&table).expect("a table that is taken");
+            // From the first rule on, and from each that is called at a location that was reached.
+            let (mut rules, mut here) = (vec![1], BTreeSet::new());
+            while let Some(start) = rules.pop() {
+                if !here.contains(&start) {
+                    let own = reached(&table, start);
+                    rules.extend(own.iter().filter(|at| table[**at - 1] == 8).map(|at| usize::from(table[*at])));
+                    here.extend(own);
+                }
+            }
+            assert!((1..=table.len()).all(|at| by_loader.has(at) == here.contains(&at)), "seed {number}");
+        }
     }
 
     /// The definition as it is, or misread.
