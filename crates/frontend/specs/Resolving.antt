@@ -67,8 +67,3 @@ pub record IsRead (text : List ℕ) : Type 0 where
   pub tree : Program
   pub rest : List Word
   pub reads : parse text ≡ got tree rest
-
--- the buffers hold some program
-pub record Filled (cells starts sorts : List ℕ) (rules filled : ℕ) : Type 0 where
-  pub prog : List Rule
-  pub ready : Ready cells starts sorts rules filled prog

@@ -1,39 +1,39 @@
 -- The last step: from the buffers to the answer.
-use mathlib.Core.Bool.{Bool, true, false}
+use mathlib.Core.Bool.{Bool, true, false, false≢true}
 use mathlib.Core.List.{List, _++_}
 use mathlib.Core.Path.{_≡_, refl, sym, ap, _∙_}
-use Prim.Native.Nat.{ℕ, _*_, _-_, _≤_}
+use Prim.Native.Nat.{ℕ, _*_, _-_, _<_, _≤_}
 use lib.Dec.{leb}
 use lib.ListN.{length, take, drop, replicate}
 use borrow.Author.Tests.{leb-true}
+use native.Mathlib.Decide.{decLt}
 use native.Mathlib.Omega.{arith}
 use Rattle.base.specs.Bools.{and}
 use Rattle.buffers.proofs.Writes.{over-length}
 use Rattle.buffers.proofs.Zeros.{length-zeroed, over-zeroed}
 use Rattle.buffers.specs.Words.{zeroed}
 use Rattle.emitter.specs.Emitted.{EmitDone, fits, emittedWords, emittedBytes, faultOf}
-use Rattle.figure.specs.Told.{Told, untold, toldIf}
+use Rattle.figure.specs.Told.{untold}
 use Rattle.finishing.proofs.Exact.{finishing-sound}
 use Rattle.finishing.specs.Test.{finishing}
-use Rattle.frontend.proofs.Buffers.{ready-cells, refused-20, accepts-it}
+use Rattle.frontend.proofs.Buffers.{ready-cells, too-long, refused-20, accepts-it}
 use Rattle.frontend.specs.Resolving.{Ready}
 use Rattle.loader.proofs.Loading.{part-is}
 use Rattle.machine.specs.Bytes.{count, bytesOf, tableOf, over}
 use Rattle.processor.specs.Process as means
-use Rattle.processor.specs.Process.{refused, meaning, answerFor, lentBytes, lentWords}
+use Rattle.processor.specs.Process.{refused, meaning, understood, answerFor, lentBytes, lentWords}
 use Rattle.program.proofs.Lengths.{length-table}
 use Rattle.program.specs.Program.{Rule}
 use Rattle.program.specs.Table.{sizeRules, table}
-use Rattle.translator.specs.Answered.{answered, Settles, SettlesFor}
-use Rattle.translator.specs.Measured.{Tabled, asTold, FigureOf}
+use Rattle.sizes.specs.Located.{Locates}
+use Rattle.translator.proofs.Measured.{starts-are}
+use Rattle.translator.specs.Answered.{answered, Settles, Placed}
 use Rattle.translator.specs.declared.Answer.{Answer}
-use Rattle.translator.specs.declared.Figure.{Figure}
 
 -- Refusals
 
 pub end-refused : (text : List ℕ) (prog : List Rule) {old new : List ℕ} {r : Answer} {size : ℕ} → Settles (refused 20 (record { start = size; size = 0 })) untold old new r → length text ≡ size
-    → fits prog (count old) ≡ false → SettlesFor text prog old new r
-unfolding toldIf
+    → fits prog (count old) ≡ false → Settles (answerFor text (count old) (meaning prog)) untold old new r
 end-refused text prog {old} {new} {r} {size} s e f =
     let a : answerFor text (count old) (meaning prog) ≡ refused 20 (record { start = size; size = 0 }) = rw (← e) (refused-20 text prog (count old) f) in
     rw a s
@@ -56,7 +56,7 @@ emit-not {old} {new} {prog} {fault} {size} d e = go (fits prog (count old)) refl
     go false q = refl
 
 pub end-20 : (text : List ℕ) {old new : List ℕ} {prog : List Rule} {fault size n : ℕ} {r : Answer} → EmitDone prog old new fault n → (fault ≡ 0 → ⊥) → length text ≡ size
-    → r ≡ answered (refused 20 (record { start = size; size = 0 })) untold → SettlesFor text prog old new r
+    → r ≡ answered (refused 20 (record { start = size; size = 0 })) untold → Settles (answerFor text (count old) (meaning prog)) untold old new r
 unfolding emittedBytes emittedWords lentBytes lentWords
 end-20 text {old} {new} {prog} {fault} {size} {n} d f e q =
     let z = emit-not d f in
@@ -64,48 +64,70 @@ end-20 text {old} {new} {prog} {fault} {size} {n} d f e q =
 
 -- A table that fits
 
-module _ {old new : List ℕ} {prog : List Rule} {fault n : ℕ} (d : EmitDone prog old new fault n) (f : fault ≡ 0) where
-  size-is : n ≡ length (table prog)
-  size-is = d .words ∙ sym (length-table prog)
+pub end-good : (text : List ℕ) {old new : List ℕ} {prog : List Rule} {fault n : ℕ} {b : Bool} {r : Answer} → EmitDone prog old new fault n → fault ≡ 0 → b ≡ finishing prog
+    → r ≡ record { number = 0; start = 0; len = 0; words = n; finishing = b; figure = 0; check = 0 } → Settles (answerFor text (count old) (meaning prog)) untold old new r
+unfolding emittedBytes emittedWords lentBytes lentWords answered untold
+end-good text {old} {prog = prog} d f e z =
+    let x = emit-fits d f in
+    rw (accepts-it text prog (count old) x) (record { answer = z ∙ rw (d .words ∙ sym (length-table prog), e) refl; lent = d .bytes ∙ rw x refl })
 
-  within : (n ≤ count old) × (n ≤ 4096)
+-- A finishing text
+
+module _ (text : List ℕ) (prog : List Rule) {old new : List ℕ} {r : Answer} (s : Settles (answerFor text (count old) (meaning prog)) untold old new r) (v : r .finishing ≡ true) where
+  it-fits : fits prog (count old) ≡ true
+  unfolding answered
+  it-fits = go (fits prog (count old)) refl
+    where
+      go : (t : Bool) → fits prog (count old) ≡ t → t ≡ true
+      go true q = refl
+      go false q =
+          let z : Settles (refused 20 (record { start = length text; size = 0 })) untold old new r = rw (refused-20 text prog (count old) q) at s in
+          absurd (false≢true (sym (ap (λ (a : Answer). a .finishing) (z .answer)) ∙ v))
+
+  as-accepted : Settles (means.accepted (table prog) (finishing prog)) untold old new r
+  as-accepted = rw (accepts-it text prog (count old) it-fits) at s
+
+  size-is : r .words ≡ length (table prog)
+  unfolding answered
+  size-is = ap (λ (a : Answer). a .words) (as-accepted .answer)
+
+  verdict-is : finishing prog ≡ true
+  unfolding answered
+  verdict-is = sym (ap (λ (a : Answer). a .finishing) (as-accepted .answer)) ∙ v
+
+  within : (r .words ≤ count old) × (r .words ≤ 4096)
   unfolding fits
   within =
-      let x = and (leb (sizeRules prog) (count old)) (leb (sizeRules prog) 4096) (emit-fits d f) in
-      (omega (arith, d .words, leb-true (sizeRules prog) (count old) (x .0)), omega (arith, d .words, leb-true (sizeRules prog) 4096 (x .1)))
+      let x = and (leb (sizeRules prog) (count old)) (leb (sizeRules prog) 4096) it-fits in
+      (omega (arith, size-is, length-table prog, leb-true (sizeRules prog) (count old) (x .0)), omega (arith, size-is, length-table prog, leb-true (sizeRules prog) 4096 (x .1)))
 
   -- the table stands in front of the lent bytes
   front : new ≡ over (bytesOf (table prog)) (zeroed old)
-  unfolding emittedBytes emittedWords
-  front = d .bytes ∙ rw (emit-fits d f) (sym (over-zeroed (table prog) old (omega (arith, within .0, size-is))))
+  unfolding lentBytes lentWords
+  front = as-accepted .lent ∙ sym (over-zeroed (table prog) old (omega (arith, within .0, size-is)))
 
-  pub front-inside : (n ≤ 4096) × (2 * n ≤ length new)
+  -- no more cells than there is room for
+  few-cells : {cells starts sorts : List ℕ} {rules filled : ℕ} → Ready cells starts sorts rules filled prog → filled ≤ 4224
+  few-cells {filled = filled} h = elim (decLt 4224 filled) [ yes y ↦ absurd (false≢true (sym (too-long _ h y) ∙ it-fits)) | no y ↦ omega arith ]
+
+  pub placed : {cells starts sorts : List ℕ} {rules filled : ℕ} (places : List ℕ) (size : ℕ) → Ready cells starts sorts rules filled prog → understood text ≡ meaning prog → length places ≡ 128
+      → Locates cells sorts rules places size → Placed text new places (r .words) rules
   unfolding count
-  front-inside =
+  placed {rules = rules} places size h m k l =
+      let its = ready-cells h (few-cells h) in
       let long = ap length front ∙ over-length (table prog) (zeroed old) (omega (arith, within .0, size-is, length-zeroed old)) in
-      (within .1, omega (arith, within .0, long, length-zeroed old))
-
-  pub tabled : {cells starts sorts : List ℕ} {rules filled : ℕ} → Ready cells starts sorts rules filled prog → filled ≤ 4224 → finishing prog ≡ true → Tabled cells sorts rules (take (2 * n) new) prog
-  tabled h l v = record {
-    its = ready-cells h l;
-    words = ap (λ (y : List ℕ). tableOf (take (2 * n) y)) front ∙ part-is (table prog) (zeroed old) n size-is (within .1);
-    accepts = h .accepts;
-    finishes = finishing-sound prog v;
-  }
-
-  settled : (text : List ℕ) {b : Bool} {t : Told} {r : Answer} → b ≡ finishing prog → t ≡ toldIf (means.accepted (table prog) (finishing prog)) prog
-      → r ≡ record { number = 0; start = 0; len = 0; words = n; finishing = b; figure = t .figure; check = t .number } → SettlesFor text prog old new r
-  unfolding emittedBytes emittedWords lentBytes lentWords answered
-  settled text e q z =
-      let x = emit-fits d f in
-      rw (accepts-it text prog (count old) x) (record { answer = z ∙ rw (size-is, e, q) refl; lent = d .bytes ∙ rw x refl })
-
-  pub end-slow : (text : List ℕ) {r : Answer} → false ≡ finishing prog → r ≡ record { number = 0; start = 0; len = 0; words = n; finishing = false; figure = 0; check = 0 } → SettlesFor text prog old new r
-  unfolding toldIf untold
-  end-slow text e q = settled text e (rw (← e) refl) q
-
-  pub end-good : (text : List ℕ) {cells starts sorts : List ℕ} {rules filled : ℕ} {r : Answer} {fig : Figure} → Ready cells starts sorts rules filled prog → filled ≤ 4224 → true ≡ finishing prog
-      → FigureOf cells sorts rules (take (2 * n) new) fig → r ≡ record { number = 0; start = 0; len = 0; words = n; finishing = true; figure = fig .figure; check = fig .number }
-      → SettlesFor text prog old new r
-  unfolding toldIf
-  end-good text {fig = fig} h l e m q = settled text {t = asTold fig} e (m prog (tabled h l (sym e)) ∙ rw (← e) refl) q
+      let room : rules ≤ length places = omega (arith, h .few, k) in
+      record {
+        prog = prog;
+        means = m;
+        short = within .1;
+        inside = omega (arith, within .0, long, length-zeroed old);
+        room = room;
+        tabled = record {
+          words = ap (λ (y : List ℕ). tableOf (take (2 * r .words) y)) front ∙ part-is (table prog) (zeroed old) (r .words) size-is (within .1);
+          begins = starts-are places size l its room;
+          few = omega (arith, h .few, h .number);
+          accepts = h .accepts;
+          finishes = finishing-sound prog verdict-is;
+        };
+      }

@@ -1,4 +1,4 @@
--- From the cells and the table of a program to its figure.
+-- From the table of a program and its rules' starts to its figure.
 use mathlib.Core.List.{List}
 use mathlib.Core.Path.{_≡_, refl, sym, ap, _∙_}
 use Prim.Native.Nat.{ℕ, _<_, _≤_}
@@ -17,11 +17,10 @@ use Rattle.meter.specs.Starts.{startsIn}
 use Rattle.program.specs.Program.{Rule}
 use Rattle.program.specs.Table.{table}
 use Rattle.sizes.specs.Located.{Locates}
-use Rattle.translator.specs.Measured.{Tabled, IsTabled, Measures, asTold}
-use Rattle.translator.specs.declared.Figure.{Figure}
+use Rattle.translator.specs.Measured.{Tabled, Measures}
 
 -- the rules' starts, from the cells
-starts-are : {cells sorts : List ℕ} (starts : List ℕ) {rules : ℕ} (size : ℕ) {prog : List Rule} → Locates cells sorts rules starts size → CellsOf cells sorts rules prog → rules ≤ length starts
+pub starts-are : {cells sorts : List ℕ} (starts : List ℕ) {rules : ℕ} (size : ℕ) {prog : List Rule} → Locates cells sorts rules starts size → CellsOf cells sorts rules prog → rules ≤ length starts
     → take rules starts ≡ startsIn prog
 unfolding Locates
 starts-are starts {rules} size {prog} l its h =
@@ -31,21 +30,20 @@ starts-are starts {rules} size {prog} l its h =
     ext-getD 0 (take rules starts) (startsIn prog) (k ∙ n ∙ sym d)
     (λ i b. getD-take rules starts i 0 (omega (arith, k)) ∙ l prog its .places i (omega (arith, k, n)) (omega (arith, k, h)) ∙ sym (start-place 1 prog i (omega (arith, k, n))))
 
-module _ {cells sorts : List ℕ} (starts : List ℕ) {bytes : List ℕ} {rules : ℕ} (size : ℕ) (l : Locates cells sorts rules starts size) (h : rules ≤ length starts) where
-  pub shaped : {prog : List Rule} → Tabled cells sorts rules bytes prog → Shaped (tableOf bytes) (take rules starts)
-  shaped {prog} t =
-      let short = length-tableOf bytes in
-      let same = ap length (t .words) in
-      rw (t .words, starts-are starts size l (t .its) h) (rules-shaped prog (t .accepts) (omega (arith, short, same)) (omega (arith, t .its .count, t .its .few)))
+pub shaped : {bytes starts : List ℕ} {prog : List Rule} → Tabled bytes starts prog → Shaped (tableOf bytes) starts
+shaped {bytes} {starts} {prog} t =
+    let short = length-tableOf bytes in
+    let same = ap length (t .words) in
+    rw (t .words, t .begins) (rules-shaped prog (t .accepts) (omega (arith, short, same)) (t .few))
 
-  pub measured : {q : ℕ} → Found (tableOf bytes) (take rules starts) q → Measures cells sorts rules bytes q
-  measured {q} f = λ prog t. go prog t f
-    where
-      go : (prog : List Rule) → Tabled cells sorts rules bytes prog → Found (tableOf bytes) (take rules starts) q → Found (table prog) (startsIn prog) q
-      go prog t f = rw (t .words, starts-are starts size l (t .its) h) at f
+pub measured : {bytes starts : List ℕ} {q : ℕ} → Found (tableOf bytes) starts q → Measures bytes starts q
+measured {bytes} {starts} {q} f = λ prog t. go prog t f
+  where
+    go : (prog : List Rule) → Tabled bytes starts prog → Found (tableOf bytes) starts q → Found (table prog) (startsIn prog) q
+    go prog t f = rw (t .words, t .begins) at f
 
 -- Q, or 47
-module _ {cells sorts bytes : List ℕ} {rules q : ℕ} (m : Measures cells sorts rules bytes q) (prog : List Rule) (t : Tabled cells sorts rules bytes prog) where
+module _ {bytes starts : List ℕ} {q : ℕ} (m : Measures bytes starts q) (prog : List Rule) (t : Tabled bytes starts prog) where
   pub figure-past : 4294967295 < q → record { figure = 0; number = 47 } ≡ told (figure prog)
   unfolding told
   figure-past h = rw (found-long prog (t .accepts) (t .finishes) (m prog t) (omega arith)) refl

@@ -1,15 +1,16 @@
 -- What the processor's code promises: its answer and every lent byte are those of the definition `process`, and the figure is that of `figureOf`.
-use mathlib.Core.Bool.{false}
+use mathlib.Core.Bool.{true, false}
 use mathlib.Core.List.{List}
 use mathlib.Core.Path.{_≡_}
-use Prim.Native.Nat.{ℕ}
+use Prim.Native.Nat.{ℕ, _*_, _≤_}
 use lib.ListN.{length, take, drop}
-use Rattle.figure.specs.Told.{Told, toldIf}
+use Rattle.figure.specs.Told.{Told, untold}
 use Rattle.frontend.specs.Resolving.{Ready}
 use Rattle.machine.specs.Bytes.{count}
 use Rattle.processor.specs.Process as means
-use Rattle.processor.specs.Process.{accepted, refused, meaning, answerFor, lentBytes}
+use Rattle.processor.specs.Process.{accepted, refused, meaning, understood, answerFor, lentBytes}
 use Rattle.program.specs.Program.{Rule}
+use Rattle.translator.specs.Measured.{Tabled}
 use Rattle.translator.specs.declared.Answer.{Answer}
 
 -- the answer as the code's struct: number 0 for an accepted text, also with 47, "where the table is still given"
@@ -22,14 +23,24 @@ pub record Settles (a : means.Answer) (f : Told) (old new : List ℕ) (r : Answe
   pub answer : r ≡ answered a f
   pub lent : new ≡ lentBytes a old
 
--- the answer for the text of a program
-abbrev pub SettlesFor : List ℕ → List Rule → List ℕ → List ℕ → Answer → Type 0
-SettlesFor text prog old new r = Settles (answerFor text (count old) (meaning prog)) (toldIf (answerFor text (count old) (meaning prog)) prog) old new r
-
--- the answer for the program in the buffers, whatever text of that size it was read from
+-- the answer for the program in the buffers but for its figure, whatever text of that size it was read from
 abbrev pub Finishes : ℕ → List ℕ → List ℕ → List ℕ → ℕ → ℕ → List ℕ → List ℕ → Answer → Type 0
 Finishes size cells starts sorts rules filled old new r = (text : List ℕ) (prog : List Rule) → length text ≡ size → Ready cells starts sorts rules filled prog
-    → SettlesFor text prog old new r
+    → Settles (answerFor text (count old) (meaning prog)) untold old new r
+
+-- the table of a finishing text stands in front of the lent bytes, and its rules' starts in front of the places
+pub record Placed (text new places : List ℕ) (words rules : ℕ) : Type 0 where
+  pub prog : List Rule
+  pub means : understood text ≡ meaning prog
+  pub short : words ≤ 4096
+  pub inside : 2 * words ≤ length new
+  pub room : rules ≤ length places
+  pub tabled : Tabled (take (2 * words) new) (take rules places) prog
+
+-- the answer for a text that is read, but for its figure, and what the figure is found from
+pub record Translates (text old new places : List ℕ) (r : Answer) (rules : ℕ) : Type 0 where
+  pub settles : Settles (means.process text (count old)) untold old new r
+  pub placed : r .finishing ≡ true → Placed text new places (r .words) rules
 
 -- "The word at fault is handed back as a part of the author's text"
 unfoldable pub faultWord : List ℕ → Answer → List ℕ

@@ -4,11 +4,11 @@ ghost use mathlib.Core.Bool.{false};
 ghost use Prim.Native.Nat.{ℕ, _+_, _≤_};
 ghost use lib.ListN.{length, take, drop};
 ghost use Rattle.figure.specs.Told.{untold, figureOf};
-ghost use Rattle.frontend.specs.Resolving.{IsRead, Filled};
+ghost use Rattle.frontend.specs.Resolving.{IsRead};
 ghost use Rattle.machine.specs.Bytes.{count};
 ghost use Rattle.processor.specs.Process as means;
 ghost use Rattle.processor.specs.Process.{refused};
-ghost use Rattle.translator.specs.Answered.{Settles, Finishes, answered, faultWord};
+ghost use Rattle.translator.specs.Answered.{Settles, Finishes, Translates, answered, faultWord};
 ghost use Rattle.translator.specs.Measured.{IsTabled, Measures, FigureOf};
 
 // The table passes its room.
@@ -59,8 +59,9 @@ fn refuse(table: &mut [u8], number: u16, start: usize, len: usize) -> Answer
     refusal(number, start, len)
 }
 
-fn acceptance(words: usize, finishing: bool, f: Figure) -> Answer
-    ensures { λ r. ⌜ r ≡ record { number = 0; start = 0; len = 0; words = words; finishing = finishing; figure = f .figure; check = f .number } ⌝ }
+// No figure is told yet.
+fn acceptance(words: usize, finishing: bool) -> Answer
+    ensures { λ r. ⌜ r ≡ record { number = 0; start = 0; len = 0; words = words; finishing = finishing; figure = 0; check = 0 } ⌝ }
 {
     Answer {
         number: 0,
@@ -68,28 +69,40 @@ fn acceptance(words: usize, finishing: bool, f: Figure) -> Answer
         len: 0,
         words,
         finishing,
+        figure: 0,
+        check: 0,
+    }
+}
+
+fn with_figure(a: Answer, f: Figure) -> Answer
+    ensures { λ r. ⌜ r ≡ record { number = a .number; start = a .start; len = a .len; words = a .words; finishing = a .finishing; figure = f .figure; check = f .number } ⌝ }
+{
+    Answer {
+        number: a.number,
+        start: a.start,
+        len: a.len,
+        words: a.words,
+        finishing: a.finishing,
         figure: f.figure,
         check: f.number,
     }
 }
 
-// What the meter finds. Its numbers are there only while it runs.
-fn measure(cells: &[u16], sorts: &[u8], rules: usize, table: &[u8]) -> u64
-    requires { ⌜ IsTabled (now cells) (now sorts) rules (now table) ⌝ }
-    ensures { λ q. ⌜ Measures (now (cells .entry)) (now (sorts .entry)) rules (now (table .entry)) q ⌝ }
+// What the meter finds in a table whose rules start at these locations.
+fn measure(table: &[u8], starts: &[usize]) -> u64
+    requires { ⌜ IsTabled (now table) (now starts) ⌝ }
+    ensures { λ q. ⌜ Measures (now (table .entry)) (now (starts .entry)) q ⌝ }
 {
-    let mut starts = [0usize; frontend::RULES];
-    sizes::locate(cells, sorts, rules, &mut starts);
     let mut rows = [0u32; meter::ROWS];
-    meter::figure(table, &starts[..rules], &mut rows)
+    meter::figure(table, starts, &mut rows)
 }
 
-// The figure of a finishing program, from its cells and its table.
-fn figure_of(cells: &[u16], sorts: &[u8], rules: usize, table: &[u8]) -> Figure
-    requires { ⌜ IsTabled (now cells) (now sorts) rules (now table) ⌝ }
-    ensures { λ f. ⌜ FigureOf (now (cells .entry)) (now (sorts .entry)) rules (now (table .entry)) f ⌝ }
+// The figure of a finishing program, from its table and its rules' starts.
+fn figure_of(table: &[u8], starts: &[usize]) -> Figure
+    requires { ⌜ IsTabled (now table) (now starts) ⌝ }
+    ensures { λ f. ⌜ FigureOf (now (table .entry)) (now (starts .entry)) f ⌝ }
 {
-    let q = measure(cells, sorts, rules, table);
+    let q = measure(table, starts);
     if MOST_FIGURE < q {
         return Figure {
             figure: 0,
@@ -102,7 +115,7 @@ fn figure_of(cells: &[u16], sorts: &[u8], rules: usize, table: &[u8]) -> Figure
     }
 }
 
-// The table, the verdict and the figure of the program in the buffers, or 20. The spare room is written over.
+// The table and the verdict of the program in the buffers, or 20. The spare room is written over.
 fn finish(
     size: usize,
     cells: &[u16],
@@ -112,7 +125,7 @@ fn finish(
     spare: &mut [u16],
     table: &mut [u8],
 ) -> Answer
-    requires { ⌜ (4224 ≤ length (now spare)) × Filled (now cells) (now starts) (now sorts) (b .rules) (b .cells) ⌝ }
+    requires { ⌜ 4224 ≤ length (now spare) ⌝ }
     ensures { λ r. ⌜ Finishes size (now (cells .entry)) (now (starts .entry)) (now (sorts .entry)) (b .rules) (b .cells) (now (table .entry)) (now (table .exit)) r ⌝ }
 {
     if frontend::CELLS < b.cells {
@@ -122,22 +135,20 @@ fn finish(
     if e.fault != 0 {
         return refusal(TOO_LONG, size, 0);
     }
-    if verdict::verdict(cells, starts, b.rules, spare) {
-        let end = 2 * e.size;
-        let f = figure_of(cells, sorts, b.rules, &table[..end]);
-        return acceptance(e.size, true, f);
-    }
-    let none = Figure {
-        figure: 0,
-        number: 0,
-    };
-    acceptance(e.size, false, none)
+    let finishing = verdict::verdict(cells, starts, b.rules, spare);
+    acceptance(e.size, finishing)
 }
 
-// A text that the syntax pass has read. Once its rules are resolved the rows are spare room.
-fn translate(text: &[u8], table: &mut [u8]) -> Answer
-    requires { ⌜ IsRead (now text) ⌝ }
-    ensures { λ r. ⌜ Settles (means.process (now (text .entry)) (count (now (table .entry)))) (figureOf (now (text .entry)) (count (now (table .entry)))) (now (table .entry)) (now (table .exit)) r ⌝ }
+// An answer but for its figure, and how many rules were placed.
+struct Translated {
+    answer: Answer,
+    rules: usize,
+}
+
+// A text that the syntax pass has read, and its rules' locations. Once its rules are resolved the rows are spare room.
+fn translate(text: &[u8], table: &mut [u8], places: &mut [usize]) -> Translated
+    requires { ⌜ IsRead (now text) × (length (now places) ≡ 128) ⌝ }
+    ensures { λ r. ⌜ Translates (now (text .entry)) (now (table .entry)) (now (table .exit)) (now (places .exit)) (r .answer) (r .rules) ⌝ }
 {
     let mut rows = [0u16; frontend::ROWS];
     let mut cells = [0u16; frontend::CELLS];
@@ -145,12 +156,21 @@ fn translate(text: &[u8], table: &mut [u8]) -> Answer
     let mut sorts = [0u8; frontend::RULES];
     let b = frontend::resolve(text, &mut rows, &mut cells, &mut starts, &mut sorts);
     if b.fault != 0 {
-        return refuse(table, b.fault, b.at, b.len);
+        return Translated {
+            answer: refuse(table, b.fault, b.at, b.len),
+            rules: 0,
+        };
     }
-    finish(text.len(), &cells, &starts, &sorts, b, &mut rows, table)
+    let answer = finish(text.len(), &cells, &starts, &sorts, b, &mut rows, table);
+    sizes::locate(&cells, &sorts, b.rules, places);
+    Translated {
+        answer,
+        rules: b.rules,
+    }
 }
 
 // The table, the verdict and the figure of a text, or the number and the part of its first fault. Every lent word is written.
+// The figure's numbers take more room than all else here: they come once that is gone.
 pub fn process(text: &[u8], table: &mut [u8]) -> Answer
     ensures { λ r. ⌜ Settles (means.process (now (text .entry)) (count (now (table .entry)))) (figureOf (now (text .entry)) (count (now (table .entry)))) (now (table .entry)) (now (table .exit)) r ⌝ }
 {
@@ -158,7 +178,14 @@ pub fn process(text: &[u8], table: &mut [u8]) -> Answer
     if s.fault != 0 {
         return refuse(table, s.fault, s.at, s.len);
     }
-    translate(text, table)
+    let mut places = [0usize; frontend::RULES];
+    let t = translate(text, table, &mut places);
+    if !t.answer.finishing {
+        return t.answer;
+    }
+    let end = 2 * t.answer.words;
+    let f = figure_of(&table[..end], &places[..t.rules]);
+    with_figure(t.answer, f)
 }
 
 // The part of the text from `start` on, as long as `len` or to the text's end.

@@ -1,80 +1,91 @@
 use borrow.Author.Needs.{needs}
-use mathlib.Core.Path.{refl}
+use Rattle.translator.proofs.Passes.{answered-wrong, answered-good}
 use Rattle.grammar.proofs.ProgramIn.{parse-short}
-use Rattle.translator.proofs.Passes.{answered-wrong, answered-good, filled}
+use mathlib.Core.Path.{refl, _∙_}
 use Rattle.translator.proofs.translate.Statement.{statement}
 use Rattle.translator.proofs.translate.Tie as tie
 use Rattle.translator.proofs.translate.Reads as reads
 use Rattle.translator.proofs.translate.Lts as lts
+use Rattle.frontend.proofs.resolve.Reads as resolve-reads
+use Rattle.sizes.proofs.locate.Reads as locate-reads
 use Rattle.translator.proofs.finish.Reads as finish-reads
 use Rattle.translator.proofs.refuse.Reads as refuse-reads
-use Rattle.frontend.proofs.resolve.Reads as resolve-reads
 
--- src/lib.rt:133:27
+-- src/lib.rt:157:37
 slice-aggregate-resolve : tie.Need-slice-aggregate-resolve
 slice-aggregate-resolve c = search needs
 
--- src/lib.rt:133:38
+-- src/lib.rt:157:48
 slice-aggregate-resolve-2 : tie.Need-slice-aggregate-resolve-2
 slice-aggregate-resolve-2 c = search needs
 
--- src/lib.rt:133:50
+-- src/lib.rt:157:60
 slice-aggregate-resolve-3 : tie.Need-slice-aggregate-resolve-3
 slice-aggregate-resolve-3 c = search needs
 
--- src/lib.rt:133:63
+-- src/lib.rt:157:73
 slice-aggregate-resolve-4 : tie.Need-slice-aggregate-resolve-4
 slice-aggregate-resolve-4 c = search needs
 
--- src/lib.rt:133:9
+-- src/lib.rt:157:9
 resolve-requires : tie.Need-resolve-requires
-resolve-requires c κs = (parse-short _ (c .before .before .before .before .before .before .pre .tree) (c .before .before .before .before .before .before .pre .rest) (c .before .before .before .before .before .before .pre .reads), search needs, search needs, search needs, search needs)
+resolve-requires c κs = (parse-short _ (c .before .before .before .before .before .before .before .pre .0 .tree) (c .before .before .before .before .before .before .before .pre .0 .rest) (c .before .before .before .before .before .before .before .pre .0 .reads), search needs, search needs, search needs, search needs)
 
--- src/lib.rt:135:9
+-- src/lib.rt:160:21
 refuse-requires : tie.Need-refuse-requires
 refuse-requires c κs = search needs
 
--- src/lib.rt:135:9
+-- src/lib.rt:159:9
 same-length : tie.Need-same-length
 same-length c = search needs
 
--- src/lib.rt:135:9
+-- src/lib.rt:159:9
 returns : tie.Need-returns
-returns c =
-    let i = c .before .before .before .before .before .before .before .before .before .before .before .before .before .before .before .before .before .pre in
-    answered-wrong _ (i .tree) (i .rest) (i .reads) (c .before .before .before .before .before .before .before .before .before .before .resolve .ensures (i .tree) (i .rest) (i .reads)) (c .before .before .before .before .if1 .taken) (c .before .before .refuse .ensures)
+returns c = let i = c .before .before .before .before .before .before .before .before .before .before .before .before .before .before .before .before .before .before .pre .0 in answered-wrong _ (i .tree) (i .rest) (i .reads) (c .before .before .before .before .before .before .before .before .before .before .resolve .ensures (i .tree) (i .rest) (i .reads)) (c .before .before .before .before .if1 .taken) (c .before .before .refuse .ensures)
 
--- src/lib.rt:137:24
+-- src/lib.rt:164:37
 slice-aggregate-finish : tie.Need-slice-aggregate-finish
 slice-aggregate-finish c = search needs
 
--- src/lib.rt:137:32
+-- src/lib.rt:164:45
 slice-aggregate-finish-2 : tie.Need-slice-aggregate-finish-2
 slice-aggregate-finish-2 c = search needs
 
--- src/lib.rt:137:41
+-- src/lib.rt:164:54
 slice-aggregate-finish-3 : tie.Need-slice-aggregate-finish-3
 slice-aggregate-finish-3 c = search needs
 
--- src/lib.rt:137:52
+-- src/lib.rt:164:65
 slice-aggregate-finish-4 : tie.Need-slice-aggregate-finish-4
 slice-aggregate-finish-4 c = search needs
 
--- src/lib.rt:137:5
+-- src/lib.rt:164:9
 finish-requires : tie.Need-finish-requires
-finish-requires c κs =
-    let i = c .before .before .before .before .before .before .before .before .before .before .before .before .before .before .before .before .before .before .pre in
-    (search needs, filled _ (i .tree) (i .rest) (i .reads) (c .before .before .before .before .before .before .before .before .before .before .before .resolve .ensures (i .tree) (i .rest) (i .reads)) (c .before .before .before .before .before .if1 .left))
+finish-requires c κs = search needs
 
--- src/lib.rt:125:1
+-- src/lib.rt:165:19
+slice-aggregate-locate : tie.Need-slice-aggregate-locate
+slice-aggregate-locate c = search needs
+
+-- src/lib.rt:165:27
+slice-aggregate-locate-2 : tie.Need-slice-aggregate-locate-2
+slice-aggregate-locate-2 c = search needs
+
+-- src/lib.rt:165:5
+locate-requires : tie.Need-locate-requires
+locate-requires c κs = search needs
+
+-- src/lib.rt:149:1
 same-length-2 : tie.Need-same-length-2
 same-length-2 c = search needs
 
--- src/lib.rt:125:1
+-- src/lib.rt:149:1
+same-length-3 : tie.Need-same-length-3
+same-length-3 c = search needs
+
+-- src/lib.rt:149:1
 returns-2 : tie.Need-returns-2
-returns-2 c =
-    let i = c .before .before .before .before .before .before .before .before .before .before .before .before .before .before .before .before .before .before .before .before .before .before .pre in
-    answered-good _ (i .tree) (i .rest) (i .reads) (c .before .before .before .before .before .before .before .before .before .before .before .before .before .before .before .resolve .ensures (i .tree) (i .rest) (i .reads)) (c .before .before .before .before .before .before .before .before .before .if1 .left) refl (c .before .before .before .finish .ensures)
+returns-2 c = let i = c .before .before .before .before .before .before .before .before .before .before .before .before .before .before .before .before .before .before .before .before .before .before .before .before .before .before .before .before .before .pre .0 in answered-good _ (i .tree) (i .rest) (i .reads) (c .before .before .before .before .before .before .before .before .before .before .before .before .before .before .before .before .before .before .before .before .before .resolve .ensures (i .tree) (i .rest) (i .reads)) _ _ (c .before .before .before .before .before .before .before .before .before .before .before .before .before .before .before .if1 .left) refl (same-length-3 c ∙ c .before .before .before .before .before .before .before .before .before .before .before .before .before .before .before .before .before .before .before .before .before .before .before .before .before .before .before .before .before .pre .1) (c .before .before .before .before .before .before .before .before .before .finish .ensures) (c .before .before .locate .ensures)
 
 pub translate-spec : {M : Type 1} → statement M
 translate-spec =
@@ -93,5 +104,9 @@ translate-spec =
     slice-aggregate-finish-3
     slice-aggregate-finish-4
     finish-requires
+    slice-aggregate-locate
+    slice-aggregate-locate-2
+    locate-requires
     same-length-2
+    same-length-3
     returns-2)
