@@ -7,11 +7,11 @@ use Prim.Native.Nat.{ℕ, zero, suc, _-_, _<_, _≤_}
 use lib.ListN.{length}
 use native.Mathlib.Omega.{arith}
 use Rattle.base.specs.Tree.{plain, cycle, choice, done, _▸_, nil, alternative, absent, otherwise}
-use Rattle.grammar.specs.Derived.{Took, Not, Reference, by-name, by-string, ConstantIn, no-constant, a-constant, ValueIn, no-value, a-value, PlainIn, named-in, any-in, emit-in, error-in, exit-in, call-in, give-in, SelectorIn, token-in, rule-in, operation-in, LabelsIn, last-label, more-labels, ActIn, plain-in, cycle-in, choice-in, ActsIn, none-in, more-in, AltsIn, other-in, last-in, next-in}
+use Rattle.grammar.specs.Derived.{Took, Not, Reference, by-name, by-string, ConstantIn, no-constant, a-constant, ValueIn, no-value, a-value, PlainIn, named-in, any-in, emit-in, error-in, exit-in, call-in, give-in, ranked-in, SelectorIn, token-in, rule-in, operation-in, LabelsIn, last-label, more-labels, ActIn, plain-in, cycle-in, choice-in, ActsIn, none-in, more-in, AltsIn, other-in, last-in, next-in}
 use Rattle.grammar.proofs.Laws.{From, bind, next, gives, refuses, either, on-kind, limited, weaken, passes, expects, shorts, a-name, name-or-string}
-use Rattle.syntax.specs.Actions.{aConstant, aValue, aPlain, aSelector, aLabel, someLabels, closes, aCycle, aChoice, anAction, anOtherwise, anAlternative, actions, alternatives}
+use Rattle.syntax.specs.Actions.{aConstant, aValue, aRanked, aPlain, aSelector, aLabel, someLabels, closes, aCycle, aChoice, anAction, anOtherwise, anAlternative, actions, alternatives}
 use Rattle.syntax.specs.Reading.{Reader, _>>_, pure, peek, pass, on_then_else_, expect, short, aName, nameOrString}
-use Rattle.syntax.specs.Written.{named, any, exit, emit, error, call, give, byToken, byRule, byOperation, Acts, Choices}
+use Rattle.syntax.specs.Written.{named, any, exit, emit, error, call, give, ranked, byToken, byRule, byOperation, Acts, Choices}
 use Rattle.words.specs.Words.{Word, twice, name, string}
 
 -- Plain actions and selectors
@@ -34,7 +34,7 @@ value-in =
     (λ m. gives none (no-value n m refl)))
 
 pub some-plain-in : {ws : List Word} → From ws aPlain (λ rest a. PlainIn ws rest a)
-unfolding aPlain
+unfolding aPlain aRanked
 some-plain-in =
     on-kind name _ _ (λ d. bind aName _ a-name (λ ws₁ w t. bind aConstant _ constant-in (λ ws₂ c u. gives (named w c) (named-in (by-name t) u))))
     (λ _. on-kind string _ _ (λ d. bind pass _ (passes 259 refl d) (λ ws₁ w t. bind aConstant _ constant-in (λ ws₂ c u. gives (named w c) (named-in (by-string t) u))))
@@ -44,7 +44,11 @@ some-plain-in =
     (λ _. on-kind (code ">") _ _ (λ d. bind pass _ (passes 62 refl d) (λ ws₁ w t. gives (exit w) (exit-in t)))
     (λ _. on-kind (code "@") _ _ (λ d. next pass _ (passes 64 refl d) (λ ws₁ at t. bind aName _ a-name (λ ws₂ w u. gives (call w) (call-in t u))))
     (λ _. on-kind twice _ _ (λ d. bind pass _ (passes 256 refl d) (λ ws₁ w t. bind aValue _ value-in (λ ws₂ v u. gives (give w v) (give-in t u))))
-    (λ _. refuses))))))))
+    (λ _. on-kind (code "^") _ _ (λ d. bind pass _ (passes 94 refl d) (λ ws₁ s t.
+    bind aName _ a-name (λ ws₂ w u.
+    next (expect (code "@")) _ (expects 64 refl) (λ ws₃ at v.
+    bind aName _ a-name (λ ws₄ o x. gives (ranked s w o) (ranked-in t u v x))))))
+    (λ _. refuses)))))))))
 
 pub selector-in : {ws : List Word} → From ws aSelector (λ rest s. SelectorIn ws rest s)
 unfolding aSelector

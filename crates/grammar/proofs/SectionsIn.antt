@@ -1,5 +1,5 @@
 -- What the readers of sections give has a derivation from the words that they read, and declares no more names than are left.
-use mathlib.Core.Bool.{Bool, true, false}
+use mathlib.Core.Bool.{Bool, true, false, _||_}
 use mathlib.Core.List.{List, [], _∷_}
 use mathlib.Core.Option.{Option, none, some}
 use mathlib.Core.Path.{_≡_, refl, sym, ap, _∙_}
@@ -7,16 +7,17 @@ use Prim.Native.Char.{code}
 use Prim.Native.Nat.{ℕ, zero, suc, _+_, _-_, _<_, _≤_, max}
 use lib.Dec.{eqb, ltb}
 use lib.ListN.{length}
-use borrow.Author.Tests.{ltb-false, eq-eqb, ne-eqb}
+use borrow.Author.Tests.{ltb-false, eq-eqb, ne-eqb, ltb-true, eqb-true, eqb-false}
 use native.Mathlib.Omega.{arith}
-use Rattle.base.specs.Common.{if_then_else_, given}
-use Rattle.grammar.specs.Derived.{Took, Not, SpellingIn, no-strings, no-spelling, a-spelling, CountIn, a-number, counted, EntryIn, an-entry, EntriesIn, last-entry, more-entries, GivesIn, gives-none, gives-some, TakesIn, takes-none, takes-some, OperationIn, an-operation, OperationsIn, last-operation, more-operations, ListedIn, listed-in, SectionIn, inputs-in, both-in, outputs-in, errors-in, values-in, operations-in, SectionsIn, no-section, more-sections, namesIn, namesInAll}
-use Rattle.grammar.proofs.Laws.{From, no-got, bind, next, gives, refuses, either, on-kind, weaken, passes, expects, a-name, Named, one-name}
+use Rattle.base.specs.Common.{if_then_else_, given, bytes, same}
+use Rattle.grammar.specs.Derived.{Took, Not, SpellingIn, no-strings, no-spelling, a-spelling, CountIn, a-number, counted, EntryIn, an-entry, EntriesIn, last-entry, more-entries, GivesIn, gives-none, gives-some, TakesIn, takes-none, takes-some, OperationIn, an-operation, OperationsIn, last-operation, more-operations, ListedIn, listed-in, SectionIn, inputs-in, both-in, outputs-in, errors-in, values-in, operations-in, SectionsIn, no-section, more-sections, namesIn, namesInAll, SideIn, left-in, right-in, OperatorIn, an-operator, OperatorsIn, last-operator, more-operators, operators-in}
+use Rattle.grammar.proofs.Laws.{From, no-got, bind, next, gives, refuses, either, on-kind, weaken, passes, expects, a-name, Named, one-name, name-or-string}
 use Rattle.syntax.proofs.Ahead.{kind-read, room-left}
-use Rattle.syntax.specs.Reading.{got, fault, onward, _>>=_, _>>_, pure, peek, pass, refuse, over, on_then_else_, expect, aName, oneName, small, aNumber, optional}
-use Rattle.syntax.specs.Sections.{aSpelling, aCount, anEntry, entries, firstOf, kindAhead, isFull, aParameter, numbered, anOperation, someOperations, Sofar, after, tokenSection, aSection, Sections, someSections}
-use Rattle.syntax.specs.Written.{Entry, Operation, Section, inputs, outputs, both, errors, values, operations}
-use Rattle.words.specs.Words.{Word, twice, number, string, input, output, error, type, mechanism, rules, value}
+use Rattle.syntax.specs.Reading.{got, fault, onward, _>>=_, _>>_, pure, peek, pass, refuse, over, on_then_else_, expect, aName, oneName, small, aNumber, optional, nameOrString}
+use Rattle.syntax.specs.Sections.{aSpelling, aCount, anEntry, entries, firstOf, kindAhead, isFull, aParameter, numbered, anOperation, someOperations, Sofar, after, tokenSection, aSection, Sections, someSections, ofKind, spells, ranking, aLevel, aSide, anOperator, someOperators, operatorSection, mechanismSection, otherSection}
+use Rattle.syntax.specs.Written.{Entry, Operation, Section, inputs, outputs, both, errors, values, operations, Operator, operators}
+use Rattle.words.specs.Words.{Word, twice, number, string, input, output, error, type, mechanism, rules, value, name}
+use Rattle.base.specs.Bools.{never, and}
 
 -- Entries
 
@@ -180,6 +181,102 @@ some-operations-in (suc k) left seen =
     (λ n. weaken (some-operations-in k (left - 1) (o .instruction ∷ seen)) (λ rest os m. operation-more n m)))
     (λ ws₂ os b. gives (o ∷ os) (with-operation x b)))
 
+-- Operators
+
+same-eq : (a b : List ℕ) → same a b ≡ true → a ≡ b
+same-eq [] [] e = refl
+same-eq [] (y ∷ ys) e = never e
+same-eq (x ∷ xs) [] e = never e
+same-eq (x ∷ xs) (y ∷ ys) e = go (eqb x y) refl e (same-eq xs ys)
+  where
+    go : (t : Bool) → eqb x y ≡ t → (if t then same xs ys else false) ≡ true → (same xs ys ≡ true → xs ≡ ys) → x ∷ xs ≡ y ∷ ys
+    go true d h f = rw (eqb-true x y d, f h) refl
+    go false d h f = never h
+
+-- the next word, a name with this text
+record Spelt (text : List ℕ) (ws rest : List Word) (w : Word) : Type 0 where
+  pub word : Took 257 ws w rest
+  pub spelt : w .text ≡ text
+
+spelt-in : {ws : List Word} (text : List ℕ) → spells text ws ≡ true → From ws pass (λ rest w. Spelt text ws rest w)
+unfolding spells
+spelt-in {ws} text t =
+    let x = and (eqb (peek ws .kind) 257) (same (peek ws .text) text) t in
+    weaken (passes 257 refl (eqb-true (peek ws .kind) 257 (x .0))) (λ rest w u. record { word = u; spelt = ap (λ v. v .text) (sym (peek-took u)) ∙ same-eq (peek ws .text) text (x .1) })
+
+-- a level and its number
+record Ranking (ws rest : List Word) (n : ℕ) : Type 0 where
+  pub digits : Word
+  pub word : Took 258 ws digits rest
+  pub same : n ≡ value 0 (digits .text)
+  pub low : 1 ≤ n
+  pub high : n ≤ 15
+
+neither : (a b : Bool) → (a || b) ≡ false → (a ≡ false) × (b ≡ false)
+neither true b e = never (sym e)
+neither false b e = (refl, e)
+
+above-zero : (n : ℕ) → (n ≡ 0 → ⊥) → 1 ≤ n
+above-zero zero h = absurd (h refl)
+above-zero (suc n) h = omega arith
+
+ranking-in : {ws : List Word} → peek ws .kind ≡ 258 → From ws ranking (λ rest n. Ranking ws rest n)
+unfolding ranking over
+ranking-in {ws} d = record { holds = λ rest n e. go rest n (eqb v 0 || ltb 15 v) refl e }
+  where
+    v : ℕ
+    v = value 0 (peek ws .text)
+
+    read : 1 ≤ v → v ≤ 15 → From ws (_>>=_ pass (λ w. pure v)) (λ rest n. Ranking ws rest n)
+    read l h = bind pass _ (passes 258 refl d) (λ ws₁ w t. gives v (record { digits = w; word = t; same = ap (λ u. value 0 (u .text)) (peek-took t); low = l; high = h }))
+
+    go : (rest : List Word) (n : ℕ) (t : Bool) → (eqb v 0 || ltb 15 v) ≡ t → (if t then over ws else onward (pass ws) (λ w. pure v)) ≡ got n rest → Ranking ws rest n
+    go rest n true t e = no-got e
+    go rest n false t e =
+        let x = neither (eqb v 0) (ltb 15 v) t in
+        read (above-zero v (eqb-false v 0 (x .0))) (ltb-false 15 v (x .1)) .holds rest n e
+
+level-in : {ws : List Word} → From ws aLevel (λ rest n. Ranking ws rest n)
+unfolding aLevel
+level-in = on-kind number ranking refuse (λ d. ranking-in d) (λ _. refuses)
+
+side-in : {ws : List Word} → From ws aSide (λ rest b. SideIn ws rest b)
+unfolding aSide
+side-in {ws} =
+    let second : From ws (if spells (bytes "right") ws then (_>>_ pass (pure true)) else refuse) (λ rest b. SideIn ws rest b) =
+    either (spells (bytes "right") ws) (_>>_ pass (pure true)) refuse (λ t. next pass _ (spelt-in (bytes "right") t) (λ ws₁ w u. gives true (right-in (u .word) (u .spelt)))) (λ _. refuses) in
+    let all : From ws (if spells (bytes "left") ws then (_>>_ pass (pure false)) else (if spells (bytes "right") ws then (_>>_ pass (pure true)) else refuse)) (λ rest b. SideIn ws rest b) =
+    either (spells (bytes "left") ws) (_>>_ pass (pure false)) _ (λ t. next pass _ (spelt-in (bytes "left") t) (λ ws₁ w u. gives false (left-in (u .word) (u .spelt)))) (λ _. second) in
+    record { holds = λ rest b e. all .holds rest b e }
+
+operator-in : {ws : List Word} → From ws anOperator (λ rest o. OperatorIn ws rest o)
+unfolding anOperator
+operator-in =
+    bind nameOrString _ name-or-string (λ ws₁ t x.
+    bind aLevel _ level-in (λ ws₂ l y.
+    bind aSide _ side-in (λ ws₃ s z.
+    bind nameOrString _ name-or-string (λ ws₄ o u.
+    gives (record { token = t; level = l; right = s; emits = o }) (an-operator x (y .word) (y .same) (y .low) (y .high) z u)))))
+
+-- what stands behind an operator
+data BehindOperator (ws rest : List Word) : List Operator → Type 0 where
+  operator-last : {w : Word} → Took 59 ws w rest → BehindOperator ws rest []
+  operator-more : {os : List Operator} → Not 59 ws → OperatorsIn ws rest os → BehindOperator ws rest os
+
+with-operator : {ws ws₁ rest : List Word} {o : Operator} {os : List Operator} → OperatorIn ws ws₁ o → BehindOperator ws₁ rest os → OperatorsIn ws rest (o ∷ os)
+with-operator x (operator-last t) = last-operator x t
+with-operator x (operator-more n m) = more-operators x n m
+
+some-operators-in : {ws : List Word} (k : ℕ) → From ws (someOperators k) (λ rest os. OperatorsIn ws rest os)
+unfolding someOperators
+some-operators-in zero = refuses
+some-operators-in (suc k) =
+    bind anOperator _ operator-in (λ ws₁ o x.
+    bind (on code ";" then (_>>_ pass (pure [])) else someOperators k) _
+    (on-kind (code ";") _ _ (λ d. next pass _ (passes 59 refl d) (λ ws₂ w t. gives [] (operator-last t)))
+    (λ n. weaken (some-operators-in k) (λ rest os m. operator-more n m)))
+    (λ ws₂ os b. gives (o ∷ os) (with-operator x b)))
+
 -- Sections
 
 -- a section, where `s .left` more names may be declared
@@ -209,9 +306,26 @@ tokens-in k s t =
     listed-from k (s .left) true (max (s .input) (s .output)) both (λ rest es m. record { section = both-in t u (m .listed); few = m .few })))
     (λ n. listed-from k (s .left) true (s .input) inputs (λ rest es m. record { section = inputs-in t n (m .listed); few = m .few }))
 
+operators-from : {ws ws₁ : List Word} {head : Word} (k : ℕ) (s : Sofar) → Spelt (bytes "operators") ws ws₁ head → From ws₁ (operatorSection k s) (λ rest x. OneSection s ws rest x)
+unfolding operatorSection namesIn
+operators-from k s t =
+    bind (oneName (s .left)) _ (one-name (s .left)) (λ ws₂ w u.
+    next (expect (code ":")) _ (expects 58 refl) (λ ws₃ colon v.
+    bind (someOperators k) _ (some-operators-in k) (λ ws₄ os m.
+    gives (operators w os) (record { section = operators-in (t .word) (t .spelt) (u .word) v m; few = u .some-left }))))
+
+mechanism-from : {ws : List Word} (k : ℕ) (s : Sofar) → From ws (mechanismSection k s) (λ rest x. OneSection s ws rest x)
+unfolding mechanismSection namesIn
+mechanism-from k s =
+    next (expect mechanism) _ (expects 264 refl) (λ ws₁ head t.
+    next aName _ a-name (λ ws₂ w u.
+    next (expect (code ":")) _ (expects 58 refl) (λ ws₃ colon v.
+    bind (someOperations k (s .left) (s .seen)) _ (some-operations-in k (s .left) (s .seen)) (λ ws₄ os m.
+    gives (operations os) (record { section = operations-in t u v (m .operations); few = m .few })))))
+
 section-in : {ws : List Word} (k : ℕ) (s : Sofar) → From ws (aSection k s) (λ rest x. OneSection s ws rest x)
-unfolding aSection namesIn
-section-in k s =
+unfolding aSection otherSection namesIn
+section-in {ws} k s =
     on-kind input _ _ (λ d. next pass _ (passes 260 refl d) (λ ws₁ head t. tokens-in k s t))
     (λ _. on-kind output _ _ (λ d. next pass _ (passes 261 refl d) (λ ws₁ head t.
     listed-from k (s .left) true (s .output) outputs (λ rest es m. record { section = outputs-in t (m .listed); few = m .few })))
@@ -221,11 +335,11 @@ section-in k s =
     bind (oneName (s .left)) _ (one-name (s .left)) (λ ws₂ w u.
     listed-from k (s .left - 1) false 0 (values w) (λ rest es m.
     record { section = values-in t (u .word) (m .listed); few = let h = u .some-left in let g = m .few in omega arith }))))
-    (λ _. next (expect mechanism) _ (expects 264 refl) (λ ws₁ head t.
-    next aName _ a-name (λ ws₂ w u.
-    next (expect (code ":")) _ (expects 58 refl) (λ ws₃ colon v.
-    bind (someOperations k (s .left) (s .seen)) _ (some-operations-in k (s .left) (s .seen)) (λ ws₄ os m.
-    gives (operations os) (record { section = operations-in t u v (m .operations); few = m .few })))))))))
+    (λ _. record {
+      holds = either (spells (bytes "operators") ws) (_>>_ pass (operatorSection k s)) (mechanismSection k s)
+          (λ t. next pass _ (spelt-in (bytes "operators") t) (λ ws₁ head u. operators-from k s u))
+          (λ _. mechanism-from k s) .holds;
+    }))))
 
 -- each section's names are taken from those left
 after-left : (s : Sofar) (x : Section) → after s x .left ≡ s .left - namesIn x
@@ -236,6 +350,7 @@ after-left s (both es) = refl
 after-left s (errors es) = refl
 after-left s (values w es) = omega arith
 after-left s (operations os) = refl
+after-left s (operators w os) = refl
 
 -- the sections, and the names that they leave
 pub record AllSections (s : Sofar) (ws rest : List Word) (x : Sections) : Type 0 where

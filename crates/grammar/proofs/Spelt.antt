@@ -8,15 +8,15 @@ use lib.Dec.{eqb}
 use borrow.Author.Tests.{eq-eqb}
 use Rattle.base.specs.Common.{if_then_else_}
 use Rattle.grammar.specs.Derived
-use Rattle.grammar.specs.Derived.{Took, Reference, by-name, by-string, ConstantIn, no-constant, a-constant, ValueIn, no-value, a-value, PlainIn, named-in, any-in, emit-in, error-in, exit-in, call-in, give-in, SelectorIn, token-in, rule-in, operation-in, LabelsIn, last-label, more-labels, ActIn, plain-in, cycle-in, choice-in, ActsIn, none-in, more-in, AltsIn, other-in, last-in, next-in}
-use Rattle.grammar.specs.Derived.{SpellingIn, no-strings, no-spelling, a-spelling, CountIn, a-number, counted, EntryIn, an-entry, EntriesIn, last-entry, more-entries, GivesIn, gives-none, gives-some, TakesIn, takes-none, takes-some, OperationIn, an-operation, OperationsIn, last-operation, more-operations, ListedIn, listed-in, SectionIn, inputs-in, both-in, outputs-in, errors-in, values-in, operations-in, SectionsIn, no-section, more-sections, RuleIn, a-rule, RulesIn, last-rule, more-rules}
+use Rattle.grammar.specs.Derived.{Took, Reference, by-name, by-string, ConstantIn, no-constant, a-constant, ValueIn, no-value, a-value, PlainIn, named-in, any-in, emit-in, error-in, exit-in, call-in, give-in, ranked-in, SelectorIn, token-in, rule-in, operation-in, LabelsIn, last-label, more-labels, ActIn, plain-in, cycle-in, choice-in, ActsIn, none-in, more-in, AltsIn, other-in, last-in, next-in}
+use Rattle.grammar.specs.Derived.{SpellingIn, no-strings, no-spelling, a-spelling, CountIn, a-number, counted, EntryIn, an-entry, EntriesIn, last-entry, more-entries, GivesIn, gives-none, gives-some, TakesIn, takes-none, takes-some, OperationIn, an-operation, OperationsIn, last-operation, more-operations, SideIn, left-in, right-in, OperatorIn, an-operator, OperatorsIn, last-operator, more-operators, ListedIn, listed-in, SectionIn, inputs-in, both-in, outputs-in, errors-in, values-in, operations-in, operators-in, SectionsIn, no-section, more-sections, RuleIn, a-rule, RulesIn, last-rule, more-rules}
 use Rattle.grammar.proofs.Laws.{From, bind, next, gives, expects, expects-kind}
 use Rattle.grammar.proofs.ProgramIn.{SomeRules, rules-from}
 use Rattle.grammar.proofs.SectionsIn.{AllSections, some-sections-in}
 use Rattle.syntax.specs.Parse.{someRules, program}
 use Rattle.syntax.specs.Reading.{peek, got, expect}
 use Rattle.syntax.specs.Sections.{Sofar, nothing, someSections}
-use Rattle.syntax.specs.Written.{Constant, Plain, Selector, Act, Acts, Alts, Other, Entry, Operation, Section, Rule, Program}
+use Rattle.syntax.specs.Written.{Constant, Plain, Selector, Act, Acts, Alts, Other, Entry, Operation, Operator, Section, Rule, Program}
 use Rattle.words.specs.Before.{wellSpelt}
 use Rattle.words.specs.Words.{Word, bad, last, rules, end}
 
@@ -55,6 +55,7 @@ plain-spelt (error-in t r) h = one refl t (reference r h)
 plain-spelt (exit-in t) h = one refl t h
 plain-spelt (call-in t u) h = one refl t (one refl u h)
 plain-spelt (give-in t v) h = one refl t (value v h)
+plain-spelt (ranked-in t u v x) h = one refl t (one refl u (one refl v (one refl x h)))
 
 selector : {ws rest : List Word} {s : Selector} → SelectorIn ws rest s → Spelt ws rest
 selector (token-in n m d) h = not-read d h
@@ -111,6 +112,17 @@ operations : {seen : List ℕ} {ws rest : List Word} {os : List Operation} → O
 operations (last-operation o t) h = operation o (one refl t h)
 operations (more-operations o n os) h = operation o (operations os h)
 
+side : {ws rest : List Word} {s : Bool} → SideIn ws rest s → Spelt ws rest
+side (left-in t e) h = one refl t h
+side (right-in t e) h = one refl t h
+
+operator : {ws rest : List Word} {o : Operator} → OperatorIn ws rest o → Spelt ws rest
+operator (an-operator r t e low high s q) h = reference r (one refl t (side s (reference q h)))
+
+operators : {ws rest : List Word} {os : List Operator} → OperatorsIn ws rest os → Spelt ws rest
+operators (last-operator o t) h = operator o (one refl t h)
+operators (more-operators o n os) h = operator o (operators os h)
+
 listed : {strings : Bool} {v : ℕ} {ws rest : List Word} {es : List Entry} → ListedIn strings v ws rest es → Spelt ws rest
 listed (listed-in t es) h = one refl t (entries es h)
 
@@ -121,6 +133,7 @@ section (outputs-in t l) h = one refl t (listed l h)
 section (errors-in t l) h = one refl t (listed l h)
 section (values-in t u l) h = one refl t (one refl u (listed l h))
 section (operations-in t u v os) h = one refl t (one refl u (one refl v (operations os h)))
+section (operators-in t e u v os) h = one refl t (one refl u (one refl v (operators os h)))
 
 sections : {s : Sofar} {ws rest : List Word} {xs : List Section} → SectionsIn s ws rest xs → Spelt ws rest
 sections (no-section e d) h = not-read d h

@@ -9,12 +9,13 @@ use mathlib.Core.Path.{_≡_}
 use Prim.Native.Nat.{ℕ, _+_, _-_, _≤_, max}
 use lib.Dec.{eqb}
 use lib.ListN.{length}
-use Rattle.base.specs.Common.{given}
+use Rattle.base.specs.Common.{bytes, given}
 use Rattle.base.specs.Tree.{Action, plain, cycle, choice, Actions, done, _▸_, Alternatives, nil, alternative, Otherwise, absent, otherwise}
 use Rattle.syntax.specs.Actions.{closes}
 use Rattle.syntax.specs.Reading.{peek}
 use Rattle.syntax.specs.Sections.{Sofar, nothing, after, firstOf, ofKind}
-use Rattle.syntax.specs.Written.{Constant, Plain, named, any, exit, emit, error, call, give, Selector, byToken, byRule, byOperation, Act, Acts, Alts, Other, Entry, Operation, Section, inputs, outputs, both, errors, values, operations, Rule, Program}
+unfoldable pub use Rattle.syntax.specs.Sections.{namesIn, namesInAll}
+use Rattle.syntax.specs.Written.{Constant, Plain, named, any, exit, emit, error, call, give, ranked, Selector, byToken, byRule, byOperation, Act, Acts, Alts, Other, Entry, Operation, Operator, Section, inputs, outputs, both, errors, values, operations, operators, Rule, Program}
 use Rattle.words.specs.Words.{Word, value}
 
 -- the next word is w, of the kind k, and ws′ are those behind it
@@ -50,6 +51,7 @@ pub data PlainIn (ws ws′ : List Word) : Plain → Type 0 where
   exit-in : {w : Word} → Took 62 ws w ws′ → PlainIn ws ws′ (exit w)
   call-in : {at w : Word} {ws₁ : List Word} → Took 64 ws at ws₁ → Took 257 ws₁ w ws′ → PlainIn ws ws′ (call w)
   give-in : {w : Word} {v : Option Word} {ws₁ : List Word} → Took 256 ws w ws₁ → ValueIn ws₁ ws′ v → PlainIn ws ws′ (give w v)
+  ranked-in : {s w at o : Word} {ws₁ ws₂ ws₃ : List Word} → Took 94 ws s ws₁ → Took 257 ws₁ w ws₂ → Took 64 ws₂ at ws₃ → Took 257 ws₃ o ws′ → PlainIn ws ws′ (ranked s w o)
 
 pub data SelectorIn (ws ws′ : List Word) : Selector → Type 0 where
   token-in : Not 64 ws → Not 257 ws → ws′ ≡ ws → SelectorIn ws ws′ byToken
@@ -128,6 +130,19 @@ pub data OperationsIn : List ℕ → List Word → List Word → List Operation 
   more-operations : {seen : List ℕ} {ws ws′ ws₁ : List Word} {o : Operation} {os : List Operation} → OperationIn seen ws ws₁ o → Not 59 ws₁ → OperationsIn (o .instruction ∷ seen) ws₁ ws′ os
       → OperationsIn seen ws ws′ (o ∷ os)
 
+-- `left` or `right`
+pub data SideIn (ws ws′ : List Word) : Bool → Type 0 where
+  left-in : {w : Word} → Took 257 ws w ws′ → w .text ≡ bytes "left" → SideIn ws ws′ false
+  right-in : {w : Word} → Took 257 ws w ws′ → w .text ≡ bytes "right" → SideIn ws ws′ true
+
+pub data OperatorIn (ws ws′ : List Word) (o : Operator) : Type 0 where
+  an-operator : {digits : Word} {ws₁ ws₂ ws₃ : List Word} → Reference ws (o .token) ws₁ → Took 258 ws₁ digits ws₂ → o .level ≡ value 0 (digits .text) → 1 ≤ o .level → o .level ≤ 15
+      → SideIn ws₂ ws₃ (o .right) → Reference ws₃ (o .emits) ws′ → OperatorIn ws ws′ o
+
+pub data OperatorsIn : List Word → List Word → List Operator → Type 0 where
+  last-operator : {ws ws′ ws₁ : List Word} {o : Operator} {semi : Word} → OperatorIn ws ws₁ o → Took 59 ws₁ semi ws′ → OperatorsIn ws ws′ (o ∷ [])
+  more-operators : {ws ws′ ws₁ : List Word} {o : Operator} {os : List Operator} → OperatorIn ws ws₁ o → Not 59 ws₁ → OperatorsIn ws₁ ws′ os → OperatorsIn ws ws′ (o ∷ os)
+
 -- a colon and entries
 pub data ListedIn (strings : Bool) (v : ℕ) (ws ws′ : List Word) (es : List Entry) : Type 0 where
   listed-in : {colon : Word} {ws₁ : List Word} → Took 58 ws colon ws₁ → EntriesIn strings v ws₁ ws′ es → ListedIn strings v ws ws′ es
@@ -141,6 +156,8 @@ pub data SectionIn (s : Sofar) (ws ws′ : List Word) : Section → Type 0 where
   values-in : {head w : Word} {ws₁ ws₂ : List Word} {es : List Entry} → Took 263 ws head ws₁ → Took 257 ws₁ w ws₂ → ListedIn false 0 ws₂ ws′ es → SectionIn s ws ws′ (values w es)
   operations-in : {head w colon : Word} {ws₁ ws₂ ws₃ : List Word} {os : List Operation} → Took 264 ws head ws₁ → Took 257 ws₁ w ws₂ → Took 58 ws₂ colon ws₃
       → OperationsIn (s .seen) ws₃ ws′ os → SectionIn s ws ws′ (operations os)
+  operators-in : {head w colon : Word} {ws₁ ws₂ ws₃ : List Word} {os : List Operator} → Took 257 ws head ws₁ → head .text ≡ bytes "operators" → Took 257 ws₁ w ws₂ → Took 58 ws₂ colon ws₃
+      → OperatorsIn ws₃ ws′ os → SectionIn s ws ws′ (operators w os)
 
 -- up to the word `rules`
 pub data SectionsIn : Sofar → List Word → List Word → List Section → Type 0 where
@@ -158,19 +175,6 @@ pub data RulesIn : List Word → List Word → List Rule → Type 0 where
   more-rules : {ws ws′ ws₁ : List Word} {r : Rule} {rs : List Rule} → RuleIn ws ws₁ r → peek ws₁ .kind ≡ 257 → RulesIn ws₁ ws′ rs → RulesIn ws ws′ (r ∷ rs)
 
 -- The program
-
--- "512 names": each entry, operation, type and rule
-unfoldable pub namesIn : Section → ℕ
-namesIn (inputs es) = length es
-namesIn (outputs es) = length es
-namesIn (both es) = length es
-namesIn (errors es) = length es
-namesIn (values w es) = 1 + length es
-namesIn (operations os) = length os
-
-unfoldable pub namesInAll : List Section → ℕ
-namesInAll [] = 0
-namesInAll (x ∷ xs) = namesIn x + namesInAll xs
 
 pub data ProgramIn (ws : List Word) (p : Program) : Type 0 where
   a-program : {head : Word} {ws₁ ws₂ ws₃ : List Word}

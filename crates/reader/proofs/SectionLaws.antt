@@ -1,5 +1,5 @@
 -- Laws of sections and operations, for the proofs of the code.
-use mathlib.Core.Bool.{Bool, true, false, _&&_}
+use mathlib.Core.Bool.{Bool, true, false, _&&_, false≢true}
 use mathlib.Core.List.{List, [], _∷_, _++_}
 use mathlib.Core.Option.{Option, none, some}
 use mathlib.Core.Path.{_≡_, refl, sym, ap, _∙_}
@@ -10,17 +10,17 @@ use native.Mathlib.Omega.{arith}
 use lib.Dec.{eqb, leb}
 use lib.ListN.{length, getD, take, drop, drop-of-length-le, length-drop, length-take}
 use lib.Seq.{drop-cons, getD-drop, getD-take}
-use borrow.Author.Tests.{leb-false, ne-eqb, lt-leb, le-leb, lt-ltb, le-ltb, eq-eqb}
-use Rattle.base.specs.Common.{if_then_else_, given}
-use Rattle.reader.proofs.Laws.{at-word, ends-as, ends-with, faults, faulty, goes-as, stops, gives-with, no, no-with, overs, passes-with, says-off, says-on, shorts, word-length, yes-with, one-or-two-not, refuses}
+use borrow.Author.Tests.{leb-false, ne-eqb, lt-leb, le-leb, lt-ltb, le-ltb, eq-eqb, leb-true, eqb-true}
+use Rattle.base.specs.Common.{if_then_else_, given, bytes, same}
+use Rattle.reader.proofs.Laws.{at-word, ends-as, ends-with, faults, faulty, goes-as, stops, gives-with, no, no-with, overs, passes-with, says-off, says-on, shorts, word-length, yes-with, one-or-two-not, refuses, any-value, gives, passes}
 use Rattle.reader.specs.Answers.{Brings, Faulty, Here, Holds, Tells, failed, held, told, void, went, refusal}
-use Rattle.reader.specs.Counting.{Adds, Decides, Kinds, countOf, toldKind, fullIn, listed, oneMore, wrong, Entered, Operated, Keeps, ending, fine}
+use Rattle.reader.specs.Counting.{Adds, Decides, Kinds, countOf, toldKind, fullIn, listed, oneMore, wrong, Entered, Operated, Keeps, ending, fine, NumberOf}
 use Rattle.scanner.specs.Next.{asWord}
 use Rattle.syntax.proofs.Ahead.{kind-read, kinds-read}
 use Rattle.syntax.specs.Parse.{parse, endOf, program, someRules}
-use Rattle.syntax.specs.Reading.{Read, Reader, aName, aNumber, expect, fault, got, onward, optional, pass, peek, short, small, within, on_then_else_, oneName}
-use Rattle.syntax.specs.Sections.{aCount, entries, firstOf, nextOf, kindAt, kindAhead, isFull, aParameter, numbered, ofKind, after, instructions, nothing, Sofar, someOperations}
-use Rattle.syntax.specs.Written.{Entry, Section, both, Operation, errors, inputs, operations, outputs, values}
+use Rattle.syntax.specs.Reading.{Read, Reader, aName, aNumber, expect, fault, got, onward, optional, pass, peek, short, small, within, on_then_else_, oneName, refuse, over}
+use Rattle.syntax.specs.Sections.{aCount, entries, firstOf, nextOf, kindAt, kindAhead, isFull, aParameter, numbered, ofKind, after, instructions, nothing, Sofar, someOperations, spells, ranking, aSide, operatorSection, mechanismSection, otherSection}
+use Rattle.syntax.specs.Written.{Entry, Section, both, Operation, errors, inputs, operations, outputs, values, Operator, operators}
 use Rattle.words.specs.Words.{Word, wordsAt, value, words}
 use Rattle.reader.specs.declared.Ahead.{Ahead}
 use Rattle.reader.specs.declared.State.{State}
@@ -469,3 +469,77 @@ too-long text h a b c = rw (lt-ltb 32768 (length text) h) (wrong (λ z. let y : 
 pub not-long : (text : List ℕ) {r : Out} → length text ≤ 32768 → Decides r (program (length text + 1) (words text)) → Decides r (parse text)
 unfolding parse
 not-long text h d = rw (le-ltb 32768 (length text) h) d
+
+-- Operators
+
+pub level-zero : {text : List ℕ} {at : ℕ} {w : WordAt} {r : Out} → Here text at w → value 0 (take (w .len) (drop (w .start) text)) ≡ 0 → Faulty 9 w r → Tells (ranking (wordsAt text at)) text r
+unfolding ranking
+level-zero {text} {w = w} n h f = rw (n .head, eq-eqb (value 0 (take (w .len) (drop (w .start) text))) 0 h) (overs n f)
+
+pub level-high : {text : List ℕ} {at : ℕ} {w : WordAt} {r : Out} → Here text at w → 15 < value 0 (take (w .len) (drop (w .start) text)) → Faulty 9 w r → Tells (ranking (wordsAt text at)) text r
+unfolding ranking
+level-high {text} {w = w} n h f =
+    rw (n .head, ne-eqb (value 0 (take (w .len) (drop (w .start) text))) 0 (λ e. omega (arith, e)), lt-ltb 15 (value 0 (take (w .len) (drop (w .start) text))) h) (overs n f)
+
+pub level-got : {text : List ℕ} {at : ℕ} {w : WordAt} {r : Out} (v : ℕ) → Here text at w → 2 ≤ w .kind → value 0 (take (w .len) (drop (w .start) text)) ≡ v → (v ≡ 0 → ⊥) → v ≤ 15
+    → r .fault ≡ 0 → r .at ≡ w .next → Tells (ranking (wordsAt text at)) text r
+unfolding ranking pass onward
+level-got {text} {w = w} v n k p z h e f = rw (n .head, p, ne-eqb v 0 z, le-ltb 15 v h, n .more k, ← f) (gives e)
+
+-- a number past 15
+pub level-past : (ds : List ℕ) (n : ℕ) → NumberOf ds n → 15 < n → 15 < value 0 ds
+level-past ds n h l = go (leb n 65535) refl
+  where
+    go : (t : Bool) → leb n 65535 ≡ t → 15 < value 0 ds
+    go true e = let x = h .exact (leb-true n 65535 e) in omega arith
+    go false e = let x = h .past (leb-false n 65535 e) in omega arith
+
+-- the next word is this name, or is not
+pub spelling : (s : List ℕ) {text : List ℕ} {at : ℕ} {w : WordAt} → Here text at w → spells s (wordsAt text at) ≡ (eqb (w .kind) 257 && same (take (w .len) (drop (w .start) text)) s)
+unfolding spells
+spelling s n = rw (n .head) refl
+
+pub side-none : {text : List ℕ} {at : ℕ} {w : WordAt} {r : Out} → Here text at w → (w .kind ≡ 257 → ⊥) → Faulty (refusal (w .kind)) w r → Tells (aSide (wordsAt text at)) text r
+unfolding aSide
+side-none {w = w} n d f = rw (spelling (bytes "left") n, spelling (bytes "right") n, ne-eqb (w .kind) 257 d) (refuses n f)
+
+pub side-left : {text : List ℕ} {at : ℕ} {w : WordAt} {r : Out} → Here text at w → w .kind ≡ 257 → same (take (w .len) (drop (w .start) text)) (bytes "left") ≡ true → r .fault ≡ 0 → r .at ≡ w .next
+    → Tells (aSide (wordsAt text at)) text r
+unfolding aSide pass onward
+side-left {w = w} n d e z f = rw (spelling (bytes "left") n, eq-eqb (w .kind) 257 d, e, n .more (omega arith), ← f) (gives z)
+
+pub side-right : {text : List ℕ} {at : ℕ} {w : WordAt} {r : Out} → Here text at w → w .kind ≡ 257 → same (take (w .len) (drop (w .start) text)) (bytes "left") ≡ false
+    → same (take (w .len) (drop (w .start) text)) (bytes "right") ≡ true → r .fault ≡ 0 → r .at ≡ w .next → Tells (aSide (wordsAt text at)) text r
+unfolding aSide pass onward
+side-right {w = w} n d e g z f = rw (spelling (bytes "left") n, spelling (bytes "right") n, eq-eqb (w .kind) 257 d, e, g, n .more (omega arith), ← f) (gives z)
+
+pub side-neither : {text : List ℕ} {at : ℕ} {w : WordAt} {r : Out} → Here text at w → w .kind ≡ 257 → same (take (w .len) (drop (w .start) text)) (bytes "left") ≡ false
+    → same (take (w .len) (drop (w .start) text)) (bytes "right") ≡ false → Faulty (refusal (w .kind)) w r → Tells (aSide (wordsAt text at)) text r
+unfolding aSide
+side-neither {w = w} n d e g f = rw (spelling (bytes "left") n, spelling (bytes "right") n, eq-eqb (w .kind) 257 d, e, g) (refuses n f)
+
+-- the state after a section of operators
+pub kept-operators : (s : Sofar) (t : State) (w : Word) (os : List Operator) → Keeps s t
+    → Keeps (after s (operators w os)) (record { left = t .left - 1; input = t .input; output = t .output; error = t .error; seen = t .seen })
+unfolding after
+kept-operators s t w os q = record { left = rw (q .left) refl; input = q .input; output = q .output; error = q .error; kinds = q .kinds }
+
+pub other-operators : {P : Section → Type 0} (k : ℕ) (s : Sofar) {text : List ℕ} {at : ℕ} {w : WordAt} {r : Out} → Here text at w → 2 ≤ w .kind
+    → (eqb (w .kind) 257 && same (take (w .len) (drop (w .start) text)) (bytes "operators")) ≡ true
+    → Brings P (operatorSection k s (wordsAt text (w .next))) text r → Brings P (otherSection k s (wordsAt text at)) text r
+unfolding otherSection
+other-operators k s n h e b = rw (spelling (bytes "operators") n, e) (passes-with _ n h b)
+
+pub other-mechanism : {P : Section → Type 0} (k : ℕ) (s : Sofar) {text : List ℕ} {at : ℕ} {w : WordAt} {r : Out} → Here text at w
+    → (eqb (w .kind) 257 && same (take (w .len) (drop (w .start) text)) (bytes "operators")) ≡ false
+    → Brings P (mechanismSection k s (wordsAt text at)) text r → Brings P (otherSection k s (wordsAt text at)) text r
+unfolding otherSection
+other-mechanism k s n e b = rw (spelling (bytes "operators") n, e) b
+
+-- a name by its kind
+pub is-name : (k : ℕ) (b : Bool) → (eqb k 257 && b) ≡ true → 2 ≤ k
+is-name k b e = go (eqb k 257) refl e
+  where
+    go : (t : Bool) → eqb k 257 ≡ t → (t && b) ≡ true → 2 ≤ k
+    go true d h = let x = eqb-true k 257 d in omega arith
+    go false d h = let z : _≡_ {A = Bool} false true = h in absurd (false≢true z)

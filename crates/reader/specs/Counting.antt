@@ -124,9 +124,6 @@ errorSection k s = do expect (code ":"); es ← entries k (s .left) false (s .er
 unfoldable pub typeSection : ℕ → Sofar → Reader Section
 typeSection k s = do w ← oneName (s .left); expect (code ":"); es ← entries k (s .left - 1) false 0; pure (values w es)
 
-unfoldable pub mechanismSection : ℕ → Sofar → Reader Section
-mechanismSection k s = do expect mechanism; aName; expect (code ":"); os ← someOperations k (s .left) (s .seen); pure (operations os)
-
 -- the code's state is the definition's
 pub record Keeps (s : Sofar) (t : State) : Type 0 where
   pub left : t .left ≡ s .left

@@ -3,11 +3,11 @@ use mathlib.Core.Path.{_≡_}
 use mathlib.Core.List.{List}
 use mathlib.Core.Option.{Option}
 use Prim.Native.Char.{code}
-use Prim.Native.Nat.{ℕ, _-_, _≤_, _<_}
+use Prim.Native.Nat.{ℕ, _+_, _-_, _≤_, _<_}
 use lib.ListN.{length}
 use Rattle.reader.specs.Answers.{Tells, Reads}
 use Rattle.reader.specs.declared.Out.{Out}
-use Rattle.syntax.specs.Actions.{aConstant, aLabel, someLabels, anAction, actions, alternatives}
+use Rattle.syntax.specs.Actions.{aConstant, aRanked, aLabel, someLabels, anAction, actions, alternatives}
 use Rattle.syntax.specs.Reading.{Read, got, Reader, onward, _>>=_, _>>_, pure, refuse, expect, aName}
 use Rattle.syntax.specs.Written.{Constant, Act, Acts}
 use Rattle.words.specs.Words.{Word, wordsAt}
@@ -15,6 +15,12 @@ use Rattle.words.specs.Words.{Word, wordsAt}
 -- a name and its constant
 unfoldable pub withConstant : Reader (Word × Option Constant)
 withConstant = do w ← aName; c ← aConstant; pure (w, c)
+
+-- the rest of `^`, whatever word that is
+pub record ARanked (text : List ℕ) (at : ℕ) (r : Out) : Type 0 where
+  pub low : at ≤ r .at
+  pub high : r .at ≤ length text
+  pub tells : (s : Word) (k : ℕ) → length text < at + k → Tells (aRanked s (wordsAt text at)) text r
 
 -- one action, with the fuel k for what stands in it
 abbrev pub oneAction : ℕ → ℕ → Reader Act

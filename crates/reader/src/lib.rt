@@ -5,9 +5,12 @@ ghost use lib.ListN.{length, take, drop};
 ghost use Rattle.syntax.specs.Actions.{aConstant, aValue, aPlain, aSelector, someLabels, closes, aCycle, aChoice, anOtherwise, actions, alternatives};
 ghost use Rattle.syntax.specs.Reading.{expect, aName, nameOrString, optional};
 ghost use Rattle.reader.specs.Answers.{Here, Reads, Moves, Yields, Faulty, refusal};
-ghost use Rattle.reader.specs.Parts.{withConstant, oneAction, aLabelled, OneLabel, Leaves, LeavesBoth};
-ghost use Rattle.reader.specs.Counting.{OneName, NumberOf, ANumber, Sure, AnEntry, Entered, listed, countOf, oneMore, toldKind, fullIn, AnOperation, SomeOperations, ASection, outputSection, errorSection, typeSection, mechanismSection, SomeSections, ARule, ending, Decides};
-ghost use Rattle.syntax.specs.Sections.{aSpelling, entries, kindAhead, aParameter, tokenSection, aSection};
+ghost use Rattle.reader.specs.Parts.{withConstant, oneAction, aLabelled, OneLabel, Leaves, LeavesBoth, ARanked};
+ghost use Rattle.reader.specs.Counting.{OneName, NumberOf, ANumber, Sure, AnEntry, Entered, listed, countOf, oneMore, toldKind, fullIn, AnOperation, SomeOperations, ASection, outputSection, errorSection, typeSection, SomeSections, ARule, ending, Decides};
+ghost use Rattle.syntax.specs.Sections.{aSpelling, entries, kindAhead, aParameter, tokenSection, aSection, aLevel, aSide, anOperator, someOperators, operatorSection, mechanismSection, otherSection};
+ghost use lib.Dec.{eqb};
+ghost use mathlib.Core.Bool.{_&&_};
+ghost use Rattle.base.specs.Common.{same, bytes};
 ghost use Rattle.syntax.specs.Parse.{someRules, program, parse};
 ghost use Rattle.words.specs.Words.{words, wordsAt};
 use scanner::WordAt;
@@ -247,6 +250,22 @@ fn read_selector(text: &[u8], at: usize) -> Out
     }
 }
 
+// The rest of `^`: a section, `@`, a rule.
+fn read_ranked(text: &[u8], at: usize) -> Out
+    requires { ⌜ at ≤ length (now text) ⌝ }
+    ensures { λ r. ⌜ ARanked (now (text .entry)) at r ⌝ }
+{
+    let r = read_name(text, at);
+    if r.fault != 0 {
+        return r;
+    }
+    let s = expect_word(text, r.at, 64);
+    if s.fault != 0 {
+        return s;
+    }
+    read_name(text, s.at)
+}
+
 fn read_plain(text: &[u8], at: usize) -> Out
     requires { ⌜ at ≤ length (now text) ⌝ }
     ensures { λ r. ⌜ Moves (now (text .entry)) at at (λ _. aPlain) r ⌝ }
@@ -270,6 +289,7 @@ fn read_plain(text: &[u8], at: usize) -> Out
         },
         64 => read_name(text, w.next),
         256 => read_value(text, w.next),
+        94 => read_ranked(text, w.next),
         _ => refused(w),
     }
 }
@@ -997,6 +1017,147 @@ fn read_mechanism(text: &[u8], at: usize, state: State) -> Sectioned
     Sectioned { out, state: after }
 }
 
+// A level, 1 to 15.
+fn read_level(text: &[u8], at: usize) -> Out
+    requires { ⌜ at ≤ length (now text) ⌝ }
+    ensures { λ r. ⌜ Moves (now (text .entry)) at at (λ _. aLevel) r ⌝ }
+{
+    let v = look(text, at);
+    if v.kind != 258 {
+        return refused(v);
+    }
+    let n = number_of(text, v.start, v.len);
+    if n == 0 {
+        return over(v);
+    }
+    if 15 < n {
+        return over(v);
+    }
+    Out {
+        fault: 0,
+        at: v.next,
+        len: 0,
+    }
+}
+
+// `left` or `right`.
+fn read_side(text: &[u8], at: usize) -> Out
+    requires { ⌜ at ≤ length (now text) ⌝ }
+    ensures { λ r. ⌜ Moves (now (text .entry)) at at (λ _. aSide) r ⌝ }
+{
+    let w = look(text, at);
+    if w.kind != 257 {
+        return refused(w);
+    }
+    if scanner::spelt(text, w.start, w.len, b"left") {
+        return Out {
+            fault: 0,
+            at: w.next,
+            len: 0,
+        };
+    }
+    if scanner::spelt(text, w.start, w.len, b"right") {
+        return Out {
+            fault: 0,
+            at: w.next,
+            len: 0,
+        };
+    }
+    refused(w)
+}
+
+// Token, level, side, output token.
+fn read_operator(text: &[u8], at: usize) -> Out
+    requires { ⌜ at ≤ length (now text) ⌝ }
+    ensures { λ r. ⌜ Moves (now (text .entry)) at at (λ _. anOperator) r ⌝ }
+{
+    let t = name_or_string(text, at);
+    if t.fault != 0 {
+        return t;
+    }
+    let l = read_level(text, t.at);
+    if l.fault != 0 {
+        return l;
+    }
+    let s = read_side(text, l.at);
+    if s.fault != 0 {
+        return s;
+    }
+    name_or_string(text, s.at)
+}
+
+// Operators to the semicolon.
+fn read_operators(text: &[u8], at: usize) -> Out
+    requires { ⌜ at ≤ length (now text) ⌝ }
+    ensures { λ r. ⌜ Moves (now (text .entry)) at at (λ k. someOperators k) r ⌝ }
+{
+    let mut i = at;
+    loop {
+        let r = read_operator(text, i);
+        if r.fault != 0 {
+            return r;
+        }
+        let w = look(text, r.at);
+        if w.kind == 59 {
+            return Out {
+                fault: 0,
+                at: w.next,
+                len: 0,
+            };
+        }
+        i = r.at;
+    }
+}
+
+// A section of operators, after its `operators`.
+fn read_operator_section(text: &[u8], at: usize, state: State) -> Sectioned
+    requires { ⌜ at ≤ length (now text) ⌝ }
+    ensures { λ r. ⌜ ASection (now (text .entry)) at at operatorSection state r ⌝ }
+{
+    let seen = state.seen;
+    let o = read_one_name(text, at, state.left);
+    if o.fault != 0 {
+        return Sectioned { out: o, state };
+    }
+    let rest = state.left - 1;
+    let c = expect_word(text, o.at, 58);
+    if c.fault != 0 {
+        return Sectioned { out: c, state };
+    }
+    let out = read_operators(text, c.at);
+    let after = State {
+        left: rest,
+        input: state.input,
+        output: state.output,
+        error: state.error,
+        seen,
+    };
+    Sectioned { out, state: after }
+}
+
+// The word is the name `operators`.
+fn is_operators(text: &[u8], w: WordAt) -> bool
+    requires { ⌜ w .start + w .len ≤ length (now text) ⌝ }
+    ensures { λ r. ⌜ r ≡ (eqb (w .kind) 257 && same (take (w .len) (drop (w .start) (now (text .entry)))) (bytes "operators")) ⌝ }
+{
+    if w.kind != 257 {
+        return false;
+    }
+    scanner::spelt(text, w.start, w.len, b"operators")
+}
+
+// A section of operators or operations.
+fn read_other(text: &[u8], at: usize, state: State) -> Sectioned
+    requires { ⌜ at ≤ length (now text) ⌝ }
+    ensures { λ r. ⌜ ASection (now (text .entry)) at (at + 1) otherSection state r ⌝ }
+{
+    let w = look(text, at);
+    if is_operators(text, w) {
+        return read_operator_section(text, w.next, state);
+    }
+    read_mechanism(text, at, state)
+}
+
 fn read_section(text: &[u8], at: usize, state: State) -> Sectioned
     requires { ⌜ at ≤ length (now text) ⌝ }
     ensures { λ r. ⌜ ASection (now (text .entry)) at (at + 1) aSection state r ⌝ }
@@ -1008,7 +1169,7 @@ fn read_section(text: &[u8], at: usize, state: State) -> Sectioned
         261 => read_outputs(text, w.next, state),
         262 => read_errors(text, w.next, state),
         263 => read_types(text, w.next, state),
-        _ => read_mechanism(text, at, state),
+        _ => read_other(text, at, state),
     }
 }
 

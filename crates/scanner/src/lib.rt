@@ -55,7 +55,7 @@ fn listed(b: u8, list: &[u8]) -> bool
 fn is_symbol(b: u8) -> bool
     ensures { λ r. ⌜ r ≡ symbol b ⌝ }
 {
-    listed(b, b":;,=()[]{}|*?.#@>")
+    listed(b, b":;,=()[]{}|*?.#@>^")
 }
 
 fn is_digit(b: u8) -> bool
@@ -130,7 +130,7 @@ fn run_of(text: &[u8], at: usize, class: Class) -> usize
 }
 
 // The word at `start` is spelt so.
-fn spelt(text: &[u8], start: usize, len: usize, word: &[u8]) -> bool
+pub fn spelt(text: &[u8], start: usize, len: usize, word: &[u8]) -> bool
     requires { ⌜ start + len ≤ length (now text) ⌝ }
     ensures { λ r. ⌜ r ≡ same (take len (drop start (now (text .entry)))) (now (word .entry)) ⌝ }
 {

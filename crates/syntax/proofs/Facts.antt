@@ -32,13 +32,13 @@ pub record Line : Type 0 where
   pub text : List ℕ
   pub outcome : Outcome
 
-pub agrees : {A : Type 0} → Read A → Outcome → Bool
+unfoldable pub agrees : {A : Type 0} → Read A → Outcome → Bool
 agrees (got p ws) reads = true
 agrees (got p ws) (stops n s l) = false
 agrees (fault m w) reads = false
 agrees (fault m w) (stops n s l) = eqb m n && eqb (w .start) s && eqb (length (w .text)) l
 
-pub allAgree : List Line → Bool
+unfoldable pub allAgree : List Line → Bool
 allAgree [] = true
 allAgree (l ∷ ls) = agrees (parse (l .text)) (l .outcome) && allAgree ls
 

@@ -2,3 +2,4 @@
 pub mod Facts
 pub mod Trees
 pub mod Ahead
+pub mod Operators

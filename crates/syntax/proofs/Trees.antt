@@ -10,10 +10,10 @@ use Rattle.base.specs.Tree.{Action, plain, cycle, choice, Actions, done, _▸_,
 use Rattle.syntax.proofs.Facts.{reading}
 use Rattle.syntax.specs.Parse.{parse}
 use Rattle.syntax.specs.Reading.{Read, got, fault}
-use Rattle.syntax.specs.Written.{Constant, Plain, named, any, exit, emit, error, call, give, Selector, byToken, byRule, byOperation, Act, Acts, Alts, Other, Entry, Operation, Section, inputs, outputs, both, errors, values, operations, Rule, Program}
+use Rattle.syntax.specs.Written.{Constant, Plain, named, any, exit, emit, error, call, give, ranked, Selector, byToken, byRule, byOperation, Act, Acts, Alts, Other, Entry, Operation, Operator, Section, inputs, outputs, both, errors, values, operations, operators, Rule, Program}
 use Rattle.words.specs.Words.{Word}
 
-pub sectionsOf : Read Program → List Section
+unfoldable pub sectionsOf : Read Program → List Section
 sectionsOf (got p ws) = p .sections
 sectionsOf (fault n w) = []
 
@@ -23,23 +23,29 @@ rulesOf (fault n w) = []
 
 -- Values and instruction numbers
 
-pub valuesOf : List Entry → List ℕ
+unfoldable pub valuesOf : List Entry → List ℕ
 valuesOf [] = []
 valuesOf (e ∷ es) = e .value ∷ valuesOf es
 
-pub instructionsOf : List Operation → List ℕ
+unfoldable pub instructionsOf : List Operation → List ℕ
 instructionsOf [] = []
 instructionsOf (o ∷ os) = o .instruction ∷ instructionsOf os
 
-pub countsIn : Section → List ℕ
+-- an operator's level, and 1 for right
+unfoldable pub rankingsOf : List Operator → List ℕ
+rankingsOf [] = []
+rankingsOf (o ∷ os) = o .level ∷ (if o .right then 1 else 0) ∷ rankingsOf os
+
+unfoldable pub countsIn : Section → List ℕ
 countsIn (inputs es) = valuesOf es
 countsIn (outputs es) = valuesOf es
 countsIn (both es) = valuesOf es
 countsIn (errors es) = valuesOf es
 countsIn (values w es) = valuesOf es
 countsIn (operations os) = instructionsOf os
+countsIn (operators w os) = rankingsOf os
 
-pub counts : List Section → List (List ℕ) → Bool
+unfoldable pub counts : List Section → List (List ℕ) → Bool
 counts [] [] = true
 counts [] (x ∷ xs) = false
 counts (s ∷ ss) [] = false
@@ -53,7 +59,7 @@ pub record Counted : Type 0 where
 abbrev pub counted : String → List (List ℕ) → Counted
 counted t ns = record { text = t; numbers = ns }
 
-pub allCount : List Counted → Bool
+unfoldable pub allCount : List Counted → Bool
 allCount [] = true
 allCount (c ∷ cs) = counts (sectionsOf (parse (bytes (c .text)))) (c .numbers) && allCount cs
 
@@ -75,7 +81,7 @@ countings =
     ∷ []
 
 pub all-counted : T (allCount countings)
-unfolding reading sectionsOf valuesOf instructionsOf countsIn counts allCount countings
+unfolding reading sectionsOf valuesOf instructionsOf rankingsOf countsIn counts allCount countings
 all-counted = tt
 
 -- Rules
@@ -97,6 +103,7 @@ plainText (emit w) = bytes "." ++ w .text
 plainText (error w) = bytes "#" ++ w .text
 plainText (call w) = bytes "@" ++ w .text
 plainText (give w v) = w .text ++ givenText v
+plainText (ranked s w r) = s .text ++ (w .text ++ (bytes "@" ++ r .text))
 
 pub selectorText : Selector → List ℕ
 selectorText byToken = []

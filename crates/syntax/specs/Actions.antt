@@ -10,7 +10,7 @@ use lib.ListN.{length}
 use Rattle.base.specs.Common.{if_then_else_}
 use Rattle.base.specs.Tree.{Action, plain, cycle, choice, Actions, done, _▸_, Alternatives, nil, alternative, Otherwise, absent, otherwise}
 use Rattle.syntax.specs.Reading.{Read, got, fault, Reader, onward, _>>=_, _>>_, pure, peek, pass, refuse, within, on_then_else_, expect, short, aName, nameOrString}
-use Rattle.syntax.specs.Written.{Constant, Plain, named, any, exit, emit, error, call, give, Selector, byToken, byRule, byOperation, Act, Acts, Alts, Other, Choices}
+use Rattle.syntax.specs.Written.{Constant, Plain, named, any, exit, emit, error, call, give, ranked, Selector, byToken, byRule, byOperation, Act, Acts, Alts, Other, Choices}
 use Rattle.words.specs.Words.{Word, twice, name, string}
 
 -- "with its constant in parentheses", where there is one
@@ -30,7 +30,11 @@ aValue =
     else on string then (do v ← pass; pure (some v))
     else pure none
 
--- "Actions: match a token; `?`; `.token`; `#error`; .. `>` ..; `@rule`; `>>`; an update operation, with its constant"
+-- "`^NAME @rule`": after the `^`
+unfoldable pub aRanked : Word → Reader Plain
+aRanked s = do w ← aName; expect (code "@"); r ← aName; pure (ranked s w r)
+
+-- "Actions: match a token; `?`; `.token`; `#error`; .. `>` ..; `@rule`; `>>`; an update operation, with its constant"; "`^NAME @rule`"
 unfoldable pub aPlain : Reader Plain
 aPlain =
     on name then (do w ← aName; c ← aConstant; pure (named w c))
@@ -41,6 +45,7 @@ aPlain =
     else on code ">" then (do w ← pass; pure (exit w))
     else on code "@" then (do pass; w ← aName; pure (call w))
     else on twice then (do w ← pass; v ← aValue; pure (give w v))
+    else on code "^" then (do s ← pass; aRanked s)
     else refuse
 
 -- "A choice has a selector (none, `@choice rule`, or a choice operation with its constant if it has a parameter)"
@@ -115,5 +120,5 @@ unfoldable mutual
 
 -- all of this file computes where this is unfolded
 unfoldable pub opened : Unit {0}
-unfolding aConstant aValue aPlain aSelector aLabel someLabels closes aCycle aChoice anAction anOtherwise anAlternative actions
+unfolding aConstant aValue aRanked aPlain aSelector aLabel someLabels closes aCycle aChoice anAction anOtherwise anAlternative actions
 opened = tt

@@ -1,16 +1,16 @@
 -- Sections: "A section is a head, a colon, one entry or more, a semicolon." Values and instruction numbers are counted here, since a
 -- value past 65,535 and a 257th operation are limits.
-use mathlib.Core.Bool.{Bool, true, false, _&&_}
+use mathlib.Core.Bool.{Bool, true, false, _&&_, _||_}
 use mathlib.Core.List.{List, [], _∷_, _++_}
 use mathlib.Core.Option.{Option, none, some}
 use Prim.Native.Char.{code}
 use Prim.Native.Nat.{ℕ, zero, suc, _+_, _-_, max}
 use lib.Dec.{eqb, leb, ltb}
 use lib.ListN.{length, drop}
-use Rattle.base.specs.Common.{if_then_else_, given}
-use Rattle.syntax.specs.Reading.{Read, got, fault, Reader, onward, _>>=_, _>>_, pure, peek, pass, refuse, on_then_else_, expect, aName, oneName, aNumber, optional}
-use Rattle.syntax.specs.Written.{Entry, Operation, Section, inputs, outputs, both, errors, values, operations}
-use Rattle.words.specs.Words.{Word, twice, name, string, input, output, error, type, mechanism, rules}
+use Rattle.base.specs.Common.{if_then_else_, given, bytes, same}
+use Rattle.syntax.specs.Reading.{Read, got, fault, Reader, onward, _>>=_, _>>_, pure, peek, pass, refuse, on_then_else_, expect, aName, oneName, aNumber, optional, over, nameOrString}
+use Rattle.syntax.specs.Written.{Entry, Operation, Section, inputs, outputs, both, errors, values, operations, Operator, operators}
+use Rattle.words.specs.Words.{Word, twice, name, string, input, output, error, type, mechanism, rules, number, value}
 
 -- Entries
 
@@ -95,6 +95,40 @@ someOperations (suc k) left seen ws =
       more ← on code ";" then (do pass; pure []) else someOperations k (left - 1) (o .instruction ∷ seen)
       pure (o ∷ more)) ws
 
+-- Operators
+
+-- "`operators`, `left` and `right` stay free as names": the next word is a name, and this one
+unfoldable pub spells : List ℕ → List Word → Bool
+spells s ws = eqb (peek ws .kind) name && same (peek ws .text) s
+
+-- "9 for a level outside 1 to 15": the next word, a number
+unfoldable pub ranking : Reader ℕ
+ranking ws = let n = value 0 (peek ws .text) in if eqb n 0 || ltb 15 n then over ws else onward (pass ws) (λ w. pure n)
+
+unfoldable pub aLevel : Reader ℕ
+aLevel = on number then ranking else refuse
+
+unfoldable pub aSide : Reader Bool
+aSide ws = (if spells (bytes "left") ws then (do pass; pure false) else if spells (bytes "right") ws then (do pass; pure true) else refuse) ws
+
+-- "lists input token, level 1 to 15, `left` or `right`, and output token"
+unfoldable pub anOperator : Reader Operator
+anOperator = do
+  t ← nameOrString
+  l ← aLevel
+  s ← aSide
+  o ← nameOrString
+  pure (record { token = t; level = l; right = s; emits = o })
+
+-- operators to the semicolon
+unfoldable pub someOperators : ℕ → Reader (List Operator)
+someOperators zero ws = refuse ws
+someOperators (suc k) ws =
+    (do
+      o ← anOperator
+      more ← on code ";" then (do pass; pure []) else someOperators k
+      pure (o ∷ more)) ws
+
 -- Sections
 
 -- what the sections so far leave: names that may still be declared, for each class of tokens and errors "one above the greatest number
@@ -109,6 +143,20 @@ pub record Sofar : Type 0 where
 -- "512 names of entries, types and rules"
 unfoldable pub nothing : Sofar
 nothing = record { left = 512; input = 0; output = 0; error = 0; seen = [] }
+
+-- each entry, type, operation and operators section is one of the names
+unfoldable pub namesIn : Section → ℕ
+namesIn (inputs es) = length es
+namesIn (outputs es) = length es
+namesIn (both es) = length es
+namesIn (errors es) = length es
+namesIn (values w es) = 1 + length es
+namesIn (operations os) = length os
+namesIn (operators w os) = 1
+
+unfoldable pub namesInAll : List Section → ℕ
+namesInAll [] = 0
+namesInAll (x ∷ xs) = namesIn x + namesInAll xs
 
 unfoldable pub nextOf : ℕ → List Entry → ℕ
 nextOf n [] = n
@@ -125,12 +173,24 @@ after s (both es) = record { left = s .left - length es; input = nextOf (s .inpu
 after s (errors es) = record { left = s .left - length es; input = s .input; output = s .output; error = nextOf (s .error) es; seen = s .seen }
 after s (values w es) = record { left = s .left - suc (length es); input = s .input; output = s .output; error = s .error; seen = s .seen }
 after s (operations os) = record { left = s .left - length os; input = s .input; output = s .output; error = s .error; seen = instructions os ++ s .seen }
+after s (operators w os) = record { left = s .left - 1; input = s .input; output = s .output; error = s .error; seen = s .seen }
 
 -- "a token or error section begins one above the greatest number so far in any class it feeds, or at 0"
 unfoldable pub tokenSection : ℕ → Sofar → Reader Section
 tokenSection k s =
     on output then (do pass; expect (code ":"); es ← entries k (s .left) true (max (s .input) (s .output)); pure (both es))
     else (do expect (code ":"); es ← entries k (s .left) true (s .input); pure (inputs es))
+
+-- a section of operators, after its `operators`: "only section names are declared, .. within the 512"
+unfoldable pub operatorSection : ℕ → Sofar → Reader Section
+operatorSection k s = do w ← oneName (s .left); expect (code ":"); os ← someOperators k; pure (operators w os)
+
+unfoldable pub mechanismSection : ℕ → Sofar → Reader Section
+mechanismSection k s = do expect mechanism; aName; expect (code ":"); os ← someOperations k (s .left) (s .seen); pure (operations os)
+
+-- where a head is due the name `operators` is one
+unfoldable pub otherSection : ℕ → Sofar → Reader Section
+otherSection k s ws = (if spells (bytes "operators") ws then (do pass; operatorSection k s) else mechanismSection k s) ws
 
 -- "types count from 0"; "Mechanism names declare nothing and may repeat."
 unfoldable pub aSection : ℕ → Sofar → Reader Section
@@ -139,7 +199,7 @@ aSection k s =
     else on output then (do pass; expect (code ":"); es ← entries k (s .left) true (s .output); pure (outputs es))
     else on error then (do pass; expect (code ":"); es ← entries k (s .left) false (s .error); pure (errors es))
     else on type then (do pass; w ← oneName (s .left); expect (code ":"); es ← entries k (s .left - 1) false 0; pure (values w es))
-    else (do expect mechanism; aName; expect (code ":"); os ← someOperations k (s .left) (s .seen); pure (operations os))
+    else otherSection k s
 
 -- the sections, and how many names they leave for the rules
 pub record Sections : Type 0 where
@@ -158,5 +218,5 @@ someSections (suc k) s ws =
 
 -- all of this file computes where this is unfolded
 unfoldable pub opened : Unit {0}
-unfolding aSpelling aCount anEntry entries firstOf ofKind kindAt kindAhead isFull aParameter numbered anOperation someOperations nothing nextOf instructions after tokenSection aSection someSections
+unfolding aSpelling aCount anEntry entries firstOf ofKind kindAt kindAhead isFull aParameter numbered anOperation someOperations spells ranking aLevel aSide anOperator someOperators nothing namesIn namesInAll nextOf instructions after tokenSection operatorSection mechanismSection otherSection aSection someSections
 opened = tt

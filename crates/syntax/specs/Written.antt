@@ -11,12 +11,14 @@ pub record Constant : Type 0 where
   pub paren : Word
   pub constant : Word
 
--- a plain action: a token or an update operation, with its constant; `?`, `>`; the word after `.`, `#`, `@`; `>>` and its value
+-- a plain action: a token or an update operation, with its constant; `?`, `>`; the word after `.`, `#`, `@`; `>>` and its value;
+-- `^`, its section and its operand rule
 pub data Plain : Type 0 where
   named : Word → Option Constant → Plain
   any exit : Word → Plain
   emit error call : Word → Plain
   give : Word → Option Word → Plain
+  ranked : Word → Word → Word → Plain
 
 -- what a choice goes by: the present token, a rule, an operation with its constant
 pub data Selector : Type 0 where
@@ -54,11 +56,19 @@ pub record Operation : Type 0 where
   pub gives : Option Word
   pub instruction : ℕ
 
--- "Heads: `input`, `output`, `input output`, `error`, `type NAME`, `mechanism NAME`."
+-- "lists input token, level 1 to 15, `left` or `right`, and output token"
+pub record Operator : Type 0 where
+  pub token : Word
+  pub level : ℕ
+  pub right : Bool
+  pub emits : Word
+
+-- "Heads: `input`, `output`, `input output`, `error`, `type NAME`, `mechanism NAME`."; and "`operators NAME:`"
 pub data Section : Type 0 where
   inputs outputs both errors : List Entry → Section
   values : Word → List Entry → Section
   operations : List Operation → Section
+  operators : Word → List Operator → Section
 
 -- "A rule is a name, an optional `>> type` (a choice rule), a colon, actions (perhaps none), a semicolon."
 pub record Rule : Type 0 where

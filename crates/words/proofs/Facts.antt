@@ -204,7 +204,7 @@ alone =
     ∷ r 1 (code "|") ∷ r 1 bad ∷ r 1 (code "#") ∷ r 1 bad ∷ r 1 last ∷ r 2 bad
     ∷ r 1 (code "(") ∷ r 1 (code ")") ∷ r 1 (code "*") ∷ r 1 bad ∷ r 1 (code ",") ∷ r 1 bad ∷ r 1 (code ".") ∷ r 1 bad
     ∷ r 10 number ∷ r 1 (code ":") ∷ r 1 (code ";") ∷ r 1 bad ∷ r 1 (code "=") ∷ r 1 (code ">") ∷ r 1 (code "?") ∷ r 1 (code "@")
-    ∷ r 26 name ∷ r 1 (code "[") ∷ r 1 bad ∷ r 1 (code "]") ∷ r 3 bad
+    ∷ r 26 name ∷ r 1 (code "[") ∷ r 1 bad ∷ r 1 (code "]") ∷ r 1 (code "^") ∷ r 2 bad
     ∷ r 26 name ∷ r 1 (code "{") ∷ r 1 (code "|") ∷ r 1 (code "}") ∷ r 130 bad ∷ []
 
 pub bytes-alone : T (same (kindsFrom 256 0 0 (λ b. b ∷ [])) (spread alone))
@@ -234,7 +234,7 @@ joined =
     ∷ r 1 (code "|") ∷ r 1 bad ∷ r 1 (code "#") ∷ r 1 bad ∷ r 1 last ∷ r 2 bad
     ∷ r 1 (code "(") ∷ r 1 (code ")") ∷ r 1 (code "*") ∷ r 1 bad ∷ r 1 (code ",") ∷ r 1 bad ∷ r 1 (code ".") ∷ r 1 bad
     ∷ r 10 (code ":") ∷ r 1 (code ":") ∷ r 1 (code ";") ∷ r 1 bad ∷ r 1 (code "=") ∷ r 1 (code ">") ∷ r 1 (code "?") ∷ r 1 (code "@")
-    ∷ r 26 (code ":") ∷ r 1 (code "[") ∷ r 1 bad ∷ r 1 (code "]") ∷ r 1 bad ∷ r 1 (code ":") ∷ r 1 bad
+    ∷ r 26 (code ":") ∷ r 1 (code "[") ∷ r 1 bad ∷ r 1 (code "]") ∷ r 1 (code "^") ∷ r 1 (code ":") ∷ r 1 bad
     ∷ r 26 (code ":") ∷ r 1 (code "{") ∷ r 1 (code "|") ∷ r 1 (code "}") ∷ r 2 bad ∷ []
 
 pub bytes-joined : T (same (kindsFrom 128 0 1 (λ b. code "a" ∷ b ∷ code ":" ∷ [])) (spread joined))

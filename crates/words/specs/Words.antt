@@ -100,9 +100,9 @@ stringByte b = not (eqb b (code "'") || eqb b 10)
 unfoldable pub blank : ℕ → Bool
 blank b = eqb b 32 || eqb b 9 || eqb b 13 || eqb b 10
 
--- "`: ; , = ( ) [ ] { } | * ? . # @ > >>`" (`>>` is below)
+-- "`: ; , = ( ) [ ] { } | * ? . # @ > >>`" (`>>` is below); and `^`, of operators under precedence
 unfoldable pub symbol : ℕ → Bool
-symbol b = member b (bytes ":;,=()[]{}|*?.#@>")
+symbol b = member b (bytes ":;,=()[]{}|*?.#@>^")
 
 -- how many bytes from the start pass the test
 unfoldable pub run : (ℕ → Bool) → List ℕ → ℕ

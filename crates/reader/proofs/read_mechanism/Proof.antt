@@ -3,7 +3,7 @@ use Prim.Native.Nat.{suc}
 use native.Mathlib.Omega.{arith}
 use Rattle.reader.proofs.Laws.{any-value, ends-with, faulty, goes, goes-with, stops}
 use Rattle.reader.proofs.SectionLaws.{kept-operations, operations-as}
-use Rattle.reader.specs.Counting.{mechanismSection}
+use Rattle.syntax.specs.Sections.{mechanismSection}
 use Rattle.reader.proofs.read_mechanism.Statement.{statement}
 use Rattle.reader.proofs.read_mechanism.Tie as tie
 

@@ -28,6 +28,9 @@ read-name-requires c κs = search needs
 read-value-requires : tie.Need-read-value-requires
 read-value-requires c κs = search needs
 
+read-ranked-requires : tie.Need-read-ranked-requires
+read-ranked-requires c κs = search needs
+
 refused-requires : tie.Need-refused-requires
 refused-requires c κs = search needs
 
@@ -65,7 +68,11 @@ returns-8 c = record { reads = record { low = omega arith; high = omega arith; t
 
 returns-9 : tie.Need-returns-9
 unfolding aPlain
-returns-9 c = record { reads = record { low = omega arith; high = omega arith; tells = λ k h. no _ _ _ (c .before .before .look .ensures) (c .before .match .rest .0 .0 .0 .0 .0 .0 .0 .1) (no _ _ _ (c .before .before .look .ensures) (c .before .match .rest .0 .0 .0 .0 .0 .0 .1) (no _ _ _ (c .before .before .look .ensures) (c .before .match .rest .0 .0 .0 .0 .0 .1) (no _ _ _ (c .before .before .look .ensures) (c .before .match .rest .0 .0 .0 .0 .1) (no _ _ _ (c .before .before .look .ensures) (c .before .match .rest .0 .0 .0 .1) (no _ _ _ (c .before .before .look .ensures) (c .before .match .rest .0 .0 .1) (no _ _ _ (c .before .before .look .ensures) (c .before .match .rest .0 .1) (no _ _ _ (c .before .before .look .ensures) (c .before .match .rest .1) (refuses (c .before .before .look .ensures) (c .refused .ensures))))))))) }; past = λ e. absurd (one-or-two-not (c .before .before .look .result .kind) (sym (c .refused .ensures .number) ∙ e)) }
+returns-9 c = record { reads = record { low = omega arith; high = omega arith; tells = λ k h. no _ _ _ (c .before .before .look .ensures) (λ e. apart 94 257 (c .before .match .keys9) e tt) (no _ _ _ (c .before .before .look .ensures) (λ e. apart 94 259 (c .before .match .keys9) e tt) (no _ _ _ (c .before .before .look .ensures) (λ e. apart 94 63 (c .before .match .keys9) e tt) (no _ _ _ (c .before .before .look .ensures) (λ e. apart 94 46 (c .before .match .keys9) e tt) (no _ _ _ (c .before .before .look .ensures) (λ e. apart 94 35 (c .before .match .keys9) e tt) (no _ _ _ (c .before .before .look .ensures) (λ e. apart 94 62 (c .before .match .keys9) e tt) (no _ _ _ (c .before .before .look .ensures) (λ e. apart 94 64 (c .before .match .keys9) e tt) (no _ _ _ (c .before .before .look .ensures) (λ e. apart 94 256 (c .before .match .keys9) e tt) (yes _ _ _ (c .before .before .look .ensures) (c .before .match .keys9) (passes _ (c .before .before .look .ensures) (omega arith) (c .read-ranked .ensures .tells _ k (omega arith))))))))))) }; past = λ e. omega (arith, c .before .before .look .ensures .moves (omega arith)) }
+
+returns-10 : tie.Need-returns-10
+unfolding aPlain
+returns-10 c = record { reads = record { low = omega arith; high = omega arith; tells = λ k h. no _ _ _ (c .before .before .look .ensures) (c .before .match .rest .0 .0 .0 .0 .0 .0 .0 .0 .1) (no _ _ _ (c .before .before .look .ensures) (c .before .match .rest .0 .0 .0 .0 .0 .0 .0 .1) (no _ _ _ (c .before .before .look .ensures) (c .before .match .rest .0 .0 .0 .0 .0 .0 .1) (no _ _ _ (c .before .before .look .ensures) (c .before .match .rest .0 .0 .0 .0 .0 .1) (no _ _ _ (c .before .before .look .ensures) (c .before .match .rest .0 .0 .0 .0 .1) (no _ _ _ (c .before .before .look .ensures) (c .before .match .rest .0 .0 .0 .1) (no _ _ _ (c .before .before .look .ensures) (c .before .match .rest .0 .0 .1) (no _ _ _ (c .before .before .look .ensures) (c .before .match .rest .0 .1) (no _ _ _ (c .before .before .look .ensures) (c .before .match .rest .1) (refuses (c .before .before .look .ensures) (c .refused .ensures)))))))))) }; past = λ e. absurd (one-or-two-not (c .before .before .look .result .kind) (sym (c .refused .ensures .number) ∙ e)) }
 
 pub read-plain-spec : {M : Type 1} → statement M
 read-plain-spec =
@@ -78,6 +85,7 @@ read-plain-spec =
     name-or-string-requires-2
     read-name-requires
     read-value-requires
+    read-ranked-requires
     refused-requires
     returns
     returns-2
@@ -87,4 +95,5 @@ read-plain-spec =
     returns-6
     returns-7
     returns-8
-    returns-9)
+    returns-9
+    returns-10)
