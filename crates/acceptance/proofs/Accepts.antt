@@ -1,27 +1,29 @@
 -- A text that is understood gives an accepted program; a table that the processor accepts is that program's, and all its words and locations
 -- are in range.
 use mathlib.Core.Bool.{Bool, true, false, _&&_, _||_}
-use mathlib.Core.List.{List, [], _∷_}
+use mathlib.Core.List.{List, [], _∷_, _++_}
 use mathlib.Core.Option.{Option, none, some}
 use mathlib.Core.Path.{_≡_, refl, sym, ap, _∙_}
 use Prim.Native.Nat.{ℕ, zero, suc, _+_, _<_, _≤_}
 use lib.Dec.{leb}
-use lib.ListN.{length, getD}
+use lib.ListN.{length, getD, length-append}
 use borrow.Author.Tests.{leb-true}
 use native.Mathlib.Nat.{zero-add}
 use native.Mathlib.Omega.{arith}
 use Rattle.acceptance.specs.Answers.{TableOf}
-use Rattle.acceptance.proofs.CheckLaws.{Yields, no-good, yields, next, passed}
-use Rattle.acceptance.proofs.NamesOk.{MembersOk, NamesOk, Typed, typed, sections-ok}
+use Rattle.acceptance.proofs.CheckLaws.{Yields, no-good, yields, next, passed, Any, any}
+use Rattle.acceptance.proofs.NamesOk.{MembersOk, NamesOk, Typed, typed, each-append, sections-ok}
 use Rattle.acceptance.proofs.Parsed.{parse-ok}
 use Rattle.acceptance.proofs.Resolved.{acts-of}
 use Rattle.acceptance.proofs.Shape.{Each, ShapedAll, NotEmpty, WrittenOk}
+use Rattle.acceptance.proofs.Used.{UseOk, pairs-used, total, Procedure, MadeAre, made-are, made-good, lowest-calls, Within, MadeFew, made-few}
 use Rattle.base.specs.Bools.{never, and}
 use Rattle.base.specs.Common.{if_then_else_, same, given}
 use Rattle.finishing.specs.Test.{finishing}
 use Rattle.names.specs.Declare.{declareSections, knownRules}
 use Rattle.names.specs.Known.{Checked, good, wrong, _>>=_, faultIf, KnownRule, Names, findRule, optionalType}
 use Rattle.names.specs.Resolve.{actsOf}
+use Rattle.names.specs.Uses.{Use, pairsOf, lowestOf, madeFor}
 use Rattle.names.specs.Understand.{nobody, taken, isFirst, ruleMeans, rulesMean, understand}
 use Rattle.processor.specs.Process.{Part, Understood, meaning, faulty, checked, readIn, understood, Answer, accepted, refused, answerFor, process, partOf}
 use Rattle.program.proofs.AcceptedWords.{accepted-word}
@@ -33,6 +35,7 @@ use Rattle.program.specs.Program.{Rule, ruleOf, bodyOf}
 use Rattle.program.specs.Table.{sizeRules, place, table}
 use Rattle.syntax.specs.Parse.{parse, endOf}
 use Rattle.syntax.specs.Reading.{Read, got, fault}
+use Rattle.syntax.specs.Sections.{namesInAll}
 use Rattle.syntax.specs.Written as written
 use Rattle.syntax.specs.Written.{Program}
 use Rattle.words.specs.Words.{Word}
@@ -117,24 +120,24 @@ abbrev RuleOks : List Rule → Rule → Type 0
 RuleOks prog m = Oks prog (m .body) (m .valued) false
 
 rules-oks : (p : Program) (n : Names) (ks : List KnownRule) (prog : List Rule) → NamesOk n → ((w : List ℕ) (k : KnownRule) → findRule w ks ≡ some k → Calls prog (k .place) (given (k .gives)))
-    → (seen : List (List ℕ)) (rs : List written.Rule) → Each (λ r. ShapedAll (r .body)) rs → Yields (Each (RuleOks prog)) (rulesMean p n ks seen rs)
+    → ((u : Use) → Calls prog (lowestOf n u (length (p .rules)) (pairsOf (p .rules))) false) → (seen : List (List ℕ)) (rs : List written.Rule) → Each (λ r. ShapedAll (r .body)) rs → Yields (Each (RuleOks prog)) (rulesMean p n ks seen rs)
 unfolding rulesMean ruleMeans Each
-rules-oks p n ks prog ok known seen [] h = yields (Each (RuleOks prog)) [] tt
-rules-oks p n ks prog ok known seen (r ∷ rs) h =
+rules-oks p n ks prog ok known low seen [] h = yields (Each (RuleOks prog)) [] tt
+rules-oks p n ks prog ok known low seen (r ∷ rs) h =
     next (Each (RuleOks prog)) (RuleOks prog) (ruleMeans p n ks seen r) _
     (passed (RuleOks prog) (taken (r .rule) n seen) 4 (r .rule) _ (λ _.
     passed (RuleOks prog) (isFirst seen && given (r .gives)) 5 (r .rule) _ (λ _.
     next (RuleOks prog) (Typed (r .gives)) (optionalType p (n .types) (r .gives)) _ (typed p (n .types) (r .gives) (ok .types)) (λ g hg.
     next (RuleOks prog) (λ b. Oks prog b (given g) false) (actsOf p n ks (r .body) (record { inside = false; gives = g })) _
-    (acts-of p n ks prog ok known (r .body) (record { inside = false; gives = g }) (h .0) (hg .members)) (λ b hb.
+    (acts-of p n ks prog ok known low (r .body) (record { inside = false; gives = g }) (h .0) (hg .members)) (λ b hb.
     passed (RuleOks prog) (given g && pastAll b) 8 (r .closing) _ (λ _.
     yields (RuleOks prog) (record { valued = given g; body = b }) hb))))))
-    (λ m hm. next (Each (RuleOks prog)) (Each (RuleOks prog)) (rulesMean p n ks (r .rule .text ∷ seen) rs) _ (rules-oks p n ks prog ok known (r .rule .text ∷ seen) rs (h .1))
+    (λ m hm. next (Each (RuleOks prog)) (Each (RuleOks prog)) (rulesMean p n ks (r .rule .text ∷ seen) rs) _ (rules-oks p n ks prog ok known low (r .rule .text ∷ seen) rs (h .1))
     (λ ms hs. yields (Each (RuleOks prog)) (m ∷ ms) (hm, hs)))
 
 -- From each to every place
 
-at-place : (P : Rule → Type 0) (ms : List Rule) → Each P ms → (r : ℕ) → r < length ms → P (ruleOf ms r)
+pub at-place : (P : Rule → Type 0) (ms : List Rule) → Each P ms → (r : ℕ) → r < length ms → P (ruleOf ms r)
 unfolding Each ruleOf
 at-place P [] h r l = absurd (omega arith)
 at-place P (m ∷ ms) h zero l = h .0
@@ -152,24 +155,99 @@ matched-some (matched-cons v x) h = omega arith
 
 nobody-ok : NamesOk nobody
 unfolding nobody Each
-nobody-ok = record { inputs = tt; outputs = tt; errors = tt; types = tt; operations = tt }
+nobody-ok = record { inputs = tt; outputs = tt; errors = tt; types = tt; operations = tt; operators = tt }
 
-accepts : (p : Program) (n : Names) (prog : List Rule) → WrittenOk p → NamesOk n → rulesMean p n (knownRules 0 (p .rules)) [] (p .rules) ≡ good prog → Accepted prog
+-- The program's own rules, and those made behind them
+
+matched-length : {rs : List written.Rule} {ms : List Rule} → Matched rs ms → length ms ≡ length rs
+matched-length matched-nil = refl
+matched-length (matched-cons v h) = ap suc (matched-length h)
+
+pub rule-before : (xs ys : List Rule) (r : ℕ) → r < length xs → ruleOf (xs ++ ys) r ≡ ruleOf xs r
+unfolding ruleOf
+rule-before [] ys r l = absurd (omega arith)
+rule-before (x ∷ xs) ys zero l = refl
+rule-before (x ∷ xs) ys (suc r) l = rule-before xs ys r (omega arith)
+
+pub later-procedures : (xs ys : List Rule) → Each Procedure ys → (r : ℕ) → length xs ≤ r → r < length (xs ++ ys) → ruleOf (xs ++ ys) r .valued ≡ false
+unfolding ruleOf
+later-procedures [] ys h r b l = at-place Procedure ys h r l
+later-procedures (x ∷ xs) ys h zero b l = absurd (omega arith)
+later-procedures (x ∷ xs) ys h (suc r) b l = later-procedures xs ys h r (omega arith) (omega arith)
+
+calls-more : (xs ys : List Rule) (r : ℕ) (v : Bool) → Calls xs r v → Calls (xs ++ ys) r v
+calls-more xs ys r v c = record { there = let n = length-append xs ys in let l = c .there in omega arith; sort = ap (λ (m : Rule). m .valued) (rule-before xs ys r (c .there)) ∙ c .sort }
+
+procedures-end : (ms : List Rule) → Each Procedure ms → Each NoEnd ms
+unfolding Each
+procedures-end [] h = tt
+procedures-end (m ∷ ms) h = ((λ e. never (sym (h .0) ∙ e)), procedures-end ms (h .1))
+
+accepts : (p : Program) (n : Names) (own made : List Rule) → WrittenOk p → NamesOk n → rulesMean p n (knownRules 0 (p .rules)) [] (p .rules) ≡ good own
+    → madeFor n (knownRules 0 (p .rules)) (namesInAll (p .sections)) (length (p .rules)) (pairsOf (p .rules)) ≡ good made → Accepted (own ++ made)
 unfolding isFirst bodyOf
-accepts p n prog w ok e =
-    let a = rules-are p n (knownRules 0 (p .rules)) [] (p .rules) ok prog e in
-    let o = rules-oks p n (knownRules 0 (p .rules)) prog ok (calls-known (a .matched)) [] (p .rules) (w .rules) prog e in
+accepts p n own made w ok e f =
+    let ks = knownRules 0 (p .rules) in
+    let prog = own ++ made in
+    let base = length (p .rules) in
+    let us = pairsOf (p .rules) in
+    let a = rules-are p n ks [] (p .rules) ok own e in
+    let m : MadeAre n us made = made-are n ks (namesInAll (p .sections)) base us made f in
+    let same-length : length own ≡ base = matched-length (a .matched) in
+    let some-own = matched-some (a .matched) (w .some-rule) in
+    let n₁ = length-append own made in
+    let long : length prog ≡ base + total n us = n₁ ∙ omega (arith, same-length, m .0) in
+    let later : (r : ℕ) → base ≤ r → r < length prog → ruleOf prog r .valued ≡ false = λ r b l. later-procedures own made (m .1) r (omega (arith, same-length)) l in
+    let known : (v : List ℕ) (k : KnownRule) → findRule v ks ≡ some k → Calls prog (k .place) (given (k .gives)) = λ v k d. calls-more own made (k .place) (given (k .gives)) (calls-known (a .matched) v k d) in
+    let first : ruleOf prog 0 .valued ≡ false = ap (λ (x : Rule). x .valued) (rule-before own made 0 some-own) ∙ first-is own (a .procedure refl) in
+    let used : Each (UseOk n ks) us = pairs-used p n ks [] (p .rules) own e in
+    let low : (u : Use) → Calls prog (lowestOf n u base us) false = λ u.
+    lowest-calls prog base later n ks ok (record { there = omega (arith, some-own, n₁); sort = first }) u base us used (omega arith) (omega (arith, long)) in
+    let o = rules-oks p n ks prog ok known low [] (p .rules) (w .rules) own e in
+    let g = made-good prog base later n ks ok known (namesInAll (p .sections)) base us used (omega arith) (omega (arith, long)) made f in
     record {
-      some-rule = matched-some (a .matched) (w .some-rule);
-      first = first-is prog (a .procedure refl);
-      in-order = at-place (RuleOks prog) prog o;
-      no-end = at-place NoEnd prog (a .no-end);
+      some-rule = omega (arith, some-own, n₁);
+      first = first;
+      in-order = at-place (RuleOks prog) prog (each-append (RuleOks prog) own made o g);
+      no-end = at-place NoEnd prog (each-append NoEnd own made (a .no-end) (procedures-end made (m .1)));
     }
 
 understand-accepts : (p : Program) → WrittenOk p → Yields Accepted (understand p)
 unfolding understand
 understand-accepts p w =
-    next Accepted NamesOk (declareSections p (p .sections) nobody) _ (sections-ok p (p .sections) nobody (w .sections) nobody-ok) (λ n ok prog e. accepts p n prog w ok e)
+    next Accepted NamesOk (declareSections p (p .sections) nobody) _ (sections-ok p (p .sections) nobody (w .sections) (w .sections) nobody-ok) (λ n ok.
+    next Accepted (λ own. rulesMean p n (knownRules 0 (p .rules)) [] (p .rules) ≡ good own) (rulesMean p n (knownRules 0 (p .rules)) [] (p .rules)) _ (λ own e. e) (λ own e.
+    next Accepted (λ made. madeFor n (knownRules 0 (p .rules)) (namesInAll (p .sections)) (length (p .rules)) (pairsOf (p .rules)) ≡ good made) (madeFor n (knownRules 0 (p .rules)) (namesInAll (p .sections)) (length (p .rules)) (pairsOf (p .rules))) _ (λ made f. f) (λ made f.
+    yields Accepted (own ++ made) (accepts p n own made w ok e f))))
+
+-- The limits
+
+-- "Limits: 128 rules, 512 names": the rules of a program with the names of its sections, those made among them
+abbrev pub FewRules : Program → List Rule → Type 0
+FewRules p prog = Within (namesInAll (p .sections)) 0 (length prog)
+
+pub rules-count : (p : Program) (n : Names) (ks : List KnownRule) (seen : List (List ℕ)) (rs : List written.Rule) → Yields (λ ms. length ms ≡ length rs) (rulesMean p n ks seen rs)
+unfolding rulesMean
+rules-count p n ks seen [] = yields (λ ms. length ms ≡ 0) [] refl
+rules-count p n ks seen (r ∷ rs) =
+    next (λ ms. length ms ≡ suc (length rs)) Any (ruleMeans p n ks seen r) _ (any (ruleMeans p n ks seen r)) (λ m _.
+    next (λ ms. length ms ≡ suc (length rs)) (λ ms. length ms ≡ length rs) (rulesMean p n ks (r .rule .text ∷ seen) rs) _ (rules-count p n ks (r .rule .text ∷ seen) rs) (λ ms h.
+    yields (λ ms. length ms ≡ suc (length rs)) (m ∷ ms) (ap suc h)))
+
+-- where the rules as written keep to the limits, those that the program has keep to them
+pub understand-few : (p : Program) → Within (namesInAll (p .sections)) (length (p .rules)) 0 → Yields (FewRules p) (understand p)
+unfolding understand
+understand-few p w =
+    next (FewRules p) Any (declareSections p (p .sections) nobody) _ (any (declareSections p (p .sections) nobody)) (λ n _.
+    next (FewRules p) (λ own. length own ≡ length (p .rules)) (rulesMean p n (knownRules 0 (p .rules)) [] (p .rules)) _ (rules-count p n (knownRules 0 (p .rules)) [] (p .rules)) (λ own e.
+    next (FewRules p) (λ made. MadeFew n (namesInAll (p .sections)) (length (p .rules)) (pairsOf (p .rules)) made × MadeAre n (pairsOf (p .rules)) made)
+    (madeFor n (knownRules 0 (p .rules)) (namesInAll (p .sections)) (length (p .rules)) (pairsOf (p .rules))) _
+    (λ made f. (
+      made-few n (knownRules 0 (p .rules)) (namesInAll (p .sections)) (length (p .rules)) (pairsOf (p .rules)) w made f,
+      made-are n (knownRules 0 (p .rules)) (namesInAll (p .sections)) (length (p .rules)) (pairsOf (p .rules)) made f,
+    )) (λ made h.
+    let l = length-append own made in
+    yields (FewRules p) (own ++ made) (omega (arith, l, e, h .0 .0 .0, h .1 .0), omega (arith, l, e, h .0 .0 .1, h .1 .0)))))
 
 -- The theorem
 

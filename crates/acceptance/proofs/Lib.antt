@@ -5,5 +5,6 @@ pub mod Parsed
 pub mod CheckLaws
 pub mod NamesOk
 pub mod Resolved
+pub mod Used
 pub mod Accepts
 pub mod Numbers

@@ -1,17 +1,21 @@
 -- What the declarations leave: every value of every class in range, every operation's instruction number of its kind.
-use mathlib.Core.Bool.{Bool, true, false, _||_}
+use mathlib.Core.Bool.{Bool, true, false, _||_, not}
 use mathlib.Core.List.{List, [], _∷_, _++_}
 use mathlib.Core.Option.{Option, none, some}
 use mathlib.Core.Path.{_≡_, refl, sym, ap, _∙_}
 use Prim.Native.Nat.{ℕ, zero, suc, _+_, _<_, _≤_}
 use native.Mathlib.Omega.{arith}
+use lib.Dec.{eqb}
+use borrow.Author.Tests.{eqb-false, eq-eqb}
 use Rattle.acceptance.proofs.CheckLaws.{Yields, no-good, yields, never, next, passed}
-use Rattle.acceptance.proofs.Shape.{Each, InRange, OfKind, SectionOk}
+use Rattle.acceptance.proofs.Shape.{Each, NotEmpty, InRange, OfKind, Ranked, SectionOk}
 use Rattle.base.specs.Common.{if_then_else_, same, given}
-use Rattle.names.specs.Declare.{knowns, repeats, clashes, declareAll, declareBoth, withOperations, declareOperations, declareSection, declareSections}
-use Rattle.names.specs.Known.{Checked, good, wrong, _>>=_, faultIf, Known, KnownType, KnownOperation, Names, find, findType, findOperation, elsewhere, lookup, isType, lookupType, optionalType}
+use Rattle.names.specs.Declare.{knowns, repeats, clashes, declareAll, declareBoth, withOperations, declareOperations, allKnowns, inputsOf, outputsOf, otherSide, listed, operatorOf, operatorsOf, declareSection, declareSections}
+use Rattle.names.specs.Known.{Checked, good, wrong, _>>=_, faultIf, Known, KnownType, KnownOperation, KnownOperators, Names, find, findType, findOperation, findOperators, declared, elsewhere, lookup, isType, lookupType, optionalType}
+use Rattle.program.specs.Made as made
+use Rattle.program.specs.Made.{Level, atLevel, levelAnd, levelsFrom, levelsOf}
 use Rattle.syntax.specs.Sections.{firstOf}
-use Rattle.syntax.specs.Written.{Entry, Operation, Section, inputs, outputs, both, errors, values, operations, Program}
+use Rattle.syntax.specs.Written.{Entry, Operation, Operator, Section, inputs, outputs, both, errors, values, operations, operators, Program}
 use Rattle.words.specs.Words.{Word}
 
 abbrev pub KnownOk : Known → Type 0
@@ -31,14 +35,30 @@ pub record OperationOk (o : KnownOperation) : Type 0 where
   pub takes : MembersOk (o .takes)
   pub gives : MembersOk (o .gives)
 
+-- an operator as numbers: values and level in range
+pub record OperatorOk (o : made.Operator) : Type 0 where
+  pub token : o .token < 65536
+  pub emits : o .emits < 65536
+  pub low : 1 ≤ o .level
+  pub high : o .level ≤ 15
+
+abbrev pub LevelOk : Level → Type 0
+LevelOk l = Each OperatorOk (l .operators)
+
+-- a section has a level
+pub record OperatorsOk (k : KnownOperators) : Type 0 where
+  pub some-level : NotEmpty (k .levels)
+  pub levels : Each LevelOk (k .levels)
+
 pub record NamesOk (n : Names) : Type 0 where
   pub inputs : Each KnownOk (n .inputs)
   pub outputs : Each KnownOk (n .outputs)
   pub errors : Each KnownOk (n .errors)
   pub types : Each TypeOk (n .types)
   pub operations : Each OperationOk (n .operations)
+  pub operators : Each OperatorsOk (n .operators)
 
-each-append : {A : Type 0} (P : A → Type 0) (xs ys : List A) → Each P xs → Each P ys → Each P (xs ++ ys)
+pub each-append : {A : Type 0} (P : A → Type 0) (xs ys : List A) → Each P xs → Each P ys → Each P (xs ++ ys)
 unfolding Each
 each-append P [] ys h k = k
 each-append P (x ∷ xs) ys h k = (h .0, each-append P xs ys (h .1) k)
@@ -50,7 +70,7 @@ one-more P xs y h k = each-append P xs (y ∷ []) h (k, tt)
 -- Looking up
 
 -- the first of a list that passes a test, or a later one
-picked : {A : Type 0} (P : A → Type 0) (t : Bool) (a v : A) (later : Option A) → P a → (later ≡ some v → P v) → (if t then some a else later) ≡ some v → P v
+pub picked : {A : Type 0} (P : A → Type 0) (t : Bool) (a v : A) (later : Option A) → P a → (later ≡ some v → P v) → (if t then some a else later) ≡ some v → P v
 picked P true a v later h k e = let x : a ≡ v = cc in rw x at h
 picked P false a v later h k e = k e
 
@@ -108,6 +128,15 @@ typed p ts (some w) h =
     next (Typed (some w)) (Each KnownOk) (lookupType p ts w) _ (lookup-type-in p ts w h) (λ ks hk.
     yields (Typed (some w)) (some ks) (record { same-given = refl; members = hk }))
 
+find-operators-in : (w : List ℕ) (ks : List KnownOperators) (ls : List Level) → Each OperatorsOk ks → findOperators w ks ≡ some ls → NotEmpty ls × Each LevelOk ls
+unfolding Each findOperators
+find-operators-in w [] ls h e = none-some e
+find-operators-in w (k ∷ ks) ls h e =
+    picked (λ x. NotEmpty x × Each LevelOk x) (same w (k .named)) (k .levels) ls (findOperators w ks) (h .0 .some-level, h .0 .levels) (find-operators-in w ks ls (h .1)) e
+
+pub operators-in : (w : List ℕ) (n : Names) (ls : List Level) → NamesOk n → findOperators w (n .operators) ≡ some ls → NotEmpty ls × Each LevelOk ls
+operators-in w n ls h e = find-operators-in w (n .operators) ls (h .operators) e
+
 -- Declaring
 
 knowns-ok : (e : Entry) → InRange e → Each KnownOk (knowns e)
@@ -154,29 +183,154 @@ operations-ok p (o ∷ os) n h k =
       errors = k .errors;
       types = k .types;
       operations = one-more OperationOk (n .operations) _ (k .operations) own;
+      operators = k .operators;
     }))))
 
-section-ok : (p : Program) (s : Section) (n : Names) → SectionOk s → NamesOk n → Yields NamesOk (declareSection p s n)
+-- Operators
+
+all-knowns-ok : (es : List Entry) → Each InRange es → Each KnownOk (allKnowns es)
+unfolding allKnowns Each
+all-knowns-ok [] h = tt
+all-knowns-ok (e ∷ es) h = each-append KnownOk (knowns e) (allKnowns es) (knowns-ok e (h .0)) (all-knowns-ok es (h .1))
+
+pub inputs-in : (ss : List Section) → Each SectionOk ss → Each KnownOk (inputsOf ss)
+unfolding inputsOf SectionOk Each
+inputs-in [] h = tt
+inputs-in (inputs es ∷ ss) h = each-append KnownOk (allKnowns es) (inputsOf ss) (all-knowns-ok es (h .0)) (inputs-in ss (h .1))
+inputs-in (outputs es ∷ ss) h = inputs-in ss (h .1)
+inputs-in (both es ∷ ss) h = each-append KnownOk (allKnowns es) (inputsOf ss) (all-knowns-ok es (h .0)) (inputs-in ss (h .1))
+inputs-in (errors es ∷ ss) h = inputs-in ss (h .1)
+inputs-in (values w es ∷ ss) h = inputs-in ss (h .1)
+inputs-in (operations os ∷ ss) h = inputs-in ss (h .1)
+inputs-in (operators w os ∷ ss) h = inputs-in ss (h .1)
+
+pub outputs-in : (ss : List Section) → Each SectionOk ss → Each KnownOk (outputsOf ss)
+unfolding outputsOf SectionOk Each
+outputs-in [] h = tt
+outputs-in (inputs es ∷ ss) h = outputs-in ss (h .1)
+outputs-in (outputs es ∷ ss) h = each-append KnownOk (allKnowns es) (outputsOf ss) (all-knowns-ok es (h .0)) (outputs-in ss (h .1))
+outputs-in (both es ∷ ss) h = each-append KnownOk (allKnowns es) (outputsOf ss) (all-knowns-ok es (h .0)) (outputs-in ss (h .1))
+outputs-in (errors es ∷ ss) h = outputs-in ss (h .1)
+outputs-in (values w es ∷ ss) h = outputs-in ss (h .1)
+outputs-in (operations os ∷ ss) h = outputs-in ss (h .1)
+outputs-in (operators w os ∷ ss) h = outputs-in ss (h .1)
+
+operator-ok : (p : Program) (e : Operator) (have : List made.Operator) → Each SectionOk (p .sections) → Ranked e → Yields OperatorOk (operatorOf p e have)
+unfolding operatorOf
+operator-ok p e have ss h =
+    passed OperatorOk (not (declared p (e .token .text))) 3 (e .token) _ (λ _.
+    passed OperatorOk (otherSide e have || listed (find (e .token .text) (inputsOf (p .sections))) have) 45 (e .token) _ (λ _.
+    next OperatorOk (λ v. v < 65536) (lookup p (inputsOf (p .sections)) (e .token)) _ (lookup-in p (inputsOf (p .sections)) (e .token) (inputs-in (p .sections) ss)) (λ t ht.
+    next OperatorOk (λ v. v < 65536) (lookup p (outputsOf (p .sections)) (e .emits)) _ (lookup-in p (outputsOf (p .sections)) (e .emits) (outputs-in (p .sections) ss)) (λ o ho.
+    yields OperatorOk (record { token = t; level = e .level; right = e .right; emits = o }) (record { token = ht; emits = ho; low = h .0; high = h .1 })))))
+
+more-operators-ok : (p : Program) (es : List Operator) (have : List made.Operator) → Each SectionOk (p .sections) → Each Ranked es → Each OperatorOk have → Yields (Each OperatorOk) (operatorsOf p es have)
+unfolding operatorsOf Each
+more-operators-ok p [] have ss h k = yields (Each OperatorOk) have k
+more-operators-ok p (e ∷ es) have ss h k =
+    next (Each OperatorOk) OperatorOk (operatorOf p e have) _ (operator-ok p e have ss (h .0)) (λ o ho.
+    more-operators-ok p es (have ++ (o ∷ [])) ss (h .1) (one-more OperatorOk have o k ho))
+
+not-empty-more : {A : Type 0} (xs : List A) (y : A) → NotEmpty (xs ++ (y ∷ []))
+unfolding NotEmpty
+not-empty-more [] y = tt
+not-empty-more (x ∷ xs) y = tt
+
+operators-some : (p : Program) (es : List Operator) (have : List made.Operator) → NotEmpty have → Yields NotEmpty (operatorsOf p es have)
+unfolding operatorsOf
+operators-some p [] have k = yields NotEmpty have k
+operators-some p (e ∷ es) have k =
+    next NotEmpty (λ _. Unit {0}) (operatorOf p e have) _ (λ _ _. tt) (λ o _. operators-some p es (have ++ (o ∷ [])) (not-empty-more have o))
+
+operators-first : (p : Program) (es : List Operator) → NotEmpty es → Yields NotEmpty (operatorsOf p es [])
+unfolding operatorsOf NotEmpty
+operators-first p [] h = absurd h
+operators-first p (e ∷ es) h =
+    next NotEmpty (λ _. Unit {0}) (operatorOf p e []) _ (λ _ _. tt) (λ o _. operators-some p es (o ∷ []) tt)
+
+at-level-ok : (l : ℕ) (os : List made.Operator) → Each OperatorOk os → Each OperatorOk (atLevel l os)
+unfolding atLevel Each
+at-level-ok l [] h = tt
+at-level-ok l (o ∷ os) h = go (eqb (o .level) l) (at-level-ok l os (h .1))
+  where
+    go : (t : Bool) → Each OperatorOk (atLevel l os) → Each OperatorOk (if t then o ∷ atLevel l os else atLevel l os)
+    go true k = (h .0, k)
+    go false k = k
+
+level-and-ok : (os : List made.Operator) (ls : List Level) → Each OperatorOk os → Each LevelOk ls → Each LevelOk (levelAnd os ls)
+unfolding levelAnd Each
+level-and-ok [] ls h k = k
+level-and-ok (o ∷ os) ls h k = (h, k)
+
+levels-ok : (n l : ℕ) (os : List made.Operator) → Each OperatorOk os → Each LevelOk (levelsFrom n l os)
+unfolding levelsFrom Each
+levels-ok zero l os h = tt
+levels-ok (suc n) l os h = level-and-ok (atLevel l os) (levelsFrom n (suc l) os) (at-level-ok l os h) (levels-ok n (suc l) os h)
+
+and-some : (os : List made.Operator) (ls : List Level) → NotEmpty ls → NotEmpty (levelAnd os ls)
+unfolding levelAnd NotEmpty
+and-some [] ls h = h
+and-some (o ∷ os) ls h = tt
+
+above : (a b : ℕ) → b ≤ a → (a ≡ b → ⊥) → suc b ≤ a
+above a b x y = omega (arith, y)
+
+-- the level of an operator is used
+levels-some : (n l : ℕ) (o : made.Operator) (os : List made.Operator) → l ≤ o .level → o .level < l + n → NotEmpty (levelsFrom n l (o ∷ os))
+unfolding levelsFrom levelAnd atLevel NotEmpty
+levels-some zero l o os h k = absurd (omega arith)
+levels-some (suc n) l o os h k = go (eqb (o .level) l) refl (λ m. levels-some n (suc l) o os m (omega arith))
+  where
+    go : (t : Bool) → eqb (o .level) l ≡ t → (suc l ≤ o .level → NotEmpty (levelsFrom n (suc l) (o ∷ os)))
+        → NotEmpty (levelAnd (if t then o ∷ atLevel l os else atLevel l os) (levelsFrom n (suc l) (o ∷ os)))
+    go true e f = tt
+    go false e f = and-some (atLevel l os) (levelsFrom n (suc l) (o ∷ os)) (f (above (o .level) l h (eqb-false (o .level) l e)))
+
+levels-of-some : (os : List made.Operator) → NotEmpty os → Each OperatorOk os → NotEmpty (levelsOf os)
+unfolding levelsOf Each NotEmpty
+levels-of-some [] h k = absurd h
+levels-of-some (o ∷ os) h k = levels-some 15 1 o os (k .0 .low) (let x = k .0 .high in omega arith)
+
+levels-of-ok : (os : List made.Operator) → Each OperatorOk os → Each LevelOk (levelsOf os)
+unfolding levelsOf
+levels-of-ok os h = levels-ok 15 1 os h
+
+operators-ok : (p : Program) (w : Word) (es : List Operator) (n : Names) → Each SectionOk (p .sections) → NotEmpty es × Each Ranked es → NamesOk n → Yields NamesOk (declareSection p (operators w es) n)
+unfolding declareSection Each
+operators-ok p w es n ss h k =
+    passed NamesOk (given (findOperators (w .text) (n .operators))) 4 w _ (λ _.
+    next NamesOk (λ os. NotEmpty os × Each OperatorOk os) (operatorsOf p es []) _ (λ os e. (operators-first p es (h .0) os e, more-operators-ok p es [] ss (h .1) tt os e)) (λ os ho.
+    yields NamesOk _ (record {
+      inputs = k .inputs;
+      outputs = k .outputs;
+      errors = k .errors;
+      types = k .types;
+      operations = k .operations;
+      operators = one-more OperatorsOk (n .operators) _ (k .operators) (record { some-level = levels-of-some os (ho .0) (ho .1); levels = levels-of-ok os (ho .1) });
+    })))
+
+section-ok : (p : Program) (s : Section) (n : Names) → Each SectionOk (p .sections) → SectionOk s → NamesOk n → Yields NamesOk (declareSection p s n)
 unfolding declareSection SectionOk Each
-section-ok p (inputs es) n h k =
+section-ok p (inputs es) n ss h k =
     next NamesOk (Each KnownOk) (declareAll es (n .inputs) (n .operations)) _ (all-ok es (n .inputs) (n .operations) h (k .inputs)) (λ ks hk.
-    yields NamesOk _ (record { inputs = hk; outputs = k .outputs; errors = k .errors; types = k .types; operations = k .operations }))
-section-ok p (outputs es) n h k =
+    yields NamesOk _ (record { inputs = hk; outputs = k .outputs; errors = k .errors; types = k .types; operations = k .operations; operators = k .operators }))
+section-ok p (outputs es) n ss h k =
     next NamesOk (Each KnownOk) (declareAll es (n .outputs) []) _ (all-ok es (n .outputs) [] h (k .outputs)) (λ ks hk.
-    yields NamesOk _ (record { inputs = k .inputs; outputs = hk; errors = k .errors; types = k .types; operations = k .operations }))
-section-ok p (both es) n h k =
+    yields NamesOk _ (record { inputs = k .inputs; outputs = hk; errors = k .errors; types = k .types; operations = k .operations; operators = k .operators }))
+section-ok p (both es) n ss h k =
     next NamesOk BothOk (declareBoth es (n .inputs) (n .outputs) (n .operations)) _ (both-ok es (n .inputs) (n .outputs) (n .operations) h (k .inputs) (k .outputs)) (λ ks hk.
-    yields NamesOk _ (record { inputs = hk .0; outputs = hk .1; errors = k .errors; types = k .types; operations = k .operations }))
-section-ok p (errors es) n h k =
+    yields NamesOk _ (record { inputs = hk .0; outputs = hk .1; errors = k .errors; types = k .types; operations = k .operations; operators = k .operators }))
+section-ok p (errors es) n ss h k =
     next NamesOk (Each KnownOk) (declareAll es (n .errors) []) _ (all-ok es (n .errors) [] h (k .errors)) (λ ks hk.
-    yields NamesOk _ (record { inputs = k .inputs; outputs = k .outputs; errors = hk; types = k .types; operations = k .operations }))
-section-ok p (values w es) n h k =
+    yields NamesOk _ (record { inputs = k .inputs; outputs = k .outputs; errors = hk; types = k .types; operations = k .operations; operators = k .operators }))
+section-ok p (values w es) n ss h k =
     passed NamesOk (given (findType (w .text) (n .types))) 4 w _ (λ _.
     next NamesOk (Each KnownOk) (declareAll es [] []) _ (all-ok es [] [] h tt) (λ ks hk.
-    yields NamesOk _ (record { inputs = k .inputs; outputs = k .outputs; errors = k .errors; types = one-more TypeOk (n .types) _ (k .types) hk; operations = k .operations })))
-section-ok p (operations os) n h k = operations-ok p os n h k
+    yields NamesOk _ (record { inputs = k .inputs; outputs = k .outputs; errors = k .errors; types = one-more TypeOk (n .types) _ (k .types) hk; operations = k .operations; operators = k .operators })))
+section-ok p (operations os) n ss h k = operations-ok p os n h k
+section-ok p (operators w es) n ss h k = operators-ok p w es n ss h k
 
-pub sections-ok : (p : Program) (ss : List Section) (n : Names) → Each SectionOk ss → NamesOk n → Yields NamesOk (declareSections p ss n)
+pub sections-ok : (p : Program) (ss : List Section) (n : Names) → Each SectionOk (p .sections) → Each SectionOk ss → NamesOk n → Yields NamesOk (declareSections p ss n)
 unfolding declareSections Each
-sections-ok p [] n h k = yields NamesOk n k
-sections-ok p (s ∷ ss) n h k = next NamesOk NamesOk (declareSection p s n) _ (section-ok p s n (h .0) k) (λ m hm. sections-ok p ss m (h .1) hm)
+sections-ok p [] n all h k = yields NamesOk n k
+sections-ok p (s ∷ ss) n all h k = next NamesOk NamesOk (declareSection p s n) _ (section-ok p s n all (h .0) k) (λ m hm. sections-ok p ss m all (h .1) hm)

@@ -1,5 +1,5 @@
--- The number of a refusal is 1 to 9 or 20, and so never 0: the laws follow the readers and the checks, one by one.
-use mathlib.Core.Bool.{Bool, true, false, _&&_, _||_}
+-- The number of a refusal is 1 to 9, 45 or 20, and so never 0: the laws follow the readers and the checks, one by one.
+use mathlib.Core.Bool.{Bool, true, false, _&&_, _||_, not}
 use mathlib.Core.List.{List, [], _∷_, _++_}
 use mathlib.Core.Logic.{_⊎_, inl, inr}
 use mathlib.Core.Option.{Option, none, some}
@@ -10,29 +10,32 @@ use lib.Dec.{eqb, leb, ltb}
 use lib.ListN.{length}
 use native.Mathlib.Omega.{arith}
 use Rattle.acceptance.specs.Answers.{Fault, RefusalNumber}
-use Rattle.base.specs.Common.{if_then_else_, given, member}
+use Rattle.base.specs.Common.{if_then_else_, bytes, given, member}
 use Rattle.base.specs.Tree.{Action, plain, cycle, choice, Actions, done, _▸_, Alternatives, nil, alternative, Otherwise, absent, otherwise}
-use Rattle.names.specs.Declare.{repeats, clashes, declareAll, declareBoth, declareOperations, declareSection, declareSections, knownRules}
+use Rattle.names.specs.Declare.{repeats, clashes, declareAll, declareBoth, declareOperations, inputsOf, outputsOf, otherSide, listed, operatorOf, operatorsOf, declareSection, declareSections, knownRules}
 use Rattle.names.specs.Known as known
-use Rattle.names.specs.Known.{Checked, good, wrong, faultIf, Known, KnownType, KnownOperation, KnownRule, Names, find, findType, findOperation, findRule, declared, isType, elsewhere, lookup, lookupType, optionalType}
-use Rattle.names.specs.Resolve.{Place, Chooses, operationOf, ruleNamed, parameterOf, updateOf, matchOf, giveOf, plainOf, selectorOf, labelsOf, actOf, actsOf, altsOf, otherOf}
+use Rattle.names.specs.Known.{Checked, good, wrong, faultIf, Known, KnownType, KnownOperation, KnownRule, Names, find, findType, findOperation, findOperators, findRule, declared, isType, elsewhere, lookup, lookupType, optionalType}
+use Rattle.names.specs.Resolve.{Place, Chooses, operationOf, ruleNamed, parameterOf, updateOf, matchOf, giveOf, rankedOf, plainOf, selectorOf, labelsOf, actOf, actsOf, altsOf, otherOf}
+use Rattle.names.specs.Uses.{Use, pairsOf, lowestOf, levelsUsed, madeFor}
 use Rattle.names.specs.Understand.{nobody, taken, isFirst, ruleMeans, rulesMean, understand}
 use Rattle.processor.specs.Process.{Part, partOf, Understood, meaning, faulty, checked, readIn, understood, Answer, accepted, refused, answerFor, process}
+use Rattle.program.specs.Made as made
+use Rattle.program.specs.Made.{crowded}
 use Rattle.program.specs.Past.{pastAll}
 use Rattle.program.specs.Program as means
 use Rattle.program.specs.Table.{sizeRules, table}
 use Rattle.finishing.specs.Test.{finishing}
-use Rattle.syntax.specs.Actions.{aConstant, aValue, aPlain, aSelector, aLabel, someLabels, closes, aCycle, aChoice, anAction, anOtherwise, anAlternative, actions, alternatives}
+use Rattle.syntax.specs.Actions.{aConstant, aValue, aRanked, aPlain, aSelector, aLabel, someLabels, closes, aCycle, aChoice, anAction, anOtherwise, anAlternative, actions, alternatives}
 use Rattle.syntax.specs.Parse.{aRule, someRules, program, parse, endOf}
 use Rattle.syntax.specs.Reading.{Read, got, fault, Reader, onward, _>>=_, _>>_, pure, peek, pass, refuse, over, within, on_then_else_, expect, longest, short, aName, oneName, nameOrString, small, aNumber, optional}
-use Rattle.syntax.specs.Sections.{aSpelling, aCount, anEntry, entries, kindAhead, isFull, aParameter, numbered, anOperation, someOperations, Sofar, nothing, after as afterSection, tokenSection, aSection, someSections}
+use Rattle.syntax.specs.Sections.{aSpelling, aCount, anEntry, entries, kindAhead, isFull, aParameter, numbered, anOperation, someOperations, spells, ranking, aLevel, aSide, anOperator, someOperators, operatorSection, mechanismSection, otherSection, namesInAll, Sofar, nothing, after as afterSection, tokenSection, aSection, someSections}
 use Rattle.syntax.specs.Written as written
-use Rattle.syntax.specs.Written.{Act, Acts, Choices, Constant, Entry, Operation, Section, inputs, outputs, both, errors, values, operations, Rule, Program}
+use Rattle.syntax.specs.Written.{Act, Acts, Choices, Constant, Entry, Operation, Section, inputs, outputs, both, errors, values, operations, operators, Rule, Program}
 use Rattle.words.specs.Words.{Word, words, bad, last, twice, name, number, string, input, output, error, type, mechanism, rules, end, value}
 
 -- Readers
 
--- whatever fault m gives, its number is 1 to 9
+-- whatever fault m gives, its number is 1 to 9 or 45
 record Faults {A : Type 0} (m : Reader A) : Type 0 where
   says : (ws : List Word) (n : ℕ) (w : Word) → m ws ≡ fault n w → Fault n
 
@@ -41,7 +44,7 @@ no-fault e = let z : _≡_ {A = ℕ} 0 1 = cc in absurd (omega arith)
 
 -- a fault with a number of this kind
 this : {A : Type 0} {k n : ℕ} {v w : Word} → _≡_ {A = Read A} (fault k v) (fault n w) → Fault k → Fault n
-this {k = k} {n = n} e h = let d : k ≡ n = cc in (omega (arith, h .0), omega (arith, h .1))
+this {k = k} {n = n} e h = let d : k ≡ n = cc in rw d at h
 
 bind : {A B : Type 0} {m : Reader A} {f : A → Reader B} → Faults m → ((a : A) → Faults (f a)) → Faults (_>>=_ m f)
 unfolding onward
@@ -49,7 +52,7 @@ bind {A} {B} {m} {f} p q = record { says = λ ws n w e. go ws n w (m ws) refl e 
   where
     go : (ws : List Word) (n : ℕ) (w : Word) (r : Read A) → m ws ≡ r → onward r f ≡ fault n w → Fault n
     go ws n w (got a rest) d e = q a .says rest n w e
-    go ws n w (fault k v) d e = let x : k ≡ n = cc in let y = p .says ws k v d in (omega (arith, y .0), omega (arith, y .1))
+    go ws n w (fault k v) d e = let x : k ≡ n = cc in rw x at (p .says ws k v d)
 
 after : {A B : Type 0} {m : Reader A} {k : Reader B} → Faults m → Faults k → Faults (_>>_ m k)
 after p q = bind p (λ _. q)
@@ -70,15 +73,15 @@ unfolding refuse
 refuses {A} = record { says = λ ws n w e. go n w (peek ws) (eqb (peek ws .kind) bad) e }
   where
     go : (n : ℕ) (w v : Word) (t : Bool) → _≡_ {A = Read A} (fault (if t then 1 else 2) v) (fault n w) → Fault n
-    go n w v true e = this e (omega arith, omega arith)
-    go n w v false e = this e (omega arith, omega arith)
+    go n w v true e = this e (inl (omega arith, omega arith))
+    go n w v false e = this e (inl (omega arith, omega arith))
 
 nine : {A : Type 0} {v : Word} → Faults {A = A} (λ _. fault 9 v)
-nine = record { says = λ ws n w e. this e (omega arith, omega arith) }
+nine = record { says = λ ws n w e. this e (inl (omega arith, omega arith)) }
 
 overs : {A : Type 0} → Faults {A = A} over
 unfolding over
-overs = record { says = λ ws n w e. this e (omega arith, omega arith) }
+overs = record { says = λ ws n w e. this e (inl (omega arith, omega arith)) }
 
 either : {A : Type 0} (t : Bool) {m k : Reader A} → Faults m → Faults k → Faults (if t then m else k)
 either true p q = p
@@ -126,7 +129,7 @@ smalls = by (λ ws. ltb 65535 (value 0 (peek ws .text))) overs (record { says = 
   where
     go : (ws : List Word) (n : ℕ) (w : Word) (x : ℕ) (r : Read Word) → pass ws ≡ r → onward r (λ _. pure x) ≡ fault n w → Fault n
     go ws n w x (got v rest) d e = no-fault e
-    go ws n w x (fault k v) d e = let z : k ≡ n = cc in let y = passes .says ws k v d in (omega (arith, y .0), omega (arith, y .1))
+    go ws n w x (fault k v) d e = let z : k ≡ n = cc in rw z at (passes .says ws k v d)
 
 numbers : Faults aNumber
 unfolding aNumber
@@ -187,6 +190,45 @@ unfolding tokenSection
 token-section k s =
     on-kind output (after passes (section-of k (s .left) true (max (s .input) (s .output)) both)) (section-of k (s .left) true (s .input) inputs)
 
+ranks : Faults ranking
+unfolding ranking onward
+ranks = by (λ ws. eqb (value 0 (peek ws .text)) 0 || ltb 15 (value 0 (peek ws .text))) overs (record { says = λ ws n w e. go ws n w (value 0 (peek ws .text)) (pass ws) refl e })
+  where
+    go : (ws : List Word) (n : ℕ) (w : Word) (x : ℕ) (r : Read Word) → pass ws ≡ r → onward r (λ _. pure x) ≡ fault n w → Fault n
+    go ws n w x (got v rest) d e = no-fault e
+    go ws n w x (fault k v) d e = let z : k ≡ n = cc in rw z at (passes .says ws k v d)
+
+levels : Faults aLevel
+unfolding aLevel
+levels = on-kind number ranks refuses
+
+sides : Faults aSide
+unfolding aSide
+sides = record {
+  says = λ ws. either (spells (bytes "left") ws) (after passes pures) (either (spells (bytes "right") ws) (after passes pures) refuses) .says ws;
+}
+
+an-operator : Faults anOperator
+unfolding anOperator
+an-operator = bind names-strings (λ t. bind levels (λ l. bind sides (λ s. bind names-strings (λ o. pures))))
+
+all-operators : (k : ℕ) → Faults (someOperators k)
+unfolding someOperators
+all-operators zero = refuses
+all-operators (suc k) = bind an-operator (λ o. bind (on-kind (code ";") (after passes pures) (all-operators k)) (λ more. pures))
+
+operator-section : (k : ℕ) (s : Sofar) → Faults (operatorSection k s)
+unfolding operatorSection
+operator-section k s = bind (one-name (s .left)) (λ w. after (expects (code ":")) (bind (all-operators k) (λ os. pures)))
+
+mechanism-section : (k : ℕ) (s : Sofar) → Faults (mechanismSection k s)
+unfolding mechanismSection
+mechanism-section k s = after (expects mechanism) (after names (after (expects (code ":")) (bind (all-operations k (s .left) (s .seen)) (λ os. pures))))
+
+other-section : (k : ℕ) (s : Sofar) → Faults (otherSection k s)
+unfolding otherSection
+other-section k s = record { says = λ ws. either (spells (bytes "operators") ws) (after passes (operator-section k s)) (mechanism-section k s) .says ws }
+
 section : (k : ℕ) (s : Sofar) → Faults (aSection k s)
 unfolding aSection
 section k s =
@@ -194,7 +236,7 @@ section k s =
     (on-kind output (after passes (section-of k (s .left) true (s .output) outputs))
     (on-kind error (after passes (section-of k (s .left) false (s .error) errors))
     (on-kind type (after passes (bind (one-name (s .left)) (λ w. section-of k (s .left - 1) false 0 (values w))))
-    (after (expects mechanism) (after names (after (expects (code ":")) (bind (all-operations k (s .left) (s .seen)) (λ os. pures))))))))
+    (other-section k s))))
 
 sections : (k : ℕ) (s : Sofar) → Faults (someSections k s)
 unfolding someSections
@@ -211,6 +253,10 @@ gives : Faults aValue
 unfolding aValue
 gives = on-kind name (bind names (λ v. pures)) (on-kind string (bind passes (λ v. pures)) pures)
 
+ranked : (s : Word) → Faults (aRanked s)
+unfolding aRanked
+ranked s = bind names (λ w. after (expects (code "@")) (bind names (λ r. pures)))
+
 plains : Faults aPlain
 unfolding aPlain
 plains =
@@ -222,7 +268,8 @@ plains =
     (on-kind (code ">") (bind passes (λ w. pures))
     (on-kind (code "@") (after passes (bind names (λ w. pures)))
     (on-kind twice (bind passes (λ w. bind gives (λ v. pures)))
-    refuses)))))))
+    (on-kind (code "^") (bind passes (λ s. ranked s))
+    refuses))))))))
 
 selectors : Faults aSelector
 unfolding aSelector
@@ -304,12 +351,12 @@ unfolding parse
 parsed text n w e = go (ltb 32768 (length text)) e
   where
     go : (t : Bool) → (if t then fault 9 (endOf text) else program (length text + 1) (words text)) ≡ fault n w → Fault n
-    go true d = this d (omega arith, omega arith)
+    go true d = this d (inl (omega arith, omega arith))
     go false d = programs (length text + 1) .says (words text) n w d
 
 -- Names
 
--- whatever fault m gives, its number is 1 to 9
+-- whatever fault m gives, its number is 1 to 9 or 45
 record Wrongs {A : Type 0} (m : Checked A) : Type 0 where
   says : (n : ℕ) (w : Word) → m ≡ wrong n w → Fault n
 
@@ -317,7 +364,7 @@ goods : {A : Type 0} {a : A} → Wrongs (good a)
 goods = record { says = λ n w e. (let z : _≡_ {A = ℕ} 0 1 = cc in absurd (omega arith)) }
 
 wrongs : {A : Type 0} (k : ℕ) {v : Word} → Fault k → Wrongs {A = A} (wrong k v)
-wrongs k h = record { says = λ n w e. (let d : k ≡ n = cc in (omega (arith, h .0), omega (arith, h .1))) }
+wrongs k h = record { says = λ n w e. (let d : k ≡ n = cc in rw d at h) }
 
 next : {A B : Type 0} (m : Checked A) {f : A → Checked B} → Wrongs m → ((a : A) → Wrongs (f a)) → Wrongs (known._>>=_ m f)
 next (good a) p q = q a
@@ -336,8 +383,8 @@ unfolding elsewhere
 elsewheres {A} p w = go (declared p (w .text))
   where
     go : (t : Bool) → Wrongs {A = A} (wrong (if t then 5 else 3) w)
-    go true = wrongs 5 (omega arith, omega arith)
-    go false = wrongs 3 (omega arith, omega arith)
+    go true = wrongs 5 (inl (omega arith, omega arith))
+    go false = wrongs 3 (inl (omega arith, omega arith))
 
 -- what is found, or a fault
 found : {A B : Type 0} (o : Option A) {f : A → Checked B} {m : Checked B} → ((a : A) → Wrongs (f a)) → Wrongs m → Wrongs {A = B} (elim o as (λ _. Checked B) [ some a ↦ f a | none ↦ m ])
@@ -350,7 +397,7 @@ lookups p ks w = found (find (w .text) ks) (λ v. goods) (elsewheres p w)
 
 type-lookups : (p : Program) (ts : List KnownType) (w : Word) → Wrongs (lookupType p ts w)
 unfolding lookupType
-type-lookups p ts w = found (findType (w .text) ts) (λ ks. goods) (one-of (isType (w .text) (p .sections)) (wrongs 3 (omega arith, omega arith)) (elsewheres p w))
+type-lookups p ts w = found (findType (w .text) ts) (λ ks. goods) (one-of (isType (w .text) (p .sections)) (wrongs 3 (inl (omega arith, omega arith))) (elsewheres p w))
 
 optional-types : (p : Program) (ts : List KnownType) (w : Option Word) → Wrongs (optionalType p ts w)
 unfolding optionalType
@@ -360,20 +407,33 @@ optional-types p ts (some w) = next (lookupType p ts w) (type-lookups p ts w) (�
 declare-all : (es : List Entry) (have : List Known) (os : List KnownOperation) → Wrongs (declareAll es have os)
 unfolding declareAll
 declare-all [] have os = goods
-declare-all (e ∷ es) have os = tested (repeats e have || clashes e os) 4 (e .entry) (omega arith, omega arith) (λ _. declare-all es _ os)
+declare-all (e ∷ es) have os = tested (repeats e have || clashes e os) 4 (e .entry) (inl (omega arith, omega arith)) (λ _. declare-all es _ os)
 
 declare-both : (es : List Entry) (ins outs : List Known) (os : List KnownOperation) → Wrongs (declareBoth es ins outs os)
 unfolding declareBoth
 declare-both [] ins outs os = goods
-declare-both (e ∷ es) ins outs os = tested (repeats e ins || repeats e outs || clashes e os) 4 (e .entry) (omega arith, omega arith) (λ _. declare-both es _ _ os)
+declare-both (e ∷ es) ins outs os = tested (repeats e ins || repeats e outs || clashes e os) 4 (e .entry) (inl (omega arith, omega arith)) (λ _. declare-both es _ _ os)
 
 declare-operations : (p : Program) (os : List Operation) (n : Names) → Wrongs (declareOperations p os n)
 unfolding declareOperations
 declare-operations p [] n = goods
 declare-operations p (o ∷ os) n =
-    tested (given (findOperation (o .operation .text) (n .operations)) || given (find (o .operation .text) (n .inputs))) 4 (o .operation) (omega arith, omega arith)
+    tested (given (findOperation (o .operation .text) (n .operations)) || given (find (o .operation .text) (n .inputs))) 4 (o .operation) (inl (omega arith, omega arith))
     (λ _. next (optionalType p (n .types) (o .takes)) (optional-types p (n .types) (o .takes)) (λ t.
     next (optionalType p (n .types) (o .gives)) (optional-types p (n .types) (o .gives)) (λ g. declare-operations p os _)))
+
+operator-of : (p : Program) (e : written.Operator) (before : List made.Operator) → Wrongs (operatorOf p e before)
+unfolding operatorOf
+operator-of p e before =
+    tested (not (declared p (e .token .text))) 3 (e .token) (inl (omega arith, omega arith)) (λ _.
+    tested (otherSide e before || listed (find (e .token .text) (inputsOf (p .sections))) before) 45 (e .token) (inr refl) (λ _.
+    next (lookup p (inputsOf (p .sections)) (e .token)) (lookups p (inputsOf (p .sections)) (e .token)) (λ t.
+    next (lookup p (outputsOf (p .sections)) (e .emits)) (lookups p (outputsOf (p .sections)) (e .emits)) (λ o. goods))))
+
+operators-of : (p : Program) (es : List written.Operator) (before : List made.Operator) → Wrongs (operatorsOf p es before)
+unfolding operatorsOf
+operators-of p [] before = goods
+operators-of p (e ∷ es) before = next (operatorOf p e before) (operator-of p e before) (λ o. operators-of p es _)
 
 declare-section : (p : Program) (s : Section) (n : Names) → Wrongs (declareSection p s n)
 unfolding declareSection
@@ -382,8 +442,10 @@ declare-section p (outputs es) n = next (declareAll es (n .outputs) []) (declare
 declare-section p (both es) n = next (declareBoth es (n .inputs) (n .outputs) (n .operations)) (declare-both es (n .inputs) (n .outputs) (n .operations)) (λ ks. goods)
 declare-section p (errors es) n = next (declareAll es (n .errors) []) (declare-all es (n .errors) []) (λ ks. goods)
 declare-section p (values w es) n =
-    tested (given (findType (w .text) (n .types))) 4 w (omega arith, omega arith) (λ _. next (declareAll es [] []) (declare-all es [] []) (λ ks. goods))
+    tested (given (findType (w .text) (n .types))) 4 w (inl (omega arith, omega arith)) (λ _. next (declareAll es [] []) (declare-all es [] []) (λ ks. goods))
 declare-section p (operations os) n = declare-operations p os n
+declare-section p (operators w es) n =
+    tested (given (findOperators (w .text) (n .operators))) 4 w (inl (omega arith, omega arith)) (λ _. next (operatorsOf p es []) (operators-of p es []) (λ os. goods))
 
 declare-sections : (p : Program) (ss : List Section) (n : Names) → Wrongs (declareSections p ss n)
 unfolding declareSections
@@ -398,61 +460,68 @@ module _ (p : Program) (n : Names) (ks : List KnownRule) where
   rule-named : (w : Word) → Wrongs (ruleNamed p n ks w)
   unfolding ruleNamed
   rule-named w =
-      one-of (given (findOperation (w .text) (n .operations))) (wrongs 5 (omega arith, omega arith)) (found (findRule (w .text) ks) (λ r. goods) (elsewheres p w))
+      one-of (given (findOperation (w .text) (n .operations))) (wrongs 5 (inl (omega arith, omega arith))) (found (findRule (w .text) ks) (λ r. goods) (elsewheres p w))
 
   parameter-of : (w : Word) (takes : Option (List Known)) (c : Option Constant) → Wrongs (parameterOf p n ks w takes c)
   unfolding parameterOf
   parameter-of w none none = goods
-  parameter-of w none (some c) = wrongs 5 (omega arith, omega arith)
-  parameter-of w (some ms) none = wrongs 5 (omega arith, omega arith)
+  parameter-of w none (some c) = wrongs 5 (inl (omega arith, omega arith))
+  parameter-of w (some ms) none = wrongs 5 (inl (omega arith, omega arith))
   parameter-of w (some ms) (some c) = next (lookup p ms (c .constant)) (lookups p ms (c .constant)) (λ v. goods)
 
   update-of : (w : Word) (c : Option Constant) → Wrongs (updateOf p n ks w c)
   unfolding updateOf
   update-of w c =
-      next (operationOf p n ks w) (operation-of w) (λ o. tested (given (o .gives)) 5 w (omega arith, omega arith)
+      next (operationOf p n ks w) (operation-of w) (λ o. tested (given (o .gives)) 5 w (inl (omega arith, omega arith))
       (λ _. next (parameterOf p n ks w (o .takes) c) (parameter-of w (o .takes) c) (λ v. goods)))
 
   match-of : (v : ℕ) (c : Option Constant) → Wrongs (matchOf p n ks v c)
   unfolding matchOf
   match-of v none = goods
-  match-of v (some c) = wrongs 5 (omega arith, omega arith)
+  match-of v (some c) = wrongs 5 (inl (omega arith, omega arith))
 
   give-of : (g : Option (List Known)) (w : Word) (v : Option Word) → Wrongs (giveOf p n ks g w v)
   unfolding giveOf
   give-of none w none = goods
-  give-of none w (some v) = wrongs 8 (omega arith, omega arith)
-  give-of (some ms) w none = wrongs 8 (omega arith, omega arith)
+  give-of none w (some v) = wrongs 8 (inl (omega arith, omega arith))
+  give-of (some ms) w none = wrongs 8 (inl (omega arith, omega arith))
   give-of (some ms) w (some v) = next (lookup p ms v) (lookups p ms v) (λ x. goods)
+
+  -- what is found, or a fault where there is none
+  typed : {A B : Type 0} (o : Option A) {m : Checked B} {f : A → Checked B} → Wrongs m → ((a : A) → Wrongs (f a)) → Wrongs {A = B} (elim o as (λ _. Checked B) [ none ↦ m | some a ↦ f a ])
+  typed none p q = p
+  typed (some a) p q = q a
+
+  ranked-of : (s w o : Word) → Wrongs (rankedOf p n ks s w o)
+  unfolding rankedOf
+  ranked-of s w o =
+      typed (findOperators (w .text) (n .operators)) (elsewheres p w) (λ ls.
+      next (ruleNamed p n ks o) (rule-named o) (λ r. tested (given (r .gives)) 5 o (inl (omega arith, omega arith)) (λ _. goods)))
 
   plain-of : (at : Place) (a : written.Plain) → Wrongs (plainOf p n ks at a)
   unfolding plainOf
   plain-of at (written.named w c) = found (find (w .text) (n .inputs)) (λ v. match-of v c) (update-of w c)
   plain-of at (written.any w) = goods
-  plain-of at (written.exit w) = one-of (at .inside) goods (wrongs 7 (omega arith, omega arith))
+  plain-of at (written.exit w) = one-of (at .inside) goods (wrongs 7 (inl (omega arith, omega arith)))
   plain-of at (written.emit w) = next (lookup p (n .outputs) w) (lookups p (n .outputs) w) (λ v. goods)
   plain-of at (written.error w) = next (lookup p (n .errors) w) (lookups p (n .errors) w) (λ v. goods)
-  plain-of at (written.call w) = next (ruleNamed p n ks w) (rule-named w) (λ r. tested (given (r .gives)) 5 w (omega arith, omega arith) (λ _. goods))
+  plain-of at (written.call w) = next (ruleNamed p n ks w) (rule-named w) (λ r. tested (given (r .gives)) 5 w (inl (omega arith, omega arith)) (λ _. goods))
   plain-of at (written.give w v) = give-of (at .gives) w v
-
-  -- the members of a type, or a fault where there is none
-  typed : {A B : Type 0} (o : Option A) {m : Checked B} {f : A → Checked B} → Wrongs m → ((a : A) → Wrongs (f a)) → Wrongs {A = B} (elim o as (λ _. Checked B) [ none ↦ m | some a ↦ f a ])
-  typed none p q = p
-  typed (some a) p q = q a
+  plain-of at (written.ranked s w o) = ranked-of s w o
 
   selector-of : (s : written.Selector) → Wrongs (selectorOf p n ks s)
   unfolding selectorOf
   selector-of written.byToken = goods
-  selector-of (written.byRule w) = next (ruleNamed p n ks w) (rule-named w) (λ r. typed (r .gives) (wrongs 5 (omega arith, omega arith)) (λ t. goods))
+  selector-of (written.byRule w) = next (ruleNamed p n ks w) (rule-named w) (λ r. typed (r .gives) (wrongs 5 (inl (omega arith, omega arith))) (λ t. goods))
   selector-of (written.byOperation w c) =
-      next (operationOf p n ks w) (operation-of w) (λ o. typed (o .gives) (wrongs 5 (omega arith, omega arith)) (λ ms.
+      next (operationOf p n ks w) (operation-of w) (λ o. typed (o .gives) (wrongs 5 (inl (omega arith, omega arith))) (λ ms.
       next (parameterOf p n ks w (o .takes) c) (parameter-of w (o .takes) c) (λ v. goods)))
 
   labels-of : (ws : List Word) (ms : List Known) (seen : List ℕ) → Wrongs (labelsOf p n ks ws ms seen)
   unfolding labelsOf
   labels-of [] ms seen = goods
   labels-of (w ∷ ws) ms seen =
-      next (lookup p ms w) (lookups p ms w) (λ v. tested (member v seen) 6 w (omega arith, omega arith)
+      next (lookup p ms w) (lookups p ms w) (λ v. tested (member v seen) 6 w (inl (omega arith, omega arith))
       (λ _. next (labelsOf p n ks ws ms (v ∷ seen)) (labels-of ws ms (v ∷ seen)) (λ more. goods)))
 
   mutual
@@ -482,11 +551,11 @@ module _ (p : Program) (n : Names) (ks : List KnownRule) where
   rule-means : (seen : List (List ℕ)) (r : written.Rule) → Wrongs (ruleMeans p n ks seen r)
   unfolding ruleMeans
   rule-means seen r =
-      tested (taken (r .rule) n seen) 4 (r .rule) (omega arith, omega arith) (λ _.
-      tested (isFirst seen && given (r .gives)) 5 (r .rule) (omega arith, omega arith) (λ _.
+      tested (taken (r .rule) n seen) 4 (r .rule) (inl (omega arith, omega arith)) (λ _.
+      tested (isFirst seen && given (r .gives)) 5 (r .rule) (inl (omega arith, omega arith)) (λ _.
       next (optionalType p (n .types) (r .gives)) (optional-types p (n .types) (r .gives)) (λ g.
       next (actsOf p n ks (r .body) (record { inside = false; gives = g })) (acts-of (r .body) (record { inside = false; gives = g })) (λ b.
-      tested (given g && pastAll b) 8 (r .closing) (omega arith, omega arith) (λ _. goods)))))
+      tested (given g && pastAll b) 8 (r .closing) (inl (omega arith, omega arith)) (λ _. goods)))))
 
   rules-mean : (seen : List (List ℕ)) (rs : List written.Rule) → Wrongs (rulesMean p n ks seen rs)
   unfolding rulesMean
@@ -494,9 +563,20 @@ module _ (p : Program) (n : Names) (ks : List KnownRule) where
   rules-mean seen (r ∷ rs) =
       next (ruleMeans p n ks seen r) (rule-means seen r) (λ first. next (rulesMean p n ks (r .rule .text ∷ seen) rs) (rules-mean (r .rule .text ∷ seen) rs) (λ rest. goods))
 
+made-for : (n : Names) (ks : List KnownRule) (others own : ℕ) (us : List Use) → Wrongs (madeFor n ks others own us)
+unfolding madeFor
+made-for n ks others own [] = goods
+made-for n ks others own (u ∷ us) =
+    tested (ltb 128 (own + length (levelsUsed n u)) || ltb 512 (others + (own + length (levelsUsed n u))) || crowded (levelsUsed n u)) 9 (u .sign) (inl (omega arith, omega arith)) (λ _.
+    next (madeFor n ks others (own + length (levelsUsed n u)) us) (made-for n ks others (own + length (levelsUsed n u)) us) (λ more. goods))
+
 understands : (p : Program) → Wrongs (understand p)
 unfolding understand
-understands p = next (declareSections p (p .sections) nobody) (declare-sections p (p .sections) nobody) (λ n. rules-mean p n (knownRules 0 (p .rules)) [] (p .rules))
+understands p =
+    next (declareSections p (p .sections) nobody) (declare-sections p (p .sections) nobody) (λ n.
+    next (rulesMean p n (knownRules 0 (p .rules)) [] (p .rules)) (rules-mean p n (knownRules 0 (p .rules)) [] (p .rules)) (λ own.
+    next (madeFor n (knownRules 0 (p .rules)) (namesInAll (p .sections)) (length (p .rules)) (pairsOf (p .rules)))
+    (made-for n (knownRules 0 (p .rules)) (namesInAll (p .sections)) (length (p .rules)) (pairsOf (p .rules))) (λ made. goods)))
 
 -- The theorem
 
@@ -506,13 +586,13 @@ understood-fault text n at e = go (parse text) refl e
   where
     inner : (p : Program) (c : Checked (List means.Rule)) → understand p ≡ c → checked c ≡ faulty n at → Fault n
     inner p (good x) d d₁ = let z : _≡_ {A = ℕ} 0 1 = cc in absurd (omega arith)
-    inner p (wrong k w) d d₁ = let x : k ≡ n = cc in let h = understands p .says k w d in (omega (arith, h .0), omega (arith, h .1))
+    inner p (wrong k w) d d₁ = let x : k ≡ n = cc in rw x at (understands p .says k w d)
 
     go : (r : Read Program) → parse text ≡ r → readIn r ≡ faulty n at → Fault n
     go (got p ws) d d₁ = inner p (understand p) refl d₁
-    go (fault k w) d d₁ = let x : k ≡ n = cc in let h = parsed text k w d in (omega (arith, h .0), omega (arith, h .1))
+    go (fault k w) d d₁ = let x : k ≡ n = cc in rw x at (parsed text k w d)
 
--- a refusal's number is one of 1 to 9, or 20
+-- a refusal's number is one of 1 to 9, or 45, or 20
 pub refusal-number : (text : List ℕ) (room n : ℕ) (at : Part) → process text room ≡ refused n at → RefusalNumber n
 unfolding process answerFor
 refusal-number text room n at e = go (understood text) refl e
@@ -523,12 +603,13 @@ refusal-number text room n at e = go (understood text) refl e
 
     go : (u : Understood) → understood text ≡ u → answerFor text room u ≡ refused n at → RefusalNumber n
     go (meaning prog) d d₁ = sized (leb (sizeRules prog) room && leb (sizeRules prog) 4096) (table prog) (finishing prog) (partOf (endOf text)) d₁
-    go (faulty k part) d d₁ = let x : k ≡ n = cc in let h = understood-fault text k part d in inl (omega (arith, h .0), omega (arith, h .1))
+    go (faulty k part) d d₁ = let x : k ≡ n = cc in inl (rw x at (understood-fault text k part d))
 
 -- so it is never 0, the number of a text that is accepted
 pub never-0 : (text : List ℕ) (room n : ℕ) (at : Part) → process text room ≡ refused n at → n ≡ 0 → ⊥
 never-0 text room n at e z = go (refusal-number text room n at e)
   where
     go : RefusalNumber n → ⊥
-    go (inl h) = omega (arith, h .0)
+    go (inl (inl h)) = omega (arith, h .0)
+    go (inl (inr h)) = omega arith
     go (inr h) = omega arith

@@ -1,24 +1,25 @@
 -- What a text that the syntax pass reads through has: the laws follow the readers, one by one.
-use mathlib.Core.Bool.{Bool, true, false}
+use mathlib.Core.Bool.{Bool, true, false, _||_}
 use mathlib.Core.List.{List, [], _∷_}
 use mathlib.Core.Option.{Option}
 use mathlib.Core.Path.{_≡_, refl}
 use Prim.Native.Char.{code}
 use Prim.Native.Nat.{ℕ, zero, suc, _+_, _-_, _<_, _≤_, max, min}
-use lib.Dec.{ltb}
+use lib.Dec.{eqb, ltb}
 use lib.ListN.{length}
-use borrow.Author.Tests.{ltb-false}
+use borrow.Author.Tests.{ltb-false, ltb-true, eqb-false}
 use native.Mathlib.Omega.{arith}
 use Rattle.acceptance.proofs.ReadLaws.{Gives, Any, any, no-got, bind, after, gives, refuses, either, on-kind, limited}
-use Rattle.acceptance.proofs.Shape.{Each, Defaulted, Shaped, ShapedAll, ShapedAlts, ShapedOther, ShapedChoices, NotEmpty, InRange, OfKind, SectionOk, WrittenOk}
-use Rattle.base.specs.Common.{if_then_else_, given}
+use Rattle.acceptance.proofs.Shape.{Each, Defaulted, Shaped, ShapedAll, ShapedAlts, ShapedOther, ShapedChoices, NotEmpty, InRange, OfKind, Ranked, SectionOk, WrittenOk}
+use Rattle.base.specs.Bools.{never}
+use Rattle.base.specs.Common.{if_then_else_, bytes, given}
 use Rattle.base.specs.Tree.{Action, plain, cycle, choice, Actions, done, _▸_, Alternatives, nil, alternative, Otherwise, absent, otherwise}
 use Rattle.syntax.proofs.Ahead.{kinds-read, room-left}
 use Rattle.syntax.specs.Actions.{aConstant, aPlain, aSelector, aLabel, someLabels, closes, aCycle, aChoice, anAction, anOtherwise, anAlternative, actions, alternatives}
 use Rattle.syntax.specs.Parse.{aRule, someRules, program, parse, endOf}
-use Rattle.syntax.specs.Reading.{Read, got, fault, Reader, onward, _>>=_, _>>_, pure, peek, pass, refuse, over, within, on_then_else_, expect, short, aName, oneName, small, aNumber, optional}
-use Rattle.syntax.specs.Sections.{aSpelling, aCount, anEntry, entries, firstOf, ofKind, kindAhead, isFull, aParameter, numbered, anOperation, someOperations, Sofar, nothing, after as afterSection, tokenSection, aSection, Sections, someSections}
-use Rattle.syntax.specs.Written.{Act, Acts, Alts, Other, Choices, Entry, Operation, Section, inputs, outputs, both, errors, values, operations, Rule, Program}
+use Rattle.syntax.specs.Reading.{Read, got, fault, Reader, onward, _>>=_, _>>_, pure, peek, pass, refuse, over, within, on_then_else_, expect, short, aName, oneName, small, aNumber, optional, nameOrString}
+use Rattle.syntax.specs.Sections.{aSpelling, aCount, anEntry, entries, firstOf, ofKind, kindAhead, isFull, aParameter, numbered, anOperation, someOperations, Sofar, nothing, after as afterSection, tokenSection, aSection, Sections, someSections, spells, ranking, aLevel, aSide, anOperator, someOperators, operatorSection, mechanismSection, otherSection}
+use Rattle.syntax.specs.Written.{Act, Acts, Alts, Other, Choices, Entry, Operation, Section, inputs, outputs, both, errors, values, operations, Rule, Program, Operator, operators}
 use Rattle.words.specs.Words.{Word, words, last, twice, name, number, string, input, output, error, type, mechanism, rules, end, value}
 
 -- Entries
@@ -108,6 +109,61 @@ operations-ok (suc k) left seen =
     (on-kind (Each OfKind) (code ";") (_>>_ pass (pure [])) (someOperations k (left - 1) (o .instruction ∷ seen)) (after (Each OfKind) pass (pure []) (gives (Each OfKind) [] tt)) (operations-ok k (left - 1) (o .instruction ∷ seen)))
     (λ more hs. gives (Each OfKind) (o ∷ more) (h, hs)))
 
+-- Operators
+
+abbrev Level : ℕ → Type 0
+Level n = (1 ≤ n) × (n ≤ 15)
+
+neither : (a b : Bool) → (a || b) ≡ false → (a ≡ false) × (b ≡ false)
+neither true b e = let z : _≡_ {A = Bool} false true = cc in never z
+neither false b e = (refl, e)
+
+some-level : (n : ℕ) → (n ≡ 0 → ⊥) → 1 ≤ n
+some-level zero h = absurd (h refl)
+some-level (suc n) h = omega arith
+
+ranking-in : Gives Level ranking
+unfolding ranking over onward
+ranking-in ws a rest e = go (eqb n 0 || ltb 15 n) refl e
+  where
+    n : ℕ
+    n = value 0 (peek ws .text)
+
+    got-in : (r : Read Word) → Level n → onward r (λ w. pure n) ≡ got a rest → Level a
+    got-in (got w more) h d = let x : n ≡ a = cc in rw x at h
+    got-in (fault m w) h d = no-got d
+
+    go : (t : Bool) → (eqb n 0 || ltb 15 n) ≡ t → (if t then over ws else onward (pass ws) (λ w. pure n)) ≡ got a rest → Level a
+    go true t e₁ = no-got e₁
+    go false t e₁ =
+        let h = neither (eqb n 0) (ltb 15 n) t in
+        got-in (pass ws) (some-level n (eqb-false n 0 (h .0)), ltb-false 15 n (h .1)) e₁
+
+level-in : Gives Level aLevel
+unfolding aLevel
+level-in = on-kind Level number ranking refuse ranking-in (refuses Level)
+
+operator-in : Gives Ranked anOperator
+unfolding anOperator
+operator-in =
+    bind Ranked Any nameOrString _ (any nameOrString) (λ t _.
+    bind Ranked Level aLevel _ level-in (λ l h.
+    bind Ranked Any aSide _ (any aSide) (λ s _.
+    bind Ranked Any nameOrString _ (any nameOrString) (λ o _.
+    gives Ranked (record { token = t; level = l; right = s; emits = o }) h))))
+
+abbrev SomeRanked : List Operator → Type 0
+SomeRanked os = NotEmpty os × Each Ranked os
+
+operators-in : (k : ℕ) → Gives SomeRanked (someOperators k)
+unfolding someOperators Each NotEmpty
+operators-in zero = refuses SomeRanked
+operators-in (suc k) =
+    bind SomeRanked Ranked anOperator _ operator-in (λ o h.
+    bind SomeRanked (Each Ranked) (on code ";" then (_>>_ pass (pure [])) else someOperators k) _
+    (on-kind (Each Ranked) (code ";") (_>>_ pass (pure [])) (someOperators k) (after (Each Ranked) pass (pure []) (gives (Each Ranked) [] tt)) (λ ws a rest e. operators-in k ws a rest e .1))
+    (λ more hs. gives SomeRanked (o ∷ more) (tt, (h, hs))))
+
 -- Sections
 
 -- a colon, entries, and a section made of them
@@ -123,15 +179,27 @@ tokens-ok k s =
     (after SectionOk pass _ (section-of k (s .left) true (max (s .input) (s .output)) both (λ es h. h)))
     (section-of k (s .left) true (s .input) inputs (λ es h. h))
 
+operators-section : (k : ℕ) (s : Sofar) → Gives SectionOk (operatorSection k s)
+unfolding operatorSection SectionOk
+operators-section k s =
+    bind SectionOk Any (oneName (s .left)) _ (any (oneName (s .left))) (λ w _.
+    after SectionOk (expect (code ":")) _
+    (bind SectionOk SomeRanked (someOperators k) _ (operators-in k) (λ os h. gives SectionOk (operators w os) h)))
+
+mechanism-section : (k : ℕ) (s : Sofar) → Gives SectionOk (mechanismSection k s)
+unfolding mechanismSection SectionOk
+mechanism-section k s =
+    after SectionOk (expect mechanism) _ (after SectionOk aName _ (after SectionOk (expect (code ":")) _
+    (bind SectionOk (Each OfKind) (someOperations k (s .left) (s .seen)) _ (operations-ok k (s .left) (s .seen)) (λ os h. gives SectionOk (operations os) h))))
+
 section-ok : (k : ℕ) (s : Sofar) → Gives SectionOk (aSection k s)
-unfolding aSection SectionOk
+unfolding aSection otherSection SectionOk
 section-ok k s =
     on-kind SectionOk input _ _ (after SectionOk pass _ (tokens-ok k s))
     (on-kind SectionOk output _ _ (after SectionOk pass _ (section-of k (s .left) true (s .output) outputs (λ es h. h)))
     (on-kind SectionOk error _ _ (after SectionOk pass _ (section-of k (s .left) false (s .error) errors (λ es h. h)))
     (on-kind SectionOk type _ _ (after SectionOk pass _ (bind SectionOk Any (oneName (s .left)) _ (any (oneName (s .left))) (λ w _. section-of k (s .left - 1) false 0 (values w) (λ es h. h))))
-    (after SectionOk (expect mechanism) _ (after SectionOk aName _ (after SectionOk (expect (code ":")) _
-    (bind SectionOk (Each OfKind) (someOperations k (s .left) (s .seen)) _ (operations-ok k (s .left) (s .seen)) (λ os h. gives SectionOk (operations os) h))))))))
+    (λ ws a rest e. either SectionOk (spells (bytes "operators") ws) (_>>_ pass (operatorSection k s)) (mechanismSection k s) (after SectionOk pass _ (operators-section k s)) (mechanism-section k s) ws a rest e))))
 
 abbrev AllOk : Sections → Type 0
 AllOk x = Each SectionOk (x .sections)

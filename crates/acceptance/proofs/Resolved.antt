@@ -11,8 +11,10 @@ use Rattle.acceptance.proofs.NamesOk.{KnownOk, TypeOk, MembersOk, Opera
 use Rattle.acceptance.proofs.Shape.{Each, Defaulted, Shaped, ShapedAll, ShapedAlts, ShapedOther}
 use Rattle.base.specs.Common.{if_then_else_, member, given}
 use Rattle.base.specs.Tree.{Action, plain, cycle, choice, Actions, done, _▸_, Alternatives, nil, alternative, Otherwise, absent, otherwise}
-use Rattle.names.specs.Known.{Checked, good, wrong, _>>=_, faultIf, Known, KnownOperation, KnownRule, Names, find, findType, findOperation, findRule, elsewhere, lookup}
-use Rattle.names.specs.Resolve.{Place, within, Chooses, updating, choosing, operationOf, ruleNamed, parameterOf, updateOf, matchOf, giveOf, plainOf, membersOf, selectorOf, labelsOf, actOf, actsOf, altsOf, otherOf}
+use Rattle.names.specs.Known.{Checked, good, wrong, _>>=_, faultIf, Known, KnownOperation, KnownRule, Names, find, findType, findOperation, findOperators, findRule, elsewhere, lookup}
+use Rattle.names.specs.Resolve.{Place, within, Chooses, updating, choosing, operationOf, ruleNamed, parameterOf, updateOf, matchOf, giveOf, rankedOf, plainOf, membersOf, selectorOf, labelsOf, actOf, actsOf, altsOf, otherOf}
+use Rattle.names.specs.Uses.{Use, pairsOf, lowestOf}
+use Rattle.program.specs.Made.{Level}
 use Rattle.program.specs.Accepted.{Value, Values, Labelled, NeedsLabel, Calls, OkPlain, OkSelector, Ok, Oks, OkAlts, OkOther}
 use Rattle.program.specs.Program as means
 use Rattle.program.specs.Program.{Rule}
@@ -32,7 +34,8 @@ pub data SameOther : written.Other → means.Other → Type 0 where
   same-otherwise : {b : written.Acts} {d : means.Acts} → SameOther (otherwise b) (otherwise d)
 
 module _ (p : Program) (n : Names) (rules : List KnownRule) (prog : List Rule) (ok : NamesOk n)
-    (known : (w : List ℕ) (k : KnownRule) → findRule w rules ≡ some k → Calls prog (k .place) (given (k .gives))) where
+    (known : (w : List ℕ) (k : KnownRule) → findRule w rules ≡ some k → Calls prog (k .place) (given (k .gives)))
+    (lowest : (u : Use) → Calls prog (lowestOf n u (length (p .rules)) (pairsOf (p .rules))) false) where
   operation-of : (w : Word) → Yields OperationOk (operationOf p n rules w)
   unfolding operationOf elsewhere
   operation-of w o e = go (findOperation (w .text) (n .operations)) refl e
@@ -125,6 +128,20 @@ module _ (p : Program) (n : Names) (rules : List KnownRule) (prog : List Rule) (
   exit-of w true i = yields (λ a. OkPlain prog a i true) means.exit refl
   exit-of w false i = never (λ a. OkPlain prog a i false) 7 w
 
+  ranked-of : (s w o : Word) (i c : Bool) → Yields (λ a. OkPlain prog a i c) (rankedOf p n rules s w o)
+  unfolding rankedOf OkPlain elsewhere
+  ranked-of s w o i c = go (findOperators (w .text) (n .operators))
+    where
+      go : (x : Option (List Level)) → Yields (λ a. OkPlain prog a i c) (elim x as (λ _. Checked means.Plain) [
+        | none ↦ elsewhere p w
+        | some ls ↦ _>>=_ (ruleNamed p n rules o) (λ r. _>>=_ (faultIf (given (r .gives)) 5 o) (λ _. good (means.call (lowestOf n (record { sign = s; section = w; operand = o }) (length (p .rules)) (pairsOf (p .rules))))))
+      ])
+      go none = λ a e. no-good e
+      go (some ls) =
+          next (λ a. OkPlain prog a i c) (λ _. Unit {0}) (ruleNamed p n rules o) _ (λ _ _. tt) (λ r _.
+          passed (λ a. OkPlain prog a i c) (given (r .gives)) 5 o _ (λ _.
+          yields (λ a. OkPlain prog a i c) (means.call (lowestOf n (record { sign = s; section = w; operand = o }) (length (p .rules)) (pairsOf (p .rules)))) (lowest (record { sign = s; section = w; operand = o }))))
+
   plain-of : (at : Place) (a : written.Plain) → MembersOk (at .gives) → Yields (λ d. OkPlain prog d (given (at .gives)) (at .inside)) (plainOf p n rules at a)
   unfolding plainOf OkPlain
   plain-of at (written.named w k) h = named-of w k (given (at .gives)) (at .inside) (find (w .text) (n .inputs)) refl
@@ -141,6 +158,7 @@ module _ (p : Program) (n : Names) (rules : List KnownRule) (prog : List Rule) (
       passed (λ d. OkPlain prog d (given (at .gives)) (at .inside)) (given (r .gives)) 5 w _ (λ g.
       yields (λ d. OkPlain prog d (given (at .gives)) (at .inside)) (means.call (r .place)) (record { there = hr .there; sort = hr .sort ∙ g })))
   plain-of at (written.give w v) h = give-of (at .gives) w v (at .inside) h
+  plain-of at (written.ranked s w o) h = ranked-of s w o (given (at .gives)) (at .inside)
 
   -- Choices
 

@@ -6,7 +6,7 @@ use lib.ListN.{length}
 use Rattle.base.specs.Common.{given}
 use Rattle.base.specs.Tree.{Action, plain, cycle, choice, Actions, done, _▸_, Alternatives, nil, alternative, Otherwise, absent, otherwise}
 use Rattle.syntax.specs.Sections.{firstOf}
-use Rattle.syntax.specs.Written.{Act, Acts, Alts, Other, Choices, Entry, Operation, Section, inputs, outputs, both, errors, values, operations, Rule, Program}
+use Rattle.syntax.specs.Written.{Act, Acts, Alts, Other, Choices, Entry, Operation, Operator, Section, inputs, outputs, both, errors, values, operations, operators, Rule, Program}
 use Rattle.words.specs.Words.{Word}
 
 -- each of a list
@@ -56,6 +56,10 @@ pub record OfKind (o : Operation) : Type 0 where
   pub low : firstOf (given (o .takes)) (given (o .gives)) ≤ o .instruction
   pub high : o .instruction < firstOf (given (o .takes)) (given (o .gives)) + 256
 
+-- "level 1 to 15"
+abbrev pub Ranked : Operator → Type 0
+Ranked o = (1 ≤ o .level) × (o .level ≤ 15)
+
 unfoldable pub SectionOk : Section → Type 0
 SectionOk (inputs es) = Each InRange es
 SectionOk (outputs es) = Each InRange es
@@ -63,6 +67,7 @@ SectionOk (both es) = Each InRange es
 SectionOk (errors es) = Each InRange es
 SectionOk (values w es) = Each InRange es
 SectionOk (operations os) = Each OfKind os
+SectionOk (operators w os) = NotEmpty os × Each Ranked os
 
 pub record WrittenOk (p : Program) : Type 0 where
   pub sections : Each SectionOk (p .sections)

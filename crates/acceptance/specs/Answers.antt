@@ -26,9 +26,9 @@ pub record TableOf (text : List ℕ) (room : ℕ) (words : List ℕ) (verdict : 
   pub from : (r : ℕ) → 1 ≤ place 1 prog r
   pub inside : (r : ℕ) → r < length prog → place 1 prog r ≤ length words
 
--- the numbers that the rules' author can cause: 1 to 9
+-- the numbers that the rules' author can cause: 1 to 9, and 45 of operators
 abbrev pub Fault : ℕ → Type 0
-Fault n = (1 ≤ n) × (n ≤ 9)
+Fault n = ((1 ≤ n) × (n ≤ 9)) ⊎ (n ≡ 45)
 
 -- the numbers of refusals: those and "20 the table passes the lent buffer or 4,096 words"; so never 0, which the code answers for a text that is
 -- accepted

@@ -15,6 +15,8 @@ use Rattle.names.specs.Declare
 use Rattle.names.specs.Known
 use Rattle.names.specs.Resolve
 use Rattle.names.specs.Understand
+use Rattle.names.specs.Uses
+use Rattle.program.specs.Made
 use Rattle.ownwalk.specs.OwnWalk
 use Rattle.processor.specs.Process
 use Rattle.program.specs.Past
@@ -28,7 +30,7 @@ use Rattle.words.specs.Words
 
 -- the definitions compute where this is unfolded
 walking : Unit {0}
-unfolding Words.opened Reading.opened Actions.opened Sections.opened Parse.opened Known.opened Declare.opened Resolve.opened Understand.opened Program.opened Past.opened Table.opened Process.opened Events.opened Bytes.opened Lengths.opened Decode.opened Walk.opened Step.opened Call.opened Form.opened OwnWalk.opened
+unfolding Words.opened Reading.opened Actions.opened Sections.opened Parse.opened Known.opened Declare.opened Resolve.opened Understand.opened Uses.opened Made.opened Program.opened Past.opened Table.opened Process.opened Events.opened Bytes.opened Lengths.opened Decode.opened Walk.opened Step.opened Call.opened Form.opened OwnWalk.opened
 walking = tt
 
 pub all-agree-at-once : T (allAgree agreesAtOnce (agreements ++ repairs ++ deepAgreements))

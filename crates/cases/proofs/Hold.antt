@@ -19,6 +19,8 @@ use Rattle.names.specs.Declare
 use Rattle.names.specs.Known
 use Rattle.names.specs.Resolve
 use Rattle.names.specs.Understand
+use Rattle.names.specs.Uses
+use Rattle.program.specs.Made
 use Rattle.processor.specs.Process
 use Rattle.program.specs.Past
 use Rattle.program.specs.Program
@@ -31,7 +33,7 @@ use Rattle.words.specs.Words
 
 -- the processor's definitions compute where this is unfolded
 processing : Unit {0}
-unfolding Words.opened Reading.opened Actions.opened Sections.opened Parse.opened Known.opened Declare.opened Resolve.opened Understand.opened Program.opened Past.opened Table.opened Test.opened Bytes.opened Process.opened
+unfolding Words.opened Reading.opened Actions.opened Sections.opened Parse.opened Known.opened Declare.opened Resolve.opened Understand.opened Uses.opened Made.opened Program.opened Past.opened Table.opened Test.opened Bytes.opened Process.opened
 processing = tt
 
 -- P1 to P8 of document 01

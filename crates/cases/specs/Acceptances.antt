@@ -37,6 +37,11 @@ acceptances =
     ∷ says "type t: x; rules M: [@N | x: ]; N >> t: >> x; end" (8 ∷ 12 ∷ 11 ∷ 3 ∷ 1 ∷ 5 ∷ 1 ∷ 0 ∷ 4 ∷ 12 ∷ 9 ∷ 10 ∷ 0 ∷ 9 ∷ []) true
     ∷ says "rules M: [ | *: ]; end" (7 ∷ 1 ∷ 0 ∷ 9 ∷ []) true
     ∷ says "rules M: if ! *: do > od fi; end" (7 ∷ 1 ∷ 0 ∷ 1 ∷ 3 ∷ 2 ∷ 3 ∷ 9 ∷ []) true
+    -- operators: two levels over an operand that reads; a rule that is its own operand, and the same after reading
+    ∷ says "input: a plus times; output: add mul; operators E: plus 1 left add times 2 left mul; rules M: ^E @P; P: a; end"
+    (8 ∷ 7 ∷ 9 ∷ 3 ∷ 0 ∷ 9 ∷ 8 ∷ 25 ∷ 7 ∷ 7 ∷ 8 ∷ 25 ∷ 5 ∷ 0 ∷ 1 ∷ 6 ∷ 1 ∷ 1 ∷ 8 ∷ 1 ∷ 3 ∷ 2 ∷ 14 ∷ 9 ∷ 8 ∷ 4 ∷ 7 ∷ 7 ∷ 8 ∷ 4 ∷ 5 ∷ 1 ∷ 1 ∷ 6 ∷ 1 ∷ 2 ∷ 8 ∷ 1 ∷ 3 ∷ 2 ∷ 14 ∷ 9 ∷ []) true
+    ∷ says "input: up; output: pow; operators E: up 9 right pow; rules M: ^E @M; end" (8 ∷ 4 ∷ 9 ∷ 8 ∷ 1 ∷ 7 ∷ 7 ∷ 8 ∷ 4 ∷ 5 ∷ 0 ∷ 1 ∷ 4 ∷ 1 ∷ 0 ∷ 8 ∷ 9 ∷ []) false
+    ∷ says "input: up; output: pow; operators E: up 9 right pow; rules M: ? ^E @M; end" (4 ∷ 8 ∷ 5 ∷ 9 ∷ 8 ∷ 1 ∷ 7 ∷ 7 ∷ 8 ∷ 5 ∷ 5 ∷ 0 ∷ 1 ∷ 4 ∷ 1 ∷ 0 ∷ 8 ∷ 9 ∷ []) true
     ∷ says "rules M: >> { } ; end" (9 ∷ 2 ∷ 1 ∷ 9 ∷ []) false
     ∷ says "rules M: >> @M ; end" (9 ∷ 8 ∷ 1 ∷ 9 ∷ []) true
     ∷ says "rules M: ; N: { } ; end" (9 ∷ 2 ∷ 1 ∷ 9 ∷ []) false

@@ -1,4 +1,4 @@
--- Texts that are refused: for each number 1 to 9 and 20 at least one, and those whose order or word is easily got wrong. `^` marks the start
+-- Texts that are refused: for each number 1 to 9, 20 and 45 at least one, and those whose order or word is easily got wrong. `^` marks the start
 -- of the word at fault and is not in the text.
 use mathlib.Core.Bool.{Bool, true, false, _&&_}
 use mathlib.Core.List.{List, [], _∷_, _++_}
@@ -157,6 +157,13 @@ faults3to8 =
     ∷ at "rules M: > @N ; N: ^$ ; end" 1 1
     ∷ []
 
+-- 45: "one level with both sides or a token listed twice, at the second entry's token"
+unfoldable pub faults45 : List Refusal
+faults45 =
+    at "input: p q; output: x; operators E: p 1 left x ^q 1 right x; rules M: ; end" 45 1
+    ∷ at "input: p 'p'; output: x; operators E: p 1 left x ^'p' 2 left x; rules M: ; end" 45 3
+    ∷ []
+
 -- 20: the lent buffer is shorter than the table
 unfoldable pub faults20 : List Refusal
 faults20 =
@@ -166,9 +173,9 @@ faults20 =
     ∷ []
 
 unfoldable pub refusals : List Refusal
-refusals = faults1 ++ (faults2 ++ (faults9 ++ (faults3to8 ++ faults20)))
+refusals = faults1 ++ (faults2 ++ (faults9 ++ (faults3to8 ++ (faults45 ++ faults20))))
 
 -- all of this file computes where this is unfolded
 unfoldable pub opened : Unit {0}
-unfolding markAt unmarked agrees allAgree made at times faults1 faults2 faults9 faults3to8 faults20 refusals
+unfolding markAt unmarked agrees allAgree made at times faults1 faults2 faults9 faults3to8 faults45 faults20 refusals
 opened = tt

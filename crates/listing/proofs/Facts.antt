@@ -12,6 +12,8 @@ use Rattle.names.specs.Declare
 use Rattle.names.specs.Known
 use Rattle.names.specs.Resolve
 use Rattle.names.specs.Understand
+use Rattle.names.specs.Uses
+use Rattle.program.specs.Made
 use Rattle.processor.specs.Process
 use Rattle.processor.specs.Process.{accepted, process}
 use Rattle.program.specs.Past
@@ -27,7 +29,7 @@ use Rattle.listing.specs.Listing.{decimal, listing}
 use Rattle.listing.specs.Written.{filled}
 
 listed : Unit {0}
-unfolding Words.opened Reading.opened Actions.opened Sections.opened Parse.opened Known.opened Declare.opened Resolve.opened Understand.opened Program.opened Past.opened Table.opened Test.opened Bytes.opened Process.opened Listing.opened
+unfolding Words.opened Reading.opened Actions.opened Sections.opened Parse.opened Known.opened Declare.opened Resolve.opened Understand.opened Uses.opened Made.opened Program.opened Past.opened Table.opened Test.opened Bytes.opened Process.opened Listing.opened
 listed = tt
 
 -- what is printed for a text that has this figure

@@ -13,7 +13,9 @@ use Rattle.names.specs.Known
 use Rattle.names.specs.Known.{Checked, good, wrong}
 use Rattle.names.specs.Resolve
 use Rattle.names.specs.Understand
+use Rattle.names.specs.Uses
 use Rattle.names.specs.Understand.{understand}
+use Rattle.program.specs.Made
 use Rattle.program.specs.Past
 use Rattle.program.specs.Program
 use Rattle.program.specs.Program.{Rule}
@@ -28,8 +30,8 @@ use Rattle.syntax.specs.Sections
 use Rattle.syntax.specs.Written as written
 use Rattle.words.specs.Words
 
-understanding : Unit {0}
-unfolding Words.opened Reading.opened Actions.opened Sections.opened Parse.opened Known.opened Declare.opened Resolve.opened Understand.opened Program.opened Past.opened Table.opened
+unfoldable pub understanding : Unit {0}
+unfolding Words.opened Reading.opened Actions.opened Sections.opened Parse.opened Known.opened Declare.opened Uses.opened Resolve.opened Understand.opened Made.opened Program.opened Past.opened Table.opened
 understanding = tt
 
 -- a table's words; or a fault's number, start and length
@@ -41,18 +43,18 @@ pub record Line : Type 0 where
   pub text : List ℕ
   pub outcome : Outcome
 
-pub isChecked : Checked (List Rule) → Outcome → Bool
+unfoldable pub isChecked : Checked (List Rule) → Outcome → Bool
 isChecked (good prog) (means ws) = same (table prog) ws
 isChecked (good prog) (stops n s l) = false
 isChecked (wrong m w) (means ws) = false
 isChecked (wrong m w) (stops n s l) = eqb m n && eqb (w .start) s && eqb (length (w .text)) l
 
 -- every text below is read with no fault 1, 2 or 9
-pub agrees : Read written.Program → Outcome → Bool
+unfoldable pub agrees : Read written.Program → Outcome → Bool
 agrees (got p ws) x = isChecked (understand p) x
 agrees (fault n w) x = false
 
-pub allAgree : List Line → Bool
+unfoldable pub allAgree : List Line → Bool
 allAgree [] = true
 allAgree (l ∷ ls) = agrees (parse (l .text)) (l .outcome) && allAgree ls
 

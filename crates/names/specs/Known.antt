@@ -5,7 +5,8 @@ use mathlib.Core.List.{List, [], _∷_}
 use mathlib.Core.Option.{Option, none, some}
 use Prim.Native.Nat.{ℕ}
 use Rattle.base.specs.Common.{if_then_else_, same, given}
-use Rattle.syntax.specs.Written.{Entry, Operation, Section, inputs, outputs, both, errors, values, operations, Rule, Program}
+use Rattle.program.specs.Made.{Level}
+use Rattle.syntax.specs.Written.{Entry, Operation, Section, inputs, outputs, both, errors, values, operations, operators, Rule, Program}
 use Rattle.words.specs.Words.{Word}
 
 -- a result, or a fault and its word
@@ -44,13 +45,19 @@ pub record KnownRule : Type 0 where
   pub place : ℕ
   pub gives : Option (List ℕ)
 
--- the classes: "input tokens, output tokens, errors, type names, the values of each type, rules with operations"
+-- an operators section, and its levels
+pub record KnownOperators : Type 0 where
+  pub named : List ℕ
+  pub levels : List Level
+
+-- the classes: "input tokens, output tokens, errors, type names, the values of each type, rules with operations"; operators sections are "a class of their own"
 pub record Names : Type 0 where
   pub inputs : List Known
   pub outputs : List Known
   pub errors : List Known
   pub types : List KnownType
   pub operations : List KnownOperation
+  pub operators : List KnownOperators
 
 -- Looking up: the first of a name
 
@@ -65,6 +72,10 @@ findType w (k ∷ ks) = let later = findType w ks in if same w (k .named) then s
 unfoldable pub findOperation : List ℕ → List KnownOperation → Option KnownOperation
 findOperation w [] = none
 findOperation w (k ∷ ks) = let later = findOperation w ks in if same w (k .named) then some k else later
+
+unfoldable pub findOperators : List ℕ → List KnownOperators → Option (List Level)
+findOperators w [] = none
+findOperators w (k ∷ ks) = let later = findOperators w ks in if same w (k .named) then some (k .levels) else later
 
 unfoldable pub findRule : List ℕ → List KnownRule → Option KnownRule
 findRule w [] = none
@@ -95,6 +106,7 @@ inSection w (both es) = amongEntries w es
 inSection w (errors es) = amongEntries w es
 inSection w (values t es) = same w (t .text) || amongEntries w es
 inSection w (operations os) = amongOperations w os
+inSection w (operators e os) = same w (e .text)
 
 unfoldable pub inSections : List ℕ → List Section → Bool
 inSections w [] = false
@@ -113,6 +125,7 @@ isType w (both es ∷ ss) = isType w ss
 isType w (errors es ∷ ss) = isType w ss
 isType w (values t es ∷ ss) = same w (t .text) || isType w ss
 isType w (operations os ∷ ss) = isType w ss
+isType w (operators e os ∷ ss) = isType w ss
 
 -- a word that is not in the class wanted: 5 where another class has it, 3 where none has
 unfoldable pub elsewhere : {A : Type 0} → Program → Word → Checked A
@@ -134,5 +147,5 @@ optionalType p ts (some w) = do
 
 -- all of this file computes where this is unfolded
 unfoldable pub opened : Unit {0}
-unfolding find findType findOperation findRule isWord amongEntries amongOperations amongRules inSection inSections declared isType elsewhere lookup lookupType optionalType
+unfolding find findType findOperation findOperators findRule isWord amongEntries amongOperations amongRules inSection inSections declared isType elsewhere lookup lookupType optionalType
 opened = tt

@@ -1,4 +1,5 @@
 pub mod Known
 pub mod Declare
+pub mod Uses
 pub mod Resolve
 pub mod Understand

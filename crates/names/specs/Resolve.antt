@@ -4,9 +4,11 @@ use mathlib.Core.Bool.{Bool, true, false, _||_}
 use mathlib.Core.List.{List, [], _∷_, _++_}
 use mathlib.Core.Option.{Option, none, some}
 use Prim.Native.Nat.{ℕ}
+use lib.ListN.{length}
 use Rattle.base.specs.Common.{if_then_else_, member, given}
 use Rattle.base.specs.Tree.{Action, plain, cycle, choice, Actions, done, _▸_, Alternatives, nil, alternative, Otherwise, absent, otherwise}
-use Rattle.names.specs.Known.{Checked, good, wrong, _>>=_, faultIf, Known, KnownOperation, KnownRule, Names, find, findType, findOperation, findRule, elsewhere, lookup}
+use Rattle.names.specs.Known.{Checked, good, wrong, _>>=_, faultIf, Known, KnownOperation, KnownRule, Names, find, findType, findOperation, findOperators, findRule, elsewhere, lookup}
+use Rattle.names.specs.Uses.{Use, lowestOf, pairsOf}
 use Rattle.program.specs.Program as means
 use Rattle.syntax.specs.Written as written
 use Rattle.syntax.specs.Written.{Constant, Program}
@@ -76,6 +78,17 @@ module _ (p : Program) (n : Names) (rules : List KnownRule) where
     x ← lookup p ks v
     good (means.give x)
 
+  -- "`^NAME @rule`": the section, then the operand rule, "a procedure rule"; "The action is a call of the lowest."
+  unfoldable pub rankedOf : Word → Word → Word → Checked means.Plain
+  rankedOf s w o =
+      elim (findOperators (w .text) (n .operators)) [
+        | none ↦ elsewhere p w
+        | some ls ↦ do
+          r ← ruleNamed o
+          _ ← faultIf (given (r .gives)) 5 o
+          good (means.call (lowestOf n (record { sign = s; section = w; operand = o }) (length (p .rules)) (pairsOf (p .rules))))
+      ]
+
   unfoldable pub plainOf : Place → written.Plain → Checked means.Plain
   plainOf at (written.named w c) = elim (find (w .text) (n .inputs)) [ some v ↦ matchOf v c | none ↦ updateOf w c ]
   plainOf at (written.any w) = good means.any
@@ -91,6 +104,7 @@ module _ (p : Program) (n : Names) (rules : List KnownRule) where
     _ ← faultIf (given (r .gives)) 5 w
     good (means.call (r .place))
   plainOf at (written.give w v) = giveOf (at .gives) w v
+  plainOf at (written.ranked s w o) = rankedOf s w o
 
   -- the members of a type; one that is not declared has none (R6)
   unfoldable pub membersOf : List ℕ → List Known
@@ -157,5 +171,5 @@ module _ (p : Program) (n : Names) (rules : List KnownRule) where
 
 -- all of this file computes where this is unfolded
 unfoldable pub opened : Unit {0}
-unfolding within operationOf ruleNamed parameterOf updateOf matchOf giveOf plainOf membersOf selectorOf labelsOf actOf
+unfolding within operationOf ruleNamed parameterOf updateOf matchOf giveOf rankedOf plainOf membersOf selectorOf labelsOf actOf
 opened = tt

@@ -1,20 +1,23 @@
 -- The whole program: sections in order, then the rules in order, each by its name, its type, its actions and its semicolon.
 use mathlib.Core.Bool.{Bool, true, false, _&&_, _||_}
-use mathlib.Core.List.{List, [], _∷_}
+use mathlib.Core.List.{List, [], _∷_, _++_}
 use mathlib.Core.Option.{Option, none, some}
 use Prim.Native.Nat.{ℕ}
+use lib.ListN.{length}
 use Rattle.base.specs.Common.{if_then_else_, same, given}
 use Rattle.names.specs.Declare.{declareSections, knownRules}
 use Rattle.names.specs.Known.{Checked, good, wrong, _>>=_, faultIf, Known, KnownRule, Names, findOperation, optionalType}
 use Rattle.names.specs.Resolve.{Place, actsOf}
+use Rattle.names.specs.Uses.{pairsOf, madeFor}
 use Rattle.program.specs.Past.{pastAll}
 use Rattle.program.specs.Program as means
+use Rattle.syntax.specs.Sections.{namesInAll}
 use Rattle.syntax.specs.Written as written
 use Rattle.syntax.specs.Written.{Program}
 use Rattle.words.specs.Words.{Word}
 
 unfoldable pub nobody : Names
-nobody = record { inputs = []; outputs = []; errors = []; types = []; operations = [] }
+nobody = record { inputs = []; outputs = []; errors = []; types = []; operations = []; operators = [] }
 
 -- the rule's name stands among those before it
 unfoldable pub isOne : List ℕ → List (List ℕ) → Bool
@@ -47,11 +50,14 @@ rulesMean p n rules seen (r ∷ rs) = do
   rest ← rulesMean p n rules (r .rule .text ∷ seen) rs
   good (first ∷ rest)
 
--- "then 3 to 8 likewise"
+-- "then 3 to 8 likewise"; then the rules made for operators, "as if written after the last rule"
 unfoldable pub understand : Program → Checked (List means.Rule)
 understand p = do
   n ← declareSections p (p .sections) nobody
-  rulesMean p n (knownRules 0 (p .rules)) [] (p .rules)
+  let known = knownRules 0 (p .rules)
+  own ← rulesMean p n known [] (p .rules)
+  made ← madeFor n known (namesInAll (p .sections)) (length (p .rules)) (pairsOf (p .rules))
+  good (own ++ made)
 
 -- all of this file computes where this is unfolded
 unfoldable pub opened : Unit {0}

@@ -14,6 +14,8 @@ use Rattle.names.specs.Declare
 use Rattle.names.specs.Known
 use Rattle.names.specs.Resolve
 use Rattle.names.specs.Understand
+use Rattle.names.specs.Uses
+use Rattle.program.specs.Made
 use Rattle.processor.specs.Process
 use Rattle.processor.specs.Process.{Part, Understood, meaning, faulty, Answer, accepted, refused, answerFor, process, lentBytes}
 use Rattle.program.specs.Past
@@ -27,7 +29,7 @@ use Rattle.syntax.specs.Sections
 use Rattle.words.specs.Words
 
 processing : Unit {0}
-unfolding Words.opened Reading.opened Actions.opened Sections.opened Parse.opened Known.opened Declare.opened Resolve.opened Understand.opened Program.opened Past.opened Table.opened Test.opened Bytes.opened Process.opened
+unfolding Words.opened Reading.opened Actions.opened Sections.opened Parse.opened Known.opened Declare.opened Resolve.opened Understand.opened Uses.opened Made.opened Program.opened Past.opened Table.opened Test.opened Bytes.opened Process.opened
 processing = tt
 
 -- 0 where the text is accepted

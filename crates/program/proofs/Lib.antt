@@ -4,3 +4,4 @@ pub mod Places
 pub mod Bounds
 pub mod Facts
 pub mod AcceptedWords
+pub mod MadeFacts

@@ -2,3 +2,4 @@ pub mod Program
 pub mod Past
 pub mod Table
 pub mod Accepted
+pub mod Made
