@@ -1,0 +1,4 @@
+-- Operators under precedence mean what the nested rules say.
+pub mod Nested
+pub mod Levels
+pub mod Places

@@ -1,0 +1,1 @@
+// The rules' own walk, as definitions; this crate has no code.
