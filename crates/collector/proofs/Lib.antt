@@ -1,5 +1,6 @@
 pub mod Words
 pub mod Rows
 pub mod Skips
+pub mod Standing
 pub mod Laws
 pub mod Sections

@@ -1,5 +1,5 @@
 -- A rule's actions have no semicolon: a skip to the next one gets behind the rule.
-use mathlib.Core.Bool.{false}
+use mathlib.Core.Bool.{Bool, false}
 use mathlib.Core.List.{List, [], _∷_}
 use mathlib.Core.Option.{Option}
 use mathlib.Core.Path.{_≡_, refl, sym, ap, _∙_}
@@ -9,11 +9,11 @@ use lib.Dec.{eqb}
 use lib.ListN.{length}
 use borrow.Author.Tests.{ne-eqb, eq-eqb}
 use Rattle.collector.specs.Collecting.{toSemicolon, Skips}
-use Rattle.grammar.specs.Derived.{Took, Reference, by-name, by-string, ConstantIn, no-constant, a-constant, ValueIn, no-value, a-value, PlainIn, named-in, any-in, emit-in, error-in, exit-in, call-in, give-in, SelectorIn, token-in, rule-in, operation-in, LabelsIn, last-label, more-labels, ActIn, plain-in, cycle-in, choice-in, ActsIn, none-in, more-in, AltsIn, other-in, last-in, next-in}
+use Rattle.grammar.specs.Derived.{Took, Reference, by-name, by-string, ConstantIn, no-constant, a-constant, ValueIn, no-value, a-value, PlainIn, named-in, any-in, emit-in, error-in, exit-in, call-in, give-in, ranked-in, SideIn, left-in, right-in, OperatorIn, an-operator, OperatorsIn, last-operator, more-operators, SelectorIn, token-in, rule-in, operation-in, LabelsIn, last-label, more-labels, ActIn, plain-in, cycle-in, choice-in, ActsIn, none-in, more-in, AltsIn, other-in, last-in, next-in}
 use Rattle.reader.specs.Answers.{Here}
 use Rattle.scanner.specs.Next.{asWord}
 use Rattle.scanner.specs.declared.WordAt.{WordAt}
-use Rattle.syntax.specs.Written.{Constant, Plain, Selector, Act, Acts, Alts, Other}
+use Rattle.syntax.specs.Written.{Constant, Operator, Plain, Selector, Act, Acts, Alts, Other}
 use Rattle.words.specs.Words.{Word, wordsAt}
 
 abbrev Same : List Word → List Word → Type 0
@@ -52,6 +52,7 @@ plain-action (error-in t r) = passed 35 refl t ∙ reference r
 plain-action (exit-in t) = passed 62 refl t
 plain-action (call-in t r) = passed 64 refl t ∙ passed 257 refl r
 plain-action (give-in t v) = passed 256 refl t ∙ given-value v
+plain-action (ranked-in s w t o) = passed 94 refl s ∙ passed 257 refl w ∙ passed 64 refl t ∙ passed 257 refl o
 
 selector : {ws ws′ : List Word} {s : Selector} → SelectorIn ws ws′ s → Same ws ws′
 selector (token-in m n e) = none-read e
@@ -80,6 +81,18 @@ mutual
 -- from a rule's colon on
 pub body : {ws ws₁ ws₂ ws′ : List Word} {colon semi : Word} {q : Acts} → Took 58 ws colon ws₁ → ActsIn ws₁ ws₂ q → Took 59 ws₂ semi ws′ → Took 59 (toSemicolon ws) semi ws′
 body c b s = rw (passed 58 refl c, actions b, stays s) s
+
+-- entries of operators have none either
+side : {ws ws′ : List Word} {b : Bool} → SideIn ws ws′ b → Same ws ws′
+side (left-in t e) = passed 257 refl t
+side (right-in t e) = passed 257 refl t
+
+operator : {ws ws′ : List Word} {o : Operator} → OperatorIn ws ws′ o → Same ws ws′
+operator (an-operator r d e low high s t) = reference r ∙ passed 258 refl d ∙ side s ∙ reference t
+
+pub entries-behind : {text : List ℕ} {at r : ℕ} {ws ws′ : List Word} {os : List Operator} → Skips text at r → Same (wordsAt text at) ws → OperatorsIn ws ws′ os → ws′ ≡ wordsAt text r
+entries-behind {ws′ = ws′} k e (last-operator {semi = semi} a t) = k .rest semi ws′ (rw (e, operator a, stays t) t)
+entries-behind k e (more-operators a m q) = entries-behind k (e ∙ operator a) q
 
 -- The code's skip
 

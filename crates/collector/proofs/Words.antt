@@ -4,15 +4,16 @@ use mathlib.Core.List.{List, [], _∷_}
 use mathlib.Core.Option.{none, some}
 use mathlib.Core.Path.{_≡_, refl, sym, ap, _∙_}
 use Prim.Native.Char.{code}
-use Prim.Native.Nat.{ℕ, zero, suc, _-_, _≤_, _<_}
+use Prim.Native.Nat.{ℕ, zero, suc, _+_, _-_, _≤_, _<_}
 use native.Mathlib.Omega.{arith}
 use lib.Dec.{eqb, leb}
 use lib.ListN.{length, getD, take, drop, length-take}
+use lib.Seq.{drop-drop, drop-nil}
 use borrow.Author.Tests.{ne-eqb}
 use Rattle.base.specs.Common.{if_then_else_}
 use Rattle.collector.specs.Collecting.{optionIn}
 use Rattle.collector.specs.declared.Part.{Part}
-use Rattle.grammar.specs.Derived.{Took, Not}
+use Rattle.grammar.specs.Derived.{Took, Not, Reference, by-name, by-string}
 use Rattle.reader.proofs.Laws.{word-length}
 use Rattle.reader.specs.Answers.{Here}
 use Rattle.scanner.specs.Next.{asWord}
@@ -69,6 +70,47 @@ pub some-len : {text : List ℕ} {at : ℕ} {w : WordAt} → Here text at w → 
 unfolding wordsAt
 some-len {text} {at} {w} n h = rw (n .head, word-length n) at (solid 0 at (drop at text)) h
 
+-- The words from the place of the first word on are the same
+
+-- so it is of ws, where s are the bytes from `at` on
+record Again (at : ℕ) (s : List ℕ) (ws : List Word) : Type 0 where
+  pub low : at ≤ peek ws .start
+  pub same : wordsFrom 0 (peek ws .start) (drop (peek ws .start - at) s) ≡ ws
+
+again-if : (c : Bool) {at : ℕ} {s : List ℕ} {x y : List Word} → (c ≡ true → Again at s x) → (c ≡ false → Again at s y) → Again at s (if c then x else y)
+again-if true f g = f refl
+again-if false f g = g refl
+
+-- one byte more before them
+again-more : {at : ℕ} {s : List ℕ} {ws : List Word} (b : ℕ) → Again (suc at) s ws → Again at (b ∷ s) ws
+again-more {at} {s} {ws} b a =
+    let e : peek ws .start - at ≡ suc (peek ws .start - suc at) = omega (arith, a .low) in
+    record { low = omega (arith, a .low); same = ap (λ (k : ℕ). wordsFrom 0 (peek ws .start) (drop k (b ∷ s))) e ∙ a .same }
+
+-- words that begin at their first byte
+again-here : (at : ℕ) (s : List ℕ) (ws : List Word) → peek ws .start ≡ at → wordsFrom 0 at s ≡ ws → Again at s ws
+again-here at s ws e q =
+    let z : peek ws .start - at ≡ 0 = omega (arith, e) in
+    record { low = omega (arith, e); same = rw (z, e) q }
+
+again : (skip at : ℕ) (s : List ℕ) → Again at s (wordsFrom skip at s)
+unfolding wordsFrom peek
+again skip at [] = again-here at [] _ refl refl
+again (suc n) at (b ∷ s) = again-more b (again n (suc at) s)
+again zero at (b ∷ s) =
+    again-if (blank b) (λ e. again-more b (again 0 (suc at) s)) (λ e₁.
+    again-if (eqb b 37) (λ e. again-more b (again (run (λ c. not (eqb c 10)) s) (suc at) s)) (λ e₂.
+    again-if (eqb (wordHere b s .kind) 0) (λ e₃. again-here at (b ∷ s) _ refl (rw (e₁, e₂, e₃) refl)) (λ e₃. again-here at (b ∷ s) _ refl (rw (e₁, e₂, e₃) refl))))
+
+pub start-again : {text : List ℕ} {at : ℕ} {w : WordAt} → Here text at w → wordsAt text (w .start) ≡ wordsAt text at
+unfolding wordsAt
+start-again {text} {at} {w} n =
+    let a = again 0 at (drop at text) in
+    let i = peek (wordsAt text at) .start in
+    let e : i ≡ at + (i - at) = omega (arith, a .low) in
+    ap (λ (x : Word). wordsAt text (x .start)) (sym (n .head))
+    ∙ (ap (λ (s : List ℕ). wordsFrom 0 i s) (ap (λ (k : ℕ). drop k text) e ∙ sym (drop-drop (i - at) at text)) ∙ a .same)
+
 -- What a family takes
 
 taken : {text : List ℕ} {at k : ℕ} {w : WordAt} {v : Word} {ws′ : List Word} → Here text at w → Took k (wordsAt text at) v ws′ → asWord text w ≡ v
@@ -96,6 +138,10 @@ next-kind k n e = sym (ap (λ (x : Word). x .kind) (n .head)) ∙ e
 -- the same from a list of words that is known to be that
 pub took-at : {k : ℕ} {ws vs : List Word} {v : Word} {ws′ : List Word} → ws ≡ vs → Took k ws v ws′ → Took k vs v ws′
 took-at {k} {v = v} {ws′} e t = rw (← e) t
+
+pub reference-start : {text : List ℕ} {at : ℕ} {w : WordAt} {v : Word} {ws′ : List Word} → Here text at w → Reference (wordsAt text at) v ws′ → v .start ≡ w .start
+reference-start n (by-name t) = ap (λ (x : Word). x .start) (took-word n t)
+reference-start n (by-string t) = ap (λ (x : Word). x .start) (took-word n t)
 
 -- Words that may be there
 

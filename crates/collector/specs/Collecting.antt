@@ -20,14 +20,15 @@ use Rattle.collector.specs.declared.Sectioned.{Sectioned}
 use Rattle.collector.specs.declared.Spot.{Spot}
 use Rattle.collector.specs.declared.State.{State}
 use Rattle.collector.specs.declared.Valued.{Valued}
-use Rattle.declarations.specs.Decls.{Decl, ofEntry, ofOperation, ofRule, entryDecls, operationDecls, sectionDecls, sectionsDecls, ruleDecls, declsOf}
-use Rattle.grammar.specs.Derived.{Took, Not, CountIn, EntryIn, ListedIn, OperationIn, OperationsIn, RuleIn, RulesIn, SectionsIn, ProgramIn, namesIn, namesInAll}
+use Rattle.declarations.specs.Decls.{Decl, ofEntry, ofOperation, ofRule, entryDecls, operationDecls, sectionDecls, sectionsDecls, ruleDecls, declsOf, placeOf, entriesOf, EntriesAt}
+use Rattle.grammar.specs.Derived.{Took, Not, CountIn, EntryIn, ListedIn, OperationIn, OperationsIn, OperatorsIn, RuleIn, RulesIn, SectionsIn, ProgramIn, namesIn, namesInAll}
 use Rattle.reader.specs.Counting.{Kinds, Adds}
 use Rattle.reader.specs.declared.Seen.{Seen}
 use Rattle.scanner.specs.declared.WordAt.{WordAt}
 use Rattle.symbols.specs.Rows.{wordOf, optionOf, secondKind, held}
+use Rattle.syntax.specs.Reading.{peek}
 use Rattle.syntax.specs.Sections.{Sofar, after, nextOf, instructions}
-use Rattle.syntax.specs.Written.{Entry, Operation, Section, inputs, outputs, both, errors, values, operations, Rule, Program}
+use Rattle.syntax.specs.Written.{Entry, Operation, Operator, Section, inputs, outputs, both, errors, values, operations, operators, Rule, Program}
 use Rattle.words.specs.Words.{Word, wordsAt}
 
 -- Rows
@@ -75,7 +76,7 @@ setRow rows i d = setWords (setTwo rows (8 * i) (d .class) (d .value)) (8 * i) d
 
 -- n more rows have their place
 pub record Room (rows : List ℕ) (count n : ℕ) : Type 0 where
-  pub size : length rows ≡ 5632
+  pub size : length rows ≡ 6017
   pub room : count + n ≤ 512
 
 -- the declarations ds were appended
@@ -217,6 +218,28 @@ pub data MechanismIn (s : Sofar) (ws ws′ : List Word) : Section → Type 0 whe
   a-mechanism : {w colon : Word} {ws₁ ws₂ : List Word} {os : List Operation} → Took 257 ws w ws₁ → Took 58 ws₁ colon ws₂ → OperationsIn (s .seen) ws₂ ws′ os
       → MechanismIn s ws ws′ (operations os)
 
+pub data OperatorsSectionIn (s : Sofar) (ws ws′ : List Word) : Section → Type 0 where
+  some-operators : {w colon : Word} {ws₁ ws₂ : List Word} {os : List Operator} → Took 257 ws w ws₁ → Took 58 ws₁ colon ws₂ → OperatorsIn ws₂ ws′ os
+      → OperatorsSectionIn s ws ws′ (operators w os)
+
+-- entries of operators stand at their place in the text
+pub record EntriesStand (text : List ℕ) (os : List Operator) : Type 0 where
+  pub left : List Word
+  pub again : OperatorsIn (wordsAt text (placeOf os)) left os
+
+abbrev pub Stands : List ℕ → Section → Type 0
+Stands text (inputs es) = Unit {0}
+Stands text (outputs es) = Unit {0}
+Stands text (both es) = Unit {0}
+Stands text (errors es) = Unit {0}
+Stands text (values w es) = Unit {0}
+Stands text (operations os) = Unit {0}
+Stands text (operators w os) = EntriesStand text os
+
+pub data AllStand (text : List ℕ) : List Section → Type 0 where
+  all-none : AllStand text []
+  all-more : {x : Section} {xs : List Section} → Stands text x → AllStand text xs → AllStand text (x ∷ xs)
+
 -- a section of the family F, and the state after it
 pub record ASection (F : Sofar → List Word → List Word → Section → Type 0) (text rows rows′ : List ℕ) (at count : ℕ) (t : State) (r : Sectioned) : Type 0 where
   pub bounds : Bounds text at (r .at) count (r .count)
@@ -224,6 +247,7 @@ pub record ASection (F : Sofar → List Word → List Word → Section → Type 
   pub goes : (s : Sofar) (ws′ : List Word) (x : Section) → F s (wordsAt text at) ws′ x → Keeps s t → Goes text at (r .at) ws′
   pub appends : (s : Sofar) (ws′ : List Word) (x : Section) → F s (wordsAt text at) ws′ x → Keeps s t → Room rows count (namesIn x)
       → Appends text rows rows′ count (r .count) (sectionDecls count x)
+  pub stands : (s : Sofar) (ws′ : List Word) (x : Section) → F s (wordsAt text at) ws′ x → Stands text x
 
 pub record SomeSections (text rows rows′ : List ℕ) (at count : ℕ) (t : State) (r : Spot) : Type 0 where
   pub bounds : Bounds text at (r .at) count (r .count)
@@ -231,6 +255,7 @@ pub record SomeSections (text rows rows′ : List ℕ) (at count : ℕ) (t : Sta
   pub appends : (s : Sofar) (ws′ : List Word) (xs : List Section) → SectionsIn s (wordsAt text at) ws′ xs → Keeps s t
       → Room rows count (namesInAll xs)
       → Appends text rows rows′ count (r .count) (sectionsDecls count xs)
+  pub stands : (s : Sofar) (ws′ : List Word) (xs : List Section) → SectionsIn s (wordsAt text at) ws′ xs → Keeps s t → AllStand text xs
 
 -- Rules
 
@@ -265,16 +290,20 @@ pub record CollectedFor (p : Program) (text rows′ : List ℕ) (r : Collected) 
   pub rows : held text rows′ (r .count) ≡ declsOf p
   pub count : r .count ≡ length (declsOf p)
   pub rules : r .rules ≡ length (sectionsDecls 0 (p .sections))
+  -- entries of operators are read again from their places
+  pub entries : EntriesAt text (declsOf p) (entriesOf p)
   -- the rules are read again from the place `at`
   pub left : List Word
   pub again : RulesIn (wordsAt text (r .at)) left (p .rules)
+  -- up to `end`
+  pub ending : peek left .kind ≡ 266
 
 pub record Collects (text rows rows′ : List ℕ) (r : Collected) : Type 0 where
   pub size : length rows′ ≡ length rows
   pub early : r .rules ≤ 512
   pub small : r .count ≤ 512
   pub inside : r .at ≤ length text
-  pub collects : (p : Program) → ProgramIn (wordsAt text 0) p → length rows ≡ 5632 → CollectedFor p text rows′ r
+  pub collects : (p : Program) → ProgramIn (wordsAt text 0) p → length rows ≡ 6017 → CollectedFor p text rows′ r
 
 -- all of this file computes where this is unfolded
 unfoldable pub opened : Unit {0}

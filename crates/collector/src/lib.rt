@@ -8,7 +8,7 @@ ghost use Rattle.reader.specs.Answers.{Here};
 ghost use Rattle.reader.specs.Counting.{NumberOf, countOf, oneMore};
 ghost use Rattle.syntax.specs.Sections.{firstOf};
 ghost use Rattle.words.specs.Words.{wordsAt};
-ghost use Rattle.collector.specs.Collecting.{Small, setTwo, setWords, Puts, IsWord, IsNone, Reads, Counts, AHead, AnEntry, SomeEntries, AnOperation, SomeOperations, TokensIn, InputsIn, BothIn, OutputsIn, ErrorsIn, TypeIn, MechanismIn, ASection, SomeSections, Skips, ARule, SomeRules, Collects};
+ghost use Rattle.collector.specs.Collecting.{Small, setTwo, setWords, Puts, IsWord, IsNone, Reads, Counts, AHead, AnEntry, SomeEntries, AnOperation, SomeOperations, TokensIn, InputsIn, BothIn, OutputsIn, ErrorsIn, TypeIn, MechanismIn, OperatorsSectionIn, ASection, SomeSections, Skips, ARule, SomeRules, Collects};
 use reader::Seen;
 use reader::count_of;
 use reader::larger;
@@ -16,6 +16,9 @@ use reader::look;
 use reader::number_of;
 use reader::one_more;
 use scanner::WordAt;
+
+// The class of sections of operators.
+const OPERATORS: usize = 600;
 
 // How many rows there are, the row of the first rule, the place of the first rule's name.
 pub struct Collected {
@@ -630,6 +633,59 @@ fn collect_mechanism(
     }
 }
 
+// The place behind the next semicolon.
+fn behind_semicolon(text: &[u8], at: usize) -> usize
+    requires { ⌜ at ≤ length (now text) ⌝ }
+    ensures { λ r. ⌜ Skips (now (text .entry)) at r ⌝ }
+{
+    let mut i = at;
+    loop {
+        let w = look(text, i);
+        if w.kind == 59 {
+            return w.next;
+        }
+        if w.kind < 2 {
+            return i;
+        }
+        i = w.next;
+    }
+}
+
+// A section of operators after its word `operators`: a row for its name, which has the place of its first entry.
+fn collect_operators(
+    text: &[u8],
+    at: usize,
+    rows: &mut [u16],
+    count: usize,
+    state: State,
+) -> Sectioned
+    requires { ⌜ (at ≤ length (now text)) × (length (now text) ≤ 32768) × (count ≤ 512) ⌝ }
+    ensures { λ r. ⌜ ASection OperatorsSectionIn (now (text .entry)) (now (rows .entry)) (now (rows .exit)) at count state r ⌝ }
+{
+    let w = look(text, at);
+    let colon = look(text, w.next);
+    let first = look(text, colon.next);
+    let name = Part {
+        start: w.start,
+        len: w.len,
+    };
+    let none = Part { start: 0, len: 0 };
+    let d = Row {
+        class: OPERATORS,
+        value: first.start,
+        name,
+        second: none,
+        third: none,
+    };
+    let c = put_row(rows, count, d);
+    let to = behind_semicolon(text, colon.next);
+    Sectioned {
+        at: to,
+        count: c,
+        state,
+    }
+}
+
 fn collect_section(
     text: &[u8],
     at: usize,
@@ -647,6 +703,7 @@ fn collect_section(
         261 => collect_outputs(text, w.next, rows, count, state),
         262 => collect_errors(text, w.next, rows, count, state),
         263 => collect_type(text, w.next, rows, count, state),
+        257 => collect_operators(text, w.next, rows, count, state),
         _ => collect_mechanism(text, w.next, rows, count, state),
     }
 }
@@ -680,24 +737,6 @@ fn collect_sections(text: &[u8], at: usize, rows: &mut [u16], count: usize, stat
 
 // Rules
 
-// The place behind the next semicolon.
-fn skip_rule(text: &[u8], at: usize) -> usize
-    requires { ⌜ at ≤ length (now text) ⌝ }
-    ensures { λ r. ⌜ Skips (now (text .entry)) at r ⌝ }
-{
-    let mut i = at;
-    loop {
-        let w = look(text, i);
-        if w.kind == 59 {
-            return w.next;
-        }
-        if w.kind < 2 {
-            return i;
-        }
-        i = w.next;
-    }
-}
-
 // The rule of the place k.
 fn collect_rule(text: &[u8], at: usize, rows: &mut [u16], count: usize, k: usize) -> Spot
     requires { ⌜ (at ≤ length (now text)) × (length (now text) ≤ 32768) × (count ≤ 512) × (k ≤ 512) ⌝ }
@@ -719,7 +758,7 @@ fn collect_rule(text: &[u8], at: usize, rows: &mut [u16], count: usize, k: usize
         third,
     };
     let c = put_row(rows, count, d);
-    let to = skip_rule(text, g.at);
+    let to = behind_semicolon(text, g.at);
     Spot { at: to, count: c }
 }
 

@@ -5,8 +5,8 @@ use mathlib.Core.Option.{Option, none, some}
 use mathlib.Core.Path.{_≡_, refl}
 use Prim.Native.Nat.{ℕ, _+_}
 use Rattle.base.specs.Common.{if_then_else_, given}
-use Rattle.declarations.specs.Decls.{Decl, indexOf, declaredIn, mapped, elsewhereIn, typeIn}
-use Rattle.names.specs.Known.{Checked, good, wrong, Known, KnownType, findType, declared, isType, elsewhere, lookupType}
+use Rattle.declarations.specs.Decls.{Decl, knownsIn, indexOf, declaredIn, mapped, elsewhereIn, lookupIn, typeIn}
+use Rattle.names.specs.Known.{Checked, good, wrong, Known, KnownType, find, findType, declared, isType, elsewhere, lookup, lookupType}
 use Rattle.syntax.specs.Written.{Program}
 use Rattle.words.specs.Words.{Word}
 
@@ -35,3 +35,16 @@ found-row ds before w = go (indexOf 5 (w .text) 0 before)
     ] ≡ found w (mapped (λ i. 8 + i) x) (given (indexOf 5 (w .text) 0 ds)) (declaredIn (w .text) ds)
     go none = refl
     go (some i) = refl
+
+-- the value of a word in a class of the row
+pub looked-up : (p : Program) (ds : List Decl) (c : ℕ) (w : Word) → declared p (w .text) ≡ declaredIn (w .text) ds → lookup p (knownsIn c ds) w ≡ lookupIn ds c w
+unfolding lookup lookupIn elsewhere elsewhereIn
+looked-up p ds c w d = go (find (w .text) (knownsIn c ds))
+  where
+    other : elsewhere {A = ℕ} p w ≡ wrong (elsewhereIn ds (w .text)) w
+    other = rw d
+
+    go : (x : Option ℕ) → _≡_ {A = Checked ℕ} (elim x as (λ _. Checked ℕ) [ some v ↦ good v | none ↦ elsewhere p w ])
+        (elim x as (λ _. Checked ℕ) [ some v ↦ good v | none ↦ wrong (elsewhereIn ds (w .text)) w ])
+    go none = other
+    go (some v) = refl

@@ -11,7 +11,8 @@ use native.Mathlib.Nat.{add-zero}
 use native.Mathlib.Omega.{arith}
 use Rattle.base.specs.Common.{if_then_else_, same, given}
 use Rattle.declarations.specs.Decls.{Decl, feeds, knownsOf, knownsIn, indexOf, declaredIn, declOf, mapped, declFault, declFaults}
-use Rattle.names.specs.Known.{Checked, good, wrong, _>>=_, Known, KnownType, KnownOperation, findType, findOperation, isWord}
+use Rattle.names.specs.Known.{Checked, good, wrong, _>>=_, Known, KnownType, KnownOperation, KnownOperators, findType, findOperation, findOperators, isWord}
+use Rattle.syntax.specs.Written.{Operator}
 
 -- the first of two that is there
 abbrev pub first : {A : Type 0} → Option A → Option A → Option A
@@ -64,6 +65,11 @@ unfolding findOperation
 find-operation-append w [] b = refl
 find-operation-append w (k ∷ a) b = rw (find-operation-append w a b) (pick-first (same w (k .named)) k (findOperation w a) (findOperation w b))
 
+pub find-operators-append : (w : List ℕ) (a b : List KnownOperators) → findOperators w (a ++ b) ≡ first (findOperators w a) (findOperators w b)
+unfolding findOperators
+find-operators-append w [] b = refl
+find-operators-append w (k ∷ a) b = rw (find-operators-append w a b) (pick-first (same w (k .named)) (k .levels) (findOperators w a) (findOperators w b))
+
 pub declared-append : (w : List ℕ) (a b : List Decl) → declaredIn w (a ++ b) ≡ (declaredIn w a || declaredIn w b)
 unfolding declaredIn
 declared-append w [] b = refl
@@ -75,13 +81,13 @@ pub decl-here : (before : List Decl) (d : Decl) (rest : List Decl) → declOf (b
 unfolding declOf
 decl-here before d rest = getD-append-seam before d rest _
 
-pub faults-append : (ds before a b : List Decl) → declFaults ds before (a ++ b) ≡ _>>=_ (declFaults ds before a) (λ _. declFaults ds (before ++ a) b)
+pub faults-append : (ds : List Decl) (en : ℕ → List Operator) (before a b : List Decl) → declFaults ds en before (a ++ b) ≡ _>>=_ (declFaults ds en before a) (λ _. declFaults ds en (before ++ a) b)
 unfolding declFaults
-faults-append ds before [] b = rw append-nil
-faults-append ds before (d ∷ a) b = go (declFault ds before d) (faults-append ds (before ++ (d ∷ [])) a b)
+faults-append ds en before [] b = rw append-nil
+faults-append ds en before (d ∷ a) b = go (declFault ds before (en (length before)) d) (faults-append ds en (before ++ (d ∷ [])) a b)
   where
     go : (x : Checked (Unit {0}))
-        → declFaults ds (before ++ (d ∷ [])) (a ++ b) ≡ _>>=_ (declFaults ds (before ++ (d ∷ [])) a) (λ _. declFaults ds (before ++ (d ∷ []) ++ a) b)
-        → _>>=_ x (λ _. declFaults ds (before ++ (d ∷ [])) (a ++ b)) ≡ _>>=_ (_>>=_ x (λ _. declFaults ds (before ++ (d ∷ [])) a)) (λ _. declFaults ds (before ++ (d ∷ a)) b)
+        → declFaults ds en (before ++ (d ∷ [])) (a ++ b) ≡ _>>=_ (declFaults ds en (before ++ (d ∷ [])) a) (λ _. declFaults ds en (before ++ (d ∷ []) ++ a) b)
+        → _>>=_ x (λ _. declFaults ds en (before ++ (d ∷ [])) (a ++ b)) ≡ _>>=_ (_>>=_ x (λ _. declFaults ds en (before ++ (d ∷ [])) a)) (λ _. declFaults ds en (before ++ (d ∷ a)) b)
     go (good u) h = rw append-snoc at h
     go (wrong n w) h = refl

@@ -5,7 +5,7 @@ use mathlib.Core.Option.{Option, none, some}
 use mathlib.Core.Path.{_≡_, refl, sym}
 use Prim.Native.Nat.{ℕ, _+_}
 use Rattle.base.specs.Common.{given}
-use Rattle.declarations.proofs.Lookups.{found, found-names, found-row}
+use Rattle.declarations.proofs.Lookups.{found, found-names, found-row, looked-up}
 use Rattle.declarations.specs.Decls.{Decl, knownsIn, indexOf, declaredIn, typeClass, classNamed, mapped, Agrees, elsewhereIn, lookupIn, typeIn, optionalIn}
 use Rattle.names.specs.Known.{Checked, good, wrong, _>>=_, Known, KnownRule, Names, find, findType, declared, isType, elsewhere, lookup, lookupType, optionalType}
 use Rattle.names.specs.Resolve as resolve
@@ -18,13 +18,7 @@ module _ {p : Program} {n : Names} {rs : List KnownRule} {ds : List Decl} (agree
   uses-elsewhere w = rw (agrees .declared (w .text))
 
   pub uses-lookup : (c : ℕ) (w : Word) → lookup p (knownsIn c ds) w ≡ lookupIn ds c w
-  unfolding lookup lookupIn
-  uses-lookup c w = go (find (w .text) (knownsIn c ds))
-    where
-      go : (x : Option ℕ) → _≡_ {A = Checked ℕ} (elim x as (λ _. Checked ℕ) [ some v ↦ good v | none ↦ elsewhere p w ])
-          (elim x as (λ _. Checked ℕ) [ some v ↦ good v | none ↦ wrong (elsewhereIn ds (w .text)) w ])
-      go none = uses-elsewhere w
-      go (some v) = refl
+  uses-lookup c w = looked-up p ds c w (agrees .declared (w .text))
 
   pub uses-type : (w : Word) → lookupType p (n .types) w ≡ _>>=_ (typeIn ds ds w) (λ c. good (knownsIn c ds))
   unfolding found

@@ -1,6 +1,6 @@
 -- A program's row as a whole: what is declared in it, its types, its rules and its length; which classes a part of it does not feed.
 use mathlib.Core.Bool.{Bool, true, false, _&&_, _||_, not, or-false, and-false}
-use mathlib.Core.List.{List, [], _∷_, _++_, append-assoc}
+use mathlib.Core.List.{List, [], _∷_, _++_, append-nil, append-assoc}
 use mathlib.Core.Option.{Option, none, some}
 use mathlib.Core.Path.{_≡_, refl, sym, ap, _∙_}
 use Prim.Native.Nat.{ℕ, suc, _+_, _<_, _≤_}
@@ -12,11 +12,11 @@ use native.Mathlib.Nat.{zero-add}
 use native.Mathlib.Omega.{arith}
 use Rattle.base.specs.Common.{if_then_else_, same, given}
 use Rattle.declarations.proofs.Rows.{first, first-none, given-first, knowns-append, index-append, declared-append, decl-here}
-use Rattle.declarations.specs.Decls.{Decl, ofEntry, ofType, ofOperation, ofRule, entryDecls, operationDecls, sectionDecls, sectionsDecls, ruleDecls, declsOf, feeds, knownsIn, indexOf, declaredIn, declOf, ruleFrom, mapped}
-use Rattle.grammar.specs.Derived.{namesIn, namesInAll}
-use Rattle.names.specs.Declare.{knownRules}
+use Rattle.declarations.specs.Decls.{Decl, ofEntry, ofType, ofOperation, ofOperators, ofRule, entryDecls, operationDecls, sectionDecls, sectionsDecls, ruleDecls, declsOf, feeds, knownsOf, knownsIn, indexOf, declaredIn, declOf, ruleFrom, mapped}
+use Rattle.grammar.specs.Derived.{namesIn, namesInAll, ProgramIn, a-program}
+use Rattle.names.specs.Declare.{knowns, allKnowns, inputsOf, outputsOf, knownRules}
 use Rattle.names.specs.Known.{findRule, isWord, amongEntries, amongOperations, amongRules, inSection, inSections, declared, isType}
-use Rattle.syntax.specs.Written.{Entry, Operation, Section, inputs, outputs, both, errors, values, operations, Rule, Program}
+use Rattle.syntax.specs.Written.{Entry, Operation, Section, inputs, outputs, both, errors, values, operations, operators, Operator, Rule, Program}
 use Rattle.words.specs.Words.{Word}
 
 -- Classes that a part does not feed
@@ -56,11 +56,12 @@ rules-none c i [] a = none-nil c
 rules-none c i (r ∷ rs) a = none-cons c (ofRule i r) (ruleDecls (suc i) rs) a (rules-none c (suc i) rs a)
 
 -- 0, or a class of a type's values
-abbrev pub Valued : ℕ → Type 0
-Valued c = (k : ℕ) → 1 ≤ k → k < 8 → k ≡ c → ⊥
+pub record Valued (c : ℕ) : Type 0 where
+  pub low : (k : ℕ) → 1 ≤ k → k < 8 → k ≡ c → ⊥
+  pub high : 600 ≡ c → ⊥
 
 small-apart : (c k : ℕ) → Valued c → 1 ≤ k → k < 8 → Apart c k
-small-apart c k v l h = apart c k (v k l h) (λ e. v 1 (omega arith) (omega arith) (sym e)) (λ e. v 2 (omega arith) (omega arith) (sym e))
+small-apart c k v l h = apart c k (v .low k l h) (λ e. v .low 1 (omega arith) (omega arith) (sym e)) (λ e. v .low 2 (omega arith) (omega arith) (sym e))
 
 -- a section feeds no values but those of its own type
 pub section-none : (c j : ℕ) (s : Section) → Valued c → (8 + j ≡ c → length (sectionDecls j s) ≡ 0) → knownsIn c (sectionDecls j s) ≡ []
@@ -71,8 +72,10 @@ section-none c j (both es) v own = entries-none c 3 es (small-apart c 3 v (omega
 section-none c j (errors es) v own = entries-none c 4 es (small-apart c 4 v (omega arith) (omega arith))
 section-none c j (values w es) v own =
     none-cons c (ofType w) (entryDecls (8 + j) es) (small-apart c 5 v (omega arith) (omega arith))
-    (entries-none c (8 + j) es (apart c (8 + j) (λ e. omega (arith, own e)) (λ e. v 1 (omega arith) (omega arith) (sym e)) (λ e. v 2 (omega arith) (omega arith) (sym e))))
+    (entries-none c (8 + j) es (apart c (8 + j) (λ e. omega (arith, own e)) (λ e. v .low 1 (omega arith) (omega arith) (sym e)) (λ e. v .low 2 (omega arith) (omega arith) (sym e))))
 section-none c j (operations os) v own = operations-none c os (small-apart c 6 v (omega arith) (omega arith))
+section-none c j (operators w es) v own =
+    none-cons c (ofOperators w es) [] (apart c 600 (v .high) (λ e. v .low 1 (omega arith) (omega arith) (sym e)) (λ e. v .low 2 (omega arith) (omega arith) (sym e))) (none-nil c)
 
 -- nor do later sections and the rules
 pub later-none : (c j : ℕ) (ss : List Section) (i : ℕ) (rs : List Rule) → Valued c → c < 8 + j → knownsIn c (sectionsDecls j ss ++ ruleDecls i rs) ≡ []
@@ -84,7 +87,55 @@ later-none c j (s ∷ ss) i rs v h =
 
 pub class-0 : (p : Program) → knownsIn 0 (declsOf p) ≡ []
 unfolding declsOf
-class-0 p = later-none 0 0 (p .sections) 0 (p .rules) (λ k l h e. omega arith) (omega arith)
+class-0 p = later-none 0 0 (p .sections) 0 (p .rules) (record { low = λ k l h e. omega arith; high = λ e. omega arith }) (omega arith)
+
+-- The tokens of the whole text
+
+pub values-apart : (j c : ℕ) → c < 5 → Apart c (8 + j)
+values-apart j c h = rw (high j c (omega arith), high j 3 (omega arith))
+
+all-known : (c k : ℕ) (es : List Entry) → (eqb k c || (eqb k 3 && (eqb c 1 || eqb c 2))) ≡ true → knownsIn c (entryDecls k es) ≡ allKnowns es
+unfolding entryDecls knownsIn knownsOf feeds allKnowns knowns
+all-known c k [] a = refl
+all-known c k (e ∷ es) a = rw (a, all-known c k es a)
+
+input-section : (j : ℕ) (s : Section) (ss : List Section) → inputsOf (s ∷ ss) ≡ knownsIn 1 (sectionDecls j s) ++ inputsOf ss
+unfolding inputsOf sectionDecls
+input-section j (inputs es) ss = rw (all-known 1 1 es refl)
+input-section j (outputs es) ss = rw (entries-none 1 2 es refl)
+input-section j (both es) ss = rw (all-known 1 3 es refl)
+input-section j (errors es) ss = rw (entries-none 1 4 es refl)
+input-section j (values w es) ss = rw (none-cons 1 (ofType w) (entryDecls (8 + j) es) refl (entries-none 1 (8 + j) es (values-apart j 1 (omega arith))))
+input-section j (operations os) ss = rw (operations-none 1 os refl)
+input-section j (operators w es) ss = rw (none-cons 1 (ofOperators w es) [] refl (none-nil 1))
+
+output-section : (j : ℕ) (s : Section) (ss : List Section) → outputsOf (s ∷ ss) ≡ knownsIn 2 (sectionDecls j s) ++ outputsOf ss
+unfolding outputsOf sectionDecls
+output-section j (inputs es) ss = rw (entries-none 2 1 es refl)
+output-section j (outputs es) ss = rw (all-known 2 2 es refl)
+output-section j (both es) ss = rw (all-known 2 3 es refl)
+output-section j (errors es) ss = rw (entries-none 2 4 es refl)
+output-section j (values w es) ss = rw (none-cons 2 (ofType w) (entryDecls (8 + j) es) refl (entries-none 2 (8 + j) es (values-apart j 2 (omega arith))))
+output-section j (operations os) ss = rw (operations-none 2 os refl)
+output-section j (operators w es) ss = rw (none-cons 2 (ofOperators w es) [] refl (none-nil 2))
+
+input-sections : (j : ℕ) (ss : List Section) → inputsOf ss ≡ knownsIn 1 (sectionsDecls j ss)
+unfolding inputsOf sectionsDecls
+input-sections j [] = sym (none-nil 1)
+input-sections j (s ∷ ss) = rw (knowns-append, ← input-sections (j + length (sectionDecls j s)) ss) (input-section j s ss)
+
+output-sections : (j : ℕ) (ss : List Section) → outputsOf ss ≡ knownsIn 2 (sectionsDecls j ss)
+unfolding outputsOf sectionsDecls
+output-sections j [] = sym (none-nil 2)
+output-sections j (s ∷ ss) = rw (knowns-append, ← output-sections (j + length (sectionDecls j s)) ss) (output-section j s ss)
+
+pub whole-inputs : (p : Program) → inputsOf (p .sections) ≡ knownsIn 1 (declsOf p)
+unfolding declsOf
+whole-inputs p = rw (knowns-append, rules-none 1 0 (p .rules) refl, append-nil) (input-sections 0 (p .sections))
+
+pub whole-outputs : (p : Program) → outputsOf (p .sections) ≡ knownsIn 2 (declsOf p)
+unfolding declsOf
+whole-outputs p = rw (knowns-append, rules-none 2 0 (p .rules) refl, append-nil) (output-sections 0 (p .sections))
 
 -- Names that a part does not have in a class
 
@@ -120,6 +171,7 @@ ofSection w (both es) = false
 ofSection w (errors es) = false
 ofSection w (values t es) = same w (t .text)
 ofSection w (operations os) = false
+ofSection w (operators e es) = false
 
 is-type-cons : (w : List ℕ) (s : Section) (ss : List Section) → isType w (s ∷ ss) ≡ (ofSection w s || isType w ss)
 unfolding isType ofSection
@@ -129,6 +181,11 @@ is-type-cons w (both es) ss = refl
 is-type-cons w (errors es) ss = refl
 is-type-cons w (values t es) ss = refl
 is-type-cons w (operations os) ss = refl
+is-type-cons w (operators e es) ss = refl
+
+-- a row of one section of operators
+pub index-operators : (c : ℕ) (w : List ℕ) (i : ℕ) (e : Word) (es : List Operator) → eqb 600 c ≡ false → indexOf c w i (ofOperators e es ∷ []) ≡ none
+index-operators c w i e es a = index-cons c w i (ofOperators e es) [] a ∙ index-nil c w (suc i)
 
 -- the index of a type's own row
 pub index-type : (w : List ℕ) (i j : ℕ) (t : Word) (es : List Entry) → indexOf 5 w i (ofType t ∷ entryDecls (8 + j) es) ≡ (if same w (t .text) then some i else none)
@@ -147,6 +204,7 @@ type-section w i j (both es) = rw (index-entries 5 w i 3 es refl)
 type-section w i j (errors es) = rw (index-entries 5 w i 4 es refl)
 type-section w i j (values t es) = rw (index-type w i j t es) (given-if (same w (t .text)) i)
 type-section w i j (operations os) = rw (index-operations 5 w i os refl)
+type-section w i j (operators e es) = rw (index-operators 5 w i e es refl)
 
 type-sections : (w : List ℕ) (i j : ℕ) (ss : List Section) → given (indexOf 5 w i (sectionsDecls j ss)) ≡ isType w ss
 unfolding sectionsDecls isType
@@ -183,6 +241,7 @@ declared-section w j (both es) = declared-entries w 3 es refl
 declared-section w j (errors es) = declared-entries w 4 es refl
 declared-section w j (values t es) = rw (declared-entries w (8 + j) es (high j 6 (omega arith)), or-false)
 declared-section w j (operations os) = declared-operations w os
+declared-section w j (operators e es) = or-false (same w (e .text) || false) ∙ or-false (same w (e .text))
 
 declared-sections : (w : List ℕ) (j : ℕ) (ss : List Section) → declaredIn w (sectionsDecls j ss) ≡ inSections w ss
 unfolding sectionsDecls inSections declaredIn
@@ -203,6 +262,7 @@ no-rule w i j (both es) = index-entries 7 w i 3 es refl
 no-rule w i j (errors es) = index-entries 7 w i 4 es refl
 no-rule w i j (values t es) = index-cons 7 w i (ofType t) (entryDecls (8 + j) es) refl ∙ index-entries 7 w (suc i) (8 + j) es (high j 7 (omega arith))
 no-rule w i j (operations os) = index-operations 7 w i os refl
+no-rule w i j (operators e es) = index-operators 7 w i e es refl
 
 no-rules : (w : List ℕ) (i j : ℕ) (ss : List Section) → indexOf 7 w i (sectionsDecls j ss) ≡ none
 unfolding sectionsDecls
@@ -254,6 +314,7 @@ length-section j (both es) = length-entries 3 es
 length-section j (errors es) = length-entries 4 es
 length-section j (values w es) = omega (arith, length-entries (8 + j) es)
 length-section j (operations os) = length-operations os
+length-section j (operators w es) = refl
 
 pub length-sections : (j : ℕ) (ss : List Section) → length (sectionsDecls j ss) ≡ namesInAll ss
 unfolding sectionsDecls namesInAll
@@ -264,3 +325,6 @@ length-sections j (s ∷ ss) = rw (length-append, length-section j s, length-sec
 pub length-decls : (p : Program) → length (declsOf p) ≡ namesInAll (p .sections) + length (p .rules)
 unfolding declsOf
 length-decls p = rw (length-append, length-sections 0 (p .sections), length-rules 0 (p .rules))
+
+pub few-decls : {ws : List Word} {p : Program} → ProgramIn ws p → length (declsOf p) ≤ 512
+few-decls {ws} {p} (a-program ss h rs e few all) = omega (arith, all, length-decls p)

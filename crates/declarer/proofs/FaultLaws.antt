@@ -10,13 +10,15 @@ use native.Mathlib.Omega.{arith}
 use lib.ListN.{length, getD}
 use borrow.Author.Tests.{ne-eqb, eq-eqb}
 use Rattle.base.specs.Common.{if_then_else_, given}
-use Rattle.declarations.specs.Decls.{Decl, indexOf, elsewhereIn, typeIn, optionalIn, entryAgain, repeatsIn, operationFault, declFault, declFaults}
+use Rattle.declarations.specs.Decls.{Decl, declOf, EntriesAt, indexOf, elsewhereIn, typeIn, optionalIn, entryAgain, repeatsIn, operationFault, operatorsFault, declFault, declFaults}
 use Rattle.declarer.specs.Faults.{Faults, clean, faulty, inputAgain, bothAgain, operationAgain, typesIn}
+use Rattle.grammar.specs.Derived.{OperatorsIn}
 use Rattle.names.specs.Known.{Checked, good, wrong, _>>=_, faultIf}
 use Rattle.symbols.specs.Rows.{wordOf, optionOf, declAt, heldFrom, held, Looks, found, missing}
 use Rattle.symbols.specs.Search.{part}
 use Rattle.symbols.proofs.Searches.{held-next, held-end}
-use Rattle.words.specs.Words.{Word}
+use Rattle.syntax.specs.Written.{Operator}
+use Rattle.words.specs.Words.{Word, wordsAt}
 
 -- no fault so far
 pub goes : {A B : Type 0} {f at len f₂ at₂ len₂ : ℕ} {m : Checked A} (k : A → Checked B)
@@ -37,12 +39,12 @@ pub is-clean : {f at len : ℕ} {m : Checked (Unit {0})} → Faults f at len m �
 is-clean (clean e) z = refl
 is-clean (faulty e n p q) z = absurd (n (sym e ∙ z))
 
--- the fault 4 of a name
-pub again : (f at len : ℕ) (b : Bool) (w : Word) → b ≡ true → f ≡ 4 → at ≡ w .start → len ≡ length (w .text) → Faults f at len (faultIf b 4 w)
-again f at len b w e h p q = rw e (faulty h (λ z. omega arith) p q)
+-- the fault of a word
+pub again : (f at len : ℕ) (b : Bool) (n : ℕ) (w : Word) → b ≡ true → f ≡ n → (n ≡ 0 → ⊥) → at ≡ w .start → len ≡ length (w .text) → Faults f at len (faultIf b n w)
+again f at len b n w e h z p q = rw e (faulty h z p q)
 
-pub once : (f at len : ℕ) (b : Bool) (w : Word) → b ≡ false → f ≡ 0 → Faults f at len (faultIf b 4 w)
-once f at len b w e h = rw e (clean h)
+pub once : (f at len : ℕ) (b : Bool) (n : ℕ) (w : Word) → b ≡ false → f ≡ 0 → Faults f at len (faultIf b n w)
+once f at len b n w e h = rw e (clean h)
 
 -- the same check, said otherwise
 pub moved : {A : Type 0} {f at len : ℕ} {m n : Checked A} → m ≡ n → Faults f at len n → Faults f at len m
@@ -101,31 +103,37 @@ module _ (ds before : List Decl) (d : Decl) where
   unfolding operationFault
   operation-stop h z = stops _ h z
 
-  pub of-type : d .class ≡ 5 → declFault ds before d ≡ faultIf (given (indexOf 5 (d .name .text) 0 before)) 4 (d .name)
-  unfolding declFault
-  of-type e = rw (eq-eqb (d .class) 5 e) refl
+  module _ (es : List Operator) where
+    pub of-type : d .class ≡ 5 → declFault ds before es d ≡ faultIf (given (indexOf 5 (d .name .text) 0 before)) 4 (d .name)
+    unfolding declFault
+    of-type e = rw (eq-eqb (d .class) 5 e) refl
 
-  pub of-operation : d .class ≡ 6 → declFault ds before d ≡ operationFault ds before d
-  unfolding declFault
-  of-operation e = rw e refl
+    pub of-operation : d .class ≡ 6 → declFault ds before es d ≡ operationFault ds before d
+    unfolding declFault
+    of-operation e = rw e refl
 
-  pub of-rule : d .class ≡ 7 → declFault ds before d ≡ faultIf false 4 (d .name)
-  unfolding declFault
-  of-rule e = rw e refl
+    pub of-rule : d .class ≡ 7 → declFault ds before es d ≡ faultIf false 4 (d .name)
+    unfolding declFault
+    of-rule e = rw e refl
 
-  pub of-entry : (d .class ≡ 5 → ⊥) → (d .class ≡ 6 → ⊥) → (d .class ≡ 7 → ⊥) → declFault ds before d ≡ faultIf (entryAgain d before) 4 (d .name)
-  unfolding declFault
-  of-entry e f g = rw (ne-eqb (d .class) 5 e, ne-eqb (d .class) 6 f, ne-eqb (d .class) 7 g) refl
+    pub of-operators : d .class ≡ 600 → declFault ds before es d ≡ operatorsFault ds before es d
+    unfolding declFault
+    of-operators e = rw e refl
+
+    pub of-entry : (d .class ≡ 5 → ⊥) → (d .class ≡ 6 → ⊥) → (d .class ≡ 7 → ⊥) → (d .class ≡ 600 → ⊥) → declFault ds before es d ≡ faultIf (entryAgain d before) 4 (d .name)
+    unfolding declFault
+    of-entry e f g h = rw (ne-eqb (d .class) 5 e, ne-eqb (d .class) 6 f, ne-eqb (d .class) 7 g, ne-eqb (d .class) 600 h) refl
 
   -- and then the others
-  next : {f at len : ℕ} (rest : List Decl) → Faults f at len (declFault ds before d) → f ≡ 0
-      → declFaults ds before (d ∷ rest) ≡ declFaults ds (before ++ (d ∷ [])) rest
+  next : {f at len : ℕ} (entries : ℕ → List Operator) (rest : List Decl) → Faults f at len (declFault ds before (entries (length before)) d) → f ≡ 0
+      → declFaults ds entries before (d ∷ rest) ≡ declFaults ds entries (before ++ (d ∷ [])) rest
   unfolding declFaults
-  next rest h z = rw (is-clean h z) refl
+  next entries rest h z = rw (is-clean h z) refl
 
-  halt : {f at len : ℕ} (rest : List Decl) → Faults f at len (declFault ds before d) → (f ≡ 0 → ⊥) → Faults f at len (declFaults ds before (d ∷ rest))
+  halt : {f at len : ℕ} (entries : ℕ → List Operator) (rest : List Decl) → Faults f at len (declFault ds before (entries (length before)) d) → (f ≡ 0 → ⊥)
+      → Faults f at len (declFaults ds entries before (d ∷ rest))
   unfolding declFaults
-  halt rest h z = stops _ h z
+  halt entries rest h z = stops _ h z
 
 -- the row
 
@@ -143,24 +151,59 @@ module _ (text rows : List ℕ) where
     none-more : 0 + i ≡ i
     none-more = omega arith
 
-  module _ (ds : List Decl) where
-    pub rows-start : (n : ℕ) → declFaults ds [] (held text rows n) ≡ declFaults ds (held text rows 0) (heldFrom text rows 0 (n - 0))
+  -- as many as are asked for
+  from-length : (j k : ℕ) → length (heldFrom text rows j k) ≡ k
+  unfolding heldFrom
+  from-length j zero = refl
+  from-length j (suc k) = ap suc (from-length (suc j) k)
+
+  held-length : (i : ℕ) → length (held text rows i) ≡ i
+  unfolding held
+  held-length i = from-length 0 i
+
+  from-decl : (j n i : ℕ) → i < n → declOf (heldFrom text rows j n) i ≡ declAt text rows (j + i)
+  unfolding heldFrom declOf
+  from-decl j zero i h = absurd (omega arith)
+  from-decl j (suc n) zero h = rw add-zero refl
+  from-decl j (suc n) (suc i) h = from-decl (suc j) n i (omega arith) ∙ ap (declAt text rows) (omega arith)
+
+  pub held-decl : (n i : ℕ) → i < n → declOf (held text rows n) i ≡ declAt text rows i
+  unfolding held
+  held-decl n i h = from-decl 0 n i h ∙ ap (declAt text rows) (omega arith)
+
+  -- the entries of row i
+  pub entries-here : (n : ℕ) (entries : ℕ → List Operator) (at : EntriesAt text (held text rows n) entries) (i : ℕ) → i < n → declAt text rows i .class ≡ 600
+      → OperatorsIn (wordsAt text (declAt text rows i .value)) (at .behind i) (entries i)
+  entries-here n entries at i h e = rw (held-decl n i h) at (at .stand i (rw (held-decl n i h) e))
+
+  -- row i is checked with its own entries
+  abbrev RowFaults : List Decl → ℕ → ℕ → ℕ → ℕ → Type 0
+  RowFaults ds f at len i = (es : List Operator) (ws′ : List Word) → (declAt text rows i .class ≡ 600 → OperatorsIn (wordsAt text (declAt text rows i .value)) ws′ es)
+      → Faults f at len (declFault ds (held text rows i) es (declAt text rows i))
+
+  module _ (n : ℕ) (entries : ℕ → List Operator) (at : EntriesAt text (held text rows n) entries) where
+    row-fault : {f at′ len : ℕ} (i : ℕ) → i < n → RowFaults (held text rows n) f at′ len i
+        → Faults f at′ len (declFault (held text rows n) (held text rows i) (entries (length (held text rows i))) (declAt text rows i))
+    row-fault i l h = rw (held-length i) (h (entries i) (at .behind i) (entries-here n entries at i l))
+
+    pub rows-start : declFaults (held text rows n) entries [] (held text rows n) ≡ declFaults (held text rows n) entries (held text rows 0) (heldFrom text rows 0 (n - 0))
     unfolding held heldFrom
-    rows-start n = ap (λ (k : ℕ). declFaults ds [] (heldFrom text rows 0 k)) none-off where
+    rows-start = ap (λ (k : ℕ). declFaults (heldFrom text rows 0 n) entries [] (heldFrom text rows 0 k)) none-off where
       none-off : n ≡ n - 0
       none-off = omega arith
 
-    pub rows-go : {f at len : ℕ} (i n : ℕ) → i < n → Faults f at len (declFault ds (held text rows i) (declAt text rows i)) → f ≡ 0
-        → declFaults ds (held text rows i) (heldFrom text rows i (n - i)) ≡ declFaults ds (held text rows (i + 1)) (heldFrom text rows (i + 1) (n - (i + 1)))
-    rows-go i n l h z = rw (held-next text rows i n l, held-more i, add-one) (next ds (held text rows i) (declAt text rows i) _ h z)
+    pub rows-go : {f at′ len : ℕ} (i : ℕ) → i < n → RowFaults (held text rows n) f at′ len i → f ≡ 0
+        → declFaults (held text rows n) entries (held text rows i) (heldFrom text rows i (n - i))
+        ≡ declFaults (held text rows n) entries (held text rows (i + 1)) (heldFrom text rows (i + 1) (n - (i + 1)))
+    rows-go i l h z = rw (held-next text rows i n l, held-more i, add-one) (next (held text rows n) (held text rows i) (declAt text rows i) entries _ (row-fault i l h) z)
 
-    pub rows-stop : {f at len : ℕ} (i n : ℕ) → i < n → Faults f at len (declFault ds (held text rows i) (declAt text rows i)) → (f ≡ 0 → ⊥)
-        → Faults f at len (declFaults ds (held text rows i) (heldFrom text rows i (n - i)))
-    rows-stop i n l h z = rw (held-next text rows i n l) (halt ds (held text rows i) (declAt text rows i) _ h z)
+    pub rows-stop : {f at′ len : ℕ} (i : ℕ) → i < n → RowFaults (held text rows n) f at′ len i → (f ≡ 0 → ⊥)
+        → Faults f at′ len (declFaults (held text rows n) entries (held text rows i) (heldFrom text rows i (n - i)))
+    rows-stop i l h z = rw (held-next text rows i n l) (halt (held text rows n) (held text rows i) (declAt text rows i) entries _ (row-fault i l h) z)
 
-    pub rows-end : (i n : ℕ) → n ≤ i → Faults 0 0 0 (declFaults ds (held text rows i) (heldFrom text rows i (n - i)))
+    pub rows-end : (i : ℕ) → n ≤ i → Faults 0 0 0 (declFaults (held text rows n) entries (held text rows i) (heldFrom text rows i (n - i)))
     unfolding declFaults
-    rows-end i n l = rw (held-end text rows i n l) (clean refl)
+    rows-end i l = rw (held-end text rows i n l) (clean refl)
 
 -- the numbers of a declaration, in the row
 

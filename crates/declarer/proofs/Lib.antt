@@ -1,2 +1,3 @@
 -- Laws of the faults of declarations, for the proofs of the code.
 pub mod FaultLaws
+pub mod OperatorLaws

@@ -1,21 +1,48 @@
-// The faults of the declarations, over their row.
+// The faults of the declarations, over their row; a section of operators has its entries in the text.
 ghost use mathlib.Core.Path.{_≡_};
-ghost use mathlib.Core.List.{[]};
+ghost use mathlib.Core.Bool.{_&&_, _||_};
+ghost use mathlib.Core.List.{List, []};
+ghost use mathlib.Core.Option.{Option};
 ghost use Prim.Native.Nat.{ℕ, _+_, _*_, _<_, _≤_};
-ghost use lib.ListN.{length};
+ghost use lib.Dec.{eqb};
+ghost use lib.ListN.{length, take};
 ghost use Rattle.base.specs.Common.{given};
 ghost use Rattle.names.specs.Known.{faultIf, find};
-ghost use Rattle.names.specs.Declare.{spelled};
-ghost use Rattle.declarations.specs.Decls.{knownsIn, indexOf, repeatsIn, clashesIn, entryAgain, optionalIn, operationFault, declFault, declFaults};
+ghost use Rattle.names.specs.Declare.{spelled, differ};
+ghost use Rattle.declarations.specs.Decls.{knownsIn, indexOf, repeatsIn, clashesIn, entryAgain, optionalIn, operationFault, operatorsFault, declFault, declFaults, EntriesAt};
+ghost use Rattle.grammar.specs.Derived.{OperatorsIn};
+ghost use Rattle.syntax.specs.Written.{Operator};
+ghost use Rattle.maker.specs.Ranks.{EntryIs};
 ghost use Rattle.symbols.specs.Index.{Kept};
 ghost use Rattle.symbols.specs.Rows.{optionOf, declAt, held};
+ghost use Rattle.symbols.specs.Search.{part, Tells};
+ghost use Rattle.words.specs.Words.{Word, wordsAt};
 ghost use Rattle.declarer.specs.Faults.{Faults, inputAgain, bothAgain, operationAgain, typesIn};
+ghost use Rattle.declarer.specs.Operators.{sameValue, against, entryFault, entriesFault};
+use maker::Entry;
+use maker::entries_at;
+use maker::read_entry;
+use scanner::WordAt;
+use scanner::next_word;
+use symbols::find_value;
 use symbols::has_row;
 use symbols::has_value;
+use symbols::is_declared;
 use symbols::is_known;
 use symbols::number;
 use symbols::part_len;
 use symbols::type_of;
+use symbols::value_of;
+
+// Classes of declarations: input tokens, output tokens, sections of operators.
+const INPUT: usize = 1;
+
+const OUTPUT: usize = 2;
+
+const OPERATORS: usize = 600;
+
+// The kind of `;`.
+const SEMICOLON: u16 = 59;
 
 // A fault with the place and the length of its word, or 0.
 pub struct Fault {
@@ -230,10 +257,144 @@ fn operation_fault(text: &[u8], rows: &[u16], n: usize, i: usize) -> Fault
     types_fault(text, rows, n, i)
 }
 
+// Operators
+
+fn differ(a: bool, b: bool) -> bool
+    ensures { λ r. ⌜ r ≡ differ a b ⌝ }
+{
+    if a {
+        return !b;
+    }
+    b
+}
+
+// The entry b has the other side of e's level.
+fn other_side(e: Entry, b: Entry) -> bool
+    ensures { λ r. ⌜ r ≡ (eqb (e .level) (b .level) && differ (e .right) (b .right)) ⌝ }
+{
+    if e.level != b.level {
+        return false;
+    }
+    differ(e.right, b.right)
+}
+
+// The entry b has the token of value v, which is none where it is 65,536.
+fn has_token(text: &[u8], rows: &[u16], n: usize, v: usize, b: Entry) -> bool
+    requires { ⌜ Kept (now text) (now rows) n ⌝ }
+    ensures { λ r. ⌜ ((x : Option ℕ) → Tells v x → r ≡ sameValue x (find (part (now (text .entry)) (b .token .start) (b .token .len)) (knownsIn 1 (held (now (text .entry)) (now (rows .entry)) n)))) ⌝ }
+{
+    if v == 65536 {
+        return false;
+    }
+    v == find_value(text, rows, n, INPUT, b.token.start, b.token.len)
+}
+
+// The entry b has the other side of e's level, or its token, which has the value v.
+fn against_one(text: &[u8], rows: &[u16], n: usize, v: usize, e: Entry, b: Entry) -> bool
+    requires { ⌜ Kept (now text) (now rows) n ⌝ }
+    ensures { λ r. ⌜ ((x : Option ℕ) → Tells v x → r ≡ ((eqb (e .level) (b .level) && differ (e .right) (b .right)) || sameValue x (find (part (now (text .entry)) (b .token .start) (b .token .len)) (knownsIn 1 (held (now (text .entry)) (now (rows .entry)) n))))) ⌝ }
+{
+    if other_side(e, b) {
+        return true;
+    }
+    has_token(text, rows, n, v, b)
+}
+
+// One of the first `count` entries at the place `at` has the other side of e's level, or its token.
+fn against(text: &[u8], rows: &[u16], n: usize, at: usize, count: usize, e: Entry) -> bool
+    requires { ⌜ Kept (now text) (now rows) n × (at ≤ length (now text)) ⌝ }
+    ensures { λ r. ⌜ ((es : List Operator) (ws′ : List Word) → OperatorsIn (wordsAt (now (text .entry)) at) ws′ es → count < length es → (from : ℕ) (o : Operator) (ws₁ : List Word) → EntryIs (now (text .entry)) from o ws₁ e
+        → r ≡ against (held (now (text .entry)) (now (rows .entry)) n) (find (o .token .text) (knownsIn 1 (held (now (text .entry)) (now (rows .entry)) n))) o (take count es)) ⌝ }
+{
+    let v = find_value(text, rows, n, INPUT, e.token.start, e.token.len);
+    let mut i = at;
+    let mut k: usize = 0;
+    while k < count {
+        let b = read_entry(text, i);
+        if against_one(text, rows, n, v, e, b) {
+            return true;
+        }
+        i = b.emits.next;
+        k += 1;
+    }
+    false
+}
+
+// The fault of a word of an entry.
+fn word_fault(text: &[u8], fault: u16, w: WordAt) -> Fault
+    ensures { λ r. ⌜ (r .fault ≡ fault) × (r .at ≡ w .start) × (r .len ≡ length (part (now (text .entry)) (w .start) (w .len))) ⌝ }
+{
+    Fault {
+        fault,
+        at: w.start,
+        len: part_len(text, w.start, w.len),
+    }
+}
+
+// The fault of the entry e behind `count` others at the place `at`.
+fn entry_fault(text: &[u8], rows: &[u16], n: usize, at: usize, count: usize, e: Entry) -> Fault
+    requires { ⌜ Kept (now text) (now rows) n × (at ≤ length (now text)) ⌝ }
+    ensures { λ r. ⌜ ((es : List Operator) (ws′ : List Word) → OperatorsIn (wordsAt (now (text .entry)) at) ws′ es → count < length es → (from : ℕ) (o : Operator) (ws₁ : List Word) → EntryIs (now (text .entry)) from o ws₁ e
+        → Faults (r .fault) (r .at) (r .len) (entryFault (held (now (text .entry)) (now (rows .entry)) n) (take count es) o)) ⌝ }
+{
+    let w = e.token;
+    if !is_declared(text, rows, n, w.start, w.len) {
+        return word_fault(text, 3, w);
+    }
+    if against(text, rows, n, at, count, e) {
+        return word_fault(text, 45, w);
+    }
+    let t = value_of(text, rows, n, INPUT, w.start, w.len);
+    if t.fault != 0 {
+        return word_fault(text, t.fault, w);
+    }
+    let o = value_of(text, rows, n, OUTPUT, e.emits.start, e.emits.len);
+    word_fault(text, o.fault, e.emits)
+}
+
+// The first fault of the entries at the place `at`.
+fn entries_fault(text: &[u8], rows: &[u16], n: usize, at: usize) -> Fault
+    requires { ⌜ Kept (now text) (now rows) n × (at ≤ length (now text)) ⌝ }
+    ensures { λ r. ⌜ ((es : List Operator) (ws′ : List Word) → OperatorsIn (wordsAt (now (text .entry)) at) ws′ es → Faults (r .fault) (r .at) (r .len) (entriesFault (held (now (text .entry)) (now (rows .entry)) n) [] es)) ⌝ }
+{
+    let mut i = at;
+    let mut count: usize = 0;
+    loop {
+        let e = read_entry(text, i);
+        let f = entry_fault(text, rows, n, at, count, e);
+        if f.fault != 0 {
+            return f;
+        }
+        let next = e.emits.next;
+        let w = next_word(text, next);
+        if w.kind == SEMICOLON {
+            return f;
+        }
+        if next <= i {
+            return f;
+        }
+        i = next;
+        count += 1;
+    }
+}
+
+fn operators_fault(text: &[u8], rows: &[u16], n: usize, i: usize) -> Fault
+    requires { ⌜ Kept (now text) (now rows) n × (i < n) ⌝ }
+    ensures { λ r. ⌜ ((es : List Operator) (ws′ : List Word) → OperatorsIn (wordsAt (now (text .entry)) (declAt (now (text .entry)) (now (rows .entry)) i .value)) ws′ es
+        → Faults (r .fault) (r .at) (r .len) (operatorsFault (held (now (text .entry)) (now (rows .entry)) n) (held (now (text .entry)) (now (rows .entry)) i) es (declAt (now (text .entry)) (now (rows .entry)) i))) ⌝ }
+{
+    let f = fault_if(text, rows, i, name_taken(text, rows, i, OPERATORS));
+    if f.fault != 0 {
+        return f;
+    }
+    entries_fault(text, rows, n, entries_at(text, rows, i))
+}
+
 // The fault of declaration i.
 fn decl_fault(text: &[u8], rows: &[u16], n: usize, i: usize) -> Fault
-    requires { ⌜ Kept (now text) (now rows) n × (i ≤ n) ⌝ }
-    ensures { λ r. ⌜ Faults (r .fault) (r .at) (r .len) (declFault (held (now (text .entry)) (now (rows .entry)) n) (held (now (text .entry)) (now (rows .entry)) i) (declAt (now (text .entry)) (now (rows .entry)) i)) ⌝ }
+    requires { ⌜ Kept (now text) (now rows) n × (i < n) ⌝ }
+    ensures { λ r. ⌜ ((es : List Operator) (ws′ : List Word) → (declAt (now (text .entry)) (now (rows .entry)) i .class ≡ 600 → OperatorsIn (wordsAt (now (text .entry)) (declAt (now (text .entry)) (now (rows .entry)) i .value)) ws′ es)
+        → Faults (r .fault) (r .at) (r .len) (declFault (held (now (text .entry)) (now (rows .entry)) n) (held (now (text .entry)) (now (rows .entry)) i) es (declAt (now (text .entry)) (now (rows .entry)) i))) ⌝ }
 {
     let class = number(rows, 8 * i);
     if class == 5 {
@@ -245,13 +406,17 @@ fn decl_fault(text: &[u8], rows: &[u16], n: usize, i: usize) -> Fault
     if class == 7 {
         return fault_if(text, rows, i, false);
     }
+    if class == OPERATORS {
+        return operators_fault(text, rows, n, i);
+    }
     fault_if(text, rows, i, entry_again(text, rows, i))
 }
 
-// The first fault of the first n declarations.
+// The first fault of the first n declarations, for all entries that stand at their places.
 pub fn check_declarations(text: &[u8], rows: &[u16], n: usize) -> Fault
     requires { ⌜ Kept (now text) (now rows) n ⌝ }
-    ensures { λ r. ⌜ Faults (r .fault) (r .at) (r .len) (declFaults (held (now (text .entry)) (now (rows .entry)) n) [] (held (now (text .entry)) (now (rows .entry)) n)) ⌝ }
+    ensures { λ r. ⌜ ((entries : ℕ → List Operator) → EntriesAt (now (text .entry)) (held (now (text .entry)) (now (rows .entry)) n) entries
+        → Faults (r .fault) (r .at) (r .len) (declFaults (held (now (text .entry)) (now (rows .entry)) n) entries [] (held (now (text .entry)) (now (rows .entry)) n))) ⌝ }
 {
     let mut i = 0;
     while i < n {

@@ -78,7 +78,7 @@ module _ {X : Type 0} {F : ℕ → List Decl → X} {t : Decl → Bool} {h : ℕ
     where
       go : {is : List ℕ} → Chain rows p is → Following s text rows n (a .lo) is → F 0 (held text rows n) ≡ z
       go (chain-end d) f = no-more s text rows least-none f
-      go (chain-node d q c) f = absurd (omega (arith, d, e))
+      go (chain-node d u q c) f = absurd (omega (arith, d, e))
 
   -- the row of the node is past the rows
   pub along-past : {p : ℕ} → (p ≡ 0 → ⊥) → n ≤ (p - 1) / 2 → Along p → F 0 (held text rows n) ≡ z
@@ -106,7 +106,7 @@ module _ {X : Type 0} {F : ℕ → List Decl → X} {t : Decl → Bool} {h : ℕ
 
       go : {is : List ℕ} → Chain rows p is → Following s text rows n (a .lo) is → Along q
       go (chain-end c) f = absurd (d c)
-      go (chain-node {k = k} {is = is} c w more) f = record {
+      go (chain-node {k = k} {is = is} c u w more) f = record {
         lo = k / 2;
         rest = is;
         chain = rw (g ∙ sym (next-link rows p k c w)) more;

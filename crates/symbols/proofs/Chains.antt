@@ -26,7 +26,7 @@ weaker h (least-more {j = j} g t) = least-more {j = j} (omega (arith, h, g)) (we
 -- nodes rise, so rows do not fall
 pub chain-least : {rows : List ℕ} {p : ℕ} {is : List ℕ} (lo : ℕ) → Chain rows p is → (p ≡ 0) ⊎ (2 * lo < p) → AtLeast lo is
 chain-least lo (chain-end e) h = least-none
-chain-least {rows} {p} lo (chain-node {k = k} e q c) h = least-more (first h) (chain-least lo c (next q h))
+chain-least {rows} {p} lo (chain-node {k = k} e u q c) h = least-more (first h) (chain-least lo c (next q h))
   where
     first : (p ≡ 0) ⊎ (2 * lo < p) → lo ≤ k / 2
     first (inl z) = absurd (omega (arith, z, e))

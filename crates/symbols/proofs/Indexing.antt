@@ -13,7 +13,7 @@ use native.Mathlib.Omega.{arith}
 use Rattle.base.specs.Common.{if_then_else_}
 use Rattle.declarations.specs.Decls.{Decl}
 use Rattle.symbols.proofs.Parts.{bucket-low}
-use Rattle.symbols.specs.Index.{Chain, chain-end, chain-node, Among, here, later, headAt, linkAt, pushRows, pushSecond, pushName, bucketOf, RowsKept, Indexed, Kept}
+use Rattle.symbols.specs.Index.{Chain, chain-end, chain-node, Among, here, later, headAt, linkAt, pushRows, pushSecond, pushName, bucketOf, RowsKept, IndexKept, Indexed, Kept}
 use Rattle.symbols.specs.Rows.{declAt, optionOf, secondKind, wordOf, heldFrom, held}
 use Rattle.symbols.specs.Search.{part}
 use Rattle.words.specs.Words.{Word}
@@ -21,7 +21,7 @@ use Rattle.words.specs.Words.{Word}
 -- a number that no link of the chain stands at may be written
 chain-kept : {rows : List ℕ} {p : ℕ} {is : List ℕ} (lo i x : ℕ) → Chain rows p is → (p ≡ 0) ⊎ (lo < p) → ((k : ℕ) → lo ≤ k → 4608 + k ≡ i → ⊥) → Chain (set rows i x) p is
 chain-kept lo i x (chain-end e) h apart = chain-end e
-chain-kept {rows} {p} lo i x (chain-node {k = k} {is = is} e q c) h apart = chain-node {k = k} {is = is} e (rw d q) (rw d (chain-kept lo i x c (next q) apart))
+chain-kept {rows} {p} lo i x (chain-node {k = k} {is = is} e u q c) h apart = chain-node {k = k} {is = is} e u (rw d q) (rw d (chain-kept lo i x c (next q) apart))
   where
     high : (p ≡ 0) ⊎ (lo < p) → lo ≤ k
     high (inl z) = absurd (omega (arith, z, e))
@@ -43,7 +43,7 @@ pub record Nodes (rows : List ℕ) (lo : ℕ) (chain : ℕ → List ℕ) : Type 
 abbrev pub pushed : (ℕ → List ℕ) → ℕ → ℕ → ℕ → List ℕ
 pushed chain b k c = if eqb c b then k / 2 ∷ chain c else chain c
 
-pub push-nodes : {rows : List ℕ} {lo : ℕ} {chain : ℕ → List ℕ} (b k : ℕ) → Nodes rows lo chain → length rows ≡ 5632 → b < 512 → k < 1024 → k < lo → Nodes (pushRows rows b k) k (pushed chain b k)
+pub push-nodes : {rows : List ℕ} {lo : ℕ} {chain : ℕ → List ℕ} (b k : ℕ) → Nodes rows lo chain → length rows ≡ 6017 → b < 512 → k < 1024 → k < lo → Nodes (pushRows rows b k) k (pushed chain b k)
 push-nodes {rows} {lo} {chain} b k n size lb lk l = record { follows = λ c lc. one c lc (eqb c b) refl; above = λ c lc. top c lc (eqb c b) refl }
   where
     mid : List ℕ
@@ -74,7 +74,7 @@ push-nodes {rows} {lo} {chain} b k n size lb lk l = record { follows = λ c lc. 
     rising (inr z) = inr (omega (arith, z, l))
 
     own : Chain new (k + 1) (k / 2 ∷ chain b)
-    own = chain-node {p = k + 1} {k = k} {is = chain b} (omega arith) (rw link-own (rising (n .above b lb))) (rw link-own (stays (n .follows b lb) (n .above b lb)))
+    own = chain-node {p = k + 1} {k = k} {is = chain b} (omega arith) lk (rw link-own (rising (n .above b lb))) (rw link-own (stays (n .follows b lb) (n .above b lb)))
 
     one : (c : ℕ) → c < 512 → (t : Bool) → eqb c b ≡ t → Chain new (headAt new c) (if t then k / 2 ∷ chain c else chain c)
     one c lc true e = let d : c ≡ b = eqb-true c b e in rw d (rw head-own own)
@@ -224,7 +224,7 @@ name-pushed text rows new i start len b f e g h = h ∙ ap (λ (c : ℕ). pushRo
     both p q = cc
 
 -- one head more is cleared
-pub clear-more : {old rows : List ℕ} (b : ℕ) → length old ≡ 5632 → b < 512 → RowsKept old rows → ((c : ℕ) → c < b → headAt rows c ≡ 0)
+pub clear-more : {old rows : List ℕ} (b : ℕ) → length old ≡ 6017 → b < 512 → RowsKept old rows → ((c : ℕ) → c < b → headAt rows c ≡ 0)
     → RowsKept old (set rows (4096 + b) 0) × ((c : ℕ) → c < b + 1 → headAt (set rows (4096 + b) 0) c ≡ 0)
 clear-more {old} {rows} b size l r z = (rows-after r (rows-set rows (4096 + b) 0 (omega arith)), λ c m. one c m (alike c b))
   where
@@ -236,7 +236,7 @@ clear-more {old} {rows} b size l r z = (rows-after r (rows-set rows (4096 + b) 0
         apart x y = omega arith
 
 -- the second word's node is put in
-pub index-second : {text rows : List ℕ} {n : ℕ} (i : ℕ) → length rows ≡ 5632 → i < 512 → n ≤ 512 → IndexedFrom text rows (2 * i + 2) n → IndexedFrom text (pushSecond text rows i) (2 * i + 1) n
+pub index-second : {text rows : List ℕ} {n : ℕ} (i : ℕ) → length rows ≡ 6017 → i < 512 → n ≤ 512 → IndexedFrom text rows (2 * i + 2) n → IndexedFrom text (pushSecond text rows i) (2 * i + 1) n
 unfolding pushSecond
 index-second {text} {rows} {n} i size l few f = go (declAt text rows i .second) refl
   where
@@ -286,7 +286,7 @@ index-second {text} {rows} {n} i size l few f = go (declAt text rows i .second) 
             apart x y = omega arith
 
 -- the name's node is put in
-pub index-name : {text rows : List ℕ} {n : ℕ} (i : ℕ) → length rows ≡ 5632 → i < 512 → n ≤ 512 → IndexedFrom text rows (2 * i + 1) n → IndexedFrom text (pushName text rows i) (2 * i) n
+pub index-name : {text rows : List ℕ} {n : ℕ} (i : ℕ) → length rows ≡ 6017 → i < 512 → n ≤ 512 → IndexedFrom text rows (2 * i + 1) n → IndexedFrom text (pushName text rows i) (2 * i) n
 unfolding pushName
 index-name {text} {rows} {n} i size l few f = record {
   chain = pushed (f .chain) b (2 * i);
@@ -316,8 +316,48 @@ module _ (text : List ℕ) {rows mid : List ℕ} (k : ℕ) (p : mid ≡ pushSeco
   row-kept q = rows-after mid-kept (rw q (name-kept text mid (k - 1)))
 
   -- the nodes of the row before the k-th are put in
-  pub index-more : {new : List ℕ} {n : ℕ} → new ≡ pushName text mid (k - 1) → 0 < k → k ≤ n → n ≤ 512 → length rows ≡ 5632 → IndexedFrom text rows (2 * k) n → IndexedFrom text new (2 * (k - 1)) n
+  pub index-more : {new : List ℕ} {n : ℕ} → new ≡ pushName text mid (k - 1) → 0 < k → k ≤ n → n ≤ 512 → length rows ≡ 6017 → IndexedFrom text rows (2 * k) n → IndexedFrom text new (2 * (k - 1)) n
   index-more {new} {n} q low l few size f = rw q (index-name (k - 1) (mid-kept .size ∙ size) (omega (arith, l, few, low)) few (rw p (index-second (k - 1) size (omega (arith, l, few, low)) few (rw (sym even) f))))
     where
       even : 2 * k ≡ 2 * (k - 1) + 2
       even = omega (arith, low)
+
+-- What stands behind the index
+
+pub index-same : (rows : List ℕ) → IndexKept rows rows
+index-same rows = record { size = refl; kept = λ j l. refl }
+
+pub index-after : {a b c : List ℕ} → IndexKept a b → IndexKept b c → IndexKept a c
+index-after f g = record { size = g .size ∙ f .size; kept = λ j l. g .kept j l ∙ f .kept j l }
+
+-- a number behind the index is written
+pub index-set : (rows : List ℕ) (i x : ℕ) → 5632 ≤ i → IndexKept rows (set rows i x)
+index-set rows i x h = record { size = length-set rows i x; kept = λ j l. getD-set-other rows i j x 0 (λ e. omega (arith, e, l, h)) }
+
+pub rows-front : {old new : List ℕ} → IndexKept old new → RowsKept old new
+rows-front f = record { size = f .size; kept = λ j l. f .kept j (omega (arith, l)) }
+
+chain-front : {old new : List ℕ} {p : ℕ} {is : List ℕ} → IndexKept old new → Chain old p is → Chain new p is
+chain-front f (chain-end e) = chain-end e
+chain-front {old} {new} f (chain-node {k = k} {is = is} e u q c) = chain-node {k = k} {is = is} e u (rw d q) (rw d (chain-front f c))
+  where
+    d : linkAt new k ≡ linkAt old k
+    d = f .kept (4608 + k) (omega (arith, u))
+
+-- writing behind the index keeps rows and index
+pub kept-behind : {text old new : List ℕ} {n : ℕ} → IndexKept old new → Kept text old n → Kept text new n
+kept-behind {text} {old} {new} {n} f k = record {
+  few = k .few;
+  indexed = record {
+    chain = k .indexed .chain;
+    follows = λ b l. rw (f .kept (4096 + b) (omega (arith, l))) (chain-front f (k .indexed .follows b l));
+    names = λ i l. rw (same-decl i l) (k .indexed .names i l);
+    seconds = λ i w l e. k .indexed .seconds i w l (ap (λ (d : Decl). d .second) (sym (same-decl i l)) ∙ e);
+  };
+}
+  where
+    same-decl : (i : ℕ) → i < n → declAt text new i ≡ declAt text old i
+    same-decl i l = decl-kept text i (rows-front f) (omega (arith, l, k .few))
+
+pub held-behind : {old new : List ℕ} (text : List ℕ) (n : ℕ) → IndexKept old new → n ≤ 512 → held text new n ≡ held text old n
+held-behind text n f l = held-kept text n (rows-front f) l

@@ -10,7 +10,7 @@ use borrow.Author.Tests.{lt-ltb, le-ltb}
 use Rattle.base.specs.Common.{if_then_else_, given}
 use Rattle.declarations.specs.Decls.{Decl, declaredIn, elsewhereIn, lookupIn, typeIn, indexOf, knownsIn}
 use Rattle.names.specs.Known.{Checked, good, wrong, find}
-use Rattle.symbols.specs.Rows.{Looks, found, missing, operationIn, ruleIn}
+use Rattle.symbols.specs.Rows.{Looks, found, missing, rowIn, ruleIn}
 use Rattle.symbols.specs.Search.{Tells, there, nowhere}
 use Rattle.words.specs.Words.{Word}
 
@@ -47,13 +47,13 @@ module _ (ds : List Decl) (w : Word) (r : ℕ) where
   unfolding lookupIn
   value-not c f t h e = there-is-not r f _ w t h e (elsewhere-some ds (w .text))
 
-  pub operation-there : Tells r (indexOf 6 (w .text) 0 ds) → r < 65536 → Looks 0 r (operationIn ds w)
-  unfolding operationIn
-  operation-there t h = there-is r _ w t h
+  pub row-there : (c : ℕ) → Tells r (indexOf c (w .text) 0 ds) → r < 65536 → Looks 0 r (rowIn c ds w)
+  unfolding rowIn
+  row-there c t h = there-is r _ w t h
 
-  pub operation-not : (f : ℕ) → Tells r (indexOf 6 (w .text) 0 ds) → 65536 ≤ r → f ≡ elsewhereIn ds (w .text) → Looks f 0 (operationIn ds w)
-  unfolding operationIn
-  operation-not f t h e = there-is-not r f _ w t h e (elsewhere-some ds (w .text))
+  pub row-not : (c f : ℕ) → Tells r (indexOf c (w .text) 0 ds) → 65536 ≤ r → f ≡ elsewhereIn ds (w .text) → Looks f 0 (rowIn c ds w)
+  unfolding rowIn
+  row-not c f t h e = there-is-not r f _ w t h e (elsewhere-some ds (w .text))
 
   pub rule-clashes : true ≡ given (indexOf 6 (w .text) 0 ds) → Looks 5 0 (ruleIn ds w)
   unfolding ruleIn

@@ -46,10 +46,15 @@ pub record RowsKept (old new : List ℕ) : Type 0 where
   pub size : length new ≡ length old
   pub kept : (j : ℕ) → j < 4096 → getD new j 0 ≡ getD old j 0
 
+-- those of the rows and of the index are; what stands from 5,632 on is others'
+pub record IndexKept (old new : List ℕ) : Type 0 where
+  pub size : length new ≡ length old
+  pub kept : (j : ℕ) → j < 5632 → getD new j 0 ≡ getD old j 0
+
 -- the rows that are met from the node p on; nodes rise along a chain
 pub data Chain (rows : List ℕ) : ℕ → List ℕ → Type 0 where
   chain-end : {p : ℕ} → p ≡ 0 → Chain rows p []
-  chain-node : {p k : ℕ} {is : List ℕ} → p ≡ suc k → (linkAt rows k ≡ 0) ⊎ (p < linkAt rows k) → Chain rows (linkAt rows k) is → Chain rows p (k / 2 ∷ is)
+  chain-node : {p k : ℕ} {is : List ℕ} → p ≡ suc k → k < 1024 → (linkAt rows k ≡ 0) ⊎ (p < linkAt rows k) → Chain rows (linkAt rows k) is → Chain rows p (k / 2 ∷ is)
 
 pub data Among (i : ℕ) : List ℕ → Type 0 where
   here : {j : ℕ} {is : List ℕ} → i ≡ j → Among i (j ∷ is)

@@ -46,9 +46,17 @@ abbrev pub numberOf : Option ℕ → ℕ
 numberOf none = 65536
 numberOf (some v) = v
 
+-- the first row of the class c that has the name
+unfoldable pub rowIn : ℕ → List Decl → Word → Checked ℕ
+rowIn c ds w = elim (indexOf c (w .text) 0 ds) [ some i ↦ good i | none ↦ wrong (elsewhereIn ds (w .text)) w ]
+
 -- the row of an operation of the name
-unfoldable pub operationIn : List Decl → Word → Checked ℕ
-operationIn ds w = elim (indexOf 6 (w .text) 0 ds) [ some i ↦ good i | none ↦ wrong (elsewhereIn ds (w .text)) w ]
+abbrev pub operationIn : List Decl → Word → Checked ℕ
+operationIn = rowIn 6
+
+-- the row of a section of operators of the name
+abbrev pub operatorsRow : List Decl → Word → Checked ℕ
+operatorsRow = rowIn 600
 
 -- the row of a rule of the name; "A name declared twice keeps its first meaning" (R10)
 unfoldable pub ruleIn : List Decl → Word → Checked ℕ
@@ -67,5 +75,5 @@ givesOf ds class = if eqb class 0 then none else some (knownsIn class ds)
 
 -- all of this file computes where this is unfolded
 unfoldable pub opened : Unit {0}
-unfolding optionOf secondKind declAt heldFrom held operationIn ruleIn givesOf
+unfolding optionOf secondKind declAt heldFrom held rowIn ruleIn givesOf
 opened = tt

@@ -9,8 +9,11 @@ ghost use Rattle.names.specs.Known.{find, isWord};
 ghost use Rattle.names.specs.Declare.{valuesOf};
 ghost use Rattle.declarations.specs.Decls.{knownsIn, indexOf, declaredIn, elsewhereIn, lookupIn, typeIn};
 ghost use Rattle.symbols.specs.Index.{bucketOf, headAt, nextOf, pushRows, pushSecond, pushName, RowsKept, Kept};
-ghost use Rattle.symbols.specs.Rows.{wordOf, declAt, held, numberOf, operationIn, ruleIn, Looks};
+ghost use Rattle.symbols.specs.Rows.{wordOf, declAt, held, numberOf, rowIn, operationIn, operatorsRow, ruleIn, Looks};
 ghost use Rattle.symbols.specs.Search.{part, serves, knows, named, declares, counts, Tells};
+
+// The class of sections of operators.
+const OPERATORS: usize = 600;
 
 // Parts of the text
 
@@ -187,7 +190,7 @@ fn bucket(text: &[u8], start: usize, len: usize) -> usize
 
 // Node k is put before the chain b.
 fn push_node(rows: &mut [u16], b: usize, k: usize)
-    requires { ⌜ (length (now rows) ≡ 5632) × (b < 512) × (k < 1024) ⌝ }
+    requires { ⌜ (length (now rows) ≡ 6017) × (b < 512) × (k < 1024) ⌝ }
     ensures { λ _. ⌜ now (rows .exit) ≡ pushRows (now (rows .entry)) b k ⌝ }
 {
     let first = rows[4096 + b];
@@ -197,7 +200,7 @@ fn push_node(rows: &mut [u16], b: usize, k: usize)
 
 // Row i is put before the chain of its second word, where it has one.
 fn push_second(text: &[u8], rows: &mut [u16], i: usize)
-    requires { ⌜ (length (now rows) ≡ 5632) × (i < 512) ⌝ }
+    requires { ⌜ (length (now rows) ≡ 6017) × (i < 512) ⌝ }
     ensures { λ _. ⌜ now (rows .exit) ≡ pushSecond (now (text .entry)) (now (rows .entry)) i ⌝ }
 {
     let len = number(rows, 8 * i + 5);
@@ -210,7 +213,7 @@ fn push_second(text: &[u8], rows: &mut [u16], i: usize)
 
 // Row i is put before the chain of its name.
 fn push_name(text: &[u8], rows: &mut [u16], i: usize)
-    requires { ⌜ (length (now rows) ≡ 5632) × (i < 512) ⌝ }
+    requires { ⌜ (length (now rows) ≡ 6017) × (i < 512) ⌝ }
     ensures { λ _. ⌜ now (rows .exit) ≡ pushName (now (text .entry)) (now (rows .entry)) i ⌝ }
 {
     let b = bucket(text, number(rows, 8 * i + 2), number(rows, 8 * i + 3));
@@ -219,7 +222,7 @@ fn push_name(text: &[u8], rows: &mut [u16], i: usize)
 
 // No chain has a node.
 fn clear_heads(rows: &mut [u16])
-    requires { ⌜ length (now rows) ≡ 5632 ⌝ }
+    requires { ⌜ length (now rows) ≡ 6017 ⌝ }
     ensures kept { λ _. ⌜ RowsKept (now (rows .entry)) (now (rows .exit)) ⌝ }
     ensures clear { λ _. ⌜ ((b : ℕ) → b < 512 → headAt (now (rows .exit)) b ≡ 0) ⌝ }
 {
@@ -232,7 +235,7 @@ fn clear_heads(rows: &mut [u16])
 
 // The first n rows are put into the chains of their words, the last row first.
 pub fn index(text: &[u8], rows: &mut [u16], n: usize)
-    requires { ⌜ (length (now rows) ≡ 5632) × (n ≤ 512) ⌝ }
+    requires { ⌜ (length (now rows) ≡ 6017) × (n ≤ 512) ⌝ }
     ensures index { λ _. ⌜ Kept (now (text .entry)) (now (rows .exit)) n ⌝ }
     ensures rows { λ _. ⌜ RowsKept (now (rows .entry)) (now (rows .exit)) ⌝ }
     ensures held { λ _. ⌜ ((t : List ℕ) → held t (now (rows .exit)) n ≡ held t (now (rows .entry)) n) ⌝ }
@@ -417,13 +420,13 @@ pub fn value_of(
     }
 }
 
-// The declaration of an operation.
-pub fn operation_of(text: &[u8], rows: &[u16], n: usize, start: usize, len: usize) -> Looked
+// The declaration of a class that has the name.
+fn row_of(text: &[u8], rows: &[u16], n: usize, class: usize, start: usize, len: usize) -> Looked
     requires { ⌜ Kept (now text) (now rows) n ⌝ }
-    ensures looks { λ r. ⌜ ((kind : ℕ) → Looks (r .fault) (r .value) (operationIn (held (now (text .entry)) (now (rows .entry)) n) (wordOf (now (text .entry)) kind start len))) ⌝ }
+    ensures looks { λ r. ⌜ ((kind : ℕ) → Looks (r .fault) (r .value) (rowIn class (held (now (text .entry)) (now (rows .entry)) n) (wordOf (now (text .entry)) kind start len))) ⌝ }
     ensures low { λ r. ⌜ (r .fault ≡ 0 → r .value < n) ⌝ }
 {
-    let i = find_row(text, rows, n, 6, start, len);
+    let i = find_row(text, rows, n, class, start, len);
     if i < 65536 {
         return Looked { fault: 0, value: i };
     }
@@ -431,6 +434,24 @@ pub fn operation_of(text: &[u8], rows: &[u16], n: usize, start: usize, len: usiz
         fault: elsewhere(text, rows, n, start, len),
         value: 0,
     }
+}
+
+// The declaration of an operation.
+pub fn operation_of(text: &[u8], rows: &[u16], n: usize, start: usize, len: usize) -> Looked
+    requires { ⌜ Kept (now text) (now rows) n ⌝ }
+    ensures looks { λ r. ⌜ ((kind : ℕ) → Looks (r .fault) (r .value) (operationIn (held (now (text .entry)) (now (rows .entry)) n) (wordOf (now (text .entry)) kind start len))) ⌝ }
+    ensures low { λ r. ⌜ (r .fault ≡ 0 → r .value < n) ⌝ }
+{
+    row_of(text, rows, n, 6, start, len)
+}
+
+// The declaration of a section of operators.
+pub fn operators_of(text: &[u8], rows: &[u16], n: usize, start: usize, len: usize) -> Looked
+    requires { ⌜ Kept (now text) (now rows) n ⌝ }
+    ensures looks { λ r. ⌜ ((kind : ℕ) → Looks (r .fault) (r .value) (operatorsRow (held (now (text .entry)) (now (rows .entry)) n) (wordOf (now (text .entry)) kind start len))) ⌝ }
+    ensures low { λ r. ⌜ (r .fault ≡ 0 → r .value < n) ⌝ }
+{
+    row_of(text, rows, n, OPERATORS, start, len)
 }
 
 // The declaration of a rule.

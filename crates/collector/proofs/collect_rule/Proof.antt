@@ -13,14 +13,14 @@ read-gives-requires c κs = search needs
 put-row-requires : tie.Need-put-row-requires
 put-row-requires c κs = search needs
 
-skip-rule-requires : tie.Need-skip-rule-requires
-skip-rule-requires c κs = search needs
+behind-semicolon-requires : tie.Need-behind-semicolon-requires
+behind-semicolon-requires c κs = search needs
 
 same-length : tie.Need-same-length
 same-length c = search needs
 
 returns : tie.Need-returns
-returns c = rule-read (c .before .before .before .before .before .before .before .look .ensures) (c .before .before .before .before .before .before .read-gives .ensures) (c .before .before .before .put-row .ensures) (c .skip-rule .ensures)
+returns c = rule-read (c .before .before .before .before .before .before .before .look .ensures) (c .before .before .before .before .before .before .read-gives .ensures) (c .before .before .before .put-row .ensures) (c .behind-semicolon .ensures)
 
 pub collect-rule-spec : {M : Type 1} → statement M
 collect-rule-spec =
@@ -29,6 +29,6 @@ collect-rule-spec =
     look-requires
     read-gives-requires
     put-row-requires
-    skip-rule-requires
+    behind-semicolon-requires
     same-length
     returns)

@@ -1,5 +1,5 @@
 -- `collector::collect_section` meets its contract.
-use Rattle.collector.proofs.Sections.{section-errors, section-mechanism, section-outputs, section-tokens, section-type}
+use Rattle.collector.proofs.Sections.{section-errors, section-mechanism, section-operators, section-outputs, section-tokens, section-type}
 use borrow.Author.Needs.{needs}
 use Rattle.collector.proofs.collect_section.Statement.{statement}
 use Rattle.collector.proofs.collect_section.Tie as tie
@@ -18,6 +18,9 @@ collect-errors-requires c κs = search needs
 
 collect-type-requires : tie.Need-collect-type-requires
 collect-type-requires c κs = search needs
+
+collect-operators-requires : tie.Need-collect-operators-requires
+collect-operators-requires c κs = search needs
 
 collect-mechanism-requires : tie.Need-collect-mechanism-requires
 collect-mechanism-requires c κs = search needs
@@ -50,7 +53,13 @@ same-length-5 : tie.Need-same-length-5
 same-length-5 c = search needs
 
 returns-5 : tie.Need-returns-5
-returns-5 c = section-mechanism (c .before .before .before .before .before .look .ensures) (c .before .before .before .before .match .rest .0 .0 .0 .1) (c .before .before .before .before .match .rest .0 .0 .1) (c .before .before .before .before .match .rest .0 .1) (c .before .before .before .before .match .rest .1) (c .before .before .collect-mechanism .ensures)
+returns-5 c = section-operators (c .before .before .before .before .before .look .ensures) (c .before .before .before .before .match .keys5) (c .before .before .collect-operators .ensures)
+
+same-length-6 : tie.Need-same-length-6
+same-length-6 c = search needs
+
+returns-6 : tie.Need-returns-6
+returns-6 c = section-mechanism (c .before .before .before .before .before .look .ensures) (c .before .before .before .before .match .rest .0 .0 .0 .0 .1) (c .before .before .before .before .match .rest .0 .0 .0 .1) (c .before .before .before .before .match .rest .0 .0 .1) (c .before .before .before .before .match .rest .0 .1) (c .before .before .before .before .match .rest .1) (c .before .before .collect-mechanism .ensures)
 
 pub collect-section-spec : {M : Type 1} → statement M
 collect-section-spec =
@@ -61,6 +70,7 @@ collect-section-spec =
     collect-outputs-requires
     collect-errors-requires
     collect-type-requires
+    collect-operators-requires
     collect-mechanism-requires
     same-length
     returns
@@ -71,4 +81,6 @@ collect-section-spec =
     same-length-4
     returns-4
     same-length-5
-    returns-5)
+    returns-5
+    same-length-6
+    returns-6)
