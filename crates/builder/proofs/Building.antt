@@ -15,7 +15,8 @@ use Rattle.builder.specs.Parts.{placeOf, labelledOf, choicesOf, labelCel
 use Rattle.builder.specs.declared.Labelled.{Labelled}
 use Rattle.cells.specs.Cells.{plainCells, selectorCells, absentCell, actCells, actsCells, altsCells, otherCells}
 use Rattle.declarations.specs.Decls.{Agrees, knownsIn}
-use Rattle.grammar.specs.Derived.{Took, Not, Reference, PlainIn, named-in, any-in, emit-in, error-in, exit-in, call-in, give-in, SelectorIn, LabelsIn, last-label, more-labels, ActIn, plain-in, cycle-in, choice-in, ActsIn, none-in, more-in, AltsIn, other-in, last-in, next-in}
+use Rattle.grammar.specs.Derived.{Took, Not, Reference, PlainIn, named-in, any-in, emit-in, error-in, exit-in, call-in, give-in, ranked-in, SelectorIn, LabelsIn, last-label, more-labels, ActIn, plain-in, cycle-in, choice-in, ActsIn, none-in, more-in, AltsIn, other-in, last-in, next-in}
+use Rattle.maker.specs.Pairs.{PairsAre}
 use Rattle.names.specs.Known.{Checked, good, wrong, _>>=_, Known, KnownRule, Names}
 use Rattle.names.specs.Resolve.{Place, Chooses, within, plainOf, selectorOf, labelsOf, actOf, actsOf, altsOf, otherOf}
 use Rattle.places.proofs.Heres.{Same, kind-here, took-kind, took-here, not-here, reference-kind}
@@ -48,9 +49,9 @@ acts-stop {text} {rows} {n} {at} {inside} {class} {before} {some} {cs} {c} {cs�
     record { kept = record { same = appends-length app; low = λ _. omega (arith, a); high = λ _. omega (arith, a, inn) }; done = go }
   where
     go : (p : Program) (names : Names) (rs : List KnownRule) → Agrees p names rs (held text rows n) → (q : written.Acts) (ws : List Word) → ActsIn (wordsAt text at) ws q
-        → Ends text ws cs c cs′ (λ b. actsCells b []) (λ b. Flags (r .past) (r .exits) (before && pastAll b) (some || exitsAll b)) (r .done)
+        → Ends (PairsAre text rows n p names) text ws cs c cs′ (λ b. actsCells b []) (λ b. Flags (r .past) (r .exits) (before && pastAll b) (some || exitsAll b)) (r .done)
         (actsOf p names rs q (placeOf (held text rows n) inside class))
-    go p names rs g done ws (none-in _ e) = ended f (e ∙ ap (wordsAt text) (sym a)) app (e₁ ∙ sym (and-true before), e₂ ∙ sym (or-false some))
+    go p names rs g done ws (none-in _ e) = ended f (e ∙ ap (wordsAt text) (sym a)) (λ _. app) (e₁ ∙ sym (and-true before), e₂ ∙ sym (or-false some))
     go p names rs g (x ▸ q) ws (more-in o _ _) = absurd (apart (closes (w .kind)) k (ap closes (sym (kind-here text at w h)) ∙ o))
 
 pub acts-fail : {text rows : List ℕ} {n at : ℕ} {inside : Bool} {class : ℕ} {before some : Bool} {cs : List ℕ} {c : ℕ} {cs₁ : List ℕ} {a : Built} {w : WordAt}
@@ -61,7 +62,7 @@ acts-fail {text} {rows} {n} {at} {inside} {class} {before} {some} {cs} {c} {cs�
     record { kept = record { same = A .kept .same; low = λ e. absurd (z e); high = λ e. absurd (z e) }; done = go }
   where
     go : (p : Program) (names : Names) (rs : List KnownRule) → Agrees p names rs (held text rows n) → (q : written.Acts) (ws : List Word) → ActsIn (wordsAt text at) ws q
-        → Ends text ws cs c cs₁ (λ b. actsCells b []) (λ b. Flags (a .past) (a .exits) (before && pastAll b) (some || exitsAll b)) (a .done)
+        → Ends (PairsAre text rows n p names) text ws cs c cs₁ (λ b. actsCells b []) (λ b. Flags (a .past) (a .exits) (before && pastAll b) (some || exitsAll b)) (a .done)
         (actsOf p names rs q (placeOf (held text rows n) inside class))
     go p names rs g done ws (none-in o _) = absurd (apart (closes (w .kind)) (ap closes (sym (kind-here text at w h)) ∙ o) k)
     go p names rs g (x ▸ q) ws (more-in {ws₁ = ws₁} _ d _) = ends-fails (actOf p names rs x (placeOf (held text rows n) inside class)) _ (A .done p names rs g x ws₁ d) z
@@ -75,7 +76,7 @@ acts-more {text} {rows} {n} {at} {inside} {class} {before} {some} {before′} {s
     record { kept = record { same = B .kept .same ∙ A .kept .same; low = λ e. omega (arith, A .kept .low z, B .kept .low e); high = B .kept .high }; done = go }
   where
     go : (p : Program) (names : Names) (rs : List KnownRule) → Agrees p names rs (held text rows n) → (q : written.Acts) (ws : List Word) → ActsIn (wordsAt text at) ws q
-        → Ends text ws cs c cs′ (λ b. actsCells b []) (λ b. Flags (r .past) (r .exits) (before && pastAll b) (some || exitsAll b)) (r .done)
+        → Ends (PairsAre text rows n p names) text ws cs c cs′ (λ b. actsCells b []) (λ b. Flags (r .past) (r .exits) (before && pastAll b) (some || exitsAll b)) (r .done)
         (actsOf p names rs q (placeOf (held text rows n) inside class))
     go p names rs g done ws (none-in o _) = absurd (apart (closes (w .kind)) (ap closes (sym (kind-here text at w h)) ∙ o) k)
     go p names rs g (x ▸ q) ws (more-in {ws₁ = ws₁} _ d dq) =
@@ -106,6 +107,7 @@ plain-begins {text} {at} {w} {ws} a h (error-in {hash = v} {ws₁ = ws₁} t _) 
 plain-begins {text} {at} {w} {ws} a h (exit-in {w = v} t) = let e = took-kind text at 62 w v ws h t in (λ q. omega (arith, e), λ q. omega (arith, e))
 plain-begins {text} {at} {w} {ws} a h (call-in {at = v} {ws₁ = ws₁} t _) = let e = took-kind text at 64 w v ws₁ h t in (λ q. omega (arith, e), λ q. omega (arith, e))
 plain-begins {text} {at} {w} {ws} a h (give-in {w = v} {ws₁ = ws₁} t _) = let e = took-kind text at 256 w v ws₁ h t in (λ q. omega (arith, e), λ q. omega (arith, e))
+plain-begins {text} {at} {w} {ws} a h (ranked-in {s = v} {ws₁ = ws₁} t _ _ _) = let e = took-kind text at 94 w v ws₁ h t in (λ q. omega (arith, e), λ q. omega (arith, e))
 
 pub act-cycle : {text rows : List ℕ} {n at : ℕ} {inside : Bool} {class : ℕ} {cs : List ℕ} {c : ℕ} {cs′ : List ℕ} {r : Built} {w : WordAt}
     → Next text at w → w .kind ≡ 123 → CycleDone text rows n (w .next) class cs c cs′ r → ActDone text rows n at inside class cs c cs′ r
@@ -113,7 +115,7 @@ act-cycle {text} {rows} {n} {at} {inside} {class} {cs} {c} {cs′} {r} {w} h k C
     record { kept = record { same = C .kept .same; low = λ e. omega (arith, C .kept .low e, h .moves (omega (arith, k))); high = C .kept .high }; done = go }
   where
     go : (p : Program) (names : Names) (rs : List KnownRule) → Agrees p names rs (held text rows n) → (a : written.Act) (ws : List Word) → ActIn (wordsAt text at) ws a
-        → Ends text ws cs c cs′ (λ b. actCells b []) (λ b. Flags (r .past) (r .exits) (past b) (exits b)) (r .done)
+        → Ends (PairsAre text rows n p names) text ws cs c cs′ (λ b. actCells b []) (λ b. Flags (r .past) (r .exits) (past b) (exits b)) (r .done)
         (actOf p names rs a (placeOf (held text rows n) inside class))
     go p names rs g (plain a) ws (plain-in d) = absurd (plain-begins a h d .0 k)
     go p names rs g (cycle b) ws (cycle-in {ws₁ = ws₁} {ws₂ = ws₂} {opening = o} {close = e} t d u) =
@@ -126,7 +128,7 @@ act-choice {text} {rows} {n} {at} {inside} {class} {cs} {c} {cs′} {r} {w} h k 
     record { kept = record { same = C .kept .same; low = λ e. omega (arith, C .kept .low e, h .moves (omega (arith, k))); high = C .kept .high }; done = go }
   where
     go : (p : Program) (names : Names) (rs : List KnownRule) → Agrees p names rs (held text rows n) → (a : written.Act) (ws : List Word) → ActIn (wordsAt text at) ws a
-        → Ends text ws cs c cs′ (λ b. actCells b []) (λ b. Flags (r .past) (r .exits) (past b) (exits b)) (r .done)
+        → Ends (PairsAre text rows n p names) text ws cs c cs′ (λ b. actCells b []) (λ b. Flags (r .past) (r .exits) (past b) (exits b)) (r .done)
         (actOf p names rs a (placeOf (held text rows n) inside class))
     go p names rs g (plain a) ws (plain-in d) = absurd (plain-begins a h d .1 k)
     go p names rs g (cycle b) ws (cycle-in {ws₁ = ws₁} {opening = v} t _ _) = absurd (omega (arith, k, took-kind text at 123 w v ws₁ h t))
@@ -140,7 +142,7 @@ act-plain {text} {rows} {n} {at} {inside} {class} {cs} {c} {cs′} {r} {w} h k�
     record { kept = record { same = P .same; low = λ e. omega (arith, P .moves e); high = P .high }; done = go }
   where
     go : (p : Program) (names : Names) (rs : List KnownRule) → Agrees p names rs (held text rows n) → (a : written.Act) (ws : List Word) → ActIn (wordsAt text at) ws a
-        → Ends text ws cs c cs′ (λ b. actCells b []) (λ b. Flags (r .past) (r .exits) (past b) (exits b)) (r .done)
+        → Ends (PairsAre text rows n p names) text ws cs c cs′ (λ b. actCells b []) (λ b. Flags (r .past) (r .exits) (past b) (exits b)) (r .done)
         (actOf p names rs a (placeOf (held text rows n) inside class))
     go p names rs g (plain a) ws (plain-in d) =
         ends-map (λ b. actCells b []) (λ b. Flags (r .past) (r .exits) (past b) (exits b)) (λ b. plain b) (plainOf p names rs (placeOf (held text rows n) inside class) a)

@@ -16,6 +16,7 @@ use Rattle.builder.specs.declared.Labelled.{Labelled}
 use Rattle.cells.specs.Cells.{plainCells, selectorCells, absentCell, actCells, actsCells, altsCells, otherCells}
 use Rattle.declarations.specs.Decls.{Agrees, knownsIn}
 use Rattle.grammar.specs.Derived.{Took, Not, Reference, PlainIn, named-in, any-in, emit-in, error-in, exit-in, call-in, give-in, SelectorIn, LabelsIn, last-label, more-labels, ActIn, plain-in, cycle-in, choice-in, ActsIn, none-in, more-in, AltsIn, other-in, last-in, next-in}
+use Rattle.maker.specs.Pairs.{PairsAre}
 use Rattle.names.specs.Known.{Checked, good, wrong, _>>=_, Known, KnownRule, Names}
 use Rattle.names.specs.Resolve.{Place, Chooses, within, plainOf, selectorOf, labelsOf, actOf, actsOf, altsOf, otherOf}
 use Rattle.places.proofs.Heres.{Same, kind-here, took-kind, took-here, not-here, reference-kind}
@@ -84,7 +85,7 @@ choice-fail {text} {rows} {n} {at} {inside} {class} {cs} {c} {cs₁} {s} {r} S z
     record {
       kept = record { same = S .same; low = λ k. absurd (z₂ k); high = λ k. absurd (z₂ k) };
       done = λ p names rs g x q o bar ws₁ ws₂ ws d t u.
-          subst (λ (y : Done). Ends text ws cs c cs₁ (λ b. actCells b []) (λ b. Flags (r .past) (r .exits) (past b) (exits b)) y (actOf p names rs (choice x q o) (placeOf (held text rows n) inside class)))
+          subst (λ (y : Done). Ends (PairsAre text rows n p names) text ws cs c cs₁ (λ b. actCells b []) (λ b. Flags (r .past) (r .exits) (past b) (exits b)) y (actOf p names rs (choice x q o) (placeOf (held text rows n) inside class)))
           (sym e) (ends-fails (selectorOf p names rs x) _ (S .done p names rs g x ws₁ d) z);
     }
 
@@ -95,13 +96,13 @@ unfolding past exits
 choice-more {text} {rows} {n} {at} {inside} {class} {cs} {c} {cs₁} {cs′} {seen} {s} {r} {w} S z h l A = record {
   kept = record { same = A .kept .same ∙ S .same; low = λ e. omega (arith, S .low z, h .onto, A .kept .low e); high = A .kept .high };
   done = λ p names rs g x q o bar ws₁ ws₂ ws d t u.
-      subst (λ m. Ends text ws cs c cs′ (λ b. actCells b []) (λ b. Flags (r .past) (r .exits) (past b) (exits b)) (r .done) m)
+      subst (λ m. Ends (PairsAre text rows n p names) text ws cs c cs′ (λ b. actCells b []) (λ b. Flags (r .past) (r .exits) (past b) (exits b)) (r .done) m)
       (choice-order p names rs x q o (placeOf (held text rows n) inside class))
       (ends-then (λ _. choicesCells (s .absent))
       (λ _. Marks r false false)
       (λ b. actCells b []) (λ b. Flags (r .past) (r .exits) (past b) (exits b)) (λ k y. choice (k .by) (y .0) (y .1)) (selectorOf p names rs x)
       (λ k. choicesOf p names rs q o (placeOf (held text rows n) inside class) (k .labels) []) (S .done p names rs g x ws₁ d) z
-      (λ k here pk. subst (λ ks. Ends text ws cs₁ (s .done .count) cs′ (choicesCells (s .absent))
+      (λ k here pk. subst (λ ks. Ends (PairsAre text rows n p names) text ws cs₁ (s .done .count) cs′ (choicesCells (s .absent))
       (Marks r false false) (r .done)
       (choicesOf p names rs q o (placeOf (held text rows n) inside class) ks [])) (sym (pk .0))
       (A .done p names rs g q o 64 ws
@@ -139,11 +140,11 @@ alts-other {text} {rows} {n} {at} {inside} {class} {labels} {miss} {seen} {used}
   where
     go : (p : Program) (names : Names) (rs : List KnownRule) → Agrees p names rs (held text rows n) → (q : written.Alts) (x : written.Other) (room : ℕ) (ws : List Word)
         → AltsIn (wordsAt text at) ws room q x → room + used ≤ length seen → (old : List ℕ) → ((v : ℕ) → member v old ≡ member v (take used seen))
-        → Ends text ws cs c cs′ (choicesCells miss)
+        → Ends (PairsAre text rows n p names) text ws cs c cs′ (choicesCells miss)
         (Marks r one some) (r .done)
         (choicesOf p names rs q x (placeOf (held text rows n) inside class) (knownsIn labels (held text rows n)) old)
     go p names rs g nil (otherwise b) room ws (other-in {ws₁ = ws₁} {ws₂ = ws₂} {ws₃ = ws₃} {star = star} {colon = colon} {close = close} t u d v) _ old _ =
-        subst (λ (y : Done). Ends text ws cs c cs′ (choicesCells miss)
+        subst (λ (y : Done). Ends (PairsAre text rows n p names) text ws cs c cs′ (choicesCells miss)
         (Marks r one some) y
         (choicesOf p names rs nil (otherwise b) (placeOf (held text rows n) inside class) (knownsIn labels (held text rows n)) old)) (sym e)
         (ends-map (choicesCells miss)
@@ -162,16 +163,16 @@ alts-fail {text} {rows} {n} {at} {inside} {class} {labels} {miss} {seen} {used} 
   where
     go : (p : Program) (names : Names) (rs : List KnownRule) → Agrees p names rs (held text rows n) → (q : written.Alts) (x : written.Other) (room : ℕ) (ws : List Word)
         → AltsIn (wordsAt text at) ws room q x → room + used ≤ length seen → (old : List ℕ) → ((v : ℕ) → member v old ≡ member v (take used seen))
-        → Ends text ws cs c cs′ (choicesCells miss)
+        → Ends (PairsAre text rows n p names) text ws cs c cs′ (choicesCells miss)
         (Marks (l .built) one some) (l .built .done)
         (choicesOf p names rs q x (placeOf (held text rows n) inside class) (knownsIn labels (held text rows n)) old)
     go p names rs g nil (otherwise b) room ws (other-in {ws₁ = ws₁} {star = star} t _ _ _) _ old _ = absurd (k (took-kind text at 42 w star ws₁ h t))
     go p names rs g (alternative ls b nil) absent room ws (last-in {ws₁ = ws₁} {ws₂ = ws₂} {ws₃ = ws₃} {colon = colon} d i t e u) fits old m =
-        subst (λ y. Ends text ws cs c cs′ (choicesCells miss) (Marks (l .built) one some) (l .built .done) y) (alternative-order p names rs ls b nil absent (placeOf (held text rows n) inside class) (knownsIn labels (held text rows n)) old)
+        subst (λ y. Ends (PairsAre text rows n p names) text ws cs c cs′ (choicesCells miss) (Marks (l .built) one some) (l .built .done) y) (alternative-order p names rs ls b nil absent (placeOf (held text rows n) inside class) (knownsIn labels (held text rows n)) old)
         (ends-fails (labelledOf p names rs ls b (placeOf (held text rows n) inside class) (knownsIn labels (held text rows n)) old) _
         (L .done p names rs g ls b colon ws₁ ws₂ ws₃ d (omega (arith, i, fits)) t e old m) z)
     go p names rs g (alternative ls b q) x room ws (next-in {ws₁ = ws₁} {ws₂ = ws₂} {ws₃ = ws₃} {colon = colon} d i t e u f) fits old m =
-        subst (λ y. Ends text ws cs c cs′ (choicesCells miss) (Marks (l .built) one some) (l .built .done) y) (alternative-order p names rs ls b q x (placeOf (held text rows n) inside class) (knownsIn labels (held text rows n)) old)
+        subst (λ y. Ends (PairsAre text rows n p names) text ws cs c cs′ (choicesCells miss) (Marks (l .built) one some) (l .built .done) y) (alternative-order p names rs ls b q x (placeOf (held text rows n) inside class) (knownsIn labels (held text rows n)) old)
         (ends-fails (labelledOf p names rs ls b (placeOf (held text rows n) inside class) (knownsIn labels (held text rows n)) old) _
         (L .done p names rs g ls b colon ws₁ ws₂ ws₃ d (omega (arith, i, fits)) t e old m) z)
 
@@ -189,12 +190,12 @@ alts-last {text} {rows} {n} {at} {inside} {class} {labels} {miss} {seen} {used} 
   where
     go : (p : Program) (names : Names) (rs : List KnownRule) → Agrees p names rs (held text rows n) → (q : written.Alts) (x : written.Other) (room : ℕ) (ws : List Word)
         → AltsIn (wordsAt text at) ws room q x → room + used ≤ length seen → (old : List ℕ) → ((v : ℕ) → member v old ≡ member v (take used seen))
-        → Ends text ws cs c cs′ (choicesCells miss)
+        → Ends (PairsAre text rows n p names) text ws cs c cs′ (choicesCells miss)
         (Marks r one some) (r .done)
         (choicesOf p names rs q x (placeOf (held text rows n) inside class) (knownsIn labels (held text rows n)) old)
     go p names rs g nil (otherwise b) room ws (other-in {ws₁ = ws₁} {star = star} t _ _ _) _ old _ = absurd (k (took-kind text at 42 w star ws₁ h t))
     go p names rs g (alternative ls b nil) absent room ws (last-in {ws₁ = ws₁} {ws₂ = ws₂} {ws₃ = ws₃} {colon = colon} {close = close} d i t e u) fits old m =
-        subst (λ y. Ends text ws cs c cs′ (choicesCells miss)
+        subst (λ y. Ends (PairsAre text rows n p names) text ws cs c cs′ (choicesCells miss)
         (Marks r one some) (r .done) y)
         (alternative-order p names rs ls b nil absent (placeOf (held text rows n) inside class) (knownsIn labels (held text rows n)) old)
         (ends-map (choicesCells miss)
@@ -230,7 +231,7 @@ alts-next {text} {rows} {n} {at} {inside} {class} {labels} {miss} {seen} {used} 
   where
     go : (p : Program) (names : Names) (rs : List KnownRule) → Agrees p names rs (held text rows n) → (q : written.Alts) (x : written.Other) (room : ℕ) (ws : List Word)
         → AltsIn (wordsAt text at) ws room q x → room + used ≤ length seen → (old : List ℕ) → ((v : ℕ) → member v old ≡ member v (take used seen))
-        → Ends text ws cs c cs′ (choicesCells miss)
+        → Ends (PairsAre text rows n p names) text ws cs c cs′ (choicesCells miss)
         (Marks r one some) (r .done)
         (choicesOf p names rs q x (placeOf (held text rows n) inside class) (knownsIn labels (held text rows n)) old)
     go p names rs g nil (otherwise b) room ws (other-in {ws₁ = ws₁} {star = star} t _ _ _) _ old _ = absurd (k (took-kind text at 42 w star ws₁ h t))
@@ -240,7 +241,7 @@ alts-next {text} {rows} {n} {at} {inside} {class} {labels} {miss} {seen} {used} 
         (L .done p names rs g ls b colon ws₁ ws₂ ws₃ d (omega (arith, i, fits)) t e old m) z in
         absurd (omega (arith, k₂, took-kind text (l .built .done .at) 93 v close ws h₂ (subst (λ l. Took 93 l close ws) here u)))
     go p names rs g (alternative ls b q) x room ws (next-in {ws₁ = ws₁} {ws₂ = ws₂} {ws₃ = ws₃} {ws₄ = ws₄} {colon = colon} {bar = bar} d i t e u f) fits old m =
-        subst (λ y. Ends text ws cs c cs′ (choicesCells miss)
+        subst (λ y. Ends (PairsAre text rows n p names) text ws cs c cs′ (choicesCells miss)
         (Marks r one some) (r .done) y)
         (alternative-order p names rs ls b q x (placeOf (held text rows n) inside class) (knownsIn labels (held text rows n)) old)
         (ends-then (λ _. choicesCells miss)

@@ -12,10 +12,10 @@ use borrow.Author.Tests.{eq-eqb, ne-eqb, lt-ltb, le-ltb}
 use Rattle.base.specs.Common.{if_then_else_, same}
 use Rattle.builder.proofs.Laws.{or-assoc}
 use Rattle.builder.specs.Row.{Sofar}
-use Rattle.declarations.specs.Decls.{Decl, ofEntry, ofOperation, ofType, ofRule, indexOf, entryDecls, operationDecls, sectionDecls, sectionsDecls, ruleDecls, declsOf}
+use Rattle.declarations.specs.Decls.{Decl, ofEntry, ofOperation, ofType, ofOperators, ofRule, indexOf, entryDecls, operationDecls, sectionDecls, sectionsDecls, ruleDecls, declsOf}
 use Rattle.names.specs.Understand.{isOne, isFirst}
 use Rattle.symbols.specs.Rows.{numberOf}
-use Rattle.syntax.specs.Written.{Entry, Operation, Section, inputs, outputs, both, errors, values, operations, Rule, Program}
+use Rattle.syntax.specs.Written.{Entry, Operation, Section, inputs, outputs, both, errors, values, operations, operators, Rule, Program}
 use Rattle.words.specs.Words.{Word}
 
 -- no rule is among them
@@ -45,6 +45,7 @@ section-free i (both es) = entries-free 3 es (λ z. omega (arith, z))
 section-free i (errors es) = entries-free 4 es (λ z. omega (arith, z))
 section-free i (values w es) = more-free {d = ofType w} (λ z. omega (arith, z)) (entries-free (8 + i) es (λ z. omega (arith, z)))
 section-free i (operations os) = operations-free os
+section-free i (operators w os) = more-free {d = ofOperators w os} (λ z. omega (arith, z)) none-free
 
 sections-free : (i : ℕ) (ss : List Section) → Free (sectionsDecls i ss)
 unfolding sectionsDecls

@@ -56,17 +56,17 @@ labels-length p names rs (w ∷ ls) ks seen = go (lookup p ks w) (λ v. labels-l
     go (good v) q = tested v (member v seen) (q v)
     go (wrong n u) q = tt
 
-labels-fail : {B : Type 0} {text : List ℕ} {ws₁ : List Word} {seen : List ℕ} {used : ℕ} {seen′ : List ℕ} {l : Labels} (m : Checked (List ℕ)) (k : List ℕ → Checked B)
+labels-fail : {E B : Type 0} {text : List ℕ} {ws₁ : List Word} {seen : List ℕ} {used : ℕ} {seen′ : List ℕ} {l : Labels} (m : Checked (List ℕ)) (k : List ℕ → Checked B)
     {ws : List Word} {cs : List ℕ} {c : ℕ} {cs′ : List ℕ} {h : B → List ℕ} {R : B → Type 0} {d : Done}
-    → LabelsEnd text ws₁ seen used seen′ l m → (l .fault ≡ 0 → ⊥) → d .fault ≡ l .fault → d .at ≡ l .at → d .len ≡ l .len → Ends text ws cs c cs′ h R d (_>>=_ m k)
+    → LabelsEnd text ws₁ seen used seen′ l m → (l .fault ≡ 0 → ⊥) → d .fault ≡ l .fault → d .at ≡ l .at → d .len ≡ l .len → Ends E text ws cs c cs′ h R d (_>>=_ m k)
 labels-fail (good vs) k (labelled e _ _ _) z e₁ e₂ e₃ = absurd (z e)
 labels-fail (wrong n w) k (mislabelled e nz at len) z e₁ e₂ e₃ = failed (e₁ ∙ e) nz (e₂ ∙ at) (e₃ ∙ len)
 
-labels-more : {B : Type 0} {text : List ℕ} {ws₁ : List Word} {seen : List ℕ} {used : ℕ} {seen′ : List ℕ} {l : Labels} (long : ℕ) (m : Checked (List ℕ)) (k : List ℕ → Checked B)
+labels-more : {E B : Type 0} {text : List ℕ} {ws₁ : List Word} {seen : List ℕ} {used : ℕ} {seen′ : List ℕ} {l : Labels} (long : ℕ) (m : Checked (List ℕ)) (k : List ℕ → Checked B)
     {ws : List Word} {cs : List ℕ} {c : ℕ} {cs′ : List ℕ} {h : B → List ℕ} {R : B → Type 0} {d : Done}
     → LabelsEnd text ws₁ seen used seen′ l m → Holds (λ vs. length vs ≡ long) m → l .fault ≡ 0
-    → ((vs : List ℕ) → ws₁ ≡ wordsAt text (l .at) → l .used ≡ used + length vs → take (l .used) seen′ ≡ take used seen ++ vs → length vs ≡ long → Ends text ws cs c cs′ h R d (k vs))
-    → Ends text ws cs c cs′ h R d (_>>=_ m k)
+    → ((vs : List ℕ) → ws₁ ≡ wordsAt text (l .at) → l .used ≡ used + length vs → take (l .used) seen′ ≡ take used seen ++ vs → length vs ≡ long → Ends E text ws cs c cs′ h R d (k vs))
+    → Ends E text ws cs c cs′ h R d (_>>=_ m k)
 labels-more long (good vs) k (labelled e here u t) q z next = next vs here u t q
 labels-more long (wrong n w) k (mislabelled e nz at len) q z next = absurd (nz (sym e ∙ z))
 

@@ -20,6 +20,7 @@ use Rattle.builder.specs.declared.Ruled.{Ruled}
 use Rattle.cells.specs.Cells.{actsCells}
 use Rattle.declarations.specs.Decls.{Agrees, Decl, indexOf, declaredIn, elsewhereIn, typeIn, optionalIn, mapped, knownsIn}
 use Rattle.grammar.specs.Derived.{Took, GivesIn, ActsIn, RuleIn, a-rule}
+use Rattle.maker.specs.Pairs.{PairsAre}
 use Rattle.names.specs.Known.{Checked, good, wrong, _>>=_, faultIf, Known, KnownRule, Names, findOperation, findType, declared, isType, elsewhere, lookupType, optionalType}
 use Rattle.names.specs.Resolve.{Place, actsOf}
 use Rattle.names.specs.Understand.{isOne, isFirst, taken, ruleMeans}
@@ -38,22 +39,22 @@ use Rattle.words.specs.Words.{Word, wordsAt}
 
 -- How the code goes on after a head, and after actions
 
-head-fails : {B : Type 0} {text : List ℕ} {ws₁ : List Word} {h : Head} (m : Checked ℕ) (k : ℕ → Checked B)
+head-fails : {E B : Type 0} {text : List ℕ} {ws₁ : List Word} {h : Head} (m : Checked ℕ) (k : ℕ → Checked B)
     {ws : List Word} {cs : List ℕ} {c : ℕ} {cs′ : List ℕ} {f : B → List ℕ} {P : B → Type 0} {d : Done}
-    → HeadEnd text ws₁ h m → (h .fault ≡ 0 → ⊥) → d .fault ≡ h .fault → d .at ≡ h .at → d .len ≡ h .len → Ends text ws cs c cs′ f P d (_>>=_ m k)
+    → HeadEnd text ws₁ h m → (h .fault ≡ 0 → ⊥) → d .fault ≡ h .fault → d .at ≡ h .at → d .len ≡ h .len → Ends E text ws cs c cs′ f P d (_>>=_ m k)
 head-fails (good a) k (headed e _ _) z e₁ e₂ e₃ = absurd (z e)
 head-fails (wrong n w) k (misheaded e nz at len) z e₁ e₂ e₃ = failed (e₁ ∙ e) nz (e₂ ∙ at) (e₃ ∙ len)
 
-head-then : {B : Type 0} {text : List ℕ} {ws₁ : List Word} {h : Head} (m : Checked ℕ) (k : ℕ → Checked B)
+head-then : {E B : Type 0} {text : List ℕ} {ws₁ : List Word} {h : Head} (m : Checked ℕ) (k : ℕ → Checked B)
     {ws : List Word} {cs : List ℕ} {c : ℕ} {cs′ : List ℕ} {f : B → List ℕ} {P : B → Type 0} {d : Done}
-    → HeadEnd text ws₁ h m → h .fault ≡ 0 → (ws₁ ≡ wordsAt text (h .at) → Ends text ws cs c cs′ f P d (k (h .class))) → Ends text ws cs c cs′ f P d (_>>=_ m k)
-head-then {text = text} (good a) k {ws} {cs} {c} {cs′} {f} {P} {d} (headed e here q) z next = subst (λ t. Ends text ws cs c cs′ f P d (k t)) q (next here)
+    → HeadEnd text ws₁ h m → h .fault ≡ 0 → (ws₁ ≡ wordsAt text (h .at) → Ends E text ws cs c cs′ f P d (k (h .class))) → Ends E text ws cs c cs′ f P d (_>>=_ m k)
+head-then {E = E} {text = text} (good a) k {ws} {cs} {c} {cs′} {f} {P} {d} (headed e here q) z next = subst (λ t. Ends E text ws cs c cs′ f P d (k t)) q (next here)
 head-then (wrong n w) k (misheaded e nz at len) z next = absurd (nz (sym e ∙ z))
 
-ends-bind : {A B : Type 0} {text : List ℕ} {ws₁ : List Word} {cs : List ℕ} {c : ℕ} {cs₁ : List ℕ} {f : A → List ℕ} {P : A → Type 0} {r : Done} (m : Checked A) (k : A → Checked B)
+ends-bind : {E A B : Type 0} {text : List ℕ} {ws₁ : List Word} {cs : List ℕ} {c : ℕ} {cs₁ : List ℕ} {f : A → List ℕ} {P : A → Type 0} {r : Done} (m : Checked A) (k : A → Checked B)
     {ws : List Word} {g : B → List ℕ} {Q : B → Type 0} {r₂ : Done}
-    → Ends text ws₁ cs c cs₁ f P r m → r .fault ≡ 0
-    → ((a : A) → ws₁ ≡ wordsAt text (r .at) → Appends cs c (f a) cs₁ (r .count) → P a → Ends text ws cs c cs₁ g Q r₂ (k a)) → Ends text ws cs c cs₁ g Q r₂ (_>>=_ m k)
+    → Ends E text ws₁ cs c cs₁ f P r m → r .fault ≡ 0
+    → ((a : A) → ws₁ ≡ wordsAt text (r .at) → (E → Appends cs c (f a) cs₁ (r .count)) → P a → Ends E text ws cs c cs₁ g Q r₂ (k a)) → Ends E text ws cs c cs₁ g Q r₂ (_>>=_ m k)
 ends-bind (good a) k (ended e here app pa) z next = next a here app pa
 ends-bind (wrong n w) k (failed e nz at len) z next = absurd (nz (sym e ∙ z))
 
@@ -71,7 +72,7 @@ unfolding ruleBy
 rule-headless {text} {rows} {n} {first} {k} {at} {cs} {c} {h} {r} H z e₁ e₂ e₃ = record { same = refl; high = λ e. absurd (z (sym e₁ ∙ e)); done = go }
   where
     go : (p : Program) (names : Names) (rs : List KnownRule) → Agrees p names rs (held text rows n) → (x : written.Rule) (ws : List Word) → RuleIn (wordsAt text at) ws x
-        → Ends text ws cs c cs (λ b. actsCells (b .body) []) (λ b. r .valued ≡ b .valued) (r .done) (ruleBy p names rs (held text rows n) first k x)
+        → Ends (PairsAre text rows n p names) text ws cs c cs (λ b. actsCells (b .body) []) (λ b. r .valued ≡ b .valued) (r .done) (ruleBy p names rs (held text rows n) first k x)
     go p names rs g x ws (a-rule {colon = colon} {ws₁ = ws₁} {ws₂ = ws₂} {ws₃ = ws₃} t d u _ _) =
         head-fails (headOf (held text rows n) first k x) _ (H .done x colon ws₁ ws₂ ws₃ t d u) z e₁ e₂ e₃
 
@@ -83,21 +84,21 @@ rule-fail {text} {rows} {n} {first} {k} {at} {cs} {c} {cs′} {h} {b} {r} H z B 
     record { same = B .kept .same; high = λ f. absurd (z₂ (sym (ap (λ (d : Done). d .fault) e) ∙ f)); done = go }
   where
     go : (p : Program) (names : Names) (rs : List KnownRule) → Agrees p names rs (held text rows n) → (x : written.Rule) (ws : List Word) → RuleIn (wordsAt text at) ws x
-        → Ends text ws cs c cs′ (λ b. actsCells (b .body) []) (λ b. r .valued ≡ b .valued) (r .done) (ruleBy p names rs (held text rows n) first k x)
+        → Ends (PairsAre text rows n p names) text ws cs c cs′ (λ b. actsCells (b .body) []) (λ b. r .valued ≡ b .valued) (r .done) (ruleBy p names rs (held text rows n) first k x)
     go p names rs g x ws (a-rule {colon = colon} {ws₁ = ws₁} {ws₂ = ws₂} {ws₃ = ws₃} {ws₄ = ws₄} t d u q _) =
-        subst (λ (y : Done). Ends text ws cs c cs′ (λ b. actsCells (b .body) []) (λ b. r .valued ≡ b .valued) y (ruleBy p names rs (held text rows n) first k x)) (sym e)
+        subst (λ (y : Done). Ends (PairsAre text rows n p names) text ws cs c cs′ (λ b. actsCells (b .body) []) (λ b. r .valued ≡ b .valued) y (ruleBy p names rs (held text rows n) first k x)) (sym e)
         (head-then (headOf (held text rows n) first k x) _ (H .done x colon ws₁ ws₂ ws₃ t d u) z
         (λ here. ends-fails (actsOf p names rs (x .body) (placeOf (held text rows n) false (h .class))) _ (B .done p names rs g (x .body) ws₄ (subst (λ l. ActsIn l ws₄ (x .body)) here q)) z₂))
 
 -- the semicolon reached or not
-closing : {text : List ℕ} {ws : List Word} {cs : List ℕ} {c : ℕ} {cs′ : List ℕ} {d : Done} (valued v : Bool) (b : means.Acts) (t : Bool) (w : Word) → t ≡ (valued && pastAll b)
+closing : {E : Type 0} {text : List ℕ} {ws : List Word} {cs : List ℕ} {c : ℕ} {cs′ : List ℕ} {d : Done} (valued v : Bool) (b : means.Acts) (t : Bool) (w : Word) → t ≡ (valued && pastAll b)
     → (t ≡ true → (d .fault ≡ 8) × (d .at ≡ w .start) × (d .len ≡ length (w .text)))
-    → (t ≡ false → (d .fault ≡ 0) × (ws ≡ wordsAt text (d .at)) × Appends cs c (actsCells b []) cs′ (d .count) × (v ≡ valued))
-    → Ends text ws cs c cs′ (λ (y : means.Rule). actsCells (y .body) []) (λ (y : means.Rule). v ≡ y .valued) d
+    → (t ≡ false → (d .fault ≡ 0) × (ws ≡ wordsAt text (d .at)) × (E → Appends cs c (actsCells b []) cs′ (d .count)) × (v ≡ valued))
+    → Ends E text ws cs c cs′ (λ (y : means.Rule). actsCells (y .body) []) (λ (y : means.Rule). v ≡ y .valued) d
     (_>>=_ (faultIf (valued && pastAll b) 8 w) (λ _. good (record { valued = valued; body = b })))
-closing {text} {ws} {cs} {c} {cs′} {d} valued v b t w e yes′ no′ = go (valued && pastAll b) e
+closing {E} {text} {ws} {cs} {c} {cs′} {d} valued v b t w e yes′ no′ = go (valued && pastAll b) e
   where
-    go : (x : Bool) → t ≡ x → Ends text ws cs c cs′ (λ (y : means.Rule). actsCells (y .body) []) (λ (y : means.Rule). v ≡ y .valued) d (_>>=_ (faultIf x 8 w) (λ _. good (record { valued = valued; body = b })))
+    go : (x : Bool) → t ≡ x → Ends E text ws cs c cs′ (λ (y : means.Rule). actsCells (y .body) []) (λ (y : means.Rule). v ≡ y .valued) d (_>>=_ (faultIf x 8 w) (λ _. good (record { valued = valued; body = b })))
     go true q = let k = yes′ q in failed (k .0) (λ z. omega (arith, z)) (k .1) (k .2)
     go false q = let k = no′ q in ended (k .0) (k .1) (k .2) (k .3)
 
@@ -112,7 +113,7 @@ unfolding ruleBy
 rule-closed {text} {rows} {n} {first} {k} {at} {cs} {c} {cs′} {h} {b} {r} {w} {t} H z B z₂ N e reached ends high = record { same = B .kept .same; high = high; done = go }
   where
     go : (p : Program) (names : Names) (rs : List KnownRule) → Agrees p names rs (held text rows n) → (x : written.Rule) (ws : List Word) → RuleIn (wordsAt text at) ws x
-        → Ends text ws cs c cs′ (λ b. actsCells (b .body) []) (λ b. r .valued ≡ b .valued) (r .done) (ruleBy p names rs (held text rows n) first k x)
+        → Ends (PairsAre text rows n p names) text ws cs c cs′ (λ b. actsCells (b .body) []) (λ b. r .valued ≡ b .valued) (r .done) (ruleBy p names rs (held text rows n) first k x)
     go p names rs g x ws (a-rule {colon = colon} {ws₁ = ws₁} {ws₂ = ws₂} {ws₃ = ws₃} {ws₄ = ws₄} q d u a s) =
         head-then (headOf (held text rows n) first k x) _ (H .done x colon ws₁ ws₂ ws₃ q d u) z
         (λ here. ends-bind (actsOf p names rs (x .body) (placeOf (held text rows n) false (h .class))) _
@@ -129,7 +130,7 @@ rule-closed {text} {rows} {n} {first} {k} {at} {cs} {c} {cs′} {h} {b} {r} {w} 
         (λ y. (
           ends y .0,
           same .behind ∙ ap (wordsAt text) (sym (ends y .1)),
-          subst (λ m. Appends cs c (actsCells body []) cs′ m) (sym (ends y .2)) app,
+          λ x. subst (λ m. Appends cs c (actsCells body []) cs′ m) (sym (ends y .2)) (app x),
           ends y .3 ∙ sym (valued-is (held text rows n) (h .class)),
         ))))
 

@@ -21,6 +21,7 @@ use Rattle.builder.specs.declared.Rules.{Rules}
 use Rattle.cells.specs.Cells.{actsCells, rulesCells, cellsStart}
 use Rattle.declarations.specs.Decls.{Agrees, Decl, declsOf, sectionsDecls}
 use Rattle.grammar.specs.Derived.{Not, RuleIn, RulesIn, last-rule, more-rules}
+use Rattle.maker.specs.Pairs.{PairsAre}
 use Rattle.names.specs.Declare.{knownRules}
 use Rattle.names.specs.Known.{Checked, good, wrong, _>>=_, KnownRule, Names}
 use Rattle.names.specs.Understand.{ruleMeans, rulesMean}
@@ -49,25 +50,25 @@ held-short text rows n h = omega (arith, h, held-length text rows 0 n)
 -- One rule, then the rest
 
 -- a rule's fault is the fault of all
-row-fails : {text : List ℕ} {ws : List Word} {cs : List ℕ} {c : ℕ} {cs₁ : List ℕ} {f : means.Rule → List ℕ} {P : means.Rule → Type 0} {d : Done} (m : Checked means.Rule)
+row-fails : {E : Type 0} {text : List ℕ} {ws : List Word} {cs : List ℕ} {c : ℕ} {cs₁ : List ℕ} {f : means.Rule → List ℕ} {P : means.Rule → Type 0} {d : Done} (m : Checked means.Rule)
     (k : means.Rule → Checked (List means.Rule)) {i : ℕ} {cs₀ : List ℕ} {c₀ : ℕ} {cs′ starts sorts starts′ sorts′ : List ℕ} {r : Rules}
-    → Ends text ws cs c cs₁ f P d m → (d .fault ≡ 0 → ⊥) → r .fault ≡ d .fault → r .at ≡ d .at → r .len ≡ d .len → RowEnd i cs₀ c₀ cs′ starts sorts starts′ sorts′ r (_>>=_ m k)
+    → Ends E text ws cs c cs₁ f P d m → (d .fault ≡ 0 → ⊥) → r .fault ≡ d .fault → r .at ≡ d .at → r .len ≡ d .len → RowEnd E i cs₀ c₀ cs′ starts sorts starts′ sorts′ r (_>>=_ m k)
 row-fails (good a) k (ended e _ _ _) z e₁ e₂ e₃ = absurd (z e)
 row-fails (wrong n w) k (failed e nz at len) z e₁ e₂ e₃ = row-faulty (e₁ ∙ e) nz (e₂ ∙ at) (e₃ ∙ len)
 
 -- what was stored for the rule stays, what comes behind it is stored behind it
-row-then : {text : List ℕ} {ws : List Word} {cs : List ℕ} {c : ℕ} {cs₁ : List ℕ} {valued : Bool} {d : Done} (m : Checked means.Rule) (rest : Checked (List means.Rule))
+row-then : {E : Type 0} {text : List ℕ} {ws : List Word} {cs : List ℕ} {c : ℕ} {cs₁ : List ℕ} {valued : Bool} {d : Done} (m : Checked means.Rule) (rest : Checked (List means.Rule))
     {k : ℕ} {cs′ starts sorts starts′ sorts′ : List ℕ} {r : Rules}
     → length cs ≤ 60000 → k < length starts → k < length sorts
-    → Ends text ws cs c cs₁ (λ (b : means.Rule). actsCells (b .body) []) (λ (b : means.Rule). valued ≡ b .valued) d m → d .fault ≡ 0
-    → RowEnd (k + 1) cs₁ (d .count) cs′ (set starts k (c % 65536)) (set sorts k (sortOf valued)) starts′ sorts′ r rest
-    → RowEnd k cs c cs′ starts sorts starts′ sorts′ r (_>>=_ m (λ a. _>>=_ rest (λ as′. good (a ∷ as′))))
+    → Ends E text ws cs c cs₁ (λ (b : means.Rule). actsCells (b .body) []) (λ (b : means.Rule). valued ≡ b .valued) d m → d .fault ≡ 0
+    → RowEnd E (k + 1) cs₁ (d .count) cs′ (set starts k (c % 65536)) (set sorts k (sortOf valued)) starts′ sorts′ r rest
+    → RowEnd E k cs c cs′ starts sorts starts′ sorts′ r (_>>=_ m (λ a. _>>=_ rest (λ as′. good (a ∷ as′))))
 unfolding rulesCells cellsStart ruleOf
 row-then (wrong n w) rest big i j (failed e nz _ _) z q = absurd (nz (sym e ∙ z))
 row-then (good a) (wrong n w) big i j (ended e here app v) z (row-faulty e₁ nz e₂ e₃) = row-faulty e₁ nz e₂ e₃
-row-then {text} {ws} {cs} {c} {cs₁} {valued} {d} (good a) (good prog) {k} {cs′} {starts} {sorts} {starts′} {sorts′} {r} big i j (ended e here app v) z (row-built f l app₂ old₁ old₂ new₁ new₂) =
+row-then {E} {text} {ws} {cs} {c} {cs₁} {valued} {d} (good a) (good prog) {k} {cs′} {starts} {sorts} {starts′} {sorts′} {r} big i j (ended e here app v) z (row-built f l app₂ old₁ old₂ new₁ new₂) =
     row-built {prog = a ∷ prog} f (omega (arith, l))
-    (subst (λ x. Appends cs c x cs′ (r .count)) (sym (acts-cells (a .body) (rulesCells prog))) (appends-then app app₂))
+    (λ x. subst (λ y. Appends cs c y cs′ (r .count)) (sym (acts-cells (a .body) (rulesCells prog))) (appends-then (app x) (app₂ x)))
     (λ x h. old₁ x (omega (arith, h)) ∙ getD-set-other sorts k x (sortOf valued) 0 (λ t. omega (arith, h, t)))
     (λ x h. old₂ x (omega (arith, h)) ∙ getD-set-other starts k x (c % 65536) 0 (λ t. omega (arith, h, t)))
     sorted started
@@ -82,24 +83,24 @@ row-then {text} {ws} {cs} {c} {cs₁} {valued} {d} (good a) (good prog) {k} {cs�
     sorted zero h = ap (λ t. getD sorts′ t 0) (zero-is k) ∙ old₁ k (omega arith) ∙ getD-set-same sorts k (sortOf valued) 0 j ∙ ap sortOf v
     sorted (suc x) h = ap (λ t. getD sorts′ t 0) (suc-is k x) ∙ new₁ x (omega (arith, h))
 
-    started : r .count ≤ length cs → (x : ℕ) → x < suc (length prog) → getD starts′ (k + x) 0 ≡ cellsStart c (a ∷ prog) x
-    started fits zero h =
-        let low : c < 65536 = omega (arith, fits, big, app .count, app₂ .count, appends-length app) in
+    started : E → r .count ≤ length cs → (x : ℕ) → x < suc (length prog) → getD starts′ (k + x) 0 ≡ cellsStart c (a ∷ prog) x
+    started y fits zero h =
+        let low : c < 65536 = omega (arith, fits, big, app y .count, app₂ y .count, appends-length (app y)) in
         ap (λ t. getD starts′ t 0) (zero-is k) ∙ old₂ k (omega arith) ∙ getD-set-same starts k (c % 65536) 0 i ∙ mod-eq-of-lt low
-    started fits (suc x) h =
-        let same : d .count ≡ c + length (actsCells (a .body) []) = omega (arith, fits, app .count, app₂ .count, appends-length app) in
-        ap (λ t. getD starts′ t 0) (suc-is k x) ∙ new₂ (omega (arith, fits, appends-length app)) x (omega (arith, h)) ∙ ap (λ t. cellsStart t prog x) same
+    started y fits (suc x) h =
+        let same : d .count ≡ c + length (actsCells (a .body) []) = omega (arith, fits, app y .count, app₂ y .count, appends-length (app y)) in
+        ap (λ t. getD starts′ t 0) (suc-is k x) ∙ new₂ y (omega (arith, fits, appends-length (app y))) x (omega (arith, h)) ∙ ap (λ t. cellsStart t prog x) same
 
 -- the last of them
-row-none : {k : ℕ} {cs : List ℕ} {c : ℕ} {starts sorts : List ℕ} {r : Rules} → r .fault ≡ 0 → r .rules ≡ k → r .count ≡ c → c ≤ suc (length cs) → RowEnd k cs c cs starts sorts starts sorts r (good [])
+row-none : {E : Type 0} {k : ℕ} {cs : List ℕ} {c : ℕ} {starts sorts : List ℕ} {r : Rules} → r .fault ≡ 0 → r .rules ≡ k → r .count ≡ c → (E → c ≤ suc (length cs)) → RowEnd E k cs c cs starts sorts starts sorts r (good [])
 unfolding rulesCells
-row-none {k} {cs} {c} {starts} {sorts} {r} f e m h =
-    row-built {prog = []} f (omega (arith, e)) (record { cells = refl; count = omega (arith, m, h) }) (λ j _. refl) (λ j _. refl) (λ j q. absurd (omega (arith, q))) (λ _ j q. absurd (omega (arith, q)))
+row-none {E} {k} {cs} {c} {starts} {sorts} {r} f e m h =
+    row-built {prog = []} f (omega (arith, e)) (λ x. record { cells = refl; count = omega (arith, m, h x) }) (λ j _. refl) (λ j _. refl) (λ j q. absurd (omega (arith, q))) (λ _ _ j q. absurd (omega (arith, q)))
 
-counted : {A : Type 0} {text : List ℕ} {ws : List Word} {cs : List ℕ} {c : ℕ} {cs₁ : List ℕ} {f : A → List ℕ} {P : A → Type 0} {d : Done} (m : Checked A)
-    → Ends text ws cs c cs₁ f P d m → d .fault ≡ 0 → d .count ≤ suc (length cs₁)
-counted (good a) (ended e here app pa) z = omega (arith, app .count, appends-length app)
-counted (wrong n w) (failed e nz _ _) z = absurd (nz (sym e ∙ z))
+counted : {E A : Type 0} {text : List ℕ} {ws : List Word} {cs : List ℕ} {c : ℕ} {cs₁ : List ℕ} {f : A → List ℕ} {P : A → Type 0} {d : Done} (m : Checked A)
+    → Ends E text ws cs c cs₁ f P d m → d .fault ≡ 0 → E → d .count ≤ suc (length cs₁)
+counted (good a) (ended e here app pa) z x = omega (arith, app x .count, appends-length (app x))
+counted (wrong n w) (failed e nz _ _) z x = absurd (nz (sym e ∙ z))
 
 -- the rule by its declaration is the rule
 one-rule : (text rows : List ℕ) (n first k : ℕ) (p : Program) (names : Names) (rs : List KnownRule) (seen : List (List ℕ)) (x : written.Rule) (rest : List written.Rule)
@@ -114,12 +115,12 @@ row-fail {text} {rows} {n} {first} {k} {at} {cs} {c} {cs₁} {starts} {sorts} {x
   where
     go : (p : Program) (names : Names) (rs : List KnownRule) → Agrees p names rs (held text rows n) → (seen : List (List ℕ)) (rest : List written.Rule) (ws : List Word)
         → Sofar (held text rows n) first k seen rest → RulesIn (wordsAt text at) ws rest → k + length rest ≤ 128
-        → RowEnd k cs c cs₁ starts sorts starts sorts r (rulesMean p names rs seen rest)
+        → RowEnd (PairsAre text rows n p names) k cs c cs₁ starts sorts starts sorts r (rulesMean p names rs seen rest)
     go p names rs A seen (y ∷ rest) ws s (last-rule d _) _ =
-        subst (λ m. RowEnd k cs c cs₁ starts sorts starts sorts r (_>>=_ m (λ a. _>>=_ (rulesMean p names rs (y .rule .text ∷ seen) rest) (λ as′. good (a ∷ as′)))))
+        subst (λ m. RowEnd (PairsAre text rows n p names) k cs c cs₁ starts sorts starts sorts r (_>>=_ m (λ a. _>>=_ (rulesMean p names rs (y .rule .text ∷ seen) rest) (λ as′. good (a ∷ as′)))))
         (one-rule text rows n first k p names rs seen y rest A s) (row-fails (ruleBy p names rs (held text rows n) first k y) _ (R .done p names rs A y ws d) z e₁ e₂ e₃)
     go p names rs A seen (y ∷ rest) ws s (more-rules {ws₁ = ws₁} d _ _) _ =
-        subst (λ m. RowEnd k cs c cs₁ starts sorts starts sorts r (_>>=_ m (λ a. _>>=_ (rulesMean p names rs (y .rule .text ∷ seen) rest) (λ as′. good (a ∷ as′)))))
+        subst (λ m. RowEnd (PairsAre text rows n p names) k cs c cs₁ starts sorts starts sorts r (_>>=_ m (λ a. _>>=_ (rulesMean p names rs (y .rule .text ∷ seen) rest) (λ as′. good (a ∷ as′)))))
         (one-rule text rows n first k p names rs seen y rest A s) (row-fails (ruleBy p names rs (held text rows n) first k y) _ (R .done p names rs A y ws₁ d) z e₁ e₂ e₃)
 
 pub row-last : {text rows : List ℕ} {n first k at : ℕ} {cs : List ℕ} {c : ℕ} {cs₁ starts sorts starts′ sorts′ : List ℕ} {x : Ruled} {r : Rules} {w : WordAt}
@@ -132,13 +133,13 @@ row-last {text} {rows} {n} {first} {k} {at} {cs} {c} {cs₁} {starts} {sorts} {s
   where
     go : (p : Program) (names : Names) (rs : List KnownRule) → Agrees p names rs (held text rows n) → (seen : List (List ℕ)) (rest : List written.Rule) (ws : List Word)
         → Sofar (held text rows n) first k seen rest → RulesIn (wordsAt text at) ws rest → k + length rest ≤ 128
-        → RowEnd k cs c cs₁ starts sorts starts′ sorts′ r (rulesMean p names rs seen rest)
+        → RowEnd (PairsAre text rows n p names) k cs c cs₁ starts sorts starts′ sorts′ r (rulesMean p names rs seen rest)
     go p names rs A seen (y ∷ []) ws s (last-rule d _) _ =
-        subst (λ m. RowEnd k cs c cs₁ starts sorts starts′ sorts′ r (_>>=_ m (λ a. _>>=_ (rulesMean p names rs (y .rule .text ∷ seen) []) (λ as′. good (a ∷ as′)))))
+        subst (λ m. RowEnd (PairsAre text rows n p names) k cs c cs₁ starts sorts starts′ sorts′ r (_>>=_ m (λ a. _>>=_ (rulesMean p names rs (y .rule .text ∷ seen) []) (λ as′. good (a ∷ as′)))))
         (one-rule text rows n first k p names rs seen y [] A s)
         (row-then (ruleBy p names rs (held text rows n) first k y) (rulesMean p names rs (y .rule .text ∷ seen) []) big i j (R .done p names rs A y ws d) z
-        (subst (λ a. RowEnd (k + 1) cs₁ (x .done .count) cs₁ (set starts k (c % 65536)) (set sorts k (sortOf (x .valued))) a sorts′ r (good [])) (sym q₁)
-        (subst (λ b. RowEnd (k + 1) cs₁ (x .done .count) cs₁ (set starts k (c % 65536)) (set sorts k (sortOf (x .valued))) (set starts k (c % 65536)) b r (good [])) (sym q₂)
+        (subst (λ a. RowEnd (PairsAre text rows n p names) (k + 1) cs₁ (x .done .count) cs₁ (set starts k (c % 65536)) (set sorts k (sortOf (x .valued))) a sorts′ r (good [])) (sym q₁)
+        (subst (λ b. RowEnd (PairsAre text rows n p names) (k + 1) cs₁ (x .done .count) cs₁ (set starts k (c % 65536)) (set sorts k (sortOf (x .valued))) (set starts k (c % 65536)) b r (good [])) (sym q₂)
         (row-none e₁ e₂ e₃ (counted (ruleBy p names rs (held text rows n) first k y) (R .done p names rs A y ws d) z)))))
     go p names rs A seen (y ∷ rest) ws s (more-rules {ws₁ = ws₁} d v _) _ =
         let here : ws₁ ≡ wordsAt text (x .done .at) = ends-here (ruleBy p names rs (held text rows n) first k y) (R .done p names rs A y ws₁ d) z in
@@ -155,7 +156,7 @@ row-over {text} {rows} {n} {first} {k} {at} {cs} {c} {cs₁} {cs′} {starts} {s
   where
     go : (p : Program) (names : Names) (rs : List KnownRule) → Agrees p names rs (held text rows n) → (seen : List (List ℕ)) (rest : List written.Rule) (ws : List Word)
         → Sofar (held text rows n) first k seen rest → RulesIn (wordsAt text at) ws rest → k + length rest ≤ 128
-        → RowEnd k cs c cs′ starts sorts starts′ sorts′ r (rulesMean p names rs seen rest)
+        → RowEnd (PairsAre text rows n p names) k cs c cs′ starts sorts starts′ sorts′ r (rulesMean p names rs seen rest)
     go p names rs A seen (y ∷ []) ws s (last-rule d t) _ =
         let here : ws ≡ wordsAt text (x .done .at) = ends-here (ruleBy p names rs (held text rows n) first k y) (R .done p names rs A y ws d) z in
         absurd (t (ap (λ l. peek l .kind) here ∙ kind-here text (x .done .at) w N ∙ kind))
@@ -172,25 +173,25 @@ row-next {text} {rows} {n} {first} {k} {at} {cs} {c} {cs₁} {cs′} {starts} {s
   where
     go : (p : Program) (names : Names) (rs : List KnownRule) → Agrees p names rs (held text rows n) → (seen : List (List ℕ)) (rest : List written.Rule) (ws : List Word)
         → Sofar (held text rows n) first k seen rest → RulesIn (wordsAt text at) ws rest → k + length rest ≤ 128
-        → RowEnd k cs c cs′ starts sorts starts′ sorts′ r (rulesMean p names rs seen rest)
+        → RowEnd (PairsAre text rows n p names) k cs c cs′ starts sorts starts′ sorts′ r (rulesMean p names rs seen rest)
     go p names rs A seen (y ∷ []) ws s (last-rule d t) _ =
         let here : ws ≡ wordsAt text (x .done .at) = ends-here (ruleBy p names rs (held text rows n) first k y) (R .done p names rs A y ws d) z in
         absurd (t (ap (λ l. peek l .kind) here ∙ kind-here text (x .done .at) w N ∙ kind))
     go p names rs A seen (y ∷ rest) ws s (more-rules {ws₁ = ws₁} d v more) h =
         let here : ws₁ ≡ wordsAt text (x .done .at) = ends-here (ruleBy p names rs (held text rows n) first k y) (R .done p names rs A y ws₁ d) z in
-        subst (λ m. RowEnd k cs c cs′ starts sorts starts′ sorts′ r (_>>=_ m (λ a. _>>=_ (rulesMean p names rs (y .rule .text ∷ seen) rest) (λ as′. good (a ∷ as′)))))
+        subst (λ m. RowEnd (PairsAre text rows n p names) k cs c cs′ starts sorts starts′ sorts′ r (_>>=_ m (λ a. _>>=_ (rulesMean p names rs (y .rule .text ∷ seen) rest) (λ as′. good (a ∷ as′)))))
         (one-rule text rows n first k p names rs seen y rest A s)
         (row-then (ruleBy p names rs (held text rows n) first k y) (rulesMean p names rs (y .rule .text ∷ seen) rest) big i j (R .done p names rs A y ws₁ d) z
-        (subst (λ a. RowEnd (k + 1) cs₁ (x .done .count) cs′ a (set sorts k (sortOf (x .valued))) starts′ sorts′ r (rulesMean p names rs (y .rule .text ∷ seen) rest)) q₁
-        (subst (λ b. RowEnd (k + 1) cs₁ (x .done .count) cs′ starts₁ b starts′ sorts′ r (rulesMean p names rs (y .rule .text ∷ seen) rest)) q₂
+        (subst (λ a. RowEnd (PairsAre text rows n p names) (k + 1) cs₁ (x .done .count) cs′ a (set sorts k (sortOf (x .valued))) starts′ sorts′ r (rulesMean p names rs (y .rule .text ∷ seen) rest)) q₁
+        (subst (λ b. RowEnd (PairsAre text rows n p names) (k + 1) cs₁ (x .done .count) cs′ starts₁ b starts′ sorts′ r (rulesMean p names rs (y .rule .text ∷ seen) rest)) q₂
         (M .done p names rs A (y .rule .text ∷ seen) rest ws (sofar-more (held text rows n) first k seen y rest (held-short text rows n few) s)
         (subst (λ l. RulesIn l ws rest) here more) (omega (arith, h))))))
 
 -- The whole
 
-whole-end : {cs cs′ starts sorts starts′ sorts′ : List ℕ} {r : Rules} (m : Checked (List means.Rule)) → RowEnd 0 cs 0 cs′ starts sorts starts′ sorts′ r m → RulesEnd cs cs′ starts′ sorts′ r m
+whole-end : {E : Type 0} {cs cs′ starts sorts starts′ sorts′ : List ℕ} {r : Rules} (m : Checked (List means.Rule)) → RowEnd E 0 cs 0 cs′ starts sorts starts′ sorts′ r m → RulesEnd E cs cs′ starts′ sorts′ r m
 whole-end {starts′ = starts′} {sorts′} (good prog) (row-built f l app _ _ new₁ new₂) =
-    built {prog = prog} f (omega (arith, l)) app (λ k h. ap (λ t. getD sorts′ t 0) (plain k) ∙ new₁ k h) (λ q k h. ap (λ t. getD starts′ t 0) (plain k) ∙ new₂ q k h)
+    built {prog = prog} f (omega (arith, l)) app (λ k h. ap (λ t. getD sorts′ t 0) (plain k) ∙ new₁ k h) (λ x q k h. ap (λ t. getD starts′ t 0) (plain k) ∙ new₂ x q k h)
   where
     plain : (k : ℕ) → k ≡ 0 + k
     plain k = omega arith

@@ -11,6 +11,7 @@ use Rattle.builder.specs.declared.Labelled.{Labelled}
 use Rattle.cells.specs.Cells.{actCells, actsCells, altsCells, otherCells}
 use Rattle.declarations.specs.Decls.{Agrees, Decl, knownsIn}
 use Rattle.grammar.specs.Derived.{Took, ActIn, ActsIn, AltsIn, LabelsIn, SelectorIn}
+use Rattle.maker.specs.Pairs.{PairsAre}
 use Rattle.names.specs.Known.{Checked, good, wrong, _>>=_, Known, KnownRule, Names}
 use Rattle.names.specs.Resolve.{Place, actOf, actsOf, altsOf, otherOf, labelsOf}
 use Rattle.program.specs.Past.{past, pastAll, pastSome, pastOther, exits, exitsAll, exitsSome, exitsOther}
@@ -67,7 +68,7 @@ pub record ActDone (text rows : List ℕ) (n at : ℕ) (inside : Bool) (class : 
   pub kept : Kept text (suc at) cs cs′ (r .done)
   pub done : (p : Program) (names : Names) (rs : List KnownRule) → Agrees p names rs (held text rows n) → (a : written.Act) (ws : List Word)
       → ActIn (wordsAt text at) ws a
-      → Ends text ws cs c cs′ (λ b. actCells b []) (λ b. Flags (r .past) (r .exits) (past b) (exits b)) (r .done)
+      → Ends (PairsAre text rows n p names) text ws cs c cs′ (λ b. actCells b []) (λ b. Flags (r .past) (r .exits) (past b) (exits b)) (r .done)
       (actOf p names rs a (placeOf (held text rows n) inside class))
 
 -- actions, after others that go past themselves (`before`) or have an exit (`some`)
@@ -76,7 +77,7 @@ pub record ActsDone (text rows : List ℕ) (n at : ℕ) (inside : Bool) (class :
   pub kept : Kept text at cs cs′ (r .done)
   pub done : (p : Program) (names : Names) (rs : List KnownRule) → Agrees p names rs (held text rows n) → (q : written.Acts) (ws : List Word)
       → ActsIn (wordsAt text at) ws q
-      → Ends text ws cs c cs′ (λ b. actsCells b []) (λ b. Flags (r .past) (r .exits) (before && pastAll b) (some || exitsAll b)) (r .done)
+      → Ends (PairsAre text rows n p names) text ws cs c cs′ (λ b. actsCells b []) (λ b. Flags (r .past) (r .exits) (before && pastAll b) (some || exitsAll b)) (r .done)
       (actsOf p names rs q (placeOf (held text rows n) inside class))
 
 -- a cycle after its brace
@@ -85,7 +86,7 @@ pub record CycleDone (text rows : List ℕ) (n at class : ℕ) (cs : List ℕ) (
   pub done : (p : Program) (names : Names) (rs : List KnownRule) → Agrees p names rs (held text rows n) → (q : written.Acts) (close : Word)
       (ws₁ ws : List Word)
       → ActsIn (wordsAt text at) ws₁ q → Took 125 ws₁ close ws → (inside : Bool)
-      → Ends text ws cs c cs′ (λ b. actCells b []) (λ b. Flags (r .past) (r .exits) (past b) (exits b)) (r .done)
+      → Ends (PairsAre text rows n p names) text ws cs c cs′ (λ b. actCells b []) (λ b. Flags (r .past) (r .exits) (past b) (exits b)) (r .done)
       (actOf p names rs (cycle q) (placeOf (held text rows n) inside class))
 
 -- a choice after its bracket
@@ -94,7 +95,7 @@ pub record ChoiceDone (text rows : List ℕ) (n at : ℕ) (inside : Bool) (class
   pub done : (p : Program) (names : Names) (rs : List KnownRule) → Agrees p names rs (held text rows n) → (s : written.Selector) (q : written.Alts)
       (o : written.Other)
       (bar : Word) (ws₁ ws₂ ws : List Word) → SelectorIn (wordsAt text at) ws₁ s → Took 124 ws₁ bar ws₂ → AltsIn ws₂ ws 64 q o
-      → Ends text ws cs c cs′ (λ b. actCells b []) (λ b. Flags (r .past) (r .exits) (past b) (exits b)) (r .done)
+      → Ends (PairsAre text rows n p names) text ws cs c cs′ (λ b. actCells b []) (λ b. Flags (r .past) (r .exits) (past b) (exits b)) (r .done)
       (actOf p names rs (choice s q o) (placeOf (held text rows n) inside class))
 
 -- alternatives after a bar, after others of which one goes past itself (`one`) or has an exit (`some`); the choice's labels are of the class
@@ -106,7 +107,7 @@ pub record AltsDone (text rows : List ℕ) (n at : ℕ) (inside : Bool) (class l
   pub done : (p : Program) (names : Names) (rs : List KnownRule) → Agrees p names rs (held text rows n) → (q : written.Alts) (o : written.Other)
       (room : ℕ) (ws : List Word)
       → AltsIn (wordsAt text at) ws room q o → room + used ≤ length seen → (old : List ℕ) → ((v : ℕ) → member v old ≡ member v (take used seen))
-      → Ends text ws cs c cs′ (choicesCells miss) (Marks r one some) (r .done)
+      → Ends (PairsAre text rows n p names) text ws cs c cs′ (choicesCells miss) (Marks r one some) (r .done)
       (choicesOf p names rs q o (placeOf (held text rows n) inside class) (knownsIn labels (held text rows n)) old)
 
 -- otherwise after its star, whatever the cell for no otherwise
@@ -115,7 +116,7 @@ pub record OtherDone (text rows : List ℕ) (n at : ℕ) (inside : Bool) (class 
   pub done : (p : Program) (names : Names) (rs : List KnownRule) → Agrees p names rs (held text rows n) → (q : written.Acts) (colon close : Word)
       (ws₁ ws₂ ws : List Word)
       → Took 58 (wordsAt text at) colon ws₁ → ActsIn ws₁ ws₂ q → Took 93 ws₂ close ws → (miss : ℕ)
-      → Ends text ws cs c cs′ (λ b. otherCells b miss []) (λ b. Flags (r .past) (r .exits) (pastOther b) (exitsOther b)) (r .done)
+      → Ends (PairsAre text rows n p names) text ws cs c cs′ (λ b. otherCells b miss []) (λ b. Flags (r .past) (r .exits) (pastOther b) (exitsOther b)) (r .done)
       (otherOf p names rs (otherwise q) (placeOf (held text rows n) inside class))
 
 -- an alternative after its bar; its labels stand in `seen′` behind those before
@@ -129,7 +130,7 @@ pub record LabelledDone (text rows : List ℕ) (n at : ℕ) (inside : Bool) (cla
       (colon : Word) (ws₁ ws₂ ws : List Word)
       → LabelsIn (wordsAt text at) ws₁ ls → used + length ls ≤ length seen → Took 58 ws₁ colon ws₂ → ActsIn ws₂ ws q
       → (old : List ℕ) → ((v : ℕ) → member v old ≡ member v (take used seen))
-      → Ends text ws cs c cs′ (λ x. (64 + length (x .0)) ∷ (x .0 ++ actsCells (x .1) []))
+      → Ends (PairsAre text rows n p names) text ws cs c cs′ (λ x. (64 + length (x .0)) ∷ (x .0 ++ actsCells (x .1) []))
       (λ x. Flags (r .built .past) (r .built .exits) (pastAll (x .1)) (exitsAll (x .1)) × (r .used ≡ used + length ls) × (take (r .used) seen′ ≡ take used seen ++ x .0))
       (r .built .done)
       (labelledOf p names rs ls q (placeOf (held text rows n) inside class) (knownsIn labels (held text rows n)) old)

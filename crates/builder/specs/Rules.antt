@@ -8,6 +8,7 @@ use Rattle.builder.specs.declared.Rules.{Rules}
 use Rattle.cells.specs.Cells.{rulesCells, cellsStart}
 use Rattle.declarations.specs.Decls.{Agrees, declsOf, sectionsDecls}
 use Rattle.grammar.specs.Derived.{RulesIn}
+use Rattle.maker.specs.Pairs.{PairsAre}
 use Rattle.names.specs.Declare.{knownRules}
 use Rattle.names.specs.Known.{Checked, good, wrong, KnownRule, Names}
 use Rattle.names.specs.Understand.{rulesMean}
@@ -22,19 +23,19 @@ unfoldable pub sortOf : Bool → ℕ
 sortOf true = 1
 sortOf false = 0
 
--- the code's answer tells what the rules mean
-pub data RulesEnd (cs cs′ starts sorts : List ℕ) (r : Rules) : Checked (List Rule) → Type 0 where
-  built : {prog : List Rule} → r .fault ≡ 0 → r .rules ≡ length prog → Appends cs 0 (rulesCells prog) cs′ (r .count)
+-- the code's answer tells what the rules mean. Their cells rest on E: that the rows hold the pairs of the text's uses of operators
+pub data RulesEnd (E : Type 0) (cs cs′ starts sorts : List ℕ) (r : Rules) : Checked (List Rule) → Type 0 where
+  built : {prog : List Rule} → r .fault ≡ 0 → r .rules ≡ length prog → (E → Appends cs 0 (rulesCells prog) cs′ (r .count))
       → ((k : ℕ) → k < length prog → getD sorts k 0 ≡ sortOf (ruleOf prog k .valued))
-      → (r .count ≤ length cs → (k : ℕ) → k < length prog → getD starts k 0 ≡ cellsStart 0 prog k)
-      → RulesEnd cs cs′ starts sorts r (good prog)
-  faulty : {n : ℕ} {w : Word} → r .fault ≡ n → (n ≡ 0 → ⊥) → r .at ≡ w .start → r .len ≡ length (w .text) → RulesEnd cs cs′ starts sorts r (wrong n w)
+      → (E → r .count ≤ length cs → (k : ℕ) → k < length prog → getD starts k 0 ≡ cellsStart 0 prog k)
+      → RulesEnd E cs cs′ starts sorts r (good prog)
+  faulty : {n : ℕ} {w : Word} → r .fault ≡ n → (n ≡ 0 → ⊥) → r .at ≡ w .start → r .len ≡ length (w .text) → RulesEnd E cs cs′ starts sorts r (wrong n w)
 
 -- n declarations, the first rule's being declaration `first`, and the rules from the place `at` on
 pub record RulesDone (text rows : List ℕ) (n first at : ℕ) (cs cs′ starts′ sorts′ : List ℕ) (r : Rules) : Type 0 where
   pub done : (p : Program) (names : Names) → held text rows n ≡ declsOf p → first ≡ length (sectionsDecls 0 (p .sections)) → Agrees p names (knownRules 0 (p .rules)) (declsOf p)
       → (ws : List Word) → RulesIn (wordsAt text at) ws (p .rules) → length (p .rules) ≤ 128
-      → RulesEnd cs cs′ starts′ sorts′ r (rulesMean p names (knownRules 0 (p .rules)) [] (p .rules))
+      → RulesEnd (PairsAre text rows n p names) cs cs′ starts′ sorts′ r (rulesMean p names (knownRules 0 (p .rules)) [] (p .rules))
 
 -- all of this file computes where this is unfolded
 unfoldable pub opened : Unit {0}

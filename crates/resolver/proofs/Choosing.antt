@@ -9,12 +9,13 @@ use lib.ListN.{length, getD, take, drop}
 use Rattle.cells.specs.Cells.{selectorCells, absentCell}
 use Rattle.declarations.specs.Decls.{Agrees, knownsIn, classNamed, membersOf}
 use Rattle.grammar.specs.Derived.{Took, ConstantIn, SelectorIn, token-in, rule-in, operation-in}
+use Rattle.maker.specs.Pairs.{PairsAre}
 use Rattle.names.specs.Known.{Checked, good, KnownRule, Names}
 use Rattle.names.specs.Resolve.{Chooses, choosing, selectorOf}
 use Rattle.places.proofs.Heres.{Same, took-here, took-kind, not-here}
 use Rattle.program.specs.Program.{Selector, byToken, byRule}
 use Rattle.resolver.proofs.Appending.{appends-length}
-use Rattle.resolver.proofs.Looking.{looks-good, looks-wrong, operation-about, rule-about, after-good}
+use Rattle.resolver.proofs.Looking.{looks-good, looks-wrong, row-about, rule-about, after-good}
 use Rattle.resolver.proofs.Outcomes.{by-operation-missing, by-operation-update, by-operation-rest, by-rule-missing, by-rule-procedure, by-rule-rest}
 use Rattle.resolver.proofs.Rests.{Fails, ends-by, fail-ends, fails-here, fails-after, parameter-fails, parameter-good, parameter-words}
 use Rattle.resolver.specs.declared.Parameter.{Parameter}
@@ -36,10 +37,10 @@ record Picks (text rows : List ℕ) (n : ℕ) (ws : List Word) (cs : List ℕ) (
   pub cells : Appends cs c (selectorCells value []) cs′ k
   pub absent : a ≡ absentCell value
 
-pick-ends : {text rows cs cs′ : List ℕ} {ws : List Word} {n c i k t a : ℕ} {r : Selected} {m : Checked Chooses} → Chose i k t a r → Picks text rows n ws cs c cs′ i k t a m → SelectorEnds text rows n ws cs c cs′ r m
-pick-ends {text} {rows} {cs} {cs′} {ws} {n} {c} {i} {k} {t} {a} {r} h e =
+pick-ends : {E : Type 0} {text rows cs cs′ : List ℕ} {ws : List Word} {n c i k t a : ℕ} {r : Selected} {m : Checked Chooses} → Chose i k t a r → Picks text rows n ws cs c cs′ i k t a m → SelectorEnds E text rows n ws cs c cs′ r m
+pick-ends {E} {text} {rows} {cs} {cs′} {ws} {n} {c} {i} {k} {t} {a} {r} h e =
     let q : Appends cs c (selectorCells (e .value) []) cs′ (r .done .count) = rw (h .count) (e .cells) in
-    rw (e .is) (ended (h .fault) (e .words ∙ ap (wordsAt text) (sym (h .at))) q (ap (λ (x : ℕ). knownsIn x (held text rows n)) (sym (h .class)), h .absent ∙ e .absent))
+    rw (e .is) (ended (h .fault) (e .words ∙ ap (wordsAt text) (sym (h .at))) (λ _. q) (ap (λ (x : ℕ). knownsIn x (held text rows n)) (sym (h .class)), h .absent ∙ e .absent))
 
 module _ {A : Type 0} {In : List Word → List Word → A → Type 0} {outcome : Program → Names → List KnownRule → A → Checked Chooses} {text rows : List ℕ} {n from : ℕ} {cs : List ℕ} {c : ℕ} where
   balks : {r : Selected} {f i l : ℕ} → Balked f i l r → (f ≡ 0 → ⊥)
@@ -121,7 +122,7 @@ module _ {text rows : List ℕ} {n : ℕ} {cs : List ℕ} {c : ℕ} {r : Selecte
 module _ {text rows : List ℕ} {n fl row : ℕ} {cs : List ℕ} {c : ℕ} {r : Selected} (w : WordAt) (lies : Lies text w) (looks : Looks fl row (operationIn (held text rows n) (asWord text w))) where
   pub operation-balks : (fl ≡ 0 → ⊥) → Balked fl (w .start) (w .len) r → ChoiceDone ConstantIn (λ p names rs. byOperationOf p names rs (asWord text w)) text rows n (w .next) cs c cs r
   operation-balks z s = balks s z (λ p names rs ag o ws t.
-      fails-here text w (lies .inside) (by-operation-missing text rows n ag (asWord text w) o fl (looks-wrong (operation-about (held text rows n) (asWord text w)) looks z)))
+      fails-here text w (lies .inside) (by-operation-missing text rows n ag (asWord text w) o fl (looks-wrong (row-about 6 (held text rows n) (asWord text w)) looks z)))
 
   pub operation-update : fl ≡ 0 → row < n → getD rows (8 * row + 7) 0 ≡ 0 → Balked 5 (w .start) (w .len) r
       → ChoiceDone ConstantIn (λ p names rs. byOperationOf p names rs (asWord text w)) text rows n (w .next) cs c cs r
@@ -146,7 +147,7 @@ module _ {text rows : List ℕ} {n at : ℕ} {cs cs′ : List ℕ} {c : ℕ} {r 
   selector-rule z d = record { same = d .same; low = λ f. omega (arith, d .low f, h .onto); high = d .high; done = λ p names rs ag s ws t. go p names rs ag s ws t }
     where
       go : (p : Program) (names : Names) (rs : List KnownRule) → Agrees p names rs (held text rows n) → (s : written.Selector) (ws : List Word) → SelectorIn (wordsAt text at) ws s
-          → SelectorEnds text rows n ws cs c cs′ r (selectorOf p names rs s)
+          → SelectorEnds (PairsAre text rows n p names) text rows n ws cs c cs′ r (selectorOf p names rs s)
       go p names rs ag written.byToken ws (token-in a b e) = absurd (not-here text at 64 w h a z)
       go p names rs ag (written.byRule v) ws (rule-in {at = d′} {ws₁ = ws₁} t u) =
           let u′ : Took 257 (wordsAt text (w .next)) v ws = rw (took-here text at 64 w d′ ws₁ (omega arith) h t .behind) at u in
@@ -157,7 +158,7 @@ module _ {text rows : List ℕ} {n at : ℕ} {cs cs′ : List ℕ} {c : ℕ} {r 
   selector-operation z d = record { same = d .same; low = λ f. omega (arith, d .low f, h .onto); high = d .high; done = λ p names rs ag s ws t. go p names rs ag s ws t }
     where
       go : (p : Program) (names : Names) (rs : List KnownRule) → Agrees p names rs (held text rows n) → (s : written.Selector) (ws : List Word) → SelectorIn (wordsAt text at) ws s
-          → SelectorEnds text rows n ws cs c cs′ r (selectorOf p names rs s)
+          → SelectorEnds (PairsAre text rows n p names) text rows n ws cs c cs′ r (selectorOf p names rs s)
       go p names rs ag written.byToken ws (token-in a b e) = absurd (not-here text at 257 w h b z)
       go p names rs ag (written.byRule v) ws (rule-in {at = d′} {ws₁ = ws₁} t u) = absurd (omega (arith, took-kind text at 64 w d′ ws₁ h t))
       go p names rs ag (written.byOperation v o) ws (operation-in {ws₁ = ws₁} t u) =
@@ -175,7 +176,7 @@ module _ {text rows : List ℕ} {n at : ℕ} {cs cs′ : List ℕ} {c : ℕ} {r 
   }
     where
       go : (p : Program) (names : Names) (rs : List KnownRule) → Agrees p names rs (held text rows n) → (s : written.Selector) (ws : List Word) → SelectorIn (wordsAt text at) ws s
-          → SelectorEnds text rows n ws cs c cs′ r (selectorOf p names rs s)
+          → SelectorEnds (PairsAre text rows n p names) text rows n ws cs c cs′ r (selectorOf p names rs s)
       go p names rs ag written.byToken ws (token-in x b e) =
           pick-ends g (record { value = byToken; is = ap (λ ks. good (record { by = byToken; labels = ks })) (ag .inputs); words = e; cells = a; absent = refl })
       go p names rs ag (written.byRule v) ws (rule-in {at = d′} {ws₁ = ws₁} t u) = absurd (y (took-kind text at 64 w d′ ws₁ h t))

@@ -6,12 +6,16 @@ use mathlib.Core.Path.{_≡_, refl, sym, ap, _∙_}
 use Prim.Native.Nat.{ℕ, zero, suc, _+_, _*_, _<_, _≤_}
 use native.Mathlib.Omega.{arith}
 use borrow.Author.Tests.{eq-eqb, ne-eqb}
+use lib.ListN.{length}
 use Rattle.base.specs.Common.{if_then_else_, given}
-use Rattle.declarations.specs.Decls.{Decl, Agrees, knownsIn, indexOf, declOf, typeClass, classNamed, operationFrom, ruleFrom, mapped, elsewhereIn, lookupIn}
+use Rattle.declarations.specs.Decls.{Decl, Agrees, knownsIn, indexOf, declOf, typeClass, classNamed, operationFrom, ruleFrom, mapped, elsewhereIn, lookupIn, entriesOf, operatorsFrom}
 use Rattle.declarations.proofs.Uses.{uses-elsewhere}
-use Rattle.names.specs.Known.{Checked, good, wrong, _>>=_, KnownOperation, KnownRule, Names, find, findOperation, findRule, elsewhere}
-use Rattle.names.specs.Resolve.{operationOf, ruleNamed}
-use Rattle.symbols.specs.Rows.{wordOf, optionOf, declAt, heldFrom, held, operationIn, ruleIn, givesOf, Looks, found, missing}
+use Rattle.names.specs.Known.{Checked, good, wrong, _>>=_, faultIf, KnownOperation, KnownRule, Names, find, findOperation, findRule, elsewhere}
+use Rattle.names.specs.Resolve.{operationOf, ruleNamed, rankedOf}
+use Rattle.names.specs.Uses.{lowestOf, pairsOf}
+use Rattle.program.specs.Made.{levelsOf}
+use Rattle.program.specs.Program.{Plain, call}
+use Rattle.symbols.specs.Rows.{wordOf, optionOf, declAt, heldFrom, held, rowIn, operationIn, operatorsRow, ruleIn, givesOf, Looks, found, missing}
 use Rattle.symbols.specs.Search.{Tells, there, nowhere}
 use Rattle.syntax.specs.Written.{Program}
 use Rattle.words.specs.Words.{Word}
@@ -45,13 +49,20 @@ lookup-about ds c w = go (find (w .text) (knownsIn c ds))
     go none = faulty
     go (some v) = fine
 
-pub operation-about : (ds : List Decl) (w : Word) → About w (operationIn ds w)
-unfolding operationIn
-operation-about ds w = go (indexOf 6 (w .text) 0 ds)
+pub row-about : (c : ℕ) (ds : List Decl) (w : Word) → About w (rowIn c ds w)
+unfolding rowIn
+row-about c ds w = go (indexOf c (w .text) 0 ds)
   where
     go : (x : Option ℕ) → About {A = ℕ} w (elim x as (λ _. Checked ℕ) [ some v ↦ good v | none ↦ wrong (elsewhereIn ds (w .text)) w ])
     go none = faulty
     go (some v) = fine
+
+wrong-good : {A : Type 0} {n : ℕ} {w : Word} {a : A} → _≡_ {A = Checked A} (wrong n w) (good a) → ⊥
+wrong-good e = let z : _≡_ {A = ℕ} 0 1 = cc in omega (arith, z)
+
+index-found : {x : Option ℕ} (m : ℕ) (w : Word) (i : ℕ) → (elim x as (λ _. Checked ℕ) [ some v ↦ good v | none ↦ wrong m w ]) ≡ good i → x ≡ some i
+index-found {x = none} m w i e = absurd (wrong-good e)
+index-found {x = some v} m w i e = cc
 
 pub rule-about : (ds : List Decl) (w : Word) → About w (ruleIn ds w)
 unfolding ruleIn
@@ -62,15 +73,48 @@ rule-about ds w = go (given (indexOf 6 (w .text) 0 ds)) (indexOf 7 (w .text) 0 d
     go false none = faulty
     go false (some v) = fine
 
+-- the row that was found
+pub row-index : (c : ℕ) (ds : List Decl) (w : Word) (i : ℕ) → rowIn c ds w ≡ good i → indexOf c (w .text) 0 ds ≡ some i
+unfolding rowIn
+row-index c ds w i e = index-found (elsewhereIn ds (w .text)) w i e
+
+pub rule-index : (ds : List Decl) (w : Word) (i : ℕ) → ruleIn ds w ≡ good i → indexOf 7 (w .text) 0 ds ≡ some i
+unfolding ruleIn
+rule-index ds w i e = go (given (indexOf 6 (w .text) 0 ds)) e
+  where
+    go : (b : Bool) → (if b then wrong 5 w else elim (indexOf 7 (w .text) 0 ds) as (λ _. Checked ℕ) [ some v ↦ good v | none ↦ wrong (elsewhereIn ds (w .text)) w ]) ≡ good i
+        → indexOf 7 (w .text) 0 ds ≡ some i
+    go true q = absurd (wrong-good q)
+    go false q = index-found (elsewhereIn ds (w .text)) w i q
+
 -- Names by the row
+
+-- an action that needs a procedure rule of the name
+abbrev pub procedureOf : Program → Names → List KnownRule → (KnownRule → Plain) → Word → Checked Plain
+procedureOf p names rs g w = _>>=_ (ruleNamed p names rs w) (λ r. _>>=_ (faultIf (given (r .gives)) 5 w) (λ _. good (g r)))
+
+-- the call of the lowest rule that is made
+abbrev pub lowestFor : Program → Names → Word → Word → Word → KnownRule → Plain
+lowestFor p names s w o r = call (lowestOf names (record { sign = s; section = w; operand = o }) (length (p .rules)) (pairsOf (p .rules)))
 
 module _ {p : Program} {names : Names} {rs : List KnownRule} {ds : List Decl} (ag : Agrees p names rs ds) where
   pub operation-is : (w : Word) → operationOf p names rs w ≡ _>>=_ (operationIn ds w) (λ i. good (operationFrom ds (declOf ds i)))
-  unfolding operationOf operationIn
+  unfolding operationOf rowIn
   operation-is w = ap (λ x. elim x as (λ _. Checked KnownOperation) [ some o ↦ good o | none ↦ elsewhere p w ]) (ag .operations (w .text)) ∙ go (indexOf 6 (w .text) 0 ds)
     where
       go : (x : Option ℕ) → elim (mapped (λ i. operationFrom ds (declOf ds i)) x) as (λ _. Checked KnownOperation) [ some o ↦ good o | none ↦ elsewhere p w ]
           ≡ _>>=_ (elim x as (λ _. Checked ℕ) [ some i ↦ good i | none ↦ wrong (elsewhereIn ds (w .text)) w ]) (λ i. good (operationFrom ds (declOf ds i)))
+      go none = uses-elsewhere ag w
+      go (some i) = refl
+
+  -- `^` by the row of its section
+  pub ranked-is : (s w o : Word) → rankedOf p names rs s w o ≡ _>>=_ (operatorsRow ds w) (λ _. procedureOf p names rs (lowestFor p names s w o) o)
+  unfolding rankedOf rowIn
+  ranked-is s w o =
+      ap (λ x. elim x as (λ _. Checked Plain) [ none ↦ elsewhere p w | some ls ↦ procedureOf p names rs (lowestFor p names s w o) o ]) (ag .operators (w .text)) ∙ go (indexOf 600 (w .text) 0 ds)
+    where
+      go : (x : Option ℕ) → elim (mapped (λ i. levelsOf (operatorsFrom ds (entriesOf p i))) x) as (λ _. Checked Plain) [ none ↦ elsewhere p w | some ls ↦ procedureOf p names rs (lowestFor p names s w o) o ]
+          ≡ _>>=_ {A = ℕ} (elim x as (λ _. Checked ℕ) [ some i ↦ good i | none ↦ wrong (elsewhereIn ds (w .text)) w ]) (λ _. procedureOf p names rs (lowestFor p names s w o) o)
       go none = uses-elsewhere ag w
       go (some i) = refl
 

@@ -10,12 +10,12 @@ use Rattle.base.specs.Common.{if_then_else_, given}
 use Rattle.declarations.specs.Decls.{Decl, Agrees, knownsIn, declOf, classNamed, membersOf, operationFrom, ruleFrom, lookupIn}
 use Rattle.declarations.proofs.Uses.{uses-lookup, uses-members}
 use Rattle.names.specs.Known.{Checked, good, wrong, _>>=_, faultIf, Known, KnownOperation, KnownRule, Names, find, lookup}
-use Rattle.names.specs.Resolve.{Place, Chooses, updating, choosing, operationOf, ruleNamed, parameterOf, updateOf, matchOf, giveOf, plainOf, selectorOf}
+use Rattle.names.specs.Resolve.{Place, Chooses, updating, choosing, operationOf, ruleNamed, parameterOf, updateOf, matchOf, giveOf, rankedOf, plainOf, selectorOf}
 use Rattle.names.specs.Resolve as resolve
 use Rattle.program.specs.Program.{Plain, match, any, emit, error, exit, call, back, give, Selector, byToken, byRule}
-use Rattle.resolver.proofs.Looking.{after-good, after-wrong, operation-is, rule-is, held-at, option-none, option-some}
+use Rattle.resolver.proofs.Looking.{after-good, after-wrong, operation-is, rule-is, ranked-is, procedureOf, lowestFor, held-at, option-none, option-some}
 use Rattle.resolver.specs.Parts.{valued, namedOf, callOf, byRuleOf, byOperationOf, choosesOf}
-use Rattle.symbols.specs.Rows.{wordOf, optionOf, secondKind, declAt, held, operationIn, ruleIn}
+use Rattle.symbols.specs.Rows.{wordOf, optionOf, secondKind, declAt, held, operationIn, operatorsRow, ruleIn}
 use Rattle.syntax.specs.Written as written
 use Rattle.syntax.specs.Written.{Constant, Program}
 use Rattle.words.specs.Words.{Word}
@@ -116,19 +116,44 @@ module _ {p : Program} {names : Names} {rs : List KnownRule} (text rows : List �
   unfolding declAt
   named-some row e = ap (λ x. elim x as (λ _. Option (List ℕ)) [ none ↦ none | some w ↦ some (w .text) ]) (option-some text 257 (getD rows (8 * row + 6) 0) (getD rows (8 * row + 7) 0) e)
 
+  -- a procedure rule, of which g makes an action
+  procedure-missing : (g : KnownRule → Plain) (w : Word) (f : ℕ) → ruleIn (held text rows n) w ≡ wrong f w → procedureOf p names rs g w ≡ wrong f w
+  procedure-missing g w f e = after-wrong _ f w (rule-is ag w ∙ after-wrong _ f w e)
+
+  procedure-valued : (g : KnownRule → Plain) (w : Word) (row : ℕ) → row < n → ruleIn (held text rows n) w ≡ good row → (getD rows (8 * row + 7) 0 ≡ 0 → ⊥) → procedureOf p names rs g w ≡ wrong 5 w
+  procedure-valued g w row h e q =
+      after-good _ _ (rule-row w row h e) ∙ ap (λ x. _>>=_ (faultIf (given x) 5 w) (λ _. good (g (ruleFrom (declAt text rows row))))) (named-some row q)
+
+  procedure-rule : (g : KnownRule → Plain) (w : Word) (row : ℕ) → row < n → ruleIn (held text rows n) w ≡ good row → getD rows (8 * row + 7) 0 ≡ 0
+      → procedureOf p names rs g w ≡ good (g (ruleFrom (declAt text rows row)))
+  procedure-rule g w row h e q =
+      after-good _ _ (rule-row w row h e) ∙ ap (λ x. _>>=_ (faultIf (given x) 5 w) (λ _. good (g (ruleFrom (declAt text rows row))))) (named-none row q)
+
   pub call-missing : (w : Word) (f : ℕ) → ruleIn (held text rows n) w ≡ wrong f w → callOf p names rs w ≡ wrong f w
   unfolding plainOf
-  call-missing w f e = after-wrong _ f w (rule-is ag w ∙ after-wrong _ f w e)
+  call-missing w f e = procedure-missing (λ r. call (r .place)) w f e
 
   pub call-valued : (w : Word) (row : ℕ) → row < n → ruleIn (held text rows n) w ≡ good row → (getD rows (8 * row + 7) 0 ≡ 0 → ⊥) → callOf p names rs w ≡ wrong 5 w
   unfolding plainOf
-  call-valued w row h e q =
-      after-good _ _ (rule-row w row h e) ∙ ap (λ g. _>>=_ (faultIf (given g) 5 w) (λ _. good (call (declAt text rows row .value)))) (named-some row q)
+  call-valued w row h e q = procedure-valued (λ r. call (r .place)) w row h e q
 
   pub call-rule : (w : Word) (row : ℕ) → row < n → ruleIn (held text rows n) w ≡ good row → getD rows (8 * row + 7) 0 ≡ 0 → callOf p names rs w ≡ good (call (declAt text rows row .value))
   unfolding plainOf
-  call-rule w row h e q =
-      after-good _ _ (rule-row w row h e) ∙ ap (λ g. _>>=_ (faultIf (given g) 5 w) (λ _. good (call (declAt text rows row .value)))) (named-none row q)
+  call-rule w row h e q = procedure-rule (λ r. call (r .place)) w row h e q
+
+  -- `^`: the section, then the rule
+  pub ranked-nowhere : (s w o : Word) (f : ℕ) → operatorsRow (held text rows n) w ≡ wrong f w → rankedOf p names rs s w o ≡ wrong f w
+  ranked-nowhere s w o f e = ranked-is ag s w o ∙ after-wrong _ f w e
+
+  pub ranked-missing : (s w o : Word) (i f : ℕ) → operatorsRow (held text rows n) w ≡ good i → ruleIn (held text rows n) o ≡ wrong f o → rankedOf p names rs s w o ≡ wrong f o
+  ranked-missing s w o i f a e = ranked-is ag s w o ∙ after-good _ i a ∙ procedure-missing (lowestFor p names s w o) o f e
+
+  pub ranked-valued : (s w o : Word) (i row : ℕ) → operatorsRow (held text rows n) w ≡ good i → row < n → ruleIn (held text rows n) o ≡ good row → (getD rows (8 * row + 7) 0 ≡ 0 → ⊥) → rankedOf p names rs s w o ≡ wrong 5 o
+  ranked-valued s w o i row a h e q = ranked-is ag s w o ∙ after-good _ i a ∙ procedure-valued (lowestFor p names s w o) o row h e q
+
+  pub ranked-rule : (s w o : Word) (i row : ℕ) → operatorsRow (held text rows n) w ≡ good i → row < n → ruleIn (held text rows n) o ≡ good row → getD rows (8 * row + 7) 0 ≡ 0
+      → rankedOf p names rs s w o ≡ good (lowestFor p names s w o (ruleFrom (declAt text rows row)))
+  ranked-rule s w o i row a h e q = ranked-is ag s w o ∙ after-good _ i a ∙ procedure-rule (lowestFor p names s w o) o row h e q
 
   pub by-rule-missing : (w : Word) (f : ℕ) → ruleIn (held text rows n) w ≡ wrong f w → byRuleOf p names rs w ≡ wrong f w
   unfolding selectorOf

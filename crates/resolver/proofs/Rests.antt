@@ -12,12 +12,13 @@ use Rattle.base.specs.Common.{if_then_else_}
 use Rattle.cells.specs.Cells.{plainCells}
 use Rattle.declarations.specs.Decls.{Agrees, knownsIn, classNamed, membersOf, lookupIn}
 use Rattle.grammar.specs.Derived.{Took, Not, Reference, by-name, by-string, ConstantIn, no-constant, a-constant, ValueIn, no-value, a-value}
+use Rattle.maker.specs.Pairs.{PairsAre}
 use Rattle.names.specs.Known.{Checked, good, wrong, _>>=_, Known, KnownRule, Names, find}
 use Rattle.names.specs.Resolve.{updating, choosing, parameterOf, updateOf, matchOf, giveOf}
 use Rattle.places.proofs.Heres.{Same, took-here, took-kind, not-here, reference-kind, reference-here}
 use Rattle.program.specs.Past.{plainPast, isExit}
 use Rattle.program.specs.Program.{Plain, match, any, emit, error, exit, call, back, give, update, updateWith}
-use Rattle.resolver.proofs.Looking.{About, looks-good, looks-wrong, after-good, after-wrong, lookup-about, operation-about, rule-about, tells-there, tells-none, gives-none, gives-some}
+use Rattle.resolver.proofs.Looking.{About, looks-good, looks-wrong, after-good, after-wrong, lookup-about, row-about, rule-about, tells-there, tells-none, gives-none, gives-some}
 use Rattle.resolver.proofs.Outcomes.{give-is, parameter-is, named-token, named-other, update-missing, update-choice, update-rest, call-missing, call-valued, call-rule, second-none, second-some}
 use Rattle.resolver.proofs.Appending.{appends-length}
 use Rattle.resolver.specs.declared.Built.{Built}
@@ -54,12 +55,12 @@ pub fails-by : {A : Type 0} {m m′ : Checked A} {f i l : ℕ} → m ≡ m′ �
 fails-by q e = record { word = e .word; is = q ∙ e .is; at = e .at; len = e .len }
 
 -- the same outcome
-pub ends-by : {B : Type 0} {text cs cs′ : List ℕ} {ws : List Word} {c : ℕ} {cellsOf : B → List ℕ} {P : B → Type 0} {r : Done} {m m′ : Checked B} → m ≡ m′
-    → Ends text ws cs c cs′ cellsOf P r m′ → Ends text ws cs c cs′ cellsOf P r m
+pub ends-by : {B E : Type 0} {text cs cs′ : List ℕ} {ws : List Word} {c : ℕ} {cellsOf : B → List ℕ} {P : B → Type 0} {r : Done} {m m′ : Checked B} → m ≡ m′
+    → Ends E text ws cs c cs′ cellsOf P r m′ → Ends E text ws cs c cs′ cellsOf P r m
 ends-by e t = rw e t
 
-pub fail-ends : {B : Type 0} {text cs cs′ : List ℕ} {ws : List Word} {c f i l : ℕ} {cellsOf : B → List ℕ} {P : B → Type 0} {r : Done} {m : Checked B} → r .fault ≡ f → r .at ≡ i → r .len ≡ l
-    → (f ≡ 0 → ⊥) → Fails f i l m → Ends text ws cs c cs′ cellsOf P r m
+pub fail-ends : {B E : Type 0} {text cs cs′ : List ℕ} {ws : List Word} {c f i l : ℕ} {cellsOf : B → List ℕ} {P : B → Type 0} {r : Done} {m : Checked B} → r .fault ≡ f → r .at ≡ i → r .len ≡ l
+    → (f ≡ 0 → ⊥) → Fails f i l m → Ends E text ws cs c cs′ cellsOf P r m
 fail-ends p q o z e = rw (e .is) (failed p z (q ∙ e .at) (o ∙ e .len))
 
 -- Actions
@@ -73,10 +74,10 @@ pub record Goes (text : List ℕ) (ws : List Word) (cs : List ℕ) (c : ℕ) (cs
   pub past : b ≡ plainPast value
   pub exits : false ≡ isExit value
 
-pub go-ends : {text cs cs′ : List ℕ} {ws : List Word} {c i k : ℕ} {b : Bool} {r : Built} {m : Checked Plain} → Went i k b r → Goes text ws cs c cs′ i k b m → PlainEnds text ws cs c cs′ r m
-go-ends {text} {cs} {cs′} {ws} {c} {i} {k} {b} {r} h e =
+pub go-ends : {E : Type 0} {text cs cs′ : List ℕ} {ws : List Word} {c i k : ℕ} {b : Bool} {r : Built} {m : Checked Plain} → Went i k b r → Goes text ws cs c cs′ i k b m → PlainEnds E text ws cs c cs′ r m
+go-ends {E} {text} {cs} {cs′} {ws} {c} {i} {k} {b} {r} h e =
     let q : Appends cs c (plainCells (e .value) []) cs′ (r .done .count) = rw (h .count) (e .cells) in
-    rw (e .is) (ended (h .fault) (e .words ∙ ap (wordsAt text) (sym (h .at))) q (h .past ∙ e .past, h .exits ∙ e .exits))
+    rw (e .is) (ended (h .fault) (e .words ∙ ap (wordsAt text) (sym (h .at))) (λ _. q) (h .past ∙ e .past, h .exits ∙ e .exits))
 
 module _ {A : Type 0} {In : List Word → List Word → A → Type 0} {outcome : Program → Names → List KnownRule → A → Checked Plain} {text rows : List ℕ} {n from : ℕ} {cs : List ℕ} {c : ℕ} where
   pub stops : {r : Built} {f i l : ℕ} → Stopped f i l r → (f ≡ 0 → ⊥)
@@ -299,7 +300,7 @@ module _ {text rows : List ℕ} {n fl row : ℕ} {cs : List ℕ} {c : ℕ} {r : 
   pub update-stops : (fl ≡ 0 → ⊥) → Stopped fl (w .start) (w .len) r
       → RestDone ConstantIn (λ p names rs. updateOf p names rs (asWord text w)) text rows n (w .next) cs c cs r
   update-stops z s = stops s z (λ p names rs ag d ws t.
-      fails-here text w (lies .inside) (update-missing text rows n ag (asWord text w) d fl (looks-wrong (operation-about (held text rows n) (asWord text w)) looks z)))
+      fails-here text w (lies .inside) (update-missing text rows n ag (asWord text w) d fl (looks-wrong (row-about 6 (held text rows n) (asWord text w)) looks z)))
 
   pub update-chooses : fl ≡ 0 → row < n → (getD rows (8 * row + 7) 0 ≡ 0 → ⊥) → Stopped 5 (w .start) (w .len) r
       → RestDone ConstantIn (λ p names rs. updateOf p names rs (asWord text w)) text rows n (w .next) cs c cs r
@@ -398,7 +399,7 @@ module _ {text rows : List ℕ} {n : ℕ} {cs : List ℕ} {c : ℕ} {r : Built} 
       none-of (inr e) p q = not-here text (w .next) 259 v h q e
 
       go : (p : Program) (names : Names) (rs : List KnownRule) → Agrees p names rs (held text rows n) → (o : Option Word) (ws : List Word) → ValueIn (wordsAt text (w .next)) ws o
-          → PlainEnds text ws cs c cs′ r (giveOf p names rs (givesOf (held text rows n) class) (asWord text w) o)
+          → PlainEnds (PairsAre text rows n p names) text ws cs c cs′ r (giveOf p names rs (givesOf (held text rows n) class) (asWord text w) o)
       go p names rs ag none ws (no-value a b e) = absurd (none-of k a b)
       go p names rs ag (some u) ws (a-value t) = d .done p names rs ag u ws t
 
@@ -449,7 +450,7 @@ exit-goes {text} {rows} {n} {cs} {cs′} {c} {r} b w lies e a f i past exits = r
   same = appends-length a;
   low = λ z. omega arith;
   high = λ z. omega (arith, lies .high);
-  done = λ p names rs ag u ws t. ends-by (ap (λ (b : Bool). if b then good exit else wrong 7 (asWord text w)) e) (ended f (t ∙ ap (wordsAt text) (sym i)) a (past, exits));
+  done = λ p names rs ag u ws t. ends-by (ap (λ (b : Bool). if b then good exit else wrong 7 (asWord text w)) e) (ended f (t ∙ ap (wordsAt text) (sym i)) (λ _. a) (past, exits));
 }
 
 pub exit-stops : {text rows : List ℕ} {n : ℕ} {cs : List ℕ} {c : ℕ} {r : Built} (b : Bool) (w : WordAt) → Lies text w → b ≡ false → Stopped 7 (w .start) (w .len) r

@@ -9,8 +9,9 @@ use Rattle.base.specs.Common.{if_then_else_, member}
 use Rattle.cells.specs.Cells.{plainCells, selectorCells, absentCell}
 use Rattle.declarations.specs.Decls.{Decl, Agrees, knownsIn, lookupIn, membersOf}
 use Rattle.grammar.specs.Derived.{Took, Reference, ConstantIn, ValueIn}
+use Rattle.maker.specs.Pairs.{PairsAre}
 use Rattle.names.specs.Known.{Checked, good, wrong, _>>=_, faultIf, Known, KnownRule, Names}
-use Rattle.names.specs.Resolve.{Place, Chooses, choosing, parameterOf, updateOf, matchOf, giveOf, plainOf, selectorOf}
+use Rattle.names.specs.Resolve.{Place, Chooses, choosing, parameterOf, updateOf, matchOf, giveOf, rankedOf, plainOf, selectorOf}
 use Rattle.program.specs.Past.{plainPast, isExit}
 use Rattle.program.specs.Program.{Plain, any, exit}
 use Rattle.resolver.specs.declared.Built.{Built}
@@ -44,9 +45,9 @@ pub record Stopped (f i l : ℕ) (r : Built) : Type 0 where
   pub at : r .done .at ≡ i
   pub len : r .done .len ≡ l
 
-abbrev pub PlainEnds : List ℕ → List Word → List ℕ → ℕ → List ℕ → Built → Checked Plain → Type 0
-PlainEnds text ws cs c cs′ r m =
-    Ends text ws cs c cs′ (λ b. plainCells b []) (λ b. Flags (r .past) (r .exits) (plainPast b) (isExit b)) (r .done) m
+abbrev pub PlainEnds : Type 0 → List ℕ → List Word → List ℕ → ℕ → List ℕ → Built → Checked Plain → Type 0
+PlainEnds E text ws cs c cs′ r m =
+    Ends E text ws cs c cs′ (λ b. plainCells b []) (λ b. Flags (r .past) (r .exits) (plainPast b) (isExit b)) (r .done) m
 
 -- the rest of a plain action, from the place `from` on: `In` says which words it is read from, `outcome` what it comes to
 pub record RestDone {A : Type 0} (In : List Word → List Word → A → Type 0) (outcome : Program → Names → List KnownRule → A → Checked Plain)
@@ -55,7 +56,7 @@ pub record RestDone {A : Type 0} (In : List Word → List Word → A → Type 0)
   pub low : r .done .fault ≡ 0 → from ≤ r .done .at
   pub high : r .done .fault ≡ 0 → r .done .at ≤ length text
   pub done : (p : Program) (names : Names) (rs : List KnownRule) → Agrees p names rs (held text rows n)
-      → (a : A) (ws : List Word) → In (wordsAt text from) ws a → PlainEnds text ws cs c cs′ r (outcome p names rs a)
+      → (a : A) (ws : List Word) → In (wordsAt text from) ws a → PlainEnds (PairsAre text rows n p names) text ws cs c cs′ r (outcome p names rs a)
 
 -- no more words
 abbrev pub NothingIn : List Word → List Word → Unit {0} → Type 0
@@ -66,6 +67,10 @@ ReferenceIn ws ws′ w = Reference ws w ws′
 
 abbrev pub NameIn : List Word → List Word → Word → Type 0
 NameIn ws ws′ w = Took 257 ws w ws′
+
+-- a section's name, `@` and a rule's name
+pub data RankedIn (ws ws′ : List Word) (x : Word × Word) : Type 0 where
+  ranked-words : {at : Word} {ws₁ ws₂ : List Word} → Took 257 ws (x .0) ws₁ → Took 64 ws₁ at ws₂ → Took 257 ws₂ (x .1) ws′ → RankedIn ws ws′ x
 
 -- what f makes of a value
 abbrev pub valued : {B : Type 0} → (ℕ → B) → Checked ℕ → Checked B
@@ -92,6 +97,10 @@ anyOf p names rs _ = good any
 
 abbrev pub exitOf : Bool → Word → Program → Names → List KnownRule → Unit {0} → Checked Plain
 exitOf inside w p names rs _ = if inside then good exit else wrong 7 w
+
+-- `^`, the word s, with a section's and a rule's name
+abbrev pub byRank : Word → Program → Names → List KnownRule → Word × Word → Checked Plain
+byRank s p names rs x = rankedOf p names rs s (x .0) (x .1)
 
 -- the rest of each plain action, whose first word is w
 
@@ -122,6 +131,9 @@ AnyDone w text rows n cs c cs′ r = RestDone NothingIn anyOf text rows n (w .ne
 
 abbrev pub ExitDone : WordAt → Bool → List ℕ → List ℕ → ℕ → List ℕ → ℕ → List ℕ → Built → Type 0
 ExitDone w inside text rows n cs c cs′ r = RestDone NothingIn (exitOf inside (asWord text w)) text rows n (w .next) cs c cs′ r
+
+abbrev pub RankedDone : WordAt → List ℕ → List ℕ → ℕ → List ℕ → ℕ → List ℕ → Built → Type 0
+RankedDone w text rows n cs c cs′ r = RestDone RankedIn (byRank (asWord text w)) text rows n (w .next) cs c cs′ r
 
 -- Parameters
 
@@ -183,8 +195,8 @@ pub record Balked (f i l : ℕ) (r : Selected) : Type 0 where
   pub at : r .done .at ≡ i
   pub len : r .done .len ≡ l
 
-abbrev pub SelectorEnds : List ℕ → List ℕ → ℕ → List Word → List ℕ → ℕ → List ℕ → Selected → Checked Chooses → Type 0
-SelectorEnds text rows n ws cs c cs′ r m = Ends text ws cs c cs′ (λ x. selectorCells (x .by) [])
+abbrev pub SelectorEnds : Type 0 → List ℕ → List ℕ → ℕ → List Word → List ℕ → ℕ → List ℕ → Selected → Checked Chooses → Type 0
+SelectorEnds E text rows n ws cs c cs′ r m = Ends E text ws cs c cs′ (λ x. selectorCells (x .by) [])
     (λ x. (x .labels ≡ knownsIn (r .class) (held text rows n)) × (r .absent ≡ absentCell (x .by))) (r .done) m
 
 -- the rest of a selector, from the place `from` on
@@ -194,7 +206,7 @@ pub record ChoiceDone {A : Type 0} (In : List Word → List Word → A → Type 
   pub low : r .done .fault ≡ 0 → from ≤ r .done .at
   pub high : r .done .fault ≡ 0 → r .done .at ≤ length text
   pub done : (p : Program) (names : Names) (rs : List KnownRule) → Agrees p names rs (held text rows n)
-      → (a : A) (ws : List Word) → In (wordsAt text from) ws a → SelectorEnds text rows n ws cs c cs′ r (outcome p names rs a)
+      → (a : A) (ws : List Word) → In (wordsAt text from) ws a → SelectorEnds (PairsAre text rows n p names) text rows n ws cs c cs′ r (outcome p names rs a)
 
 abbrev pub byRuleOf : Program → Names → List KnownRule → Word → Checked Chooses
 byRuleOf p names rs w = selectorOf p names rs (written.byRule w)

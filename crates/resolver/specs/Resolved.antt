@@ -10,6 +10,7 @@ use Rattle.base.specs.Common.{member}
 use Rattle.cells.specs.Cells.{plainCells, selectorCells, absentCell}
 use Rattle.declarations.specs.Decls.{Agrees, knownsIn}
 use Rattle.grammar.specs.Derived.{PlainIn, SelectorIn, LabelsIn}
+use Rattle.maker.specs.Pairs.{PairsAre}
 use Rattle.names.specs.Known.{Checked, good, wrong, KnownRule, Names}
 use Rattle.names.specs.Resolve.{Place, Chooses, plainOf, selectorOf, labelsOf}
 use Rattle.program.specs.Past.{plainPast, isExit}
@@ -27,10 +28,11 @@ pub record Appends (cs : List ℕ) (c : ℕ) (xs cs′ : List ℕ) (c′ : ℕ) 
   pub cells : cs′ ≡ sets cs c xs
   pub count : c′ ≡ min (suc (length cs)) (c + length xs)
 
--- the code's answer tells a check's outcome: the words left, the cells of the value and what P says of it, or the fault at its word
-pub data Ends {B : Type 0} (text : List ℕ) (ws : List Word) (cs : List ℕ) (c : ℕ) (cs′ : List ℕ) (cellsOf : B → List ℕ) (P : B → Type 0) (r : Done) : Checked B → Type 0 where
-  ended : {b : B} → r .fault ≡ 0 → ws ≡ wordsAt text (r .at) → Appends cs c (cellsOf b) cs′ (r .count) → P b → Ends text ws cs c cs′ cellsOf P r (good b)
-  failed : {n : ℕ} {w : Word} → r .fault ≡ n → (n ≡ 0 → ⊥) → r .at ≡ w .start → r .len ≡ length (w .text) → Ends text ws cs c cs′ cellsOf P r (wrong n w)
+-- the code's answer tells a check's outcome: the words left, the cells of the value and what P says of it, or the fault at its word. The cells rest on E: a
+-- `^` is the call of a rule made for it, and where that stands the rows say, if they hold the text's pairs
+pub data Ends {B : Type 0} (E : Type 0) (text : List ℕ) (ws : List Word) (cs : List ℕ) (c : ℕ) (cs′ : List ℕ) (cellsOf : B → List ℕ) (P : B → Type 0) (r : Done) : Checked B → Type 0 where
+  ended : {b : B} → r .fault ≡ 0 → ws ≡ wordsAt text (r .at) → (E → Appends cs c (cellsOf b) cs′ (r .count)) → P b → Ends E text ws cs c cs′ cellsOf P r (good b)
+  failed : {n : ℕ} {w : Word} → r .fault ≡ n → (n ≡ 0 → ⊥) → r .at ≡ w .start → r .len ≡ length (w .text) → Ends E text ws cs c cs′ cellsOf P r (wrong n w)
 
 -- whether an action goes past itself, and whether it is an exit
 abbrev pub Flags : Bool → Bool → Bool → Bool → Type 0
@@ -42,7 +44,7 @@ pub record PlainDone (text rows : List ℕ) (n at : ℕ) (inside : Bool) (class 
   pub moves : r .done .fault ≡ 0 → at < r .done .at
   pub high : r .done .fault ≡ 0 → r .done .at ≤ length text
   pub done : (p : Program) (names : Names) (rs : List KnownRule) → Agrees p names rs (held text rows n) → (a : written.Plain) (ws : List Word) → PlainIn (wordsAt text at) ws a
-      → Ends text ws cs c cs′ (λ b. plainCells b []) (λ b. Flags (r .past) (r .exits) (plainPast b) (isExit b)) (r .done)
+      → Ends (PairsAre text rows n p names) text ws cs c cs′ (λ b. plainCells b []) (λ b. Flags (r .past) (r .exits) (plainPast b) (isExit b)) (r .done)
       (plainOf p names rs (record { inside = inside; gives = givesOf (held text rows n) class }) a)
 
 -- a selector: the class of the choice's labels, and the cell that stands for no otherwise
@@ -51,7 +53,7 @@ pub record SelectorDone (text rows : List ℕ) (n at : ℕ) (cs : List ℕ) (c :
   pub low : r .done .fault ≡ 0 → at ≤ r .done .at
   pub high : r .done .fault ≡ 0 → r .done .at ≤ length text
   pub done : (p : Program) (names : Names) (rs : List KnownRule) → Agrees p names rs (held text rows n) → (s : written.Selector) (ws : List Word) → SelectorIn (wordsAt text at) ws s
-      → Ends text ws cs c cs′ (λ x. selectorCells (x .by) []) (λ x. (x .labels ≡ knownsIn (r .class) (held text rows n)) × (r .absent ≡ absentCell (x .by))) (r .done)
+      → Ends (PairsAre text rows n p names) text ws cs c cs′ (λ x. selectorCells (x .by) []) (λ x. (x .labels ≡ knownsIn (r .class) (held text rows n)) × (r .absent ≡ absentCell (x .by))) (r .done)
       (selectorOf p names rs s)
 
 -- the values of an alternative's labels stand behind the first `used` of the choice's

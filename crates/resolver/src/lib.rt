@@ -6,7 +6,7 @@ ghost use lib.ListN.{length, getD, take};
 ghost use Rattle.base.specs.Common.{member};
 ghost use Rattle.declarations.specs.Decls.{classNamed};
 ghost use Rattle.program.specs.Program.{Plain};
-ghost use Rattle.resolver.specs.Parts.{Lies, Went, Stopped, RestDone, NameIn, Sends, MatchDone, UpdateDone, NamedDone, SentDone, callOf, GivenDone, GiveDone, AnyDone, ExitDone};
+ghost use Rattle.resolver.specs.Parts.{Lies, Went, Stopped, RestDone, NameIn, Sends, MatchDone, UpdateDone, NamedDone, SentDone, callOf, GivenDone, GiveDone, AnyDone, ExitDone, RankedDone};
 ghost use Rattle.resolver.specs.Parts.{operationCells, Misfit, ValueDone, OperandDone, Chose, Balked, ChoiceDone, byRuleOf, WithDone, ByOperationDone, Mislabel, LabelDone};
 ghost use Rattle.resolver.specs.Resolved.{Appends, PlainDone, SelectorDone, LabelsDone};
 ghost use Rattle.symbols.specs.Index.{Kept};
@@ -74,7 +74,7 @@ pub fn put(cells: &mut [u16], count: usize, x: u16) -> usize
     cells.len() + 1
 }
 
-fn put_two(cells: &mut [u16], count: usize, x: u16, y: usize) -> usize
+pub fn put_two(cells: &mut [u16], count: usize, x: u16, y: usize) -> usize
     requires { ⌜ y < 65536 ⌝ }
     ensures { λ r. ⌜ Appends (now (cells .entry)) count (x ∷ y ∷ []) (now (cells .exit)) r ⌝ }
 {
@@ -361,6 +361,39 @@ fn resolve_call(
     went(w.next, c, true)
 }
 
+// A section's name and a procedure rule's after `^`, the word w: a call of the lowest rule that is made for the two.
+fn resolve_ranked(
+    text: &[u8],
+    rows: &[u16],
+    n: usize,
+    w: WordAt,
+    cells: &mut [u16],
+    count: usize,
+) -> Built
+    requires { ⌜ Lies (now text) w × Kept (now text) (now rows) n ⌝ }
+    ensures { λ r. ⌜ RankedDone w (now (text .entry)) (now (rows .entry)) n (now (cells .entry)) count (now (cells .exit)) r ⌝ }
+{
+    let s = scanner::next_word(text, w.next);
+    let section = symbols::operators_of(text, rows, n, s.start, s.len);
+    if section.fault != 0 {
+        return stopped(section.fault, s.start, s.len);
+    }
+    let a = scanner::next_word(text, s.next);
+    let o = scanner::next_word(text, a.next);
+    let operand = symbols::rule_of(text, rows, n, o.start, o.len);
+    if operand.fault != 0 {
+        return stopped(operand.fault, o.start, o.len);
+    }
+    let row = operand.value;
+    let valued = symbols::number(rows, 8 * row + 7);
+    if valued != 0 {
+        return stopped(5, o.start, o.len);
+    }
+    let lowest = maker::lowest(rows, section.value, row);
+    let c = put_two(cells, count, 8, lowest);
+    went(o.next, c, true)
+}
+
 // The value after `>>`, the word w.
 fn give_value(
     text: &[u8],
@@ -462,6 +495,7 @@ pub fn resolve_plain(
         62 => resolve_exit(w, inside, cells, count),
         64 => resolve_call(text, rows, n, w.next, cells, count),
         256 => resolve_give(text, rows, n, w, class, cells, count),
+        94 => resolve_ranked(text, rows, n, w, cells, count),
         _ => stopped(2, w.start, w.len),
     }
 }

@@ -2,7 +2,7 @@
 use mathlib.Core.Path.{refl}
 use native.Mathlib.Omega.{arith}
 use Rattle.program.specs.Program.{emit, error}
-use Rattle.resolver.proofs.Plains.{lies-here, emit-sends, error-sends, first-name, first-string, first-any, first-emit, first-error, first-exit, first-call, first-give, first-none}
+use Rattle.resolver.proofs.Plains.{lies-here, emit-sends, error-sends, first-name, first-string, first-any, first-emit, first-error, first-exit, first-call, first-give, first-ranked, first-none}
 use borrow.Author.Needs.{needs}
 use Rattle.resolver.proofs.resolve_plain.Statement.{statement}
 use Rattle.resolver.proofs.resolve_plain.Tie as tie
@@ -33,6 +33,9 @@ resolve-call-requires c κs = (c .before .before .next-word .ensures .high (c .b
 
 resolve-give-requires : tie.Need-resolve-give-requires
 resolve-give-requires c κs = (lies-here (c .before .before .next-word .ensures) (c .before .before .before .before .before .before .pre .0), c .before .before .before .before .before .before .pre .1)
+
+resolve-ranked-requires : tie.Need-resolve-ranked-requires
+resolve-ranked-requires c κs = (lies-here (c .before .before .next-word .ensures) (c .before .before .before .before .before .before .pre .0), c .before .before .before .before .before .before .pre .1)
 
 stopped-requires : tie.Need-stopped-requires
 stopped-requires c κs = search needs
@@ -85,8 +88,14 @@ same-length-8 c = search needs
 returns-8 : tie.Need-returns-8
 returns-8 c = first-give _ _ _ (c .before .before .before .before .before .next-word .ensures) (c .before .before .before .before .match .keys8) (c .before .before .resolve-give .ensures)
 
+same-length-9 : tie.Need-same-length-9
+same-length-9 c = search needs
+
 returns-9 : tie.Need-returns-9
-returns-9 c = first-none _ _ _ (c .before .before .next-word .ensures) 2 (λ e. omega arith) refl (c .stopped .ensures .fault) (c .before .match .rest .0 .0 .0 .0 .0 .0 .0 .1) (c .before .match .rest .0 .0 .0 .0 .0 .0 .1) (c .before .match .rest .0 .0 .0 .0 .0 .1) (c .before .match .rest .0 .0 .0 .0 .1) (c .before .match .rest .0 .0 .0 .1) (c .before .match .rest .0 .0 .1) (c .before .match .rest .0 .1) (c .before .match .rest .1)
+returns-9 c = first-ranked _ _ _ (c .before .before .before .before .before .next-word .ensures) (c .before .before .before .before .match .keys9) (c .before .before .resolve-ranked .ensures)
+
+returns-10 : tie.Need-returns-10
+returns-10 c = first-none _ _ _ (c .before .before .next-word .ensures) 2 (λ e. omega arith) refl (c .stopped .ensures .fault) (c .before .match .rest .0 .0 .0 .0 .0 .0 .0 .0 .1) (c .before .match .rest .0 .0 .0 .0 .0 .0 .0 .1) (c .before .match .rest .0 .0 .0 .0 .0 .0 .1) (c .before .match .rest .0 .0 .0 .0 .0 .1) (c .before .match .rest .0 .0 .0 .0 .1) (c .before .match .rest .0 .0 .0 .1) (c .before .match .rest .0 .0 .1) (c .before .match .rest .0 .1) (c .before .match .rest .1)
 
 pub resolve-plain-spec : {M : Type 1} → statement M
 resolve-plain-spec =
@@ -101,6 +110,7 @@ resolve-plain-spec =
     resolve-exit-requires
     resolve-call-requires
     resolve-give-requires
+    resolve-ranked-requires
     stopped-requires
     same-length
     returns
@@ -118,4 +128,6 @@ resolve-plain-spec =
     returns-7
     same-length-8
     returns-8
-    returns-9)
+    same-length-9
+    returns-9
+    returns-10)

@@ -1,0 +1,3 @@
+pub mod LevelCells
+pub mod Making
+pub mod Naming

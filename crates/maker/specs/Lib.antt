@@ -1,0 +1,4 @@
+pub mod Marks
+pub mod Pairs
+pub mod Ranks
+pub mod Pairing
