@@ -1,18 +1,24 @@
--- A choice that was read has at most 64 labels, one or more in each alternative, and so has what it means.
+-- A choice that was read has at most 64 labels, one or more in each alternative, and so has what it means; so has each choice of a rule made.
 use mathlib.Core.List.{List, [], _∷_, _++_}
-use mathlib.Core.Bool.{Bool, false, _&&_}
+use mathlib.Core.Bool.{Bool, true, false, _&&_}
 use mathlib.Core.Path.{_≡_, refl}
 use Prim.Native.Nat.{ℕ, zero, suc, _+_, _<_, _≤_}
 use lib.ListN.{length}
 use native.Mathlib.Omega.{arith}
+use Rattle.acceptance.proofs.Accepts.{at-place}
 use Rattle.acceptance.proofs.CheckLaws.{Yields, yields, never, next, passed, Any, any}
+use Rattle.acceptance.proofs.NamesOk.{each-append}
+use Rattle.acceptance.proofs.Shape.{Each}
+use Rattle.acceptance.proofs.Used.{made-each}
 use Rattle.base.specs.Common.{given, member}
 use Rattle.base.specs.Tree.{Action, plain, cycle, choice, Actions, done, _▸_, Alternatives, nil, alternative, Otherwise, absent, otherwise}
 use Rattle.emitter.specs.Emitted.{FewLabels, FewLabelsAll, FewLabelsAlts, FewLabelsOther}
 use Rattle.grammar.specs.Labels.{labelled, Labelled, LabelledAll, LabelledAlts, LabelledOther, LabelledRules}
-use Rattle.names.specs.Known.{Checked, Known, KnownRule, Names, optionalType, lookup}
+use Rattle.names.specs.Known.{Checked, good, Known, KnownRule, Names, optionalType, lookup}
 use Rattle.names.specs.Resolve.{Place, within, plainOf, selectorOf, labelsOf, actOf, actsOf, altsOf, otherOf}
 use Rattle.names.specs.Understand.{taken, isFirst, ruleMeans, rulesMean}
+use Rattle.names.specs.Uses.{Use, madeFor}
+use Rattle.program.specs.Made.{Operator, Level, operatorAlts, levelBody, levelRule}
 use Rattle.program.specs.Past.{pastAll}
 use Rattle.program.specs.Program as means
 use Rattle.program.specs.Program.{Rule, ruleOf, bodyOf}
@@ -79,20 +85,16 @@ module _ (p : Program) (n : Names) (rules : List KnownRule) where
     other-few (otherwise b) at s =
         next OtherFew ActsFew (actsOf p n rules b at) _ (acts-few b at s) (λ d hd. yields OtherFew (otherwise d) hd)
 
-unfoldable FewEach : List Rule → Type 0
-FewEach [] = Unit {0}
-FewEach (m ∷ ms) = ActsFew (m .body) × FewEach ms
-
 abbrev FewIn : Rule → Type 0
 FewIn m = ActsFew (m .body)
 
 -- as many rules as were written, each with few labels
 record FewRules (rs : List written.Rule) (ms : List Rule) : Type 0 where
   count : length ms ≡ length rs
-  few : FewEach ms
+  few : Each FewIn ms
 
 rules-few : (p : Program) (n : Names) (ks : List KnownRule) (seen : List (List ℕ)) (rs : List written.Rule) → LabelledRules rs → Yields (FewRules rs) (rulesMean p n ks seen rs)
-unfolding rulesMean ruleMeans FewEach LabelledRules
+unfolding rulesMean ruleMeans Each LabelledRules
 rules-few p n ks seen [] h = yields (FewRules []) [] (record { count = refl; few = tt })
 rules-few p n ks seen (r ∷ rs) h =
     next (FewRules (r ∷ rs)) FewIn (ruleMeans p n ks seen r) _
@@ -105,17 +107,37 @@ rules-few p n ks seen (r ∷ rs) h =
     (λ m hm. next (FewRules (r ∷ rs)) (FewRules rs) (rulesMean p n ks (r .rule .text ∷ seen) rs) _ (rules-few p n ks (r .rule .text ∷ seen) rs (h .1))
     (λ ms hs. yields (FewRules (r ∷ rs)) (m ∷ ms) (record { count = omega (arith, hs .count); few = (hm, hs .few) })))
 
-few-at : (ms : List Rule) → FewEach ms → (r : ℕ) → r < length ms → ActsFew (bodyOf ms r)
-unfolding FewEach ruleOf bodyOf
-few-at [] h r l = absurd (omega arith)
-few-at (m ∷ ms) h zero l = h .0
-few-at (m ∷ ms) h (suc r) l = few-at ms (h .1) r (omega arith)
+-- The rules made
+
+operators-few : (c : ℕ) (os : List Operator) → (verdict.labelled (operatorAlts c os) ≡ length os) × FewLabelsAlts (operatorAlts c os) × FewSome (operatorAlts c os)
+unfolding operatorAlts verdict.labelled FewLabels Few
+operators-few c [] = (refl, tt, tt)
+operators-few c (o ∷ os) = let h = operators-few c os in (omega (arith, h .0), (omega arith, omega arith, (tt, (tt, tt)), h .1), ((tt, (tt, tt)), h .2))
+
+level-few : (l : Level) (own higher : ℕ) → length (l .operators) ≤ 64 → FewIn (levelRule l own higher)
+unfolding levelRule levelBody FewLabels Few
+level-few l own higher h = go (l .right)
+  where
+    go : (b : Bool) → ActsFew (levelBody b own higher (l .operators))
+    go false =
+        let x = operators-few higher (l .operators) in
+        ((tt, (((x .1, (tt, tt)), tt), tt)), (tt, (((omega (arith, x .0, h), x .2, (tt, tt)), tt), tt)))
+    go true =
+        let x = operators-few own (l .operators) in
+        ((tt, ((x .1, tt), tt)), (tt, ((omega (arith, x .0, h), x .2, tt), tt)))
 
 -- the rules of a program that was read and understood
-pub record Meant (rs : List written.Rule) (prog : List Rule) : Type 0 where
-  pub count : length prog ≡ length rs
+pub record Meant (prog : List Rule) : Type 0 where
   pub labels : (r : ℕ) → r < length prog → FewLabelsAll (bodyOf prog r)
   pub choices : (r : ℕ) → r < length prog → FewAll (bodyOf prog r)
 
-pub meant : (p : Program) (n : Names) (ks : List KnownRule) (seen : List (List ℕ)) (rs : List written.Rule) → LabelledRules rs → Yields (Meant rs) (rulesMean p n ks seen rs)
-meant p n ks seen rs h prog e = let x = rules-few p n ks seen rs h prog e in record { count = x .count; labels = λ r l. few-at prog (x .few) r l .0; choices = λ r l. few-at prog (x .few) r l .1 }
+pub meant-count : (p : Program) (n : Names) (ks : List KnownRule) (seen : List (List ℕ)) (rs : List written.Rule) → LabelledRules rs → Yields (λ own. length own ≡ length rs) (rulesMean p n ks seen rs)
+meant-count p n ks seen rs h own e = rules-few p n ks seen rs h own e .count
+
+-- those written and those made behind them
+pub meant : (p : Program) (n : Names) (ks : List KnownRule) (seen : List (List ℕ)) (rs : List written.Rule) (others at : ℕ) (us : List Use) → LabelledRules rs
+    → (own made : List Rule) → rulesMean p n ks seen rs ≡ good own → madeFor n ks others at us ≡ good made → Meant (own ++ made)
+unfolding bodyOf
+meant p n ks seen rs others at us h own made e f =
+    let all : Each FewIn (own ++ made) = each-append FewIn own made (rules-few p n ks seen rs h own e .few) (made-each FewIn level-few n ks others at us made f) in
+    record { labels = λ r l. at-place FewIn (own ++ made) all r l .0; choices = λ r l. at-place FewIn (own ++ made) all r l .1 }

@@ -21,7 +21,7 @@ pub record Meant (text rows cells starts sorts : List ℕ) (r : Resolved) (p : P
   pub prog : List Rule
   pub means : understand p ≡ good prog
   pub ready : Ready cells starts sorts (r .rules) (r .cells) prog
-  pub rowed : Rowed text rows (r .first) (r .rules) p
+  pub rowed : Rowed text rows r p
 
 pub its-meaning : {text rows cells starts sorts : List ℕ} {r : Resolved} {p : Program} → Resolves text rows cells starts sorts r p (understand p) → r .fault ≡ 0
     → Meant text rows cells starts sorts r p

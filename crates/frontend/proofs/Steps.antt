@@ -4,9 +4,10 @@ use mathlib.Core.Path.{_≡_, refl, sym, ap, _∙_}
 use Prim.Native.Nat.{ℕ}
 use lib.ListN.{length}
 use Rattle.acceptance.proofs.Accepts.{understood-accepted}
-use Rattle.names.specs.Declare.{declareSections, knownRules}
+use Rattle.frontend.specs.Resolving.{rulesBy}
+use Rattle.names.specs.Declare.{declareSections}
 use Rattle.names.specs.Known.{good, wrong, Names}
-use Rattle.names.specs.Understand.{nobody, rulesMean, understand}
+use Rattle.names.specs.Understand.{nobody, understand}
 use Rattle.processor.specs.Process.{refused, meaning, partOf, checked, readIn, understood, answerFor, process}
 use Rattle.program.specs.Accepted.{Accepted}
 use Rattle.program.specs.Program.{Rule}
@@ -54,7 +55,7 @@ pub understand-wrong : (p : Program) (n : ℕ) (w : Word) → declareSections p 
 unfolding understand
 understand-wrong p n w e = rw e refl
 
-pub understand-good : (p : Program) (n : Names) → declareSections p (p .sections) nobody ≡ good n → understand p ≡ rulesMean p n (knownRules 0 (p .rules)) [] (p .rules)
+pub understand-good : (p : Program) (n : Names) → declareSections p (p .sections) nobody ≡ good n → understand p ≡ rulesBy p n
 unfolding understand
 understand-good p n e = rw e refl
 
@@ -68,6 +69,6 @@ checked-good text room prog = refl
 
 -- whatever the rules mean is an accepted program
 pub rules-accepted : (text : List ℕ) (p : Program) (ws : List Word) (n : Names) → parse text ≡ got p ws → declareSections p (p .sections) nobody ≡ good n
-    → (prog : List Rule) → rulesMean p n (knownRules 0 (p .rules)) [] (p .rules) ≡ good prog → Accepted prog
+    → (prog : List Rule) → rulesBy p n ≡ good prog → Accepted prog
 unfolding checked
 rules-accepted text p ws n e d prog m = understood-accepted text prog (understood-read text p ws e ∙ ap checked (understand-good p n d ∙ m))

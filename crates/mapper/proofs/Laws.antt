@@ -19,6 +19,7 @@ use Rattle.symbols.specs.Search.{part}
 use Rattle.syntax.specs.Written as written
 use Rattle.syntax.specs.Written.{Program}
 use Rattle.frontend.specs.Resolving.{Rowed}
+use Rattle.frontend.specs.declared.Resolved.{Resolved}
 
 -- Words behind words
 
@@ -44,12 +45,12 @@ length-row : (r : Row) → length (rowWords r) ≡ 12
 unfolding rowWords words64
 length-row r = refl
 
-length-rows : (rs : List Row) → length (rowsWords rs) ≡ 12 * length rs
+pub length-rows : (rs : List Row) → length (rowsWords rs) ≡ 12 * length rs
 unfolding rowsWords
 length-rows [] = refl
 length-rows (r ∷ rs) = omega (arith, length-append (rowWords r) (rowsWords rs), length-row r, length-rows rs)
 
-one-more : (rs : List Row) (r : Row) → rowsWords (rs ++ (r ∷ [])) ≡ rowsWords rs ++ rowWords r
+pub one-more : (rs : List Row) (r : Row) → rowsWords (rs ++ (r ∷ [])) ≡ rowsWords rs ++ rowWords r
 unfolding rowsWords
 one-more [] r = append-nil (rowWords r)
 one-more (x ∷ rs) r = ap (λ (z : List ℕ). rowWords x ++ z) (one-more rs r) ∙ sym (append-assoc (rowWords x) (rowsWords rs) (rowWords r))
@@ -136,13 +137,6 @@ module _ (text rows places : List ℕ) where
       further : (j : ℕ) → getD places (k + suc j) 0 ≡ place 1 prog (k + suc j) → getD places (suc k + j) 0 ≡ place 1 prog (suc k + j)
       further j q = let b : k + suc j ≡ suc k + j = omega arith in rw b at q
 
-  held-count : (k i m : ℕ) (rs : List written.Rule) → heldFrom text rows i m ≡ ruleDecls k rs → m ≡ length rs
-  unfolding heldFrom ruleDecls
-  held-count k i zero [] e = refl
-  held-count k i zero (r ∷ rs) e = absurd (nothing e)
-  held-count k i (suc m) [] e = absurd (nothing (sym e))
-  held-count k i (suc m) (r ∷ rs) e = ap suc (held-count (suc k) (suc i) m rs (rest e))
-
   -- m declarations are left behind those of the sections
   behind : (i n : ℕ) (ds es : List Decl) → heldFrom text rows i n ≡ ds ++ es → (m : ℕ) × (n ≡ length ds + m) × (heldFrom text rows (i + length ds) m ≡ es)
   unfolding heldFrom
@@ -154,20 +148,17 @@ module _ (text rows places : List ℕ) where
       (x .0, omega (arith, x .1), rw a at (x .2))
 
 -- the rules' declarations have their place among the 512
-pub inside : {text rows : List ℕ} {first rules : ℕ} {p : Program} → Rowed text rows first rules p → first + rules ≤ 512
-unfolding held declsOf
-inside {text} {rows} {first} {rules} {p} h =
-    let x = behind text rows [] 0 (h .count) (sectionsDecls 0 (p .sections)) (ruleDecls 0 (p .rules)) (h .held-are) in
-    omega (arith, x .1, h .small, h .first-is, h .number, held-count text rows [] 0 (0 + length (sectionsDecls 0 (p .sections))) (x .0) (p .rules) (x .2))
+pub inside : {text rows : List ℕ} {b : Resolved} {p : Program} → Rowed text rows b p → b .first + b .written ≤ 512
+inside h = omega (arith, h .known .small, h .known .count, h .number)
 
--- what stands in the buffers is the map
-pub held-map : {text rows : List ℕ} {first rules : ℕ} {p : Program} (places : List ℕ) (prog : List Rule) → Rowed text rows first rules p
-    → ((j : ℕ) → j < rules → getD places j 0 ≡ place 1 prog j) → heldRows text rows places first 0 rules ≡ rowsFrom prog 0 (p .rules)
+-- what stands in the buffers is the map of the rules written
+pub held-map : {text rows : List ℕ} {b : Resolved} {p : Program} (places : List ℕ) (prog : List Rule) → Rowed text rows b p
+    → ((j : ℕ) → j < b .written → getD places j 0 ≡ place 1 prog j) → heldRows text rows places (b .first) 0 (b .written) ≡ rowsFrom prog 0 (p .rules)
 unfolding held declsOf
-held-map {text} {rows} {first} {rules} {p} places prog h f =
-    let x = behind text rows places 0 (h .count) (sectionsDecls 0 (p .sections)) (ruleDecls 0 (p .rules)) (h .held-are) in
-    let n : rules ≡ length (p .rules) = h .number in
-    let i : first ≡ 0 + length (sectionsDecls 0 (p .sections)) = omega (arith, h .first-is) in
+held-map {text} {rows} {b} {p} places prog h f =
+    let x = behind text rows places 0 (b .declared) (sectionsDecls 0 (p .sections)) (ruleDecls 0 (p .rules)) (h .known .held-are) in
+    let n : b .written ≡ length (p .rules) = h .number in
+    let i : b .first ≡ 0 + length (sectionsDecls 0 (p .sections)) = omega (arith, h .known .first-is) in
     rw (n, i) (held-rules text rows places prog 0 (0 + length (sectionsDecls 0 (p .sections))) (x .0) (p .rules) (x .2) (λ j l. further j (f j (omega (arith, n, l)))))
   where
     further : (j : ℕ) → getD places j 0 ≡ place 1 prog j → getD places (0 + j) 0 ≡ place 1 prog (0 + j)

@@ -1,11 +1,14 @@
-// The map of a text's rules, in a lent buffer: a row for each, in text order.
+// The map of a text's rules, in a lent buffer: a row for each, in text order, and behind them those made for operators.
 ghost use mathlib.Core.Path.{_≡_};
-ghost use Prim.Native.Nat.{_+_, _*_, _<_, _≤_};
+ghost use Prim.Native.Nat.{_+_, _*_, _-_, _<_, _≤_};
 ghost use lib.ListN.{length};
 ghost use Rattle.machine.specs.Bytes.{bytesOf, over};
 ghost use Rattle.mapping.specs.Mapping.{rowWords, rowsWords, roomIn, mapRules};
 ghost use Rattle.frontend.specs.Resolving.{IsRead};
-ghost use Rattle.mapper.specs.Mapped.{Puts, heldRows, Maps, Holds, MapsHeld};
+ghost use Rattle.mapper.specs.Mapped.{Puts, heldRows, levelsHeld, EndOf, MadePut, Maps, Holds, Placed, MapsHeld};
+ghost use Rattle.symbols.specs.Index.{Kept};
+use frontend::Resolved;
+use levels::Part;
 
 // A row: three numbers of 64 bits.
 const ROW_BYTES: usize = 24;
@@ -18,6 +21,11 @@ const DECLARATION: usize = 8;
 const NAME_START: usize = 2;
 
 const NAME_LEN: usize = 3;
+
+// Where the number of pairs of section and operand rule stands in the rows; the numbers of a pair behind it: section, operand rule, lowest rule.
+const PAIRS: usize = 5632;
+
+const PAIR: usize = 3;
 
 // The most words that a table has.
 const TABLE_WORDS: usize = 4096;
@@ -63,34 +71,85 @@ fn put_rows(text: &[u8], rows: &[u16], first: usize, places: &[usize], rules: us
     }
 }
 
+// The rows of the rules from k to `end`, which have one name.
+fn put_levels(out: &mut [u8], name: Part, places: &[usize], k: usize, end: usize)
+    requires { ⌜ (k ≤ end) × (end ≤ 128) × (end ≤ length (now places)) × (24 * end ≤ length (now out)) ⌝ }
+    ensures { λ _. ⌜ Puts (now (out .entry)) (now (out .exit)) (12 * k) (rowsWords (levelsHeld (name .start) (name .len) (now (places .entry)) k (end - k))) ⌝ }
+{
+    let mut i = k;
+    while i < end {
+        put_row(out, i, name.start, name.len, places[i]);
+        i += 1;
+    }
+}
+
+// Where the rules of pair j end: where the next pair's begin, or all of them.
+fn end_of(rows: &[u16], j: usize, rules: usize) -> usize
+    requires { ⌜ j < 65536 ⌝ }
+    ensures { λ r. ⌜ EndOf (now (rows .entry)) j rules r ⌝ }
+{
+    if j + 1 < symbols::number(rows, PAIRS) {
+        let next = symbols::number(rows, PAIRS + PAIR * (j + 2));
+        if next < rules {
+            return next;
+        }
+    }
+    rules
+}
+
+// The rows of the rules made for operators: each has the name of its pair's first use.
+fn put_made(text: &[u8], rows: &[u16], b: Resolved, places: &[usize], out: &mut [u8])
+    requires { ⌜ Placed (now text) (now rows) b × (b .rules ≤ length (now places)) × (24 * b .rules ≤ length (now out)) ⌝ }
+    ensures { λ _. ⌜ MadePut (now (text .entry)) (now (rows .entry)) b 0 (b .written) (now (places .entry)) (now (out .entry)) (now (out .exit)) ⌝ }
+{
+    let pairs = symbols::number(rows, PAIRS);
+    let mut j: usize = 0;
+    let mut k = b.written;
+    while j < pairs {
+        let section = symbols::number(rows, PAIRS + 1 + PAIR * j);
+        let operand = symbols::number(rows, PAIRS + 2 + PAIR * j);
+        let name = levels::first_use(text, rows, b.declared, b.body, section, operand);
+        let end = end_of(rows, j, b.rules);
+        if end < k {
+            return;
+        }
+        put_levels(out, name, places, k, end);
+        k = end;
+        j += 1;
+    }
+}
+
 // The map of the rules in the buffers, if their table has its room and the rows have theirs.
 fn map_held(
     text: &[u8],
     rows: &[u16],
-    first: usize,
+    b: Resolved,
     cells: &[u16],
     sorts: &[u8],
-    rules: usize,
     out: &mut [u8],
 ) -> Mapped
-    requires { ⌜ Holds first rules ⌝ }
-    ensures { λ r. ⌜ MapsHeld (now (text .entry)) (now (rows .entry)) first (now (cells .entry)) (now (sorts .entry)) rules (now (out .entry)) (now (out .exit)) (r .number) (r .rules) ⌝ }
+    requires { ⌜ Placed (now text) (now rows) b ⌝ }
+    ensures { λ r. ⌜ MapsHeld (now (text .entry)) (now (rows .entry)) b (now (cells .entry)) (now (sorts .entry)) (now (out .entry)) (now (out .exit)) (r .number) (r .rules) ⌝ }
 {
     let mut places = [0usize; frontend::RULES];
-    if TABLE_WORDS < sizes::locate(cells, sorts, rules, &mut places) {
+    if TABLE_WORDS < sizes::locate(cells, sorts, b.rules, &mut places) {
         return Mapped {
             number: TOO_SHORT,
             rules: 0,
         };
     }
-    if out.len() / ROW_BYTES < rules {
+    if out.len() / ROW_BYTES < b.rules {
         return Mapped {
             number: TOO_SHORT,
             rules: 0,
         };
     }
-    put_rows(text, rows, first, &places, rules, out);
-    Mapped { number: 0, rules }
+    put_rows(text, rows, b.first, &places, b.written, out);
+    put_made(text, rows, b, &places, out);
+    Mapped {
+        number: 0,
+        rules: b.rules,
+    }
 }
 
 // The map of a text that the syntax pass has read.
@@ -115,7 +174,7 @@ fn map_read(text: &[u8], out: &mut [u8]) -> Mapped
             rules: 0,
         };
     }
-    map_held(text, &rows, b.first, &cells, &sorts, b.rules, out)
+    map_held(text, &rows, b, &cells, &sorts, out)
 }
 
 // The map of a text's rules, or the number of its first fault.

@@ -15,7 +15,9 @@ use Rattle.names.specs.Declare
 use Rattle.names.specs.Known
 use Rattle.names.specs.Resolve
 use Rattle.names.specs.Understand
+use Rattle.names.specs.Uses
 use Rattle.processor.specs.Process
+use Rattle.program.specs.Made
 use Rattle.program.specs.Past
 use Rattle.program.specs.Program
 use Rattle.program.specs.Table
@@ -26,7 +28,7 @@ use Rattle.syntax.specs.Sections
 use Rattle.words.specs.Words
 
 mapping : Unit {0}
-unfolding Words.opened Reading.opened Actions.opened Sections.opened Parse.opened Known.opened Declare.opened Resolve.opened Understand.opened Program.opened Past.opened Table.opened Test.opened Bytes.opened Form.opened Process.opened Mapping.opened
+unfolding Words.opened Reading.opened Actions.opened Sections.opened Parse.opened Known.opened Declare.opened Resolve.opened Understand.opened Uses.opened Made.opened Program.opened Past.opened Table.opened Test.opened Bytes.opened Form.opened Process.opened Mapping.opened
 mapping = tt
 
 pub numbersIn : List Row → List ℕ
@@ -47,14 +49,19 @@ maps t ns = record { text = t; rows = ns }
 
 pub allMap : List Case → Bool
 allMap [] = true
-allMap (c ∷ cs) = isMap (c .rows) (mapRules (bytes (c .text)) 3) && allMap cs
+allMap (c ∷ cs) = isMap (c .rows) (mapRules (bytes (c .text)) 4) && allMap cs
 
--- a rule; a rule called before it stands, and a comment with a name; a choice rule, which has no return behind it
+-- a rule; a rule called before it stands, and a comment with a name; a choice rule, which has no return behind it; two levels over one operand rule, one level
+-- over two operand rules
 pub cases : List Case
 cases =
     maps "rules M: ; end" (6 ∷ 1 ∷ 1 ∷ [])
     ∷ maps "input: a;\nrules Main: a @Next; % N:\nNext: ; end" (16 ∷ 4 ∷ 1 ∷ 36 ∷ 4 ∷ 6 ∷ [])
     ∷ maps "type t: x; rules M: [@N | x: ]; N >> t: >> x; P: ; end" (17 ∷ 1 ∷ 1 ∷ 32 ∷ 1 ∷ 12 ∷ 46 ∷ 1 ∷ 15 ∷ [])
+    ∷ maps "input: a plus times; output: add mul; operators E: plus 1 left add times 2 left mul; rules M: ^E @P; P: a; end"
+    (91 ∷ 1 ∷ 1 ∷ 101 ∷ 1 ∷ 4 ∷ 94 ∷ 5 ∷ 7 ∷ 94 ∷ 5 ∷ 25 ∷ [])
+    ∷ maps "input: a up; output: pow; operators E: up 9 right pow; rules M: ^E\n@P ^E @M ^E @P; P: a; end"
+    (61 ∷ 1 ∷ 1 ∷ 83 ∷ 1 ∷ 8 ∷ 64 ∷ 5 ∷ 11 ∷ 70 ∷ 5 ∷ 25 ∷ [])
     ∷ []
 
 pub cases-map : T (allMap cases)

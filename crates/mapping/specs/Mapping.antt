@@ -1,13 +1,16 @@
--- The map of a text's rules: where each rule's name stands in the text, and where its words begin in the table. With it figures are taken "rule by rule".
+-- The map of a text's rules, those made for operators among them: where each rule's name stands in the text, and where its words begin in the table. With it
+-- figures are taken "rule by rule".
 use mathlib.Core.List.{List, [], _∷_, _++_}
-use Prim.Native.Nat.{ℕ, suc, _/_}
+use Prim.Native.Nat.{ℕ, zero, suc, _+_, _-_, _/_}
 use lib.Dec.{leb}
 use lib.ListN.{length}
 use Rattle.base.specs.Common.{if_then_else_}
 use Rattle.machine.specs.Bytes.{bytesOf, over}
 use Rattle.machine.specs.Form.{words64}
-use Rattle.names.specs.Known.{Checked, good, wrong}
-use Rattle.names.specs.Understand.{understand}
+use Rattle.names.specs.Declare.{declareSections}
+use Rattle.names.specs.Known.{Checked, good, wrong, Names}
+use Rattle.names.specs.Understand.{nobody, understand}
+use Rattle.names.specs.Uses.{Use, pairsOf, levelsUsed}
 use Rattle.processor.specs.Process as processor
 use Rattle.processor.specs.Process.{process}
 use Rattle.program.specs.Program.{Rule}
@@ -32,13 +35,28 @@ unfoldable pub rowsFrom : List Rule → ℕ → List written.Rule → List Row
 rowsFrom prog i [] = []
 rowsFrom prog i (r ∷ rs) = rowOf (r .rule) (place 1 prog i) ∷ rowsFrom prog (suc i) rs
 
+-- a rule made for a pair is named by the pair's first use, from its `^` to the end of the operand rule's name
+abbrev pub rowFor : Use → ℕ → Row
+rowFor u l = record { start = u .sign .start; size = u .operand .start + length (u .operand .text) - u .sign .start; location = l }
+
+-- "lowest level first": the rows of k rules made for a pair, from rule i of the program on
+unfoldable pub levelRows : List Rule → Use → ℕ → ℕ → List Row
+levelRows prog u i zero = []
+levelRows prog u i (suc k) = rowFor u (place 1 prog i) ∷ levelRows prog u (suc i) k
+
+-- "as if written after the last rule, for each pair of section and operand rule in the order of first use"
+unfoldable pub madeRows : List Rule → Names → ℕ → List Use → List Row
+madeRows prog n i [] = []
+madeRows prog n i (u ∷ us) = levelRows prog u i (length (levelsUsed n u)) ++ madeRows prog n (i + length (levelsUsed n u)) us
+
 -- a text that is not read or not understood has none
-unfoldable pub rowsOf : Program → Checked (List Rule) → List Row
-rowsOf p (good prog) = rowsFrom prog 0 (p .rules)
-rowsOf p (wrong n w) = []
+unfoldable pub rowsOf : Program → Checked Names → Checked (List Rule) → List Row
+rowsOf p (good n) (good prog) = rowsFrom prog 0 (p .rules) ++ madeRows prog n (length (p .rules)) (pairsOf (p .rules))
+rowsOf p (good n) (wrong m w) = []
+rowsOf p (wrong m w) c = []
 
 unfoldable pub rowsRead : Read Program → List Row
-rowsRead (got p ws) = rowsOf p (understand p)
+rowsRead (got p ws) = rowsOf p (declareSections p (p .sections) nobody) (understand p)
 rowsRead (fault n w) = []
 
 unfoldable pub ruleRows : List ℕ → List Row
@@ -91,5 +109,5 @@ tells number rules = record { number = number; rules = rules }
 
 -- all of this file computes where this is unfolded
 unfoldable pub opened : Unit {0}
-unfolding rowsFrom rowsOf rowsRead ruleRows mapOf mapRules numbersOf rowWords rowsWords roomIn lentRows
+unfolding rowsFrom levelRows madeRows rowsOf rowsRead ruleRows mapOf mapRules numbersOf rowWords rowsWords roomIn lentRows
 opened = tt

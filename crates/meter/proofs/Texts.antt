@@ -5,11 +5,11 @@ use mathlib.Core.Path.{_≡_, refl, ap, _∙_}
 use native.Mathlib.Omega.{arith}
 use Prim.Native.Nat.{ℕ, _≤_}
 use lib.ListN.{length}
-use Rattle.acceptance.proofs.Accepts.{understood-accepted, accepted-table}
+use Rattle.acceptance.proofs.Accepts.{understand-few, understood-accepted, accepted-table}
+use Rattle.acceptance.proofs.Used.{Within}
 use Rattle.acceptance.specs.Answers.{TableOf}
 use Rattle.grammar.proofs.ProgramIn.{parse-in}
 use Rattle.grammar.specs.Derived.{ProgramIn, a-program}
-use Rattle.mapping.proofs.Parting.{all-understood}
 use Rattle.names.specs.Known.{Checked, good, wrong}
 use Rattle.names.specs.Understand.{understand}
 use Rattle.processor.specs.Process.{Part, meaning, faulty, checked, readIn, understood, accepted, process}
@@ -17,16 +17,17 @@ use Rattle.program.specs.Program.{Rule}
 use Rattle.program.specs.Table.{table}
 use Rattle.syntax.specs.Parse.{parse}
 use Rattle.syntax.specs.Reading.{Read, got, fault}
+use Rattle.syntax.specs.Sections.{namesInAll}
 use Rattle.syntax.specs.Written.{Program}
 use Rattle.words.specs.Words.{Word}
 use Rattle.meter.specs.Shaped.{Shaped}
 use Rattle.meter.specs.Starts.{startsIn}
 use Rattle.meter.proofs.Programs.{rules-shaped}
 
-rules-read : {ws : List Word} {p : Program} → ProgramIn ws p → length (p .rules) ≤ 128
-rules-read (a-program s h r e few names) = few
+rules-read : {ws : List Word} {p : Program} → ProgramIn ws p → Within (namesInAll (p .sections)) (length (p .rules)) 0
+rules-read (a-program s h r e few names) = (omega (arith, few), omega (arith, names))
 
--- "Limits: 128 rules"
+-- "Limits: 128 rules", those made for operators among them
 pub rules-few : (text : List ℕ) (prog : List Rule) → understood text ≡ meaning prog → length prog ≤ 128
 unfolding understood readIn checked
 rules-few text prog e = go (parse text) refl e
@@ -34,8 +35,8 @@ rules-few text prog e = go (parse text) refl e
     no-meaning : {n : ℕ} {at : Part} → faulty n at ≡ meaning prog → length prog ≤ 128
     no-meaning d = let z : _≡_ {A = ℕ} 0 1 = cc in absurd (omega arith)
 
-    inner : (p : Program) → length (p .rules) ≤ 128 → (m : Checked (List Rule)) → understand p ≡ m → checked m ≡ meaning prog → length prog ≤ 128
-    inner p h (good x) u d = let same : x ≡ prog = cc in omega (arith, h, all-understood p prog (u ∙ ap good same))
+    inner : (p : Program) → Within (namesInAll (p .sections)) (length (p .rules)) 0 → (m : Checked (List Rule)) → understand p ≡ m → checked m ≡ meaning prog → length prog ≤ 128
+    inner p h (good x) u d = let same : x ≡ prog = cc in omega (arith, understand-few p h prog (u ∙ ap good same) .0)
     inner p h (wrong n w) u d = no-meaning d
 
     go : (r : Read Program) → parse text ≡ r → readIn r ≡ meaning prog → length prog ≤ 128
