@@ -1,5 +1,7 @@
 //! Good programs with one fault planted in them, so that number and word are known beforehand.
 
+pub mod operators;
+
 use crate::processor::{Answer, MAX_TABLE, process};
 use crate::texts::{Seed, VOCABULARY, Words, good, placed, spelled};
 
@@ -29,8 +31,11 @@ enum Place {
     Chooser,
 }
 
-/// The number, the place and the part; the word behind `^` is at fault. LONG is a name of 33 bytes.
-const PARTS: [(u16, Place, &str); 139] = [
+/// The number, the place and the part; the word behind the mark is at fault. LONG is a name of 33 bytes.
+type Part = (u16, Place, &'static str);
+const MARK: char = '^';
+
+const PARTS: [Part; 139] = [
     (2, Place::Sections, "input : ^;"),
     (2, Place::Sections, "input ^qk : ;"),
     (2, Place::Sections, "output ^input : qk ;"),
@@ -187,9 +192,9 @@ const BAD: [&str; 22] = [
     "\"",
     "\\",
     "~",
-    "^",
     "`",
     "\u{0}",
+    "\u{1}",
     "\u{b}",
     "\u{c}",
     "\u{7f}",
@@ -206,11 +211,11 @@ fn base(seed: &mut Seed) -> Words {
     loop {
         let size = 3 + seed.below(24);
         let mut words = good(seed, size);
-        insert(seed, &mut words, Place::Sections, SECTIONS);
-        insert(seed, &mut words, Place::Rules, RULES);
+        insert(seed, &mut words, Place::Sections, SECTIONS, MARK);
+        insert(seed, &mut words, Place::Rules, RULES, MARK);
         // Not where the parts would run out of values.
         let mut more = words.clone();
-        insert(seed, &mut more, Place::Sections, "input output : q1 q2 q3 q4 ; error : q1 q2 q3 q4 ;");
+        insert(seed, &mut more, Place::Sections, "input output : q1 q2 q3 q4 ; error : q1 q2 q3 q4 ;", MARK);
         if matches!(process(&more.join(&b' '), MAX_TABLE), Answer::Accepted { .. }) {
             return words;
         }
@@ -218,7 +223,7 @@ fn base(seed: &mut Seed) -> Words {
 }
 
 /// Puts a part in; the index of the marked word, if one is marked.
-fn insert(seed: &mut Seed, words: &mut Words, place: Place, part: &str) -> Option<usize> {
+fn insert(seed: &mut Seed, words: &mut Words, place: Place, part: &str, mark: char) -> Option<usize> {
     let part = match place {
         Place::Sections | Place::Rules => part.to_string(),
         Place::Procedure => format!("Q : {part} ;"),
@@ -230,7 +235,7 @@ fn insert(seed: &mut Seed, words: &mut Words, place: Place, part: &str) -> Optio
     };
     let mut marked = None;
     for (i, word) in part.split_whitespace().enumerate() {
-        let bare = word.strip_prefix('^').unwrap_or(word);
+        let bare = word.strip_prefix(mark).unwrap_or(word);
         if bare.len() < word.len() {
             marked = Some(at + i);
         }
@@ -262,7 +267,7 @@ pub const SORTS: usize = PARTS.len() + 6;
 pub fn plant(seed: &mut Seed, sort: usize) -> Fault {
     let mut words = base(seed);
     if let Some((number, place, part)) = PARTS.get(sort) {
-        let at = insert(seed, &mut words, *place, part);
+        let at = insert(seed, &mut words, *place, part, MARK);
         return shown(seed, *number, &words, at);
     }
     let rules = words.iter().position(|word| word == b"rules").unwrap_or(0);
@@ -305,7 +310,7 @@ pub fn several(seed: &mut Seed) -> Vec<u8> {
     let mut words = base(seed);
     for _ in 0..seed.within(2, 3) {
         let (_, place, part) = seed.of(&PARTS);
-        insert(seed, &mut words, *place, part);
+        insert(seed, &mut words, *place, part, MARK);
     }
     placed(seed, &words).0
 }

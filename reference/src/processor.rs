@@ -2,9 +2,12 @@
 //!
 //! 1. `words` cuts the text
 //! 2. `Parser` makes a tree and finds the first of the numbers 1, 2 and 9
-//! 3. `Names` finds all of the numbers 3 to 8 and takes the least by place, then number
-//! 4. `assemble` writes the words and patches the distances afterwards
-//! 5. `verdict::finishing` searches the program's quiet paths
+//! 3. `Names` finds all of the numbers 3 to 8 and 45 and takes the least by place, then rank
+//! 4. `operators` writes the rules of operators under precedence out as text, which is read once more
+//! 5. `assemble` writes the words and patches the distances afterwards
+//! 6. `verdict::finishing` searches the program's quiet paths
+
+mod operators;
 
 use crate::quiet::{Figure, figure};
 use crate::verdict::finishing;
@@ -19,6 +22,8 @@ const MAX_NAMES: usize = 512;
 const MAX_KIND: usize = 256;
 const MAX_BYTES: usize = 32;
 const MAX_VALUE: u128 = 65_535;
+/// The levels of operators.
+const LEVELS: std::ops::RangeInclusive<u16> = 1..=15;
 
 /// What a text is answered with.
 #[derive(Clone, PartialEq, Eq, Debug)]
@@ -52,7 +57,8 @@ fn narrow(words: &[usize]) -> Vec<u16> {
     words.iter().map(|word| u16::try_from(*word).expect("a distance in a small table")).collect()
 }
 
-/// Where a rule stands: its name in the text, and the location of its first word.
+/// Where a rule stands: its name in the text, and the location of its first word. The name of a rule made for operators is the first use of its section
+/// and its operand rule.
 #[derive(Clone, Copy, PartialEq, Eq, Debug)]
 pub struct Place {
     pub start: usize,
@@ -60,18 +66,23 @@ pub struct Place {
     pub location: usize,
 }
 
-/// The rules of a text in their order, or the number that it is refused with where the largest table is lent.
+/// The rules of a text in their order, and those made for its operators, or the number that it is refused with where the largest table is lent.
 pub fn places(text: &[u8]) -> Result<Vec<Place>, u16> {
     if let Answer::Refused { number, .. } = process(text, MAX_TABLE) {
         return Err(number);
     }
     let program = resolve(text).map_err(|(number, ..)| number)?;
     let words = words(text);
-    let mut parser = Parser::new(&words);
+    let mut parser = Parser::new(text, &words);
     parser.program().map_err(|Stop(number, _)| number)?;
-    let names = parser.tree.bodies.iter().map(|body| words[body.name]);
-    let starts = assemble(&program).1;
-    Ok(names.zip(starts).map(|(name, location)| Place { start: name.start, len: name.len, location }).collect())
+    let own = parser.tree.bodies.iter().map(|body| (body.name, body.name));
+    let made = operators::first_uses(text, &words, &parser.tree);
+    let parts = own.chain(made.iter().map(|used| (used.sign, used.rule)));
+    let place = |((first, last), location): ((At, At), usize)| {
+        let (start, end) = (words[first].start, words[last].start + words[last].len);
+        Place { start, len: end - start, location }
+    };
+    Ok(parts.zip(assemble(&program).1).map(place).collect())
 }
 
 /// The lent bytes after the call.
@@ -144,7 +155,7 @@ const RESERVED: [(&str, &str); 11] = [
 ];
 
 /// Longer ones first.
-const SIGNS: [(&str, &str); 19] = [
+const SIGNS: [(&str, &str); 20] = [
     (">>", ">>"),
     (">", ">"),
     (":", ":"),
@@ -164,6 +175,7 @@ const SIGNS: [(&str, &str); 19] = [
     (".", "."),
     ("#", "#"),
     ("@", "@"),
+    ("^", "^"),
 ];
 
 fn words(text: &[u8]) -> Vec<Word> {
@@ -250,6 +262,31 @@ impl Entry {
     }
 }
 
+/// A section of operators, from its first word to its last.
+#[derive(Debug)]
+struct Operators {
+    name: At,
+    entries: Vec<Operator>,
+    from: At,
+    to: At,
+}
+
+#[derive(Debug)]
+struct Operator {
+    input: At,
+    level: u16,
+    left: bool,
+    output: At,
+}
+
+/// `^NAME @rule`.
+#[derive(Clone, Copy, Debug)]
+struct Use {
+    sign: At,
+    section: At,
+    rule: At,
+}
+
 #[derive(Debug)]
 struct Body {
     name: At,
@@ -268,6 +305,7 @@ enum Node {
     Exit(At),
     Choice { by: Selector, alternatives: Vec<Alternative> },
     Call(At),
+    Operators(Use),
     Return { word: At, value: Option<At> },
 }
 
@@ -288,6 +326,7 @@ struct Alternative {
 #[derive(Debug, Default)]
 struct Tree {
     sections: Vec<Section>,
+    operators: Vec<Operators>,
     bodies: Vec<Body>,
 }
 
@@ -297,6 +336,7 @@ struct Stop(u16, At);
 type Read<T> = Result<T, Stop>;
 
 struct Parser<'a> {
+    text: &'a [u8],
     words: &'a [Word],
     at: At,
     tree: Tree,
@@ -306,9 +346,9 @@ struct Parser<'a> {
     rules: usize,
 }
 
-impl Parser<'_> {
-    fn new(words: &[Word]) -> Parser<'_> {
-        Parser { words, at: 0, tree: Tree::default(), over: Vec::new(), names: 0, rules: 0 }
+impl<'a> Parser<'a> {
+    fn new(text: &'a [u8], words: &'a [Word]) -> Parser<'a> {
+        Parser { text, words, at: 0, tree: Tree::default(), over: Vec::new(), names: 0, rules: 0 }
     }
 
     fn sort(&self) -> Sort {
@@ -321,6 +361,12 @@ impl Parser<'_> {
 
     fn is(&self, sign: &str) -> bool {
         matches!(self.sort(), Sort::Sign(first) if first == sign)
+    }
+
+    /// Whether the word is a name of that spelling.
+    fn spelt(&self, name: &str) -> bool {
+        let word = self.words[self.at];
+        word.sort == Sort::Name && &self.text[word.start..word.start + word.len] == name.as_bytes()
     }
 
     fn take(&mut self) -> At {
@@ -381,6 +427,9 @@ impl Parser<'_> {
     }
 
     fn section(&mut self) -> Read<()> {
+        if self.spelt("operators") {
+            return self.operators();
+        }
         let head = if self.takes("input") {
             Head::Tokens { input: true, output: self.takes("output") }
         } else if self.takes("output") {
@@ -406,6 +455,39 @@ impl Parser<'_> {
                 return Ok(());
             }
         }
+    }
+
+    fn operators(&mut self) -> Read<()> {
+        let from = self.take();
+        let name = self.declared()?;
+        self.must(":")?;
+        let mut entries = Vec::new();
+        loop {
+            entries.push(self.operator()?);
+            if self.is(";") {
+                let to = self.take();
+                self.tree.operators.push(Operators { name, entries, from, to });
+                return Ok(());
+            }
+        }
+    }
+
+    fn operator(&mut self) -> Read<Operator> {
+        let input = self.reference()?;
+        if self.sort() != Sort::Number {
+            return self.stop();
+        }
+        let at = self.take();
+        let level = number(self.text, self.words[at]).filter(|level| LEVELS.contains(level));
+        if level.is_none() {
+            self.over.push(at);
+        }
+        let left = self.spelt("left");
+        if !left && !self.spelt("right") {
+            return self.stop();
+        }
+        self.take();
+        Ok(Operator { input, level: level.unwrap_or(0), left, output: self.reference()? })
     }
 
     fn entry(&mut self, head: Head, entry: &mut Entry) -> Read<()> {
@@ -465,6 +547,10 @@ impl Parser<'_> {
                 Node::Signal(self.reference()?)
             } else if self.takes("@") {
                 Node::Call(self.name()?)
+            } else if self.is("^") {
+                let (sign, section) = (self.take(), self.name()?);
+                self.must("@")?;
+                Node::Operators(Use { sign, section, rule: self.name()? })
             } else if self.is(">") {
                 Node::Exit(self.take())
             } else if self.is(">>") {
@@ -665,6 +751,8 @@ struct Names<'a> {
     errors: Class<'a>,
     types: HashMap<&'a [u8], Class<'a>>,
     doers: HashMap<&'a [u8], Doer<'a>>,
+    /// Names of sections of operators.
+    operators: HashSet<&'a [u8]>,
     faults: Vec<(At, u16)>,
 }
 
@@ -705,6 +793,9 @@ impl<'a> Names<'a> {
                     self.known.insert(self.spelling(string));
                 }
             }
+        }
+        for section in &tree.operators {
+            self.known.insert(self.spelling(section.name));
         }
         for body in &tree.bodies {
             self.known.insert(self.spelling(body.name));
@@ -774,6 +865,27 @@ impl<'a> Names<'a> {
             {
                 self.missing(of);
             }
+        }
+        tree.operators.iter().for_each(|section| self.section_of_operators(section));
+    }
+
+    /// Its tokens are looked up in the whole classes: they may be declared behind it.
+    fn section_of_operators(&mut self, section: &Operators) {
+        if !self.operators.insert(self.spelling(section.name)) {
+            self.fault(section.name, 4);
+        }
+        // Values of tokens and sides of levels so far.
+        let mut listed = HashSet::new();
+        let mut sides = HashMap::new();
+        for Operator { input, level, left, output } in &section.entries {
+            let token = self.input.get(self.spelling(*input)).copied();
+            let twice = token.is_some_and(|token| !listed.insert(token));
+            if twice || sides.entry(*level).or_insert(*left) != left {
+                self.fault(*input, 45);
+            }
+            self.found(token, *input);
+            let token = self.output.get(self.spelling(*output)).copied();
+            self.found(token, *output);
         }
     }
 
@@ -865,13 +977,13 @@ impl<'a> Names<'a> {
                 }
                 Act::Choice(Choice { by, alternatives: out, otherwise })
             }
-            Node::Call(word) => match self.doers.get(self.spelling(*word)) {
-                Some(Doer::Rule { index, of: None }) => Act::Call(*index),
-                _ => {
-                    self.missing(*word);
-                    Act::Any
+            Node::Call(word) => self.call(*word),
+            Node::Operators(Use { section, rule, .. }) => {
+                if !self.operators.contains(self.spelling(*section)) {
+                    self.missing(*section);
                 }
-            },
+                self.call(*rule)
+            }
             Node::Return { word, value } => match (of, value) {
                 (None, None) => Act::Return(None),
                 (None, Some(value)) => {
@@ -887,6 +999,16 @@ impl<'a> Names<'a> {
                     Act::Return(Some(self.found(number, *value)))
                 }
             },
+        }
+    }
+
+    fn call(&mut self, word: At) -> Act {
+        match self.doers.get(self.spelling(word)) {
+            Some(Doer::Rule { index, of: None }) => Act::Call(*index),
+            _ => {
+                self.missing(word);
+                Act::Any
+            }
         }
     }
 
@@ -977,11 +1099,21 @@ pub fn resolve(text: &[u8]) -> Result<Program, (u16, usize, usize)> {
     if text.len() > MAX_TEXT {
         return Err((9, text.len(), 0));
     }
+    resolve_any(text)
+}
+
+/// 45 is ranked just after 4.
+fn rank(number: u16) -> u16 {
+    if number == 45 { 2 * 4 + 1 } else { 2 * number }
+}
+
+/// The same for a text of any length.
+fn resolve_any(text: &[u8]) -> Result<Program, (u16, usize, usize)> {
     let words = words(text);
     let show = |(at, number): (At, u16)| (number, words[at].start, words[at].len);
-    let mut parser = Parser::new(&words);
+    let mut parser = Parser::new(text, &words);
     let stop = parser.program().err();
-    let Parser { tree, mut over, .. } = parser;
+    let Parser { tree, mut over, names: declared, .. } = parser;
     let values = values(text, &words, &tree.sections, &mut over);
     let early = over.iter().map(|at| (*at, 9)).chain(stop.map(|Stop(number, at)| (at, number)));
     if let Some(fault) = early.min() {
@@ -996,14 +1128,28 @@ pub fn resolve(text: &[u8]) -> Result<Program, (u16, usize, usize)> {
         errors: HashMap::new(),
         types: HashMap::new(),
         doers: HashMap::new(),
+        operators: HashSet::new(),
         faults: Vec::new(),
     };
     names.declare(&tree, &values);
     let program = names.bodies(&tree);
-    match names.faults.iter().copied().min() {
-        Some(fault) => Err(show(fault)),
-        None => Ok(program),
+    if let Some(fault) = names.faults.iter().copied().min_by_key(|(at, number)| (*at, rank(*number))) {
+        return Err(show(fault));
     }
+    if tree.operators.is_empty() {
+        return Ok(program);
+    }
+    let written = operators::write_out(text, &words, &tree, declared).map_err(|sign| show((sign, 9)))?;
+    Ok(resolve_any(&written).expect("good rules are written out"))
+}
+
+/// A text that is resolved with its operators' rules written out, as words with a space between them.
+pub fn written_out(text: &[u8]) -> Option<Vec<u8>> {
+    resolve(text).ok()?;
+    let words = words(text);
+    let mut parser = Parser::new(text, &words);
+    parser.program().ok()?;
+    operators::write_out(text, &words, &parser.tree, parser.names).ok()
 }
 
 // ---------------------------------------------------------------- the table
@@ -1181,6 +1327,9 @@ mod tests {
         let place = |start, len, location| Place { start, len, location };
         assert_eq!(places(text), Ok(vec![place(17, 1, 1), place(39, 1, 12), place(54, 3, 15)]));
         assert_eq!(places(b"rules M: ; end"), Ok(vec![place(6, 1, 1)]));
+        let text = b"input: p q; output: x; operators E: p 1 left x q 2 left x; rules M: ^ E@M ^E @N; N: ^E @M; end";
+        let wanted = [(65, 1, 1), (81, 1, 6), (68, 5, 9), (68, 5, 27), (74, 5, 45), (74, 5, 63)];
+        assert_eq!(places(text), Ok(wanted.map(|(start, len, location)| place(start, len, location)).to_vec()));
         assert_eq!(places(b"rules M: > ; end"), Err(7));
         assert_eq!(places(b"rules M: "), Err(2));
         let long = format!("rules M: {}; end", "?".repeat(4_096));

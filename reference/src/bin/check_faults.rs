@@ -13,8 +13,8 @@ use reference::ffi;
 use reference::side::{Processed, Processor, Reference};
 
 const LARGEST: usize = 2 * 4_096;
-/// The numbers that have a section with texts, and the one that has none.
-const WITH_TEXTS: std::ops::RangeInclusive<u16> = 1..=9;
+/// The numbers that have a section, in the document's order, and the one that has no texts.
+const NUMBERS: [u16; 11] = [1, 2, 3, 4, 5, 6, 7, 8, 9, 20, 45];
 const WITHOUT_TEXTS: u16 = 20;
 const ORDINALS: [&str; 6] = ["the first ", "the second ", "the third ", "the fourth ", "the fifth ", "the sixth "];
 
@@ -32,8 +32,7 @@ fn sections(document: &str) -> Result<Vec<Section<'_>>, String> {
         }
     }
     let numbers: Vec<u16> = sections.iter().map(|(number, _)| *number).collect();
-    let wanted: Vec<u16> = WITH_TEXTS.chain([WITHOUT_TEXTS]).collect();
-    if numbers == wanted { Ok(sections) } else { Err(format!("the sections are {numbers:?}, not {wanted:?}")) }
+    if numbers == NUMBERS { Ok(sections) } else { Err(format!("the sections are {numbers:?}, not {NUMBERS:?}")) }
 }
 
 /// The indented blocks.
