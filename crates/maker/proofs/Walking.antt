@@ -5,6 +5,7 @@ use mathlib.Core.Logic.{_⊎_, inl, inr}
 use mathlib.Core.Option.{Option, none, some}
 use mathlib.Core.Path.{_≡_, refl, sym, ap, _∙_}
 use Prim.Native.Nat.{ℕ, zero, suc, _+_, _*_, _-_, _<_, _≤_}
+use native.Mathlib.Decide.{decLt}
 use native.Mathlib.Omega.{arith}
 use borrow.Author.Tests.{eq-eqb, ne-eqb, eqb-true}
 use lib.Dec.{eqb}
@@ -16,10 +17,10 @@ use Rattle.declarations.specs.Decls.{Agrees, Decl, EntriesAt, entriesOf, declOf
 use Rattle.grammar.specs.Derived.{RulesIn}
 use Rattle.maker.proofs.Marked.{marked}
 use Rattle.maker.proofs.Named.{rules-named}
-use Rattle.maker.proofs.Taking.{row-at}
+use Rattle.maker.proofs.Taking.{row-at, row-less, held-at}
 use Rattle.maker.specs.Marks.{useOf, marks}
 use Rattle.maker.specs.Pairs.{Pair, pairsFrom, pairsHeld, lookPair, lowestIn, sectionRow, operandRow, Ordered, AllOrdered, pairOf, pairsMean, PairsAre}
-use Rattle.maker.specs.Pairing.{isThere, passes, Takes, again, added, over, TakenBound, UseDone, WordDone, Stands, AllNamed, PairsEnd, paired, passed, PairsFrom, PairsDone}
+use Rattle.maker.specs.Pairing.{NoSection, isThere, passes, Takes, again, added, over, TakenBound, UseDone, WordDone, Stands, AllNamed, PairsEnd, paired, passed, PairsFrom, PairsDone}
 use Rattle.maker.specs.declared.Paired.{Paired}
 use Rattle.maker.specs.declared.Taken.{Taken}
 use Rattle.names.specs.Declare.{knownRules}
@@ -31,7 +32,7 @@ use Rattle.scanner.specs.Next.{Next, asWord}
 use Rattle.scanner.specs.declared.WordAt.{WordAt}
 use Rattle.symbols.proofs.Indexing.{index-same, index-after, index-set, held-behind, kept-behind}
 use Rattle.symbols.specs.Index.{IndexKept, Kept}
-use Rattle.symbols.specs.Rows.{held}
+use Rattle.symbols.specs.Rows.{held, declAt}
 use Rattle.syntax.specs.Reading.{peek}
 use Rattle.syntax.specs.Written.{Program}
 use Rattle.words.specs.Words.{Word, wordsAt}
@@ -335,6 +336,46 @@ pairs-none {rows = rows} h = record {
     go : {n first : ℕ} (k : ℕ) → n ≡ first + k → k ≤ 128 → (n < first) ⊎ (128 < n - first) → ⊥
     go k q few (inl l) = omega (arith, q, l)
     go k q few (inr l) = omega (arith, q, l, few)
+
+pub more-without : (rows : List ℕ) (i : ℕ) {v : ℕ} → NoSection rows i → v ≡ getD rows (8 * i) 0 → (v ≡ 600 → ⊥) → NoSection rows (i + 1)
+more-without rows i h e z = λ j l q. elim (decLt j i) [
+  | yes y ↦ h j y q
+  | no y ↦ let k : j ≡ i = omega arith in z (e ∙ ap (λ (m : ℕ). getD rows (8 * m) 0) (sym k) ∙ q)
+]
+
+no-section : (text rows : List ℕ) {n : ℕ} → NoSection rows n → (u : Use) → Ordered (held text rows n) u → ⊥
+unfolding declAt
+no-section text rows {n} none-there u o =
+    let ds = held text rows n in
+    let k = sectionRow ds u in
+    let h = row-less text rows n 600 (u .section .text) k (o .section) in
+    none-there k h (ap (λ (d : Decl). d .class) (sym (held-at text rows n k h)) ∙ row-at 600 (u .section .text) k ds (o .section) .class)
+
+-- a text without a section has no use in order, and so none at all
+pub pairs-unused : {text rows : List ℕ} {n first at : ℕ} {r : Paired} → n ≤ 512 → length rows ≡ 6017 → NoSection (set rows 5632 0) n → r .fault ≡ 0
+    → PairsDone text rows n first at (set rows 5632 0) r
+unfolding pairsOf firsts madeFor pairsMean AllOrdered
+pairs-unused {text} {rows} {n} {first} {at} {r} few size none-there z = record { index = clear; done = done }
+  where
+    clear : IndexKept rows (set rows 5632 0)
+    clear = index-set rows 5632 0 (omega arith)
+
+    same-held : held text (set rows 5632 0) n ≡ held text rows n
+    same-held = held-behind text n clear few
+
+    no-use : (u : Use) → Ordered (held text rows n) u → ⊥
+    no-use u o = no-section text (set rows 5632 0) none-there u (rw same-held o)
+
+    done : (p : Program) (names : Names) → Agrees p names (knownRules 0 (p .rules)) (held text rows n) → EntriesAt text (held text rows n) (entriesOf p)
+        → (ws : List Word) → RulesIn (wordsAt text at) ws (p .rules) → peek ws .kind ≡ 266 → n ≡ first + length (p .rules) → length (p .rules) ≤ 128
+        → AllOrdered (held text rows n) (rulesUses (p .rules))
+        → PairsEnd (held text rows n) [] (set rows 5632 0) names (length (p .rules)) (pairsOf (p .rules)) r (madeFor names (knownRules 0 (p .rules)) first (length (p .rules)) (pairsOf (p .rules)))
+    done p names ag en ws x e q l or = go (rulesUses (p .rules)) or
+      where
+        go : (us : List Use) → AllOrdered (held text rows n) us
+            → PairsEnd (held text rows n) [] (set rows 5632 0) names (length (p .rules)) (firsts [] us) r (madeFor names (knownRules 0 (p .rules)) first (length (p .rules)) (firsts [] us))
+        go [] o = paired z (none-held rows size)
+        go (u ∷ us) o = absurd (no-use u (o .0))
 
 pub pairs-whole : {text rows rows′ : List ℕ} {n first at : ℕ} {r : Paired} → n ≤ 512 → length rows ≡ 6017 → PairsFrom text (set rows 5632 0) n first (n - first) at rows′ r → PairsDone text rows n first at rows′ r
 unfolding pairsOf

@@ -26,6 +26,10 @@ use Rattle.syntax.specs.Reading.{peek}
 use Rattle.syntax.specs.Written.{Operator, Program}
 use Rattle.words.specs.Words.{Word, wordsAt}
 
+-- no declaration is a section of operators
+abbrev pub NoSection : List ℕ → ℕ → Type 0
+NoSection rows n = (i : ℕ) → i < n → getD rows (8 * i) 0 ≡ 600 → ⊥
+
 abbrev pub setThree : List ℕ → ℕ → ℕ → ℕ → ℕ → List ℕ
 setThree rows i a b c = set (set (set rows i a) (i + 1) b) (i + 2) c
 

@@ -5,9 +5,9 @@ ghost use mathlib.Core.List.{List};
 ghost use Prim.Native.Nat.{ℕ, _+_, _-_, _*_, _<_, _≤_};
 ghost use lib.Dec.{eqb, ltb};
 ghost use lib.ListN.{length, getD};
-ghost use mathlib.Core.Bool.{_&&_, _||_};
+ghost use mathlib.Core.Bool.{true, _&&_, _||_};
 ghost use Rattle.maker.specs.Pairs.{pairsHeld, lookPair, lowestIn};
-ghost use Rattle.maker.specs.Pairing.{setThree, Adds, UseRead, PlaceOf, UseDone, WordDone, PairsFrom, PairsDone};
+ghost use Rattle.maker.specs.Pairing.{NoSection, setThree, Adds, UseRead, PlaceOf, UseDone, WordDone, PairsFrom, PairsDone};
 ghost use Rattle.maker.specs.Ranks.{AnEntry, noRank, rankStep, RankDone, RankBound, LevelsDone};
 ghost use Rattle.symbols.specs.Index.{Kept};
 ghost use Rattle.symbols.specs.Search.{Tells};
@@ -372,6 +372,21 @@ fn none() -> Paired
     }
 }
 
+// No declaration is a section of operators.
+fn is_without(rows: &[u16], n: usize) -> bool
+    requires { ⌜ n ≤ 512 ⌝ }
+    ensures { λ r. ⌜ (r ≡ true → NoSection (now (rows .entry)) n) ⌝ }
+{
+    let mut i: usize = 0;
+    while i < n {
+        if symbols::number(rows, 8 * i) == OPERATORS {
+            return false;
+        }
+        i += 1;
+    }
+    true
+}
+
 // The pairs of the rules from the place `at` on. The rows hold n declarations, the first rule's being `first`. A use that is not in order ends them.
 pub fn pairs(text: &[u8], rows: &mut [u16], n: usize, first: usize, at: usize) -> Paired
     requires { ⌜ (at ≤ length (now text)) × (length (now text) ≤ 32768) × (length (now rows) ≡ 6017) × Kept (now text) (now rows) n × (first ≤ 512) ⌝ }
@@ -383,6 +398,10 @@ pub fn pairs(text: &[u8], rows: &mut [u16], n: usize, first: usize, at: usize) -
     }
     let own = n - first;
     if RULES < own {
+        return none();
+    }
+    // most texts use no operators: their words are not gone through
+    if is_without(rows, n) {
         return none();
     }
     take_words(text, rows, n, first, own, at)
