@@ -34,6 +34,7 @@
  *    8  a choice rule that reaches its semicolon, `>>` without its value, or with one in a procedure rule
  *    9  over a limit
  *   20  the table passes the lent buffer or 4,096 words
+ *   45  operators: a level with both sides, or a token listed twice
  * 47 is not among them: a program whose figure passes 4,294,967,295 is accepted, and `*figure_number` says 47.
  *
  * The number that sst_load and sst_write_file answer, tested in this order; with each but 0 all that was lent is zeroed:
