@@ -36,9 +36,11 @@ uint16_t sst_shelf(const uint8_t *figures, size_t figures_len, uint64_t *books, 
 
 /* Maps a program's rules. Read: text, any bytes. Lent: rows, written from its start with SST_RULE_BYTES bytes for each rule, in text order: the start of
  * its name in the text, the length of its name, the location of its first word in the table, each 64 bits, high byte first; bytes behind the last
- * row are kept, and on a refusal all of them. A rule's words end where the next rule's begin, the last one's with the table. `*rules` becomes the
- * number of rules, 0 on a refusal. Answers 0 for a text that sst_process accepts with a table of SST_TABLE_BYTES bytes, else the number that it gives
- * there; then 20 where rows has no room for all of them. Room for SST_RULES rules is never too little. */
+ * row are kept, and on a refusal all of them. Behind them stand, in the table's order, rows for the rules that operators stand for: the name of such a
+ * rule is what stands from the `^` of the first use of its section and operand rule to the end of that rule's name, the same for each level, the
+ * lowest first; it may hold blanks and line feeds. A rule's words end where the next rule's begin, the last one's with the table. `*rules` becomes the
+ * number of rules, those among them, 0 on a refusal. Answers 0 for a text that sst_process accepts with a table of SST_TABLE_BYTES bytes, else the
+ * number that it gives there; then 20 where rows has no room for all of them. Room for SST_RULES rules is never too little. */
 uint16_t sst_rules(const uint8_t *text, size_t text_len, uint8_t *rows, size_t rows_len, uint64_t *rules);
 
 /* The most rules of a program, and the bytes of a rule's row. */
