@@ -1,1 +1,48 @@
-// The program as a row of 16-bit cells, as definitions; this crate has no code.
+// The program as a row of 16-bit cells: definitions, and the first cells of what stands in a row.
+
+// The end of a list of actions, an exit, and a cycle.
+pub const END: u16 = 0;
+
+pub const EXIT: u16 = 1;
+
+pub const CYCLE: u16 = 2;
+
+pub const MATCH: u16 = 3;
+
+pub const ANY: u16 = 4;
+
+pub const EMIT: u16 = 5;
+
+pub const ERROR: u16 = 6;
+
+pub const BY_TOKEN: u16 = 7;
+
+pub const CALL: u16 = 8;
+
+pub const BACK: u16 = 9;
+
+pub const GIVE: u16 = 10;
+
+pub const BY_RULE: u16 = 11;
+
+// No otherwise, an otherwise, and no otherwise of a choice by token.
+pub const NO_OTHERWISE: u16 = 12;
+
+pub const OTHERWISE: u16 = 13;
+
+pub const NO_TOKEN: u16 = 14;
+
+// An alternative with j labels is this and j more.
+pub const ALTERNATIVE: u16 = 64;
+
+// The operations, each sort from its first number on.
+pub const UPDATE: u16 = 256;
+
+pub const UPDATE_WITH: u16 = 512;
+
+pub const ASK: u16 = 768;
+
+pub const ASK_WITH: u16 = 1024;
+
+// The room for a program whose table fits.
+pub const CELLS: usize = 4224;

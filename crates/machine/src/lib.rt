@@ -5,6 +5,61 @@ ghost use lib.ListN.{getD};
 ghost use Rattle.machine.specs.Bytes.{count, wordsOf};
 ghost use Rattle.machine.specs.Lengths.{lengthOf};
 
+// The instructions by their numbers.
+pub const JUMP_FORWARD: u16 = 1;
+
+pub const JUMP_BACK: u16 = 2;
+
+pub const INPUT: u16 = 3;
+
+pub const INPUT_ANY: u16 = 4;
+
+pub const EMIT: u16 = 5;
+
+pub const ERROR: u16 = 6;
+
+pub const INPUT_CHOICE: u16 = 7;
+
+pub const CALL: u16 = 8;
+
+pub const RETURN: u16 = 9;
+
+pub const SET_RESULT: u16 = 10;
+
+pub const CHOICE: u16 = 11;
+
+pub const END_CHOICE: u16 = 12;
+
+pub const SET_PARAMETER: u16 = 13;
+
+// The operations, each sort from its first number on, and the first number past them.
+pub const UPDATE: u16 = 256;
+
+pub const UPDATE_WITH: u16 = 512;
+
+pub const ASK: u16 = 768;
+
+pub const ASK_WITH: u16 = 1024;
+
+pub const PAST_OPERATIONS: u16 = 1280;
+
+const LAST_PLAIN: usize = SET_PARAMETER as usize;
+
+const FIRST_OPERATION: usize = UPDATE as usize;
+
+const LAST_OPERATION: usize = PAST_OPERATIONS as usize - 1;
+
+// The kinds of events, and the words that an event takes.
+pub const OUTPUT_EVENT: u16 = 1;
+
+pub const ERROR_EVENT: u16 = 2;
+
+pub const OPERATION_EVENT: u16 = 3;
+
+pub const REPAIR_EVENT: u16 = 4;
+
+pub const EVENT_WORDS: usize = 3;
+
 // The lengths of instructions 1 to 13, in words, each at its number less one.
 pub const LENGTHS: [usize; 13] = [2, 2, 2, 1, 2, 2, 2, 2, 1, 2, 2, 1, 2];
 
@@ -22,14 +77,14 @@ pub fn instruction_length(number: u16) -> usize
     if n == 0 {
         return 0;
     }
-    if n <= 13 {
+    if n <= LAST_PLAIN {
         return LENGTHS[n - 1];
     }
-    if n < 256 {
+    if n < FIRST_OPERATION {
         return 0;
     }
     // the operations
-    if n <= 1279 { 1 } else { 0 }
+    if n <= LAST_OPERATION { 1 } else { 0 }
 }
 
 // The whole words of s: an odd last byte counts for nothing.

@@ -12,8 +12,63 @@ ghost use Rattle.symbols.specs.Index.{bucketOf, headAt, nextOf, pushRows
 ghost use Rattle.symbols.specs.Rows.{wordOf, declAt, held, numberOf, rowIn, operationIn, operatorsRow, ruleIn, Looks};
 ghost use Rattle.symbols.specs.Search.{part, serves, knows, named, declares, counts, Tells};
 
-// The class of sections of operators.
-const OPERATORS: usize = 600;
+// A declaration takes this many numbers of the rows: its class, its value, and where its words stand.
+pub const ROW: usize = 8;
+
+pub const CLASS: usize = 0;
+
+pub const VALUE: usize = 1;
+
+pub const NAME_START: usize = 2;
+
+pub const NAME_LEN: usize = 3;
+
+pub const SECOND_START: usize = 4;
+
+pub const SECOND_LEN: usize = 5;
+
+pub const THIRD_START: usize = 6;
+
+pub const THIRD_LEN: usize = 7;
+
+// The classes; the values of the type that is declaration i are of class VALUES + i.
+pub const INPUT: usize = 1;
+
+pub const OUTPUT: usize = 2;
+
+pub const BOTH: usize = 3;
+
+pub const ERROR: usize = 4;
+
+pub const TYPE: usize = 5;
+
+pub const OPERATION: usize = 6;
+
+pub const RULE: usize = 7;
+
+pub const VALUES: usize = 8;
+
+pub const OPERATORS: usize = 600;
+
+// Behind the rows: the heads of the chains, their links, how many pairs of a section and a rule there are, and the pairs.
+pub const HEADS: usize = 4096;
+
+pub const BUCKETS: usize = 512;
+
+pub const LINKS: usize = 4608;
+
+pub const PAIRS: usize = 5632;
+
+pub const PAIR: usize = 3;
+
+pub const PAIR_SECTION: usize = 5633;
+
+pub const PAIR_OPERAND: usize = 5634;
+
+pub const PAIR_RULE: usize = 5635;
+
+// No value and no declaration: more than any.
+pub const NONE: usize = 65536;
 
 // Parts of the text
 
