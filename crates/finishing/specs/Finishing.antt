@@ -1,5 +1,21 @@
 -- "A program is finishing exactly if no cycle has a quiet path from its start to its end and no rule can quietly come to a call of
 -- itself, directly or through others. All rules count, called or not."
+--
+-- A picture: a rule that breaks lines, and its quiet paths, each with the constructors that say so. `fits` is an operation, Foot a rule that gives `some` or `none`
+-- without a token read.
+--
+--     Lines:
+--       {  [ fits                   opens-operation: an operation's answer is any, so each alternative is open
+--            | yes: ? .line         `?` reads a token: no path
+--            | no: .page > ]        path-labelled (paths-that ..): .page (path-emit), then toExit (path-exit)
+--       }                           path-out: a path of the cycle to its end; `loop-here` has none, since no path comes to the body's end
+--       [ @Foot                     path-selects: toCall Foot
+--            | some: .mark          path-named: Foot gives `some` (Gives), so through .mark to the end
+--            | *: ]                 path-unnamed: Foot gives `none`, which no label names
+--       ;                           by-end: a quiet path to the rule's return, so a call of Lines is passed quietly (Passed)
+--
+-- With `yes: .line` for `yes: ? .line` the body has a path to its end: `loop-here`, and the program is not finishing. With @Lines in Foot before a token is
+-- read, Lines comes to Foot and Foot to Lines: `through`, and it is not finishing either.
 use mathlib.Core.Bool.{Bool, true, false, _||_}
 use mathlib.Core.List.{List}
 use mathlib.Core.Path.{_≡_}

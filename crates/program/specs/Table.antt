@@ -1,5 +1,25 @@
 -- The table of a program: "Words of 16 bits, locations from 1". Every distance is a sum of sizes, so nothing is subtracted and
 -- nothing is cut to 16 bits.
+--
+-- A picture: a rule, its words, and the sums. In locations: forward, the jump at l to t is `1, t - (l + 1)`; back, it is `2, (l + 1) - t`; the
+-- choice at l with its table at c is `7, c - (l + 1)`; the label at l with its alternative at t is `v, (l + 1) - t`.
+--
+--     M: { [ | a: .o | b, c: > | *: ? ] } ;        a, b, c and o have the values 0, 1, 2 and 0
+--
+--      1   7  9     inputChoice, its table at 2 + 9 = 11: sizeAlts + 1, and sizeAlts is (2 + 2) + (2 + 2)
+--      3   5  0       .o
+--      5   1 13       to the choice's end, 6 + 13 = 19: 1 + sizeAlts + rest, with 4 words of alternatives behind it and rest = 1 + 2 * 3 + 1
+--      7   1 13       > past the cycle, 8 + 13 = 21: out + 1, and out is 2 + 0 + (rest + 2), the last 2 for the cycle's jumpBack
+--      9   1  9       to the choice's end, 10 + 9 = 19: 1 + 0 + rest
+--     11   3        the choice table: three labels
+--     12   0 10       a: back to 13 - 10 = 3: d + (p + 1), with d = 2 + (2 + 4) and p = 1
+--     14   1  8       b: back to 15 - 8 = 7: d = 2 + (2 + 0), p = 3
+--     16   2 10       c: back to 17 - 10 = 7: d = 4, p = 5
+--     18   4        ? of otherwise
+--     19   2 19     jumpBack to 20 - 19 = 1: sizes + 1, the body having 18 words
+--     21   9        return
+--
+-- Without otherwise `3 0 2 18` stands at 18: input of the first label, and back to its alternative, 21 - 18 = 3.
 use mathlib.Core.Bool.{Bool, true, false}
 use mathlib.Core.List.{List, [], _∷_, _++_}
 use Prim.Native.Nat.{ℕ, zero, suc, _+_, _*_}

@@ -1,5 +1,18 @@
 -- Sections: "A section is a head, a colon, one entry or more, a semicolon." Values and instruction numbers are counted here, since a
 -- value past 65,535 and a 257th operation are limits.
+--
+-- A picture: sections, what is read of them, and what `after` keeps for the next one. The grammar is in what is read (`entries`, `someOperations`,
+-- `someOperators`, `aSection`), the counting in `after` and in the values and instruction numbers, the limits where a name is read (`oneName left`),
+-- where a value is counted (`aCount`) and where an operation's kind is full (`isFull`).
+--
+--                                                                                  left  input  output  seen
+--                                                                                   512      0       0  []
+--     input: a b = 5 c;             inputs, a 0, b 5, c 6                           509      7       0  []
+--     output: o;                    outputs, o 0                                    508      7       1  []
+--     input output: d;              both, d 7: above the greatest of either         507      8       8  []
+--     type T: y n;                  values, T, y 0, n 1                             504      8       8  []
+--     mechanism P: f g(T) h>>T;     operations, f 256, g 512, h 768                 501      8       8  [256, 512, 768]
+--     operators E: a 1 left o;      operators, E, one operator                      500      8       8  [256, 512, 768]
 use mathlib.Core.Bool.{Bool, true, false, _&&_, _||_}
 use mathlib.Core.List.{List, [], _∷_, _++_}
 use mathlib.Core.Option.{Option, none, some}
