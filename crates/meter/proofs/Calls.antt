@@ -24,16 +24,16 @@ use Rattle.meter.proofs.Words.{default-way}
 
 -- A choice by the present token
 
-pub token-visited : {T : List ℕ} {c base r l k n flag : ℕ} {rows mid after : List ℕ} {a b e : Bool} → fetch T c ≡ some n → flag ≡ flagOf base → WaysRaised T c flag base rows mid a
-    → RaisedTwo base (overAt r) k (c + 1 + 2 * n) (k + 1) mid after b → e ≡ (a || b) → TokenVisited T c base r l k rows after e
-token-visited {T} {c} {base} {r} {l} {k} {n} {flag} f g x y q = rw q (record {
+pub token-visited : {T : List ℕ} {c : ℕ} {called : List ℕ} {r l k n flag : ℕ} {rows mid after : List ℕ} {a b e : Bool} → fetch T c ≡ some n → flag ≡ flagOf called → WaysRaised T c flag rows mid a
+    → RaisedTwo (overAt r) k (c + 1 + 2 * n) (k + 1) mid after b → e ≡ (a || b) → TokenVisited T c called r l k rows after e
+token-visited {T} {c} {called} {r} {l} {k} {n} {flag} f g x y q = rw q (record {
   sized = y .sized ∙ x .sized;
   steps = λ kp h d.
       let s = x .steps kp (λ w. rw g (may kp h d (marks-label w))) in
       covers (λ j v m. ask (rw (← g) at m)) (seq s (y .steps (s .kept) (may (s .kept) h d makes-token) (rw (← default-way T c f) (may (s .kept) h d makes-default))));
 })
   where
-    ask : {S : List ℕ} {called : ℕ → ℕ} {fl j v : ℕ} {rows : List ℕ} → Makes T S called fl r l k (inputChoice c) j v → Both (Ways T c fl) (Both (Only (overAt r) k) (Only (c + 1 + 2 * n) (k + 1))) rows j v
+    ask : {S : List ℕ} {numbers : ℕ → ℕ} {fl j v : ℕ} {rows : List ℕ} → Makes T S numbers fl r l k (inputChoice c) j v → Both (Ways T c fl) (Both (Only (overAt r) k) (Only (c + 1 + 2 * n) (k + 1))) rows j v
     ask makes-token = that (this only)
     ask makes-default = that (that (rw (default-way T c f) only))
     ask (marks-label w) = this (ways w)
@@ -115,41 +115,41 @@ set-decode T p {i} {v} f e g =
     let g₁ : fetch T (suc p) ≡ some v = rw (add-one p) at g in
     rw (f₁, g₁) refl
 
-module _ {T S : List ℕ} {base k c p : ℕ} {rows : List ℕ} (kp : Kept T S base rows) where
-  no-value : ((v : ℕ) → decode T p ≡ setResult v → ⊥) → Steps T S (ValueAt T c k p) base rows rows false
+module _ {T S called : List ℕ} {k c p : ℕ} {rows : List ℕ} (kp : Kept T S called rows) where
+  no-value : ((v : ℕ) → decode T p ≡ setResult v → ⊥) → Steps T S (ValueAt T called c k p) called rows rows false
   no-value f = stays kp (λ i v m. absurd (none-here m))
     where
-      none-here : {i v : ℕ} → ValueAt T c k p rows i v → ⊥
+      none-here : {i v : ℕ} → ValueAt T called c k p rows i v → ⊥
       none-here (value-at {v = v} d z) = f v d
 
-  pub value-0 : p ≡ 0 → Steps T S (ValueAt T c k p) base rows rows false
+  pub value-0 : p ≡ 0 → Steps T S (ValueAt T called c k p) called rows rows false
   value-0 e = no-value (λ v d. let z = fetch-inside T p (rw (set-words T p v d .0) refl) in omega (arith, z .0))
 
-  pub value-cut : length T ≤ p → Steps T S (ValueAt T c k p) base rows rows false
+  pub value-cut : length T ≤ p → Steps T S (ValueAt T called c k p) called rows rows false
   value-cut h = no-value (λ v d. let z = fetch-inside T (p + 1) (rw (set-words T p v d .1) refl) in omega (arith, z .1))
 
-  pub value-other : {i : ℕ} → fetch T p ≡ some i → (i ≡ 10 → ⊥) → Steps T S (ValueAt T c k p) base rows rows false
+  pub value-other : {i : ℕ} → fetch T p ≡ some i → (i ≡ 10 → ⊥) → Steps T S (ValueAt T called c k p) called rows rows false
   value-other {i} f n = no-value (λ v d. n (let z : some i ≡ some 10 = sym f ∙ set-words T p v d .0 in cc))
 
-  pub value-unreached : calledOf rows p ≡ 0 → Steps T S (ValueAt T c k p) base rows rows false
+  pub value-unreached : calledOf called rows p ≡ 0 → Steps T S (ValueAt T called c k p) called rows rows false
   value-unreached e = stays kp (λ i v m. absurd (none-here m))
     where
-      none-here : {i v : ℕ} → ValueAt T c k p rows i v → ⊥
+      none-here : {i v : ℕ} → ValueAt T called c k p rows i v → ⊥
       none-here (value-at d z) = omega arith
 
-  pub value-raised : {r l i v m way u : ℕ} {after : List ℕ} {b : Bool} → ValueHere T S base r l k c p → fetch T p ≡ some i → i ≡ 10 → fetch T (p + 1) ≡ some v → m ≡ calledOf rows p → (m ≡ 0 → ⊥)
-      → way ≡ wayOut T c (some v) → u ≡ k + m + 3 → Raised base way u rows after b → Steps T S (ValueAt T c k p) base rows after b
+  pub value-raised : {r l i v m way u : ℕ} {after : List ℕ} {b : Bool} → ValueHere T S called r l k c p → fetch T p ≡ some i → i ≡ 10 → fetch T (p + 1) ≡ some v → m ≡ calledOf called rows p → (m ≡ 0 → ⊥)
+      → way ≡ wayOut T c (some v) → u ≡ k + m + 3 → Raised way u rows after b → Steps T S (ValueAt T called c k p) called rows after b
   value-raised {r} {l} {i} {v} {m} {way} {u} {after} {b} h f e g z s w y x =
       let d = set-decode T p f e g in
-      let t : u ≡ k + calledOf rows p + 3 = y ∙ ap (λ (n : ℕ). k + n + 3) z in
-      let x₁ : Raised base (wayOut T c (some v)) (k + calledOf rows p + 3) rows after b = rw (w, t) at x in
+      let t : u ≡ k + calledOf called rows p + 3 = y ∙ ap (λ (n : ℕ). k + n + 3) z in
+      let x₁ : Raised (wayOut T c (some v)) (k + calledOf called rows p + 3) rows after b = rw (w, t) at x in
       covers (λ j n a. ask d a) (x₁ .steps kp (may kp (h .here .here) (h .here .calls) (makes d)))
     where
-      ask : decode T p ≡ setResult v → {j n : ℕ} → ValueAt T c k p rows j n → Only (wayOut T c (some v)) (k + calledOf rows p + 3) rows j n
+      ask : decode T p ≡ setResult v → {j n : ℕ} → ValueAt T called c k p rows j n → Only (wayOut T c (some v)) (k + calledOf called rows p + 3) rows j n
       ask d (value-at {v = a} d₁ q) = let o : a ≡ v = (let o₁ : setResult a ≡ setResult v = sym d₁ ∙ d in cc) in rw o only
 
-      makes : decode T p ≡ setResult v → Makes T S (calledOf rows) (flagOf base) r l k (callRule (startOf S (h .rule))) (wayOut T c (some v)) (k + calledOf rows p + 3)
-      makes d = makes-call-value {s = startOf S (h .rule)} {p = p} (rw (h .here .is-index) (h .here .found)) (h .chooses) (rw (h .here .is-index) (h .in-rule)) d (positive (calledOf rows p) (λ n. s (z ∙ n)))
+      makes : decode T p ≡ setResult v → Makes T S (calledOf called rows) (flagOf called) r l k (callRule (startOf S (h .rule))) (wayOut T c (some v)) (k + calledOf called rows p + 3)
+      makes d = makes-call-value {s = startOf S (h .rule)} {p = p} (rw (h .here .is-index) (h .here .found)) (h .chooses) (rw (h .here .is-index) (h .in-rule)) d (positive (calledOf called rows p) (λ n. s (z ∙ n)))
         where
           positive : (n : ℕ) → (n ≡ 0 → ⊥) → 0 < n
           positive zero f = absurd (f refl)

@@ -1,22 +1,18 @@
 -- The greatest number of the second half is the figure.
-use mathlib.Core.List.{List, _++_, append-nil}
-use mathlib.Core.Logic.{_⊎_, inl, inr}
+use mathlib.Core.List.{List, [], _∷_, _++_, append-nil}
 use mathlib.Core.Option.{none}
 use mathlib.Core.Path.{_≡_, refl, sym, ap, _∙_}
 use native.Mathlib.Decide.{decLt}
-use native.Mathlib.Nat.{zero-add}
 use native.Mathlib.Omega.{arith}
-use Prim.Native.Nat.{ℕ, zero, suc, _+_, _-_, _≤_, _<_, min}
+use Prim.Native.Nat.{ℕ, zero, suc, _+_, _≤_, _<_}
 use lib.ListN.{length, getD, set, drop, replicate, length-set, length-replicate, drop-of-length-le, List·getD-eq-default}
 use borrow.Author.Fill.{fill-none, fill-more}
-use Rattle.machine.specs.Decode.{Instruction, decode}
 use Rattle.figure.specs.Figure.{Reached, at-start, End, Quiet, Bounds, Figure, Long}
 use Rattle.meter.specs.Found.{Starts, starts, Found}
-use Rattle.meter.specs.Makes.{overAt, backAt, half, cap, Makes, makes-jump, makes-input, marks-input, makes-any, marks-any, makes-write, makes-token, makes-default, marks-label, makes-call-over, makes-call-back, makes-call-value, marks-call, makes-return, makes-result, makes-choice, makes-end, makes-parameter, makes-update, makes-updateWith, makes-choose, makes-choose-over, makes-chooseWith, makes-chooseWith-over, Closed, Origin, the-start, any-place, Ends, Sound, Stands, stands-place, stands-over, stands-back}
-use Rattle.meter.specs.Shaped.{indexOf, startOf, InRule, Shaped}
+use Rattle.meter.specs.Makes.{overAt, backAt, half, cap, Closed, Origin, the-start, any-place, Ends, Sound, Stands, stands-place, stands-over, stands-back}
+use Rattle.meter.specs.Shaped.{startOf, Shaped}
 use Rattle.meter.specs.Steps.{flagOf, rowOf, calledOf, Kept, asked-at, asked-from, Greatest, Begun, Settled}
 use Rattle.meter.proofs.Bounds.{Most, bounds}
-use Rattle.meter.proofs.Stands.{set-inside}
 
 -- The greatest number
 
@@ -80,94 +76,57 @@ zero-at zero i = refl
 zero-at (suc n) zero = refl
 zero-at (suc n) (suc i) = zero-at n i
 
+none-at : {rows : List ℕ} → rows ≡ replicate 4353 0 → (i : ℕ) → getD rows i 0 ≡ 0
+none-at e i = ap (λ (l : List ℕ). getD l i 0) e ∙ zero-at 4353 i
+
 module _ {T S : List ℕ} where
   no-numbers : {row : ℕ → ℕ} {flag : ℕ} → ((i : ℕ) → i < half → row i ≡ 0) → Sound T S row flag
   no-numbers f = record { stands = λ i h p. absurd (omega (arith, f i h)) }
 
-  pub cleared-kept : {rows : List ℕ} → Shaped T S → rows ≡ replicate 8706 0 → Kept T S 0 rows
-  cleared-kept {rows} sh e = record {
-    sized = ap length e ∙ length-replicate {A = ℕ} 8706 0;
-    is-half = inl refl;
+  pub cleared-kept : {empty rows : List ℕ} → Shaped T S → empty ≡ [] → rows ≡ replicate 4353 0 → Kept T S empty rows
+  unfolding calledOf
+  cleared-kept {rows = rows} sh n e = rw n (record {
+    sized = ap length e ∙ length-replicate {A = ℕ} 4353 0;
     shaped = sh;
-    small = λ i. omega (arith, none-at i);
-    first = no-numbers (λ i h. none-at i);
-    row = no-numbers (λ i h. none-at (0 + i));
-  }
-    where
-      none-at : (i : ℕ) → getD rows i 0 ≡ 0
-      none-at i = ap (λ (l : List ℕ). getD l i 0) e ∙ zero-at 8706 i
+    small = λ i. omega (arith, none-at e i);
+    called-small = λ i. omega (arith, none-at e i);
+    first = no-numbers (λ i h. none-at e i);
+    row = no-numbers (λ i h. none-at e i);
+  })
 
-  -- the second half has no numbers while the first is settled
-  pub second-kept : {r₁ r₂ r₃ : List ℕ} → r₁ ≡ replicate 8706 0 → Begun T S 0 r₁ r₂ → Settled T S 0 r₂ r₃ → Kept T S half r₃
-  second-kept {r₁} {r₂} {r₃} e b s = record {
-    sized = s .kept .sized;
-    is-half = inr refl;
-    shaped = s .kept .shaped;
-    small = s .kept .small;
-    first = s .kept .first;
-    row = no-numbers (λ i h. none-at (half + i) (omega arith));
-  }
+  -- the second half has no numbers yet, and the first is settled
+  pub second-kept : {empty mid called lent rows : List ℕ} → empty ≡ [] → lent ≡ called → rows ≡ replicate 4353 0 → Settled T S empty mid called → Kept T S lent rows
+  unfolding flagOf calledOf
+  second-kept {mid = mid} {called} {rows = rows} n l e s = let z : Settled T S [] mid called = rw n at s in rw l (go called z)
     where
-      none-at : (i : ℕ) → half ≤ i → getD r₃ i 0 ≡ 0
-      none-at i h = s .high i (omega arith) ∙ b .high i (omega arith) ∙ ap (λ (l : List ℕ). getD l i 0) e ∙ zero-at 8706 i
+      go : (called : List ℕ) → Settled T S [] mid called → Kept T S called rows
+      go [] z = absurd (omega (arith, z .kept .sized))
+      go (c ∷ cs) z = record {
+        sized = ap length e ∙ length-replicate {A = ℕ} 4353 0;
+        shaped = z .kept .shaped;
+        small = λ i. omega (arith, none-at e i);
+        called-small = z .kept .small;
+        first = z .kept .row;
+        row = no-numbers (λ i h. none-at e i);
+      }
 
 -- Nothing is left to be raised
 
 module _ {T S : List ℕ} where
-  -- the same numbers of called rules ask for the same
-  makes-same : {called after : ℕ → ℕ} {flag r l k i v : ℕ} {ins : Instruction} → Shaped T S → ((j : ℕ) → j < half → after j ≡ called j) → Makes T S called flag r l k ins i v → Makes T S after flag r l k ins i v
-  makes-same sh f makes-jump = makes-jump
-  makes-same sh f makes-input = makes-input
-  makes-same sh f marks-input = marks-input
-  makes-same sh f makes-any = makes-any
-  makes-same sh f marks-any = marks-any
-  makes-same sh f makes-write = makes-write
-  makes-same sh f makes-token = makes-token
-  makes-same sh f makes-default = makes-default
-  makes-same sh f (marks-label v) = marks-label v
-  makes-same sh f (makes-call-over {s = s} q) =
-      let e = f (overAt (indexOf S s)) (omega (arith, sh .few)) in
-      rw (← e) (makes-call-over q)
-  makes-same sh f (makes-call-back {s = s} q d h) =
-      let e = f (backAt (indexOf S s)) (omega (arith, sh .few)) in
-      rw (← e) (makes-call-back q d (omega arith))
-  makes-same sh f (makes-call-value {p = p} q d i g h) =
-      let e = f p (omega (arith, sh .short, set-inside T p g)) in
-      rw (← e) (makes-call-value q d i g (omega arith))
-  makes-same sh f (marks-call q) = marks-call q
-  makes-same sh f makes-return = makes-return
-  makes-same sh f makes-result = makes-result
-  makes-same sh f (makes-choice v) = makes-choice v
-  makes-same sh f makes-end = makes-end
-  makes-same sh f makes-parameter = makes-parameter
-  makes-same sh f makes-update = makes-update
-  makes-same sh f makes-updateWith = makes-updateWith
-  makes-same sh f makes-choose = makes-choose
-  makes-same sh f makes-choose-over = makes-choose-over
-  makes-same sh f makes-chooseWith = makes-chooseWith
-  makes-same sh f makes-chooseWith-over = makes-chooseWith-over
-
-  closed-half : {base : ℕ} {rows mid after : List ℕ} {called : ℕ → ℕ} → Begun T S base rows mid → Settled T S base mid after → ((j : ℕ) → j < half → calledOf after j ≡ called j) → Closed T S called (rowOf base after) (flagOf base)
-  closed-half {base} {after = after} b s f = record {
-    closed = λ hr i w m h. s .all (asked-from (omega arith) hr i (asked-at w (makes-same (s .kept .shaped) f m))) h;
-    begun = λ r hr. omega (arith, b .begun r hr, s .grows (base + startOf S r));
+  closed-half : {called mid after : List ℕ} → Begun T S called mid → Settled T S called mid after → Closed T S (calledOf called after) (rowOf after) (flagOf called)
+  closed-half b s = record {
+    closed = λ hr i w m h. s .all (asked-from (omega arith) hr i (asked-at w m)) h;
+    begun = λ r hr. omega (arith, b .begun r hr, s .grows (startOf S r));
   }
 
-  -- of the first half
-  closed-first : {rows mid after : List ℕ} → Begun T S 0 rows mid → Settled T S 0 mid after → Closed T S (calledOf after) (calledOf after) 0
-  unfolding flagOf
-  closed-first {after = after} b s = let c = closed-half b s (λ j h. refl) in record {
-    closed = λ {r} {l} {i} {v} hr n w m h. same c hr n w m h;
-    begun = λ r hr. rw (← at-zero (startOf S r)) (c .begun r hr);
-  }
-    where
-      at-zero : (i : ℕ) → rowOf 0 after i ≡ calledOf after i
-      at-zero i = ap (λ (j : ℕ). getD after j 0) (zero-add i)
+  closed-first : {mid after : List ℕ} → Begun T S [] mid → Settled T S [] mid after → Closed T S (rowOf after) (rowOf after) 0
+  unfolding flagOf calledOf
+  closed-first b s = closed-half b s
 
-      same : Closed T S (calledOf after) (rowOf 0 after) 0 → {r l i v : ℕ} → r < length S → InRule T S r l → 0 < calledOf after l → Makes T S (calledOf after) 0 r l (calledOf after l) (decode T l) i v → i < half → min v cap ≤ calledOf after i
-      same c {r} {l} {i} {v} hr n w m h =
-          let m₁ : Makes T S (calledOf after) 0 r l (rowOf 0 after l) (decode T l) i v = rw (at-zero l) m in
-          omega (arith, at-zero i, c .closed hr n (omega (arith, at-zero l)) m₁ h)
+  closed-second : (called : List ℕ) {mid after : List ℕ} → length called ≡ half → Begun T S called mid → Settled T S called mid after → Closed T S (rowOf called) (rowOf after) 1
+  unfolding flagOf calledOf
+  closed-second [] e b s = absurd (omega arith)
+  closed-second (n ∷ ns) e b s = closed-half b s
 
   -- The figure
 
@@ -184,18 +143,14 @@ module _ {T S : List ℕ} where
   long-stands h (stands-back r z y c) = long-ends z c
 
   -- the greatest number is that of a path
-  long-greatest : {rows : List ℕ} {q : ℕ} → Kept T S half rows → Greatest rows (half + overAt 0) q → 0 < q → Long T (Starts S) q
-  long-greatest {rows} {q} k g h = go (g .attained h)
+  long-greatest : {called rows : List ℕ} {q : ℕ} → Kept T S called rows → Greatest rows (overAt 0) q → 0 < q → Long T (Starts S) q
+  long-greatest {rows = rows} {q = q} k g h = go (g .attained h)
     where
-      go : (i : ℕ) × (half + overAt 0 ≤ i) × (i < length rows) × (getD rows i 0 ≡ q) → Long T (Starts S) q
-      go (i, a, b, e) =
-          let f : half + (i - half) ≡ i = omega arith in
-          let z : rowOf half rows (i - half) ≡ q = ap (λ (j : ℕ). getD rows j 0) f ∙ e in
-          let st = k .row .stands (i - half) (omega (arith, k .sized)) (omega arith) in
-          long-stands (omega arith) (rw z at st)
+      go : (i : ℕ) × (overAt 0 ≤ i) × (i < length rows) × (getD rows i 0 ≡ q) → Long T (Starts S) q
+      go (i, a, b, e) = let st = k .row .stands i (omega (arith, k .sized)) (omega arith) in long-stands (omega arith) (rw e at st)
 
-  most-greatest : {rows : List ℕ} {q : ℕ} → Greatest rows (half + overAt 0) q → Most T S (rowOf half rows) q
-  most-greatest g = record { overs = λ r h. g .most (half + overAt r) (omega arith); backs = λ r h. g .most (half + backAt r) (omega arith) }
+  most-greatest : {rows : List ℕ} {q : ℕ} → Greatest rows (overAt 0) q → Most T S (rowOf rows) q
+  most-greatest g = record { overs = λ r h. g .most (overAt r) (omega arith); backs = λ r h. g .most (backAt r) (omega arith) }
 
   fewer-long : {q n : ℕ} → n ≤ q → Long T (Starts S) q → Long T (Starts S) n
   fewer-long h c = record { start = c .start; location = c .location; end = c .end; count = c .count; is-start = c .is-start; reached = c .reached; path = c .path; long = omega (arith, c .long) }
@@ -205,21 +160,23 @@ module _ {T S : List ℕ} where
       let e : c .count ≡ q = omega (arith, c .long, b .most (c .is-start) (c .reached) (c .path)) in
       record { bounds = b; start = c .start; location = c .location; end = c .end; is-start = c .is-start; reached = c .reached; path = rw e at (c .path) }
 
-  pub found : {r₁ r₂ r₃ r₄ r₅ : List ℕ} {q : ℕ} → Begun T S 0 r₁ r₂ → Settled T S 0 r₂ r₃ → Begun T S half r₃ r₄ → Settled T S half r₄ r₅ → Greatest r₅ (half + overAt 0) q → Found T S q
-  unfolding flagOf
-  found {r₃ = r₃} {r₅ = r₅} {q = q} b₁ s₁ b₂ s₂ g = record {
+  pub found : {empty lent mid₁ called mid₂ rows : List ℕ} {q : ℕ} → empty ≡ [] → lent ≡ called → Begun T S empty mid₁ → Settled T S empty mid₁ called → Begun T S lent mid₂ → Settled T S lent mid₂ rows → Greatest rows (overAt 0) q → Found T S q
+  found {mid₁ = mid₁} {called} {mid₂} {rows} {q} n l b₁ s₁ b₂ s₂ g = record {
     bounds = λ h. bounded h;
     exact = λ h z. exactly (bounded h) (long-greatest (s₂ .kept) g z);
     long = λ h. fewer-long h (long-greatest (s₂ .kept) g (omega arith));
   }
     where
-      same : (j : ℕ) → j < half → calledOf r₅ j ≡ calledOf r₃ j
-      same j h = s₂ .low j h ∙ b₂ .low j h
-
       bounded : q < cap → Bounds T (Starts S) q
       bounded h = record { most = λ st re p. go st re p }
         where
+          first : Closed T S (rowOf called) (rowOf called) 0
+          first = let b : Begun T S [] mid₁ = rw n at b₁ in let s : Settled T S [] mid₁ called = rw n at s₁ in closed-first b s
+
+          second : Closed T S (rowOf called) (rowOf rows) 1
+          second = let b : Begun T S called mid₂ = rw l at b₂ in let s : Settled T S called mid₂ rows = rw l at s₂ in closed-second called (s₁ .kept .sized) b s
+
           go : {s l n : ℕ} {e : End} → Starts S s → Reached T s l → Quiet T l none n e → n ≤ q
           go {l = l} (starts r hr e) re p =
               let re₁ : Reached T (startOf S r) l = rw e at re in
-              bounds T S (s₁ .kept .shaped) (calledOf r₃) (rowOf half r₅) (closed-first b₁ s₁) (closed-half b₂ s₂ same) q (most-greatest g) h hr re₁ p
+              bounds T S (s₁ .kept .shaped) (rowOf called) (rowOf rows) first second q (most-greatest g) h hr re₁ p

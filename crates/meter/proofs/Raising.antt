@@ -6,7 +6,7 @@ use mathlib.Core.Option.{Option, none, some}
 use mathlib.Core.Path.{_≡_, refl, sym, ap, _∙_}
 use native.Mathlib.Decide.{decLt}
 use native.Mathlib.Omega.{arith}
-use Prim.Native.Nat.{ℕ, zero, suc, _+_, _-_, _≤_, _<_, min}
+use Prim.Native.Nat.{ℕ, zero, suc, _-_, _≤_, _<_, min}
 use lib.ListN.{length, getD, set, length-set}
 use lib.Seq.{getD-set-same, getD-set-other}
 use Rattle.base.specs.Bools.{never}
@@ -46,9 +46,6 @@ module _ {T S : List ℕ} where
       at-place j b p (inl e) = rw e (so .stands j b (omega arith))
       at-place j b p (inr e) = rw (e .1, e .0) (fewer h st)
 
-  pub sound-low : {row after : ℕ → ℕ} {flag : ℕ} → ((j : ℕ) → j < half → after j ≡ row j) → Sound T S row flag → Sound T S after flag
-  sound-low f so = record { stands = λ j b p. let e = f j b in rw e (so .stands j b (omega arith)) }
-
 -- One place of a list
 
 set-either : (rows : List ℕ) (i w j : ℕ) → i < length rows → (getD (set rows i w) j 0 ≡ getD rows j 0) ⊎ ((j ≡ i) × (getD (set rows i w) j 0 ≡ w))
@@ -62,66 +59,65 @@ set-either rows i w j h = elim (decLt j i) [
   ]
 ]
 
-module _ {T S : List ℕ} {base : ℕ} where
+-- it is the cap at most
+small-set : (rows : List ℕ) {i w : ℕ} → i < length rows → w ≤ cap → ((j : ℕ) → getD rows j 0 ≤ cap) → (j : ℕ) → getD (set rows i w) j 0 ≤ cap
+small-set rows {i} {w} n h f j = go (set-either rows i w j n)
+  where
+    go : (getD (set rows i w) j 0 ≡ getD rows j 0) ⊎ ((j ≡ i) × (getD (set rows i w) j 0 ≡ w)) → getD (set rows i w) j 0 ≤ cap
+    go (inl e) = omega (arith, f j)
+    go (inr e) = omega (arith, e .1)
+
+-- The called rules' numbers are those where one is raised, or others
+
+called-small-set : (called rows : List ℕ) {i w : ℕ} → i < length rows → w ≤ cap → ((j : ℕ) → calledOf called rows j ≤ cap) → (j : ℕ) → calledOf called (set rows i w) j ≤ cap
+unfolding calledOf
+called-small-set [] rows n h f j = small-set rows n h f j
+called-small-set (c ∷ cs) rows n h f j = f j
+
+called-set : {T S : List ℕ} (called rows : List ℕ) {i v w : ℕ} → i < length rows → w ≤ v → Stands T S (flagOf called) i v → Sound T S (calledOf called rows) 0 → Sound T S (calledOf called (set rows i w)) 0
+unfolding flagOf calledOf
+called-set [] rows {i} {w = w} n h st so = sound-set (λ j. set-either rows i w j n) h st so
+called-set (c ∷ cs) rows n h st so = so
+
+module _ {T S called : List ℕ} where
   -- a number is raised
-  kept-set : {rows : List ℕ} {i v w : ℕ} → Kept T S base rows → i < half → w ≤ v → w ≤ cap → Stands T S (flagOf base) i v → Kept T S base (set rows (base + i) w)
-  unfolding flagOf
-  kept-set {rows} {i} {v} {w} k h z low-cap st =
-      let n : base + i < length rows = elim (k .is-half) [ inl e ↦ omega (arith, k .sized) | inr e ↦ omega (arith, k .sized) ] in
+  kept-set : {rows : List ℕ} {i v w : ℕ} → Kept T S called rows → i < half → w ≤ v → w ≤ cap → Stands T S (flagOf called) i v → Kept T S called (set rows i w)
+  kept-set {rows} {i} {v} {w} k h z y st =
+      let n : i < length rows = omega (arith, k .sized) in
       record {
-        sized = length-set rows (base + i) w ∙ k .sized;
-        is-half = k .is-half;
+        sized = length-set rows i w ∙ k .sized;
         shaped = k .shaped;
-        small = λ j. small j (set-either rows (base + i) w j n);
-        first = first (k .is-half) n;
-        row = sound-set (λ j. moved (set-either rows (base + i) w (base + j) n)) z st (k .row);
+        small = small-set rows n y (k .small);
+        called-small = called-small-set called rows n y (k .called-small);
+        first = called-set called rows n z st (k .first);
+        row = sound-set (λ j. set-either rows i w j n) z st (k .row);
       }
-    where
-      moved : {j x a : ℕ} → (x ≡ a) ⊎ ((base + j ≡ base + i) × (x ≡ w)) → (x ≡ a) ⊎ ((j ≡ i) × (x ≡ w))
-      moved (inl e) = inl e
-      moved (inr e) = inr (omega (arith, e .0), e .1)
-
-      small : (j : ℕ) {x : ℕ} → (x ≡ getD rows j 0) ⊎ ((j ≡ base + i) × (x ≡ w)) → x ≤ cap
-      small j (inl e) = omega (arith, k .small j)
-      small j (inr e) = omega (arith, e .1)
-
-      low : {j x a : ℕ} → base ≡ 0 → (x ≡ a) ⊎ ((j ≡ base + i) × (x ≡ w)) → (x ≡ a) ⊎ ((j ≡ i) × (x ≡ w))
-      low b (inl e) = inl e
-      low b (inr e) = inr (omega (arith, e .0), e .1)
-
-      first : (base ≡ 0) ⊎ (base ≡ half) → base + i < length rows → Sound T S (calledOf (set rows (base + i) w)) 0
-      first (inl e) n = sound-set (λ j. low e (set-either rows (base + i) w j n)) z (rw e at st) (k .first)
-      first (inr e) n = sound-low (λ j l. getD-set-other rows (base + i) j w 0 (λ y. omega arith)) (k .first)
 
   -- nothing is raised
-  pub stays : {M : Asked} {rows : List ℕ} → Kept T S base rows → ((i v : ℕ) → M rows i v → i < half → min v cap ≤ rowOf base rows i) → Steps T S M base rows rows false
-  stays k f = record { kept = k; grows = λ i. omega arith; low = λ i h. refl; high = λ i h. refl; same = λ e. refl; less = λ e. never e; all = λ e {i} {v} m h. f i v m h }
+  pub stays : {M : Asked} {rows : List ℕ} → Kept T S called rows → ((i v : ℕ) → M rows i v → i < half → min v cap ≤ rowOf rows i) → Steps T S M called rows rows false
+  stays k f = record { kept = k; grows = λ i. omega arith; same = λ e. refl; less = λ e. never e; all = λ e {i} {v} m h. f i v m h }
 
   -- a number is raised: to v, or to the cap
-  pub raised : {rows : List ℕ} {i v w : ℕ} → Kept T S base rows → i < half → w ≡ min v cap → rowOf base rows i < w → Stands T S (flagOf base) i v → Steps T S (Only i v) base rows (set rows (base + i) w) true
+  pub raised : {rows : List ℕ} {i v w : ℕ} → Kept T S called rows → i < half → w ≡ min v cap → rowOf rows i < w → Stands T S (flagOf called) i v → Steps T S (Only i v) called rows (set rows i w) true
   raised {rows} {i} {v} {w} k h e l st =
-      let n : base + i < length rows = elim (k .is-half) [ inl e ↦ omega (arith, k .sized) | inr e ↦ omega (arith, k .sized) ] in
+      let n : i < length rows = omega (arith, k .sized) in
       record {
         kept = kept-set k h (omega arith) (omega arith) st;
-        grows = λ j. grows j (set-either rows (base + i) w j n);
-        low = λ j z. getD-set-other rows (base + i) j w 0 (λ y. omega arith);
-        high = λ j z. getD-set-other rows (base + i) j w 0 (λ y. omega arith);
+        grows = λ j. grows j (set-either rows i w j n);
         same = λ z. never (sym z);
-        less = λ z. left-set rows (base + i) w n l (omega arith);
+        less = λ z. left-set rows i w n l (omega arith);
         all = λ z. never (sym z);
       }
     where
-      grows : (j : ℕ) → (getD (set rows (base + i) w) j 0 ≡ getD rows j 0) ⊎ ((j ≡ base + i) × (getD (set rows (base + i) w) j 0 ≡ w)) → getD rows j 0 ≤ getD (set rows (base + i) w) j 0
+      grows : (j : ℕ) → (getD (set rows i w) j 0 ≡ getD rows j 0) ⊎ ((j ≡ i) × (getD (set rows i w) j 0 ≡ w)) → getD rows j 0 ≤ getD (set rows i w) j 0
       grows j (inl e) = omega arith
       grows j (inr e) = let z : getD rows j 0 < w = rw (e .0) l in omega (arith, e .1)
 
   -- one step after the other
-  pub seq : {M N : Asked} {rows mid after : List ℕ} {a b : Bool} → Steps T S M base rows mid a → Steps T S N base mid after b → Steps T S (Both M N) base rows after (a || b)
+  pub seq : {M N : Asked} {rows mid after : List ℕ} {a b : Bool} → Steps T S M called rows mid a → Steps T S N called mid after b → Steps T S (Both M N) called rows after (a || b)
   seq {M} {N} {rows} {mid} {after} {a} {b} x y = record {
     kept = y .kept;
     grows = λ i. omega (arith, x .grows i, y .grows i);
-    low = λ i h. y .low i h ∙ x .low i h;
-    high = λ i h. y .high i h ∙ x .high i h;
     same = λ e. y .same (second a b e) ∙ x .same (first a b e);
     less = λ e. less a b e (x .less) (x .same) (y .less) (y .same);
     all = λ e m h. all e m h;
@@ -141,7 +137,7 @@ module _ {T S : List ℕ} {base : ℕ} where
       less false true e p q r s = rw (← q refl) (r refl)
       less false false e p q r s = never e
 
-      all : (a || b) ≡ false → {i v : ℕ} → Both M N rows i v → i < half → min v cap ≤ rowOf base rows i
+      all : (a || b) ≡ false → {i v : ℕ} → Both M N rows i v → i < half → min v cap ≤ rowOf rows i
       all e (this m) h = x .all (first a b e) m h
       all e {i} {v} (that m) h =
           let q = x .same (first a b e) in
@@ -149,37 +145,37 @@ module _ {T S : List ℕ} {base : ℕ} where
           rw (← q) (y .all (second a b e) z h)
 
   -- more is asked for by less
-  pub covers : {M N : Asked} {rows after : List ℕ} {a : Bool} → ((i v : ℕ) → N rows i v → M rows i v) → Steps T S M base rows after a → Steps T S N base rows after a
-  covers f x = record { kept = x .kept; grows = x .grows; low = x .low; high = x .high; same = x .same; less = x .less; all = λ e {i} {v} m h. x .all e (f i v m) h }
+  pub covers : {M N : Asked} {rows after : List ℕ} {a : Bool} → ((i v : ℕ) → N rows i v → M rows i v) → Steps T S M called rows after a → Steps T S N called rows after a
+  covers f x = record { kept = x .kept; grows = x .grows; same = x .same; less = x .less; all = λ e {i} {v} m h. x .all e (f i v m) h }
 
 -- Raising one place
 
-pub past : {base i v : ℕ} {rows : List ℕ} → half ≤ i → Raised base i v rows rows false
+pub past : {i v : ℕ} {rows : List ℕ} → half ≤ i → Raised i v rows rows false
 past h = record { sized = refl; at-least = λ z y. absurd (omega arith); steps = λ k st. stays k (λ j w m z. absurd (outside m h z)) }
   where
     outside : {i v j w : ℕ} {rows : List ℕ} → Only i v rows j w → half ≤ i → j < half → ⊥
     outside only h z = omega arith
 
-pub enough : {base i v : ℕ} {rows : List ℕ} → min v cap ≤ rowOf base rows i → Raised base i v rows rows false
-enough {base} h = record { sized = refl; at-least = λ z y. h; steps = λ k st. stays k (λ j w m z. has base m h) }
+pub enough : {i v : ℕ} {rows : List ℕ} → min v cap ≤ rowOf rows i → Raised i v rows rows false
+enough h = record { sized = refl; at-least = λ z y. h; steps = λ k st. stays k (λ j w m z. has m h) }
   where
-    has : (base : ℕ) {i v j w : ℕ} {rows : List ℕ} → Only i v rows j w → min v cap ≤ rowOf base rows i → min w cap ≤ rowOf base rows j
-    has base only z = z
+    has : {i v j w : ℕ} {rows : List ℕ} → Only i v rows j w → min v cap ≤ rowOf rows i → min w cap ≤ rowOf rows j
+    has only z = z
 
-pub higher : {base i v w : ℕ} {rows : List ℕ} → i < half → w ≡ min v cap → rowOf base rows i < w → Raised base i v rows (set rows (base + i) w) true
-higher {base} {i} {w = w} {rows = rows} h e l = record { sized = length-set rows (base + i) w; at-least = λ z y. omega (arith, getD-set-same rows (base + i) w 0 z); steps = λ k st. raised k h e l (st h (omega arith)) }
+pub higher : {i v w : ℕ} {rows : List ℕ} → i < half → w ≡ min v cap → rowOf rows i < w → Raised i v rows (set rows i w) true
+higher {i} {w = w} {rows = rows} h e l = record { sized = length-set rows i w; at-least = λ z y. omega (arith, getD-set-same rows i w 0 z); steps = λ k st. raised k h e l (st h (omega arith)) }
 
-pub flag-small : (base : ℕ) → flagOf base ≤ 1
+pub flag-small : (called : List ℕ) → flagOf called ≤ 1
 unfolding flagOf
-flag-small zero = omega arith
-flag-small (suc b) = omega arith
+flag-small [] = omega arith
+flag-small (n ∷ ns) = omega arith
 
 -- what an instruction asks for may be raised
-pub may : {T S : List ℕ} {base r l k j v : ℕ} {rows : List ℕ} {i : Instruction} → Kept T S base rows → Here T S base r l k → decode T l ≡ i → Makes T S (calledOf rows) (flagOf base) r l k i j v
-    → j < half → 0 < v → Stands T S (flagOf base) j v
-may {T} {S} {base} {rows = rows} k h d m z y =
-    stands T S (k .shaped) (calledOf rows) (k .first) (flagOf base) (flag-small base) (come T S (k .shaped) (calledOf rows) (k .first) (flagOf base) (flag-small base) (h .is-rule) (h .in-rule) (h .comes)) d m y
+pub may : {T S called : List ℕ} {r l k j v : ℕ} {rows : List ℕ} {i : Instruction} → Kept T S called rows → Here T S called r l k → decode T l ≡ i → Makes T S (calledOf called rows) (flagOf called) r l k i j v
+    → j < half → 0 < v → Stands T S (flagOf called) j v
+may {T} {S} {called} {rows = rows} k h d m z y =
+    stands T S (k .shaped) (calledOf called rows) (k .first) (flagOf called) (flag-small called) (come T S (k .shaped) (calledOf called rows) (k .first) (flagOf called) (flag-small called) (h .is-rule) (h .in-rule) (h .comes)) d m y
 
 -- two places, one after the other
-pub two : {base i v j w : ℕ} {rows mid after : List ℕ} {a b : Bool} → Raised base i v rows mid a → Raised base j w mid after b → RaisedTwo base i v j w rows after (a || b)
+pub two : {i v j w : ℕ} {rows mid after : List ℕ} {a b : Bool} → Raised i v rows mid a → Raised j w mid after b → RaisedTwo i v j w rows after (a || b)
 two x y = record { sized = y .sized ∙ x .sized; steps = λ k s t. let z = x .steps k s in seq z (y .steps (z .kept) t) }

@@ -51,31 +51,31 @@ decode-short T l i f e h = rw f (go (fetch T (suc l)) refl)
     go none g = rw e
     go (some x) g = absurd (omega (arith, fetch-inside T (suc l) (rw g refl) .1))
 
-module _ {T S : List ℕ} {base r l : ℕ} {rows : List ℕ} (kp : Kept T S base rows) where
-  pub visit-invalid : decode T l ≡ invalid → Steps T S (AskedAt T S base r l) base rows rows false
+module _ {T S called : List ℕ} {r l : ℕ} {rows : List ℕ} (kp : Kept T S called rows) where
+  pub visit-invalid : decode T l ≡ invalid → Steps T S (AskedAt T S called r l) called rows rows false
   visit-invalid d = stays kp (λ i v m. absurd (ask m))
     where
-      nothing : {k i v : ℕ} → MakesAt T S base r l k invalid rows i v → ⊥
+      nothing : {k i v : ℕ} → MakesAt T S called r l k invalid rows i v → ⊥
       nothing m = elim m [ ]
 
-      ask : {i v : ℕ} → AskedAt T S base r l rows i v → ⊥
+      ask : {i v : ℕ} → AskedAt T S called r l rows i v → ⊥
       ask (asked-at z m) = nothing (rw d at m)
 
-  pub visit-unreached : {n : ℕ} → n ≡ rowOf base rows l → n ≡ 0 → Steps T S (AskedAt T S base r l) base rows rows false
+  pub visit-unreached : {n : ℕ} → n ≡ rowOf rows l → n ≡ 0 → Steps T S (AskedAt T S called r l) called rows rows false
   visit-unreached e f = stays kp (λ i v m. absurd (ask m))
     where
-      ask : {i v : ℕ} → AskedAt T S base r l rows i v → ⊥
+      ask : {i v : ℕ} → AskedAt T S called r l rows i v → ⊥
       ask (asked-at z m) = omega arith
 
-  pub visit-made : {n : ℕ} {d : Instruction} {after : List ℕ} {b : Bool} → decode T l ≡ d → n ≡ rowOf base rows l → Steps T S (MakesAt T S base r l n d) base rows after b → Steps T S (AskedAt T S base r l) base rows after b
+  pub visit-made : {n : ℕ} {d : Instruction} {after : List ℕ} {b : Bool} → decode T l ≡ d → n ≡ rowOf rows l → Steps T S (MakesAt T S called r l n d) called rows after b → Steps T S (AskedAt T S called r l) called rows after b
   visit-made {n} {d} f e x = covers (λ i v m. ask m) x
     where
-      ask : {i v : ℕ} → AskedAt T S base r l rows i v → MakesAt T S base r l n d rows i v
+      ask : {i v : ℕ} → AskedAt T S called r l rows i v → MakesAt T S called r l n d rows i v
       ask (asked-at z m) = rw (f, ← e) at m
 
-  pub visit-here : {n : ℕ} → r < length S → InRule T S r l → l ≤ length T → n ≡ rowOf base rows l → (n ≡ 0 → ⊥) → Here T S base r l n
+  pub visit-here : {n : ℕ} → r < length S → InRule T S r l → l ≤ length T → n ≡ rowOf rows l → (n ≡ 0 → ⊥) → Here T S called r l n
   visit-here {n} hr i h e f =
-      let p : 0 < rowOf base rows l = omega (arith, not-nothing f) in
+      let p : 0 < rowOf rows l = omega (arith, not-nothing f) in
       let c = comes-at (kp .row) l (omega (arith, kp .shaped .short)) p in
-      let c₁ : Comes T S (flagOf base) l n = rw e c in
-      record { is-rule = hr; in-rule = i; comes = c₁; small = omega (arith, kp .small (base + l)) }
+      let c₁ : Comes T S (flagOf called) l n = rw e c in
+      record { is-rule = hr; in-rule = i; comes = c₁; small = omega (arith, kp .small l) }

@@ -1,6 +1,6 @@
 -- Laws of the store of the numbers.
 use mathlib.Core.Bool.{true, false, _||_, or-false}
-use mathlib.Core.List.{List}
+use mathlib.Core.List.{List, [], _∷_}
 use mathlib.Core.Path.{_≡_, refl, sym, ap, _∙_}
 use native.Mathlib.Nat.{zero-add, mod-eq-of-lt}
 use native.Mathlib.Omega.{arith}
@@ -14,8 +14,9 @@ use borrow.Author.Tests.{eq-eqb, ne-eqb, eqb-true, eqb-false}
 use Rattle.base.specs.Bools.{split, or₂}
 use Rattle.verdict.specs.Told.{bit}
 use Rattle.verdict.proofs.Sets.{bit-or, bit-one, bit-zero}
-use Rattle.meter.specs.Makes.{cap}
-use Rattle.meter.specs.Store.{atCap, numberIn, numbersFrom, numbersOf}
+use Rattle.meter.specs.Makes.{half, cap}
+use Rattle.meter.specs.Steps.{flagOf, calledOf}
+use Rattle.meter.specs.Store.{atCap, numberIn, numbersFrom, numbersOf, calledNumbers}
 
 -- The numbers one by one
 
@@ -31,15 +32,15 @@ module _ (ws : List ℕ) where
   getD-from i (suc n) zero h = let e : i ≡ i + 0 = omega arith in ap (λ (j : ℕ). numberIn ws j) e
   getD-from i (suc n) (suc k) h = let e : i + 1 + k ≡ i + suc k = omega arith in getD-from (i + 1) n k (omega arith) ∙ ap (λ (j : ℕ). numberIn ws j) e
 
-  pub length-numbers : length (numbersOf ws) ≡ 8706
+  pub length-numbers : length (numbersOf ws) ≡ 4353
   unfolding numbersOf
-  length-numbers = length-from 0 8706
+  length-numbers = length-from 0 4353
 
-  number-is : (i : ℕ) → i < 8706 → getD (numbersOf ws) i 0 ≡ numberIn ws i
+  number-is : (i : ℕ) → i < 4353 → getD (numbersOf ws) i 0 ≡ numberIn ws i
   unfolding numbersOf
-  number-is i h = getD-from 0 8706 i h ∙ ap (λ (j : ℕ). numberIn ws j) (zero-add i)
+  number-is i h = getD-from 0 4353 i h ∙ ap (λ (j : ℕ). numberIn ws j) (zero-add i)
 
-  pub number-past : (i : ℕ) → 8706 ≤ i → getD (numbersOf ws) i 0 ≡ 0
+  pub number-past : (i : ℕ) → 4353 ≤ i → getD (numbersOf ws) i 0 ≡ 0
   number-past i h = List·getD-eq-default (numbersOf ws) 0 {n = i} (omega (arith, length-numbers))
 
   in-cap : (i : ℕ) → atCap ws i ≡ true → numberIn ws i ≡ cap
@@ -50,10 +51,10 @@ module _ (ws : List ℕ) where
   unfolding numberIn
   in-word i e = rw e refl
 
-  pub number-cap : (i : ℕ) → i < 8706 → atCap ws i ≡ true → getD (numbersOf ws) i 0 ≡ cap
+  pub number-cap : (i : ℕ) → i < 4353 → atCap ws i ≡ true → getD (numbersOf ws) i 0 ≡ cap
   number-cap i h e = number-is i h ∙ in-cap i e
 
-  pub number-word : (i : ℕ) → i < 8706 → atCap ws i ≡ false → getD (numbersOf ws) i 0 ≡ getD ws i 0
+  pub number-word : (i : ℕ) → i < 4353 → atCap ws i ≡ false → getD (numbersOf ws) i 0 ≡ getD ws i 0
   number-word i h e = number-is i h ∙ in-word i e
 
 -- the bits and the words decide
@@ -63,16 +64,16 @@ same-number ws after i b w = rw (b, w) refl
 
 -- A number that is put
 
-one-changed : (ws after : List ℕ) (i v : ℕ) → i < 8706 → numberIn after i ≡ v → ((j : ℕ) → j < 8706 → (j ≡ i → ⊥) → numberIn after j ≡ numberIn ws j) → numbersOf after ≡ set (numbersOf ws) i v
+one-changed : (ws after : List ℕ) (i v : ℕ) → i < 4353 → numberIn after i ≡ v → ((j : ℕ) → j < 4353 → (j ≡ i → ⊥) → numberIn after j ≡ numberIn ws j) → numbersOf after ≡ set (numbersOf ws) i v
 one-changed ws after i v h e f =
     ext-getD 0 (numbersOf after) (set (numbersOf ws) i v) (length-numbers after ∙ sym (length-set (numbersOf ws) i v ∙ length-numbers ws)) (λ j l. one j (omega (arith, length-numbers after)))
   where
-    one : (j : ℕ) → j < 8706 → getD (numbersOf after) j 0 ≡ getD (set (numbersOf ws) i v) j 0
+    one : (j : ℕ) → j < 4353 → getD (numbersOf after) j 0 ≡ getD (set (numbersOf ws) i v) j 0
     one j l = number-is after j l ∙ split (eqb j i)
         (λ t. let q = eqb-true j i t in rw q (e ∙ sym (getD-set-same (numbersOf ws) i v 0 (omega (arith, length-numbers ws)))))
         (λ t. let q = eqb-false j i t in f j l q ∙ sym (getD-set-other (numbersOf ws) i j v 0 q ∙ number-is ws j l))
 
-module _ (ws : List ℕ) (i v : ℕ) (sized : length ws ≡ 8979) (inside : i < 8706) where
+module _ (ws : List ℕ) (i v : ℕ) (sized : length ws ≡ 4490) (inside : i < 4353) where
   not-cap : getD (numbersOf ws) i 0 < v → v ≤ cap → atCap ws i ≡ false
   not-cap h l = split (atCap ws i) (λ t. absurd (omega (arith, number-cap ws i inside t))) (λ f. f)
 
@@ -83,12 +84,12 @@ module _ (ws : List ℕ) (i v : ℕ) (sized : length ws ≡ 8979) (inside : i < 
       (in-word (set ws i v) i (bits i inside ∙ not-cap h (omega arith)) ∙ getD-set-same ws i v 0 (omega arith))
       (λ j m d. same-number ws (set ws i v) j (bits j m) (getD-set-other ws i j v 0 d))
     where
-      bits : (j : ℕ) → j < 8706 → atCap (set ws i v) j ≡ atCap ws j
-      bits j m = ap (λ (w : ℕ). bit w (j % 32)) (getD-set-other ws i (8706 + j / 32) v 0 (λ e. omega arith))
+      bits : (j : ℕ) → j < 4353 → atCap (set ws i v) j ≡ atCap ws j
+      bits j m = ap (λ (w : ℕ). bit w (j % 32)) (getD-set-other ws i (4353 + j / 32) v 0 (λ e. omega arith))
 
   -- the cap: by its bit
   abbrev at : ℕ
-  at = 8706 + i / 32
+  at = 4353 + i / 32
 
   abbrev one-bit : ℕ
   one-bit = 1 * 2 ^ (i % 32) % 4294967296
@@ -105,7 +106,7 @@ module _ (ws : List ℕ) (i v : ℕ) (sized : length ws ≡ 8979) (inside : i < 
   bits-marked : (j : ℕ) → j / 32 ≡ i / 32 → atCap marked j ≡ (atCap ws j || eqb (i % 32) (j % 32))
   unfolding atCap
   bits-marked j e =
-      ap (λ (q : ℕ). bit (getD marked (8706 + q) 0) (j % 32)) e
+      ap (λ (q : ℕ). bit (getD marked (4353 + q) 0) (j % 32)) e
       ∙ ap (λ (w : ℕ). bit w (j % 32)) (getD-set-same ws at (bitOr (getD ws at 0) one-bit) 0 (omega arith))
       ∙ bit-or (getD ws at 0) one-bit (j % 32)
       ∙ rw (bit-32 (j % 32) (omega arith), e) refl
@@ -117,7 +118,7 @@ module _ (ws : List ℕ) (i v : ℕ) (sized : length ws ≡ 8979) (inside : i < 
       (λ t. elsewhere (eqb-false (j / 32) (i / 32) t))
     where
       elsewhere : (j / 32 ≡ i / 32 → ⊥) → atCap marked j ≡ atCap ws j
-      elsewhere e = ap (λ (w : ℕ). bit w (j % 32)) (getD-set-other ws at (8706 + j / 32) (bitOr (getD ws at 0) one-bit) 0 (λ q. e (omega arith)))
+      elsewhere e = ap (λ (w : ℕ). bit w (j % 32)) (getD-set-other ws at (4353 + j / 32) (bitOr (getD ws at 0) one-bit) 0 (λ q. e (omega arith)))
 
   pub put-cap : v ≡ cap → numbersOf marked ≡ set (numbersOf ws) i v
   put-cap e = one-changed ws marked i v inside
@@ -126,15 +127,45 @@ module _ (ws : List ℕ) (i v : ℕ) (sized : length ws ≡ 8979) (inside : i < 
 
 -- No numbers
 
-pub cleared-numbers : (ws : List ℕ) → ws ≡ replicate 8979 0 → numbersOf ws ≡ replicate 8706 0
+pub cleared-numbers : (ws : List ℕ) → ws ≡ replicate 4490 0 → numbersOf ws ≡ replicate 4353 0
 unfolding atCap
-cleared-numbers ws e = ext-getD 0 (numbersOf ws) (replicate 8706 0) (length-numbers ws ∙ sym (length-replicate {A = ℕ} 8706 0)) (λ i h. none i (omega (arith, length-numbers ws)))
+cleared-numbers ws e = ext-getD 0 (numbersOf ws) (replicate 4353 0) (length-numbers ws ∙ sym (length-replicate {A = ℕ} 4353 0)) (λ i h. none i (omega (arith, length-numbers ws)))
   where
-    zero-word : (i : ℕ) → i < 8979 → getD ws i 0 ≡ 0
-    zero-word i h = ap (λ (l : List ℕ). getD l i 0) e ∙ getD-replicate 8979 i 0 0 h
+    zero-word : (i : ℕ) → i < 4490 → getD ws i 0 ≡ 0
+    zero-word i h = ap (λ (l : List ℕ). getD l i 0) e ∙ getD-replicate 4490 i 0 0 h
 
-    no-bit : (i : ℕ) → i < 8706 → atCap ws i ≡ false
-    no-bit i h = ap (λ (w : ℕ). bit w (i % 32)) (zero-word (8706 + i / 32) (omega arith)) ∙ bit-zero (i % 32)
+    no-bit : (i : ℕ) → i < 4353 → atCap ws i ≡ false
+    no-bit i h = ap (λ (w : ℕ). bit w (i % 32)) (zero-word (4353 + i / 32) (omega arith)) ∙ bit-zero (i % 32)
 
-    none : (i : ℕ) → i < 8706 → getD (numbersOf ws) i 0 ≡ getD (replicate 8706 0) i 0
-    none i h = number-word ws i h (no-bit i h) ∙ zero-word i (omega arith) ∙ sym (getD-replicate 8706 i 0 0 h)
+    none : (i : ℕ) → i < 4353 → getD (numbersOf ws) i 0 ≡ getD (replicate 4353 0) i 0
+    none i h = number-word ws i h (no-bit i h) ∙ zero-word i (omega arith) ∙ sym (getD-replicate 4353 i 0 0 h)
+
+-- The first half, where it is lent
+
+pub called-all : (ws : List ℕ) → length ws ≡ 4490 → calledNumbers ws ≡ numbersOf ws
+unfolding calledNumbers
+called-all ws e = rw (eq-eqb (length ws) 4490 e) refl
+
+pub called-none : (ws : List ℕ) → (length ws ≡ 4490 → ⊥) → calledNumbers ws ≡ []
+unfolding calledNumbers
+called-none ws n = rw (ne-eqb (length ws) 4490 n) refl
+
+some-called : (called rows : List ℕ) (i : ℕ) → length called ≡ half → (flagOf called ≡ 1) × (calledOf called rows i ≡ getD called i 0)
+unfolding flagOf calledOf
+some-called [] rows i e = absurd (omega arith)
+some-called (n ∷ ns) rows i e = (refl, refl)
+
+module _ (ws : List ℕ) where
+  pub mark-all : length ws ≡ 4490 → 1 ≡ flagOf (calledNumbers ws)
+  mark-all e = rw (called-all ws e) (sym (some-called (numbersOf ws) [] 0 (length-numbers ws) .0))
+
+  pub mark-none : (length ws ≡ 4490 → ⊥) → 0 ≡ flagOf (calledNumbers ws)
+  unfolding flagOf
+  mark-none n = rw (called-none ws n) refl
+
+  pub called-first : (rows : List ℕ) (i : ℕ) → length ws ≡ 4490 → calledOf (calledNumbers ws) rows i ≡ getD (numbersOf ws) i 0
+  called-first rows i e = rw (called-all ws e) (some-called (numbersOf ws) rows i (length-numbers ws) .1)
+
+  pub called-own : (rows : List ℕ) (i : ℕ) → (length ws ≡ 4490 → ⊥) → calledOf (calledNumbers ws) rows i ≡ getD rows i 0
+  unfolding calledOf
+  called-own rows i n = rw (called-none ws n) refl

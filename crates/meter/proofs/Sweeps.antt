@@ -2,7 +2,7 @@
 use mathlib.Core.Bool.{Bool, true, false, _||_}
 use mathlib.Core.List.{List}
 use mathlib.Core.Option.{Option, none, some}
-use mathlib.Core.Path.{_≡_, refl, sym, ap, _∙_}
+use mathlib.Core.Path.{_≡_, refl, sym, ap}
 use native.Mathlib.Decide.{decLt}
 use native.Mathlib.Omega.{arith}
 use Prim.Native.Nat.{ℕ, zero, suc, _+_, _*_, _-_, _≤_, _<_, min}
@@ -16,123 +16,119 @@ use Rattle.meter.proofs.Raising.{stays, seq, covers}
 
 -- The values of a rule
 
-pub record ValuesUpto (T S : List ℕ) (c k q base to p : ℕ) (rows after : List ℕ) (b : Bool) : Type 0 where
+pub record ValuesUpto (T S called : List ℕ) (c k q to p : ℕ) (rows after : List ℕ) (b : Bool) : Type 0 where
   pub from : startOf S q ≤ p
   pub upto : p ≤ to
   pub is-end : to ≡ endOf (length T) S q
-  pub steps : Steps T S (Values T S c k q p) base rows after b
+  pub steps : Steps T S (Values T S called c k q p) called rows after b
 
-pub values-first : {T S : List ℕ} {c k q base to : ℕ} {rows : List ℕ} → Kept T S base rows → startOf S q ≤ to → to ≡ endOf (length T) S q → ValuesUpto T S c k q base to (startOf S q) rows rows false
-values-first {T} {S} {c} {k} {q} {rows = rows} kp h e = record { from = omega arith; upto = h; is-end = e; steps = stays kp (λ i v m. absurd (nothing m)) }
+pub values-first : {T S called : List ℕ} {c k q to : ℕ} {rows : List ℕ} → Kept T S called rows → startOf S q ≤ to → to ≡ endOf (length T) S q → ValuesUpto T S called c k q to (startOf S q) rows rows false
+values-first {T} {S} {called} {c} {k} {q} {rows = rows} kp h e = record { from = omega arith; upto = h; is-end = e; steps = stays kp (λ i v m. absurd (nothing m)) }
   where
-    nothing : {i v : ℕ} → Values T S c k q (startOf S q) rows i v → ⊥
+    nothing : {i v : ℕ} → Values T S called c k q (startOf S q) rows i v → ⊥
     nothing (values i l m) = omega (arith, i .from)
 
-pub values-next : {T S : List ℕ} {c k q base to p : ℕ} {rows mid after : List ℕ} {a b e : Bool} → ValuesUpto T S c k q base to p rows mid a → p < to → Steps T S (ValueAt T c k p) base mid after b → e ≡ (a || b)
-    → ValuesUpto T S c k q base to (p + 1) rows after e
-values-next {T} {S} {c} {k} {q} {p = p} u h x e = rw e (record { from = omega (arith, u .from); upto = omega arith; is-end = u .is-end; steps = covers (λ i v m. split m) (seq (u .steps) x) })
+pub values-next : {T S called : List ℕ} {c k q to p : ℕ} {rows mid after : List ℕ} {a b e : Bool} → ValuesUpto T S called c k q to p rows mid a → p < to → Steps T S (ValueAt T called c k p) called mid after b → e ≡ (a || b)
+    → ValuesUpto T S called c k q to (p + 1) rows after e
+values-next {T} {S} {called} {c} {k} {q} {p = p} u h x e = rw e (record { from = omega (arith, u .from); upto = omega arith; is-end = u .is-end; steps = covers (λ i v m. split m) (seq (u .steps) x) })
   where
-    split : {rows : List ℕ} {i v : ℕ} → Values T S c k q (p + 1) rows i v → Both (Values T S c k q p) (ValueAt T c k p) rows i v
+    split : {rows : List ℕ} {i v : ℕ} → Values T S called c k q (p + 1) rows i v → Both (Values T S called c k q p) (ValueAt T called c k p) rows i v
     split {rows} {i} {v} (values {p = o} y l m) = elim (decLt o p) [
       | yes z ↦ this (values y z m)
-      | no z ↦ let f : o ≡ p = omega arith in let n : ValueAt T c k p rows i v = rw f at m in that n
+      | no z ↦ let f : o ≡ p = omega arith in let n : ValueAt T called c k p rows i v = rw f at m in that n
     ]
 
-pub values-all : {T S : List ℕ} {c k q base to p : ℕ} {rows after : List ℕ} {b : Bool} → ValuesUpto T S c k q base to p rows after b → to ≤ p → Steps T S (Values T S c k q (endOf (length T) S q)) base rows after b
-values-all {T} {S} {c} {k} {q} {base} {to} {p} {rows} {after} {b} u h =
+pub values-all : {T S called : List ℕ} {c k q to p : ℕ} {rows after : List ℕ} {b : Bool} → ValuesUpto T S called c k q to p rows after b → to ≤ p → Steps T S (Values T S called c k q (endOf (length T) S q)) called rows after b
+values-all {T} {S} {called} {c} {k} {q} {to} {p} {rows} {after} {b} u h =
     let e : p ≡ endOf (length T) S q = omega (arith, u .upto, u .is-end) in
     rw (← e) (u .steps)
 
 -- The places of a rule
 
-pub record SweptUpto (T S : List ℕ) (base r to l : ℕ) (rows after : List ℕ) (b : Bool) : Type 0 where
+pub record SweptUpto (T S called : List ℕ) (r to l : ℕ) (rows after : List ℕ) (b : Bool) : Type 0 where
   pub from : startOf S r ≤ l
   pub upto : l ≤ to
   pub is-end : to ≡ endOf (length T) S r
-  pub steps : Steps T S (AskedBelow T S base r l) base rows after b
+  pub steps : Steps T S (AskedBelow T S called r l) called rows after b
 
-pub swept-first : {T S : List ℕ} {base r to : ℕ} {rows : List ℕ} → Kept T S base rows → startOf S r ≤ to → to ≡ endOf (length T) S r → SweptUpto T S base r to (startOf S r) rows rows false
-swept-first {T} {S} {base} {r} {rows = rows} kp h e = record { from = omega arith; upto = h; is-end = e; steps = stays kp (λ i v m. absurd (nothing m)) }
+pub swept-first : {T S called : List ℕ} {r to : ℕ} {rows : List ℕ} → Kept T S called rows → startOf S r ≤ to → to ≡ endOf (length T) S r → SweptUpto T S called r to (startOf S r) rows rows false
+swept-first {T} {S} {called} {r} {rows = rows} kp h e = record { from = omega arith; upto = h; is-end = e; steps = stays kp (λ i v m. absurd (nothing m)) }
   where
-    nothing : {i v : ℕ} → AskedBelow T S base r (startOf S r) rows i v → ⊥
+    nothing : {i v : ℕ} → AskedBelow T S called r (startOf S r) rows i v → ⊥
     nothing (asked-below i l m) = omega (arith, i .from)
 
-pub swept-next : {T S : List ℕ} {base r to l : ℕ} {rows mid after : List ℕ} {a b e : Bool} → SweptUpto T S base r to l rows mid a → l < to → Steps T S (AskedAt T S base r l) base mid after b → e ≡ (a || b)
-    → SweptUpto T S base r to (l + 1) rows after e
-swept-next {T} {S} {base} {r} {l = l} u h x e = rw e (record { from = omega (arith, u .from); upto = omega arith; is-end = u .is-end; steps = covers (λ i v m. split m) (seq (u .steps) x) })
+pub swept-next : {T S called : List ℕ} {r to l : ℕ} {rows mid after : List ℕ} {a b e : Bool} → SweptUpto T S called r to l rows mid a → l < to → Steps T S (AskedAt T S called r l) called mid after b → e ≡ (a || b)
+    → SweptUpto T S called r to (l + 1) rows after e
+swept-next {T} {S} {called} {r} {l = l} u h x e = rw e (record { from = omega (arith, u .from); upto = omega arith; is-end = u .is-end; steps = covers (λ i v m. split m) (seq (u .steps) x) })
   where
-    split : {rows : List ℕ} {i v : ℕ} → AskedBelow T S base r (l + 1) rows i v → Both (AskedBelow T S base r l) (AskedAt T S base r l) rows i v
+    split : {rows : List ℕ} {i v : ℕ} → AskedBelow T S called r (l + 1) rows i v → Both (AskedBelow T S called r l) (AskedAt T S called r l) rows i v
     split {rows} {i} {v} (asked-below {l = o} y z m) = elim (decLt o l) [
       | yes w ↦ this (asked-below y w m)
-      | no w ↦ let f : o ≡ l = omega arith in let n : AskedAt T S base r l rows i v = rw f at m in that n
+      | no w ↦ let f : o ≡ l = omega arith in let n : AskedAt T S called r l rows i v = rw f at m in that n
     ]
 
-pub swept-all : {T S : List ℕ} {base r to l : ℕ} {rows after : List ℕ} {b : Bool} → SweptUpto T S base r to l rows after b → to ≤ l → Steps T S (AskedBelow T S base r (endOf (length T) S r)) base rows after b
-swept-all {T} {S} {base} {r} {to} {l} {rows} {after} {b} u h =
+pub swept-all : {T S called : List ℕ} {r to l : ℕ} {rows after : List ℕ} {b : Bool} → SweptUpto T S called r to l rows after b → to ≤ l → Steps T S (AskedBelow T S called r (endOf (length T) S r)) called rows after b
+swept-all {T} {S} {called} {r} {to} {l} {rows} {after} {b} u h =
     let e : l ≡ endOf (length T) S r = omega (arith, u .upto, u .is-end) in
     rw (← e) (u .steps)
 
 -- The rules, the last first
 
-pub record RulesFrom (T S : List ℕ) (base r : ℕ) (rows after : List ℕ) (b : Bool) : Type 0 where
+pub record RulesFrom (T S called : List ℕ) (r : ℕ) (rows after : List ℕ) (b : Bool) : Type 0 where
   pub upto : r ≤ length S
-  pub steps : Steps T S (AskedFrom T S base r) base rows after b
+  pub steps : Steps T S (AskedFrom T S called r) called rows after b
 
-pub rules-first : {T S : List ℕ} {base : ℕ} {rows : List ℕ} → Kept T S base rows → RulesFrom T S base (length S) rows rows false
-rules-first {T} {S} {base} {rows} kp = record { upto = omega arith; steps = stays kp (λ i v m. absurd (nothing m)) }
+pub rules-first : {T S called rows : List ℕ} → Kept T S called rows → RulesFrom T S called (length S) rows rows false
+rules-first {T} {S} {called} {rows} kp = record { upto = omega arith; steps = stays kp (λ i v m. absurd (nothing m)) }
   where
-    nothing : {i v : ℕ} → AskedFrom T S base (length S) rows i v → ⊥
+    nothing : {i v : ℕ} → AskedFrom T S called (length S) rows i v → ⊥
     nothing (asked-from h l i m) = omega arith
 
-pub rules-next : {T S : List ℕ} {base r : ℕ} {rows mid after : List ℕ} {a b e : Bool} → RulesFrom T S base r rows mid a → 0 < r → Steps T S (AskedBelow T S base (r - 1) (endOf (length T) S (r - 1))) base mid after b → e ≡ (a || b)
-    → RulesFrom T S base (r - 1) rows after e
-rules-next {T} {S} {base} {r} u h x e = rw e (record { upto = omega (arith, u .upto); steps = covers (λ i v m. split m) (seq (u .steps) x) })
+pub rules-next : {T S called : List ℕ} {r : ℕ} {rows mid after : List ℕ} {a b e : Bool} → RulesFrom T S called r rows mid a → 0 < r → Steps T S (AskedBelow T S called (r - 1) (endOf (length T) S (r - 1))) called mid after b → e ≡ (a || b)
+    → RulesFrom T S called (r - 1) rows after e
+rules-next {T} {S} {called} {r} u h x e = rw e (record { upto = omega (arith, u .upto); steps = covers (λ i v m. split m) (seq (u .steps) x) })
   where
-    split : {rows : List ℕ} {i v : ℕ} → AskedFrom T S base (r - 1) rows i v → Both (AskedFrom T S base r) (AskedBelow T S base (r - 1) (endOf (length T) S (r - 1))) rows i v
+    split : {rows : List ℕ} {i v : ℕ} → AskedFrom T S called (r - 1) rows i v → Both (AskedFrom T S called r) (AskedBelow T S called (r - 1) (endOf (length T) S (r - 1))) rows i v
     split {rows} {i} {v} (asked-from {r = o} {l = l} y z w m) = elim (decLt o r) [
       | yes q ↦ let f : o ≡ r - 1 = omega arith in
           let w₁ : InRule T S (r - 1) l = rw f at w in
-          let m₁ : AskedAt T S base (r - 1) l rows i v = rw f at m in
+          let m₁ : AskedAt T S called (r - 1) l rows i v = rw f at m in
           that (asked-below w₁ (w₁ .to) m₁)
       | no q ↦ this (asked-from {r = o} {l = l} (omega arith) z w m)
     ]
 
-pub rules-all : {T S : List ℕ} {base r : ℕ} {rows after : List ℕ} {b : Bool} → RulesFrom T S base r rows after b → r ≤ 0 → Steps T S (AskedFrom T S base 0) base rows after b
+pub rules-all : {T S called : List ℕ} {r : ℕ} {rows after : List ℕ} {b : Bool} → RulesFrom T S called r rows after b → r ≤ 0 → Steps T S (AskedFrom T S called 0) called rows after b
 rules-all {r = r} u h = let e : r ≡ 0 = omega arith in rw e at (u .steps)
 
 -- Until nothing is raised
 
-pub record Settling (T S : List ℕ) (base : ℕ) (rows after : List ℕ) (changed : Bool) : Type 0 where
-  pub kept : Kept T S base after
+pub record Settling (T S called rows after : List ℕ) (changed : Bool) : Type 0 where
+  pub kept : Kept T S called after
   pub grows : (i : ℕ) → getD rows i 0 ≤ getD after i 0
-  pub low : (i : ℕ) → i < base → getD after i 0 ≡ getD rows i 0
-  pub high : (i : ℕ) → base + half ≤ i → getD after i 0 ≡ getD rows i 0
-  pub done : changed ≡ false → {i v : ℕ} → AskedFrom T S base 0 after i v → i < half → min v cap ≤ rowOf base after i
+  pub done : changed ≡ false → {i v : ℕ} → AskedFrom T S called 0 after i v → i < half → min v cap ≤ rowOf after i
 
 -- what is left to do
 pub todo : List ℕ → Bool → ℕ
 todo rows true = 2 * left rows + 1
 todo rows false = 2 * left rows
 
-pub settling-first : {T S : List ℕ} {base : ℕ} {rows : List ℕ} → Kept T S base rows → Settling T S base rows rows true
-settling-first k = record { kept = k; grows = λ i. omega arith; low = λ i h. refl; high = λ i h. refl; done = λ e. never (sym e) }
+pub settling-first : {T S called rows : List ℕ} → Kept T S called rows → Settling T S called rows rows true
+settling-first k = record { kept = k; grows = λ i. omega arith; done = λ e. never (sym e) }
 
-pub settling-next : {T S : List ℕ} {base : ℕ} {rows mid after : List ℕ} {a b : Bool} → Settling T S base rows mid a → Steps T S (AskedFrom T S base 0) base mid after b → Settling T S base rows after b
-settling-next {T} {S} {base} {rows} {mid} {after} {a} {b} u x = record {
+pub settling-next : {T S called rows mid after : List ℕ} {a b : Bool} → Settling T S called rows mid a → Steps T S (AskedFrom T S called 0) called mid after b → Settling T S called rows after b
+settling-next {T} {S} {called} {rows} {mid} {after} {a} {b} u x = record {
   kept = x .kept;
   grows = λ i. omega (arith, u .grows i, x .grows i);
-  low = λ i h. x .low i h ∙ u .low i h;
-  high = λ i h. x .high i h ∙ u .high i h;
   done = λ e m h. done e m h;
 }
   where
-    done : b ≡ false → {i v : ℕ} → AskedFrom T S base 0 after i v → i < half → min v cap ≤ rowOf base after i
+    done : b ≡ false → {i v : ℕ} → AskedFrom T S called 0 after i v → i < half → min v cap ≤ rowOf after i
     done e {i} {v} m h =
         let q = x .same e in
-        let n : AskedFrom T S base 0 mid i v = rw q at m in
+        let n : AskedFrom T S called 0 mid i v = rw q at m in
         rw q (x .all e n h)
 
-pub todo-less : {T S : List ℕ} {base : ℕ} {mid after : List ℕ} {a b : Bool} → a ≡ true → Steps T S (AskedFrom T S base 0) base mid after b → todo after b < todo mid a
+pub todo-less : {T S called mid after : List ℕ} {a b : Bool} → a ≡ true → Steps T S (AskedFrom T S called 0) called mid after b → todo after b < todo mid a
 unfolding todo
 todo-less {mid = mid} {after = after} {b = b} e x = rw e (go b (x .less) (x .same))
   where
@@ -140,5 +136,5 @@ todo-less {mid = mid} {after = after} {b = b} e x = rw e (go b (x .less) (x .sam
     go true f g = omega (arith, f refl)
     go false f g = rw (g refl) (omega arith)
 
-pub settled : {T S : List ℕ} {base : ℕ} {rows after : List ℕ} {a : Bool} → Settling T S base rows after a → a ≡ false → Settled T S base rows after
-settled u e = record { kept = u .kept; grows = u .grows; low = u .low; high = u .high; all = λ m h. u .done e m h }
+pub settled : {T S called rows after : List ℕ} {a : Bool} → Settling T S called rows after a → a ≡ false → Settled T S called rows after
+settled u e = record { kept = u .kept; grows = u .grows; all = λ m h. u .done e m h }

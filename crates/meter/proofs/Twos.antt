@@ -26,66 +26,66 @@ data Plain : Instruction → Type 0 where
   plain-result : {v : ℕ} → Plain (setResult v)
   plain-parameter : {v : ℕ} → Plain (setParameter v)
 
-module _ {T S : List ℕ} {base r l k : ℕ} {rows after : List ℕ} {b : Bool} (kp : Kept T S base rows) (h : Here T S base r l k) where
-  as-jump : {m : ℕ} → decode T l ≡ jump m → Raised base m (k + 1) rows after b → Steps T S (MakesAt T S base r l k (jump m)) base rows after b
+module _ {T S called : List ℕ} {r l k : ℕ} {rows after : List ℕ} {b : Bool} (kp : Kept T S called rows) (h : Here T S called r l k) where
+  as-jump : {m : ℕ} → decode T l ≡ jump m → Raised m (k + 1) rows after b → Steps T S (MakesAt T S called r l k (jump m)) called rows after b
   as-jump {m} d x = covers (λ j v z. ask z) (x .steps kp (may kp h d makes-jump))
     where
-      ask : {j v : ℕ} → MakesAt T S base r l k (jump m) rows j v → Only m (k + 1) rows j v
+      ask : {j v : ℕ} → MakesAt T S called r l k (jump m) rows j v → Only m (k + 1) rows j v
       ask makes-jump = only
 
-  as-input : {t flag : ℕ} → flag ≡ flagOf base → decode T l ≡ input t → RaisedTwo base (overAt r) k (l + 2) flag rows after b → Steps T S (MakesAt T S base r l k (input t)) base rows after b
+  as-input : {t flag : ℕ} → flag ≡ flagOf called → decode T l ≡ input t → RaisedTwo (overAt r) k (l + 2) flag rows after b → Steps T S (MakesAt T S called r l k (input t)) called rows after b
   as-input {t} {flag} e d x = covers (λ j v z. ask (rw (← e) at z)) (x .steps kp (may kp h d makes-input) (rw e (may kp h d marks-input)))
     where
-      ask : {f j v : ℕ} → Makes T S (calledOf rows) f r l k (input t) j v → Both (Only (overAt r) k) (Only (l + 2) f) rows j v
+      ask : {f j v : ℕ} → Makes T S (calledOf called rows) f r l k (input t) j v → Both (Only (overAt r) k) (Only (l + 2) f) rows j v
       ask makes-input = this only
       ask marks-input = that only
 
-  as-choice : {c : ℕ} → decode T l ≡ choice c → WaysRaised T c (k + 1) base rows after b → Steps T S (MakesAt T S base r l k (choice c)) base rows after b
+  as-choice : {c : ℕ} → decode T l ≡ choice c → WaysRaised T c (k + 1) rows after b → Steps T S (MakesAt T S called r l k (choice c)) called rows after b
   as-choice {c} d x = covers (λ j v z. ask z) (x .steps kp (λ w. may kp h d (makes-choice w)))
     where
-      ask : {j v : ℕ} → MakesAt T S base r l k (choice c) rows j v → Ways T c (k + 1) rows j v
+      ask : {j v : ℕ} → MakesAt T S called r l k (choice c) rows j v → Ways T c (k + 1) rows j v
       ask (makes-choice v) = ways v
 
-  as-plain : {i : Instruction} → Plain i → decode T l ≡ i → Raised base (l + 2) (k + 1) rows after b → Steps T S (MakesAt T S base r l k i) base rows after b
+  as-plain : {i : Instruction} → Plain i → decode T l ≡ i → Raised (l + 2) (k + 1) rows after b → Steps T S (MakesAt T S called r l k i) called rows after b
   as-plain (plain-write {e = e}) d x = covers (λ j v z. ask z) (x .steps kp (may kp h d makes-write))
     where
-      ask : {j v : ℕ} → MakesAt T S base r l k (write e) rows j v → Only (l + 2) (k + 1) rows j v
+      ask : {j v : ℕ} → MakesAt T S called r l k (write e) rows j v → Only (l + 2) (k + 1) rows j v
       ask makes-write = only
   as-plain (plain-result {v = u}) d x = covers (λ j v z. ask z) (x .steps kp (may kp h d makes-result))
     where
-      ask : {j v : ℕ} → MakesAt T S base r l k (setResult u) rows j v → Only (l + 2) (k + 1) rows j v
+      ask : {j v : ℕ} → MakesAt T S called r l k (setResult u) rows j v → Only (l + 2) (k + 1) rows j v
       ask makes-result = only
   as-plain (plain-parameter {v = u}) d x = covers (λ j v z. ask z) (x .steps kp (may kp h d makes-parameter))
     where
-      ask : {j v : ℕ} → MakesAt T S base r l k (setParameter u) rows j v → Only (l + 2) (k + 1) rows j v
+      ask : {j v : ℕ} → MakesAt T S called r l k (setParameter u) rows j v → Only (l + 2) (k + 1) rows j v
       ask makes-parameter = only
 
   module _ (i x : ℕ) (d : decode T l ≡ decodeTwo l i x) where
-    pub two-forward : i ≡ 1 → Raised base (l + 1 + x) (k + 1) rows after b → Steps T S (MakesAt T S base r l k (decodeTwo l i x)) base rows after b
+    pub two-forward : i ≡ 1 → Raised (l + 1 + x) (k + 1) rows after b → Steps T S (MakesAt T S called r l k (decodeTwo l i x)) called rows after b
     unfolding decodeTwo
     two-forward e y = rw e (as-jump (rw e at d) y)
 
-    pub two-back : {m : ℕ} → i ≡ 2 → m ≡ l + 1 - x → Raised base m (k + 1) rows after b → Steps T S (MakesAt T S base r l k (decodeTwo l i x)) base rows after b
+    pub two-back : {m : ℕ} → i ≡ 2 → m ≡ l + 1 - x → Raised m (k + 1) rows after b → Steps T S (MakesAt T S called r l k (decodeTwo l i x)) called rows after b
     unfolding decodeTwo
     two-back e z y = rw e (as-jump (rw e at d) (rw z at y))
 
-    pub two-input : {flag : ℕ} → i ≡ 3 → flag ≡ flagOf base → RaisedTwo base (overAt r) k (l + 2) flag rows after b → Steps T S (MakesAt T S base r l k (decodeTwo l i x)) base rows after b
+    pub two-input : {flag : ℕ} → i ≡ 3 → flag ≡ flagOf called → RaisedTwo (overAt r) k (l + 2) flag rows after b → Steps T S (MakesAt T S called r l k (decodeTwo l i x)) called rows after b
     unfolding decodeTwo
     two-input e f y = rw e (as-input f (rw e at d) y)
 
-    pub two-token : i ≡ 7 → TokenVisited T (l + 1 + x) base r l k rows after b → Steps T S (MakesAt T S base r l k (decodeTwo l i x)) base rows after b
+    pub two-token : i ≡ 7 → TokenVisited T (l + 1 + x) called r l k rows after b → Steps T S (MakesAt T S called r l k (decodeTwo l i x)) called rows after b
     unfolding decodeTwo
     two-token e y = rw e (y .steps kp h (rw e at d))
 
-    pub two-call : i ≡ 8 → Steps T S (MakesAt T S base r l k (callRule x)) base rows after b → Steps T S (MakesAt T S base r l k (decodeTwo l i x)) base rows after b
+    pub two-call : i ≡ 8 → Steps T S (MakesAt T S called r l k (callRule x)) called rows after b → Steps T S (MakesAt T S called r l k (decodeTwo l i x)) called rows after b
     unfolding decodeTwo
     two-call e y = rw e y
 
-    pub two-choice : i ≡ 11 → WaysRaised T (l + 1 + x) (k + 1) base rows after b → Steps T S (MakesAt T S base r l k (decodeTwo l i x)) base rows after b
+    pub two-choice : i ≡ 11 → WaysRaised T (l + 1 + x) (k + 1) rows after b → Steps T S (MakesAt T S called r l k (decodeTwo l i x)) called rows after b
     unfolding decodeTwo
     two-choice e y = rw e (as-choice (rw e at d) y)
 
-    pub two-plain : (i ≡ 1 → ⊥) → (i ≡ 2 → ⊥) → (i ≡ 3 → ⊥) → (i ≡ 7 → ⊥) → (i ≡ 8 → ⊥) → (i ≡ 11 → ⊥) → Raised base (l + 2) (k + 1) rows after b → Steps T S (MakesAt T S base r l k (decodeTwo l i x)) base rows after b
+    pub two-plain : (i ≡ 1 → ⊥) → (i ≡ 2 → ⊥) → (i ≡ 3 → ⊥) → (i ≡ 7 → ⊥) → (i ≡ 8 → ⊥) → (i ≡ 11 → ⊥) → Raised (l + 2) (k + 1) rows after b → Steps T S (MakesAt T S called r l k (decodeTwo l i x)) called rows after b
     unfolding decodeTwo
     two-plain n₁ n₂ n₃ n₇ n₈ n₁₁ y = as-plain plains d y
       where

@@ -19,46 +19,46 @@ use Rattle.meter.specs.Makes.{overAt, backAt, half, cap, Makes, makes-ju
 use Rattle.meter.specs.Steps.{flagOf, rowOf, calledOf, Asked, Kept, Here, Steps, Only, only, Both, this, that, Raised, RaisedTwo, Ways, ways, WaysRaised, MakesAt, Visited}
 use Rattle.meter.proofs.Raising.{stays, seq, covers, may}
 
-module _ {base r l k : ℕ} {rows after : List ℕ} {b : Bool} where
-  as-return : Raised base (backAt r) k rows after b → Visited return base r l k rows after b
+module _ {called : List ℕ} {r l k : ℕ} {rows after : List ℕ} {b : Bool} where
+  as-return : Raised (backAt r) k rows after b → Visited return called r l k rows after b
   as-return x = record { sized = x .sized; steps = λ kp h d. covers (λ j v m. ask m) (x .steps kp (may kp h d makes-return)) }
     where
       ask : {T S : List ℕ} {f : ℕ → ℕ} {flag j v : ℕ} {rows : List ℕ} → Makes T S f flag r l k return j v → Only (backAt r) k rows j v
       ask makes-return = only
 
-  as-end : Raised base (overAt r) k rows after b → Visited endChoice base r l k rows after b
+  as-end : Raised (overAt r) k rows after b → Visited endChoice called r l k rows after b
   as-end x = record { sized = x .sized; steps = λ kp h d. covers (λ j v m. ask m) (x .steps kp (may kp h d makes-end)) }
     where
       ask : {T S : List ℕ} {f : ℕ → ℕ} {flag j v : ℕ} {rows : List ℕ} → Makes T S f flag r l k endChoice j v → Only (overAt r) k rows j v
       ask makes-end = only
 
-  as-any : {flag : ℕ} → flag ≡ flagOf base → RaisedTwo base (overAt r) k (l + 1) flag rows after b → Visited inputAny base r l k rows after b
+  as-any : {flag : ℕ} → flag ≡ flagOf called → RaisedTwo (overAt r) k (l + 1) flag rows after b → Visited inputAny called r l k rows after b
   as-any {flag} e x = record { sized = x .sized; steps = λ kp h d. covers (λ j v m. ask (rw (← e) at m)) (x .steps kp (may kp h d makes-any) (rw e (may kp h d marks-any))) }
     where
       ask : {T S : List ℕ} {f : ℕ → ℕ} {flag j v : ℕ} {rows : List ℕ} → Makes T S f flag r l k inputAny j v → Both (Only (overAt r) k) (Only (l + 1) flag) rows j v
       ask makes-any = this only
       ask marks-any = that only
 
-  as-update : (op : ℕ) → Raised base (l + 1) (k + 1) rows after b → Visited (update op) base r l k rows after b
+  as-update : (op : ℕ) → Raised (l + 1) (k + 1) rows after b → Visited (update op) called r l k rows after b
   as-update op x = record { sized = x .sized; steps = λ kp h d. covers (λ j v m. ask m) (x .steps kp (may kp h d makes-update)) }
     where
       ask : {T S : List ℕ} {f : ℕ → ℕ} {flag j v : ℕ} {rows : List ℕ} → Makes T S f flag r l k (update op) j v → Only (l + 1) (k + 1) rows j v
       ask makes-update = only
 
-  as-updateWith : (op : ℕ) → Raised base (l + 1) (k + 1) rows after b → Visited (updateWith op) base r l k rows after b
+  as-updateWith : (op : ℕ) → Raised (l + 1) (k + 1) rows after b → Visited (updateWith op) called r l k rows after b
   as-updateWith op x = record { sized = x .sized; steps = λ kp h d. covers (λ j v m. ask m) (x .steps kp (may kp h d makes-updateWith)) }
     where
       ask : {T S : List ℕ} {f : ℕ → ℕ} {flag j v : ℕ} {rows : List ℕ} → Makes T S f flag r l k (updateWith op) j v → Only (l + 1) (k + 1) rows j v
       ask makes-updateWith = only
 
-  as-choose : (op : ℕ) → RaisedTwo base (overAt r) k (l + 1) (k + 1) rows after b → Visited (choose op) base r l k rows after b
+  as-choose : (op : ℕ) → RaisedTwo (overAt r) k (l + 1) (k + 1) rows after b → Visited (choose op) called r l k rows after b
   as-choose op x = record { sized = x .sized; steps = λ kp h d. covers (λ j v m. ask m) (x .steps kp (may kp h d makes-choose-over) (may kp h d makes-choose)) }
     where
       ask : {T S : List ℕ} {f : ℕ → ℕ} {flag j v : ℕ} {rows : List ℕ} → Makes T S f flag r l k (choose op) j v → Both (Only (overAt r) k) (Only (l + 1) (k + 1)) rows j v
       ask makes-choose-over = this only
       ask makes-choose = that only
 
-  as-chooseWith : (op : ℕ) → RaisedTwo base (overAt r) k (l + 1) (k + 1) rows after b → Visited (chooseWith op) base r l k rows after b
+  as-chooseWith : (op : ℕ) → RaisedTwo (overAt r) k (l + 1) (k + 1) rows after b → Visited (chooseWith op) called r l k rows after b
   as-chooseWith op x = record { sized = x .sized; steps = λ kp h d. covers (λ j v m. ask m) (x .steps kp (may kp h d makes-chooseWith-over) (may kp h d makes-chooseWith)) }
     where
       ask : {T S : List ℕ} {f : ℕ → ℕ} {flag j v : ℕ} {rows : List ℕ} → Makes T S f flag r l k (chooseWith op) j v → Both (Only (overAt r) k) (Only (l + 1) (k + 1)) rows j v
@@ -71,27 +71,27 @@ operation : (i : ℕ) → (i ≡ 9 → ⊥) → (i ≡ 12 → ⊥) → (i ≡ 4 
 unfolding decodeOne
 operation i p q s = rw (ne-eqb i 4 s, ne-eqb i 9 p, ne-eqb i 12 q) refl
 
-module _ {base r l k i : ℕ} {rows after : List ℕ} {b : Bool} where
-  pub one-return : i ≡ 9 → Raised base (backAt r) k rows after b → Visited (decodeOne i) base r l k rows after b
+module _ {called : List ℕ} {r l k i : ℕ} {rows after : List ℕ} {b : Bool} where
+  pub one-return : i ≡ 9 → Raised (backAt r) k rows after b → Visited (decodeOne i) called r l k rows after b
   unfolding decodeOne
   one-return e x = rw e (as-return x)
 
-  pub one-end : i ≡ 12 → Raised base (overAt r) k rows after b → Visited (decodeOne i) base r l k rows after b
+  pub one-end : i ≡ 12 → Raised (overAt r) k rows after b → Visited (decodeOne i) called r l k rows after b
   unfolding decodeOne
   one-end e x = rw e (as-end x)
 
-  pub one-any : {flag : ℕ} → i ≡ 4 → flag ≡ flagOf base → RaisedTwo base (overAt r) k (l + 1) flag rows after b → Visited (decodeOne i) base r l k rows after b
+  pub one-any : {flag : ℕ} → i ≡ 4 → flag ≡ flagOf called → RaisedTwo (overAt r) k (l + 1) flag rows after b → Visited (decodeOne i) called r l k rows after b
   unfolding decodeOne
   one-any e f x = rw e (as-any f x)
 
-  pub one-update : (i ≡ 9 → ⊥) → (i ≡ 12 → ⊥) → (i ≡ 4 → ⊥) → i < 768 → Raised base (l + 1) (k + 1) rows after b → Visited (decodeOne i) base r l k rows after b
+  pub one-update : (i ≡ 9 → ⊥) → (i ≡ 12 → ⊥) → (i ≡ 4 → ⊥) → i < 768 → Raised (l + 1) (k + 1) rows after b → Visited (decodeOne i) called r l k rows after b
   unfolding decodeOperation
   one-update p q s h x = elim (decLt i 512) [
     | yes z ↦ let e : decodeOne i ≡ update i = rw (operation i p q s, lt-ltb i 512 z) refl in rw e (as-update i x)
     | no z ↦ let e : decodeOne i ≡ updateWith i = rw (operation i p q s, le-ltb i 512 (omega arith), lt-ltb i 768 h) refl in rw e (as-updateWith i x)
   ]
 
-  pub one-choose : (i ≡ 9 → ⊥) → (i ≡ 12 → ⊥) → (i ≡ 4 → ⊥) → 768 ≤ i → RaisedTwo base (overAt r) k (l + 1) (k + 1) rows after b → Visited (decodeOne i) base r l k rows after b
+  pub one-choose : (i ≡ 9 → ⊥) → (i ≡ 12 → ⊥) → (i ≡ 4 → ⊥) → 768 ≤ i → RaisedTwo (overAt r) k (l + 1) (k + 1) rows after b → Visited (decodeOne i) called r l k rows after b
   unfolding decodeOperation
   one-choose p q s h x = elim (decLt i 1024) [
     | yes z ↦ let e : decodeOne i ≡ choose i = rw (operation i p q s, le-ltb i 512 (omega arith), le-ltb i 768 h, lt-ltb i 1024 z) refl in rw e (as-choose i x)
@@ -103,16 +103,16 @@ module _ {base r l k i : ℕ} {rows after : List ℕ} {b : Bool} where
 pub data WayBelow (T : List ℕ) (c v i : ℕ) (rows : List ℕ) : ℕ → ℕ → Type 0 where
   way-label : {j a : ℕ} → j < i → fetch T (c + 1 + 2 * j) ≡ some a → WayBelow T c v i rows (wayOut T c (some a)) v
 
-pub record WaysUpto (T : List ℕ) (c v base n i : ℕ) (rows after : List ℕ) (b : Bool) : Type 0 where
+pub record WaysUpto (T : List ℕ) (c v n i : ℕ) (rows after : List ℕ) (b : Bool) : Type 0 where
   pub inside : i ≤ n
   pub is-count : fetch T c ≡ some n
   pub table : Fits T c
   pub fits : c + 2 * n ≤ length T
   pub short : length T ≤ 4096
   pub sized : length after ≡ length rows
-  pub steps : {S : List ℕ} → Kept T S base rows → ((w : Option ℕ) → wayOut T c w < half → 0 < v → Stands T S (flagOf base) (wayOut T c w) v) → Steps T S (WayBelow T c v i) base rows after b
+  pub steps : {S called : List ℕ} → Kept T S called rows → ((w : Option ℕ) → wayOut T c w < half → 0 < v → Stands T S (flagOf called) (wayOut T c w) v) → Steps T S (WayBelow T c v i) called rows after b
 
-pub ways-first : {T : List ℕ} {c v base n : ℕ} {rows : List ℕ} → length T ≤ 4096 → Fits T c → fetch T c ≡ some n → WaysUpto T c v base n 0 rows rows false
+pub ways-first : {T : List ℕ} {c v n : ℕ} {rows : List ℕ} → length T ≤ 4096 → Fits T c → fetch T c ≡ some n → WaysUpto T c v n 0 rows rows false
 ways-first s f e = record {
   inside = omega arith;
   is-count = e;
@@ -126,9 +126,9 @@ ways-first s f e = record {
     nothing : {T : List ℕ} {c v : ℕ} {rows : List ℕ} {i u : ℕ} → WayBelow T c v 0 rows i u → ⊥
     nothing (way-label h e) = omega arith
 
-pub ways-next : {T : List ℕ} {c v base n i a way : ℕ} {rows mid after : List ℕ} {b d e : Bool} → WaysUpto T c v base n i rows mid b → i < n → fetch T (c + 1 + 2 * i) ≡ some a → way ≡ wayOut T c (some a)
-    → Raised base way v mid after d → e ≡ (b || d) → WaysUpto T c v base n (i + 1) rows after e
-ways-next {T} {c} {v} {base} {n} {i} {a} {way} u h f z r q = rw q (record {
+pub ways-next : {T : List ℕ} {c v n i a way : ℕ} {rows mid after : List ℕ} {b d e : Bool} → WaysUpto T c v n i rows mid b → i < n → fetch T (c + 1 + 2 * i) ≡ some a → way ≡ wayOut T c (some a)
+    → Raised way v mid after d → e ≡ (b || d) → WaysUpto T c v n (i + 1) rows after e
+ways-next {T} {c} {v} {n} {i} {a} {way} u h f z r q = rw q (record {
   inside = omega arith;
   is-count = u .is-count;
   table = u .table;
@@ -148,8 +148,8 @@ ways-next {T} {c} {v} {base} {n} {i} {a} {way} u h f z r q = rw q (record {
           that (rw p only)
     ]
 
-pub ways-all : {T : List ℕ} {c v base n i : ℕ} {rows mid after : List ℕ} {b d e : Bool} → WaysUpto T c v base n i rows mid b → n ≤ i → Raised base (c + 1 + 2 * n) v mid after d → e ≡ (b || d) → WaysRaised T c v base rows after e
-ways-all {T} {c} {v} {base} {n} {i} u h r q = rw q (record {
+pub ways-all : {T : List ℕ} {c v n i : ℕ} {rows mid after : List ℕ} {b d e : Bool} → WaysUpto T c v n i rows mid b → n ≤ i → Raised (c + 1 + 2 * n) v mid after d → e ≡ (b || d) → WaysRaised T c v rows after e
+ways-all {T} {c} {v} {n} {i} u h r q = rw q (record {
   sized = r .sized ∙ u .sized;
   steps = λ k w. let s = u .steps k w in covers (λ j x m. each m) (seq s (r .steps (s .kept) (rw (← default-way T c (u .is-count)) (w none))));
 })

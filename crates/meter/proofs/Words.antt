@@ -18,16 +18,6 @@ use Rattle.loading.proofs.Members.{inside-fetch}
 use Rattle.machine.specs.Decode.{fetch}
 use Rattle.figure.specs.Figure.{labelAt, labelBy, backFrom, wayAmong, wayOf, wayOut}
 use Rattle.meter.specs.Shaped.{indexOf, endOf, Fits}
-use Rattle.meter.specs.Steps.{flagOf}
-
-pub flag-first : {b : ℕ} → b ≡ 0 → 0 ≡ flagOf b
-unfolding flagOf
-flag-first e = rw e refl
-
-pub flag-second : (b : ℕ) → (b ≡ 0 → ⊥) → 1 ≡ flagOf b
-unfolding flagOf
-flag-second zero h = absurd (h refl)
-flag-second (suc b) h = refl
 
 pub end-next : (size r : ℕ) (S : List ℕ) → r + 1 < length S → getD S (r + 1) 0 ≡ endOf size S r
 unfolding endOf

@@ -1,10 +1,10 @@
--- What the code keeps of the lent numbers, two halves of 4,353, and what it says of each step.
+-- What the code keeps of the lent numbers, two halves of 4,353, and what it says of each step. `called` are the numbers of the first half, which say what a
+-- call adds, while the second is raised; none while the first itself is raised.
 use mathlib.Core.Bool.{Bool, true, false, _||_}
 use mathlib.Core.List.{List, [], _∷_}
-use mathlib.Core.Logic.{_⊎_}
 use mathlib.Core.Option.{Option, none, some}
 use mathlib.Core.Path.{_≡_}
-use Prim.Native.Nat.{ℕ, zero, suc, _+_, _-_, _≤_, _<_, min}
+use Prim.Native.Nat.{ℕ, _+_, _-_, _≤_, _<_, min}
 use lib.ListN.{length, getD}
 use Rattle.machine.specs.Decode.{Instruction, inputChoice, callRule, setResult, choice, decode}
 use Rattle.meter.specs.Makes.{backAt, half, cap, Makes, Comes, Sound, Stands}
@@ -12,17 +12,18 @@ use Rattle.figure.specs.Figure.{wayOut}
 use Rattle.meter.specs.Shaped.{indexOf, startOf, InRule, isChoice, Shaped}
 
 -- in the second half paths begin at every instruction that can be reached
-unfoldable pub flagOf : ℕ → ℕ
-flagOf zero = 0
-flagOf (suc b) = 1
+unfoldable pub flagOf : List ℕ → ℕ
+flagOf [] = 0
+flagOf (n ∷ ns) = 1
 
--- the numbers of a half
-abbrev pub rowOf : ℕ → List ℕ → ℕ → ℕ
-rowOf base rows i = getD rows (base + i) 0
+-- the numbers of the half that is raised
+abbrev pub rowOf : List ℕ → ℕ → ℕ
+rowOf rows i = getD rows i 0
 
--- the first half has the called rules' numbers
-abbrev pub calledOf : List ℕ → ℕ → ℕ
-calledOf rows i = getD rows i 0
+-- those of the called rules are the first half's
+unfoldable pub calledOf : List ℕ → List ℕ → ℕ → ℕ
+calledOf [] rows i = getD rows i 0
+calledOf (n ∷ ns) rows i = getD (n ∷ ns) i 0
 
 -- what the numbers have left
 unfoldable pub left : List ℕ → ℕ
@@ -34,29 +35,27 @@ abbrev pub Asked : Type 1
 Asked = List ℕ → ℕ → ℕ → Type 0
 
 module _ (T S : List ℕ) where
-  pub record Kept (base : ℕ) (rows : List ℕ) : Type 0 where
-    pub sized : length rows ≡ 8706
-    pub is-half : (base ≡ 0) ⊎ (base ≡ half)
+  pub record Kept (called rows : List ℕ) : Type 0 where
+    pub sized : length rows ≡ half
     pub shaped : Shaped T S
-    pub small : (i : ℕ) → getD rows i 0 ≤ cap
-    pub first : Sound T S (calledOf rows) 0
-    pub row : Sound T S (rowOf base rows) (flagOf base)
+    pub small : (i : ℕ) → rowOf rows i ≤ cap
+    pub called-small : (i : ℕ) → calledOf called rows i ≤ cap
+    pub first : Sound T S (calledOf called rows) 0
+    pub row : Sound T S (rowOf rows) (flagOf called)
 
   -- a step from the one rows to the other; whether a number was raised; M: what it asked for
-  pub record Steps (M : Asked) (base : ℕ) (rows after : List ℕ) (changed : Bool) : Type 0 where
-    pub kept : Kept base after
+  pub record Steps (M : Asked) (called rows after : List ℕ) (changed : Bool) : Type 0 where
+    pub kept : Kept called after
     pub grows : (i : ℕ) → getD rows i 0 ≤ getD after i 0
-    pub low : (i : ℕ) → i < base → getD after i 0 ≡ getD rows i 0
-    pub high : (i : ℕ) → base + half ≤ i → getD after i 0 ≡ getD rows i 0
     pub same : changed ≡ false → after ≡ rows
     pub less : changed ≡ true → left after < left rows
-    pub all : changed ≡ false → {i v : ℕ} → M rows i v → i < half → min v cap ≤ rowOf base rows i
+    pub all : changed ≡ false → {i v : ℕ} → M rows i v → i < half → min v cap ≤ rowOf rows i
 
   -- a path comes to l of rule r, whose number is k
-  pub record Here (base r l k : ℕ) : Type 0 where
+  pub record Here (called : List ℕ) (r l k : ℕ) : Type 0 where
     pub is-rule : r < length S
     pub in-rule : InRule T S r l
-    pub comes : Comes T S (flagOf base) l k
+    pub comes : Comes T S (flagOf called) l k
     pub small : k ≤ cap
 
 -- one place, one number
@@ -69,66 +68,66 @@ pub data Both (M N : Asked) (rows : List ℕ) (i v : ℕ) : Type 0 where
   that : N rows i v → Both M N rows i v
 
 -- one place is raised, whatever table the numbers are of
-pub record Raised (base i v : ℕ) (rows after : List ℕ) (b : Bool) : Type 0 where
+pub record Raised (i v : ℕ) (rows after : List ℕ) (b : Bool) : Type 0 where
   pub sized : length after ≡ length rows
-  pub at-least : base + i < length rows → i < half → min v cap ≤ rowOf base after i
-  pub steps : {T S : List ℕ} → Kept T S base rows → (i < half → 0 < v → Stands T S (flagOf base) i v) → Steps T S (Only i v) base rows after b
+  pub at-least : i < length rows → i < half → min v cap ≤ rowOf after i
+  pub steps : {T S called : List ℕ} → Kept T S called rows → (i < half → 0 < v → Stands T S (flagOf called) i v) → Steps T S (Only i v) called rows after b
 
 -- two places are raised
-pub record RaisedTwo (base i v j w : ℕ) (rows after : List ℕ) (b : Bool) : Type 0 where
+pub record RaisedTwo (i v j w : ℕ) (rows after : List ℕ) (b : Bool) : Type 0 where
   pub sized : length after ≡ length rows
-  pub steps : {T S : List ℕ} → Kept T S base rows → (i < half → 0 < v → Stands T S (flagOf base) i v) → (j < half → 0 < w → Stands T S (flagOf base) j w)
-      → Steps T S (Both (Only i v) (Only j w)) base rows after b
+  pub steps : {T S called : List ℕ} → Kept T S called rows → (i < half → 0 < v → Stands T S (flagOf called) i v) → (j < half → 0 < w → Stands T S (flagOf called) j w)
+      → Steps T S (Both (Only i v) (Only j w)) called rows after b
 
 -- every way out of the choice with its table at c
 pub data Ways (T : List ℕ) (c v : ℕ) (rows : List ℕ) : ℕ → ℕ → Type 0 where
   ways : (w : Option ℕ) → Ways T c v rows (wayOut T c w) v
 
 -- they are raised
-pub record WaysRaised (T : List ℕ) (c v base : ℕ) (rows after : List ℕ) (b : Bool) : Type 0 where
+pub record WaysRaised (T : List ℕ) (c v : ℕ) (rows after : List ℕ) (b : Bool) : Type 0 where
   pub sized : length after ≡ length rows
-  pub steps : {S : List ℕ} → Kept T S base rows → ((w : Option ℕ) → wayOut T c w < half → 0 < v → Stands T S (flagOf base) (wayOut T c w) v) → Steps T S (Ways T c v) base rows after b
+  pub steps : {S called : List ℕ} → Kept T S called rows → ((w : Option ℕ) → wayOut T c w < half → 0 < v → Stands T S (flagOf called) (wayOut T c w) v) → Steps T S (Ways T c v) called rows after b
 
 -- what the instruction i at l asks for
-abbrev pub MakesAt : List ℕ → List ℕ → ℕ → ℕ → ℕ → ℕ → Instruction → Asked
-MakesAt T S base r l k i rows j v = Makes T S (calledOf rows) (flagOf base) r l k i j v
+abbrev pub MakesAt : List ℕ → List ℕ → List ℕ → ℕ → ℕ → ℕ → Instruction → Asked
+MakesAt T S called r l k i rows j v = Makes T S (calledOf called rows) (flagOf called) r l k i j v
 
 -- the instruction i at l, whatever the table, has done what it asks for
-pub record Visited (i : Instruction) (base r l k : ℕ) (rows after : List ℕ) (b : Bool) : Type 0 where
+pub record Visited (i : Instruction) (called : List ℕ) (r l k : ℕ) (rows after : List ℕ) (b : Bool) : Type 0 where
   pub sized : length after ≡ length rows
-  pub steps : {T S : List ℕ} → Kept T S base rows → Here T S base r l k → decode T l ≡ i → Steps T S (MakesAt T S base r l k i) base rows after b
+  pub steps : {T S : List ℕ} → Kept T S called rows → Here T S called r l k → decode T l ≡ i → Steps T S (MakesAt T S called r l k i) called rows after b
 
 -- the same over one table
-pub record TokenVisited (T : List ℕ) (c base r l k : ℕ) (rows after : List ℕ) (b : Bool) : Type 0 where
+pub record TokenVisited (T : List ℕ) (c : ℕ) (called : List ℕ) (r l k : ℕ) (rows after : List ℕ) (b : Bool) : Type 0 where
   pub sized : length after ≡ length rows
-  pub steps : {S : List ℕ} → Kept T S base rows → Here T S base r l k → decode T l ≡ inputChoice c → Steps T S (MakesAt T S base r l k (inputChoice c)) base rows after b
+  pub steps : {S : List ℕ} → Kept T S called rows → Here T S called r l k → decode T l ≡ inputChoice c → Steps T S (MakesAt T S called r l k (inputChoice c)) called rows after b
 
 -- a call at l of rule q
-pub record CallsHere (T S : List ℕ) (base r l k q : ℕ) : Type 0 where
-  pub here : Here T S base r l k
+pub record CallsHere (T S called : List ℕ) (r l k q : ℕ) : Type 0 where
+  pub here : Here T S called r l k
   pub calls : decode T l ≡ callRule (startOf S q)
   pub found : q < length S
   pub is-index : indexOf S (startOf S q) ≡ q
 
 -- through the choice with its table at c behind a call, by the value that is set at p
-pub data ValueAt (T : List ℕ) (c k p : ℕ) (rows : List ℕ) : ℕ → ℕ → Type 0 where
-  value-at : {v : ℕ} → decode T p ≡ setResult v → 0 < calledOf rows p → ValueAt T c k p rows (wayOut T c (some v)) (k + calledOf rows p + 3)
+pub data ValueAt (T called : List ℕ) (c k p : ℕ) (rows : List ℕ) : ℕ → ℕ → Type 0 where
+  value-at : {v : ℕ} → decode T p ≡ setResult v → 0 < calledOf called rows p → ValueAt T called c k p rows (wayOut T c (some v)) (k + calledOf called rows p + 3)
 
 -- that choice and that place, of a rule that is called here
-pub record ValueHere (T S : List ℕ) (base r l k c p : ℕ) : Type 0 where
+pub record ValueHere (T S called : List ℕ) (r l k c p : ℕ) : Type 0 where
   pub rule : ℕ
-  pub here : CallsHere T S base r l k rule
+  pub here : CallsHere T S called r l k rule
   pub chooses : decode T (l + 2) ≡ choice c
   pub in-rule : InRule T S rule p
 
 -- by each that is set in rule q before m
-pub data Values (T S : List ℕ) (c k q m : ℕ) (rows : List ℕ) (i v : ℕ) : Type 0 where
-  values : {p : ℕ} → InRule T S q p → p < m → ValueAt T c k p rows i v → Values T S c k q m rows i v
+pub data Values (T S called : List ℕ) (c k q m : ℕ) (rows : List ℕ) (i v : ℕ) : Type 0 where
+  values : {p : ℕ} → InRule T S q p → p < m → ValueAt T called c k p rows i v → Values T S called c k q m rows i v
 
 -- behind a call of rule q at l
-pub data Behind (T S : List ℕ) (l k q : ℕ) (rows : List ℕ) : ℕ → ℕ → Type 0 where
-  behind-back : isChoice (decode T (l + 2)) ≡ false → 0 < calledOf rows (backAt q) → Behind T S l k q rows (l + 2) (k + calledOf rows (backAt q) + 1)
-  behind-value : {c p i v : ℕ} → decode T (l + 2) ≡ choice c → InRule T S q p → ValueAt T c k p rows i v → Behind T S l k q rows i v
+pub data Behind (T S called : List ℕ) (l k q : ℕ) (rows : List ℕ) : ℕ → ℕ → Type 0 where
+  behind-back : isChoice (decode T (l + 2)) ≡ false → 0 < calledOf called rows (backAt q) → Behind T S called l k q rows (l + 2) (k + calledOf called rows (backAt q) + 1)
+  behind-value : {c p i v : ℕ} → decode T (l + 2) ≡ choice c → InRule T S q p → ValueAt T called c k p rows i v → Behind T S called l k q rows i v
 
 -- a choice stands at l, with its table at c; 0 where none does
 pub record ChoiceAt (T : List ℕ) (l c : ℕ) : Type 0 where
@@ -136,16 +135,16 @@ pub record ChoiceAt (T : List ℕ) (l c : ℕ) : Type 0 where
   pub is-choice : 0 < c → decode T l ≡ choice c
 
 -- what a location of a rule asks for
-pub data AskedAt (T S : List ℕ) (base r l : ℕ) (rows : List ℕ) (i v : ℕ) : Type 0 where
-  asked-at : 0 < rowOf base rows l → Makes T S (calledOf rows) (flagOf base) r l (rowOf base rows l) (decode T l) i v → AskedAt T S base r l rows i v
+pub data AskedAt (T S called : List ℕ) (r l : ℕ) (rows : List ℕ) (i v : ℕ) : Type 0 where
+  asked-at : 0 < rowOf rows l → Makes T S (calledOf called rows) (flagOf called) r l (rowOf rows l) (decode T l) i v → AskedAt T S called r l rows i v
 
 -- and all of them below l
-pub data AskedBelow (T S : List ℕ) (base r m : ℕ) (rows : List ℕ) (i v : ℕ) : Type 0 where
-  asked-below : {l : ℕ} → InRule T S r l → l < m → AskedAt T S base r l rows i v → AskedBelow T S base r m rows i v
+pub data AskedBelow (T S called : List ℕ) (r m : ℕ) (rows : List ℕ) (i v : ℕ) : Type 0 where
+  asked-below : {l : ℕ} → InRule T S r l → l < m → AskedAt T S called r l rows i v → AskedBelow T S called r m rows i v
 
 -- and those of all rules from q on
-pub data AskedFrom (T S : List ℕ) (base q : ℕ) (rows : List ℕ) (i v : ℕ) : Type 0 where
-  asked-from : {r l : ℕ} → q ≤ r → r < length S → InRule T S r l → AskedAt T S base r l rows i v → AskedFrom T S base q rows i v
+pub data AskedFrom (T S called : List ℕ) (q : ℕ) (rows : List ℕ) (i v : ℕ) : Type 0 where
+  asked-from : {r l : ℕ} → q ≤ r → r < length S → InRule T S r l → AskedAt T S called r l rows i v → AskedFrom T S called q rows i v
 
 -- the greatest number from an index on
 pub record Greatest (rows : List ℕ) (from q : ℕ) : Type 0 where
@@ -153,21 +152,17 @@ pub record Greatest (rows : List ℕ) (from q : ℕ) : Type 0 where
   pub attained : 0 < q → (i : ℕ) × (from ≤ i) × (i < length rows) × (getD rows i 0 ≡ q)
 
 -- the rules' starts have numbers
-pub record Begun (T S : List ℕ) (base : ℕ) (rows after : List ℕ) : Type 0 where
-  pub kept : Kept T S base after
-  pub low : (i : ℕ) → i < base → getD after i 0 ≡ getD rows i 0
-  pub high : (i : ℕ) → base + half ≤ i → getD after i 0 ≡ getD rows i 0
-  pub begun : (r : ℕ) → r < length S → 0 < rowOf base after (startOf S r)
+pub record Begun (T S called after : List ℕ) : Type 0 where
+  pub kept : Kept T S called after
+  pub begun : (r : ℕ) → r < length S → 0 < rowOf after (startOf S r)
 
 -- nothing is left to be raised
-pub record Settled (T S : List ℕ) (base : ℕ) (rows after : List ℕ) : Type 0 where
-  pub kept : Kept T S base after
+pub record Settled (T S called rows after : List ℕ) : Type 0 where
+  pub kept : Kept T S called after
   pub grows : (i : ℕ) → getD rows i 0 ≤ getD after i 0
-  pub low : (i : ℕ) → i < base → getD after i 0 ≡ getD rows i 0
-  pub high : (i : ℕ) → base + half ≤ i → getD after i 0 ≡ getD rows i 0
-  pub all : {i v : ℕ} → AskedFrom T S base 0 after i v → i < half → min v cap ≤ rowOf base after i
+  pub all : {i v : ℕ} → AskedFrom T S called 0 after i v → i < half → min v cap ≤ rowOf after i
 
 -- all of this file computes where this is unfolded
 unfoldable pub opened : Unit {0}
-unfolding flagOf left
+unfolding flagOf calledOf left
 opened = tt

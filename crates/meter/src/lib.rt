@@ -1,17 +1,17 @@
 // The figure Q of a table: numbers by location, raised until none can be raised. The number of a location is one more than the most instructions before it on
 // a quiet path, 0 where none comes; behind the locations stand, for each rule, the most instructions of a path that is over, and of one that is back.
-// The first half begins at the rules' starts and says what a call adds; the second begins at every instruction that can be reached.
+// There are two halves of them: the first begins at the rules' starts and says what a call adds; the second begins at every instruction that can be reached.
 ghost use mathlib.Core.Path.{_≡_};
 ghost use mathlib.Core.Bool.{Bool, true, false, _||_};
 ghost use mathlib.Core.Option.{none, some};
 ghost use Prim.Native.Nat.{_+_, _*_, _-_, _<_, _≤_, min};
 ghost use lib.ListN.{length, getD, set, replicate};
 ghost use Rattle.machine.specs.Bytes.{count, wordsOf, tableOf};
-ghost use Rattle.meter.specs.Steps.{flagOf, Kept, Here, Steps, Raised, Ways, MakesAt, RaisedTwo, WaysRaised, Visited, TokenVisited, ValueAt, ValueHere, CallsHere, Values, Behind, ChoiceAt, AskedAt, AskedBelow, AskedFrom, Greatest, Begun, Settled};
+ghost use Rattle.meter.specs.Steps.{flagOf, calledOf, Kept, Here, Steps, Raised, Ways, MakesAt, RaisedTwo, WaysRaised, Visited, TokenVisited, ValueAt, ValueHere, CallsHere, Values, Behind, ChoiceAt, AskedAt, AskedBelow, AskedFrom, Greatest, Begun, Settled};
 ghost use Rattle.machine.specs.Decode.{callRule, choice, decodeOne, decodeTwo, decode};
 ghost use Rattle.meter.specs.Shaped.{indexOf, endOf, InRule, Fits, Shaped};
 ghost use Rattle.meter.specs.Found.{Found};
-ghost use Rattle.meter.specs.Store.{atCap, numbersOf};
+ghost use Rattle.meter.specs.Store.{atCap, numbersOf, calledNumbers};
 ghost use Rattle.figure.specs.Figure.{wayOut};
 
 // Places in a half: the locations, then the paths of each rule that are over and those that are back.
@@ -24,12 +24,10 @@ const HALF: usize = 4353;
 // Past the greatest figure: numbers stop here.
 const CAP: u64 = 4294967296;
 
-// The store of the numbers: a word for each, then a bit for each, set where the number is CAP.
-const NUMBERS: usize = 8706;
-
+// The store of a half: a word for each number, then a bit for each, set where the number is CAP.
 const WORD_BITS: usize = 32;
 
-pub const ROWS: usize = 8979;
+pub const ROWS: usize = 4490;
 
 // The instructions that end paths or branch.
 const JUMP_FORWARD: usize = 1;
@@ -56,18 +54,18 @@ const FIRST_CHOOSE: usize = 768;
 
 // Whether the number at an index is CAP.
 fn at_cap(rows: &[u32], i: usize) -> bool
-    requires { ⌜ (length (now rows) ≡ 8979) × (i < 8706) ⌝ }
+    requires { ⌜ (length (now rows) ≡ 4490) × (i < 4353) ⌝ }
     ensures { λ r. ⌜ r ≡ atCap (now (rows .entry)) i ⌝ }
 {
-    (rows[NUMBERS + i / WORD_BITS] >> (i % WORD_BITS)) & 1 == 1
+    (rows[HALF + i / WORD_BITS] >> (i % WORD_BITS)) & 1 == 1
 }
 
 // The number at an index.
 fn number(rows: &[u32], i: usize) -> u64
-    requires { ⌜ length (now rows) ≡ 8979 ⌝ }
+    requires { ⌜ length (now rows) ≡ 4490 ⌝ }
     ensures { λ r. ⌜ r ≡ getD (numbersOf (now (rows .entry))) i 0 ⌝ }
 {
-    if NUMBERS <= i {
+    if HALF <= i {
         return 0;
     }
     if at_cap(rows, i) {
@@ -78,14 +76,14 @@ fn number(rows: &[u32], i: usize) -> u64
 
 // A number becomes v, which is more: no bit is ever cleared.
 fn put(rows: &mut [u32], i: usize, v: u64)
-    requires { ⌜ (length (now rows) ≡ 8979) × (i < 8706) × (getD (numbersOf (now rows)) i 0 < v) × (v ≤ 4294967296) ⌝ }
+    requires { ⌜ (length (now rows) ≡ 4490) × (i < 4353) × (getD (numbersOf (now rows)) i 0 < v) × (v ≤ 4294967296) ⌝ }
     ensures { λ _. ⌜ numbersOf (now (rows .exit)) ≡ set (numbersOf (now (rows .entry))) i v ⌝ }
 {
     if v < CAP {
         rows[i] = v as u32;
         return;
     }
-    let at = NUMBERS + i / WORD_BITS;
+    let at = HALF + i / WORD_BITS;
     rows[at] = rows[at] | (1 << (i % WORD_BITS));
 }
 
@@ -102,17 +100,16 @@ fn either(a: bool, b: bool) -> bool
 }
 
 // A number is raised, where it is less; locations past the last have none.
-fn raise(rows: &mut [u32], base: usize, i: usize, v: u64) -> bool
-    requires { ⌜ (length (now rows) ≡ 8979) × (base ≤ 4353) ⌝ }
-    ensures { λ r. ⌜ Raised base i v (numbersOf (now (rows .entry))) (numbersOf (now (rows .exit))) r ⌝ }
+fn raise(rows: &mut [u32], i: usize, v: u64) -> bool
+    requires { ⌜ length (now rows) ≡ 4490 ⌝ }
+    ensures { λ r. ⌜ Raised i v (numbersOf (now (rows .entry))) (numbersOf (now (rows .exit))) r ⌝ }
 {
     if HALF <= i {
         return false;
     }
-    let at = base + i;
     let w = capped(v);
-    if number(rows, at) < w {
-        put(rows, at, w);
+    if number(rows, i) < w {
+        put(rows, i, w);
         return true;
     }
     false
@@ -132,10 +129,21 @@ fn back(l: usize, x: usize) -> usize
 }
 
 // What begins a path in the second half: every instruction that can be reached.
-fn mark_of(base: usize) -> u64
-    ensures { λ r. ⌜ r ≡ flagOf base ⌝ }
+fn mark_of(called: &[u32]) -> u64
+    ensures { λ r. ⌜ r ≡ flagOf (calledNumbers (now (called .entry))) ⌝ }
 {
-    if base == 0 { 0 } else { 1 }
+    if called.len() == ROWS { 1 } else { 0 }
+}
+
+// A number of a called rule: of the first half where it is lent, else of the half that is raised.
+fn called_number(called: &[u32], rows: &[u32], i: usize) -> u64
+    requires { ⌜ length (now rows) ≡ 4490 ⌝ }
+    ensures { λ r. ⌜ r ≡ calledOf (calledNumbers (now (called .entry))) (numbersOf (now (rows .entry))) i ⌝ }
+{
+    if called.len() == ROWS {
+        return number(called, i);
+    }
+    number(rows, i)
 }
 
 // Which rule starts at a location; their number where none does.
@@ -182,30 +190,30 @@ fn way_out(table: &[u8], c: usize, v: usize) -> usize
 }
 
 // Two places are raised.
-fn raise_two(rows: &mut [u32], base: usize, i: usize, v: u64, j: usize, w: u64) -> bool
-    requires { ⌜ (length (now rows) ≡ 8979) × (base ≤ 4353) ⌝ }
-    ensures { λ r. ⌜ RaisedTwo base i v j w (numbersOf (now (rows .entry))) (numbersOf (now (rows .exit))) r ⌝ }
+fn raise_two(rows: &mut [u32], i: usize, v: u64, j: usize, w: u64) -> bool
+    requires { ⌜ length (now rows) ≡ 4490 ⌝ }
+    ensures { λ r. ⌜ RaisedTwo i v j w (numbersOf (now (rows .entry))) (numbersOf (now (rows .exit))) r ⌝ }
 {
-    let a = raise(rows, base, i, v);
-    let b = raise(rows, base, j, w);
+    let a = raise(rows, i, v);
+    let b = raise(rows, j, w);
     either(a, b)
 }
 
 // Every way out of the choice with its table at c.
-fn raise_ways(table: &[u8], c: usize, base: usize, v: u64, rows: &mut [u32]) -> bool
-    requires { ⌜ Fits (tableOf (now table)) c × (length (now rows) ≡ 8979) × (base ≤ 4353) ⌝ }
-    ensures { λ r. ⌜ WaysRaised (tableOf (now (table .entry))) c v base (numbersOf (now (rows .entry))) (numbersOf (now (rows .exit))) r ⌝ }
+fn raise_ways(table: &[u8], c: usize, v: u64, rows: &mut [u32]) -> bool
+    requires { ⌜ Fits (tableOf (now table)) c × (length (now rows) ≡ 4490) ⌝ }
+    ensures { λ r. ⌜ WaysRaised (tableOf (now (table .entry))) c v (numbersOf (now (rows .entry))) (numbersOf (now (rows .exit))) r ⌝ }
 {
     let n = loader::word_at(table, c);
     let mut changed = false;
     let mut i: usize = 0;
     while i < n {
         let way = way_out(table, c, loader::word_at(table, c + 1 + 2 * i));
-        let more = raise(rows, base, way, v);
+        let more = raise(rows, way, v);
         changed = either(changed, more);
         i += 1;
     }
-    let last = raise(rows, base, c + 1 + 2 * n, v);
+    let last = raise(rows, c + 1 + 2 * n, v);
     either(changed, last)
 }
 
@@ -217,37 +225,36 @@ struct Spot {
 }
 
 // An instruction of one word.
-fn visit_one(i: usize, base: usize, here: Spot, rows: &mut [u32]) -> bool
-    requires { ⌜ (length (now rows) ≡ 8979) × (base ≤ 4353) × (here .rule < 128) × (here .at < 10000) × (here .number ≤ 4294967296) ⌝ }
-    ensures { λ r. ⌜ Visited (decodeOne i) base (here .rule) (here .at) (here .number) (numbersOf (now (rows .entry))) (numbersOf (now (rows .exit))) r ⌝ }
+fn visit_one(i: usize, called: &[u32], here: Spot, rows: &mut [u32]) -> bool
+    requires { ⌜ (length (now rows) ≡ 4490) × (here .rule < 128) × (here .at < 10000) × (here .number ≤ 4294967296) ⌝ }
+    ensures { λ r. ⌜ Visited (decodeOne i) (calledNumbers (now (called .entry))) (here .rule) (here .at) (here .number) (numbersOf (now (rows .entry))) (numbersOf (now (rows .exit))) r ⌝ }
 {
     let next = here.at + 1;
     let over = OVER + here.rule;
     if i == RETURN {
-        return raise(rows, base, BACK + here.rule, here.number);
+        return raise(rows, BACK + here.rule, here.number);
     }
     if i == END_CHOICE {
-        return raise(rows, base, over, here.number);
+        return raise(rows, over, here.number);
     }
     if i == INPUT_ANY {
-        return raise_two(rows, base, over, here.number, next, mark_of(base));
+        return raise_two(rows, over, here.number, next, mark_of(called));
     }
     if i < FIRST_CHOOSE {
-        return raise(rows, base, next, here.number + 1);
+        return raise(rows, next, here.number + 1);
     }
-    raise_two(rows, base, over, here.number, next, here.number + 1)
+    raise_two(rows, over, here.number, next, here.number + 1)
 }
 
 // A choice by the present token, with its table at c.
-fn visit_token(table: &[u8], c: usize, base: usize, here: Spot, rows: &mut [u32]) -> bool
-    requires { ⌜ Fits (tableOf (now table)) c × (length (now rows) ≡ 8979) × (base ≤ 4353) × (here .rule < 128) × (here .number ≤ 4294967296) ⌝ }
-    ensures { λ r. ⌜ TokenVisited (tableOf (now (table .entry))) c base (here .rule) (here .at) (here .number) (numbersOf (now (rows .entry))) (numbersOf (now (rows .exit))) r ⌝ }
+fn visit_token(table: &[u8], c: usize, called: &[u32], here: Spot, rows: &mut [u32]) -> bool
+    requires { ⌜ Fits (tableOf (now table)) c × (length (now rows) ≡ 4490) × (here .rule < 128) × (here .number ≤ 4294967296) ⌝ }
+    ensures { λ r. ⌜ TokenVisited (tableOf (now (table .entry))) c (calledNumbers (now (called .entry))) (here .rule) (here .at) (here .number) (numbersOf (now (rows .entry))) (numbersOf (now (rows .exit))) r ⌝ }
 {
-    let a = raise_ways(table, c, base, mark_of(base), rows);
+    let a = raise_ways(table, c, mark_of(called), rows);
     let default = c + 1 + 2 * loader::word_at(table, c);
     let b = raise_two(
         rows,
-        base,
         OVER + here.rule,
         here.number,
         default,
@@ -262,12 +269,12 @@ fn raise_value(
     starts: &[usize],
     p: usize,
     c: usize,
-    base: usize,
+    called: &[u32],
     here: Spot,
     rows: &mut [u32],
 ) -> bool
-    requires { ⌜ Kept (tableOf (now table)) (now starts) base (numbersOf (now rows)) × ValueHere (tableOf (now table)) (now starts) base (here .rule) (here .at) (here .number) c p × (length (now rows) ≡ 8979) ⌝ }
-    ensures { λ r. ⌜ Steps (tableOf (now (table .entry))) (now (starts .entry)) (ValueAt (tableOf (now (table .entry))) c (here .number) p) base (numbersOf (now (rows .entry))) (numbersOf (now (rows .exit))) r ⌝ }
+    requires { ⌜ Kept (tableOf (now table)) (now starts) (calledNumbers (now called)) (numbersOf (now rows)) × ValueHere (tableOf (now table)) (now starts) (calledNumbers (now called)) (here .rule) (here .at) (here .number) c p × (length (now rows) ≡ 4490) ⌝ }
+    ensures { λ r. ⌜ Steps (tableOf (now (table .entry))) (now (starts .entry)) (ValueAt (tableOf (now (table .entry))) (calledNumbers (now (called .entry))) c (here .number) p) (calledNumbers (now (called .entry))) (numbersOf (now (rows .entry))) (numbersOf (now (rows .exit))) r ⌝ }
 {
     if p == 0 {
         return false;
@@ -278,12 +285,12 @@ fn raise_value(
     if loader::word_at(table, p) != SET_RESULT {
         return false;
     }
-    let m = number(rows, p);
+    let m = called_number(called, rows, p);
     if m == 0 {
         return false;
     }
     let way = way_out(table, c, loader::word_at(table, p + 1));
-    raise(rows, base, way, here.number + m + 3)
+    raise(rows, way, here.number + m + 3)
 }
 
 // The location of the table of the choice at l; 0 where no choice stands.
@@ -306,18 +313,18 @@ fn raise_values(
     starts: &[usize],
     q: usize,
     c: usize,
-    base: usize,
+    called: &[u32],
     here: Spot,
     rows: &mut [u32],
 ) -> bool
-    requires { ⌜ Kept (tableOf (now table)) (now starts) base (numbersOf (now rows)) × CallsHere (tableOf (now table)) (now starts) base (here .rule) (here .at) (here .number) q × (decode (tableOf (now table)) (here .at + 2) ≡ choice c) × (length (now rows) ≡ 8979) ⌝ }
-    ensures { λ r. ⌜ Steps (tableOf (now (table .entry))) (now (starts .entry)) (Values (tableOf (now (table .entry))) (now (starts .entry)) c (here .number) q (endOf (length (tableOf (now (table .entry)))) (now (starts .entry)) q)) base (numbersOf (now (rows .entry))) (numbersOf (now (rows .exit))) r ⌝ }
+    requires { ⌜ Kept (tableOf (now table)) (now starts) (calledNumbers (now called)) (numbersOf (now rows)) × CallsHere (tableOf (now table)) (now starts) (calledNumbers (now called)) (here .rule) (here .at) (here .number) q × (decode (tableOf (now table)) (here .at + 2) ≡ choice c) × (length (now rows) ≡ 4490) ⌝ }
+    ensures { λ r. ⌜ Steps (tableOf (now (table .entry))) (now (starts .entry)) (Values (tableOf (now (table .entry))) (now (starts .entry)) (calledNumbers (now (called .entry))) c (here .number) q (endOf (length (tableOf (now (table .entry)))) (now (starts .entry)) q)) (calledNumbers (now (called .entry))) (numbersOf (now (rows .entry))) (numbersOf (now (rows .exit))) r ⌝ }
 {
     let to = end_of(starts, q, loader::size_of(table));
     let mut changed = false;
     let mut p = starts[q];
     while p < to {
-        let more = raise_value(table, starts, p, c, base, here, rows);
+        let more = raise_value(table, starts, p, c, called, here, rows);
         changed = either(changed, more);
         p += 1;
     }
@@ -329,23 +336,23 @@ fn raise_behind(
     table: &[u8],
     starts: &[usize],
     q: usize,
-    base: usize,
+    called: &[u32],
     here: Spot,
     rows: &mut [u32],
 ) -> bool
-    requires { ⌜ Kept (tableOf (now table)) (now starts) base (numbersOf (now rows)) × CallsHere (tableOf (now table)) (now starts) base (here .rule) (here .at) (here .number) q × (length (now rows) ≡ 8979) ⌝ }
-    ensures { λ r. ⌜ Steps (tableOf (now (table .entry))) (now (starts .entry)) (Behind (tableOf (now (table .entry))) (now (starts .entry)) (here .at) (here .number) q) base (numbersOf (now (rows .entry))) (numbersOf (now (rows .exit))) r ⌝ }
+    requires { ⌜ Kept (tableOf (now table)) (now starts) (calledNumbers (now called)) (numbersOf (now rows)) × CallsHere (tableOf (now table)) (now starts) (calledNumbers (now called)) (here .rule) (here .at) (here .number) q × (length (now rows) ≡ 4490) ⌝ }
+    ensures { λ r. ⌜ Steps (tableOf (now (table .entry))) (now (starts .entry)) (Behind (tableOf (now (table .entry))) (now (starts .entry)) (calledNumbers (now (called .entry))) (here .at) (here .number) q) (calledNumbers (now (called .entry))) (numbersOf (now (rows .entry))) (numbersOf (now (rows .exit))) r ⌝ }
 {
     let next = here.at + 2;
     let c = choice_at(table, next);
     if 0 < c {
-        return raise_values(table, starts, q, c, base, here, rows);
+        return raise_values(table, starts, q, c, called, here, rows);
     }
-    let m = number(rows, BACK + q);
+    let m = called_number(called, rows, BACK + q);
     if m == 0 {
         return false;
     }
-    raise(rows, base, next, here.number + m + 1)
+    raise(rows, next, here.number + m + 1)
 }
 
 // A call of the rule that starts at s.
@@ -353,17 +360,17 @@ fn raise_call(
     table: &[u8],
     starts: &[usize],
     s: usize,
-    base: usize,
+    called: &[u32],
     here: Spot,
     rows: &mut [u32],
 ) -> bool
-    requires { ⌜ Kept (tableOf (now table)) (now starts) base (numbersOf (now rows)) × Here (tableOf (now table)) (now starts) base (here .rule) (here .at) (here .number) × (decode (tableOf (now table)) (here .at) ≡ callRule s) × (length (now rows) ≡ 8979) ⌝ }
-    ensures { λ r. ⌜ Steps (tableOf (now (table .entry))) (now (starts .entry)) (MakesAt (tableOf (now (table .entry))) (now (starts .entry)) base (here .rule) (here .at) (here .number) (callRule s)) base (numbersOf (now (rows .entry))) (numbersOf (now (rows .exit))) r ⌝ }
+    requires { ⌜ Kept (tableOf (now table)) (now starts) (calledNumbers (now called)) (numbersOf (now rows)) × Here (tableOf (now table)) (now starts) (calledNumbers (now called)) (here .rule) (here .at) (here .number) × (decode (tableOf (now table)) (here .at) ≡ callRule s) × (length (now rows) ≡ 4490) ⌝ }
+    ensures { λ r. ⌜ Steps (tableOf (now (table .entry))) (now (starts .entry)) (MakesAt (tableOf (now (table .entry))) (now (starts .entry)) (calledNumbers (now (called .entry))) (here .rule) (here .at) (here .number) (callRule s)) (calledNumbers (now (called .entry))) (numbersOf (now (rows .entry))) (numbersOf (now (rows .exit))) r ⌝ }
 {
     let q = rule_at(starts, s);
-    let o = here.number + number(rows, OVER + q);
-    let a = raise_two(rows, base, OVER + here.rule, o, here.at + 2, mark_of(base));
-    let b = raise_behind(table, starts, q, base, here, rows);
+    let o = here.number + called_number(called, rows, OVER + q);
+    let a = raise_two(rows, OVER + here.rule, o, here.at + 2, mark_of(called));
+    let b = raise_behind(table, starts, q, called, here, rows);
     either(a, b)
 }
 
@@ -373,47 +380,47 @@ fn visit_two(
     starts: &[usize],
     i: usize,
     x: usize,
-    base: usize,
+    called: &[u32],
     here: Spot,
     rows: &mut [u32],
 ) -> bool
-    requires { ⌜ Kept (tableOf (now table)) (now starts) base (numbersOf (now rows)) × Here (tableOf (now table)) (now starts) base (here .rule) (here .at) (here .number) × (decode (tableOf (now table)) (here .at) ≡ decodeTwo (here .at) i x) × (x < 65536) × (length (now rows) ≡ 8979) ⌝ }
-    ensures { λ r. ⌜ Steps (tableOf (now (table .entry))) (now (starts .entry)) (MakesAt (tableOf (now (table .entry))) (now (starts .entry)) base (here .rule) (here .at) (here .number) (decodeTwo (here .at) i x)) base (numbersOf (now (rows .entry))) (numbersOf (now (rows .exit))) r ⌝ }
+    requires { ⌜ Kept (tableOf (now table)) (now starts) (calledNumbers (now called)) (numbersOf (now rows)) × Here (tableOf (now table)) (now starts) (calledNumbers (now called)) (here .rule) (here .at) (here .number) × (decode (tableOf (now table)) (here .at) ≡ decodeTwo (here .at) i x) × (x < 65536) × (length (now rows) ≡ 4490) ⌝ }
+    ensures { λ r. ⌜ Steps (tableOf (now (table .entry))) (now (starts .entry)) (MakesAt (tableOf (now (table .entry))) (now (starts .entry)) (calledNumbers (now (called .entry))) (here .rule) (here .at) (here .number) (decodeTwo (here .at) i x)) (calledNumbers (now (called .entry))) (numbersOf (now (rows .entry))) (numbersOf (now (rows .exit))) r ⌝ }
 {
     let l = here.at;
     let more = here.number + 1;
     if i == JUMP_FORWARD {
-        return raise(rows, base, l + 1 + x, more);
+        return raise(rows, l + 1 + x, more);
     }
     if i == JUMP_BACK {
-        return raise(rows, base, back(l + 1, x), more);
+        return raise(rows, back(l + 1, x), more);
     }
     if i == INPUT {
-        return raise_two(
-            rows,
-            base,
-            OVER + here.rule,
-            here.number,
-            l + 2,
-            mark_of(base),
-        );
+        return raise_two(rows, OVER + here.rule, here.number, l + 2, mark_of(called));
     }
     if i == INPUT_CHOICE {
-        return visit_token(table, l + 1 + x, base, here, rows);
+        return visit_token(table, l + 1 + x, called, here, rows);
     }
     if i == CALL {
-        return raise_call(table, starts, x, base, here, rows);
+        return raise_call(table, starts, x, called, here, rows);
     }
     if i == CHOICE {
-        return raise_ways(table, l + 1 + x, base, more, rows);
+        return raise_ways(table, l + 1 + x, more, rows);
     }
-    raise(rows, base, l + 2, more)
+    raise(rows, l + 2, more)
 }
 
 // What the instruction at a location of a rule asks for.
-fn visit(table: &[u8], starts: &[usize], r: usize, l: usize, base: usize, rows: &mut [u32]) -> bool
-    requires { ⌜ Kept (tableOf (now table)) (now starts) base (numbersOf (now rows)) × (r < length (now starts)) × InRule (tableOf (now table)) (now starts) r l × (length (now rows) ≡ 8979) ⌝ }
-    ensures { λ b. ⌜ Steps (tableOf (now (table .entry))) (now (starts .entry)) (AskedAt (tableOf (now (table .entry))) (now (starts .entry)) base r l) base (numbersOf (now (rows .entry))) (numbersOf (now (rows .exit))) b ⌝ }
+fn visit(
+    table: &[u8],
+    starts: &[usize],
+    r: usize,
+    l: usize,
+    called: &[u32],
+    rows: &mut [u32],
+) -> bool
+    requires { ⌜ Kept (tableOf (now table)) (now starts) (calledNumbers (now called)) (numbersOf (now rows)) × (r < length (now starts)) × InRule (tableOf (now table)) (now starts) r l × (length (now rows) ≡ 4490) ⌝ }
+    ensures { λ b. ⌜ Steps (tableOf (now (table .entry))) (now (starts .entry)) (AskedAt (tableOf (now (table .entry))) (now (starts .entry)) (calledNumbers (now (called .entry))) r l) (calledNumbers (now (called .entry))) (numbersOf (now (rows .entry))) (numbersOf (now (rows .exit))) b ⌝ }
 {
     if l == 0 {
         return false;
@@ -422,7 +429,7 @@ fn visit(table: &[u8], starts: &[usize], r: usize, l: usize, base: usize, rows: 
     if size < l {
         return false;
     }
-    let n = number(rows, base + l);
+    let n = number(rows, l);
     if n == 0 {
         return false;
     }
@@ -437,7 +444,7 @@ fn visit(table: &[u8], starts: &[usize], r: usize, l: usize, base: usize, rows: 
         return false;
     }
     if k == 1 {
-        return visit_one(wide(i), base, here, rows);
+        return visit_one(wide(i), called, here, rows);
     }
     if size < l + 1 {
         return false;
@@ -447,22 +454,22 @@ fn visit(table: &[u8], starts: &[usize], r: usize, l: usize, base: usize, rows: 
         starts,
         wide(i),
         loader::word_at(table, l + 1),
-        base,
+        called,
         here,
         rows,
     )
 }
 
 // What the instructions of a rule ask for.
-fn sweep_rule(table: &[u8], starts: &[usize], r: usize, base: usize, rows: &mut [u32]) -> bool
-    requires { ⌜ Kept (tableOf (now table)) (now starts) base (numbersOf (now rows)) × (r < length (now starts)) × (length (now rows) ≡ 8979) ⌝ }
-    ensures { λ b. ⌜ Steps (tableOf (now (table .entry))) (now (starts .entry)) (AskedBelow (tableOf (now (table .entry))) (now (starts .entry)) base r (endOf (length (tableOf (now (table .entry)))) (now (starts .entry)) r)) base (numbersOf (now (rows .entry))) (numbersOf (now (rows .exit))) b ⌝ }
+fn sweep_rule(table: &[u8], starts: &[usize], r: usize, called: &[u32], rows: &mut [u32]) -> bool
+    requires { ⌜ Kept (tableOf (now table)) (now starts) (calledNumbers (now called)) (numbersOf (now rows)) × (r < length (now starts)) × (length (now rows) ≡ 4490) ⌝ }
+    ensures { λ b. ⌜ Steps (tableOf (now (table .entry))) (now (starts .entry)) (AskedBelow (tableOf (now (table .entry))) (now (starts .entry)) (calledNumbers (now (called .entry))) r (endOf (length (tableOf (now (table .entry)))) (now (starts .entry)) r)) (calledNumbers (now (called .entry))) (numbersOf (now (rows .entry))) (numbersOf (now (rows .exit))) b ⌝ }
 {
     let to = end_of(starts, r, loader::size_of(table));
     let mut changed = false;
     let mut l = starts[r];
     while l < to {
-        let more = visit(table, starts, r, l, base, rows);
+        let more = visit(table, starts, r, l, called, rows);
         changed = either(changed, more);
         l += 1;
     }
@@ -470,51 +477,51 @@ fn sweep_rule(table: &[u8], starts: &[usize], r: usize, base: usize, rows: &mut 
 }
 
 // One sweep over all rules, the last first: most rules call later ones.
-fn sweep(table: &[u8], starts: &[usize], base: usize, rows: &mut [u32]) -> bool
-    requires { ⌜ Kept (tableOf (now table)) (now starts) base (numbersOf (now rows)) × (length (now rows) ≡ 8979) ⌝ }
-    ensures { λ b. ⌜ Steps (tableOf (now (table .entry))) (now (starts .entry)) (AskedFrom (tableOf (now (table .entry))) (now (starts .entry)) base 0) base (numbersOf (now (rows .entry))) (numbersOf (now (rows .exit))) b ⌝ }
+fn sweep(table: &[u8], starts: &[usize], called: &[u32], rows: &mut [u32]) -> bool
+    requires { ⌜ Kept (tableOf (now table)) (now starts) (calledNumbers (now called)) (numbersOf (now rows)) × (length (now rows) ≡ 4490) ⌝ }
+    ensures { λ b. ⌜ Steps (tableOf (now (table .entry))) (now (starts .entry)) (AskedFrom (tableOf (now (table .entry))) (now (starts .entry)) (calledNumbers (now (called .entry))) 0) (calledNumbers (now (called .entry))) (numbersOf (now (rows .entry))) (numbersOf (now (rows .exit))) b ⌝ }
 {
     let mut changed = false;
     let mut r = starts.len();
     while 0 < r {
         r -= 1;
-        let more = sweep_rule(table, starts, r, base, rows);
+        let more = sweep_rule(table, starts, r, called, rows);
         changed = either(changed, more);
     }
     changed
 }
 
 // Sweeps until nothing is raised.
-fn settle(table: &[u8], starts: &[usize], base: usize, rows: &mut [u32])
-    requires { ⌜ Kept (tableOf (now table)) (now starts) base (numbersOf (now rows)) × (length (now rows) ≡ 8979) ⌝ }
-    ensures { λ _. ⌜ Settled (tableOf (now (table .entry))) (now (starts .entry)) base (numbersOf (now (rows .entry))) (numbersOf (now (rows .exit))) ⌝ }
+fn settle(table: &[u8], starts: &[usize], called: &[u32], rows: &mut [u32])
+    requires { ⌜ Kept (tableOf (now table)) (now starts) (calledNumbers (now called)) (numbersOf (now rows)) × (length (now rows) ≡ 4490) ⌝ }
+    ensures { λ _. ⌜ Settled (tableOf (now (table .entry))) (now (starts .entry)) (calledNumbers (now (called .entry))) (numbersOf (now (rows .entry))) (numbersOf (now (rows .exit))) ⌝ }
 {
     let mut changed = true;
     while changed {
-        changed = sweep(table, starts, base, rows);
+        changed = sweep(table, starts, called, rows);
     }
 }
 
 // The rules' starts get the number 1.
-fn begin(table: &[u8], starts: &[usize], base: usize, rows: &mut [u32])
-    requires { ⌜ Kept (tableOf (now table)) (now starts) base (numbersOf (now rows)) × (length (now rows) ≡ 8979) ⌝ }
-    ensures { λ _. ⌜ Begun (tableOf (now (table .entry))) (now (starts .entry)) base (numbersOf (now (rows .entry))) (numbersOf (now (rows .exit))) ⌝ }
+fn begin(table: &[u8], starts: &[usize], called: &[u32], rows: &mut [u32])
+    requires { ⌜ Kept (tableOf (now table)) (now starts) (calledNumbers (now called)) (numbersOf (now rows)) × (length (now rows) ≡ 4490) ⌝ }
+    ensures { λ _. ⌜ Begun (tableOf (now (table .entry))) (now (starts .entry)) (calledNumbers (now (called .entry))) (numbersOf (now (rows .exit))) ⌝ }
 {
     let mut r: usize = 0;
     while r < starts.len() {
-        raise(rows, base, starts[r], 1);
+        raise(rows, starts[r], 1);
         r += 1;
     }
 }
 
 // The greatest number from an index on.
 fn greatest(rows: &[u32], from: usize) -> u64
-    requires { ⌜ length (now rows) ≡ 8979 ⌝ }
+    requires { ⌜ length (now rows) ≡ 4490 ⌝ }
     ensures { λ r. ⌜ Greatest (numbersOf (now (rows .entry))) from r ⌝ }
 {
     let mut most: u64 = 0;
     let mut i = from;
-    while i < NUMBERS {
+    while i < HALF {
         let v = number(rows, i);
         if most < v {
             most = v;
@@ -526,8 +533,8 @@ fn greatest(rows: &[u32], from: usize) -> u64
 
 // All numbers are 0.
 fn clear(rows: &mut [u32])
-    requires { ⌜ length (now rows) ≡ 8979 ⌝ }
-    ensures { λ _. ⌜ numbersOf (now (rows .exit)) ≡ replicate 8706 0 ⌝ }
+    requires { ⌜ length (now rows) ≡ 4490 ⌝ }
+    ensures { λ _. ⌜ numbersOf (now (rows .exit)) ≡ replicate 4353 0 ⌝ }
 {
     let mut i: usize = 0;
     while i < ROWS {
@@ -536,15 +543,16 @@ fn clear(rows: &mut [u32])
     }
 }
 
-// The figure of a table whose rules start at these locations; 4,294,967,296 where it is more than 4,294,967,295. The numbers are lent.
-pub fn figure(table: &[u8], starts: &[usize], rows: &mut [u32]) -> u64
-    requires { ⌜ Shaped (tableOf (now table)) (now starts) × (length (now rows) ≡ 8979) ⌝ }
+// The figure of a table whose rules start at these locations; 4,294,967,296 where it is more than 4,294,967,295. The two halves of the numbers are lent.
+pub fn figure(table: &[u8], starts: &[usize], called: &mut [u32], rows: &mut [u32]) -> u64
+    requires { ⌜ Shaped (tableOf (now table)) (now starts) × (length (now called) ≡ 4490) × (length (now rows) ≡ 4490) ⌝ }
     ensures { λ q. ⌜ Found (tableOf (now (table .entry))) (now (starts .entry)) q ⌝ }
 {
+    clear(called);
     clear(rows);
-    begin(table, starts, 0, rows);
-    settle(table, starts, 0, rows);
-    begin(table, starts, HALF, rows);
-    settle(table, starts, HALF, rows);
-    greatest(rows, HALF + OVER)
+    begin(table, starts, &rows[..0], called);
+    settle(table, starts, &rows[..0], called);
+    begin(table, starts, called, rows);
+    settle(table, starts, called, rows);
+    greatest(rows, OVER)
 }

@@ -93,8 +93,9 @@ fn measure(table: &[u8], starts: &[usize]) -> u64
     requires { ⌜ IsTabled (now table) (now starts) ⌝ }
     ensures { λ q. ⌜ Measures (now (table .entry)) (now (starts .entry)) q ⌝ }
 {
+    let mut called = [0u32; meter::ROWS];
     let mut rows = [0u32; meter::ROWS];
-    meter::figure(table, starts, &mut rows)
+    meter::figure(table, starts, &mut called, &mut rows)
 }
 
 // The figure of a finishing program, from its table and its rules' starts.

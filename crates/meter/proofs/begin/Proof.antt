@@ -1,7 +1,6 @@
-use Rattle.meter.specs.Store.{numbersOf}
+use Rattle.meter.specs.Store.{numbersOf, calledNumbers}
 use mathlib.Core.Path.{_≡_}
 use Rattle.meter.proofs.Finds.{BegunUpto, begun-first, begun-next, begun-all}
-use Rattle.meter.proofs.Laws.{room}
 use Rattle.machine.specs.Bytes.{tableOf}
 use borrow.Author.Needs.{needs}
 use lib.ListN.{length}
@@ -14,14 +13,14 @@ use Rattle.meter.proofs.begin.Lts as lts
 use Rattle.meter.proofs.raise.Reads as raise-reads
 
 abbrev Inv-loop : tie.InvT-loop
-Inv-loop table starts base rows₀ r₀ rows r = (BegunUpto (tableOf table) starts base r (numbersOf rows₀) (numbersOf rows)) × (length rows ≡ 8979)
+Inv-loop table starts called rows₀ r₀ rows r = (BegunUpto (tableOf table) starts (calledNumbers called) r (numbersOf rows)) × (length rows ≡ 4490)
 
 abbrev μ-loop : tie.MeasureT-loop
-μ-loop table starts base rows₀ r₀ rows r = length starts - r
+μ-loop table starts called rows₀ r₀ rows r = length starts - r
 
 -- src/lib.rt:469:5
 loop-holds : tie.Need-loop-holds Inv-loop μ-loop
-loop-holds c = (begun-first (c .before .before .before .pre .0), search needs)
+loop-holds c = (begun-first (c .before .before .before .before .pre .0), search needs)
 
 -- src/lib.rt:470:27
 mul-raise : tie.Need-mul-raise Inv-loop μ-loop
@@ -33,7 +32,7 @@ shared-slice-read-raise c = search needs
 
 -- src/lib.rt:470:9
 raise-requires : tie.Need-raise-requires Inv-loop μ-loop
-raise-requires c κs = (c .before .before .before .loop .inv .1, room (c .before .before .before .before .before .before .before .pre .0))
+raise-requires c κs = c .before .before .before .loop .inv .1
 
 -- src/lib.rt:471:9
 add-r : tie.Need-add-r Inv-loop μ-loop

@@ -9,10 +9,10 @@ use Rattle.meter.proofs.clear.Reads as reads
 use Rattle.meter.proofs.clear.Lts as lts
 
 abbrev Inv-loop : tie.InvT-loop
-Inv-loop rows₀ i₀ rows i = ClearedUpto 8979 rows₀ i rows
+Inv-loop rows₀ i₀ rows i = ClearedUpto 4490 rows₀ i rows
 
 abbrev μ-loop : tie.MeasureT-loop
-μ-loop rows₀ i₀ rows i = 8979 - i
+μ-loop rows₀ i₀ rows i = 4490 - i
 
 -- src/lib.rt:498:5
 loop-holds : tie.Need-loop-holds Inv-loop μ-loop

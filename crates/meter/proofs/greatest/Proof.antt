@@ -15,7 +15,7 @@ abbrev Inv-loop : tie.InvT-loop
 Inv-loop rows from most₀ i₀ most i = GreatestUpto (numbersOf rows) from i most
 
 abbrev μ-loop : tie.MeasureT-loop
-μ-loop rows from most₀ i₀ most i = 8706 - i
+μ-loop rows from most₀ i₀ most i = 4353 - i
 
 -- src/lib.rt:482:5
 loop-holds : tie.Need-loop-holds Inv-loop μ-loop

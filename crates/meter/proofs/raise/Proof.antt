@@ -12,10 +12,6 @@ use Rattle.meter.proofs.put.Reads as put-reads
 returns : tie.Need-returns
 returns c = past (search needs)
 
--- src/lib.rt:112:14
-add-at : tie.Need-add-at
-add-at c = search needs
-
 -- src/lib.rt:113:9
 capped-requires : tie.Need-capped-requires
 capped-requires c κs = search needs
@@ -49,7 +45,6 @@ raise-spec =
     tie.close
     (tie.spec
     returns
-    add-at
     capped-requires
     number-requires
     put-requires

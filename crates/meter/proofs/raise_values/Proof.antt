@@ -1,4 +1,4 @@
-use Rattle.meter.specs.Store.{numbersOf}
+use Rattle.meter.specs.Store.{numbersOf, calledNumbers}
 use lib.ListN.{length}
 use Rattle.meter.proofs.Sweeps.{ValuesUpto, values-first, values-next, values-all}
 use Rattle.meter.proofs.Laws.{start-end, is-end}
@@ -17,10 +17,10 @@ use Rattle.meter.proofs.end_of.Reads as end-of-reads
 use Rattle.meter.proofs.raise_value.Reads as raise-value-reads
 
 abbrev Inv-loop : tie.InvT-loop
-Inv-loop table starts q c base here rows₀ to changed₀ p₀ rows changed p = (ValuesUpto (tableOf table) starts c (here .number) q base to p (numbersOf rows₀) (numbersOf rows) changed) × (length rows ≡ 8979)
+Inv-loop table starts q c called here rows₀ to changed₀ p₀ rows changed p = (ValuesUpto (tableOf table) starts (calledNumbers called) c (here .number) q to p (numbersOf rows₀) (numbersOf rows) changed) × (length rows ≡ 4490)
 
 abbrev μ-loop : tie.MeasureT-loop
-μ-loop table starts q c base here rows₀ to changed₀ p₀ rows changed p = to - p
+μ-loop table starts q c called here rows₀ to changed₀ p₀ rows changed p = to - p
 
 -- src/lib.rt:281:32
 size-of-requires : tie.Need-size-of-requires Inv-loop μ-loop
@@ -28,23 +28,23 @@ size-of-requires c κs = search needs
 
 -- src/lib.rt:281:9
 end-of-requires : tie.Need-end-of-requires Inv-loop μ-loop
-end-of-requires c κs = (omega (arith, c .before .before .before .before .pre .1 .found, c .before .before .before .before .pre .0 .shaped .few), omega (arith, c .size-of .ensures, c .before .before .before .before .pre .0 .shaped .short))
+end-of-requires c κs = (omega (arith, c .before .before .before .before .before .pre .1 .found, c .before .before .before .before .before .pre .0 .shaped .few), omega (arith, c .size-of .ensures, c .before .before .before .before .before .pre .0 .shaped .short))
 
 -- src/lib.rt:283:17
 mul-p : tie.Need-mul-p Inv-loop μ-loop
-mul-p c = omega (arith, c .before .before .before .before .before .pre .1 .found, c .before .before .before .before .before .pre .0 .shaped .few)
+mul-p c = omega (arith, c .before .before .before .before .before .before .pre .1 .found, c .before .before .before .before .before .before .pre .0 .shaped .few)
 
 -- src/lib.rt:283:17
 shared-slice-read-p : tie.Need-shared-slice-read-p Inv-loop μ-loop
-shared-slice-read-p c = c .before .before .before .before .before .before .pre .1 .found
+shared-slice-read-p c = c .before .before .before .before .before .before .before .pre .1 .found
 
 -- src/lib.rt:284:5
 loop-holds : tie.Need-loop-holds Inv-loop μ-loop
-loop-holds c = (values-first (c .before .before .before .before .before .before .pre .0) (omega (arith, start-end (c .before .before .before .before .before .before .pre .0) (c .before .before .before .before .before .before .pre .1 .found), is-end _ _ (c .before .end-of .ensures) (c .before .before .size-of .ensures))) (is-end _ _ (c .before .end-of .ensures) (c .before .before .size-of .ensures)), search needs)
+loop-holds c = (values-first (c .before .before .before .before .before .before .before .pre .0) (omega (arith, start-end (c .before .before .before .before .before .before .before .pre .0) (c .before .before .before .before .before .before .before .pre .1 .found), is-end _ _ (c .before .end-of .ensures) (c .before .before .size-of .ensures))) (is-end _ _ (c .before .end-of .ensures) (c .before .before .size-of .ensures)), search needs)
 
 -- src/lib.rt:285:13
 raise-value-requires : tie.Need-raise-value-requires Inv-loop μ-loop
-raise-value-requires c κs = (c .before .before .loop .inv .0 .steps .kept, record { rule = c .before .before .before .before .before .before .before .before .before .args .q; here = c .before .before .before .before .before .before .before .before .before .pre .1; chooses = c .before .before .before .before .before .before .before .before .before .pre .2; in-rule = record { from = c .before .before .loop .inv .0 .from; to = omega (arith, c .before .loop-test .taken, c .before .before .loop .inv .0 .is-end) } }, c .before .before .loop .inv .1)
+raise-value-requires c κs = (c .before .before .loop .inv .0 .steps .kept, record { rule = c .before .before .before .before .before .before .before .before .before .before .args .q; here = c .before .before .before .before .before .before .before .before .before .before .pre .1; chooses = c .before .before .before .before .before .before .before .before .before .before .pre .2; in-rule = record { from = c .before .before .loop .inv .0 .from; to = omega (arith, c .before .loop-test .taken, c .before .before .loop .inv .0 .is-end) } }, c .before .before .loop .inv .1)
 
 -- src/lib.rt:286:9
 either-requires : tie.Need-either-requires Inv-loop μ-loop

@@ -17,10 +17,10 @@ use Rattle.meter.proofs.raise.Reads as raise-reads
 use Rattle.meter.proofs.way_out.Reads as way-out-reads
 
 abbrev Inv-loop : tie.InvT-loop
-Inv-loop table c base v rows₀ n changed₀ i₀ rows changed i = (WaysUpto (tableOf table) c v base n i (numbersOf rows₀) (numbersOf rows) changed) × (length rows ≡ 8979)
+Inv-loop table c v rows₀ n changed₀ i₀ rows changed i = (WaysUpto (tableOf table) c v n i (numbersOf rows₀) (numbersOf rows) changed) × (length rows ≡ 4490)
 
 abbrev μ-loop : tie.MeasureT-loop
-μ-loop table c base v rows₀ n changed₀ i₀ rows changed i = n - i
+μ-loop table c v rows₀ n changed₀ i₀ rows changed i = n - i
 
 -- src/lib.rt:150:9
 word-at-requires : tie.Need-word-at-requires Inv-loop μ-loop
@@ -52,7 +52,7 @@ way-out-requires c κs = c .before .before .before .before .before .before .pre 
 
 -- src/lib.rt:155:13
 raise-requires : tie.Need-raise-requires Inv-loop μ-loop
-raise-requires c κs = (c .before .before .before .before .loop .inv .1, c .before .before .before .before .before .before .before .before .pre .2)
+raise-requires c κs = c .before .before .before .before .loop .inv .1
 
 -- src/lib.rt:156:9
 either-requires : tie.Need-either-requires Inv-loop μ-loop
@@ -84,7 +84,7 @@ add-raise-2 c = omega arith
 
 -- src/lib.rt:159:9
 raise-requires-2 : tie.Need-raise-requires-2 Inv-loop μ-loop
-raise-requires-2 c κs = (c .before .before .loop .inv .1, c .before .before .before .before .before .before .pre .2)
+raise-requires-2 c κs = c .before .before .loop .inv .1
 
 -- src/lib.rt:160:5
 either-requires-2 : tie.Need-either-requires-2 Inv-loop μ-loop

@@ -1,4 +1,4 @@
-use Rattle.meter.specs.Store.{numbersOf}
+use Rattle.meter.specs.Store.{numbersOf, calledNumbers}
 use mathlib.Core.Path.{_≡_}
 use lib.ListN.{length}
 use Rattle.meter.proofs.Sweeps.{Settling, todo, settling-first, settling-next, todo-less, settled}
@@ -12,14 +12,14 @@ use Rattle.meter.proofs.settle.Lts as lts
 use Rattle.meter.proofs.sweep.Reads as sweep-reads
 
 abbrev Inv-loop : tie.InvT-loop
-Inv-loop table starts base rows₀ changed₀ rows changed = (Settling (tableOf table) starts base (numbersOf rows₀) (numbersOf rows) changed) × (length rows ≡ 8979)
+Inv-loop table starts called rows₀ changed₀ rows changed = (Settling (tableOf table) starts (calledNumbers called) (numbersOf rows₀) (numbersOf rows) changed) × (length rows ≡ 4490)
 
 abbrev μ-loop : tie.MeasureT-loop
-μ-loop table starts base rows₀ changed₀ rows changed = todo (numbersOf rows) changed
+μ-loop table starts called rows₀ changed₀ rows changed = todo (numbersOf rows) changed
 
 -- src/lib.rt:429:5
 loop-holds : tie.Need-loop-holds Inv-loop μ-loop
-loop-holds c = (settling-first (c .before .before .before .pre .0), search needs)
+loop-holds c = (settling-first (c .before .before .before .before .pre .0), search needs)
 
 -- src/lib.rt:430:9
 sweep-requires : tie.Need-sweep-requires Inv-loop μ-loop

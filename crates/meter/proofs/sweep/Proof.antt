@@ -1,4 +1,4 @@
-use Rattle.meter.specs.Store.{numbersOf}
+use Rattle.meter.specs.Store.{numbersOf, calledNumbers}
 use mathlib.Core.Path.{_≡_}
 use lib.ListN.{length}
 use Rattle.meter.proofs.Sweeps.{RulesFrom, rules-first, rules-next, rules-all}
@@ -13,14 +13,14 @@ use Rattle.meter.proofs.either.Reads as either-reads
 use Rattle.meter.proofs.sweep_rule.Reads as sweep-rule-reads
 
 abbrev Inv-loop : tie.InvT-loop
-Inv-loop table starts base rows₀ changed₀ r₀ rows changed r = (RulesFrom (tableOf table) starts base r (numbersOf rows₀) (numbersOf rows) changed) × (length rows ≡ 8979)
+Inv-loop table starts called rows₀ changed₀ r₀ rows changed r = (RulesFrom (tableOf table) starts (calledNumbers called) r (numbersOf rows₀) (numbersOf rows) changed) × (length rows ≡ 4490)
 
 abbrev μ-loop : tie.MeasureT-loop
-μ-loop table starts base rows₀ changed₀ r₀ rows changed r = r
+μ-loop table starts called rows₀ changed₀ r₀ rows changed r = r
 
 -- src/lib.rt:415:5
 loop-holds : tie.Need-loop-holds Inv-loop μ-loop
-loop-holds c = (rules-first (c .before .before .before .pre .0), search needs)
+loop-holds c = (rules-first (c .before .before .before .before .pre .0), search needs)
 
 -- src/lib.rt:416:9
 sub-r : tie.Need-sub-r Inv-loop μ-loop

@@ -1,4 +1,4 @@
-use Rattle.meter.specs.Store.{numbersOf}
+use Rattle.meter.specs.Store.{numbersOf, calledNumbers}
 use mathlib.Core.Path.{_≡_}
 use lib.ListN.{length}
 use Rattle.meter.proofs.Sweeps.{SweptUpto, swept-first, swept-next, swept-all}
@@ -17,10 +17,10 @@ use Rattle.meter.proofs.end_of.Reads as end-of-reads
 use Rattle.meter.proofs.visit.Reads as visit-reads
 
 abbrev Inv-loop : tie.InvT-loop
-Inv-loop table starts r base rows₀ to changed₀ l₀ rows changed l = (SweptUpto (tableOf table) starts base r to l (numbersOf rows₀) (numbersOf rows) changed) × (length rows ≡ 8979)
+Inv-loop table starts r called rows₀ to changed₀ l₀ rows changed l = (SweptUpto (tableOf table) starts (calledNumbers called) r to l (numbersOf rows₀) (numbersOf rows) changed) × (length rows ≡ 4490)
 
 abbrev μ-loop : tie.MeasureT-loop
-μ-loop table starts r base rows₀ to changed₀ l₀ rows changed l = to - l
+μ-loop table starts r called rows₀ to changed₀ l₀ rows changed l = to - l
 
 -- src/lib.rt:397:32
 size-of-requires : tie.Need-size-of-requires Inv-loop μ-loop
@@ -28,23 +28,23 @@ size-of-requires c κs = search needs
 
 -- src/lib.rt:397:9
 end-of-requires : tie.Need-end-of-requires Inv-loop μ-loop
-end-of-requires c κs = (omega (arith, c .before .before .before .before .pre .1, c .before .before .before .before .pre .0 .shaped .few), omega (arith, c .size-of .ensures, c .before .before .before .before .pre .0 .shaped .short))
+end-of-requires c κs = (omega (arith, c .before .before .before .before .before .pre .1, c .before .before .before .before .before .pre .0 .shaped .few), omega (arith, c .size-of .ensures, c .before .before .before .before .before .pre .0 .shaped .short))
 
 -- src/lib.rt:399:17
 mul-l : tie.Need-mul-l Inv-loop μ-loop
-mul-l c = omega (arith, c .before .before .before .before .before .pre .1, c .before .before .before .before .before .pre .0 .shaped .few)
+mul-l c = omega (arith, c .before .before .before .before .before .before .pre .1, c .before .before .before .before .before .before .pre .0 .shaped .few)
 
 -- src/lib.rt:399:17
 shared-slice-read-l : tie.Need-shared-slice-read-l Inv-loop μ-loop
-shared-slice-read-l c = c .before .before .before .before .before .before .pre .1
+shared-slice-read-l c = c .before .before .before .before .before .before .before .pre .1
 
 -- src/lib.rt:400:5
 loop-holds : tie.Need-loop-holds Inv-loop μ-loop
-loop-holds c = (swept-first (c .before .before .before .before .before .before .pre .0) (omega (arith, start-end (c .before .before .before .before .before .before .pre .0) (c .before .before .before .before .before .before .pre .1), is-end _ _ (c .before .end-of .ensures) (c .before .before .size-of .ensures))) (is-end _ _ (c .before .end-of .ensures) (c .before .before .size-of .ensures)), search needs)
+loop-holds c = (swept-first (c .before .before .before .before .before .before .before .pre .0) (omega (arith, start-end (c .before .before .before .before .before .before .before .pre .0) (c .before .before .before .before .before .before .before .pre .1), is-end _ _ (c .before .end-of .ensures) (c .before .before .size-of .ensures))) (is-end _ _ (c .before .end-of .ensures) (c .before .before .size-of .ensures)), search needs)
 
 -- src/lib.rt:401:13
 visit-requires : tie.Need-visit-requires Inv-loop μ-loop
-visit-requires c κs = (c .before .before .loop .inv .0 .steps .kept, c .before .before .before .before .before .before .before .before .before .pre .1, record { from = c .before .before .loop .inv .0 .from; to = omega (arith, c .before .before .loop .inv .0 .is-end) }, c .before .before .loop .inv .1)
+visit-requires c κs = (c .before .before .loop .inv .0 .steps .kept, c .before .before .before .before .before .before .before .before .before .before .pre .1, record { from = c .before .before .loop .inv .0 .from; to = omega (arith, c .before .before .loop .inv .0 .is-end) }, c .before .before .loop .inv .1)
 
 -- src/lib.rt:402:9
 either-requires : tie.Need-either-requires Inv-loop μ-loop
