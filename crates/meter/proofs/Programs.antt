@@ -20,7 +20,7 @@ use Rattle.program.proofs.Places.{place-next, place-fits}
 use Rattle.program.specs.Accepted.{Accepted}
 use Rattle.program.specs.Program.{Rule, ruleOf, bodyOf}
 use Rattle.program.specs.Table.{sizeRule, place, table}
-use Rattle.figure.specs.Figure.{Reached, End, over, back, Quiet, quiet, Does, does-jump, does-input, does-any, does-write, does-token, does-default, does-call-over, does-call, does-call-stop, does-return, does-result, does-choice, does-end, does-parameter, does-update, does-updateWith, does-choose, does-chooseWith, does-choose-stop, does-chooseWith-stop}
+use Rattle.figure.specs.Figure.{Reached, at-start, End, over, back, Quiet, quiet, Does, does-jump, does-input, does-any, does-write, does-token, does-default, does-call-over, does-call, does-call-stop, does-return, does-result, does-choice, does-end, does-parameter, does-update, does-updateWith, does-choose, does-chooseWith, does-choose-stop, does-chooseWith-stop}
 use Rattle.figure.specs.Count.{figure}
 use Rattle.figure.specs.Promise.{RuleStart, rule-start}
 use Rattle.figure.proofs.Battery.{figure-exact, figure-long, figure-settles}
@@ -225,6 +225,14 @@ module _ (prog : List Rule) where
       let k = rule-keeps prog a r n (rw s at h) in
       record { from = omega (arith, s, k .0); to = omega (arith, rule-end r n, k .1) }
 
+  -- rules start one behind the other
+  rules-rise : Accepted prog → {r q : ℕ} → r < q → q < length S → startOf S r < startOf S q
+  unfolding endOf
+  rules-rise a {r} {q} h z =
+      let n = starts-length 1 prog in
+      let e : endOf (length T) S r ≡ startOf S (r + 1) = rw (lt-ltb (r + 1) (length S) (omega arith)) refl in
+      omega (arith, e, rules-stay a {r = r} (omega arith) at-start .to, starts-order 1 prog (r + 1) q (omega arith) (omega arith))
+
   module _ (a : Accepted prog) {r l : ℕ} (hr : r < length S) (h : Reached T (startOf S r) l) where
     here : Place T (place 1 prog) prog (ruleOf prog r .valued) l
     here =
@@ -278,6 +286,7 @@ module _ (prog : List Rule) where
   rules-shaped a short few = record {
     short = short;
     few = omega (arith, starts-length 1 prog);
+    rising = record { rising = λ h z. rules-rise a h z };
     inside = λ hr h. rules-inside a hr h;
     stays = λ hr h. rules-stay a hr h;
     apart = λ h z i j. rules-apart h z i j;

@@ -4,12 +4,11 @@ use mathlib.Core.List.{List, [], _∷_}
 use mathlib.Core.Logic.{_⊎_, inl, inr}
 use mathlib.Core.Option.{Option, none, some}
 use mathlib.Core.Path.{_≡_, refl, sym, ap, _∙_}
-use native.Mathlib.Numerals.{add-one}
+use native.Mathlib.Decide.{decLt}
 use native.Mathlib.Omega.{arith}
 use Prim.Native.Nat.{ℕ, zero, suc, _+_, _*_, _-_, _≤_, _<_}
 use lib.Dec.{eqb, ltb}
-use lib.ListN.{length, getD, drop}
-use lib.Seq.{drop-cons}
+use lib.ListN.{length, getD}
 use borrow.Author.Tests.{eqb-true, eq-eqb, ne-eqb, lt-ltb, le-ltb}
 use Rattle.base.specs.Bools.{never}
 use Rattle.base.specs.Common.{if_then_else_, given}
@@ -17,7 +16,7 @@ use Rattle.events.specs.Events.{is}
 use Rattle.loading.proofs.Members.{inside-fetch}
 use Rattle.machine.specs.Decode.{fetch}
 use Rattle.figure.specs.Figure.{labelAt, labelBy, backFrom, wayAmong, wayOf, wayOut}
-use Rattle.meter.specs.Shaped.{indexOf, endOf, Fits}
+use Rattle.meter.specs.Shaped.{Rising, Between, indexOf, startOf, endOf, Fits}
 
 pub end-next : (size r : ℕ) (S : List ℕ) → r + 1 < length S → getD S (r + 1) 0 ≡ endOf size S r
 unfolding endOf
@@ -27,37 +26,66 @@ pub end-last : (size r : ℕ) (S : List ℕ) → length S ≤ r + 1 → size + 1
 unfolding endOf
 end-last size r S h = rw (le-ltb (r + 1) (length S) h) refl
 
--- a search for a start, at r
-pub record Sought (S : List ℕ) (s r : ℕ) : Type 0 where
-  pub inside : r ≤ length S
-  pub on : indexOf S s ≡ r + indexOf (drop r S) s
+-- a search for the rules that start before s
+pub between-all : (S : List ℕ) (s : ℕ) → Between S s 0 (length S)
+between-all S s = record { order = omega arith; inside = omega arith; before = λ q h. absurd (omega arith); behind = λ q h z. absurd (omega arith) }
 
-pub sought-first : (S : List ℕ) (s : ℕ) → Sought S s 0
-sought-first S s = record { inside = omega arith; on = omega arith }
+pub between-low : {S : List ℕ} {s low high m : ℕ} → Rising S → Between S s low high → low ≤ m → m < high → startOf S m < s → Between S s (m + 1) high
+between-low {S} {s} {low} {high} {m} u b l h e = record {
+  order = omega arith;
+  inside = b .inside;
+  before = λ q z. elim (decLt q m) [
+    | yes y ↦ omega (arith, u .rising y (omega (arith, b .inside)))
+    | no y ↦ let w : q ≡ m = omega arith in rw w e
+  ];
+  behind = b .behind;
+}
 
-here-index : (S : List ℕ) (s r : ℕ) → r < length S → indexOf (drop r S) s ≡ (if eqb (getD S r 0) s then 0 else suc (indexOf (drop (r + 1) S) s))
+pub between-high : {S : List ℕ} {s low high m : ℕ} → Rising S → Between S s low high → low ≤ m → m < high → s ≤ startOf S m → Between S s low m
+between-high {S} {s} {low} {high} {m} u b l h e = record {
+  order = l;
+  inside = omega (arith, b .inside);
+  before = b .before;
+  behind = λ q y z. elim (decLt m q) [
+    | yes x ↦ omega (arith, u .rising x z)
+    | no x ↦ let w : q ≡ m = omega arith in rw w e
+  ];
+}
+
+pub between-met : {S : List ℕ} {s low high : ℕ} → Between S s low high → high ≤ low → Between S s low low
+between-met {S} {s} {low} {high} b h = let e : high ≡ low = omega (arith, b .order) in rw e at b
+
+-- the first that starts at s
+index-first : (S : List ℕ) (s r : ℕ) → r < length S → ((q : ℕ) → q < r → startOf S q < s) → startOf S r ≡ s → r ≡ indexOf S s
 unfolding indexOf
-here-index S s r h = rw (add-one r, drop-cons S r 0 h) refl
+index-first [] s r h f e = absurd (omega arith)
+index-first (t ∷ ts) s zero h f e = rw (eq-eqb t s e) refl
+index-first (t ∷ ts) s (suc r) h f e =
+    let n : t < s = f 0 (omega arith) in
+    rw (ne-eqb t s (λ z. omega arith)) (ap suc (index-first ts s r (omega arith) (λ q z. f (suc q) (omega arith)) e))
 
-pub sought-found : {S : List ℕ} {s r : ℕ} → Sought S s r → r < length S → getD S r 0 ≡ s → r ≡ indexOf S s
-sought-found {S} {s} {r} h l e =
-    let z : indexOf (drop r S) s ≡ 0 = rw (here-index S s r l, eq-eqb (getD S r 0) s e) refl in
-    omega (arith, h .on)
-
-pub sought-next : {S : List ℕ} {s r : ℕ} → Sought S s r → r < length S → (getD S r 0 ≡ s → ⊥) → Sought S s (r + 1)
-sought-next {S} {s} {r} h l e =
-    let z : indexOf (drop r S) s ≡ suc (indexOf (drop (r + 1) S) s) = rw (here-index S s r l, ne-eqb (getD S r 0) s e) refl in
-    record { inside = omega arith; on = omega (arith, h .on) }
-
-pub sought-none : {S : List ℕ} {s r : ℕ} → Sought S s r → length S ≤ r → r ≡ indexOf S s
+index-none : (S : List ℕ) (s : ℕ) → ((q : ℕ) → q < length S → startOf S q ≡ s → ⊥) → length S ≡ indexOf S s
 unfolding indexOf
-sought-none {S} {s} {r} h l = let z : indexOf (drop r S) s ≡ 0 = gone S r l in omega (arith, h .on)
+index-none [] s f = refl
+index-none (t ∷ ts) s f = rw (ne-eqb t s (f 0 (omega arith))) (ap suc (index-none ts s (λ q z. f (suc q) (omega arith))))
+
+pub rule-found : {S : List ℕ} {s r : ℕ} → Between S s r r → r < length S → startOf S r ≡ s → r ≡ indexOf S s
+rule-found {S} {s} {r} b h e = index-first S s r h (b .before) e
+
+pub rule-missing : {S : List ℕ} {s r : ℕ} → Rising S → Between S s r r → (r < length S → startOf S r ≡ s → ⊥) → length S ≡ indexOf S s
+rule-missing {S} {s} {r} u b n = index-none S s each
   where
-    gone : (S : List ℕ) (r : ℕ) → length S ≤ r → indexOf (drop r S) s ≡ 0
-    gone [] zero l = refl
-    gone [] (suc r) l = refl
-    gone (t ∷ S) zero l = absurd (omega arith)
-    gone (t ∷ S) (suc r) l = gone S r (omega arith)
+    each : (q : ℕ) → q < length S → startOf S q ≡ s → ⊥
+    each q z e = elim (decLt q r) [
+      | yes y ↦ omega (arith, b .before q y)
+      | no y ↦ elim (decLt r q) [
+        | yes x ↦ omega (arith, u .rising x z, b .behind r (omega arith) (omega arith))
+        | no x ↦ let w : q ≡ r = omega arith in n (omega arith) (rw w at e)
+      ]
+    ]
+
+pub rule-past : {S : List ℕ} {s r : ℕ} → Rising S → Between S s r r → length S ≤ r → r ≡ indexOf S s
+rule-past {S} {s} {r} u b h = let e : r ≡ length S = omega (arith, b .inside) in e ∙ rule-missing u b (λ z. absurd (omega arith))
 
 -- a search for a label, at the i-th
 pub record Seeking (T : List ℕ) (c v n i : ℕ) : Type 0 where

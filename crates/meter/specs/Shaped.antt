@@ -19,6 +19,17 @@ indexOf (t ∷ ts) s = let later = suc (indexOf ts s) in if eqb t s then 0 else 
 abbrev pub startOf : List ℕ → ℕ → ℕ
 startOf S r = getD S r 0
 
+-- rules start one behind the other
+pub record Rising (S : List ℕ) : Type 0 where
+  pub rising : {r q : ℕ} → r < q → q < length S → startOf S r < startOf S q
+
+-- the rules before the low-th start before s, those from the high-th on at s or behind it
+pub record Between (S : List ℕ) (s low high : ℕ) : Type 0 where
+  pub order : low ≤ high
+  pub inside : high ≤ length S
+  pub before : (q : ℕ) → q < low → startOf S q < s
+  pub behind : (q : ℕ) → high ≤ q → q < length S → s ≤ startOf S q
+
 -- where the words of rule r end: at the next rule's, or behind the last word
 unfoldable pub endOf : ℕ → List ℕ → ℕ → ℕ
 endOf size S r = if ltb (r + 1) (length S) then getD S (r + 1) 0 else size + 1
@@ -66,6 +77,7 @@ pub data HasTable (c : ℕ) : Instruction → Type 0 where
 pub record Shaped (T S : List ℕ) : Type 0 where
   pub short : length T ≤ 4096
   pub few : length S ≤ 128
+  pub rising : Rising S
   -- a rule does not leave its words, nor the table
   pub inside : {r l : ℕ} → r < length S → Reached T (startOf S r) l → (1 ≤ l) × (l ≤ length T)
   pub stays : {r l : ℕ} → r < length S → Reached T (startOf S r) l → InRule T S r l

@@ -9,7 +9,7 @@ ghost use lib.ListN.{length, getD, set, replicate};
 ghost use Rattle.machine.specs.Bytes.{count, wordsOf, tableOf};
 ghost use Rattle.meter.specs.Steps.{flagOf, calledOf, Kept, Here, Steps, Raised, Ways, MakesAt, RaisedTwo, WaysRaised, Visited, TokenVisited, ValueAt, ValueHere, CallsHere, Values, Behind, ChoiceAt, AskedAt, AskedBelow, AskedFrom, Greatest, Begun, Settled};
 ghost use Rattle.machine.specs.Decode.{callRule, choice, decodeOne, decodeTwo, decode};
-ghost use Rattle.meter.specs.Shaped.{indexOf, endOf, InRule, Fits, Shaped};
+ghost use Rattle.meter.specs.Shaped.{Rising, Between, indexOf, endOf, InRule, Fits, Shaped};
 ghost use Rattle.meter.specs.Found.{Found};
 ghost use Rattle.meter.specs.Store.{atCap, numbersOf, calledNumbers};
 ghost use Rattle.figure.specs.Figure.{wayOut};
@@ -146,18 +146,34 @@ fn called_number(called: &[u32], rows: &[u32], i: usize) -> u64
     number(rows, i)
 }
 
+// How many rules start before a location.
+fn starts_before(starts: &[usize], s: usize) -> usize
+    requires { ⌜ Rising (now starts) ⌝ }
+    ensures { λ r. ⌜ Between (now (starts .entry)) s r r ⌝ }
+{
+    let mut low: usize = 0;
+    let mut high = starts.len();
+    while low < high {
+        let mid = low + (high - low) / 2;
+        if starts[mid] < s {
+            low = mid + 1;
+        } else {
+            high = mid;
+        }
+    }
+    low
+}
+
 // Which rule starts at a location; their number where none does.
 fn rule_at(starts: &[usize], s: usize) -> usize
+    requires { ⌜ Rising (now starts) ⌝ }
     ensures { λ r. ⌜ r ≡ indexOf (now (starts .entry)) s ⌝ }
 {
-    let mut r: usize = 0;
-    while r < starts.len() {
-        if starts[r] == s {
-            return r;
-        }
-        r += 1;
+    let r = starts_before(starts, s);
+    if starts.len() <= r {
+        return r;
     }
-    r
+    if starts[r] == s { r } else { starts.len() }
 }
 
 // Where the words of a rule end.

@@ -7,7 +7,7 @@ use Rattle.meter.proofs.raise_call.Statement.{statement}
 use Rattle.meter.proofs.raise_call.Tie as tie
 
 rule-at-requires : tie.Need-rule-at-requires
-rule-at-requires c κs = search needs
+rule-at-requires c κs = c .before .before .before .before .pre .0 .shaped .rising
 
 add-called-number : tie.Need-add-called-number
 add-called-number c = omega (arith, called-here (c .before .before .before .before .before .before .pre .0) (c .before .before .before .before .before .before .pre .1) (c .before .before .before .before .before .before .pre .2) (c .before .rule-at .ensures) .found, c .before .before .before .before .before .before .pre .0 .shaped .few)
