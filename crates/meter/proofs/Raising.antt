@@ -7,15 +7,17 @@ use mathlib.Core.Path.{_≡_, refl, sym, ap, _∙_}
 use native.Mathlib.Decide.{decLt}
 use native.Mathlib.Omega.{arith}
 use Prim.Native.Nat.{ℕ, zero, suc, _-_, _≤_, _<_, min}
+use lib.Dec.{ltb}
 use lib.ListN.{length, getD, set, length-set}
 use lib.Seq.{getD-set-same, getD-set-other}
+use borrow.Author.Tests.{ltb-true, ltb-false}
 use Rattle.base.specs.Bools.{never}
 use Rattle.machine.specs.Decode.{Instruction, decode}
 use Rattle.figure.specs.Figure.{End}
 use Rattle.meter.specs.Makes.{Makes, half, cap, Ends, Sound, Stands, stands-place, stands-over, stands-back}
 use Rattle.meter.specs.Shaped.{startOf, InRule, Shaped}
 use Rattle.meter.proofs.Stands.{come, stands}
-use Rattle.meter.specs.Steps.{flagOf, rowOf, calledOf, left, Asked, Kept, Here, Steps, Only, only, Both, this, that, Raised, RaisedTwo}
+use Rattle.meter.specs.Steps.{flagOf, rowOf, calledOf, left, Asked, Kept, Here, Steps, Only, only, Both, this, that, IsBelow, Raised, RaisedTwo}
 
 -- What the numbers have left
 
@@ -149,6 +151,12 @@ module _ {T S called : List ℕ} where
   covers f x = record { kept = x .kept; grows = x .grows; same = x .same; less = x .less; all = λ e {i} {v} m h. x .all e (f i v m) h }
 
 -- Raising one place
+
+pub below-past : {i v : ℕ} {rows : List ℕ} → half ≤ i → IsBelow i v rows false
+below-past h = record { below = λ e. never e; enough = λ e z. absurd (omega arith) }
+
+pub below-test : {i v a w : ℕ} {rows : List ℕ} → i < half → a ≡ rowOf rows i → w ≡ min v cap → IsBelow i v rows (ltb a w)
+below-test {a = a} {w = w} h e f = record { below = λ t. (h, omega (arith, ltb-true a w t)); enough = λ t z. omega (arith, ltb-false a w t) }
 
 pub past : {i v : ℕ} {rows : List ℕ} → half ≤ i → Raised i v rows rows false
 past h = record { sized = refl; at-least = λ z y. absurd (omega arith); steps = λ k st. stays k (λ j w m z. absurd (outside m h z)) }

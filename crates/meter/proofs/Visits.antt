@@ -14,9 +14,9 @@ use Rattle.base.specs.Common.{if_then_else_}
 use Rattle.machine.specs.Decode.{fetch, Instruction, jump, input, inputAny, write, inputChoice, callRule, return, setResult, choice, endChoice, setParameter, update, updateWith, choose, chooseWith, decodeOperation, decodeTwo, decodeOne, decode}
 use Rattle.figure.specs.Figure.{wayOut}
 use Rattle.meter.specs.Shaped.{Fits}
-use Rattle.meter.proofs.Words.{one-count, Labelled, labelled, unlabelled, label-cases, default-way}
+use Rattle.meter.proofs.Words.{one-count, Labelled, labelled, unlabelled, label-cases, FirstOr, is-first, repeats, label-way, default-way}
 use Rattle.meter.specs.Makes.{overAt, backAt, half, cap, Makes, makes-jump, makes-input, marks-input, makes-any, marks-any, makes-write, makes-token, makes-default, marks-label, makes-call-over, makes-call-back, makes-call-value, marks-call, makes-return, makes-result, makes-choice, makes-end, makes-parameter, makes-update, makes-updateWith, makes-choose, makes-choose-over, makes-chooseWith, makes-chooseWith-over, Stands}
-use Rattle.meter.specs.Steps.{flagOf, rowOf, calledOf, Asked, Kept, Here, Steps, Only, only, Both, this, that, Raised, RaisedTwo, Ways, ways, WaysRaised, MakesAt, Visited}
+use Rattle.meter.specs.Steps.{flagOf, rowOf, calledOf, Asked, Kept, Here, Steps, Only, only, Both, this, that, IsBelow, Raised, RaisedTwo, LabelRaised, way-raised, has-enough, Ways, ways, WaysRaised, MakesAt, Visited}
 use Rattle.meter.proofs.Raising.{stays, seq, covers, may}
 
 module _ {called : List ℕ} {r l k : ℕ} {rows after : List ℕ} {b : Bool} where
@@ -126,27 +126,77 @@ ways-first s f e = record {
     nothing : {T : List ℕ} {c v : ℕ} {rows : List ℕ} {i u : ℕ} → WayBelow T c v 0 rows i u → ⊥
     nothing (way-label h e) = omega arith
 
-pub ways-next : {T : List ℕ} {c v n i a way : ℕ} {rows mid after : List ℕ} {b d e : Bool} → WaysUpto T c v n i rows mid b → i < n → fetch T (c + 1 + 2 * i) ≡ some a → way ≡ wayOut T c (some a)
-    → Raised way v mid after d → e ≡ (b || d) → WaysUpto T c v n (i + 1) rows after e
-ways-next {T} {c} {v} {n} {i} {a} {way} u h f z r q = rw q (record {
+ways-raised : {T : List ℕ} {c v n i a : ℕ} {rows mid after : List ℕ} {b d : Bool} → WaysUpto T c v n i rows mid b → i < n → fetch T (c + 1 + 2 * i) ≡ some a → Raised (wayOut T c (some a)) v mid after d
+    → WaysUpto T c v n (i + 1) rows after (b || d)
+ways-raised {T} {c} {v} {n} {i} {a} u h f r = record {
   inside = omega arith;
   is-count = u .is-count;
   table = u .table;
   fits = u .fits;
   short = u .short;
   sized = r .sized ∙ u .sized;
-  steps = λ k w. let s = u .steps k w in covers (λ j x m. split m) (seq s (r .steps (s .kept) (rw z (w (some a)))));
-})
+  steps = λ k w. let s = u .steps k w in covers (λ j x m. split m) (seq s (r .steps (s .kept) (w (some a))));
+}
   where
-    split : {rows : List ℕ} {j x : ℕ} → WayBelow T c v (i + 1) rows j x → Both (WayBelow T c v i) (Only way v) rows j x
+    split : {rows : List ℕ} {j x : ℕ} → WayBelow T c v (i + 1) rows j x → Both (WayBelow T c v i) (Only (wayOut T c (some a)) v) rows j x
     split {rows} (way-label {j = j} {a = y} l g) = elim (decLt j i) [
       | yes o ↦ this (way-label o g)
       | no o ↦ let q : j ≡ i = omega arith in
           let g₁ : fetch T (c + 1 + 2 * i) ≡ some y = rw q at g in
           let t : y ≡ a = (let k : some y ≡ some a = sym g₁ ∙ f in cc) in
-          let p : way ≡ wayOut T c (some y) = z ∙ ap (λ (k : ℕ). wayOut T c (some k)) (sym t) in
-          that (rw p only)
+          that (rw t only)
     ]
+
+-- a label whose way has enough, since the way beside it has
+ways-passed : {T : List ℕ} {c v n i x : ℕ} {rows mid : List ℕ} {b : Bool} → WaysUpto T c v n i rows mid b → i < n → fetch T (c + 1 + 2 * i + 1) ≡ some x → IsBelow (c + 1 + 2 * i + 1 - x) v mid false
+    → WaysUpto T c v n (i + 1) rows mid b
+ways-passed {T} {c} {v} {n} {i} {x} {rows} {mid} {b} u h f r = record {
+  inside = omega arith;
+  is-count = u .is-count;
+  table = u .table;
+  fits = u .fits;
+  short = u .short;
+  sized = u .sized;
+  steps = λ k w. let s = u .steps k w in
+      record { kept = s .kept; grows = s .grows; same = s .same; less = s .less; all = λ e m l. each (s .same e) (λ j y o p. s .all e o p) m l };
+}
+  where
+    each : {j y : ℕ} → mid ≡ rows → ((j y : ℕ) → WayBelow T c v i rows j y → j < half → min y cap ≤ rowOf rows j) → WayBelow T c v (i + 1) rows j y → j < half → min y cap ≤ rowOf rows j
+    each e t (way-label {j = j} {a = a} l g) o = elim (decLt j i) [
+      | yes y ↦ t _ _ (way-label y g) o
+      | no y ↦ let k : j ≡ i = omega arith in
+          let g₁ : fetch T (c + 1 + 2 * i) ≡ some a = rw k at g in
+          go (label-way (u .short) (u .table) (u .is-count) h g₁ f)
+    ]
+      where
+        go : FirstOr T c i a (c + 1 + 2 * i + 1 - x) → min v cap ≤ rowOf rows (wayOut T c (some a))
+        go (repeats j l y) = t _ _ (way-label l y) o
+        go (is-first y) = let m : c + 1 + 2 * i + 1 - x < half = rw y at o in rw (y, ← e) (r .enough refl m)
+
+-- what was done for a label
+pub label-raised : {T : List ℕ} {c i a v way : ℕ} {rows after : List ℕ} {b : Bool} → fetch T (c + 1 + 2 * i) ≡ some a → way ≡ wayOut T c (some a) → Raised way v rows after b → LabelRaised T c i v rows after b
+label-raised f e r = way-raised f (rw e at r)
+
+pub label-enough : {T : List ℕ} {c i x v way : ℕ} {rows : List ℕ} {b : Bool} → fetch T (c + 1 + 2 * i + 1) ≡ some x → way ≡ c + 1 + 2 * i + 1 - x → IsBelow way v rows b → b ≡ false → LabelRaised T c i v rows rows false
+label-enough f e r q = has-enough f (rw (e, q) at r)
+
+or-false : (b : Bool) → (b || false) ≡ b
+or-false true = refl
+or-false false = refl
+
+pub ways-next : {T : List ℕ} {c v n i : ℕ} {rows mid after : List ℕ} {b d e : Bool} → WaysUpto T c v n i rows mid b → i < n → LabelRaised T c i v mid after d → e ≡ (b || d) → WaysUpto T c v n (i + 1) rows after e
+ways-next {T} {c} {v} {n} {i} {rows} {mid} {b = b} u h r q = rw q (go r)
+  where
+    go : {after : List ℕ} {d : Bool} → LabelRaised T c i v mid after d → WaysUpto T c v n (i + 1) rows after (b || d)
+    go (way-raised f y) = ways-raised u h f y
+    go (has-enough f y) = rw (or-false b) (ways-passed u h f y)
+
+-- nothing is raised to 0
+pub ways-none : {T : List ℕ} {c v : ℕ} {rows : List ℕ} → v ≡ 0 → WaysRaised T c v rows rows false
+ways-none {T} {c} {v} {rows} e = record { sized = refl; steps = λ k w. stays k (λ i u m h. none-asked m) }
+  where
+    none-asked : {i u : ℕ} → Ways T c v rows i u → min u cap ≤ rowOf rows i
+    none-asked (ways w) = omega arith
 
 pub ways-all : {T : List ℕ} {c v n i : ℕ} {rows mid after : List ℕ} {b d e : Bool} → WaysUpto T c v n i rows mid b → n ≤ i → Raised (c + 1 + 2 * n) v mid after d → e ≡ (b || d) → WaysRaised T c v rows after e
 ways-all {T} {c} {v} {n} {i} u h r q = rw q (record {

@@ -5,6 +5,7 @@ use mathlib.Core.Logic.{_⊎_, inl, inr}
 use mathlib.Core.Option.{Option, none, some}
 use mathlib.Core.Path.{_≡_, refl, sym, ap, _∙_}
 use native.Mathlib.Decide.{decLt}
+use native.Mathlib.Numerals.{add-one}
 use native.Mathlib.Omega.{arith}
 use Prim.Native.Nat.{ℕ, zero, suc, _+_, _*_, _-_, _≤_, _<_}
 use lib.Dec.{eqb, ltb}
@@ -136,28 +137,53 @@ seek-none {T} {c} {v} {n} {i} k h =
     let w : wayAmong T c n (labelAt T v (n - i) (c + 1 + 2 * i)) ≡ c + 1 + 2 * n = rw e refl in
     sym (k .on ∙ w)
 
+-- one of the labels before the i-th is v, or the search comes there
+data Met (T : List ℕ) (c v n i : ℕ) : Type 0 where
+  met : (j : ℕ) → j < i → fetch T (c + 1 + 2 * j) ≡ some v → Met T c v n i
+  unmet : Seeking T c v n i → Met T c v n i
+
+seeks : {T : List ℕ} {c v n : ℕ} (i : ℕ) → i ≤ n → Seeking T c v n 0 → Met T c v n i
+seeks zero h k = unmet k
+seeks {T} {c} {v} {n} (suc i) h k = go (seeks i (omega arith) k)
+  where
+    at-next : Seeking T c v n i → (o : Option ℕ) → fetch T (c + 1 + 2 * i) ≡ o → Met T c v n (suc i)
+    at-next k none f =
+        let y : given (fetch T (c + 1 + 2 * i)) ≡ true = inside-fetch T (c + 1 + 2 * i) (omega arith) (omega (arith, k .fits)) in
+        let z : _≡_ {A = Bool} false true = rw f at y in
+        never z
+    at-next k (some a) f = pick (eqb a v) refl
+      where
+        pick : (t : Bool) → eqb a v ≡ t → Met T c v n (suc i)
+        pick true y = let q = eqb-true a v y in met i (omega arith) (f ∙ ap some q)
+        pick false y = unmet (rw (← add-one i) (seek-next k h f (λ q. never (sym y ∙ eq-eqb a v q))))
+
+    go : Met T c v n i → Met T c v n (suc i)
+    go (met j l f) = met j (omega arith) f
+    go (unmet k) = at-next k (fetch T (c + 1 + 2 * i)) refl
+
 -- a value is one of the labels, or goes to the default
 pub data Labelled (T : List ℕ) (c n v : ℕ) : Type 0 where
   labelled : (j : ℕ) → j < n → fetch T (c + 1 + 2 * j) ≡ some v → Labelled T c n v
   unlabelled : wayOut T c (some v) ≡ c + 1 + 2 * n → Labelled T c n v
 
-seeks : {T : List ℕ} {c v n : ℕ} (m i : ℕ) → m + i ≡ n → Seeking T c v n i → Labelled T c n v
-seeks zero i e k = unlabelled (sym (seek-none k (omega arith)))
-seeks {T} {c} {v} {n} (suc m) i e k = go (fetch T (c + 1 + 2 * i)) refl (λ z. seeks m (i + 1) (omega arith) z)
-  where
-    go : (o : Option ℕ) → fetch T (c + 1 + 2 * i) ≡ o → (Seeking T c v n (i + 1) → Labelled T c n v) → Labelled T c n v
-    go none f ih =
-        let y : given (fetch T (c + 1 + 2 * i)) ≡ true = inside-fetch T (c + 1 + 2 * i) (omega arith) (omega (arith, k .fits)) in
-        let z : _≡_ {A = Bool} false true = rw f at y in
-        never z
-    go (some a) f ih = pick (eqb a v) refl
-      where
-        pick : (t : Bool) → eqb a v ≡ t → Labelled T c n v
-        pick true y = let q = eqb-true a v y in labelled i (omega arith) (f ∙ ap some q)
-        pick false y = ih (seek-next k (omega arith) f (λ q. never (sym y ∙ eq-eqb a v q)))
-
 pub label-cases : {T : List ℕ} {c n : ℕ} (v : ℕ) → length T ≤ 4096 → Fits T c → fetch T c ≡ some n → Labelled T c n v
-label-cases {n = n} v s f e = seeks n 0 (omega arith) (seek-first v s f e)
+label-cases {T} {c} {n} v s f e = go (seeks n (omega arith) (seek-first v s f e))
+  where
+    go : Met T c v n n → Labelled T c n v
+    go (met j l g) = labelled j l g
+    go (unmet k) = unlabelled (sym (seek-none k (omega arith)))
+
+-- a label goes the way that stands beside it, or one before it is the same
+pub data FirstOr (T : List ℕ) (c i a way : ℕ) : Type 0 where
+  is-first : wayOut T c (some a) ≡ way → FirstOr T c i a way
+  repeats : (j : ℕ) → j < i → fetch T (c + 1 + 2 * j) ≡ some a → FirstOr T c i a way
+
+pub label-way : {T : List ℕ} {c n i a x : ℕ} → length T ≤ 4096 → Fits T c → fetch T c ≡ some n → i < n → fetch T (c + 1 + 2 * i) ≡ some a → fetch T (c + 1 + 2 * i + 1) ≡ some x → FirstOr T c i a (c + 1 + 2 * i + 1 - x)
+label-way {T} {c} {n} {i} {a} {x} s f e h g z = go (seeks i (omega arith) (seek-first a s f e))
+  where
+    go : Met T c a n i → FirstOr T c i a (c + 1 + 2 * i + 1 - x)
+    go (met j l y) = repeats j l y
+    go (unmet k) = is-first (sym (seek-found k h g refl z refl))
 
 pub default-way : (T : List ℕ) (c : ℕ) {n : ℕ} → fetch T c ≡ some n → wayOut T c none ≡ c + 1 + 2 * n
 unfolding wayOut wayOf labelBy wayAmong

@@ -4,9 +4,9 @@ use mathlib.Core.Bool.{Bool, true, false, _||_}
 use mathlib.Core.List.{List, [], _∷_}
 use mathlib.Core.Option.{Option, none, some}
 use mathlib.Core.Path.{_≡_}
-use Prim.Native.Nat.{ℕ, _+_, _-_, _≤_, _<_, min}
+use Prim.Native.Nat.{ℕ, _+_, _*_, _-_, _≤_, _<_, min}
 use lib.ListN.{length, getD}
-use Rattle.machine.specs.Decode.{Instruction, inputChoice, callRule, setResult, choice, decode}
+use Rattle.machine.specs.Decode.{fetch, Instruction, inputChoice, callRule, setResult, choice, decode}
 use Rattle.meter.specs.Makes.{backAt, half, cap, Makes, Comes, Sound, Stands}
 use Rattle.figure.specs.Figure.{wayOut}
 use Rattle.meter.specs.Shaped.{indexOf, startOf, InRule, isChoice, Shaped}
@@ -67,6 +67,11 @@ pub data Both (M N : Asked) (rows : List ℕ) (i v : ℕ) : Type 0 where
   this : M rows i v → Both M N rows i v
   that : N rows i v → Both M N rows i v
 
+-- whether v would raise the number of a place
+pub record IsBelow (i v : ℕ) (rows : List ℕ) (b : Bool) : Type 0 where
+  pub below : b ≡ true → (i < half) × (rowOf rows i < min v cap)
+  pub enough : b ≡ false → i < half → min v cap ≤ rowOf rows i
+
 -- one place is raised, whatever table the numbers are of
 pub record Raised (i v : ℕ) (rows after : List ℕ) (b : Bool) : Type 0 where
   pub sized : length after ≡ length rows
@@ -78,6 +83,11 @@ pub record RaisedTwo (i v j w : ℕ) (rows after : List ℕ) (b : Bool) : Type 0
   pub sized : length after ≡ length rows
   pub steps : {T S called : List ℕ} → Kept T S called rows → (i < half → 0 < v → Stands T S (flagOf called) i v) → (j < half → 0 < w → Stands T S (flagOf called) j w)
       → Steps T S (Both (Only i v) (Only j w)) called rows after b
+
+-- label i of the choice with its table at c: its way is raised; or nothing is, where the way beside it has enough
+pub data LabelRaised (T : List ℕ) (c i v : ℕ) (rows : List ℕ) : List ℕ → Bool → Type 0 where
+  way-raised : {a : ℕ} {after : List ℕ} {b : Bool} → fetch T (c + 1 + 2 * i) ≡ some a → Raised (wayOut T c (some a)) v rows after b → LabelRaised T c i v rows after b
+  has-enough : {x : ℕ} → fetch T (c + 1 + 2 * i + 1) ≡ some x → IsBelow (c + 1 + 2 * i + 1 - x) v rows false → LabelRaised T c i v rows rows false
 
 -- every way out of the choice with its table at c
 pub data Ways (T : List ℕ) (c v : ℕ) (rows : List ℕ) : ℕ → ℕ → Type 0 where

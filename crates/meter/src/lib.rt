@@ -7,7 +7,7 @@ ghost use mathlib.Core.Option.{none, some};
 ghost use Prim.Native.Nat.{_+_, _*_, _-_, _<_, _≤_, min};
 ghost use lib.ListN.{length, getD, set, replicate};
 ghost use Rattle.machine.specs.Bytes.{count, wordsOf, tableOf};
-ghost use Rattle.meter.specs.Steps.{flagOf, calledOf, Kept, Here, Steps, Raised, Ways, MakesAt, RaisedTwo, WaysRaised, Visited, TokenVisited, ValueAt, ValueHere, CallsHere, Values, Behind, ChoiceAt, AskedAt, AskedBelow, AskedFrom, Greatest, Begun, Settled};
+ghost use Rattle.meter.specs.Steps.{flagOf, calledOf, Kept, Here, Steps, IsBelow, Raised, LabelRaised, Ways, MakesAt, RaisedTwo, WaysRaised, Visited, TokenVisited, ValueAt, ValueHere, CallsHere, Values, Behind, ChoiceAt, AskedAt, AskedBelow, AskedFrom, Greatest, Begun, Settled};
 ghost use Rattle.machine.specs.Decode.{callRule, choice, decodeOne, decodeTwo, decode};
 ghost use Rattle.meter.specs.Shaped.{Rising, Between, indexOf, endOf, InRule, Fits, Shaped};
 ghost use Rattle.meter.specs.Found.{Found};
@@ -97,6 +97,17 @@ fn either(a: bool, b: bool) -> bool
     ensures { λ r. ⌜ r ≡ (a || b) ⌝ }
 {
     if a { true } else { b }
+}
+
+// Whether v would raise a number; locations past the last have none.
+fn is_below(rows: &[u32], i: usize, v: u64) -> bool
+    requires { ⌜ length (now rows) ≡ 4490 ⌝ }
+    ensures { λ r. ⌜ IsBelow i v (numbersOf (now (rows .entry))) r ⌝ }
+{
+    if HALF <= i {
+        return false;
+    }
+    number(rows, i) < capped(v)
 }
 
 // A number is raised, where it is less; locations past the last have none.
@@ -215,17 +226,34 @@ fn raise_two(rows: &mut [u32], i: usize, v: u64, j: usize, w: u64) -> bool
     either(a, b)
 }
 
+// The way by label i of the choice with its table at c. What stands beside the label is its way, or else a label before it is the same: so nothing is sought
+// where that way has enough.
+fn raise_label(table: &[u8], c: usize, i: usize, v: u64, rows: &mut [u32]) -> bool
+    requires { ⌜ Fits (tableOf (now table)) c × (c + 2 * i + 2 ≤ length (tableOf (now table))) × (length (now rows) ≡ 4490) ⌝ }
+    ensures { λ r. ⌜ LabelRaised (tableOf (now (table .entry))) c i v (numbersOf (now (rows .entry))) (numbersOf (now (rows .exit))) r ⌝ }
+{
+    let l = c + 1 + 2 * i;
+    let beside = back(l + 1, loader::word_at(table, l + 1));
+    if is_below(rows, beside, v) {
+        let way = way_out(table, c, loader::word_at(table, l));
+        return raise(rows, way, v);
+    }
+    false
+}
+
 // Every way out of the choice with its table at c.
 fn raise_ways(table: &[u8], c: usize, v: u64, rows: &mut [u32]) -> bool
     requires { ⌜ Fits (tableOf (now table)) c × (length (now rows) ≡ 4490) ⌝ }
     ensures { λ r. ⌜ WaysRaised (tableOf (now (table .entry))) c v (numbersOf (now (rows .entry))) (numbersOf (now (rows .exit))) r ⌝ }
 {
+    if v == 0 {
+        return false;
+    }
     let n = loader::word_at(table, c);
     let mut changed = false;
     let mut i: usize = 0;
     while i < n {
-        let way = way_out(table, c, loader::word_at(table, c + 1 + 2 * i));
-        let more = raise(rows, way, v);
+        let more = raise_label(table, c, i, v, rows);
         changed = either(changed, more);
         i += 1;
     }
