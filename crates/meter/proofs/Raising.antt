@@ -158,20 +158,17 @@ below-past h = record { below = λ e. never e; enough = λ e z. absurd (omega ar
 pub below-test : {i v a w : ℕ} {rows : List ℕ} → i < half → a ≡ rowOf rows i → w ≡ min v cap → IsBelow i v rows (ltb a w)
 below-test {a = a} {w = w} h e f = record { below = λ t. (h, omega (arith, ltb-true a w t)); enough = λ t z. omega (arith, ltb-false a w t) }
 
-pub past : {i v : ℕ} {rows : List ℕ} → half ≤ i → Raised i v rows rows false
-past h = record { sized = refl; at-least = λ z y. absurd (omega arith); steps = λ k st. stays k (λ j w m z. absurd (outside m h z)) }
+pub enough : {i v : ℕ} {rows : List ℕ} {b : Bool} → IsBelow i v rows b → b ≡ false → Raised i v rows rows false
+enough {i} {v} {rows} x e = record { sized = refl; at-least = λ z y. x .enough e y; steps = λ k st. stays k (λ j w m z. has m z) }
   where
-    outside : {i v j w : ℕ} {rows : List ℕ} → Only i v rows j w → half ≤ i → j < half → ⊥
-    outside only h z = omega arith
+    has : {j w : ℕ} → Only i v rows j w → j < half → min w cap ≤ rowOf rows j
+    has only z = x .enough e z
 
-pub enough : {i v : ℕ} {rows : List ℕ} → min v cap ≤ rowOf rows i → Raised i v rows rows false
-enough h = record { sized = refl; at-least = λ z y. h; steps = λ k st. stays k (λ j w m z. has m h) }
-  where
-    has : {i v j w : ℕ} {rows : List ℕ} → Only i v rows j w → min v cap ≤ rowOf rows i → min w cap ≤ rowOf rows j
-    has only z = z
-
-pub higher : {i v w : ℕ} {rows : List ℕ} → i < half → w ≡ min v cap → rowOf rows i < w → Raised i v rows (set rows i w) true
-higher {i} {w = w} {rows = rows} h e l = record { sized = length-set rows i w; at-least = λ z y. omega (arith, getD-set-same rows i w 0 z); steps = λ k st. raised k h e l (st h (omega arith)) }
+pub higher : {i v w : ℕ} {rows : List ℕ} {b : Bool} → IsBelow i v rows b → b ≡ true → w ≡ min v cap → Raised i v rows (set rows i w) true
+higher {i} {w = w} {rows = rows} x q e =
+    let h = x .below q .0 in
+    let l : rowOf rows i < w = omega (arith, x .below q .1) in
+    record { sized = length-set rows i w; at-least = λ z y. omega (arith, getD-set-same rows i w 0 z); steps = λ k st. raised k h e l (st h (omega arith)) }
 
 pub flag-small : (called : List ℕ) → flagOf called ≤ 1
 unfolding flagOf

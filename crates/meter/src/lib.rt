@@ -110,17 +110,13 @@ fn is_below(rows: &[u32], i: usize, v: u64) -> bool
     number(rows, i) < capped(v)
 }
 
-// A number is raised, where it is less; locations past the last have none.
+// A number is raised, where it is less.
 fn raise(rows: &mut [u32], i: usize, v: u64) -> bool
     requires { ⌜ length (now rows) ≡ 4490 ⌝ }
     ensures { λ r. ⌜ Raised i v (numbersOf (now (rows .entry))) (numbersOf (now (rows .exit))) r ⌝ }
 {
-    if HALF <= i {
-        return false;
-    }
-    let w = capped(v);
-    if number(rows, i) < w {
-        put(rows, i, w);
+    if is_below(rows, i, v) {
+        put(rows, i, capped(v));
         return true;
     }
     false
