@@ -30,27 +30,27 @@ const WORD_BITS: usize = 32;
 pub const ROWS: usize = 4490;
 
 // The instructions that end paths or branch.
-const JUMP_FORWARD: usize = 1;
+const JUMP_FORWARD: usize = machine::JUMP_FORWARD as usize;
 
-const JUMP_BACK: usize = 2;
+const JUMP_BACK: usize = machine::JUMP_BACK as usize;
 
-const INPUT: usize = 3;
+const INPUT: usize = machine::INPUT as usize;
 
-const INPUT_CHOICE: usize = 7;
+const INPUT_CHOICE: usize = machine::INPUT_CHOICE as usize;
 
-const CALL: usize = 8;
+const CALL: usize = machine::CALL as usize;
 
-const SET_RESULT: usize = 10;
+const SET_RESULT: usize = machine::SET_RESULT as usize;
 
-const CHOICE: usize = 11;
+const CHOICE: usize = machine::CHOICE as usize;
 
-const INPUT_ANY: usize = 4;
+const INPUT_ANY: usize = machine::INPUT_ANY as usize;
 
-const RETURN: usize = 9;
+const RETURN: usize = machine::RETURN as usize;
 
-const END_CHOICE: usize = 12;
+const END_CHOICE: usize = machine::END_CHOICE as usize;
 
-const FIRST_CHOOSE: usize = 768;
+const FIRST_CHOOSE: usize = machine::ASK as usize;
 
 // Whether the number at an index is CAP.
 fn at_cap(rows: &[u32], i: usize) -> bool

@@ -11,12 +11,7 @@ ghost use Rattle.processor.specs.Process.{refused};
 ghost use Rattle.translator.specs.Answered.{Settles, Finishes, Translates, answered, faultWord};
 ghost use Rattle.translator.specs.Measured.{IsTabled, Measures, FigureOf};
 
-// The table passes its room.
-const TOO_LONG: u16 = 20;
-
-// The figure passes the greatest there is.
-const NO_FIGURE: u16 = 47;
-
+// The greatest figure there is.
 const MOST_FIGURE: u64 = 4294967295;
 
 // number 0: the table has `words` words, and the verdict is `finishing`. Else the number of the fault, and the part of the text at fault.
@@ -107,7 +102,7 @@ fn figure_of(table: &[u8], starts: &[usize]) -> Figure
     if MOST_FIGURE < q {
         return Figure {
             figure: 0,
-            number: NO_FIGURE,
+            number: base::NO_FIGURE,
         };
     }
     Figure {
@@ -130,11 +125,11 @@ fn finish(
     ensures { λ r. ⌜ Finishes size (now (cells .entry)) (now (starts .entry)) (now (sorts .entry)) (b .rules) (b .cells) (now (table .entry)) (now (table .exit)) r ⌝ }
 {
     if frontend::CELLS < b.cells {
-        return refuse(table, TOO_LONG, size, 0);
+        return refuse(table, base::TOO_SHORT, size, 0);
     }
     let e = emitter::emit(cells, sorts, b.rules, table);
     if e.fault != 0 {
-        return refusal(TOO_LONG, size, 0);
+        return refusal(base::TOO_SHORT, size, 0);
     }
     let finishing = verdict::verdict(cells, starts, b.rules, spare);
     acceptance(e.size, finishing)
