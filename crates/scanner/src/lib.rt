@@ -26,16 +26,16 @@ pub enum Class {
 fn is_blank(b: u8) -> bool
     ensures { λ r. ⌜ r ≡ blank b ⌝ }
 {
-    if b == 32 {
+    if b == b' ' {
         return true;
     }
-    if b == 9 {
+    if b == b'\t' {
         return true;
     }
-    if b == 13 {
+    if b == b'\r' {
         return true;
     }
-    b == 10
+    b == b'\n'
 }
 
 // The byte is one of the list.
@@ -61,25 +61,25 @@ fn is_symbol(b: u8) -> bool
 fn is_digit(b: u8) -> bool
     ensures { λ r. ⌜ r ≡ digit b ⌝ }
 {
-    if b < 48 {
+    if b < b'0' {
         return false;
     }
-    b <= 57
+    b <= b'9'
 }
 
 fn is_letter(b: u8) -> bool
     ensures { λ r. ⌜ r ≡ letter b ⌝ }
 {
-    if b < 65 {
+    if b < b'A' {
         return false;
     }
-    if b <= 90 {
+    if b <= b'Z' {
         return true;
     }
-    if b < 97 {
+    if b < b'a' {
         return false;
     }
-    b <= 122
+    b <= b'z'
 }
 
 fn is_name_byte(b: u8) -> bool
@@ -91,16 +91,16 @@ fn is_name_byte(b: u8) -> bool
     if is_digit(b) {
         return true;
     }
-    b == 95
+    b == b'_'
 }
 
 fn is_string_byte(b: u8) -> bool
     ensures { λ r. ⌜ r ≡ stringByte b ⌝ }
 {
-    if b == 39 {
+    if b == b'\'' {
         return false;
     }
-    b != 10
+    b != b'\n'
 }
 
 fn in_class(class: Class, b: u8) -> bool
@@ -110,7 +110,7 @@ fn in_class(class: Class, b: u8) -> bool
         Class::Name => is_name_byte(b),
         Class::Digit => is_digit(b),
         Class::Inside => is_string_byte(b),
-        Class::Line => b != 10,
+        Class::Line => b != b'\n',
     }
 }
 
@@ -152,18 +152,18 @@ fn kind_of_brackets(text: &[u8], start: usize, len: usize) -> u16
     ensures { λ r. ⌜ r ≡ kindOf (take len (drop start (now (text .entry)))) brackets ⌝ }
 {
     if spelt(text, start, len, b"do") {
-        return 123;
+        return words::DO;
     }
     if spelt(text, start, len, b"od") {
-        return 125;
+        return words::OD;
     }
     if spelt(text, start, len, b"if") {
-        return 91;
+        return words::IF;
     }
     if spelt(text, start, len, b"fi") {
-        return 93;
+        return words::FI;
     }
-    257
+    words::NAME
 }
 
 fn kind_of_heads(text: &[u8], start: usize, len: usize) -> u16
@@ -171,18 +171,18 @@ fn kind_of_heads(text: &[u8], start: usize, len: usize) -> u16
     ensures { λ r. ⌜ r ≡ kindOf (take len (drop start (now (text .entry)))) heads ⌝ }
 {
     if spelt(text, start, len, b"input") {
-        return 260;
+        return words::INPUT;
     }
     if spelt(text, start, len, b"output") {
-        return 261;
+        return words::OUTPUT;
     }
     if spelt(text, start, len, b"error") {
-        return 262;
+        return words::ERROR;
     }
     if spelt(text, start, len, b"type") {
-        return 263;
+        return words::TYPE;
     }
-    257
+    words::NAME
 }
 
 fn kind_of_others(text: &[u8], start: usize, len: usize) -> u16
@@ -190,15 +190,15 @@ fn kind_of_others(text: &[u8], start: usize, len: usize) -> u16
     ensures { λ r. ⌜ r ≡ kindOf (take len (drop start (now (text .entry)))) others ⌝ }
 {
     if spelt(text, start, len, b"mechanism") {
-        return 264;
+        return words::MECHANISM;
     }
     if spelt(text, start, len, b"rules") {
-        return 265;
+        return words::RULES;
     }
     if spelt(text, start, len, b"end") {
-        return 266;
+        return words::END;
     }
-    257
+    words::NAME
 }
 
 fn kind_of(text: &[u8], start: usize, len: usize) -> u16
@@ -206,11 +206,11 @@ fn kind_of(text: &[u8], start: usize, len: usize) -> u16
     ensures { λ r. ⌜ r ≡ kindOf (take len (drop start (now (text .entry)))) reserved ⌝ }
 {
     let a = kind_of_brackets(text, start, len);
-    if a != 257 {
+    if a != words::NAME {
         return a;
     }
     let b = kind_of_heads(text, start, len);
-    if b != 257 {
+    if b != words::NAME {
         return b;
     }
     kind_of_others(text, start, len)
@@ -242,7 +242,7 @@ fn number_here(text: &[u8], at: usize) -> WordAt
     ensures { λ r. ⌜ Spelt (now (text .entry)) at (numberHere (drop (at + 1) (now (text .entry)))) r ⌝ }
 {
     let n = run_of(text, at + 1, Class::Digit);
-    found(258, at, n + 1)
+    found(words::NUMBER, at, n + 1)
 }
 
 fn string_here(text: &[u8], at: usize) -> WordAt
@@ -251,20 +251,20 @@ fn string_here(text: &[u8], at: usize) -> WordAt
 {
     let n = run_of(text, at + 1, Class::Inside);
     if n < 1 {
-        return found(0, at, 1);
+        return found(words::BAD, at, 1);
     }
-    if 32 < n {
-        return found(0, at, 1);
+    if base::WORD_BYTES < n {
+        return found(words::BAD, at, 1);
     }
     let e = at + 1 + n;
     if e < text.len() {
         let q = text[e];
-        if q == 39 {
-            return found(259, at, n + 2);
+        if q == b'\'' {
+            return found(words::STRING, at, n + 2);
         }
-        return found(0, at, 1);
+        return found(words::BAD, at, 1);
     }
-    found(0, at, 1)
+    found(words::BAD, at, 1)
 }
 
 fn greater_here(text: &[u8], at: usize) -> WordAt
@@ -274,12 +274,12 @@ fn greater_here(text: &[u8], at: usize) -> WordAt
     let e = at + 1;
     if e < text.len() {
         let q = text[e];
-        if q == 62 {
-            return found(256, at, 2);
+        if q == b'>' {
+            return found(words::TWICE, at, 2);
         }
-        return found(62, at, 1);
+        return found(words::GREATER, at, 1);
     }
-    found(62, at, 1)
+    found(words::GREATER, at, 1)
 }
 
 fn wide(x: u8) -> u16
@@ -293,13 +293,13 @@ fn symbol_here(text: &[u8], at: usize) -> WordAt
     ensures { λ r. ⌜ Spelt (now (text .entry)) at (symbolHere (getD (now (text .entry)) at 0)) r ⌝ }
 {
     let b = text[at];
-    if b == 33 {
-        return found(124, at, 1);
+    if b == b'!' {
+        return found(words::BAR, at, 1);
     }
     if is_symbol(b) {
         return found(wide(b), at, 1);
     }
-    found(0, at, 1)
+    found(words::BAD, at, 1)
 }
 
 fn word_here(text: &[u8], at: usize) -> WordAt
@@ -313,10 +313,10 @@ fn word_here(text: &[u8], at: usize) -> WordAt
     if is_digit(b) {
         return number_here(text, at);
     }
-    if b == 39 {
+    if b == b'\'' {
         return string_here(text, at);
     }
-    if b == 62 {
+    if b == b'>' {
         return greater_here(text, at);
     }
     symbol_here(text, at)
@@ -343,7 +343,7 @@ fn skip_one(text: &[u8], at: usize) -> usize
     ensures { λ r. ⌜ SkippedOne (now (text .entry)) at r ⌝ }
 {
     let b = text[at];
-    if b == 37 {
+    if b == b'%' {
         return at + 1 + run_of(text, at + 1, Class::Line);
     }
     if is_blank(b) {
@@ -357,11 +357,11 @@ pub fn next_word(text: &[u8], at: usize) -> WordAt
     ensures { λ r. ⌜ Next (now (text .entry)) at r ⌝ }
 {
     if text.len() <= at {
-        return found(1, at, 0);
+        return found(words::LAST, at, 0);
     }
     let i = skip(text, at);
     if i < text.len() {
         return word_here(text, i);
     }
-    found(1, i, 0)
+    found(words::LAST, i, 0)
 }
