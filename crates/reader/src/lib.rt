@@ -15,18 +15,6 @@ ghost use Rattle.syntax.specs.Parse.{someRules, program, parse};
 ghost use Rattle.words.specs.Words.{words, wordsAt};
 use scanner::WordAt;
 
-// Kinds of words in operation entries: `(`, `)`, `>>`, a name.
-const OPENING: u16 = 40;
-
-const CLOSING: u16 = 41;
-
-const TWICE: u16 = 256;
-
-const NAME: u16 = 257;
-
-// Operations that may stand of a kind.
-const OPERATIONS: usize = 256;
-
 // fault 0: read up to the place `at`. Else the fault's number and its word.
 pub struct Out {
     pub fault: u16,
@@ -107,15 +95,15 @@ pub fn look(text: &[u8], at: usize) -> WordAt
 fn refused(w: WordAt) -> Out
     ensures { λ r. ⌜ Faulty (refusal (w .kind)) w r ⌝ }
 {
-    if w.kind == 0 {
+    if w.kind == words::BAD {
         Out {
-            fault: 1,
+            fault: base::NO_WORD,
             at: w.start,
             len: w.len,
         }
     } else {
         Out {
-            fault: 2,
+            fault: base::NOT_ALLOWED,
             at: w.start,
             len: w.len,
         }
@@ -126,7 +114,7 @@ fn over(w: WordAt) -> Out
     ensures { λ r. ⌜ Faulty 9 w r ⌝ }
 {
     Out {
-        fault: 9,
+        fault: base::OVER_LIMIT,
         at: w.start,
         len: w.len,
     }
@@ -152,10 +140,10 @@ fn read_name(text: &[u8], at: usize) -> Out
     ensures { λ r. ⌜ Moves (now (text .entry)) at at (λ _. aName) r ⌝ }
 {
     let w = look(text, at);
-    if w.kind != 257 {
+    if w.kind != words::NAME {
         return refused(w);
     }
-    if 32 < w.len {
+    if base::WORD_BYTES < w.len {
         return over(w);
     }
     Out {
@@ -170,7 +158,7 @@ fn name_or_string(text: &[u8], at: usize) -> Out
     ensures { λ r. ⌜ Moves (now (text .entry)) at at (λ _. nameOrString) r ⌝ }
 {
     let w = look(text, at);
-    if w.kind == 259 {
+    if w.kind == words::STRING {
         return Out {
             fault: 0,
             at: w.next,
@@ -185,7 +173,7 @@ fn read_constant(text: &[u8], at: usize) -> Out
     ensures { λ r. ⌜ Reads (now (text .entry)) at at (λ _. aConstant) r ⌝ }
 {
     let w = look(text, at);
-    if w.kind != 40 {
+    if w.kind != words::OPENING {
         return Out {
             fault: 0,
             at,
@@ -196,7 +184,7 @@ fn read_constant(text: &[u8], at: usize) -> Out
     if r.fault != 0 {
         return r;
     }
-    expect_word(text, r.at, 41)
+    expect_word(text, r.at, words::CLOSING)
 }
 
 fn with_constant(text: &[u8], at: usize) -> Out
@@ -215,10 +203,10 @@ fn read_value(text: &[u8], at: usize) -> Out
     ensures { λ r. ⌜ Reads (now (text .entry)) at at (λ _. aValue) r ⌝ }
 {
     let w = look(text, at);
-    if w.kind == 257 {
+    if w.kind == words::NAME {
         return read_name(text, at);
     }
-    if w.kind == 259 {
+    if w.kind == words::STRING {
         return Out {
             fault: 0,
             at: w.next,
@@ -237,10 +225,10 @@ fn read_selector(text: &[u8], at: usize) -> Out
     ensures { λ r. ⌜ Reads (now (text .entry)) at at (λ _. aSelector) r ⌝ }
 {
     let w = look(text, at);
-    if w.kind == 64 {
+    if w.kind == words::AT {
         return read_name(text, w.next);
     }
-    if w.kind == 257 {
+    if w.kind == words::NAME {
         return with_constant(text, at);
     }
     Out {
@@ -259,7 +247,7 @@ fn read_ranked(text: &[u8], at: usize) -> Out
     if r.fault != 0 {
         return r;
     }
-    let s = expect_word(text, r.at, 64);
+    let s = expect_word(text, r.at, words::AT);
     if s.fault != 0 {
         return s;
     }
@@ -273,23 +261,23 @@ fn read_plain(text: &[u8], at: usize) -> Out
     let w = look(text, at);
     let kind = w.kind;
     match kind {
-        257 => with_constant(text, at),
-        259 => read_constant(text, w.next),
-        63 => Out {
+        words::NAME => with_constant(text, at),
+        words::STRING => read_constant(text, w.next),
+        words::QUESTION => Out {
             fault: 0,
             at: w.next,
             len: 0,
         },
-        46 => name_or_string(text, w.next),
-        35 => name_or_string(text, w.next),
-        62 => Out {
+        words::POINT => name_or_string(text, w.next),
+        words::HASH => name_or_string(text, w.next),
+        words::GREATER => Out {
             fault: 0,
             at: w.next,
             len: 0,
         },
-        64 => read_name(text, w.next),
-        256 => read_value(text, w.next),
-        94 => read_ranked(text, w.next),
+        words::AT => read_name(text, w.next),
+        words::TWICE => read_value(text, w.next),
+        words::CARET => read_ranked(text, w.next),
         _ => refused(w),
     }
 }
@@ -300,7 +288,7 @@ fn read_label(text: &[u8], at: usize, room: usize) -> Out
     ensures { λ r. ⌜ OneLabel (now (text .entry)) at room r ⌝ }
 {
     let w = look(text, at);
-    if w.kind == 259 {
+    if w.kind == words::STRING {
         if room == 0 {
             return over(w);
         }
@@ -310,13 +298,13 @@ fn read_label(text: &[u8], at: usize, room: usize) -> Out
             len: 0,
         };
     }
-    if w.kind != 257 {
+    if w.kind != words::NAME {
         return refused(w);
     }
     if room == 0 {
         return over(w);
     }
-    if 32 < w.len {
+    if base::WORD_BYTES < w.len {
         return over(w);
     }
     Out {
@@ -340,7 +328,7 @@ fn read_labels(text: &[u8], at: usize, room: usize) -> Counted
         }
         let rest = left - 1;
         let w = look(text, r.at);
-        if w.kind != 44 {
+        if w.kind != words::COMMA {
             return Counted { out: r, room: rest };
         }
         i = w.next;
@@ -351,16 +339,16 @@ fn read_labels(text: &[u8], at: usize, room: usize) -> Counted
 pub fn is_closing(kind: u16) -> bool
     ensures { λ r. ⌜ r ≡ closes kind ⌝ }
 {
-    if kind == 59 {
+    if kind == words::SEMICOLON {
         return true;
     }
-    if kind == 125 {
+    if kind == words::OD {
         return true;
     }
-    if kind == 93 {
+    if kind == words::FI {
         return true;
     }
-    kind == 124
+    kind == words::BAR
 }
 
 fn read_actions(text: &[u8], at: usize, left: usize) -> Out
@@ -390,13 +378,13 @@ fn read_action(text: &[u8], at: usize, left: usize) -> Out
     ensures { λ r. ⌜ Moves (now (text .entry)) at (at + 1) (λ k. oneAction k left) r ⌝ }
 {
     let w = look(text, at);
-    if w.kind == 123 {
+    if w.kind == words::DO {
         if left == 0 {
             return over(w);
         }
         return read_cycle(text, w.next, left - 1);
     }
-    if w.kind == 91 {
+    if w.kind == words::IF {
         if left == 0 {
             return over(w);
         }
@@ -414,7 +402,7 @@ fn read_cycle(text: &[u8], at: usize, left: usize) -> Out
     if r.fault != 0 {
         return r;
     }
-    expect_word(text, r.at, 125)
+    expect_word(text, r.at, words::OD)
 }
 
 // The rest of a choice after its bracket.
@@ -426,11 +414,11 @@ fn read_choice(text: &[u8], at: usize, left: usize) -> Out
     if h.fault != 0 {
         return h;
     }
-    let b = expect_word(text, h.at, 124);
+    let b = expect_word(text, h.at, words::BAR);
     if b.fault != 0 {
         return b;
     }
-    read_alternatives(text, b.at, left, 64)
+    read_alternatives(text, b.at, left, base::LABELS)
 }
 
 // Alternatives, in a choice where `room` more labels may stand.
@@ -442,7 +430,7 @@ fn read_alternatives(text: &[u8], at: usize, left: usize, room: usize) -> Out
     let mut free = room;
     loop {
         let w = look(text, i);
-        if w.kind == 42 {
+        if w.kind == words::STAR {
             return read_otherwise(text, w.next, left);
         }
         let l = read_labelled(text, i, left, free);
@@ -451,8 +439,8 @@ fn read_alternatives(text: &[u8], at: usize, left: usize, room: usize) -> Out
             return r;
         }
         let s = look(text, r.at);
-        if s.kind != 124 {
-            return expect_word(text, r.at, 93);
+        if s.kind != words::BAR {
+            return expect_word(text, r.at, words::FI);
         }
         i = s.next;
         free = l.room;
@@ -464,7 +452,7 @@ fn read_otherwise(text: &[u8], at: usize, left: usize) -> Out
     requires { ⌜ at ≤ length (now text) ⌝ }
     ensures { λ r. ⌜ Reads (now (text .entry)) at at (λ k. anOtherwise (actions k left)) r ⌝ }
 {
-    let c = expect_word(text, at, 58);
+    let c = expect_word(text, at, words::COLON);
     if c.fault != 0 {
         return c;
     }
@@ -472,7 +460,7 @@ fn read_otherwise(text: &[u8], at: usize, left: usize) -> Out
     if r.fault != 0 {
         return r;
     }
-    expect_word(text, r.at, 93)
+    expect_word(text, r.at, words::FI)
 }
 
 // The labels and the actions of an alternative, after its bar.
@@ -485,7 +473,7 @@ fn read_labelled(text: &[u8], at: usize, left: usize, room: usize) -> Counted
     if l.fault != 0 {
         return m;
     }
-    let c = expect_word(text, l.at, 58);
+    let c = expect_word(text, l.at, words::COLON);
     if c.fault != 0 {
         return Counted { out: c, room: 0 };
     }
@@ -502,13 +490,13 @@ fn read_one_name(text: &[u8], at: usize, left: usize) -> Out
     ensures { λ r. ⌜ OneName (now (text .entry)) at left r ⌝ }
 {
     let w = look(text, at);
-    if w.kind != 257 {
+    if w.kind != words::NAME {
         return refused(w);
     }
     if left == 0 {
         return over(w);
     }
-    if 32 < w.len {
+    if base::WORD_BYTES < w.len {
         return over(w);
     }
     Out {
@@ -521,10 +509,10 @@ fn read_one_name(text: &[u8], at: usize, left: usize) -> Out
 fn digit_of(b: u8) -> usize
     ensures { λ r. ⌜ (r ≡ b - 48) × (r < 256) ⌝ }
 {
-    if b < 48 {
+    if b < b'0' {
         return 0;
     }
-    let d = b - 48;
+    let d = b - b'0';
     d as usize
 }
 
@@ -539,7 +527,7 @@ pub fn number_of(text: &[u8], start: usize, len: usize) -> usize
         let j = start + i;
         let d = digit_of(text[j]);
         let m = n * 10 + d;
-        if 65535 < m {
+        if base::GREATEST_VALUE < m {
             return m;
         }
         n = m;
@@ -553,12 +541,12 @@ fn read_number(text: &[u8], at: usize) -> Valued
     ensures { λ r. ⌜ ANumber (now (text .entry)) at r ⌝ }
 {
     let w = look(text, at);
-    if w.kind != 258 {
+    if w.kind != words::NUMBER {
         let r = refused(w);
         return Valued { out: r, value: 0 };
     }
     let n = number_of(text, w.start, w.len);
-    if 65535 < n {
+    if base::GREATEST_VALUE < n {
         let r = over(w);
         return Valued { out: r, value: 0 };
     }
@@ -577,7 +565,7 @@ fn read_spelling(text: &[u8], at: usize, strings: bool) -> Out
 {
     if strings {
         let w = look(text, at);
-        if w.kind == 259 {
+        if w.kind == words::STRING {
             return Out {
                 fault: 0,
                 at: w.next,
@@ -609,10 +597,10 @@ fn read_entry(text: &[u8], at: usize, left: usize, strings: bool, v: usize) -> V
     }
     let s = read_spelling(text, o.at, strings);
     let e = look(text, s.at);
-    if e.kind == 61 {
+    if e.kind == words::EQUALS {
         return read_number(text, e.next);
     }
-    if 65535 < v {
+    if base::GREATEST_VALUE < v {
         let r = over(w);
         return Valued { out: r, value: 0 };
     }
@@ -651,7 +639,7 @@ fn read_entries(text: &[u8], at: usize, left: usize, strings: bool, v: usize) ->
         let n = e.value + 1;
         let t = larger(top, n);
         let w = look(text, o.at);
-        if w.kind == 59 {
+        if w.kind == words::SEMICOLON {
             let r = Out {
                 fault: 0,
                 at: w.next,
@@ -675,7 +663,7 @@ fn read_listed(text: &[u8], at: usize, left: usize, strings: bool, v: usize) -> 
     requires { ⌜ at ≤ length (now text) ⌝ }
     ensures { λ r. ⌜ Yields (Entered left 0 (r .left) (r .top)) (now (text .entry)) at at (λ k. listed k left strings v) (r .out) ⌝ }
 {
-    let c = expect_word(text, at, 58);
+    let c = expect_word(text, at, words::COLON);
     if c.fault != 0 {
         return Entries {
             out: c,
@@ -692,7 +680,7 @@ fn read_parameter(text: &[u8], at: usize) -> Out
     ensures { λ r. ⌜ Reads (now (text .entry)) at at (λ _. aParameter) r ⌝ }
 {
     let w = look(text, at);
-    if w.kind != OPENING {
+    if w.kind != words::OPENING {
         return Out {
             fault: 0,
             at,
@@ -703,7 +691,7 @@ fn read_parameter(text: &[u8], at: usize) -> Out
     if r.fault != 0 {
         return r;
     }
-    expect_word(text, r.at, CLOSING)
+    expect_word(text, r.at, words::CLOSING)
 }
 
 // The type after `>>`, where there is one.
@@ -712,7 +700,7 @@ fn read_gives(text: &[u8], at: usize) -> Out
     ensures { λ r. ⌜ Reads (now (text .entry)) at at (λ _. optional 256 aName) r ⌝ }
 {
     let w = look(text, at);
-    if w.kind != TWICE {
+    if w.kind != words::TWICE {
         return Out {
             fault: 0,
             at,
@@ -783,8 +771,8 @@ fn look_ahead(text: &[u8], at: usize) -> Ahead
     ensures { λ r. ⌜ toldKind r ≡ kindAhead (wordsAt (now (text .entry)) at) ⌝ }
 {
     let p = look(text, at);
-    if p.kind != OPENING {
-        let gives = p.kind == TWICE;
+    if p.kind != words::OPENING {
+        let gives = p.kind == words::TWICE;
         return Ahead {
             known: true,
             takes: false,
@@ -792,7 +780,7 @@ fn look_ahead(text: &[u8], at: usize) -> Ahead
         };
     }
     let t = look(text, p.next);
-    if t.kind != NAME {
+    if t.kind != words::NAME {
         return Ahead {
             known: false,
             takes: true,
@@ -800,7 +788,7 @@ fn look_ahead(text: &[u8], at: usize) -> Ahead
         };
     }
     let c = look(text, t.next);
-    if c.kind != CLOSING {
+    if c.kind != words::CLOSING {
         return Ahead {
             known: false,
             takes: true,
@@ -808,7 +796,7 @@ fn look_ahead(text: &[u8], at: usize) -> Ahead
         };
     }
     let g = look(text, c.next);
-    let gives = g.kind == TWICE;
+    let gives = g.kind == words::TWICE;
     Ahead {
         known: true,
         takes: true,
@@ -822,7 +810,7 @@ fn is_full(seen: Seen, kind: Ahead) -> bool
 {
     if kind.known {
         let n = count_of(seen, kind.takes, kind.gives);
-        return OPERATIONS <= n;
+        return base::OPERATIONS <= n;
     }
     false
 }
@@ -872,7 +860,7 @@ fn read_operations(text: &[u8], at: usize, left: usize, seen: Seen) -> Operation
         let rest = names - 1;
         let s = a.seen;
         let w = look(text, o.at);
-        if w.kind == 59 {
+        if w.kind == words::SEMICOLON {
             let r = Out {
                 fault: 0,
                 at: w.next,
@@ -897,7 +885,7 @@ fn read_tokens(text: &[u8], at: usize, state: State) -> Sectioned
 {
     let seen = state.seen;
     let w = look(text, at);
-    if w.kind == 261 {
+    if w.kind == words::OUTPUT {
         let v = larger(state.input, state.output);
         let e = read_listed(text, w.next, state.left, true, v);
         let out = e.out;
@@ -991,7 +979,7 @@ fn read_mechanism(text: &[u8], at: usize, state: State) -> Sectioned
     requires { ⌜ at ≤ length (now text) ⌝ }
     ensures { λ r. ⌜ ASection (now (text .entry)) at (at + 1) mechanismSection state r ⌝ }
 {
-    let m = expect_word(text, at, 264);
+    let m = expect_word(text, at, words::MECHANISM);
     if m.fault != 0 {
         return Sectioned { out: m, state };
     }
@@ -999,7 +987,7 @@ fn read_mechanism(text: &[u8], at: usize, state: State) -> Sectioned
     if n.fault != 0 {
         return Sectioned { out: n, state };
     }
-    let c = expect_word(text, n.at, 58);
+    let c = expect_word(text, n.at, words::COLON);
     if c.fault != 0 {
         return Sectioned { out: c, state };
     }
@@ -1023,14 +1011,14 @@ fn read_level(text: &[u8], at: usize) -> Out
     ensures { λ r. ⌜ Moves (now (text .entry)) at at (λ _. aLevel) r ⌝ }
 {
     let v = look(text, at);
-    if v.kind != 258 {
+    if v.kind != words::NUMBER {
         return refused(v);
     }
     let n = number_of(text, v.start, v.len);
     if n == 0 {
         return over(v);
     }
-    if 15 < n {
+    if base::GREATEST_LEVEL < n {
         return over(v);
     }
     Out {
@@ -1046,7 +1034,7 @@ fn read_side(text: &[u8], at: usize) -> Out
     ensures { λ r. ⌜ Moves (now (text .entry)) at at (λ _. aSide) r ⌝ }
 {
     let w = look(text, at);
-    if w.kind != 257 {
+    if w.kind != words::NAME {
         return refused(w);
     }
     if scanner::spelt(text, w.start, w.len, b"left") {
@@ -1098,7 +1086,7 @@ fn read_operators(text: &[u8], at: usize) -> Out
             return r;
         }
         let w = look(text, r.at);
-        if w.kind == 59 {
+        if w.kind == words::SEMICOLON {
             return Out {
                 fault: 0,
                 at: w.next,
@@ -1120,7 +1108,7 @@ fn read_operator_section(text: &[u8], at: usize, state: State) -> Sectioned
         return Sectioned { out: o, state };
     }
     let rest = state.left - 1;
-    let c = expect_word(text, o.at, 58);
+    let c = expect_word(text, o.at, words::COLON);
     if c.fault != 0 {
         return Sectioned { out: c, state };
     }
@@ -1140,7 +1128,7 @@ fn is_operators(text: &[u8], w: WordAt) -> bool
     requires { ⌜ w .start + w .len ≤ length (now text) ⌝ }
     ensures { λ r. ⌜ r ≡ (eqb (w .kind) 257 && same (take (w .len) (drop (w .start) (now (text .entry)))) (bytes "operators")) ⌝ }
 {
-    if w.kind != 257 {
+    if w.kind != words::NAME {
         return false;
     }
     scanner::spelt(text, w.start, w.len, b"operators")
@@ -1165,10 +1153,10 @@ fn read_section(text: &[u8], at: usize, state: State) -> Sectioned
     let w = look(text, at);
     let kind = w.kind;
     match kind {
-        260 => read_tokens(text, w.next, state),
-        261 => read_outputs(text, w.next, state),
-        262 => read_errors(text, w.next, state),
-        263 => read_types(text, w.next, state),
+        words::INPUT => read_tokens(text, w.next, state),
+        words::OUTPUT => read_outputs(text, w.next, state),
+        words::ERROR => read_errors(text, w.next, state),
+        words::TYPE => read_types(text, w.next, state),
         _ => read_other(text, at, state),
     }
 }
@@ -1182,7 +1170,7 @@ fn read_sections(text: &[u8], at: usize, state: State) -> Counted
     let mut sofar = state;
     loop {
         let w = look(text, i);
-        if w.kind == 265 {
+        if w.kind == words::RULES {
             let r = Out {
                 fault: 0,
                 at: i,
@@ -1217,15 +1205,15 @@ fn read_rule(text: &[u8], at: usize, left: usize) -> Out
     if g.fault != 0 {
         return g;
     }
-    let c = expect_word(text, g.at, 58);
+    let c = expect_word(text, g.at, words::COLON);
     if c.fault != 0 {
         return c;
     }
-    let b = read_actions(text, c.at, 32);
+    let b = read_actions(text, c.at, base::NESTED);
     if b.fault != 0 {
         return b;
     }
-    expect_word(text, b.at, 59)
+    expect_word(text, b.at, words::SEMICOLON)
 }
 
 fn read_rules(text: &[u8], at: usize, left: usize) -> Out
@@ -1241,7 +1229,7 @@ fn read_rules(text: &[u8], at: usize, left: usize) -> Out
         }
         let rest = names - 1;
         let w = look(text, r.at);
-        if w.kind != 257 {
+        if w.kind != words::NAME {
             return r;
         }
         i = r.at;
@@ -1263,12 +1251,12 @@ fn read_end(text: &[u8], at: usize) -> Out
     requires { ⌜ at ≤ length (now text) ⌝ }
     ensures { λ r. ⌜ Decides r (ending (wordsAt (now (text .entry)) at)) ⌝ }
 {
-    let e = expect_word(text, at, 266);
+    let e = expect_word(text, at, words::END);
     if e.fault != 0 {
         return e;
     }
     let w = look(text, e.at);
-    if w.kind == 1 {
+    if w.kind == words::LAST {
         return Out {
             fault: 0,
             at: w.start,
@@ -1288,7 +1276,7 @@ fn read_program(text: &[u8]) -> Out
         both: 0,
     };
     let state = State {
-        left: 512,
+        left: base::NAMES,
         input: 0,
         output: 0,
         error: 0,
@@ -1299,11 +1287,11 @@ fn read_program(text: &[u8]) -> Out
     if o.fault != 0 {
         return o;
     }
-    let e = expect_word(text, o.at, 265);
+    let e = expect_word(text, o.at, words::RULES);
     if e.fault != 0 {
         return e;
     }
-    let m = smaller(128, s.room);
+    let m = smaller(base::RULES, s.room);
     let r = read_rules(text, e.at, m);
     if r.fault != 0 {
         return r;
@@ -1316,9 +1304,9 @@ pub fn check_syntax(text: &[u8]) -> Out
     ensures { λ r. ⌜ Decides r (parse (now (text .entry))) ⌝ }
 {
     let n = text.len();
-    if 32768 < n {
+    if base::TEXT_BYTES < n {
         return Out {
-            fault: 9,
+            fault: base::OVER_LIMIT,
             at: n,
             len: 0,
         };
