@@ -6,12 +6,13 @@ use mathlib.Core.Path.{_≡_, refl, sym, _∙_}
 use Prim.Native.Nat.{ℕ, zero, suc, _+_, _≤_, _<_, _-_}
 use native.Mathlib.Omega.{arith}
 use lib.Dec.{T, eqb, leb}
-use lib.ListN.{length, length-drop, length-take}
+use lib.ListN.{length}
 use borrow.Author.Tests.{ne-eqb, eq-eqb, lt-ltb, le-ltb, leb-true, leb-false}
 use Rattle.base.specs.Common.{if_then_else_}
 use Rattle.base.specs.Tree.{nil, absent, alternative}
 use Rattle.reader.specs.Answers.{Brings, Faulty, Here, Holds, Tells, Told, failed, held, refusal, says, told, void, went}
 use Rattle.reader.specs.Parts.{LeavesBoth, aLabelled, oneAction, withConstant}
+use Rattle.scanner.proofs.WordLaws.{part-length}
 use Rattle.scanner.specs.Next.{asWord, Next}
 use Rattle.syntax.specs.Actions.{closes, aConstant, actions, anAlternative, someLabels}
 use Rattle.syntax.specs.Reading.{Read, Reader, aName, expect, fault, got, on_then_else_, onward, over, pass, peek, refuse, short, within}
@@ -83,16 +84,14 @@ no k a b {w = w} n e t = rw (n .head, ne-eqb (w .kind) k e) t
 
 -- faults at the next word
 pub word-length : {text : List ℕ} {at : ℕ} {w : WordAt} → Here text at w → length (asWord text w .text) ≡ w .len
-word-length n = simp (length-take, length-drop) (omega (arith, n .inside))
+word-length {text} {w = w} n = part-length text (w .start) (w .len) (n .inside)
 
 pub faults : {A : Type 0} {text : List ℕ} {at n : ℕ} {w : WordAt} {r : Out} → Here text at w → 0 < n → Faulty n w r → Tells {A = A} (fault n (peek (wordsAt text at))) text r
 faults {text = text} {w = w} {r} e h f = record { same = rw (e .head, word-length e, ← f .number, ← f .place, ← f .size) (sym (says-off text r (λ z. omega arith))) }
 
 -- the same at a word that was read before
 pub at-word : {A : Type 0} {text : List ℕ} (n : ℕ) {w : WordAt} {r : Out} → 0 < n → w .start + w .len ≤ length text → Faulty n w r → Tells {A = A} (fault n (asWord text w)) text r
-at-word {text = text} n {w} {r} h i f = record { same = rw (sized, ← f .number, ← f .place, ← f .size) (sym (says-off text r (λ z. omega (arith, f .number)))) } where
-  sized : length (asWord text w .text) ≡ w .len
-  sized = simp (length-take, length-drop) (omega arith)
+at-word {text = text} n {w} {r} h i f = record { same = rw (part-length text (w .start) (w .len) i, ← f .number, ← f .place, ← f .size) (sym (says-off text r (λ z. omega (arith, f .number)))) }
 
 pub overs : {A : Type 0} {text : List ℕ} {at : ℕ} {w : WordAt} {r : Out} → Here text at w → Faulty 9 w r → Tells (over {A = A} (wordsAt text at)) text r
 unfolding over
@@ -184,6 +183,10 @@ here {text} {at} {w} h n = record {
   first : (t : Bool) → leb 2 (w .kind) ≡ t → peek (wordsAt text at) ≡ asWord text w
   first true e = rw (n .more (leb-true 2 (w .kind) e)) refl
   first false e = rw (n .final (leb-false 2 (w .kind) e)) refl
+
+-- and back
+pub here-next : {text : List ℕ} {at : ℕ} {w : WordAt} → Here text at w → Next text at w
+here-next n = record { more = n .more; final = n .final; moves = n .moves; low = n .low; onto = n .onto; inside = λ _. n .inside; high = λ _. n .high }
 
 -- The value of a reading
 

@@ -8,13 +8,14 @@ use native.Mathlib.Nat.{zero-add}
 use native.Mathlib.Numerals.{add-one}
 use native.Mathlib.Omega.{arith}
 use lib.Dec.{eqb, leb}
-use lib.ListN.{length, getD, take, drop, drop-of-length-le, length-drop, length-take}
-use lib.Seq.{drop-cons, getD-drop, getD-take}
+use lib.ListN.{length, getD, take, drop, drop-of-length-le}
+use lib.Seq.{drop-cons}
 use borrow.Author.Tests.{leb-false, ne-eqb, lt-leb, le-leb, lt-ltb, le-ltb, eq-eqb, leb-true, eqb-true}
 use Rattle.base.specs.Common.{if_then_else_, given, bytes, same}
 use Rattle.reader.proofs.Laws.{at-word, ends-as, ends-with, faults, faulty, goes-as, stops, gives-with, no, no-with, overs, passes-with, says-off, says-on, shorts, word-length, yes-with, one-or-two-not, refuses, any-value, gives, passes}
 use Rattle.reader.specs.Answers.{Brings, Faulty, Here, Holds, Tells, failed, held, told, void, went, refusal}
 use Rattle.reader.specs.Counting.{Adds, Decides, Kinds, countOf, toldKind, fullIn, listed, oneMore, wrong, Entered, Operated, Keeps, ending, fine, NumberOf}
+use Rattle.scanner.proofs.WordLaws.{part-at, part-length}
 use Rattle.scanner.specs.Next.{asWord}
 use Rattle.syntax.proofs.Ahead.{kind-read, kinds-read}
 use Rattle.syntax.specs.Parse.{parse, endOf, program, someRules}
@@ -67,18 +68,12 @@ unfolding value
 value-low n [] = omega arith
 value-low n (d ∷ ds) = omega (arith, value-low (n * 10 + (d - 48)) ds)
 
-pub part-size : (text : List ℕ) (start len : ℕ) → start + len ≤ length text → length (take len (drop start text)) ≡ len
-part-size text start len h = simp (length-take, length-drop) (omega arith)
-
-part-at : (text : List ℕ) (start len i : ℕ) → i < len → getD (take len (drop start text)) i 0 ≡ getD text (start + i) 0
-part-at text start len i h = rw (getD-take, getD-drop) refl
-
 -- one more digit
 pub number-on : (text : List ℕ) (start len n i d : ℕ) → start + len ≤ length text → i < len → d ≡ getD text (start + i) 0 - 48
     → value n (drop i (take len (drop start text))) ≡ value 0 (take len (drop start text))
     → value (n * 10 + d) (drop (i + 1) (take len (drop start text))) ≡ value 0 (take len (drop start text))
 number-on text start len n i d h g e f =
-    rw (e, ← part-at text start len i g) (sym (value-go n (take len (drop start text)) i (omega (arith, part-size text start len h)))) ∙ f
+    rw (e, ← part-at text start len i g) (sym (value-go n (take len (drop start text)) i (omega (arith, part-length text start len h)))) ∙ f
 
 pub number-past : (text : List ℕ) (start len n i d : ℕ) → start + len ≤ length text → i < len → d ≡ getD text (start + i) 0 - 48 → 65535 < n * 10 + d
     → value n (drop i (take len (drop start text))) ≡ value 0 (take len (drop start text)) → 65535 < value 0 (take len (drop start text))

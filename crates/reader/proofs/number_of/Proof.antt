@@ -4,7 +4,8 @@ use Prim.Native.Nat.{_-_, _≤_}
 use native.Mathlib.Omega.{arith}
 use lib.ListN.{take, drop}
 use borrow.Author.Needs.{needs}
-use Rattle.reader.proofs.SectionLaws.{number-on, number-past, part-size, value-end}
+use Rattle.reader.proofs.SectionLaws.{number-on, number-past, value-end}
+use Rattle.scanner.proofs.WordLaws.{part-length}
 use Rattle.words.specs.Words.{value}
 use Rattle.reader.proofs.number_of.Statement.{statement}
 use Rattle.reader.proofs.number_of.Tie as tie
@@ -46,7 +47,7 @@ loop-again : tie.Need-loop-again Inv-loop μ-loop
 loop-again c = (omega arith, omega arith, number-on (c .before .before .before .before .before .before .args .text .now) (c .before .before .before .before .before .before .args .start) (c .before .before .before .before .before .before .args .len) (c .before .before .before .before .loop .n) (c .before .before .before .before .loop .i) (c .before .digit-of .result) (c .before .before .before .before .before .before .pre) (c .before .before .before .loop-test .taken) (c .before .digit-of .ensures .0) (c .before .before .before .before .loop .inv .2))
 
 returns-2 : tie.Need-returns-2 Inv-loop μ-loop
-returns-2 c = record { exact = λ e. sym (c .before .loop .inv .2) ∙ value-end (c .before .loop .n) (take (c .before .before .before .args .len) (drop (c .before .before .before .args .start) (c .before .before .before .args .text .now))) (c .before .loop .i) (omega (arith, part-size (c .before .before .before .args .text .now) (c .before .before .before .args .start) (c .before .before .before .args .len) (c .before .before .before .pre))); past = λ e. absurd (omega arith) }
+returns-2 c = record { exact = λ e. sym (c .before .loop .inv .2) ∙ value-end (c .before .loop .n) (take (c .before .before .before .args .len) (drop (c .before .before .before .args .start) (c .before .before .before .args .text .now))) (c .before .loop .i) (omega (arith, part-length (c .before .before .before .args .text .now) (c .before .before .before .args .start) (c .before .before .before .args .len) (c .before .before .before .pre))); past = λ e. absurd (omega arith) }
 
 pub number-of-spec : {M : Type 1} → statement M
 number-of-spec =
