@@ -17,8 +17,17 @@ use reader::number_of;
 use reader::one_more;
 use scanner::WordAt;
 
-// The class of sections of operators.
-const OPERATORS: usize = 600;
+// The first numbers of operations, by kind: updates, updates with a parameter, choices, choices with a parameter.
+const UPDATE: usize = 256;
+
+const UPDATE_WITH: usize = 512;
+
+const ASK: usize = 768;
+
+const ASK_WITH: usize = 1024;
+
+// The place of the last operation of a kind, from 0.
+const LAST_OF_KIND: usize = base::OPERATIONS - 1;
 
 // How many rows there are, the row of the first rule, the place of the first rule's name.
 pub struct Collected {
@@ -135,9 +144,9 @@ fn put_words(rows: &mut [u16], k: usize, d: Row)
     let name = d.name;
     let second = d.second;
     let third = d.third;
-    put_part(rows, k + 2, name);
-    put_part(rows, k + 4, second);
-    put_part(rows, k + 6, third);
+    put_part(rows, k + symbols::NAME_START, name);
+    put_part(rows, k + symbols::SECOND_START, second);
+    put_part(rows, k + symbols::THIRD_START, third);
 }
 
 // Row i is written, if it has its place: one more row.
@@ -145,11 +154,11 @@ fn put_row(rows: &mut [u16], i: usize, d: Row) -> usize
     requires { ⌜ (i ≤ 512) × Small d ⌝ }
     ensures { λ r. ⌜ Puts (now (rows .entry)) (now (rows .exit)) i r d ⌝ }
 {
-    if i == 512 {
+    if i == base::NAMES {
         return i;
     }
-    let k = 8 * i;
-    if rows.len() < k + 8 {
+    let k = symbols::ROW * i;
+    if rows.len() < k + symbols::ROW {
         return i;
     }
     put_two(rows, k, narrow(d.class), narrow(d.value));
@@ -183,7 +192,7 @@ fn read_spelling(text: &[u8], at: usize, strings: bool) -> Optional
 {
     if strings {
         let w = look(text, at);
-        if w.kind == 259 {
+        if w.kind == words::STRING {
             return found(w);
         }
         return nothing(at);
@@ -197,7 +206,7 @@ fn read_gives(text: &[u8], at: usize) -> Optional
     ensures { λ r. ⌜ Reads (GivesIn (wordsAt (now (text .entry)) at)) (now (text .entry)) at 257 r ⌝ }
 {
     let w = look(text, at);
-    if w.kind == 256 {
+    if w.kind == words::TWICE {
         let t = look(text, w.next);
         return found(t);
     }
@@ -210,7 +219,7 @@ fn read_takes(text: &[u8], at: usize) -> Optional
     ensures { λ r. ⌜ Reads (TakesIn (wordsAt (now (text .entry)) at)) (now (text .entry)) at 257 r ⌝ }
 {
     let w = look(text, at);
-    if w.kind == 40 {
+    if w.kind == words::OPENING {
         let t = look(text, w.next);
         let c = look(text, t.next);
         let part = Part {
@@ -228,8 +237,8 @@ fn read_takes(text: &[u8], at: usize) -> Optional
 fn capped(n: usize) -> usize
     ensures { λ r. ⌜ (r ≤ 65535) × (n ≤ 65535 → r ≡ n) ⌝ }
 {
-    if 65535 < n {
-        return 65535;
+    if base::GREATEST_VALUE < n {
+        return base::GREATEST_VALUE;
     }
     n
 }
@@ -240,7 +249,7 @@ fn read_count(text: &[u8], at: usize, v: usize) -> Valued
     ensures { λ r. ⌜ Counts (now (text .entry)) at v r ⌝ }
 {
     let w = look(text, at);
-    if w.kind == 61 {
+    if w.kind == words::EQUALS {
         let d = look(text, w.next);
         let n = number_of(text, d.start, d.len);
         return Valued {
@@ -314,7 +323,7 @@ fn collect_entries(
         let m = e.value + 1;
         let t = larger(top, m);
         let w = look(text, e.at);
-        if w.kind == 59 {
+        if w.kind == words::SEMICOLON {
             return Entries {
                 at: w.next,
                 count: e.count,
@@ -360,14 +369,14 @@ fn first_of(takes: bool, gives: bool) -> usize
 {
     if takes {
         if gives {
-            return 1024;
+            return ASK_WITH;
         }
-        return 512;
+        return UPDATE_WITH;
     }
     if gives {
-        return 768;
+        return ASK;
     }
-    256
+    UPDATE
 }
 
 // The next number of a kind, which has at most 256.
@@ -375,7 +384,7 @@ fn next_number(seen: Seen, takes: bool, gives: bool) -> usize
     ensures { λ r. ⌜ (r ≤ 65535) × (countOf seen takes gives ≤ 255 → r ≡ firstOf takes gives + countOf seen takes gives) ⌝ }
 {
     let n = count_of(seen, takes, gives);
-    if 255 < n {
+    if LAST_OF_KIND < n {
         return 0;
     }
     first_of(takes, gives) + n
@@ -385,7 +394,7 @@ fn with_one(seen: Seen, takes: bool, gives: bool) -> Seen
     ensures { λ r. ⌜ (countOf seen takes gives ≤ 255 → r ≡ oneMore seen takes gives) ⌝ }
 {
     let n = count_of(seen, takes, gives);
-    if 255 < n {
+    if LAST_OF_KIND < n {
         return seen;
     }
     one_more(seen, takes, gives)
@@ -424,7 +433,7 @@ fn collect_operation(text: &[u8], at: usize, rows: &mut [u16], count: usize, see
     let gives = third.len != 0;
     let value = next_number(seen, takes, gives);
     let d = Row {
-        class: 6,
+        class: symbols::OPERATION,
         value,
         name,
         second,
@@ -457,7 +466,7 @@ fn collect_operations(
         let o = collect_operation(text, i, rows, n, counts);
         let s = o.seen;
         let w = look(text, o.at);
-        if w.kind == 59 {
+        if w.kind == words::SEMICOLON {
             return Operated {
                 at: w.next,
                 count: o.count,
@@ -481,7 +490,7 @@ fn collect_tokens(text: &[u8], at: usize, rows: &mut [u16], count: usize, state:
     ensures { λ r. ⌜ ASection TokensIn (now (text .entry)) (now (rows .entry)) (now (rows .exit)) at count state r ⌝ }
 {
     let w = look(text, at);
-    if w.kind == 261 {
+    if w.kind == words::OUTPUT {
         return collect_both(text, w.next, rows, count, state);
     }
     collect_inputs(text, at, rows, count, state)
@@ -493,7 +502,7 @@ fn collect_both(text: &[u8], at: usize, rows: &mut [u16], count: usize, state: S
 {
     let seen = state.seen;
     let v = larger(state.input, state.output);
-    let e = collect_listed(text, at, rows, count, 3, true, v);
+    let e = collect_listed(text, at, rows, count, symbols::BOTH, true, v);
     let input = larger(state.input, e.top);
     let output = larger(state.output, e.top);
     let after = State {
@@ -514,7 +523,7 @@ fn collect_inputs(text: &[u8], at: usize, rows: &mut [u16], count: usize, state:
     ensures { λ r. ⌜ ASection InputsIn (now (text .entry)) (now (rows .entry)) (now (rows .exit)) at count state r ⌝ }
 {
     let seen = state.seen;
-    let e = collect_listed(text, at, rows, count, 1, true, state.input);
+    let e = collect_listed(text, at, rows, count, symbols::INPUT, true, state.input);
     let input = larger(state.input, e.top);
     let after = State {
         input,
@@ -541,7 +550,7 @@ fn collect_outputs(
     ensures { λ r. ⌜ ASection OutputsIn (now (text .entry)) (now (rows .entry)) (now (rows .exit)) at count state r ⌝ }
 {
     let seen = state.seen;
-    let e = collect_listed(text, at, rows, count, 2, true, state.output);
+    let e = collect_listed(text, at, rows, count, symbols::OUTPUT, true, state.output);
     let output = larger(state.output, e.top);
     let after = State {
         input: state.input,
@@ -562,7 +571,7 @@ fn collect_errors(text: &[u8], at: usize, rows: &mut [u16], count: usize, state:
     ensures { λ r. ⌜ ASection ErrorsIn (now (text .entry)) (now (rows .entry)) (now (rows .exit)) at count state r ⌝ }
 {
     let seen = state.seen;
-    let e = collect_listed(text, at, rows, count, 4, false, state.error);
+    let e = collect_listed(text, at, rows, count, symbols::ERROR, false, state.error);
     let error = larger(state.error, e.top);
     let after = State {
         input: state.input,
@@ -589,14 +598,14 @@ fn collect_type(text: &[u8], at: usize, rows: &mut [u16], count: usize, state: S
     };
     let none = Part { start: 0, len: 0 };
     let d = Row {
-        class: 5,
+        class: symbols::TYPE,
         value: 0,
         name,
         second: none,
         third: none,
     };
     let c = put_row(rows, count, d);
-    let e = collect_listed(text, w.next, rows, c, 8 + count, false, 0);
+    let e = collect_listed(text, w.next, rows, c, symbols::VALUES + count, false, 0);
     Sectioned {
         at: e.at,
         count: e.count,
@@ -641,10 +650,10 @@ fn behind_semicolon(text: &[u8], at: usize) -> usize
     let mut i = at;
     loop {
         let w = look(text, i);
-        if w.kind == 59 {
+        if w.kind == words::SEMICOLON {
             return w.next;
         }
-        if w.kind < 2 {
+        if w.kind <= words::LAST {
             return i;
         }
         i = w.next;
@@ -671,7 +680,7 @@ fn collect_operators(
     };
     let none = Part { start: 0, len: 0 };
     let d = Row {
-        class: OPERATORS,
+        class: symbols::OPERATORS,
         value: first.start,
         name,
         second: none,
@@ -699,11 +708,11 @@ fn collect_section(
     let w = look(text, at);
     let kind = w.kind;
     match kind {
-        260 => collect_tokens(text, w.next, rows, count, state),
-        261 => collect_outputs(text, w.next, rows, count, state),
-        262 => collect_errors(text, w.next, rows, count, state),
-        263 => collect_type(text, w.next, rows, count, state),
-        257 => collect_operators(text, w.next, rows, count, state),
+        words::INPUT => collect_tokens(text, w.next, rows, count, state),
+        words::OUTPUT => collect_outputs(text, w.next, rows, count, state),
+        words::ERROR => collect_errors(text, w.next, rows, count, state),
+        words::TYPE => collect_type(text, w.next, rows, count, state),
+        words::NAME => collect_operators(text, w.next, rows, count, state),
         _ => collect_mechanism(text, w.next, rows, count, state),
     }
 }
@@ -718,7 +727,7 @@ fn collect_sections(text: &[u8], at: usize, rows: &mut [u16], count: usize, stat
     let mut sofar = state;
     loop {
         let w = look(text, i);
-        if w.kind == 265 {
+        if w.kind == words::RULES {
             return Spot { at: i, count: n };
         }
         let x = collect_section(text, i, rows, n, sofar);
@@ -751,7 +760,7 @@ fn collect_rule(text: &[u8], at: usize, rows: &mut [u16], count: usize, k: usize
     let second = Part { start: 0, len: 0 };
     let third = g.part;
     let d = Row {
-        class: 7,
+        class: symbols::RULE,
         value: k,
         name,
         second,
@@ -772,7 +781,7 @@ fn collect_rules(text: &[u8], at: usize, rows: &mut [u16], count: usize) -> usiz
     loop {
         let r = collect_rule(text, i, rows, n, n - count);
         let w = look(text, r.at);
-        if w.kind != 257 {
+        if w.kind != words::NAME {
             return r.count;
         }
         if r.at <= i {

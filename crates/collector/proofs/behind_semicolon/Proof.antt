@@ -25,7 +25,7 @@ returns : tie.Need-returns Inv-loop μ-loop
 returns c = skip-found (c .before .before .before .loop .inv .0) (c .before .before .look .ensures) (c .if1 .taken) (c .before .before .before .loop .inv .2)
 
 returns-2 : tie.Need-returns-2 Inv-loop μ-loop
-returns-2 c = skip-lost (c .before .before .before .before .before .loop .inv .0) (c .before .before .before .before .before .loop .inv .1) (c .before .before .before .before .look .ensures) (c .if2 .taken) (c .before .before .before .before .before .loop .inv .2)
+returns-2 c = skip-lost (c .before .before .before .before .before .loop .inv .0) (c .before .before .before .before .before .loop .inv .1) (c .before .before .before .before .look .ensures) (omega (arith, c .if2 .taken)) (c .before .before .before .before .before .loop .inv .2)
 
 loop-less : tie.Need-loop-less Inv-loop μ-loop
 loop-less c = omega (arith, c .before .before .before .before .look .ensures .moves (omega (arith, c .if2 .left)), c .before .before .before .before .look .ensures .high)
