@@ -317,30 +317,25 @@ fn collect_entries(
     let mut i = at;
     let mut n = count;
     let mut next = v;
-    let mut top: usize = 0;
+    let mut most: usize = 0;
     loop {
         let e = collect_entry(text, i, rows, n, class, strings, next);
         let m = e.value + 1;
-        let t = larger(top, m);
+        let top = larger(most, m);
         let w = look(text, e.at);
+        let count = e.count;
         if w.kind == words::SEMICOLON {
-            return Entries {
-                at: w.next,
-                count: e.count,
-                top: t,
-            };
+            let at = w.next;
+            return Entries { at, count, top };
         }
         if e.at <= i {
-            return Entries {
-                at: e.at,
-                count: e.count,
-                top: t,
-            };
+            let at = e.at;
+            return Entries { at, count, top };
         }
         i = e.at;
-        n = e.count;
+        n = count;
         next = m;
-        top = t;
+        most = top;
     }
 }
 

@@ -14,10 +14,10 @@ use Rattle.collector.proofs.collect_entries.Statement.{statement}
 use Rattle.collector.proofs.collect_entries.Tie as tie
 
 abbrev Inv-loop : tie.InvT-loop
-Inv-loop text at rows₀ count class strings v i₀ n₀ next₀ top₀ rows i n next top = (at ≤ i) × (i ≤ length text) × (n ≤ 512) × (length rows ≡ length rows₀) × ((rows′ : List ℕ) (r : Entries) → SomeEntries (EntriesIn strings next (wordsAt text i)) text rows rows′ i n class top r → SomeEntries (EntriesIn strings v (wordsAt text at)) text rows₀ rows′ at count class 0 r)
+Inv-loop text at rows₀ count class strings v i₀ n₀ next₀ most₀ rows i n next most = (at ≤ i) × (i ≤ length text) × (n ≤ 512) × (length rows ≡ length rows₀) × ((rows′ : List ℕ) (r : Entries) → SomeEntries (EntriesIn strings next (wordsAt text i)) text rows rows′ i n class most r → SomeEntries (EntriesIn strings v (wordsAt text at)) text rows₀ rows′ at count class 0 r)
 
 abbrev μ-loop : tie.MeasureT-loop
-μ-loop text at rows₀ count class strings v i₀ n₀ next₀ top₀ rows i n next top = length text - i
+μ-loop text at rows₀ count class strings v i₀ n₀ next₀ most₀ rows i n next most = length text - i
 
 loop-holds : tie.Need-loop-holds Inv-loop μ-loop
 loop-holds c = (omega arith, omega arith, omega arith, refl, λ rows′ r e. e)
