@@ -14,7 +14,8 @@ use Rattle.base.specs.Common.{if_then_else_}
 use Rattle.collector.specs.Collecting.{optionIn}
 use Rattle.collector.specs.declared.Part.{Part}
 use Rattle.grammar.specs.Derived.{Took, Not, Reference, by-name, by-string}
-use Rattle.reader.proofs.Laws.{word-length}
+use Rattle.places.proofs.Heres as heres
+use Rattle.reader.proofs.Laws.{here-next, word-length}
 use Rattle.reader.specs.Answers.{Here}
 use Rattle.scanner.specs.Next.{asWord}
 use Rattle.scanner.specs.declared.WordAt.{WordAt}
@@ -111,29 +112,29 @@ start-again {text} {at} {w} n =
     ap (λ (x : Word). wordsAt text (x .start)) (sym (n .head))
     ∙ (ap (λ (s : List ℕ). wordsFrom 0 i s) (ap (λ (k : ℕ). drop k text) e ∙ sym (drop-drop (i - at) at text)) ∙ a .same)
 
--- What a family takes
+-- What a family takes: the laws of crate places for what `look` promises
 
 taken : {text : List ℕ} {at k : ℕ} {w : WordAt} {v : Word} {ws′ : List Word} → Here text at w → Took k (wordsAt text at) v ws′ → asWord text w ≡ v
 unfolding peek
 taken n t = sym (n .head) ∙ ap peek (t .here)
 
 pub took-kind : {text : List ℕ} {at k : ℕ} {w : WordAt} {v : Word} {ws′ : List Word} → Here text at w → Took k (wordsAt text at) v ws′ → w .kind ≡ k
-took-kind n t = ap (λ (x : Word). x .kind) (taken n t) ∙ t .kind
+took-kind n t = heres.took-kind _ _ _ _ _ _ (here-next n) t
 
 pub took-word : {text : List ℕ} {at k : ℕ} {w : WordAt} {v : Word} {ws′ : List Word} → Here text at w → Took k (wordsAt text at) v ws′ → v ≡ wordOf text k (w .start) (w .len)
 took-word {text} {w = w} n t = sym (taken n t) ∙ ap (λ (i : ℕ). wordOf text i (w .start) (w .len)) (took-kind n t)
 
 pub took-rest : {text : List ℕ} {at k : ℕ} {w : WordAt} {v : Word} {ws′ : List Word} → Here text at w → 2 ≤ k → Took k (wordsAt text at) v ws′ → ws′ ≡ wordsAt text (w .next)
-took-rest n h t = let m = n .more (omega (arith, took-kind n t)) in let g = t .here in cc
+took-rest n h t = heres.took-here _ _ _ _ _ _ h (here-next n) t .behind
 
 pub took-past : {text : List ℕ} {at k : ℕ} {w : WordAt} {v : Word} {ws′ : List Word} → Here text at w → 2 ≤ k → Took k (wordsAt text at) v ws′ → at < w .next
 took-past n h t = n .moves (omega (arith, took-kind n t))
 
 pub not-kind : {text : List ℕ} {at : ℕ} (k : ℕ) {w : WordAt} → Here text at w → Not k (wordsAt text at) → w .kind ≡ k → ⊥
-not-kind k n m e = m (ap (λ (x : Word). x .kind) (n .head) ∙ e)
+not-kind k n m e = heres.not-here _ _ k _ (here-next n) m e
 
 pub next-kind : {text : List ℕ} {at : ℕ} (k : ℕ) {w : WordAt} → Here text at w → peek (wordsAt text at) .kind ≡ k → w .kind ≡ k
-next-kind k n e = sym (ap (λ (x : Word). x .kind) (n .head)) ∙ e
+next-kind k n e = sym (heres.kind-here _ _ _ (here-next n)) ∙ e
 
 -- the same from a list of words that is known to be that
 pub took-at : {k : ℕ} {ws vs : List Word} {v : Word} {ws′ : List Word} → ws ≡ vs → Took k ws v ws′ → Took k vs v ws′
