@@ -1,11 +1,11 @@
 -- The word that the scanner finds at a place is the one that the derivation takes there.
-use mathlib.Core.List.{List, [], _∷_}
+use mathlib.Core.List.{List, _∷_}
 use mathlib.Core.Logic.{_⊎_, inl, inr}
-use mathlib.Core.Path.{_≡_, refl, sym, ap, _∙_}
-use Prim.Native.Nat.{ℕ, zero, suc, _+_, _<_, _≤_}
-use lib.ListN.{length}
+use mathlib.Core.Path.{_≡_, sym, ap, _∙_}
+use Prim.Native.Nat.{ℕ, _≤_}
 use native.Mathlib.Omega.{arith}
 use Rattle.grammar.specs.Derived.{Took, Not, Reference, by-name, by-string}
+use Rattle.reader.proofs.Laws.{head-next}
 use Rattle.scanner.specs.Next.{Next, asWord}
 use Rattle.scanner.specs.declared.WordAt.{WordAt}
 use Rattle.syntax.specs.Reading.{peek}
@@ -16,19 +16,9 @@ pub record Same (text : List ℕ) (w : WordAt) (v : Word) (ws : List Word) : Typ
   pub word : v ≡ asWord text w
   pub behind : ws ≡ wordsAt text (w .next)
 
-two-sides : (n : ℕ) → (2 ≤ n) ⊎ (n < 2)
-two-sides zero = inr (omega arith)
-two-sides (suc zero) = inr (omega arith)
-two-sides (suc (suc n)) = inl (omega arith)
-
 -- the next word is the code's
 pub head-here : (text : List ℕ) (at : ℕ) (w : WordAt) → Next text at w → peek (wordsAt text at) ≡ asWord text w
-unfolding peek
-head-here text at w h = go (two-sides (w .kind))
-  where
-    go : (2 ≤ w .kind) ⊎ (w .kind < 2) → peek (wordsAt text at) ≡ asWord text w
-    go (inl q) = ap peek (h .more q)
-    go (inr q) = ap peek (h .final q)
+head-here text at w h = head-next h
 
 pub kind-here : (text : List ℕ) (at : ℕ) (w : WordAt) → Next text at w → peek (wordsAt text at) .kind ≡ w .kind
 kind-here text at w h = ap (λ (v : Word). v .kind) (head-here text at w h)

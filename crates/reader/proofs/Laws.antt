@@ -167,11 +167,18 @@ pub row-stops : {text : List ℕ} {at : ℕ} {w : WordAt} {r : Out} (j left : �
 unfolding actions
 row-stops j left n e t f = rw (n .head, e) (stops _ t f)
 
+-- the next word is the one that the scanner found
+pub head-next : {text : List ℕ} {at : ℕ} {w : WordAt} → Next text at w → peek (wordsAt text at) ≡ asWord text w
+unfolding peek
+head-next {text} {at} {w} n = first (leb 2 (w .kind)) refl where
+  first : (t : Bool) → leb 2 (w .kind) ≡ t → peek (wordsAt text at) ≡ asWord text w
+  first true e = rw (n .more (leb-true 2 (w .kind) e)) refl
+  first false e = rw (n .final (leb-false 2 (w .kind) e)) refl
+
 -- what `look` gives is `Here`
 pub here : {text : List ℕ} {at : ℕ} {w : WordAt} → at ≤ length text → Next text at w → Here text at w
-unfolding peek
-here {text} {at} {w} h n = record {
-  head = first (leb 2 (w .kind)) refl;
+here h n = record {
+  head = head-next n;
   more = n .more;
   final = n .final;
   moves = n .moves;
@@ -179,10 +186,7 @@ here {text} {at} {w} h n = record {
   low = n .low;
   inside = n .inside h;
   high = n .high h;
-} where
-  first : (t : Bool) → leb 2 (w .kind) ≡ t → peek (wordsAt text at) ≡ asWord text w
-  first true e = rw (n .more (leb-true 2 (w .kind) e)) refl
-  first false e = rw (n .final (leb-false 2 (w .kind) e)) refl
+}
 
 -- and back
 pub here-next : {text : List ℕ} {at : ℕ} {w : WordAt} → Here text at w → Next text at w
