@@ -1,5 +1,6 @@
 -- A program's rules as a row of cells, the processor's own form between resolving and emission. Self-describing, and never longer than the
 -- table but for the end of each choice rule: a program whose table fits 4,096 words has at most 4,096 + 128 cells.
+use mathlib.Core.Bool.{Bool, true, false}
 use mathlib.Core.List.{List, [], _∷_, _++_}
 use Prim.Native.Nat.{ℕ, zero, suc, _+_}
 use lib.ListN.{length}
@@ -65,7 +66,12 @@ cellsStart i [] r = i
 cellsStart i (b ∷ bs) zero = i
 cellsStart i (b ∷ bs) (suc r) = cellsStart (i + length (actsCells (b .body) [])) bs r
 
+-- what a rule is, for its end: 1 a choice rule, 0 a procedure rule
+unfoldable pub sortOf : Bool → ℕ
+sortOf true = 1
+sortOf false = 0
+
 -- all of this file computes where this is unfolded
 unfoldable pub opened : Unit {0}
-unfolding plainCells selectorCells absentCell actCells rulesCells cellsStart
+unfolding plainCells selectorCells absentCell actCells rulesCells cellsStart sortOf
 opened = tt

@@ -32,8 +32,14 @@ pub const OTHERWISE: u16 = 13;
 
 pub const NO_TOKEN: u16 = 14;
 
+// The first number that is none of these.
+pub const PAST: u16 = 15;
+
 // An alternative with j labels is this and j more.
 pub const ALTERNATIVE: u16 = 64;
+
+// Taken off such a cell it leaves the cells before the alternative's actions: itself and its labels.
+pub const PREFIX: u16 = 63;
 
 // The operations, each sort from its first number on.
 pub const UPDATE: u16 = 256;
@@ -43,6 +49,11 @@ pub const UPDATE_WITH: u16 = 512;
 pub const ASK: u16 = 768;
 
 pub const ASK_WITH: u16 = 1024;
+
+// The sorts of rules: a procedure rule and a choice rule.
+pub const PROCEDURE_RULE: u8 = 0;
+
+pub const CHOICE_RULE: u8 = 1;
 
 // The room for a program whose table fits.
 pub const CELLS: usize = 4224;

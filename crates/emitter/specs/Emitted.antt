@@ -11,6 +11,7 @@ use Rattle.program.specs.Program.{Act, Acts, Alts, Other, Rule, ruleOf, bodyOf}
 use Rattle.program.specs.Table.{sizeRules, table}
 use Rattle.program.specs.Accepted.{Oks}
 use Rattle.cells.specs.Cells.{rulesCells}
+unfoldable pub use Rattle.cells.specs.Cells.{sortOf}
 use Rattle.machine.specs.Bytes.{count, bytesOf}
 use Rattle.emitter.specs.Stands.{IsAll}
 use Rattle.chains.specs.Marks.{marksRule}
@@ -36,11 +37,6 @@ unfoldable mutual
   pub FewLabelsOther : Other → Type 0
   FewLabelsOther absent = Unit {0}
   FewLabelsOther (otherwise b) = FewLabelsAll b
-
--- what a rule is, for its end: 1 a choice rule, 0 a procedure rule
-unfoldable pub sortOf : Bool → ℕ
-sortOf true = 1
-sortOf false = 0
 
 -- the cells, from the first on, are those of this program, and `sorts` tells its choice rules
 pub record CellsOf (cells sorts : List ℕ) (rules : ℕ) (prog : List Rule) : Type 0 where

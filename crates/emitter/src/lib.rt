@@ -5,9 +5,16 @@ ghost use mathlib.Core.List.{[], _∷_};
 ghost use Prim.Native.Nat.{ℕ, _+_, _*_, _-_, _<_, _≤_};
 ghost use lib.ListN.{length, getD, replicate, set};
 ghost use Rattle.emitter.specs.Words.{words, setWord, puts, cut};
-ghost use Rattle.emitter.specs.Heads.{firsts, plainOf, plainAt, chooses, insOf, selOf, selAt, labelsIn, labelsAt, startOf, calledBy, calledAt, linkAt, anchor, behind};
+ghost use Rattle.emitter.specs.Heads.{firsts, one, two, three, plainOf, plainAt, chooses, insOf, selOf, selAt, labelsIn, labelsAt, startOf, calledBy, calledAt, linkAt, anchor, behind};
 ghost use Rattle.emitter.specs.Work.{Room, Moved, Passed, ItemDone, PatchDone, ListDone, ActDone, CycleDone, LabelsDone, TableDone, AltsDone, OtherDone, AbsentDone};
 ghost use Rattle.emitter.specs.Emitted.{Emits, RuleDone, PlaceDone, RulesDone, zeroedBytes};
+
+// Numbers as words and answers are counted here.
+const END_CHOICE: usize = machine::END_CHOICE as usize;
+
+const RETURN: usize = machine::RETURN as usize;
+
+const TOO_SHORT: usize = base::TOO_SHORT as usize;
 
 // Writing words: past the last whole word nothing is written.
 
@@ -168,72 +175,64 @@ pub struct Item {
     pub d: u16,
 }
 
+fn one(a: u16) -> Item
+    ensures { λ r. ⌜ r ≡ one a ⌝ }
+{
+    Item {
+        cells: 1,
+        count: 1,
+        a: a,
+        b: 0,
+        d: 0,
+    }
+}
+
+fn two(a: u16, b: u16) -> Item
+    ensures { λ r. ⌜ r ≡ two a b ⌝ }
+{
+    Item {
+        cells: 2,
+        count: 2,
+        a: a,
+        b: b,
+        d: 0,
+    }
+}
+
+fn three(a: u16, b: u16, d: u16) -> Item
+    ensures { λ r. ⌜ r ≡ three a b d ⌝ }
+{
+    Item {
+        cells: 2,
+        count: 3,
+        a: a,
+        b: b,
+        d: d,
+    }
+}
+
 fn plain_of(k: u16, v: u16, to: u16) -> Item
     ensures { λ r. ⌜ r ≡ plainOf k v to ⌝ }
 {
-    if k < 256 {
-        if k == 4 {
-            return Item {
-                cells: 1,
-                count: 1,
-                a: k,
-                b: 0,
-                d: 0,
-            };
+    if k < cells::UPDATE {
+        if k == cells::ANY {
+            return one(k);
         }
-        if k == 9 {
-            return Item {
-                cells: 1,
-                count: 1,
-                a: k,
-                b: 0,
-                d: 0,
-            };
+        if k == cells::BACK {
+            return one(k);
         }
-        if k == 8 {
-            return Item {
-                cells: 2,
-                count: 2,
-                a: k,
-                b: to,
-                d: 0,
-            };
+        if k == cells::CALL {
+            return two(k, to);
         }
-        if k == 10 {
-            return Item {
-                cells: 2,
-                count: 3,
-                a: k,
-                b: v,
-                d: 9,
-            };
+        if k == cells::GIVE {
+            return three(k, v, machine::RETURN);
         }
-        Item {
-            cells: 2,
-            count: 2,
-            a: k,
-            b: v,
-            d: 0,
-        }
-    } else {
-        if k < 512 {
-            Item {
-                cells: 1,
-                count: 1,
-                a: k,
-                b: 0,
-                d: 0,
-            }
-        } else {
-            Item {
-                cells: 2,
-                count: 3,
-                a: 13,
-                b: v,
-                d: k,
-            }
-        }
+        return two(k, v);
     }
+    if k < cells::UPDATE_WITH {
+        return one(k);
+    }
+    three(machine::SET_PARAMETER, v, k)
 }
 
 fn put_some(out: &mut [u8], at: usize, n: usize, a: u16, b: u16, d: u16)
@@ -271,7 +270,7 @@ fn emit_plain(
     let r = wide(v);
     let w = plain_of(k, v, start_at(slots, r));
     put_some(out, at, w.count, w.a, w.b, w.d);
-    call_at(slots, k, 8, r, at + 1);
+    call_at(slots, k, cells::CALL, r, at + 1);
     Spot {
         p: least(p + w.cells, cells.len()),
         at: at + w.count,
@@ -282,10 +281,14 @@ fn emit_plain(
 fn labels_in(k: u16) -> usize
     ensures { λ r. ⌜ (r ≡ labelsIn k) × (r < 192) ⌝ }
 {
-    if k < 64 {
+    if k < cells::ALTERNATIVE {
         return 0;
     }
-    if k < 256 { wide(k - 64) } else { 0 }
+    if k < cells::UPDATE {
+        wide(k - cells::ALTERNATIVE)
+    } else {
+        0
+    }
 }
 
 // The labels of the alternative at p, 0: there is none.
@@ -301,7 +304,7 @@ fn labels_at(cells: &[u16], p: usize) -> usize
 fn sel_of(k: u16, v: u16, to: u16) -> Item
     ensures { λ r. ⌜ r ≡ selOf k v to ⌝ }
 {
-    if k == 7 {
+    if k == cells::BY_TOKEN {
         return Item {
             cells: 1,
             count: 0,
@@ -310,32 +313,13 @@ fn sel_of(k: u16, v: u16, to: u16) -> Item
             d: 0,
         };
     }
-    if k == 11 {
-        return Item {
-            cells: 2,
-            count: 2,
-            a: 8,
-            b: to,
-            d: 0,
-        };
+    if k == cells::BY_RULE {
+        return two(machine::CALL, to);
     }
-    if k < 1024 {
-        Item {
-            cells: 1,
-            count: 1,
-            a: k,
-            b: 0,
-            d: 0,
-        }
-    } else {
-        Item {
-            cells: 2,
-            count: 3,
-            a: 13,
-            b: v,
-            d: k,
-        }
+    if k < cells::ASK_WITH {
+        return one(k);
     }
+    three(machine::SET_PARAMETER, v, k)
 }
 
 fn emit_sel(
@@ -355,7 +339,7 @@ fn emit_sel(
     let r = wide(v);
     let w = sel_of(k, v, start_at(slots, r));
     put_some(out, at, w.count, w.a, w.b, w.d);
-    call_at(slots, k, 11, r, at + 1);
+    call_at(slots, k, cells::BY_RULE, r, at + 1);
     Spot {
         p: least(p + w.cells, cells.len()),
         at: at + w.count,
@@ -407,7 +391,7 @@ fn emit_table(cells: &[u16], out: &mut [u8], newest: usize, from: usize, end: us
         let older = older_at(out, j);
         l = less(l, 2 * n);
         emit_labels(cells, head + 1, n, out, l, behind(older, from));
-        put_word(out, j - 1, 1);
+        put_word(out, j - 1, machine::JUMP_FORWARD);
         j = older;
     }
 }
@@ -416,19 +400,23 @@ fn emit_table(cells: &[u16], out: &mut [u8], newest: usize, from: usize, end: us
 fn chooses(k: u16) -> usize
     ensures { λ r. ⌜ r ≡ chooses k ⌝ }
 {
-    if k == 7 {
+    if k == cells::BY_TOKEN {
         return 1;
     }
-    if k == 11 {
+    if k == cells::BY_RULE {
         return 1;
     }
-    if k < 768 { 0 } else { 1 }
+    if k < cells::ASK { 0 } else { 1 }
 }
 
 fn ins_of(k: u16) -> u16
     ensures { λ r. ⌜ r ≡ insOf k ⌝ }
 {
-    if k == 7 { 7 } else { 11 }
+    if k == cells::BY_TOKEN {
+        machine::INPUT_CHOICE
+    } else {
+        machine::CHOICE
+    }
 }
 
 // What stands for no otherwise: the first label's token and back to its alternative, or the end of the choice.
@@ -447,16 +435,16 @@ fn emit_absent(
 {
     let next = least(p + 1, cells.len());
     let k = cell(cells, p);
-    if k == 14 {
-        put_two(out, at, 3, v);
-        put_span(out, at + 2, 2, at + 3, from);
+    if k == cells::NO_TOKEN {
+        put_two(out, at, machine::INPUT, v);
+        put_span(out, at + 2, machine::JUMP_BACK, at + 3, from);
         return Spot {
             p: next,
             at: at + 4,
             exit: x,
         };
     }
-    put_one(out, at, 12);
+    put_one(out, at, END_CHOICE);
     Spot {
         p: next,
         at: at + 1,
@@ -480,7 +468,7 @@ fn emit_list(
     let mut l = at;
     let mut e = x;
     let mut k = cell(cells, q);
-    while k != 0 {
+    while k != cells::END {
         let s = emit_act(cells, slots, q, out, l, e);
         q = s.p;
         l = s.at;
@@ -507,15 +495,15 @@ fn emit_act(
     ensures { λ r. ⌜ Passed (now (cells .entry)) p at (r .p) (r .at) × (r .exit < 2000000000) ⌝ }
 {
     let k = cell(cells, p);
-    if k == 1 {
-        put_two(out, at, 1, low(x));
+    if k == cells::EXIT {
+        put_two(out, at, machine::JUMP_FORWARD, low(x));
         return Spot {
             p: p + 1,
             at: at + 2,
             exit: at + 1,
         };
     }
-    if k == 2 {
+    if k == cells::CYCLE {
         return emit_cycle(cells, slots, p, out, at, x);
     }
     if chooses(k) == 1 {
@@ -539,7 +527,7 @@ fn emit_cycle(
 {
     let s = emit_list(cells, slots, p + 1, out, at, 0);
     let end = s.at + 2;
-    put_span(out, s.at, 2, s.at + 1, at);
+    put_span(out, s.at, machine::JUMP_BACK, s.at + 1, at);
     patch(out, s.exit, end, DISTANCE);
     Spot {
         p: s.p,
@@ -609,7 +597,7 @@ fn emit_other(
     ensures { λ r. ⌜ OtherDone (now (cells .entry)) p (now (out .entry)) (now (out .exit)) at x v from (now (slots .entry)) (now (slots .exit)) (r .p) (r .at) (r .exit) ⌝ }
     ensures { λ r. ⌜ Moved (now (cells .entry)) p (at + 4) (r .p) (r .at) × (r .exit < 2000000000) ⌝ }
 {
-    if cell(cells, p) == 13 {
+    if cell(cells, p) == cells::OTHERWISE {
         return emit_list(cells, slots, p + 1, out, at, x);
     }
     emit_absent(cells, p, out, at, x, v, from)
@@ -695,8 +683,8 @@ fn emit_rule(
 {
     let s = emit_list(cells, slots, p, out, at, 0);
     patch(out, s.exit, s.at, DISTANCE);
-    if sort == 0 {
-        put_one(out, s.at, 9);
+    if sort == cells::PROCEDURE_RULE {
+        put_one(out, s.at, RETURN);
         return Spot {
             p: s.p,
             at: s.at + 1,
@@ -749,29 +737,35 @@ pub struct Answer {
 pub fn emit(cells: &[u16], sorts: &[u8], rules: usize, table: &mut [u8]) -> Answer
     ensures { λ r. ⌜ Emits (now (cells .entry)) (now (sorts .entry)) rules (now (table .entry)) (now (table .exit)) (r .fault) (r .size) ⌝ }
 {
-    if 65536 < cells.len() {
-        zero_from(table, 0);
-        return Answer { fault: 20, size: 0 };
-    }
-    if 128 < rules {
-        zero_from(table, 0);
-        return Answer { fault: 20, size: 0 };
-    }
-    let mut slots = [0usize; 128];
-    // no word is written past the room
-    let end = 2 * least(table.len() / 2, 4096);
-    let size = emit_rules(cells, sorts, rules, &mut slots, &mut table[..end]);
-    if 4096 < size {
+    if base::WORD_VALUES < cells.len() {
         zero_from(table, 0);
         return Answer {
-            fault: 20,
+            fault: TOO_SHORT,
+            size: 0,
+        };
+    }
+    if base::RULES < rules {
+        zero_from(table, 0);
+        return Answer {
+            fault: TOO_SHORT,
+            size: 0,
+        };
+    }
+    let mut slots = [0usize; base::RULES];
+    // no word is written past the room
+    let end = 2 * least(table.len() / 2, base::TABLE_WORDS);
+    let size = emit_rules(cells, sorts, rules, &mut slots, &mut table[..end]);
+    if base::TABLE_WORDS < size {
+        zero_from(table, 0);
+        return Answer {
+            fault: TOO_SHORT,
             size: size,
         };
     }
     if table.len() / 2 < size {
         zero_from(table, 0);
         return Answer {
-            fault: 20,
+            fault: TOO_SHORT,
             size: size,
         };
     }
