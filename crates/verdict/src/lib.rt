@@ -12,71 +12,53 @@ ghost use Rattle.program.specs.Program.{Rule};
 ghost use Rattle.finishing.specs.Test.{some-below};
 ghost use Rattle.verdict.specs.Told.{member, someIn, knownIn, Simple, Giving, Then, Either, Cycled, Calling, Placed, pastCell, takes, heads, LeafTold, ActTold, ActsTold, AltsTold, ValuedTold, Collected, RuleTold, rowOf, sought, GatheredTold, NotedTold, NotesTold, Joined, TriedTold, LookedTold, SweepTold, LearntTold, alike, Puts, Widened, Closure, Arrows, Verdict};
 
-// First cells, as crate `cells` has them: the end of a list of actions.
-const END: usize = 0;
+// First cells as a number that places are counted in.
+const END: usize = cells::END as usize;
 
-// An exit.
-const EXIT: usize = 1;
+const EXIT: usize = cells::EXIT as usize;
 
-// A cycle.
-const CYCLE: usize = 2;
+const CYCLE: usize = cells::CYCLE as usize;
 
-// `?`, any token.
-const ANY: usize = 4;
+const ANY: usize = cells::ANY as usize;
 
-// An output.
-const EMIT: usize = 5;
+const EMIT: usize = cells::EMIT as usize;
 
-// An error.
-const ERROR: usize = 6;
+const ERROR: usize = cells::ERROR as usize;
 
-// A choice by the present token.
-const BY_TOKEN: usize = 7;
+const BY_TOKEN: usize = cells::BY_TOKEN as usize;
 
-// A call.
-const CALL: usize = 8;
+const CALL: usize = cells::CALL as usize;
 
-// A return without a value.
-const BACK: usize = 9;
+const BACK: usize = cells::BACK as usize;
 
-// A `>>` with a value.
-const GIVE: usize = 10;
+const GIVE: usize = cells::GIVE as usize;
 
-// A choice by a rule's value.
-const BY_RULE: usize = 11;
+const BY_RULE: usize = cells::BY_RULE as usize;
 
-// Otherwise.
-const OTHERWISE: usize = 13;
+const OTHERWISE: usize = cells::OTHERWISE as usize;
 
-// An alternative; the number of its labels is added.
-const ALTERNATIVE: usize = 64;
+const ALTERNATIVE: usize = cells::ALTERNATIVE as usize;
 
-// Taken off such a cell it leaves the cells before the alternative's actions: itself and its labels.
-const PREFIX: usize = 63;
+const PREFIX: usize = cells::PREFIX as usize;
 
-// Operations by their numbers: the first update.
-const UPDATE: usize = 256;
+const UPDATE: usize = cells::UPDATE as usize;
 
-// The first update with a constant.
-const UPDATE_WITH: usize = 512;
+const UPDATE_WITH: usize = cells::UPDATE_WITH as usize;
 
-// The first choice operation.
-const ASK: usize = 768;
+const ASK: usize = cells::ASK as usize;
 
-// The first choice operation with a constant.
-const ASK_WITH: usize = 1024;
+const ASK_WITH: usize = cells::ASK_WITH as usize;
 
-// "128 rules".
-const MOST_RULES: usize = 128;
+// The bits of a word, and of the two words of a set.
+const BITS: usize = 64;
 
-// "64 labels a choice".
-const MOST_LABELS: usize = 64;
+const SET_BITS: usize = 2 * BITS;
 
-// Values asked for at once, a bit each of two words.
-const MOST_WANTED: usize = 128;
+// Values asked for at once, a bit each of a set.
+const MOST_WANTED: usize = SET_BITS;
 
 // The table of calls, two words for each rule.
-const CALL_WORDS: usize = 256;
+const CALL_WORDS: usize = 2 * base::RULES;
 
 // A set of rules, a bit for each: rules 0 to 63 in lo, 64 to 127 in hi.
 pub struct Rules {
@@ -105,11 +87,11 @@ pub struct Learnt {
 fn has(s: Rules, r: usize) -> bool
     ensures { λ b. ⌜ b ≡ member s r ⌝ }
 {
-    if r < 64 {
+    if r < BITS {
         return (s.lo >> r) & 1 == 1;
     }
-    if r < 128 {
-        return (s.hi >> (r - 64)) & 1 == 1;
+    if r < SET_BITS {
+        return (s.hi >> (r - BITS)) & 1 == 1;
     }
     false
 }
@@ -117,16 +99,16 @@ fn has(s: Rules, r: usize) -> bool
 fn with(s: Rules, r: usize) -> Rules
     ensures { λ t. ⌜ ((k : ℕ) → k < 128 → member t k ≡ (eqb r k || member s k)) ⌝ }
 {
-    if r < 64 {
+    if r < BITS {
         return Rules {
             lo: s.lo | (1 << r),
             hi: s.hi,
         };
     }
-    if r < 128 {
+    if r < SET_BITS {
         return Rules {
             lo: s.lo,
-            hi: s.hi | (1 << (r - 64)),
+            hi: s.hi | (1 << (r - BITS)),
         };
     }
     s
@@ -571,7 +553,7 @@ fn valued(cells: &[u16], at: usize, known: Learnt, facts: &[u16], wanted: &[u16]
     requires { ⌜ (at ≤ length (now cells)) × (2 * known .count ≤ length (now facts)) ⌝ }
     ensures { λ w. ⌜ ValuedTold (now (cells .entry)) at (knownIn (known .passed) (now (facts .entry)) (known .count)) (now (wanted .entry)) r w ⌝ }
 {
-    let mut labels = [0u16; MOST_LABELS];
+    let mut labels = [0u16; base::LABELS];
     let mut n = 0;
     let mut w = simple(false, false, false, at);
     let mut i = at;
@@ -938,7 +920,7 @@ fn decided(cells: &[u16], starts: &[u16], n: usize, facts: &mut [u16]) -> bool
 pub fn verdict(cells: &[u16], starts: &[u16], count: usize, facts: &mut [u16]) -> bool
     ensures { λ b. ⌜ Verdict (now (cells .entry)) (now (starts .entry)) count (length (now (facts .entry))) b ⌝ }
 {
-    if count <= MOST_RULES {
+    if count <= base::RULES {
         return decided(cells, starts, count, facts);
     }
     false
