@@ -419,25 +419,23 @@ fn ins_of(k: u16) -> u16
     }
 }
 
+// Where alternatives begin: their first label, and their place in the table.
+pub struct Opening {
+    pub label: u16,
+    pub from: usize,
+}
+
 // What stands for no otherwise: the first label's token and back to its alternative, or the end of the choice.
-fn emit_absent(
-    cells: &[u16],
-    p: usize,
-    out: &mut [u8],
-    at: usize,
-    x: usize,
-    v: u16,
-    from: usize,
-) -> Spot
+fn emit_absent(cells: &[u16], p: usize, out: &mut [u8], at: usize, x: usize, first: Opening) -> Spot
     requires { ⌜ Room (now cells) p 0 × (at < 1100000000) ⌝ }
-    ensures { λ r. ⌜ ((getD (now (cells .entry)) p 0 ≡ 13 → ⊥) → AbsentDone (now (cells .entry)) p (now (out .entry)) (now (out .exit)) at v from (r .p) (r .at)) ⌝ }
+    ensures { λ r. ⌜ ((getD (now (cells .entry)) p 0 ≡ 13 → ⊥) → AbsentDone (now (cells .entry)) p (now (out .entry)) (now (out .exit)) at (first .label) (first .from) (r .p) (r .at)) ⌝ }
     ensures { λ r. ⌜ Moved (now (cells .entry)) p (at + 4) (r .p) (r .at) × (r .exit ≡ x) ⌝ }
 {
     let next = least(p + 1, cells.len());
     let k = cell(cells, p);
     if k == cells::NO_TOKEN {
-        put_two(out, at, machine::INPUT, v);
-        put_span(out, at + 2, machine::JUMP_BACK, at + 3, from);
+        put_two(out, at, machine::INPUT, first.label);
+        put_span(out, at + 2, machine::JUMP_BACK, at + 3, first.from);
         return Spot {
             p: next,
             at: at + 4,
@@ -590,17 +588,16 @@ fn emit_other(
     out: &mut [u8],
     at: usize,
     x: usize,
-    v: u16,
-    from: usize,
+    first: Opening,
 ) -> Spot
     requires { ⌜ Room (now cells) p at × (x < 2000000000) ⌝ }
-    ensures { λ r. ⌜ OtherDone (now (cells .entry)) p (now (out .entry)) (now (out .exit)) at x v from (now (slots .entry)) (now (slots .exit)) (r .p) (r .at) (r .exit) ⌝ }
+    ensures { λ r. ⌜ OtherDone (now (cells .entry)) p (now (out .entry)) (now (out .exit)) at x (first .label) (first .from) (now (slots .entry)) (now (slots .exit)) (r .p) (r .at) (r .exit) ⌝ }
     ensures { λ r. ⌜ Moved (now (cells .entry)) p (at + 4) (r .p) (r .at) × (r .exit < 2000000000) ⌝ }
 {
     if cell(cells, p) == cells::OTHERWISE {
         return emit_list(cells, slots, p + 1, out, at, x);
     }
-    emit_absent(cells, p, out, at, x, v, from)
+    emit_absent(cells, p, out, at, x, first)
 }
 
 fn emit_choice(
@@ -627,16 +624,11 @@ fn emit_choice(
     patch(out, here + 1, table, DISTANCE);
     put_one(out, table, z.labels);
     emit_table(cells, out, z.end, from, rest);
-    let s = emit_other(
-        cells,
-        slots,
-        z.p,
-        out,
-        rest,
-        z.exit,
-        cell(cells, first + 1),
-        from,
-    );
+    let opening = Opening {
+        label: cell(cells, first + 1),
+        from: from,
+    };
+    let s = emit_other(cells, slots, z.p, out, rest, z.exit, opening);
     patch(out, z.end, s.at, DISTANCE);
     s
 }

@@ -360,7 +360,7 @@ emit-choice-emit-table-requires t c κs = let P = c .before .before .before .bef
 
 -- src/lib.rt:649:21
 emit-choice-add-cell : (t : ℕ) → emit-choice-lts.Need-add-cell (emit-choice-claims t) (emit-choice-at t) emit-choice.Post
-emit-choice-add-cell t c = let P = c .before .before .before .before .before .before .before .before .before .before .before .before .before .before .before .before .before .before .before .before .before .before .before .before .before .before .before .before .before .before .before .before .before .before .before .before .before .before .pre .1 .0 in let D = c .before .before .before .before .before .before .before .before .before .before .before .before .before .before .before .before .before .before .before .before .before .before .before .before .before .before .before .before .before .before .emit-sel .ensures .0 in omega (arith, D .inside)
+emit-choice-add-cell t c = let P = c .before .before .before .before .before .before .before .before .before .before .before .before .before .before .before .before .before .before .before .before .before .before .before .before .before .before .before .before .before .before .before .before .before .before .before .before .pre .1 .0 in let D = c .before .before .before .before .before .before .before .before .before .before .before .before .before .before .before .before .before .before .before .before .before .before .before .before .before .before .before .before .emit-sel .ensures .0 in omega (arith, D .inside)
 
 -- src/lib.rt:649:9
 emit-choice-cell-requires-2 : (t : ℕ) → emit-choice-lts.Need-cell-requires-2 (emit-choice-claims t) (emit-choice-at t) emit-choice.Post
@@ -385,8 +385,8 @@ emit-choice-same-length-2 t c = c .before .before .patch2 .kept .0 ∙ (c .befor
 -- src/lib.rt:618:1
 emit-choice-returns : (t : ℕ) → emit-choice-lts.Need-returns (emit-choice-claims t) (emit-choice-at t) emit-choice.Post
 emit-choice-returns t c = let P = c .before .before .before .before .before .before .before .before .before .before .before .before .before .before .before .before .before .before .before .before .before .before .before .before .before .before .before .before .before .before .before .before .before .before .before .before .before .before .before .before .before .before .before .before .before .before .before .before .pre .1 .0 in let D = c .before .before .before .before .before .before .before .before .before .before .before .before .before .before .before .before .before .before .before .before .before .before .before .before .before .before .before .before .before .before .before .before .before .before .before .before .before .before .before .before .emit-sel .ensures .0 in let M = c .before .before .before .before .before .before .before .before .before .before .before .before .before .before .before .before .before .before .before .before .before .before .before .before .before .before .before .before .before .emit-alts .ensures .1 .0 in let O = c .before .before .before .before .before .before .before .before .emit-other .ensures .1 .0 in let a = c .before .before .before .before .before .before .before .before .before .before .before .before .before .before .before .before .before .before .before .before .before .before .before .before .before .before .before .before .before .before .before .before .before .before .before .before .before .before .before .before .before .before .before .before .before .before .before .before .args in (
-  choice-join (a .cells .now) (a .p) (a .out .now) _ _ _ _ _ _ _ _ (a .at) (a .x) (a .slots .now) _ _ _ (c .before .before .before .before .before .before .before .before .before .before .before .before .before .before .before .before .before .before .before .before .before .before .before .before .before .before .before .before .before .before .before .before .before .before .before .before .before .before .before .before .emit-sel .result .p) (c .before .before .before .before .before .before .before .before .before .before .before .before .before .before .before .before .before .before .before .before .before .before .before .before .before .before .before .before .before .before .before .before .before .before .before .before .before .before .before .before .emit-sel .result .at) (c .before .before .before .before .before .before .before .before .before .before .before .before .before .before .before .before .before .before .before .before .before .before .before .before .before .before .before .before .before .before .before .before .before .before .before .before .before .before .before .before .before .before .before .ins-of .result) (c .before .before .before .before .before .before .before .before .before .cell2 .result) (c .before .before .before .before .before .before .before .before .before .before .before .before .before .before .before .before .before .before .before .before .before .before .before .before .before .before .before .before .before .emit-alts .result) (c .before .before .before .before .before .before .before .before .emit-other .result .p) (c .before .before .before .before .before .before .before .before .emit-other .result .at) (c .before .before .before .before .before .before .before .before .emit-other .result .exit) (c .before .before .before .before .before .before .before .before .before .before .before .before .before .before .before .before .before .before .before .before .before .before .before .before .before .before .before .before .before .before .before .before .before .before .before .before .before .before .before .before .before .before .before .before .before .before .before .before .pre .1 .2) (c .before .before .before .before .before .before .before .before .before .before .before .before .before .before .before .before .before .before .before .before .before .before .before .before .before .before .before .before .before .before .before .before .before .before .before .before .before .before .before .before .emit-sel .kept .1 .0) (c .before .before .before .before .before .before .before .before .before .before .before .before .before .before .before .before .before .before .before .before .before .before .before .before .before .before .before .before .before .emit-alts .kept .1 .0 ∙ c .before .before .before .before .before .before .before .before .before .before .before .before .before .before .before .before .before .before .before .before .before .before .before .before .before .before .before .before .before .before .before .before .before .before .before .before .before .before .before .before .emit-sel .kept .1 .0)
-      (c .before .before .before .before .before .before .before .before .before .before .before .before .before .before .before .before .before .before .before .before .before .before .before .before .before .before .before .before .before .before .before .before .before .before .before .before .before .before .before .before .emit-sel .ensures .0) (c .before .before .before .before .before .before .before .before .before .before .before .before .before .before .before .before .before .before .before .before .before .before .before .before .before .before .before .before .before .before .before .before .before .before .before .before .before .before .before .before .emit-sel .ensures .1 .0) (c .before .before .before .before .before .before .before .before .before .before .before .before .before .before .before .before .before .before .before .before .before .before .before .before .before .before .before .before .before .before .before .before .before .before .before .before .before .before .before .before .before .before .before .ins-of .ensures ∙ ap insOf (c .before .before .before .before .before .before .before .before .before .before .before .before .before .before .before .before .before .before .before .before .before .before .before .before .before .before .before .before .before .before .before .before .before .before .before .before .before .before .before .before .before .before .before .before .cell .ensures)) (c .before .before .before .before .before .before .before .before .before .cell2 .ensures) (c .before .before .before .before .before .before .before .before .before .before .before .before .before .before .before .before .before .before .before .before .before .before .before .before .before .before .before .before .before .before .before .before .before .before .put-two .ensures) (c .before .before .before .before .before .before .before .before .before .before .before .before .before .before .before .before .before .before .before .before .before .before .before .before .before .before .before .before .before .emit-alts .ensures .0) (c .before .before .before .before .before .before .before .before .before .before .before .before .before .before .before .before .before .before .before .before .before .before .patch .ensures) (c .before .before .before .before .before .before .before .before .before .before .before .before .before .before .before .before .before .before .put-one .ensures) (c .before .before .before .before .before .before .before .before .before .before .before .before .before .before .emit-table .ensures) (c .before .before .before .before .before .before .before .before .emit-other .ensures .0) (c .before .before .patch2 .ensures),
+  choice-join (a .cells .now) (a .p) (a .out .now) _ _ _ _ _ _ _ _ (a .at) (a .x) (a .slots .now) _ _ _ (c .before .before .before .before .before .before .before .before .before .before .before .before .before .before .before .before .before .before .before .before .before .before .before .before .before .before .before .before .before .before .before .before .before .before .before .before .before .before .before .before .emit-sel .result .p) (c .before .before .before .before .before .before .before .before .before .before .before .before .before .before .before .before .before .before .before .before .before .before .before .before .before .before .before .before .before .before .before .before .before .before .before .before .before .before .before .before .emit-sel .result .at) (c .before .before .before .before .before .before .before .before .before .before .before .before .before .before .before .before .before .before .before .before .before .before .before .before .before .before .before .before .before .before .before .before .before .before .before .before .before .before .before .before .before .before .before .ins-of .result) (c .before .before .before .before .before .before .before .before .before .before .before .cell2 .result) (c .before .before .before .before .before .before .before .before .before .before .before .before .before .before .before .before .before .before .before .before .before .before .before .before .before .before .before .before .before .emit-alts .result) (c .before .before .before .before .before .before .before .before .emit-other .result .p) (c .before .before .before .before .before .before .before .before .emit-other .result .at) (c .before .before .before .before .before .before .before .before .emit-other .result .exit) (c .before .before .before .before .before .before .before .before .before .before .before .before .before .before .before .before .before .before .before .before .before .before .before .before .before .before .before .before .before .before .before .before .before .before .before .before .before .before .before .before .before .before .before .before .before .before .before .before .pre .1 .2) (c .before .before .before .before .before .before .before .before .before .before .before .before .before .before .before .before .before .before .before .before .before .before .before .before .before .before .before .before .before .before .before .before .before .before .before .before .before .before .before .before .emit-sel .kept .1 .0) (c .before .before .before .before .before .before .before .before .before .before .before .before .before .before .before .before .before .before .before .before .before .before .before .before .before .before .before .before .before .emit-alts .kept .1 .0 ∙ c .before .before .before .before .before .before .before .before .before .before .before .before .before .before .before .before .before .before .before .before .before .before .before .before .before .before .before .before .before .before .before .before .before .before .before .before .before .before .before .before .emit-sel .kept .1 .0)
+      (c .before .before .before .before .before .before .before .before .before .before .before .before .before .before .before .before .before .before .before .before .before .before .before .before .before .before .before .before .before .before .before .before .before .before .before .before .before .before .before .before .emit-sel .ensures .0) (c .before .before .before .before .before .before .before .before .before .before .before .before .before .before .before .before .before .before .before .before .before .before .before .before .before .before .before .before .before .before .before .before .before .before .before .before .before .before .before .before .emit-sel .ensures .1 .0) (c .before .before .before .before .before .before .before .before .before .before .before .before .before .before .before .before .before .before .before .before .before .before .before .before .before .before .before .before .before .before .before .before .before .before .before .before .before .before .before .before .before .before .before .ins-of .ensures ∙ ap insOf (c .before .before .before .before .before .before .before .before .before .before .before .before .before .before .before .before .before .before .before .before .before .before .before .before .before .before .before .before .before .before .before .before .before .before .before .before .before .before .before .before .before .before .before .before .cell .ensures)) (c .before .before .before .before .before .before .before .before .before .before .before .cell2 .ensures) (c .before .before .before .before .before .before .before .before .before .before .before .before .before .before .before .before .before .before .before .before .before .before .before .before .before .before .before .before .before .before .before .before .before .before .put-two .ensures) (c .before .before .before .before .before .before .before .before .before .before .before .before .before .before .before .before .before .before .before .before .before .before .before .before .before .before .before .before .before .emit-alts .ensures .0) (c .before .before .before .before .before .before .before .before .before .before .before .before .before .before .before .before .before .before .before .before .before .before .patch .ensures) (c .before .before .before .before .before .before .before .before .before .before .before .before .before .before .before .before .before .before .put-one .ensures) (c .before .before .before .before .before .before .before .before .before .before .before .before .before .before .emit-table .ensures) (c .before .before .before .before .before .before .before .before .emit-other .ensures .0) (c .before .before .patch2 .ensures),
   (record { on = omega (arith, D .on, M .on, O .on); inside = O .inside; few = omega (arith, D .after, D .few, D .on, M .few, M .on, O .few, O .on) }, c .before .before .before .before .before .before .before .before .emit-other .ensures .1 .1),
 )
 
@@ -503,7 +503,7 @@ emit-other-same-length-2 t c = search needs
 
 -- src/lib.rt:613:9
 emit-other-returns : (t : ℕ) → emit-other-lts.Need-returns (emit-other-claims t) (emit-other-at t) emit-other.Post
-emit-other-returns t c = let a = c .before .before .before .before .before .before .before .before .before .before .before .before .args in let m = c .before .before .before .before .emit-list .ensures .1 .0 in (other-done (a .cells .now) (a .p) (a .out .now) _ (a .at) (a .x) (a .v) (a .from) (a .slots .now) _ _ _ _ (sym (c .before .before .before .before .before .before .before .before .cell .ensures) ∙ c .before .before .before .before .before .before .before .if1 .taken) (c .before .before .before .before .emit-list .ensures .0), (record { on = omega arith; inside = m .inside; few = omega arith }, c .before .before .before .before .emit-list .ensures .1 .1))
+emit-other-returns t c = let a = c .before .before .before .before .before .before .before .before .before .before .before .before .args in let m = c .before .before .before .before .emit-list .ensures .1 .0 in (other-done (a .cells .now) (a .p) (a .out .now) _ (a .at) (a .x) (a .first .label) (a .first .from) (a .slots .now) _ _ _ _ (sym (c .before .before .before .before .before .before .before .before .cell .ensures) ∙ c .before .before .before .before .before .before .before .if1 .taken) (c .before .before .before .before .emit-list .ensures .0), (record { on = omega arith; inside = m .inside; few = omega arith }, c .before .before .before .before .emit-list .ensures .1 .1))
 
 -- src/lib.rt:615:5
 emit-other-emit-absent-requires : (t : ℕ) → emit-other-lts.Need-emit-absent-requires (emit-other-claims t) (emit-other-at t) emit-other.Post
@@ -515,7 +515,7 @@ emit-other-same-length-3 t c = search needs
 
 -- src/lib.rt:598:1
 emit-other-returns-2 : (t : ℕ) → emit-other-lts.Need-returns-2 (emit-other-claims t) (emit-other-at t) emit-other.Post
-emit-other-returns-2 t c = let a = c .before .before .before .before .before .before .before .before .before .args in let E = c .before .before .emit-absent .ensures .1 in (absent-done (a .cells .now) (a .p) (a .out .now) _ (a .at) (a .x) (a .v) (a .from) (a .slots .now) _ _ _ (c .before .before .emit-absent .ensures .0 (λ z. c .before .before .before .before .if1 .left (c .before .before .before .before .before .cell .ensures ∙ z))) (E .1), (E .0, omega (arith, E .1, c .before .before .before .before .before .before .before .before .before .pre .1 .1)))
+emit-other-returns-2 t c = let a = c .before .before .before .before .before .before .before .before .before .args in let E = c .before .before .emit-absent .ensures .1 in (absent-done (a .cells .now) (a .p) (a .out .now) _ (a .at) (a .x) (a .first .label) (a .first .from) (a .slots .now) _ _ _ (c .before .before .emit-absent .ensures .0 (λ z. c .before .before .before .before .if1 .left (c .before .before .before .before .before .cell .ensures ∙ z))) (E .1), (E .0, omega (arith, E .1, c .before .before .before .before .before .before .before .before .before .pre .1 .1)))
 
 pub +emit-act+emit-alts+emit-choice+emit-cycle+emit-list+emit-other-spec :
     {M : Type 1} → statement M

@@ -44,8 +44,8 @@ put-span-requires : tie.Need-put-span-requires
 put-span-requires c κs = search needs
 
 -- src/lib.rt:456:17
-add-t18 : tie.Need-add-t18
-add-t18 c = search needs
+add-t17 : tie.Need-add-t17
+add-t17 c = search needs
 
 -- src/lib.rt:454:9
 same-length : tie.Need-same-length
@@ -54,15 +54,15 @@ same-length c = search needs
 -- src/lib.rt:454:9
 returns : tie.Need-returns
 returns c = let P = c .before .before .before .before .before .before .before .before .before .before .before .before .before .pre .0 in let a = c .before .before .before .before .before .before .before .before .before .before .before .before .before .args in let l = c .before .before .before .before .before .before .before .before .before .before .least .ensures in
-    (λ f. token-done (a .cells .now) (a .p) (a .out .now) _ _ (a .at) (a .v) (a .from) (c .before .before .before .before .before .before .before .before .before .before .least .result) (sym (c .before .before .before .before .before .before .before .before .before .cell .ensures) ∙ c .before .before .before .before .before .before .before .before .if1 .taken) l (c .before .before .before .before .before .before .put-two .ensures) (c .before .before .put-span .ensures), (record { on = omega arith; inside = omega arith; few = omega arith }, refl))
+    (λ f. token-done (a .cells .now) (a .p) (a .out .now) _ _ (a .at) (a .first .label) (a .first .from) (c .before .before .before .before .before .before .before .before .before .before .least .result) (sym (c .before .before .before .before .before .before .before .before .before .cell .ensures) ∙ c .before .before .before .before .before .before .before .before .if1 .taken) l (c .before .before .before .before .before .before .put-two .ensures) (c .before .before .put-span .ensures), (record { on = omega arith; inside = omega arith; few = omega arith }, refl))
 
 -- src/lib.rt:460:5
 put-one-requires : tie.Need-put-one-requires
 put-one-requires c κs = search needs
 
 -- src/lib.rt:463:13
-add-t10 : tie.Need-add-t10
-add-t10 c = search needs
+add-t9 : tie.Need-add-t9
+add-t9 c = search needs
 
 -- src/lib.rt:436:1
 same-length-2 : tie.Need-same-length-2
@@ -72,7 +72,7 @@ same-length-2 c = search needs
 returns-2 : tie.Need-returns-2
 unfolding cut
 returns-2 c = let P = c .before .before .before .before .before .before .before .before .before .pre .0 in let a = c .before .before .before .before .before .before .before .before .before .args in let l = c .before .before .before .before .before .before .least .ensures in
-    (λ f. end-done (a .cells .now) (a .p) (a .out .now) _ (a .at) (a .v) (a .from) (c .before .before .before .before .before .before .least .result) f (λ z. c .before .before .before .before .if1 .left (c .before .before .before .before .before .cell .ensures ∙ z)) l (c .before .before .put-one .ensures), (record { on = omega arith; inside = omega arith; few = omega arith }, refl))
+    (λ f. end-done (a .cells .now) (a .p) (a .out .now) _ (a .at) (a .first .label) (a .first .from) (c .before .before .before .before .before .before .least .result) f (λ z. c .before .before .before .before .if1 .left (c .before .before .before .before .before .cell .ensures ∙ z)) l (c .before .before .put-one .ensures), (record { on = omega arith; inside = omega arith; few = omega arith }, refl))
 
 pub emit-absent-spec : {M : Type 1} → statement M
 emit-absent-spec =
@@ -85,10 +85,10 @@ emit-absent-spec =
     add-put-span
     add-put-span-2
     put-span-requires
-    add-t18
+    add-t17
     same-length
     returns
     put-one-requires
-    add-t10
+    add-t9
     same-length-2
     returns-2)
