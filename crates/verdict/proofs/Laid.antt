@@ -33,27 +33,27 @@ lies-none (byOperation op) k = lies-absent
 lies-none (byOperationWith op v) k = lies-absent
 
 mutual
-  unfolding actCells Range
+  unfolding actCells Range Few
 
-  pub lies : (a : Act) (k : List ℕ) → Range a → Lies (actCells a k) a k
-  lies (plain p) k h = lies-plain refl h
-  lies (cycle b) k h = lies-cycle (lies-all b k h)
-  lies (choice s q o) k h = lies-selector s q o k (h .0) (h .1) (lies-rest q o (absentCell s) k (h .2) (lies-other s o k (h .3)))
+  pub lies : (a : Act) (k : List ℕ) → Range a → Few a → Lies (actCells a k) a k
+  lies (plain p) k h f = lies-plain refl h
+  lies (cycle b) k h f = lies-cycle (lies-all b k h f)
+  lies (choice s q o) k h f = lies-selector s q o k (h .0) (f .0) (lies-rest q o (absentCell s) k (h .1) (f .1) (lies-other s o k (h .2) (f .2)))
 
-  lies-other : (s : Selector) (o : Other) (k : List ℕ) → RangeOther o → LiesRest (otherCells o (absentCell s) k) nil o k
-  lies-other s absent k h = lies-none s k
-  lies-other s (otherwise b) k h = lies-otherwise (lies-all b k h)
+  lies-other : (s : Selector) (o : Other) (k : List ℕ) → RangeOther o → FewOther o → LiesRest (otherCells o (absentCell s) k) nil o k
+  lies-other s absent k h f = lies-none s k
+  lies-other s (otherwise b) k h f = lies-otherwise (lies-all b k h f)
 
-  lies-rest : (q : Alts) (o : Other) (c : ℕ) (k : List ℕ) → RangeAlts q → LiesRest (otherCells o c k) nil o k → LiesRest (altsCells q (otherCells o c k)) q o k
-  lies-rest nil o c k h x = x
-  lies-rest (alternative ls b q) o c k h x =
+  lies-rest : (q : Alts) (o : Other) (c : ℕ) (k : List ℕ) → RangeAlts q → FewSome q → LiesRest (otherCells o c k) nil o k → LiesRest (altsCells q (otherCells o c k)) q o k
+  lies-rest nil o c k h f x = x
+  lies-rest (alternative ls b q) o c k h f x =
       let m = altsCells q (otherCells o c k) in
-      let y : LiesAll (drop (length ls) (ls ++ actsCells b m)) b m = rw (drop-at ls (actsCells b m) (length ls) refl) (lies-all b m (h .0)) in
-      lies-alternative (length ls) refl (take-at ls (actsCells b m)) y (lies-rest q o c k (h .1) x)
+      let y : LiesAll (drop (length ls) (ls ++ actsCells b m)) b m = rw (drop-at ls (actsCells b m) (length ls) refl) (lies-all b m (h .0) (f .0)) in
+      lies-alternative (length ls) refl (take-at ls (actsCells b m)) y (lies-rest q o c k (h .1) (f .1) x)
 
-  pub lies-all : (q : Acts) (k : List ℕ) → Ranges q → LiesAll (actsCells q k) q k
-  lies-all done k h = lies-done
-  lies-all (a ▸ q) k h = lies-next (lies a (actsCells q k) (h .0)) (lies-all q k (h .1))
+  pub lies-all : (q : Acts) (k : List ℕ) → Ranges q → FewAll q → LiesAll (actsCells q k) q k
+  lies-all done k h f = lies-done
+  lies-all (a ▸ q) k h f = lies-next (lies a (actsCells q k) (h .0) (f .0)) (lies-all q k (h .1) (f .1))
 
 -- more cells behind
 plain-append : (p : Plain) (k m : List ℕ) → plainCells p (k ++ m) ≡ plainCells p k ++ m
@@ -101,17 +101,17 @@ mutual
   other-append (otherwise b) c k m = ap (λ (l : List ℕ). 13 ∷ l) (acts-append b k m)
 
 -- the whole program: what lies from the start of a rule on
-start-lies : (bs : List Rule) (pre rest : List ℕ) (r : ℕ) → r < length bs → Ranges (getD bs r (record { valued = false; body = done }) .body)
+start-lies : (bs : List Rule) (pre rest : List ℕ) (r : ℕ) → r < length bs → Ranges (getD bs r (record { valued = false; body = done }) .body) → FewAll (getD bs r (record { valued = false; body = done }) .body)
     → (k : List ℕ) × LiesAll (drop (cellsStart (length pre) bs r) (pre ++ (rulesCells bs ++ rest))) (getD bs r (record { valued = false; body = done }) .body) k
 unfolding rulesCells cellsStart
-start-lies [] pre rest r h g = absurd (omega arith)
-start-lies (b ∷ bs) pre rest zero h g =
+start-lies [] pre rest r h g f = absurd (omega arith)
+start-lies (b ∷ bs) pre rest zero h g f =
     let k = rulesCells bs ++ rest in
-    (k, rw (← acts-append (b .body) (rulesCells bs) rest, drop-at pre (actsCells (b .body) k) (length pre) refl) (lies-all (b .body) k g))
-start-lies (b ∷ bs) pre rest (suc r) h g =
+    (k, rw (← acts-append (b .body) (rulesCells bs) rest, drop-at pre (actsCells (b .body) k) (length pre) refl) (lies-all (b .body) k g f))
+start-lies (b ∷ bs) pre rest (suc r) h g f =
     let own = actsCells (b .body) [] in
     let k = rulesCells bs ++ rest in
-    let ih = start-lies bs (pre ++ own) rest r (omega arith) g in
+    let ih = start-lies bs (pre ++ own) rest r (omega arith) g f in
     let e : (pre ++ own) ++ k ≡ pre ++ (actsCells (b .body) (rulesCells bs) ++ rest) =
     append-assoc pre own k ∙ ap (λ (l : List ℕ). pre ++ l) (sym (acts-append (b .body) [] k) ∙ acts-append (b .body) (rulesCells bs) rest) in
     (ih .0, rw (← e, ← length-append pre own) (ih .1))
@@ -122,7 +122,7 @@ laid cells starts count prog h = record { tail = tail; lies = lies-at }
   where
     one : (r : ℕ) → r < length prog → (k : List ℕ) × LiesAll (drop (getD starts r 0) cells) (bodyOf prog r) k
     one r l =
-        let x = start-lies prog [] (h .rest) r l (h .ranges .bodies r l) in
+        let x = start-lies prog [] (h .rest) r l (h .ranges .bodies r l) (h .ranges .labels r l) in
         (x .0, rw (h .begins r (omega (arith, h .number)), h .its) (x .1))
 
     at : (r : ℕ) → Dec (r < length prog) → List ℕ
@@ -162,24 +162,24 @@ module _ (prog : List Rule) where
   range-selector (byOperationWith op w) h = (h .0, h .1)
 
   mutual
-    unfolding Ok Range Few
+    unfolding Ok Range
 
-    range : (a : Act) (v c : Bool) → Ok prog a v c → Few a → Range a
-    range (plain p) v c h f = range-plain p v c h
-    range (cycle b) v c h f = ranges b v true h f
-    range (choice s q o) v c h f = (range-selector s (h .0), f .0, range-alts q v c (h .1) (f .1), range-other o v c (h .2) (f .2))
+    range : (a : Act) (v c : Bool) → Ok prog a v c → Range a
+    range (plain p) v c h = range-plain p v c h
+    range (cycle b) v c h = ranges b v true h
+    range (choice s q o) v c h = (range-selector s (h .0), range-alts q v c (h .1), range-other o v c (h .2))
 
-    ranges : (q : Acts) (v c : Bool) → Oks prog q v c → FewAll q → Ranges q
-    ranges done v c h f = tt
-    ranges (a ▸ q) v c h f = (range a v c (h .0) (f .0), ranges q v c (h .1) (f .1))
+    ranges : (q : Acts) (v c : Bool) → Oks prog q v c → Ranges q
+    ranges done v c h = tt
+    ranges (a ▸ q) v c h = (range a v c (h .0), ranges q v c (h .1))
 
-    range-alts : (q : Alts) (v c : Bool) → OkAlts prog q v c → FewSome q → RangeAlts q
-    range-alts nil v c h f = tt
-    range-alts (alternative ls b q) v c h f = (ranges b v c (h .1) (f .0), range-alts q v c (h .2) (f .1))
+    range-alts : (q : Alts) (v c : Bool) → OkAlts prog q v c → RangeAlts q
+    range-alts nil v c h = tt
+    range-alts (alternative ls b q) v c h = (ranges b v c (h .1), range-alts q v c (h .2))
 
-    range-other : (o : Other) (v c : Bool) → OkOther prog o v c → FewOther o → RangeOther o
-    range-other absent v c h f = tt
-    range-other (otherwise b) v c h f = ranges b v c h f
+    range-other : (o : Other) (v c : Bool) → OkOther prog o v c → RangeOther o
+    range-other absent v c h = tt
+    range-other (otherwise b) v c h = ranges b v c h
 
   pub accepted-range : Accepted prog → ((r : ℕ) → r < length prog → FewAll (bodyOf prog r)) → InRange prog
-  accepted-range a f = record { bodies = λ r l. ranges (bodyOf prog r) (ruleOf prog r .valued) false (a .in-order r l) (f r l) }
+  accepted-range a f = record { bodies = λ r l. ranges (bodyOf prog r) (ruleOf prog r .valued) false (a .in-order r l); labels = f }

@@ -26,16 +26,11 @@ RangeSelector (byRule r) = Unit {0}
 RangeSelector (byOperation op) = (768 ≤ op) × (op < 1024)
 RangeSelector (byOperationWith op v) = (1024 ≤ op) × (op < 1280)
 
--- how many labels alternatives have
-unfoldable pub labelled : Alts → ℕ
-labelled nil = 0
-labelled (alternative ls b q) = length ls + labelled q
-
 unfoldable mutual
   pub Range : Act → Type 0
   Range (plain p) = RangePlain p
   Range (cycle b) = Ranges b
-  Range (choice s q o) = RangeSelector s × (labelled q ≤ 64) × RangeAlts q × RangeOther o
+  Range (choice s q o) = RangeSelector s × RangeAlts q × RangeOther o
 
   pub Ranges : Acts → Type 0
   Ranges done = Unit {0}
@@ -48,6 +43,11 @@ unfoldable mutual
   pub RangeOther : Other → Type 0
   RangeOther absent = Unit {0}
   RangeOther (otherwise b) = Ranges b
+
+-- how many labels alternatives have
+unfoldable pub labelled : Alts → ℕ
+labelled nil = 0
+labelled (alternative ls b q) = length ls + labelled q
 
 -- no choice has more than 64 labels
 unfoldable mutual
@@ -71,6 +71,7 @@ unfoldable mutual
 -- every operation of the program is in its range, and no choice has more than 64 labels
 pub record InRange (prog : List Rule) : Type 0 where
   pub bodies : (r : ℕ) → r < length prog → Ranges (bodyOf prog r)
+  pub labels : (r : ℕ) → r < length prog → FewAll (bodyOf prog r)
 
 -- the cells are those of an action, and k behind them
 mutual
