@@ -31,10 +31,12 @@ fn least(a: usize, b: usize) -> usize
     if a < b { a } else { b }
 }
 
-// The cells, the words and the open lists after a construct's head, by its first cell.
-const CELLS: [u8; 15] = [1, 1, 1, 2, 1, 2, 2, 1, 2, 1, 2, 2, 1, 1, 1];
+const PAST: usize = cells::PAST as usize;
 
-const WORDS: [u8; 15] = [0, 2, 2, 2, 1, 2, 2, 3, 2, 1, 3, 5, 1, 0, 4];
+// The cells, the words and the open lists after a construct's head, by its first cell.
+const CELLS: [u8; PAST] = [1, 1, 1, 2, 1, 2, 2, 1, 2, 1, 2, 2, 1, 1, 1];
+
+const WORDS: [u8; PAST] = [0, 2, 2, 2, 1, 2, 2, 3, 2, 1, 3, 5, 1, 0, 4];
 
 fn small(x: u8) -> usize
     ensures { λ r. ⌜ (r ≡ x) × (r < 256) ⌝ }
@@ -45,62 +47,62 @@ fn small(x: u8) -> usize
 fn cells_of(k: u16) -> usize
     ensures { λ r. ⌜ r ≡ cellsOf k ⌝ }
 {
-    if k < 15 {
+    if k < cells::PAST {
         return small(CELLS[wide(k)]);
     }
-    if k < 64 {
+    if k < cells::ALTERNATIVE {
         return 1;
     }
-    if k < 256 {
-        return wide(k - 63);
+    if k < cells::UPDATE {
+        return wide(k - cells::PREFIX);
     }
-    if k < 512 {
+    if k < cells::UPDATE_WITH {
         return 1;
     }
-    if k < 768 {
+    if k < cells::ASK {
         return 2;
     }
-    if k < 1024 { 1 } else { 2 }
+    if k < cells::ASK_WITH { 1 } else { 2 }
 }
 
 fn words_of(k: u16) -> usize
     ensures { λ r. ⌜ r ≡ wordsOf k ⌝ }
 {
-    if k < 15 {
+    if k < cells::PAST {
         return small(WORDS[wide(k)]);
     }
-    if k < 64 {
+    if k < cells::ALTERNATIVE {
         return 0;
     }
-    if k < 256 {
-        return 2 * wide(k - 63);
+    if k < cells::UPDATE {
+        return 2 * wide(k - cells::PREFIX);
     }
-    if k < 512 {
+    if k < cells::UPDATE_WITH {
         return 1;
     }
-    if k < 768 {
+    if k < cells::ASK {
         return 3;
     }
-    if k < 1024 { 4 } else { 6 }
+    if k < cells::ASK_WITH { 4 } else { 6 }
 }
 
 fn open_after(k: u16, d: usize) -> usize
     requires { ⌜ (0 < d) × (d < 2000000000) ⌝ }
     ensures { λ r. ⌜ r ≡ openAfter k d ⌝ }
 {
-    if k == 0 {
+    if k == cells::END {
         return d - 1;
     }
-    if k == 2 {
+    if k == cells::CYCLE {
         return d + 1;
     }
-    if k == 13 {
+    if k == cells::OTHERWISE {
         return d + 1;
     }
-    if k < 64 {
+    if k < cells::ALTERNATIVE {
         return d;
     }
-    if k < 256 { d + 1 } else { d }
+    if k < cells::UPDATE { d + 1 } else { d }
 }
 
 // The words of the list of actions at p, and where it ends: one pass over its cells.
@@ -142,17 +144,17 @@ fn put_start(starts: &mut [usize], r: usize, l: usize)
 fn end_size(sort: u8) -> usize
     ensures { λ n. ⌜ (sort ≡ 0 → n ≡ 1) × (sort ≡ 1 → n ≡ 0) × (n ≤ 1) ⌝ }
 {
-    if sort == 0 { 1 } else { 0 }
+    if sort == cells::PROCEDURE_RULE { 1 } else { 0 }
 }
 
 // Each rule's location, counted from 1, and the words of all of them; 0 for more than 128 rules or 65,536 cells.
 pub fn locate(cells: &[u16], sorts: &[u8], rules: usize, starts: &mut [usize]) -> usize
     ensures { λ n. ⌜ Locates (now (cells .entry)) (now (sorts .entry)) rules (now (starts .exit)) n ⌝ }
 {
-    if 65536 < cells.len() {
+    if base::WORD_VALUES < cells.len() {
         return 0;
     }
-    if 128 < rules {
+    if base::RULES < rules {
         return 0;
     }
     let mut q = 0;
