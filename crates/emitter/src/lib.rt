@@ -175,13 +175,14 @@ pub struct Item {
     pub d: u16,
 }
 
+// Items of one word, of two and of three.
 fn one(a: u16) -> Item
     ensures { λ r. ⌜ r ≡ one a ⌝ }
 {
     Item {
         cells: 1,
         count: 1,
-        a: a,
+        a,
         b: 0,
         d: 0,
     }
@@ -193,8 +194,8 @@ fn two(a: u16, b: u16) -> Item
     Item {
         cells: 2,
         count: 2,
-        a: a,
-        b: b,
+        a,
+        b,
         d: 0,
     }
 }
@@ -205,9 +206,9 @@ fn three(a: u16, b: u16, d: u16) -> Item
     Item {
         cells: 2,
         count: 3,
-        a: a,
-        b: b,
-        d: d,
+        a,
+        b,
+        d,
     }
 }
 
@@ -626,7 +627,7 @@ fn emit_choice(
     emit_table(cells, out, z.end, from, rest);
     let opening = Opening {
         label: cell(cells, first + 1),
-        from: from,
+        from,
     };
     let s = emit_other(cells, slots, z.p, out, rest, z.exit, opening);
     patch(out, z.end, s.at, DISTANCE);
