@@ -1,11 +1,11 @@
 -- What the function that resolves the rules promises: their cells one after the other, where each begins, and what sort it is.
-use mathlib.Core.Bool.{Bool, true, false}
 use mathlib.Core.List.{List, [], _∷_}
 use mathlib.Core.Path.{_≡_}
 use Prim.Native.Nat.{ℕ, _+_, _<_, _≤_}
 use lib.ListN.{length, getD}
 use Rattle.builder.specs.declared.Rules.{Rules}
 use Rattle.cells.specs.Cells.{rulesCells, cellsStart}
+unfoldable pub use Rattle.cells.specs.Cells.{sortOf}
 use Rattle.declarations.specs.Decls.{Agrees, declsOf, sectionsDecls}
 use Rattle.grammar.specs.Derived.{RulesIn}
 use Rattle.maker.specs.Pairs.{PairsAre}
@@ -17,11 +17,6 @@ use Rattle.resolver.specs.Resolved.{Appends}
 use Rattle.symbols.specs.Rows.{held}
 use Rattle.syntax.specs.Written.{Program}
 use Rattle.words.specs.Words.{Word, wordsAt}
-
--- 1 a choice rule, 0 a procedure rule
-unfoldable pub sortOf : Bool → ℕ
-sortOf true = 1
-sortOf false = 0
 
 -- the code's answer tells what the rules mean. Their cells rest on E: that the rows hold the pairs of the text's uses of operators
 pub data RulesEnd (E : Type 0) (cs cs′ starts sorts : List ℕ) (r : Rules) : Checked (List Rule) → Type 0 where
