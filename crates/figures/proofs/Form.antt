@@ -3,7 +3,7 @@ use mathlib.Core.Bool.{true}
 use mathlib.Core.List.{List, [], _∷_, _++_}
 use mathlib.Core.Option.{Option, none, some}
 use mathlib.Core.Path.{_≡_, refl, sym, ap, ap₂, _∙_, subst}
-use Prim.Native.Nat.{ℕ, zero, suc, _+_, _*_, _-_, _/_, _%_, _≤_, _<_}
+use Prim.Native.Nat.{ℕ, zero, suc, _+_, _*_, _-_, _≤_, _<_}
 use native.Mathlib.Omega.{arith}
 use lib.Dec.{eqb}
 use lib.ListN.{length, take, drop, getD, length-append}
@@ -15,7 +15,9 @@ use Rattle.figures.specs.Figures.{Figures, bitsOf, sound}
 use Rattle.figures.specs.Form.{numberWords, numbers, figuresBytes, numberAt, numbersAt, figuresNamed, figuresOf}
 use Rattle.machine.proofs.Bytes.{length-wordsOf, length-bytesOf, wordsOf-bytesOf, bytesOf-wordsOf}
 use Rattle.machine.specs.Bytes.{count, wordsOf, bytesOf}
+use Rattle.machine.proofs.Words.{small-words, number64-words64, words64-number64}
 use Rattle.machine.specs.Form.{words64, number64}
+use Rattle.machine.specs.Small.{Small}
 
 -- Numbers and their words
 
@@ -35,11 +37,6 @@ getD-numbersAt ws i zero j h = absurd (omega arith)
 getD-numbersAt ws i (suc n) zero h = let e : i ≡ i + 0 = omega arith in ap (numberAt ws) e
 getD-numbersAt ws i (suc n) (suc j) h = let e : i + 1 + j ≡ i + suc j = omega arith in getD-numbersAt ws (i + 1) n j (omega arith) ∙ ap (numberAt ws) e
 
--- a number's words name it
-named : (n : ℕ) (r : List ℕ) → number64 (words64 n ++ r) ≡ n
-unfolding number64 words64
-named n r = omega arith
-
 drop-numberWords : (ns : List ℕ) (i : ℕ) → drop (4 * i) (numberWords ns) ≡ numberWords (drop i ns)
 unfolding numberWords words64
 drop-numberWords ns zero = refl
@@ -49,7 +46,7 @@ drop-numberWords (n ∷ ns) (suc i) = let e : 4 * suc i ≡ suc (suc (suc (suc (
 pub number-words : (ns : List ℕ) (i : ℕ) → i < length ns → numberAt (numberWords ns) i ≡ getD ns i 0
 unfolding numberAt numberWords
 number-words ns i h =
-    ap number64 (drop-numberWords ns i ∙ ap numberWords (drop-cons ns i 0 h)) ∙ named (getD ns i 0) (numberWords (drop (suc i) ns))
+    ap number64 (drop-numberWords ns i ∙ ap numberWords (drop-cons ns i 0 h)) ∙ number64-words64 (getD ns i 0) (numberWords (drop (suc i) ns))
 
 numbers-words : (ns : List ℕ) (i n : ℕ) → i + n ≤ length ns → numbersAt (numberWords ns) i n ≡ take n (drop i ns)
 unfolding numbersAt
@@ -115,20 +112,7 @@ figuresOf-bytes f e =
 
 -- And the other way round: bytes that are figures are written so
 
-four : (a b c d : ℕ) (ws : List ℕ) → a < 65536 → b < 65536 → c < 65536 → d < 65536 → words64 (number64 (a ∷ b ∷ c ∷ d ∷ ws)) ≡ a ∷ b ∷ c ∷ d ∷ []
-unfolding words64 number64
-four a b c d ws ha hb hc hd =
-    let n = a * 281474976710656 + b * 4294967296 + c * 65536 + d in
-    let p : n / 281474976710656 ≡ a = omega arith in
-    let q : n / 4294967296 % 65536 ≡ b = omega arith in
-    let r : n / 65536 % 65536 ≡ c = omega arith in
-    let s : n % 65536 ≡ d = omega arith in
-    λ i. p i ∷ q i ∷ r i ∷ s i ∷ []
-
-abbrev Words : List ℕ → Type 0
-Words ws = (i : ℕ) → getD ws i 0 < 65536
-
-module _ (ws : List ℕ) (small : Words ws) where
+module _ (ws : List ℕ) (small : Small ws) where
   one-written : (i : ℕ) → 4 * i + 4 ≤ length ws → words64 (numberAt ws i) ≡ take 4 (drop (4 * i) ws)
   unfolding numberAt
   one-written i h =
@@ -137,7 +121,7 @@ module _ (ws : List ℕ) (small : Words ws) where
       let d₁ = drop-cons ws (suc k) 0 (omega arith) in
       let d₂ = drop-cons ws (suc (suc k)) 0 (omega arith) in
       let d₃ = drop-cons ws (suc (suc (suc k))) 0 (omega arith) in
-      rw (d₀, d₁, d₂, d₃) (four (getD ws k 0) (getD ws (suc k) 0) (getD ws (suc (suc k)) 0) (getD ws (suc (suc (suc k))) 0) (drop (suc (suc (suc (suc k)))) ws) (small k) (small (suc k)) (small (suc (suc k))) (small (suc (suc (suc k)))))
+      rw (d₀, d₁, d₂, d₃) (words64-number64 (getD ws k 0) (getD ws (suc k) 0) (getD ws (suc (suc k)) 0) (getD ws (suc (suc (suc k))) 0) (drop (suc (suc (suc (suc k)))) ws) (small (suc k)) (small (suc (suc k))) (small (suc (suc (suc k)))))
 
   all-written : (i n : ℕ) → 4 * (i + n) ≤ length ws → numberWords (numbersAt ws i n) ≡ take (4 * n) (drop (4 * i) ws)
   unfolding numberWords numbersAt
@@ -170,13 +154,6 @@ unfolding numbers figuresNamed
 all-named ws =
     sym (numbers-append ws 0 4096 66
     ∙ ap (λ (l : List ℕ). numbersAt ws 0 4096 ++ l) (numbers-append ws 4096 64 2 ∙ ap (λ (l : List ℕ). numbersAt ws 4096 64 ++ l) (two-numbers ws 4160)))
-
-small-words : (s : List ℕ) → ((i : ℕ) → getD s i 0 < 256) → Words (wordsOf s)
-unfolding wordsOf
-small-words [] b i = omega arith
-small-words (h ∷ []) b i = omega arith
-small-words (h ∷ l ∷ s) b zero = omega (arith, b 0, b 1)
-small-words (h ∷ l ∷ s) b (suc i) = small-words s (λ k. b (suc (suc k))) i
 
 -- what bytes that are figures are
 pub record Figured (s : List ℕ) (f : Figures) : Type 0 where

@@ -1,22 +1,24 @@
 -- The byte form of walks is canonical: a walk that fits is read back from its bytes, and bytes that are read as a walk are that walk's.
 use mathlib.Core.Path.{_≡_, refl, sym, ap, _∙_, subst}
 use mathlib.Core.Bool.{Bool, true, false}
-use mathlib.Core.List.{List, [], _∷_, _++_, reverse, reverseAux, reverse-reverse}
+use mathlib.Core.List.{List, [], _∷_, _++_, reverse, reverse-reverse}
 use mathlib.Core.Option.{none, some}
-use Prim.Native.Nat.{ℕ, zero, suc, _-_, _<_, _≤_}
+use Prim.Native.Nat.{ℕ, _+_, _-_, _<_, _≤_}
+use native.Mathlib.Numerals.{add-one}
 use native.Mathlib.Omega.{arith}
-use native.Mathlib.Nat.{div-div-eq-div-mul}
 use lib.Dec.{eqb}
-use lib.ListN.{length, take, drop, getD, replicate, length-append, length-take, length-drop, length-reverse, length-replicate}
-use lib.Seq.{take-at, take-take}
-use borrow.Author.Tests.{eq-eqb, eqb-true}
+use lib.ListN.{length, take, drop, getD, replicate, length-append, length-take, length-drop, length-reverse, length-replicate, drop-of-length-le}
+use lib.Seq.{take-at, take-take, drop-cons}
+use borrow.Author.Tests.{eq-eqb, ne-eqb, eqb-true}
 use Rattle.base.specs.Common.{same}
 use Rattle.base.specs.Bools.{never, split}
 use Rattle.events.specs.Events.{Reason, finished, differs, missing, unlabelled, deep, unanswered, outside, reasonNumber}
 use Rattle.machine.specs.Bytes.{wordsOf, bytesOf}
 use Rattle.machine.specs.Walk.{Phase, going, waiting, stopped, Walk}
-use Rattle.machine.specs.Form.{phaseWords, words64, returnWords, walkWords, walkBytes, reasonOf, phaseOf, number64, walkNamed, walkOf, Fits}
+use Rattle.machine.specs.Form.{phaseWords, words64, returnWords, walkWords, walkBytes, reasonOf, phaseOf, walkNamed, walkOf, Fits}
+use Rattle.machine.specs.Small.{Small}
 use Rattle.machine.proofs.Bytes.{wordsOf-bytesOf, length-bytesOf}
+use Rattle.machine.proofs.Words.{small-words, small-take, small-drop, small-reverse, small-number, number64-words64}
 
 -- The test of two lists
 
@@ -33,6 +35,17 @@ same-≡ (x ∷ a) (y ∷ b) e =
     (λ t. let h = eqb-true x y t in let r = same-≡ a b (rw t at e) in λ i. h i ∷ r i)
     (λ f. never (rw f at e))
 
+-- a loop that compares them, from the place i on
+
+pub same-next : (a b : List ℕ) (i : ℕ) → i < length a → i < length b → getD a i 0 ≡ getD b i 0 → same (drop i a) (drop i b) ≡ same (drop (i + 1) a) (drop (i + 1) b)
+same-next a b i h k e = rw (add-one, drop-cons a i 0, drop-cons b i 0, eq-eqb (getD a i 0) (getD b i 0))
+
+pub same-not : (a b : List ℕ) (i : ℕ) → i < length a → i < length b → (getD a i 0 ≡ getD b i 0 → ⊥) → same (drop i a) (drop i b) ≡ false
+same-not a b i h k e = rw (drop-cons a i 0, drop-cons b i 0, ne-eqb (getD a i 0) (getD b i 0))
+
+pub same-end : (a b : List ℕ) (i : ℕ) → length a ≤ i → length b ≤ i → same (drop i a) (drop i b) ≡ true
+same-end a b i h k = rw (drop-of-length-le a h, drop-of-length-le b k)
+
 -- From a walk to its bytes and back
 
 reasonOf-number : (r : Reason) → reasonOf (reasonNumber r) ≡ r
@@ -44,13 +57,6 @@ reasonOf-number unlabelled = refl
 reasonOf-number deep = refl
 reasonOf-number unanswered = refl
 reasonOf-number outside = refl
-
-number64-words64 : (n : ℕ) (rest : List ℕ) → number64 (words64 n ++ rest) ≡ n
-unfolding number64 words64
-number64-words64 n rest =
-    let a = div-div-eq-div-mul n 65536 65536 in
-    let b = div-div-eq-div-mul n 4294967296 65536 in
-    omega arith
 
 returns-back : (rs : List ℕ) → length rs ≤ 64 → reverse (take (length rs) (take 64 (returnWords rs))) ≡ rs
 unfolding returnWords
@@ -105,60 +111,29 @@ walkBytes-walkOf s w e =
     rw u at (same-≡ (walkBytes (walkNamed (wordsOf s))) s t))
     (λ f. let v : none ≡ some w = rw f at e in let z : _≡_ {A = Bool} false true = cc in never z)
 
-length-phaseWords : (p : Phase) → length (phaseWords p) ≡ 2
+pub length-phaseWords : (p : Phase) → length (phaseWords p) ≡ 2
 unfolding phaseWords
 length-phaseWords going = refl
 length-phaseWords waiting = refl
 length-phaseWords (stopped r) = refl
 
-length-returnWords : (rs : List ℕ) → length rs ≤ 64 → length (returnWords rs) ≡ 64
+pub length-returnWords : (rs : List ℕ) → length rs ≤ 64 → length (returnWords rs) ≡ 64
 unfolding returnWords
 length-returnWords rs h = simp (length-append, length-reverse, length-replicate) (omega arith)
 
-pub walkBytes-length : (w : Walk) → Fits w → length (walkBytes w) ≡ 158
+pub length-walk : (w : Walk) → length (w .returns) ≤ 64 → length (walkBytes w) ≡ 158
 unfolding walkBytes walkWords words64 afterPhase
-walkBytes-length w f =
+length-walk w h =
     let a = length-bytesOf (walkWords w) in
     let b = length-append (phaseWords (w .phase)) (afterPhase w) in
     let c = length-phaseWords (w .phase) in
-    let d = length-returnWords (w .returns) (f .depth) in
+    let d = length-returnWords (w .returns) h in
     omega arith
 
+pub walkBytes-length : (w : Walk) → Fits w → length (walkBytes w) ≡ 158
+walkBytes-length w f = length-walk w (f .depth)
+
 -- Bytes of the right length are read as a walk that fits
-
--- each number of the list is a word
-abbrev Small : List ℕ → Type 0
-Small l = (i : ℕ) → getD l i 0 < 65536
-
-small-words : (s : List ℕ) → ((i : ℕ) → getD s i 0 < 256) → Small (wordsOf s)
-unfolding wordsOf
-small-words [] b i = omega arith
-small-words (h ∷ []) b i = omega arith
-small-words (h ∷ l ∷ s) b zero = omega (arith, b 0, b 1)
-small-words (h ∷ l ∷ s) b (suc i) = small-words s (λ k. b (suc (suc k))) i
-
-small-take : (n : ℕ) (l : List ℕ) → Small l → Small (take n l)
-small-take zero l b i = omega arith
-small-take (suc n) [] b i = omega arith
-small-take (suc n) (x ∷ l) b zero = b 0
-small-take (suc n) (x ∷ l) b (suc i) = small-take n l (λ k. b (suc k)) i
-
-small-drop : (n : ℕ) (l : List ℕ) → Small l → Small (drop n l)
-small-drop zero l b i = b i
-small-drop (suc n) [] b i = omega arith
-small-drop (suc n) (x ∷ l) b i = small-drop n l (λ k. b (suc k)) i
-
-small-cons : (x : ℕ) (l : List ℕ) → x < 65536 → Small l → Small (x ∷ l)
-small-cons x l h b zero = h
-small-cons x l h b (suc i) = b i
-
-small-reverse : (l r : List ℕ) → Small l → Small r → Small (reverseAux l r)
-small-reverse [] r b c i = c i
-small-reverse (x ∷ l) r b c i = small-reverse l (x ∷ r) (λ k. b (suc k)) (small-cons x r (b 0) c) i
-
-small-number : (ws : List ℕ) → Small ws → number64 ws < 18446744073709551616
-unfolding number64
-small-number ws b = omega (arith, b 0, b 1, b 2, b 3)
 
 fits-named : (ws : List ℕ) → Small ws → Fits (walkNamed ws)
 unfolding walkNamed

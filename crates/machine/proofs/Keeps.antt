@@ -7,7 +7,7 @@ use mathlib.Core.Option.{Option, none, some}
 use Prim.Native.Nat.{ℕ, zero, suc, _+_, _*_, _-_, _<_, _≤_}
 use native.Mathlib.Omega.{arith}
 use lib.Dec.{eqb, leb, ltb}
-use lib.ListN.{length, drop, getD, getElem?, length-append, length-drop}
+use lib.ListN.{length, getD, getElem?, length-append, length-drop}
 use borrow.Author.Tests.{ltb-true, ltb-false}
 use Rattle.base.specs.Common.{if_then_else_, given}
 use Rattle.base.specs.Bools.{never}
@@ -18,6 +18,7 @@ use Rattle.machine.specs.Walk.{Phase, going, waiting, stopped, Walk, fre
 use Rattle.machine.specs.Step.{Next, goesOutside, stops, goes, tells, asks, goTo, seekBy, landed, branched, inputChoosing, calling, returning, requiring, exec, step}
 use Rattle.machine.specs.Call.{Mode, whole, paused, Called, waits, ends, endsFor, writing, Turn, over, further, takes, handsOut, turn, run, callIn, callWalk}
 use Rattle.machine.specs.Form.{Fits}
+use Rattle.machine.proofs.Words.{small-drop, small-cons}
 
 -- Lists
 
@@ -35,15 +36,6 @@ below : (l : List ℕ) (i : ℕ) → given (getElem? l i) ≡ true → i < lengt
 below [] i e = never e
 below (x ∷ l) zero e = omega arith
 below (x ∷ l) (suc i) e = let ih = below l i e in omega arith
-
-small-drop : (n : ℕ) (l : List ℕ) → Small l → Small (drop n l)
-small-drop zero l b i = b i
-small-drop (suc n) [] b i = omega arith
-small-drop (suc n) (x ∷ l) b i = small-drop n l (λ k. b (suc k)) i
-
-small-cons : (x : ℕ) (l : List ℕ) → x < 65536 → Small l → Small (x ∷ l)
-small-cons x l h b zero = h
-small-cons x l h b (suc i) = b i
 
 -- a bound on the elements is one on all places
 small-within : (l : List ℕ) → ((i : ℕ) → i < length l → getD l i 0 < 65536) → Small l

@@ -2,6 +2,7 @@
 pub mod Table
 pub mod Lengths
 pub mod Bytes
+pub mod Words
 pub mod Form
 pub mod Facts
 pub mod Keeps

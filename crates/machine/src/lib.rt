@@ -43,11 +43,12 @@ pub const ASK_WITH: u16 = 1024;
 
 pub const PAST_OPERATIONS: u16 = 1280;
 
-const LAST_PLAIN: usize = SET_PARAMETER as usize;
+// The last instruction that is no operation, the first operation and the last one, as indices are.
+pub const LAST_PLAIN: usize = SET_PARAMETER as usize;
 
-const FIRST_OPERATION: usize = UPDATE as usize;
+pub const FIRST_OPERATION: usize = UPDATE as usize;
 
-const LAST_OPERATION: usize = PAST_OPERATIONS as usize - 1;
+pub const LAST_OPERATION: usize = PAST_OPERATIONS as usize - 1;
 
 // The kinds of events, and the words that an event takes.
 pub const OUTPUT_EVENT: u16 = 1;
@@ -61,7 +62,7 @@ pub const REPAIR_EVENT: u16 = 4;
 pub const EVENT_WORDS: usize = 3;
 
 // The lengths of instructions 1 to 13, in words, each at its number less one.
-pub const LENGTHS: [usize; 13] = [2, 2, 2, 1, 2, 2, 2, 2, 1, 2, 2, 1, 2];
+pub const LENGTHS: [usize; LAST_PLAIN] = [2, 2, 2, 1, 2, 2, 2, 2, 1, 2, 2, 1, 2];
 
 fn wide(x: u8) -> u16
     ensures { λ r. ⌜ (r ≡ x) × (r < 256) ⌝ }

@@ -1,21 +1,22 @@
 -- A call over 158 bytes gives 158 bytes back, whatever they are.
 use mathlib.Core.Bool.{Bool, true, false}
-use mathlib.Core.List.{List, [], _∷_, _++_}
+use mathlib.Core.List.{List, [], _∷_}
 use mathlib.Core.Option.{Option, none, some}
 use mathlib.Core.Path.{_≡_, refl, ap, _∙_, subst}
-use Prim.Native.Nat.{ℕ, zero, suc, _+_, _*_, _-_, _/_, _%_, _≤_, _<_}
+use Prim.Native.Nat.{ℕ, zero, suc, _+_, _-_, _≤_, _<_}
 use native.Mathlib.Omega.{arith}
-use native.Mathlib.Nat.{div-div-eq-div-mul}
 use lib.Dec.{ltb}
-use lib.ListN.{length, getD, length-append, length-take, length-drop, length-reverse, length-replicate}
+use lib.ListN.{length, getD, length-append, length-take, length-drop, length-reverse}
 use Rattle.base.specs.Common.{if_then_else_, same}
 use Rattle.base.specs.Bools.{never, split}
 use Rattle.events.specs.Events.{Event, Reason, outside, unanswered, answer}
+use Rattle.machine.proofs.Form.{length-walk}
+use Rattle.machine.proofs.Words.{small-words, number64-words64, words64-number64}
 use Rattle.machine.proofs.Bytes.{wordsOf-bytesOf, length-bytesOf, length-wordsOf, bytesOf-wordsOf}
 use Rattle.machine.specs.Bytes.{count, wordsOf, tableOf, bytesOf}
 use Rattle.machine.specs.Call as call
 use Rattle.machine.specs.Call.{Mode, whole, paused, Called, ends, endsFor, writing, takes, handsOut, run, callIn, callWalk}
-use Rattle.machine.specs.Form.{phaseWords, words64, returnWords, walkWords, walkBytes, number64, walkNamed, walkOf, outcome, callBytes}
+use Rattle.machine.specs.Form.{words64, walkBytes, number64, walkNamed, walkOf, outcome, callBytes}
 use Rattle.machine.specs.Step.{Next, goesOutside, stops, goes, tells, asks, step}
 use Rattle.machine.specs.Walk as walks
 use Rattle.screen.specs.Screen.{bookSize, freshBook}
@@ -23,24 +24,6 @@ use Rattle.machine.specs.Walk.{Phase, going, waiting, stopped, Walk, atRest, wi
 
 abbrev Shallow : Walk → Type 0
 Shallow w = length (w .returns) ≤ 64
-
-length-phaseWords : (p : Phase) → length (phaseWords p) ≡ 2
-unfolding phaseWords
-length-phaseWords going = refl
-length-phaseWords waiting = refl
-length-phaseWords (stopped r) = refl
-
-length-returnWords : (rs : List ℕ) → length rs ≤ 64 → length (returnWords rs) ≡ 64
-unfolding returnWords
-length-returnWords rs h = simp (length-append, length-reverse, length-replicate) (omega arith)
-
-pub length-walk : (w : Walk) → Shallow w → length (walkBytes w) ≡ 158
-unfolding walkBytes walkWords words64
-length-walk w h =
-    let a = length-bytesOf (walkWords w) in
-    let r = w .location ∷ w .result ∷ w .parameter ∷ length (w .returns) ∷ w .io .allowance ∷ (words64 (w .io .read) ++ (words64 (w .io .used) ++ returnWords (w .returns))) in
-    let b = length-append (phaseWords (w .phase)) r in
-    omega (arith, length-phaseWords (w .phase), length-returnWords (w .returns) h)
 
 pub length-fresh : (a : ℕ) → length (walkBytes (fresh a)) ≡ 158
 unfolding fresh
@@ -54,15 +37,9 @@ pub length-freshBook : (a : ℕ) → length (freshBook a) ≡ bookSize
 unfolding freshBook
 length-freshBook a = length-append (walkBytes (fresh a)) (bytesOf (words64 0)) ∙ omega (arith, length-fresh a, length-counter 0)
 
-number-back : (n : ℕ) → number64 (words64 n) ≡ n
-unfolding number64 words64
-number-back n =
-    let a = div-div-eq-div-mul n 65536 65536 in
-    let b = div-div-eq-div-mul n 4294967296 65536 in
-    omega arith
-
 pub counter-back : (n : ℕ) → number64 (wordsOf (bytesOf (words64 n))) ≡ n
-counter-back n = ap number64 (wordsOf-bytesOf (words64 n)) ∙ number-back n
+unfolding words64
+counter-back n = ap number64 (wordsOf-bytesOf (words64 n)) ∙ number64-words64 n []
 
 -- a walk that is read from bytes holds 64 return locations or fewer
 shallow-named : (ws : List ℕ) → Shallow (walkNamed ws)
@@ -155,25 +132,8 @@ length-call table tokens m budget walk buffer h = go (walkOf walk) refl
 
 -- eight bytes are those of the number that they are
 
-small-words : (s : List ℕ) → ((i : ℕ) → getD s i 0 < 256) → (i : ℕ) → getD (wordsOf s) i 0 < 65536
-unfolding wordsOf
-small-words [] b i = omega arith
-small-words (h ∷ []) b i = omega arith
-small-words (h ∷ l ∷ s) b zero = omega (arith, b 0, b 1)
-small-words (h ∷ l ∷ s) b (suc i) = small-words s (λ k. b (suc (suc k))) i
-
-four : (a b c d : ℕ) → b < 65536 → c < 65536 → d < 65536 → words64 (number64 (a ∷ b ∷ c ∷ d ∷ [])) ≡ a ∷ b ∷ c ∷ d ∷ []
-unfolding words64 number64
-four a b c d h i j =
-    let n = a * 281474976710656 + b * 4294967296 + c * 65536 + d in
-    let p : n / 281474976710656 ≡ a = omega arith in
-    let q : n / 4294967296 % 65536 ≡ b = omega arith in
-    let r : n / 65536 % 65536 ≡ c = omega arith in
-    let s : n % 65536 ≡ d = omega arith in
-    λ i. p i ∷ q i ∷ r i ∷ s i ∷ []
-
 number-same : (ws : List ℕ) → length ws ≡ 4 → ((i : ℕ) → getD ws i 0 < 65536) → words64 (number64 ws) ≡ ws
-number-same (a ∷ b ∷ c ∷ d ∷ []) k h = four a b c d (h 1) (h 2) (h 3)
+number-same (a ∷ b ∷ c ∷ d ∷ []) k h = words64-number64 a b c d [] (h 1) (h 2) (h 3)
 number-same [] k h = absurd (omega arith)
 number-same (a ∷ []) k h = absurd (omega arith)
 number-same (a ∷ b ∷ []) k h = absurd (omega arith)
