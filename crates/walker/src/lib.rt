@@ -9,55 +9,30 @@ ghost use Rattle.walker.specs.Shape.{otherwiseOf, labelOf, labelledOf, c
 ghost use Rattle.walker.specs.Shape.{forwardOf, backOf, mendOf, inputOf, anyOf, tellOf, inputChoiceOf, callOf, backTo, returnOf, answerOf};
 ghost use Rattle.walker.specs.Shape.{inFull, operateOf, fetchedOf, stepOf, goOf, wholeOf, pausedOf, pushed};
 ghost use Rattle.walker.specs.Steps.{withAt, inPhase, tokenRead, returned, answered, asRead, says, Holds, tookOf, numberAt, nextOf, walkStepOf, called};
+use base::PENDING;
+use machine::ASK;
+use machine::ASK_WITH;
+use machine::CALL;
+use machine::CHOICE;
+use machine::EMIT;
+use machine::END_CHOICE;
+use machine::ERROR;
+use machine::EVENT_WORDS;
+use machine::INPUT;
+use machine::INPUT_ANY;
+use machine::INPUT_CHOICE;
+use machine::JUMP_BACK;
+use machine::JUMP_FORWARD;
+use machine::LAST_PLAIN;
+use machine::PAST_OPERATIONS;
+use machine::RETURN;
+use machine::SET_PARAMETER;
+use machine::SET_RESULT;
+use machine::UPDATE;
+use machine::UPDATE_WITH;
 
-// The numbers of instructions.
-const JUMP_FORWARD: u16 = 1;
-
-const JUMP_BACK: u16 = 2;
-
-const INPUT: u16 = 3;
-
-const INPUT_ANY: u16 = 4;
-
-const EMIT: u16 = 5;
-
-const ERROR: u16 = 6;
-
-const INPUT_CHOICE: u16 = 7;
-
-const CALL: u16 = 8;
-
-const RETURN: u16 = 9;
-
-const SET_RESULT: u16 = 10;
-
-const CHOICE: u16 = 11;
-
-const END_CHOICE: u16 = 12;
-
-const SET_PARAMETER: u16 = 13;
-
-// The first operation of each kind, and the first number above them all.
-const UPDATE: u16 = 256;
-
-const UPDATE_WITH: u16 = 512;
-
-const ASK: u16 = 768;
-
-const ASK_WITH: u16 = 1024;
-
-const PAST: u16 = 1280;
-
-// The numbers of a call that ends otherwise than by a stop.
-const REFUSED: u16 = 21;
-
-const WAITS: u16 = 22;
-
-const FULL: u16 = 35;
-
-const SPENT: u16 = 36;
-
-const OUTSIDE: u16 = 37;
+// The greatest count of answers used.
+const MOST_USED: u64 = 18446744073709551615;
 
 // Why a walk has stopped for good.
 pub enum Reason {
@@ -105,7 +80,7 @@ pub struct Walk {
     pub phase: Phase,
     pub at: Registers,
     // the oldest first
-    pub returns: [u16; 64],
+    pub returns: [u16; PENDING],
 }
 
 // What one instruction does.
@@ -184,7 +159,11 @@ fn table_words(t: &[u8]) -> usize
     ensures { λ r. ⌜ r ≡ size (now (t .entry)) ⌝ }
 {
     let n = machine::count_words(t);
-    if n < 4096 { n } else { 4096 }
+    if n < base::TABLE_WORDS {
+        n
+    } else {
+        base::TABLE_WORDS
+    }
 }
 
 // The word at index i, from 0: `machine::word` without its test.
@@ -195,6 +174,7 @@ pub fn word(s: &[u8], i: usize) -> u16
     wide(s[2 * i]) * 256 + wide(s[2 * i + 1])
 }
 
+// `buffers::put_word` writes the same. This one stays: the loop that it is put into is timed, and uses `machine` alone.
 fn put_word(out: &mut [u8], i: usize, x: u16)
     requires { ⌜ i < count (now out) ⌝ }
     ensures { λ _. ⌜ now (out .exit) ≡ setWord (now (out .entry)) i x ⌝ }
@@ -212,34 +192,26 @@ fn put_three(out: &mut [u8], i: usize, a: u16, b: u16, d: u16)
     put_word(out, i + 2, d);
 }
 
-// The first word of an event.
-const OUTPUT_EVENT: u16 = 1;
-
-const ERROR_EVENT: u16 = 2;
-
-const OPERATION_EVENT: u16 = 3;
-
-const REPAIR_EVENT: u16 = 4;
-
+// An event: its kind first.
 pub fn put_event(out: &mut [u8], i: usize, e: Event)
     requires { ⌜ i + 3 ≤ count (now out) ⌝ }
     ensures { λ _. ⌜ now (out .exit) ≡ putEvent (now (out .entry)) i e ⌝ }
 {
     match e {
         Event::Output(t) => {
-            put_three(out, i, OUTPUT_EVENT, t, 0);
+            put_three(out, i, machine::OUTPUT_EVENT, t, 0);
         }
         Event::Error(n) => {
-            put_three(out, i, ERROR_EVENT, n, 0);
+            put_three(out, i, machine::ERROR_EVENT, n, 0);
         }
         Event::Repair(t) => {
-            put_three(out, i, REPAIR_EVENT, t, 0);
+            put_three(out, i, machine::REPAIR_EVENT, t, 0);
         }
         Event::Plain(op) => {
-            put_three(out, i, OPERATION_EVENT, op, 0);
+            put_three(out, i, machine::OPERATION_EVENT, op, 0);
         }
         Event::With(op, v) => {
-            put_three(out, i, OPERATION_EVENT, op, v);
+            put_three(out, i, machine::OPERATION_EVENT, op, v);
         }
     }
 }
@@ -259,7 +231,7 @@ fn swapped_word(s: &[u8], i: usize) -> u16
 }
 
 // The words that instruction 1 to 13 takes. The constant table is lent, so that a fetch does not make it anew.
-fn length_of(known: &[usize; 13], ins: u16) -> usize
+fn length_of(known: &[usize; LAST_PLAIN], ins: u16) -> usize
     requires { ⌜ (now known ≡ lengths) × (0 < ins) × (ins < 14) ⌝ }
     ensures { λ r. ⌜ r ≡ lengthOf ins ⌝ }
 {
@@ -272,12 +244,12 @@ pub fn number_of(why: Reason) -> u16
 {
     match why {
         Reason::Finished => 0,
-        Reason::Differs => 30,
-        Reason::Missing => 31,
-        Reason::Unlabelled => 32,
-        Reason::Deep => 33,
-        Reason::Unanswered => 34,
-        Reason::Outside => OUTSIDE,
+        Reason::Differs => base::DIFFERS,
+        Reason::Missing => base::MISSING,
+        Reason::Unlabelled => base::UNLABELLED,
+        Reason::Deep => base::DEEP,
+        Reason::Unanswered => base::UNANSWERED,
+        Reason::Outside => base::OUTSIDE,
     }
 }
 
@@ -313,7 +285,7 @@ impl Registers {
         ensures { λ r. ⌜ r ≡ answeredOne self x ⌝ }
     {
         self.result = x as u64;
-        if self.used < 18446744073709551615 {
+        if self.used < MOST_USED {
             self.used += 1;
         }
         self
@@ -356,8 +328,8 @@ impl Registers {
     fn clipped(mut self) -> Registers
         ensures { λ r. ⌜ r ≡ first64 self ⌝ }
     {
-        if 64 < self.depth {
-            self.depth = 64;
+        if PENDING < self.depth {
+            self.depth = PENDING;
         }
         self
     }
@@ -532,7 +504,7 @@ impl Registers {
     fn tell(self, room: usize, to: usize, e: Event) -> Next
         ensures { λ r. ⌜ r ≡ tellOf room to e self ⌝ }
     {
-        if 3 <= room {
+        if EVENT_WORDS <= room {
             Next::Tells(self.moved(to), e)
         } else {
             Next::Full
@@ -640,7 +612,7 @@ impl Registers {
             return Next::Outside;
         }
         if to <= n {
-            if self.depth < 64 {
+            if self.depth < PENDING {
                 Next::Push(self.moved(to), (loc + len) as u16)
             } else {
                 Next::Stop(Reason::Deep)
@@ -664,7 +636,7 @@ impl Registers {
         }
     }
 
-    fn ret(self, returns: &[u16; 64], t: &[u8], n: usize, len: usize) -> Next
+    fn ret(self, returns: &[u16; PENDING], t: &[u8], n: usize, len: usize) -> Next
         requires { ⌜ (n ≡ size (now t)) × (self .location ≤ n) × (len ≡ 1) × (self .depth ≤ 64) ⌝ }
         ensures { λ r. ⌜ r ≡ returnOf (now (returns .entry)) (now (t .entry)) self ⌝ }
     {
@@ -718,7 +690,7 @@ impl Registers {
             return Next::Outside;
         }
         let k = self.used as usize;
-        if room < 3 {
+        if room < EVENT_WORDS {
             return Next::Full;
         }
         if paused {
@@ -738,8 +710,8 @@ impl Registers {
     // What the instruction of this number does, at a location of the table. 0 has an arm so that the branch by number begins there.
     fn act(
         self,
-        known: &[usize; 13],
-        returns: &[u16; 64],
+        known: &[usize; LAST_PLAIN],
+        returns: &[u16; PENDING],
         t: &[u8],
         n: usize,
         tokens: &[u8],
@@ -795,7 +767,7 @@ impl Registers {
                 answers,
                 Event::Plain(ins),
             )
-        } else if ins < PAST {
+        } else if ins < PAST_OPERATIONS {
             self.answer(
                 n,
                 machine::instruction_length(ins),
@@ -812,8 +784,8 @@ impl Registers {
     // One step of a walk that goes on.
     pub fn next(
         self,
-        known: &[usize; 13],
-        returns: &[u16; 64],
+        known: &[usize; LAST_PLAIN],
+        returns: &[u16; PENDING],
         t: &[u8],
         tokens: &[u8],
         answers: &[u8],
@@ -934,9 +906,9 @@ impl Walk {
         ensures { λ r. ⌜ r ≡ tookOf self x ⌝ }
     {
         match x {
-            Next::Full => self.says(Said::Undone(FULL)),
+            Next::Full => self.says(Said::Undone(base::FULL)),
             Next::Outside => self.in_phase(Phase::Stopped(Reason::Outside))
-                .says(Said::Undone(OUTSIDE)),
+                .says(Said::Undone(base::OUTSIDE)),
             Next::Stop(why) => self.in_phase(Phase::Stopped(why))
                 .says(Said::Stops(number_of(why))),
             Next::On(q) => self.with_registers(q).says(Said::On),
@@ -1016,7 +988,7 @@ impl Walk {
         let phase = self.phase;
         match phase {
             Phase::Going => self.clipped().next(t, tokens, answers, room, paused),
-            Phase::Waiting => self.says(Said::Undone(REFUSED)),
+            Phase::Waiting => self.says(Said::Undone(base::REFUSED)),
             Phase::Stopped(why) => self.says(Said::Undone(number_of(why))),
         }
     }
@@ -1076,11 +1048,11 @@ impl Walk {
             match x {
                 Next::Full => {
                     let phase = Phase::Going;
-                    return ended(Walk { phase, at, returns }, events, done, FULL);
+                    return ended(Walk { phase, at, returns }, events, done, base::FULL);
                 }
                 Next::Outside => {
                     let phase = Phase::Stopped(Reason::Outside);
-                    return ended(Walk { phase, at, returns }, events, done, OUTSIDE);
+                    return ended(Walk { phase, at, returns }, events, done, base::OUTSIDE);
                 }
                 Next::Stop(why) => {
                     let phase = Phase::Stopped(why);
@@ -1090,10 +1062,10 @@ impl Walk {
                     at = q;
                 }
                 Next::Tells(q, e) => {
-                    put_event(out, 3 * events, e);
+                    put_event(out, EVENT_WORDS * events, e);
                     at = q;
                     events += 1;
-                    room -= 3;
+                    room -= EVENT_WORDS;
                 }
                 Next::Push(q, back) => {
                     let d = q.depth;
@@ -1101,16 +1073,16 @@ impl Walk {
                     at = q.deeper();
                 }
                 Next::Waits(q, e) => {
-                    put_event(out, 3 * events, e);
+                    put_event(out, EVENT_WORDS * events, e);
                     let phase = Phase::Waiting;
                     at = q;
-                    return ended(Walk { phase, at, returns }, events + 1, next, WAITS);
+                    return ended(Walk { phase, at, returns }, events + 1, next, base::WAITS);
                 }
             }
             done = next;
         }
         let phase = Phase::Going;
-        ended(Walk { phase, at, returns }, events, done, SPENT)
+        ended(Walk { phase, at, returns }, events, done, base::SPENT)
     }
 
     // A whole walk's call: up to budget steps, with all answers given. `wholeOf` has the code's own order; `whole-call` in proofs/Link.antt says that it is
@@ -1137,7 +1109,7 @@ impl Walk {
                 walk: self,
                 events: 0,
                 steps: 0,
-                number: REFUSED,
+                number: base::REFUSED,
             },
             Phase::Stopped(why) => Called {
                 walk: self,
@@ -1173,7 +1145,7 @@ impl Walk {
                         walk: self,
                         events: 0,
                         steps: 0,
-                        number: REFUSED,
+                        number: base::REFUSED,
                     };
                 }
                 self.clipped()
@@ -1189,7 +1161,7 @@ impl Walk {
                     walk: self,
                     events: 0,
                     steps: 0,
-                    number: REFUSED,
+                    number: base::REFUSED,
                 }
             }
             Phase::Stopped(why) => {
@@ -1198,7 +1170,7 @@ impl Walk {
                         walk: self,
                         events: 0,
                         steps: 0,
-                        number: REFUSED,
+                        number: base::REFUSED,
                     };
                 }
                 Called {
