@@ -12,6 +12,10 @@ zeroed s = bytesOf (replicate (count s) 0) ++ drop (2 * count s) s
 unfoldable pub putWord : List ℕ → ℕ → ℕ → List ℕ
 putWord out i x = set (set out (2 * i) (x / 256)) (2 * i + 1) (x % 256)
 
+-- a buffer with the number n written as four words from index i on
+unfoldable pub put64 : List ℕ → ℕ → ℕ → List ℕ
+put64 out i n = putWord (putWord (putWord (putWord out i (n / 281474976710656)) (i + 1) (n / 4294967296 % 65536)) (i + 2) (n / 65536 % 65536)) (i + 3) (n % 65536)
+
 -- a buffer with the number n written as number i
 unfoldable pub putNumber : List ℕ → ℕ → ℕ → List ℕ
 putNumber out i n =
@@ -19,5 +23,5 @@ putNumber out i n =
 
 -- all of this file computes where this is unfolded
 unfoldable pub opened : Unit {0}
-unfolding zeroed putWord putNumber
+unfolding zeroed putWord put64 putNumber
 opened = tt

@@ -1,67 +1,21 @@
 -- `buffers::put_number` meets its contract.
-use Rattle.buffers.specs.Words.{putNumber}
+use Rattle.buffers.specs.Words.{put64, putNumber}
 use borrow.Author.Needs.{needs}
 use Rattle.buffers.proofs.put_number.Statement.{statement}
 use Rattle.buffers.proofs.put_number.Tie as tie
 
-mul-k : tie.Need-mul-k
-mul-k c = search needs
+mul-put-64 : tie.Need-mul-put-64
+mul-put-64 c = search needs
 
-cast-put-word : tie.Need-cast-put-word
-cast-put-word c = search needs
-
-put-word-requires : tie.Need-put-word-requires
-put-word-requires c κs = search needs
-
-add-put-word : tie.Need-add-put-word
-add-put-word c = search needs
-
-cast-put-word-2 : tie.Need-cast-put-word-2
-cast-put-word-2 c = search needs
-
-put-word-requires-2 : tie.Need-put-word-requires-2
-put-word-requires-2 c κs = search needs
-
-add-put-word-2 : tie.Need-add-put-word-2
-add-put-word-2 c = search needs
-
-cast-put-word-3 : tie.Need-cast-put-word-3
-cast-put-word-3 c = search needs
-
-put-word-requires-3 : tie.Need-put-word-requires-3
-put-word-requires-3 c κs = search needs
-
-add-put-word-3 : tie.Need-add-put-word-3
-add-put-word-3 c = search needs
-
-cast-put-word-4 : tie.Need-cast-put-word-4
-cast-put-word-4 c = search needs
-
-put-word-requires-4 : tie.Need-put-word-requires-4
-put-word-requires-4 c κs = search needs
+put-64-requires : tie.Need-put-64-requires
+put-64-requires c κs = search needs
 
 same-length : tie.Need-same-length
 same-length c = search needs
 
 returns : tie.Need-returns
-unfolding putNumber
-returns c = cc
+unfolding put64 putNumber
+returns c = search needs
 
 pub put-number-spec : {M : Type 1} → statement M
-put-number-spec =
-    tie.close
-    (tie.spec
-    mul-k
-    cast-put-word
-    put-word-requires
-    add-put-word
-    cast-put-word-2
-    put-word-requires-2
-    add-put-word-2
-    cast-put-word-3
-    put-word-requires-3
-    add-put-word-3
-    cast-put-word-4
-    put-word-requires-4
-    same-length
-    returns)
+put-number-spec = tie.close (tie.spec mul-put-64 put-64-requires same-length returns)
