@@ -14,7 +14,7 @@ const TWO_WORDS: u64 = 4294967296;
 const THREE_WORDS: u64 = 281474976710656;
 
 // The words of a number.
-const NUMBER_WORDS: usize = 4;
+pub const NUMBER_WORDS: usize = 4;
 
 fn wide(x: u16) -> u64
     ensures { λ r. ⌜ (r ≡ x) × (r < 65536) ⌝ }
@@ -31,7 +31,7 @@ pub fn wide_word(s: &[u8], i: usize) -> u64
 
 // The four words from index i on as one number.
 pub fn read_64(s: &[u8], i: usize) -> u64
-    requires { ⌜ i < 1000000 ⌝ }
+    requires { ⌜ i < 9223372036854775808 ⌝ }
     ensures { λ r. ⌜ r ≡ number64 (drop i (wordsOf (now (s .entry)))) ⌝ }
 {
     wide_word(s, i) * THREE_WORDS

@@ -21,30 +21,9 @@ use Rattle.figures.proofs.Bits.{getD-bits}
 use Rattle.figures.proofs.Form.{length-numberWords, length-bits}
 use Rattle.figures.specs.Figures.{Figures, sum, covered, flag, packed, bitsOf, sound}
 use Rattle.figures.specs.Form.{numberWords, numberAt}
-use Rattle.machine.proofs.Bytes.{getD-wordsOf, length-bytesOf}
+use Rattle.machine.proofs.Bytes.{length-bytesOf}
 use Rattle.machine.specs.Bytes.{count, wordsOf, wordAt, bytesOf, over}
 use Rattle.machine.specs.Form.{words64, number64}
-
--- Comparing
-
-pub same-next : (a b : List ℕ) (i : ℕ) → i < length a → i < length b → getD a i 0 ≡ getD b i 0 → same (drop i a) (drop i b) ≡ same (drop (i + 1) a) (drop (i + 1) b)
-same-next a b i h k e = rw (add-one, drop-cons a i 0, drop-cons b i 0, eq-eqb (getD a i 0) (getD b i 0))
-
-pub same-not : (a b : List ℕ) (i : ℕ) → i < length a → i < length b → (getD a i 0 ≡ getD b i 0 → ⊥) → same (drop i a) (drop i b) ≡ false
-same-not a b i h k e = rw (drop-cons a i 0, drop-cons b i 0, ne-eqb (getD a i 0) (getD b i 0))
-
-pub same-end : (a b : List ℕ) (i : ℕ) → length a ≤ i → length b ≤ i → same (drop i a) (drop i b) ≡ true
-same-end a b i h k = rw (drop-of-length-le a h, drop-of-length-le b k)
-
--- Reading a number
-
-pub number-is : (s : List ℕ) (i : ℕ) → 8 * i + 8 ≤ length s
-    → numberAt (wordsOf s) i ≡ wordAt s (4 * i) * 281474976710656 + wordAt s (4 * i + 1) * 4294967296 + wordAt s (4 * i + 2) * 65536 + wordAt s (4 * i + 3)
-unfolding numberAt number64 count
-number-is s i h =
-    let ws = wordsOf s in
-    let k = 4 * i in
-    rw (getD-drop k ws 0 0, getD-drop k ws 1 0, getD-drop k ws 2 0, getD-drop k ws 3 0, add-zero, getD-wordsOf s k (omega arith), getD-wordsOf s (k + 1) (omega arith), getD-wordsOf s (k + 2) (omega arith), getD-wordsOf s (k + 3) (omega arith)) refl
 
 -- The bits of 64 counts, from the last
 

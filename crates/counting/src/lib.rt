@@ -15,37 +15,27 @@ ghost use Rattle.figures.specs.Form as form;
 ghost use Rattle.figures.specs.Form.{numberAt, numbersAt, figuresNamed};
 ghost use Rattle.counting.specs.Counting.{freshAt, bookVisits, bookOf, Inside, toldOf, numbersOf, gives, reports};
 ghost use Rattle.walker.specs.Shape.{putEvent};
+use machine::EVENT_WORDS;
 use walker::Event;
 use walker::Next;
 use walker::Registers;
 
-// The numbers of calls that end otherwise than by a stop, and of figures that are none, or would pass 64 bits.
-const REFUSED: u16 = 21;
-
-const WAITS: u16 = 22;
-
-const FULL: u16 = 35;
-
-const SPENT: u16 = 36;
-
-const OUTSIDE: u16 = 37;
-
-const PAST: u16 = 46;
-
 // Figures as bytes (docs/LAYOUT.md): a count for each location, the words of their bits, books, total.
-const FIGURES_BYTES: usize = 33296;
+const LOCATIONS: usize = base::TABLE_WORDS;
 
-const LOCATIONS: usize = 4096;
+const BITS: usize = 64;
 
-const BIT_WORDS: usize = 64;
+const BIT_WORDS: usize = LOCATIONS / BITS;
 
-const BITS_NUMBER: usize = 4096;
+const BITS_NUMBER: usize = LOCATIONS;
 
-const BOOKS_NUMBER: usize = 4160;
+const BOOKS_NUMBER: usize = BITS_NUMBER + BIT_WORDS;
 
-const TOTAL_NUMBER: usize = 4161;
+const TOTAL_NUMBER: usize = BOOKS_NUMBER + 1;
 
-const NUMBERS: usize = 4162;
+const NUMBERS: usize = TOTAL_NUMBER + 1;
+
+const FIGURES_BYTES: usize = 2 * buffers::NUMBER_WORDS * NUMBERS;
 
 const GREATEST: u64 = 18446744073709551615;
 
@@ -137,7 +127,7 @@ fn count_book(
     ensures { λ _. ⌜ now (counts .exit) ≡ (if b .writes then bumps (now (counts .entry)) (bookVisits (now (table .entry)) (now (tokens .entry)) (now (answers .entry)) (b .budget) (b .allowance) (count (now (out .entry)))) else now (counts .entry)) ⌝ }
 {
     let mut at = fresh_at(b.allowance);
-    let mut returns = [0u16; 64];
+    let mut returns = [0u16; base::PENDING];
     let mut events: usize = 0;
     let mut done: u64 = 0;
     // words left for events
@@ -148,18 +138,18 @@ fn count_book(
         let x = at.next(&known, &returns, table, tokens, answers, room, false);
         let next = done + 1;
         match x {
-            Next::Full => return ended(FULL, events, done),
-            Next::Outside => return ended(OUTSIDE, events, done),
+            Next::Full => return ended(base::FULL, events, done),
+            Next::Outside => return ended(base::OUTSIDE, events, done),
             Next::Stop(why) => {
                 bump(counts, here, b.writes);
                 return ended(walker::number_of(why), events, next);
             }
             Next::On(q) => at = q,
             Next::Tells(q, e) => {
-                tell(out, 3 * events, e, b.writes);
+                tell(out, EVENT_WORDS * events, e, b.writes);
                 at = q;
                 events += 1;
-                room -= 3;
+                room -= EVENT_WORDS;
             }
             Next::Push(q, back) => {
                 let d = q.depth;
@@ -167,33 +157,22 @@ fn count_book(
                 at = q.deeper();
             }
             // a whole walk hands nothing out
-            Next::Waits(_, _) => return ended(WAITS, events, next),
+            Next::Waits(_, _) => return ended(base::WAITS, events, next),
         }
         bump(counts, here, b.writes);
         done = next;
     }
-    ended(SPENT, events, done)
+    ended(base::SPENT, events, done)
 }
 
 // Figures as bytes
-
-fn word(s: &[u8], i: usize) -> u64
-    requires { ⌜ i < count (now s) ⌝ }
-    ensures { λ r. ⌜ (r ≡ wordAt (now (s .entry)) i) × (r < 65536) ⌝ }
-{
-    walker::word(s, i) as u64
-}
 
 // Number i, from 0.
 fn number_at(s: &[u8], i: usize) -> u64
     requires { ⌜ 8 * i + 8 ≤ length (now s) ⌝ }
     ensures { λ r. ⌜ r ≡ numberAt (wordsOf (now (s .entry))) i ⌝ }
 {
-    let k = 4 * i;
-    word(s, k) * 281474976710656
-        + word(s, k + 1) * 4294967296
-        + word(s, k + 2) * 65536
-        + word(s, k + 3)
+    buffers::read_64(s, buffers::NUMBER_WORDS * i)
 }
 
 fn counts_of(s: &[u8]) -> [u64; LOCATIONS]
@@ -222,10 +201,10 @@ fn bits_of(counts: &[u64], j: usize) -> u64
     ensures { λ r. ⌜ r ≡ packed (take 64 (drop (j * 64) (now (counts .entry)))) ⌝ }
 {
     let mut w: u64 = 0;
-    let mut i: usize = 64;
+    let mut i: usize = BITS;
     while 0 < i {
         i -= 1;
-        w = w * 2 + flag(counts[j * 64 + i]);
+        w = w * 2 + flag(counts[j * BITS + i]);
     }
     w
 }
@@ -338,16 +317,16 @@ pub fn add_book(
     ensures { λ r. ⌜ gives r (now (figures .exit)) (now (events .exit)) ≡ form.addBytes (now (table .entry)) (now (tokens .entry)) (now (answers .entry)) budget allowance (now (figures .entry)) (now (events .entry)) ⌝ }
 {
     if figures.len() != FIGURES_BYTES {
-        return ended(REFUSED, 0, 0);
+        return ended(base::REFUSED, 0, 0);
     }
     let mut counts = counts_of(figures);
     if !is_sound(figures, &counts) {
-        return ended(REFUSED, 0, 0);
+        return ended(base::REFUSED, 0, 0);
     }
     let books = number_at(figures, BOOKS_NUMBER);
     let total = number_at(figures, TOTAL_NUMBER);
     if books == GREATEST {
-        return ended(PAST, 0, 0);
+        return ended(base::PAST, 0, 0);
     }
     let left = GREATEST - total;
     if left < budget {
@@ -358,7 +337,7 @@ pub fn add_book(
         };
         let m = count_book(table, tokens, answers, measured, events, &mut counts);
         if left < m.steps {
-            return ended(PAST, 0, 0);
+            return ended(base::PAST, 0, 0);
         }
     }
     let added = Book {
@@ -376,7 +355,7 @@ fn no_report() -> Report
     ensures { λ r. ⌜ reports r ≡ form.reportOf none ⌝ }
 {
     Report {
-        number: REFUSED,
+        number: base::REFUSED,
         books: 0,
         total: 0,
         covered: 0,
