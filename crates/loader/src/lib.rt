@@ -13,9 +13,7 @@ ghost use Rattle.loading.specs.Taking.{labelled, taken};
 ghost use Rattle.loader.specs.Marking.{work, markOf, marksOf, choiceOf, visitOf, Kept, Marked, Lies, Ready, Holds, Takes, Tells};
 ghost use Rattle.loader.specs.Passing.{Passed, Through, Piece, Whole};
 ghost use Rattle.loader.specs.Records.{fullAt, lastAt, sizeNamed, Loads};
-
-// The most words that a table has.
-const TABLE_WORDS: usize = 4096;
+use base::TABLE_WORDS;
 
 // Choice tables are gone through in blocks of 16 entries, each once, so that tables which many choices share or which overlap cost no more than their
 // entries. A block begins at a location that its words divide, or one behind it.
@@ -25,48 +23,46 @@ const BLOCK_WORDS: usize = 32;
 
 const BLOCKS: usize = 256;
 
-// The numbers of the instructions that do not go on with the word behind them.
-const JUMP_FORWARD: usize = 1;
+// The instructions that do not go on with the word behind them.
+const JUMP_FORWARD: usize = machine::JUMP_FORWARD as usize;
 
-const JUMP_BACK: usize = 2;
+const JUMP_BACK: usize = machine::JUMP_BACK as usize;
 
-const INPUT_CHOICE: usize = 7;
+const INPUT_CHOICE: usize = machine::INPUT_CHOICE as usize;
 
-const CALL: usize = 8;
+const CALL: usize = machine::CALL as usize;
 
-const RETURN: usize = 9;
+const RETURN: usize = machine::RETURN as usize;
 
-const CHOICE: usize = 11;
+const CHOICE: usize = machine::CHOICE as usize;
 
-const END_CHOICE: usize = 12;
+const END_CHOICE: usize = machine::END_CHOICE as usize;
 
-// The marks of a file's records, `HD` and `TW`.
-const HEAD_MARK: u16 = 18500;
+// The marks of a file's records, `HD` and `TW`, high byte first.
+pub const HEAD_MARK: u16 = 18500;
 
-const TABLE_MARK: u16 = 21591;
+pub const TABLE_MARK: u16 = 21591;
 
 // The words behind mark and count of the head, of a full record, and of mark, count and words of one.
-const HEAD_WORDS: u16 = 2;
+pub const HEAD_WORDS: u16 = 2;
 
-const RECORD_WORDS: usize = 256;
+pub const RECORD_WORDS: usize = 256;
 
-const RECORD: usize = 258;
+pub const RECORD: usize = 258;
 
-// Where words of a file stand: the table's length, the verdict, the first record, the first word of the table.
-const LENGTH_AT: usize = 2;
+// Where the count stands behind a mark, and in a file the table's length, the verdict and the first record.
+pub const COUNT_AT: usize = 1;
 
-const VERDICT_AT: usize = 3;
+pub const LENGTH_AT: usize = 2;
 
-const RECORDS_AT: usize = 4;
+pub const VERDICT_AT: usize = 3;
 
-const WORDS_AT: usize = 6;
+pub const RECORDS_AT: usize = 4;
 
-// What loading answers where it does not take a file.
-const NO_FILE: u16 = 40;
+// Mark and count of a record, and where the first word of the table stands.
+pub const RECORD_HEAD: usize = 2;
 
-const TOO_SHORT: u16 = 20;
-
-const GIVES_37: u16 = 41;
+const WORDS_AT: usize = RECORDS_AT + RECORD_HEAD;
 
 // Whether every location was inside the table, and how many are marked.
 pub struct Marks {
@@ -478,7 +474,7 @@ fn full_record(file: &[u8], total: usize, p: usize) -> bool
     if machine::word(file, p) != TABLE_MARK {
         return false;
     }
-    if wide(machine::word(file, p + 1)) != RECORD_WORDS {
+    if wide(machine::word(file, p + COUNT_AT)) != RECORD_WORDS {
         return false;
     }
     p + RECORD <= total
@@ -492,10 +488,10 @@ fn last_record(file: &[u8], total: usize, p: usize, left: usize) -> bool
     if machine::word(file, p) != TABLE_MARK {
         return false;
     }
-    if wide(machine::word(file, p + 1)) != left {
+    if wide(machine::word(file, p + COUNT_AT)) != left {
         return false;
     }
-    p + left + 2 == total
+    p + left + RECORD_HEAD == total
 }
 
 // Whether the records of n words stand behind the first four words.
@@ -525,7 +521,7 @@ fn file_words(file: &[u8]) -> usize
     if machine::word(file, 0) != HEAD_MARK {
         return 0;
     }
-    if machine::word(file, 1) != HEAD_WORDS {
+    if machine::word(file, COUNT_AT) != HEAD_WORDS {
         return 0;
     }
     let n = wide(machine::word(file, LENGTH_AT));
@@ -558,7 +554,7 @@ fn copy_words(file: &[u8], n: usize, out: &mut [u8])
 {
     let mut k: usize = 0;
     while k < n {
-        let x = machine::word(file, k + 2 * (k / RECORD_WORDS) + WORDS_AT);
+        let x = machine::word(file, k + RECORD_HEAD * (k / RECORD_WORDS) + WORDS_AT);
         buffers::put_word(out, k, x);
         k += 1;
     }
@@ -573,14 +569,14 @@ pub fn load(file: &[u8], table: &mut [u8]) -> Loaded
     buffers::clear_words(table);
     if n == 0 {
         return Loaded {
-            number: NO_FILE,
+            number: base::NOT_FORMED,
             words: 0,
             verdict: 0,
         };
     }
     if room < n {
         return Loaded {
-            number: TOO_SHORT,
+            number: base::TOO_SHORT,
             words: 0,
             verdict: 0,
         };
@@ -590,7 +586,7 @@ pub fn load(file: &[u8], table: &mut [u8]) -> Loaded
     if !takes(&table[..end]) {
         buffers::clear_words(table);
         return Loaded {
-            number: GIVES_37,
+            number: base::NOT_TAKEN,
             words: 0,
             verdict: 0,
         };

@@ -6,32 +6,10 @@ ghost use lib.ListN.{length, getD};
 ghost use Rattle.machine.specs.Bytes.{count, wordsOf, bytesOf, over};
 ghost use Rattle.loading.specs.File.{records, fileWords, allowed, store};
 ghost use Rattle.writer.specs.Storing.{Sized, Fits, fileLength, Stores};
-
-// The marks `HD` and `TW`, high byte first.
-const HD: u16 = 18500;
-
-const TW: u16 = 21591;
-
-// The words behind the mark `HD`.
-const CLAIMS: u16 = 2;
-
-// The words before the first record: mark, count, table length, verdict.
-const HEADER: usize = 4;
-
-// The words of a table in a full record, and with its mark and count.
-const RECORD: usize = 256;
-
-const RECORD_WORDS: usize = 258;
-
-// The most words that a table has.
-const TABLE_WORDS: usize = 4096;
-
-// The numbers of refusals: not of the form, buffer too short, a location that can be reached gives 37.
-const NOT_FORMED: u16 = 40;
-
-const TOO_SHORT: u16 = 20;
-
-const NOT_TAKEN: u16 = 41;
+use loader::RECORD;
+use loader::RECORD_HEAD;
+use loader::RECORD_WORDS;
+use loader::RECORDS_AT;
 
 // What writing answers: 0, 40, 20 or 41; the words of the file.
 pub struct Stored {
@@ -46,7 +24,7 @@ fn is_allowed(n: usize, verdict: u64) -> bool
     if n == 0 {
         return false;
     }
-    if TABLE_WORDS < n {
+    if base::TABLE_WORDS < n {
         return false;
     }
     verdict <= 1
@@ -57,8 +35,8 @@ fn file_length(n: usize) -> usize
     requires { ⌜ n ≤ 4096 ⌝ }
     ensures { λ r. ⌜ r ≡ fileLength n ⌝ }
 {
-    let records = (n + RECORD - 1) / RECORD;
-    n + 2 * records + HEADER
+    let records = (n + RECORD_WORDS - 1) / RECORD_WORDS;
+    n + RECORD_HEAD * records + RECORDS_AT
 }
 
 // The words before the first record.
@@ -67,12 +45,12 @@ fn header_word(n: usize, verdict: u64, j: usize) -> u16
     ensures { λ r. ⌜ r ≡ getD (18500 ∷ 2 ∷ n ∷ verdict ∷ []) j 0 ⌝ }
 {
     if j == 0 {
-        return HD;
+        return loader::HEAD_MARK;
     }
-    if j == 1 {
-        return CLAIMS;
+    if j == loader::COUNT_AT {
+        return loader::HEAD_WORDS;
     }
-    if j == 2 {
+    if j == loader::LENGTH_AT {
         return n as u16;
     }
     verdict as u16
@@ -82,10 +60,10 @@ fn header_word(n: usize, verdict: u64, j: usize) -> u16
 fn record_count(left: usize) -> u16
     ensures { λ r. ⌜ r ≡ min 256 left ⌝ }
 {
-    if left < RECORD {
+    if left < RECORD_WORDS {
         left as u16
     } else {
-        RECORD as u16
+        RECORD_WORDS as u16
     }
 }
 
@@ -94,15 +72,15 @@ fn record_word(table: &[u8], n: usize, j: usize) -> u16
     requires { ⌜ Sized (wordsOf (now table)) n × (j < length (records 16 (wordsOf (now table)))) ⌝ }
     ensures { λ r. ⌜ r ≡ getD (records 16 (wordsOf (now (table .entry)))) j 0 ⌝ }
 {
-    let before = j / RECORD_WORDS * RECORD;
-    let at = j % RECORD_WORDS;
+    let before = j / RECORD * RECORD_WORDS;
+    let at = j % RECORD;
     if at == 0 {
-        return TW;
+        return loader::TABLE_MARK;
     }
-    if at == 1 {
+    if at == loader::COUNT_AT {
         return record_count(n - before);
     }
-    machine::word(table, before + at - 2)
+    machine::word(table, before + at - RECORD_HEAD)
 }
 
 // The word at index j of the file.
@@ -110,10 +88,10 @@ fn file_word(table: &[u8], n: usize, verdict: u64, j: usize) -> u16
     requires { ⌜ Sized (wordsOf (now table)) n × (verdict ≤ 1) × (j < length (fileWords (wordsOf (now table)) verdict)) ⌝ }
     ensures { λ r. ⌜ r ≡ getD (fileWords (wordsOf (now (table .entry))) verdict) j 0 ⌝ }
 {
-    if j < HEADER {
+    if j < RECORDS_AT {
         return header_word(n, verdict, j);
     }
-    record_word(table, n, j - HEADER)
+    record_word(table, n, j - RECORDS_AT)
 }
 
 // The words of the file, one after the other.
@@ -138,20 +116,20 @@ pub fn write_file(table: &[u8], verdict: u64, file: &mut [u8]) -> Stored
     buffers::clear_words(file);
     if !is_allowed(n, verdict) {
         return Stored {
-            number: NOT_FORMED,
+            number: base::NOT_FORMED,
             words: 0,
         };
     }
     let total = file_length(n);
     if room < total {
         return Stored {
-            number: TOO_SHORT,
+            number: base::TOO_SHORT,
             words: 0,
         };
     }
     if !loader::takes(table) {
         return Stored {
-            number: NOT_TAKEN,
+            number: base::NOT_TAKEN,
             words: 0,
         };
     }
