@@ -5,19 +5,11 @@ ghost use Rattle.loading.specs.File.{load, lentBytes};
 ghost use Rattle.machine.specs.Bytes.{count, tableOf};
 ghost use Rattle.rights.specs.Rights.{granted, denied, says, admit, admitLoaded, tells};
 ghost use Rattle.admission.specs.Flags.{Flagged, AllFlagged, wrongAt};
+use base::TABLE_WORDS;
+use machine::FIRST_OPERATION;
 
-// The numbers of the operations.
-const OPERATIONS: usize = 256;
-
-const LAST_OPERATION: usize = 1279;
-
-// The most words that a table has.
-const TABLE_WORDS: usize = 4096;
-
-// What an admission answers where it turns a table away.
-const OUTSIDE: u16 = 41;
-
-const NOT_GRANTED: u16 = 48;
+// The bits of a byte of the set.
+const BYTE_BITS: usize = 8;
 
 // What an admission answers: 0, 41 or 48, and the location that 48 names.
 pub struct Admission {
@@ -67,11 +59,11 @@ fn grants(set: &[u8], op: usize) -> bool
     requires { ⌜ 256 ≤ op ⌝ }
     ensures { λ r. ⌜ r ≡ granted (now (set .entry)) op ⌝ }
 {
-    let k = op - OPERATIONS;
-    let i = k / 8;
+    let k = op - FIRST_OPERATION;
+    let i = k / BYTE_BITS;
     if i < set.len() {
         let b = set[i];
-        let w = weight(k % 8);
+        let w = weight(k % BYTE_BITS);
         b / w % 2 == 1
     } else {
         false
@@ -87,10 +79,10 @@ fn is_wrong(table: &[u8], set: &[u8], seen: &[u8], l: usize) -> bool
         return false;
     }
     let i = loader::word_at(table, l);
-    if i < OPERATIONS {
+    if i < FIRST_OPERATION {
         return false;
     }
-    if LAST_OPERATION < i {
+    if machine::LAST_OPERATION < i {
         return false;
     }
     !grants(set, i)
@@ -119,7 +111,7 @@ pub fn admits(table: &[u8], set: &[u8]) -> Admission
     let mut order = [0u16; TABLE_WORDS];
     if !loader::reach(table, &mut seen, &mut order) {
         return Admission {
-            number: OUTSIDE,
+            number: base::NOT_TAKEN,
             location: 0,
         };
     }
@@ -131,7 +123,7 @@ pub fn admits(table: &[u8], set: &[u8]) -> Admission
         };
     }
     Admission {
-        number: NOT_GRANTED,
+        number: base::NOT_GRANTED,
         location: at,
     }
 }
