@@ -6,26 +6,24 @@ ghost use Rattle.buffers.specs.Words.{putWord};
 ghost use Rattle.machine.specs.Bytes.{count, bytesOf, over};
 ghost use Rattle.filtering.specs.Filter.{entries, crossed, filter, numbersOf, tells, bufferAfter};
 ghost use Rattle.filter.specs.Working.{entryAt, turned, orNone, lowestDoubled, lowestMissing, Counts, Tallied, mapTokens, putWords};
+use base::BYTE_VALUES;
 
+// The bytes of an entry: first, last, and the token's two.
 const ENTRY_BYTES: usize = 4;
+
+const LAST_AT: usize = 1;
+
+const HIGH_AT: usize = 2;
+
+const LOW_AT: usize = 3;
 
 const MOST_ENTRIES: usize = 64;
 
-const BYTE_VALUES: usize = 256;
+// The tokens that are put at a time.
+const AT_A_TIME: usize = 4;
 
 // No entry and no byte.
 const NONE: usize = 65536;
-
-// Numbers answered.
-const TOO_SHORT: u16 = 20;
-
-const TOO_MANY: u16 = 9;
-
-const CROSSED: u16 = 42;
-
-const DOUBLED: u16 = 43;
-
-const MISSING: u16 = 44;
 
 // What filtering answers: its number, the entry or the byte that it names, the tokens written.
 pub struct Filtered {
@@ -47,7 +45,7 @@ fn first_crossed(s: &[u8], n: usize) -> usize
 {
     let mut i: usize = 0;
     while i < n {
-        if s[ENTRY_BYTES * i + 1] < s[ENTRY_BYTES * i] {
+        if s[ENTRY_BYTES * i + LAST_AT] < s[ENTRY_BYTES * i] {
             return i;
         }
         i += 1;
@@ -60,7 +58,7 @@ fn turned_token(s: &[u8], i: usize) -> u16
     requires { ⌜ i < length (now s) / 4 ⌝ }
     ensures { λ r. ⌜ turned r ≡ entryAt (now (s .entry)) i .token ⌝ }
 {
-    let token = wide(s[ENTRY_BYTES * i + 3]) * 256 + wide(s[ENTRY_BYTES * i + 2]);
+    let token = wide(s[ENTRY_BYTES * i + LOW_AT]) * 256 + wide(s[ENTRY_BYTES * i + HIGH_AT]);
     token as u16
 }
 
@@ -83,7 +81,7 @@ fn tally_entry(s: &[u8], i: usize, held: &mut [u8], map: &mut [u16])
     ensures { λ _. ⌜ Tallied (now (s .entry)) (i + 1) (now (held .exit)) (now (map .exit)) ⌝ }
 {
     let token = turned_token(s, i);
-    let last = wide(s[ENTRY_BYTES * i + 1]);
+    let last = wide(s[ENTRY_BYTES * i + LAST_AT]);
     let mut b = wide(s[ENTRY_BYTES * i]);
     while b <= last {
         tally_byte(b, token, held, map);
@@ -165,10 +163,10 @@ fn put_fours(map: &[u16], text: &[u8], out: &mut [u8]) -> usize
     ensures { λ r. ⌜ (r ≤ length (now (text .entry))) × (now (out .exit) ≡ putWords (mapTokens (now (map .entry)) (now (text .entry))) r 0 (now (out .entry))) ⌝ }
 {
     let mut k: usize = 0;
-    while 4 <= text.len() - k {
+    while AT_A_TIME <= text.len() - k {
         put_two(map, text, k, out);
         put_two(map, text, k + 2, out);
-        k += 4;
+        k += AT_A_TIME;
     }
     k
 }
@@ -211,25 +209,25 @@ pub fn fold(s: &[u8], text: &[u8], out: &mut [u8]) -> Filtered
 {
     let n = s.len() / ENTRY_BYTES;
     if MOST_ENTRIES < n {
-        return refuse(TOO_MANY, 0);
+        return refuse(base::OVER_LIMIT, 0);
     }
     let c = first_crossed(s, n);
     if c < NONE {
-        return refuse(CROSSED, c);
+        return refuse(base::CROSSED, c);
     }
     let mut held = [0u8; BYTE_VALUES];
     let mut map = [0u16; BYTE_VALUES];
     tally(s, n, &mut held, &mut map);
     let d = lowest_doubled(&held);
     if d < NONE {
-        return refuse(DOUBLED, d);
+        return refuse(base::DOUBLED, d);
     }
     let m = lowest_missing(&held);
     if m < NONE {
-        return refuse(MISSING, m);
+        return refuse(base::NOT_COVERED, m);
     }
     if out.len() / 2 < text.len() {
-        return refuse(TOO_SHORT, 0);
+        return refuse(base::TOO_SHORT, 0);
     }
     put_tokens(&map, text, out);
     Filtered {
