@@ -6,12 +6,10 @@ ghost use lib.ListN.{length, take};
 ghost use Rattle.machine.specs.Bytes.{wordsOf, tableOf};
 ghost use Rattle.listing.specs.Listing.{decimal, lineFeeds, lineAt, wordLine, wordLines, verdictEnd, heading, figureLine, tableListing, refusalListing};
 ghost use Rattle.listing.specs.Written.{Puts, Listed};
-
-// "Table words past 4,096 are outside the table."
-const TABLE_WORDS: usize = 4096;
+use base::TABLE_WORDS;
 
 // No listing is longer: 12 bytes for each word of the longest table are more than enough.
-pub const LONGEST: usize = 49152;
+pub const LONGEST: usize = 12 * TABLE_WORDS;
 
 fn least(a: usize, b: usize) -> usize
     ensures { λ r. ⌜ r ≡ min a b ⌝ }
@@ -72,7 +70,7 @@ fn put_bytes(out: &mut [u8], at: usize, s: &[u8]) -> usize
 fn digit(n: usize) -> u8
     ensures { λ r. ⌜ r ≡ 48 + n % 10 ⌝ }
 {
-    48 + (n % 10) as u8
+    b'0' + (n % 10) as u8
 }
 
 // A number in decimal: what stands before its last digit, then that.
