@@ -1,17 +1,19 @@
 -- What the code of adding a book does is `addBytes`, case by case.
 use mathlib.Core.Bool.{Bool, true, false, _&&_}
 use mathlib.Core.List.{List, [], _∷_, _++_}
+use mathlib.Core.Logic.{_⊎_, inl, inr}
 use mathlib.Core.Option.{none}
 use mathlib.Core.Path.{_≡_, refl, sym, ap, _∙_}
 use Prim.Native.Nat.{ℕ, _+_, _-_, _/_, _%_, _<_, _≤_}
 use native.Mathlib.Omega.{arith}
-use lib.Dec.{eqb}
+use lib.Dec.{eqb, leb, ltb}
 use lib.ListN.{length}
-use borrow.Author.Tests.{eq-eqb, ne-eqb, lt-ltb, le-ltb}
+use borrow.Author.Tests.{eq-eqb, ne-eqb, lt-ltb, le-ltb, le-leb, lt-leb, leb-true, ltb-true, ltb-false}
+use Rattle.base.specs.Bools.{never, split}
 use Rattle.base.specs.Common.{if_then_else_}
 use Rattle.counting.proofs.Link.{book-visits, book-call}
 use Rattle.counting.proofs.Loop.{tells-of}
-use Rattle.counting.specs.Counting.{bookVisits, bookOf, toldOf, numbersOf, gives}
+use Rattle.counting.specs.Counting.{bookVisits, bookOf, toldOf, numbersOf, pastOf, gives}
 use Rattle.counting.specs.declared.Told.{Told}
 use Rattle.figures.proofs.Shelves.{balanced, balanced-plus, sound-decided}
 use Rattle.figures.proofs.Steps.{length-visited}
@@ -24,6 +26,30 @@ use Rattle.machine.specs.Bytes.{count, wordsOf, tableOf, bytesOf}
 use Rattle.machine.specs.Call.{whole}
 use Rattle.machine.specs.Walk.{fresh}
 use Rattle.walker.specs.Linked.{Bytes, Agrees}
+
+-- whether a book's steps pass those that are left
+
+pub past-budget : (steps budget left : ℕ) → budget ≤ left → false ≡ pastOf steps budget left
+unfolding pastOf
+past-budget steps budget left h = rw (le-leb budget left h) refl
+
+pub past-measured : (steps budget left : ℕ) → left < budget → ltb left steps ≡ pastOf steps budget left
+unfolding pastOf
+past-measured steps budget left h = rw (lt-leb budget left h) refl
+
+pub past-yes : (steps budget left : ℕ) → pastOf steps budget left ≡ true → left < steps
+unfolding pastOf
+past-yes steps budget left e =
+    split (leb budget left)
+    (λ t. never (rw t at e))
+    (λ f. ltb-true left steps (rw f at e))
+
+pub past-no : (steps budget left : ℕ) → pastOf steps budget left ≡ false → (budget ≤ left) ⊎ (steps ≤ left)
+unfolding pastOf
+past-no steps budget left e =
+    split (leb budget left)
+    (λ t. inl (leb-true budget left t))
+    (λ f. inr (ltb-false left steps (rw f at e)))
 
 module _ (t k a : List ℕ) (budget allowance : ℕ) (fs o : List ℕ) where
   abbrev ws : List ℕ

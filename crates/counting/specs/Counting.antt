@@ -1,8 +1,10 @@
 -- A book's call in the order of the code, over the walker's definitions: what it gives, and the locations of its steps.
-use mathlib.Core.Bool.{false}
+use mathlib.Core.Bool.{Bool, false}
 use mathlib.Core.List.{List, [], _∷_, _++_}
 use Prim.Native.Nat.{ℕ, zero, suc, _+_, _*_, _-_, _/_, _%_, _<_, _≤_}
+use lib.Dec.{leb, ltb}
 use lib.ListN.{set, replicate}
+use Rattle.base.specs.Common.{if_then_else_}
 use Rattle.buffers.specs.Words.{putWord}
 use Rattle.figures.specs.Figures.{bitsOf}
 use Rattle.figures.specs.Form as form
@@ -49,6 +51,10 @@ toldOf number events steps = record { number = number; events = events; steps = 
 -- the numbers of figures with the bits of their counts
 unfoldable pub numbersOf : List ℕ → ℕ → ℕ → List ℕ
 numbersOf counts books total = counts ++ (bitsOf 64 counts ++ (books ∷ total ∷ []))
+
+-- whether so many steps pass those that are left; a budget that does not pass them tells as much
+unfoldable pub pastOf : ℕ → ℕ → ℕ → Bool
+pastOf steps budget left = if leb budget left then false else ltb left steps
 
 -- what adding a book gives, by its parts
 abbrev pub gives : Told → List ℕ → List ℕ → form.Outcome

@@ -6,18 +6,19 @@ ghost use mathlib.Core.Path.{_≡_};
 ghost use Prim.Native.Nat.{_+_, _*_, _-_, _/_, _%_, _<_, _≤_, _^_};
 ghost use lib.Count.{ones};
 ghost use lib.Dec.{eqb};
-ghost use lib.ListN.{length, take, drop, getD};
+ghost use lib.ListN.{length, take, drop, getD, set};
 ghost use Rattle.base.specs.Common.{if_then_else_, same};
 ghost use Rattle.machine.specs.Bytes.{count, wordAt, wordsOf, bytesOf};
 ghost use Rattle.figures.specs.Figures as sums;
 ghost use Rattle.figures.specs.Figures.{sum, bumps, bitsOf, packed};
 ghost use Rattle.figures.specs.Form as form;
 ghost use Rattle.figures.specs.Form.{numberAt, numbersAt, figuresNamed};
-ghost use Rattle.counting.specs.Counting.{freshAt, bookVisits, bookOf, Inside, toldOf, numbersOf, gives, reports};
-ghost use Rattle.walker.specs.Shape.{putEvent};
+ghost use Rattle.counting.specs.Counting.{freshAt, bookVisits, bookOf, Inside, toldOf, numbersOf, pastOf, gives, reports};
+ghost use Rattle.walker.specs.Shape.{putEvent, numberOf, withDepth};
 use machine::EVENT_WORDS;
 use walker::Event;
 use walker::Next;
+use walker::Reason;
 use walker::Registers;
 
 // Figures as bytes (docs/LAYOUT.md): a count for each location, the words of their bits, books, total.
@@ -112,7 +113,35 @@ fn tell(out: &mut [u8], i: usize, e: Event, writes: bool)
     }
 }
 
-// A whole call from a fresh walk, its steps counted at their locations; or only measured, and then nothing is written.
+// A stop is a step too: it is counted, and ends the call.
+fn stopped(
+    why: Reason,
+    counts: &mut [u64],
+    l: usize,
+    writes: bool,
+    events: usize,
+    steps: u64,
+) -> Told
+    requires { ⌜ (length (now counts) ≡ 4096) × (Inside l × (writes ≡ true → getD (now counts) (l - 1) 0 + 1 < 2 ^ 64)) ⌝ }
+    ensures { λ r. ⌜ r ≡ toldOf (numberOf why) events steps ⌝ }
+    ensures { λ _. ⌜ now (counts .exit) ≡ (if writes then sums.bump (now (counts .entry)) l else now (counts .entry)) ⌝ }
+{
+    bump(counts, l, writes);
+    ended(walker::number_of(why), events, steps)
+}
+
+// A call: one return location more is held.
+fn hold(returns: &mut [u16; base::PENDING], q: Registers, back: u16) -> Registers
+    requires { ⌜ q .depth < 64 ⌝ }
+    ensures { λ r. ⌜ r ≡ withDepth q (q .depth + 1) ⌝ }
+    ensures { λ _. ⌜ now (returns .exit) ≡ set (now (returns .entry)) (q .depth) back ⌝ }
+{
+    let d = q.depth;
+    returns[d] = back;
+    q.deeper()
+}
+
+// A whole call from a fresh walk, its steps counted at their locations; or only measured, and then nothing is written. Room is words left for events.
 fn count_book(
     table: &[u8],
     tokens: &[u8],
@@ -130,7 +159,6 @@ fn count_book(
     let mut returns = [0u16; base::PENDING];
     let mut events: usize = 0;
     let mut done: u64 = 0;
-    // words left for events
     let mut room = machine::count_words(out);
     let known = machine::LENGTHS;
     while done < b.budget {
@@ -140,10 +168,7 @@ fn count_book(
         match x {
             Next::Full => return ended(base::FULL, events, done),
             Next::Outside => return ended(base::OUTSIDE, events, done),
-            Next::Stop(why) => {
-                bump(counts, here, b.writes);
-                return ended(walker::number_of(why), events, next);
-            }
+            Next::Stop(why) => return stopped(why, counts, here, b.writes, events, next),
             Next::On(q) => at = q,
             Next::Tells(q, e) => {
                 tell(out, EVENT_WORDS * events, e, b.writes);
@@ -151,11 +176,7 @@ fn count_book(
                 events += 1;
                 room -= EVENT_WORDS;
             }
-            Next::Push(q, back) => {
-                let d = q.depth;
-                returns[d] = back;
-                at = q.deeper();
-            }
+            Next::Push(q, back) => at = hold(&mut returns, q, back),
             // a whole walk hands nothing out
             Next::Waits(_, _) => return ended(base::WAITS, events, next),
         }
@@ -304,7 +325,34 @@ fn covered(s: &[u8]) -> u64
 
 // Adding a book
 
-// A book added to figures by a whole call from a fresh walk. Where its steps could take the total past 64 bits, they are measured first: with 46 nothing is written.
+// Whether a book's steps pass those left of 64 bits. Where its budget does not tell, it is measured, and nothing is written.
+fn passes(
+    table: &[u8],
+    tokens: &[u8],
+    answers: &[u8],
+    b: Book,
+    left: u64,
+    events: &mut [u8],
+    counts: &mut [u64],
+) -> bool
+    requires { ⌜ length (now counts) ≡ 4096 ⌝ }
+    ensures { λ r. ⌜ r ≡ pastOf (bookOf (now (table .entry)) (now (tokens .entry)) (now (answers .entry)) (b .budget) (b .allowance) (now (events .entry)) .steps) (b .budget) left ⌝ }
+    ensures { λ _. ⌜ now (events .exit) ≡ now (events .entry) ⌝ }
+    ensures { λ _. ⌜ now (counts .exit) ≡ now (counts .entry) ⌝ }
+{
+    if b.budget <= left {
+        return false;
+    }
+    let measured = Book {
+        budget: b.budget,
+        allowance: b.allowance,
+        writes: false,
+    };
+    let m = count_book(table, tokens, answers, measured, events, counts);
+    left < m.steps
+}
+
+// A book added to figures by a whole call from a fresh walk. With 46 nothing is written.
 pub fn add_book(
     table: &[u8],
     tokens: &[u8],
@@ -328,24 +376,23 @@ pub fn add_book(
     if books == GREATEST {
         return ended(base::PAST, 0, 0);
     }
-    let left = GREATEST - total;
-    if left < budget {
-        let measured = Book {
-            budget,
-            allowance,
-            writes: false,
-        };
-        let m = count_book(table, tokens, answers, measured, events, &mut counts);
-        if left < m.steps {
-            return ended(base::PAST, 0, 0);
-        }
-    }
-    let added = Book {
+    let b = Book {
         budget,
         allowance,
         writes: true,
     };
-    let r = count_book(table, tokens, answers, added, events, &mut counts);
+    if passes(
+        table,
+        tokens,
+        answers,
+        b,
+        GREATEST - total,
+        events,
+        &mut counts,
+    ) {
+        return ended(base::PAST, 0, 0);
+    }
+    let r = count_book(table, tokens, answers, b, events, &mut counts);
     put_figures(figures, &counts, books + 1, total + r.steps);
     r
 }

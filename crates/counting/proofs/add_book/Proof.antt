@@ -1,12 +1,12 @@
 -- `counting::add_book` meets its contract: each way out is a case of `addBytes`.
-use mathlib.Core.Bool.{true, false≢true}
+use mathlib.Core.Bool.{true, false}
 use mathlib.Core.List.{List}
 use mathlib.Core.Logic.{⊎-elim}
-use mathlib.Core.Path.{_≡_, sym, ap, _∙_}
+use mathlib.Core.Path.{_≡_, refl, sym, ap, _∙_}
 use Prim.Native.Nat.{ℕ, _+_, _-_, _<_}
 use native.Mathlib.Omega.{arith}
 use lib.ListN.{length}
-use Rattle.counting.proofs.Adds.{another-length, not-sound, steps-within, books-past, total-past, counts-fit, book-steps, adds}
+use Rattle.counting.proofs.Adds.{another-length, not-sound, steps-within, books-past, total-past, counts-fit, book-steps, past-yes, past-no, adds}
 use Rattle.counting.proofs.Loop.{tells-of}
 use Rattle.counting.specs.Counting.{bookVisits, bookOf, gives}
 use Rattle.counting.specs.declared.Told.{Told}
@@ -54,35 +54,25 @@ visits n o = bookVisits (start n .args .table .now) (start n .args .tokens .now)
 abbrev book : tie.After-number-at2 → List ℕ → Outcome
 book n o = bookOf (start n .args .table .now) (start n .args .tokens .now) (start n .args .answers .now) (start n .args .budget) (start n .args .allowance) o
 
--- measuring changes neither the events nor the counts
-same-events : (c : tie.Joined4) → c .if4 .events ≡ start (c .before .before) .args .events .now
-same-events c = ⊎-elim (λ w. w .9 ∙ w .3 .ensures .1 .0) (λ w. w .1) (c .if4 .came)
-
-same-counts : (c : tie.Joined4) → c .if4 .counts ≡ numbersAt (wordsOf (start (c .before .before) .args .figures .now)) 0 4096
-same-counts c = ⊎-elim (λ w. w .10 ∙ w .3 .ensures .1 .1) (λ w. w .2) (c .if4 .came) ∙ c .before .before .before .before .before .before .before .before .before .before .counts-of .ensures
-
-sized : (c : tie.Joined4) → length (c .if4 .counts) ≡ 4096
-sized c = ap (λ (l : List ℕ). length l) (same-counts c) ∙ length-numbersAt (wordsOf (start (c .before .before) .args .figures .now)) 0 4096
-
 -- the book's steps stay within 64 bits: measured, or by the budget
-fits : (c : tie.Joined4) → let n = c .before .before in n .number-at2 .result + length (visits n (start n .args .events .now)) < 18446744073709551616
-fits c =
-    let n = c .before .before in
+fits : (p : tie.After-passes) → p .passes .result ≡ false → let n = p .before .before .before .before in n .number-at2 .result + length (visits n (start n .args .events .now)) < 18446744073709551616
+fits p left =
+    let n = p .before .before .before .before in
     let small : n .number-at2 .result < 18446744073709551616 = n .number-at2 .ok in
     ⊎-elim
-    (λ w. omega (arith, w .8 .left, small, book-steps (start n .args .table .now) (start n .args .tokens .now) (start n .args .answers .now) (start n .args .budget) (start n .args .allowance) (start n .args .figures .now) (start n .args .events .now) (long n) (good n) (table n) (tokens n) (answers n) (allowed n) (w .3 .result) (w .3 .ensures .0)))
-    (λ w. omega (arith, w .0 .left, small, steps-within (start n .args .table .now) (start n .args .tokens .now) (start n .args .answers .now) (start n .args .budget) (start n .args .allowance) (start n .args .figures .now) (start n .args .events .now) (long n) (good n) (table n) (tokens n) (answers n) (allowed n)))
-    (c .if4 .came)
+    (λ w. omega (arith, w, small, steps-within (start n .args .table .now) (start n .args .tokens .now) (start n .args .answers .now) (start n .args .budget) (start n .args .allowance) (start n .args .figures .now) (start n .args .events .now) (long n) (good n) (table n) (tokens n) (answers n) (allowed n)))
+    (λ w. omega (arith, w, small, book-steps (start n .args .table .now) (start n .args .tokens .now) (start n .args .answers .now) (start n .args .budget) (start n .args .allowance) (start n .args .figures .now) (start n .args .events .now) (long n) (good n) (table n) (tokens n) (answers n) (allowed n) (tells-of (book n (start n .args .events .now))) refl))
+    (past-no _ _ _ (sym (p .passes .ensures .0) ∙ left))
 
 -- what the call that writes gives
-told : (c : tie.After-count-book2) → let n = c .before .before .before .before .before in c .count-book2 .result ≡ tells-of (book n (start n .args .events .now))
-told c = c .count-book2 .ensures .0 ∙ ap (λ (l : List ℕ). tells-of (book (c .before .before .before .before .before) l)) (same-events (c .before .before .before))
+told : (c : tie.After-count-book) → let n = c .before .before .before .before .before .before .before .before .before .before .before in c .count-book .result ≡ tells-of (book n (start n .args .events .now))
+told c = c .count-book .ensures .0 ∙ ap (λ (l : List ℕ). tells-of (book (c .before .before .before .before .before .before .before .before .before .before .before) l)) (c .before .before .before .before .before .before .before .passes .ensures .1 .0)
 
 -- as many steps were done as locations counted
-counted : (c : tie.After-count-book2) → let n = c .before .before .before .before .before in c .count-book2 .result .steps ≡ length (visits n (start n .args .events .now))
+counted : (c : tie.After-count-book) → let n = c .before .before .before .before .before .before .before .before .before .before .before in c .count-book .result .steps ≡ length (visits n (start n .args .events .now))
 counted c =
-    let n = c .before .before .before .before .before in
-    book-steps (start n .args .table .now) (start n .args .tokens .now) (start n .args .answers .now) (start n .args .budget) (start n .args .allowance) (start n .args .figures .now) (start n .args .events .now) (long n) (good n) (table n) (tokens n) (answers n) (allowed n) (c .count-book2 .result) (told c)
+    let n = c .before .before .before .before .before .before .before .before .before .before .before in
+    book-steps (start n .args .table .now) (start n .args .tokens .now) (start n .args .answers .now) (start n .args .budget) (start n .args .allowance) (start n .args .figures .now) (start n .args .events .now) (long n) (good n) (table n) (tokens n) (answers n) (allowed n) (c .count-book .result) (told c)
 
 ended-requires : tie.Need-ended-requires
 ended-requires c κs = search needs
@@ -132,14 +122,14 @@ returns-3 c =
     ap (λ (r : Told). gives r (start n .args .figures .now) (start n .args .events .now)) (c .ended3 .ensures)
     ∙ books-past (start n .args .table .now) (start n .args .tokens .now) (start n .args .answers .now) (start n .args .budget) (start n .args .allowance) (start n .args .figures .now) (start n .args .events .now) (long n) (good n) (table n) (tokens n) (answers n) (allowed n) _ (n .before .before .number-at .ensures) (c .before .if3 .taken)
 
-sub-left : tie.Need-sub-left
-sub-left c = search needs
+sub-passes : tie.Need-sub-passes
+sub-passes c = search needs
 
-slice-aggregate-count-book : tie.Need-slice-aggregate-count-book
-slice-aggregate-count-book c = search needs
+slice-aggregate-passes : tie.Need-slice-aggregate-passes
+slice-aggregate-passes c = search needs
 
-count-book-requires : tie.Need-count-book-requires
-count-book-requires c κs = (ap (λ (l : List ℕ). length l) (c .before .before .before .before .before .before .before .before .before .before .before .before .counts-of .ensures) ∙ length-numbersAt (wordsOf (c .before .before .before .before .before .before .before .before .before .before .before .before .before .before .before .before .before .before .before .before .args .figures .now)) 0 4096, λ y. absurd (false≢true y))
+passes-requires : tie.Need-passes-requires
+passes-requires c κs = let n = c .before .before .before in ap (λ (l : List ℕ). length l) (n .before .before .before .before .before .before .before .before .counts-of .ensures) ∙ length-numbersAt (wordsOf (start n .args .figures .now)) 0 4096
 
 ended-requires-4 : tie.Need-ended-requires-4
 ended-requires-4 c κs = search needs
@@ -152,22 +142,27 @@ same-length-4 c = search needs
 
 returns-4 : tie.Need-returns-4
 returns-4 c =
-    let n = c .before .before .before .before .before .before .before .before .before .before .before in
-    let b = c .before .before .before .before .before .before .count-book in
-    let m = book-steps (start n .args .table .now) (start n .args .tokens .now) (start n .args .answers .now) (start n .args .budget) (start n .args .allowance) (start n .args .figures .now) (start n .args .events .now) (long n) (good n) (table n) (tokens n) (answers n) (allowed n) (b .result) (b .ensures .0) in
-    (λ i. gives (c .ended4 .ensures i) (start n .args .figures .now) (b .ensures .1 .0 i))
-    ∙ total-past (start n .args .table .now) (start n .args .tokens .now) (start n .args .answers .now) (start n .args .budget) (start n .args .allowance) (start n .args .figures .now) (start n .args .events .now) (long n) (good n) (table n) (tokens n) (answers n) (allowed n) _ (n .number-at2 .ensures) (omega (arith, m, c .before .if5 .taken)) (n .number-at2 .ok)
+    let n = c .before .before .before .before .before .before .before .before .before in
+    let p = c .before .before .before .before .before .passes in
+    let m = book-steps (start n .args .table .now) (start n .args .tokens .now) (start n .args .answers .now) (start n .args .budget) (start n .args .allowance) (start n .args .figures .now) (start n .args .events .now) (long n) (good n) (table n) (tokens n) (answers n) (allowed n) (tells-of (book n (start n .args .events .now))) refl in
+    let past = past-yes _ _ _ (sym (p .ensures .0) ∙ c .before .if4 .taken) in
+    (λ i. gives (c .ended4 .ensures i) (start n .args .figures .now) (p .ensures .1 .0 i))
+    ∙ total-past (start n .args .table .now) (start n .args .tokens .now) (start n .args .answers .now) (start n .args .budget) (start n .args .allowance) (start n .args .figures .now) (start n .args .events .now) (long n) (good n) (table n) (tokens n) (answers n) (allowed n) _ (n .number-at2 .ensures) (omega (arith, m, past)) (n .number-at2 .ok)
 
-slice-aggregate-count-book-2 : tie.Need-slice-aggregate-count-book-2
-slice-aggregate-count-book-2 c = search (needs, sized (c .before .before))
+slice-aggregate-count-book : tie.Need-slice-aggregate-count-book
+slice-aggregate-count-book c =
+    let p = c .before .before .before .before .before .before in
+    let n = p .before .before .before .before in
+    search (needs, ap (λ (l : List ℕ). length l) (p .passes .ensures .1 .1 ∙ n .before .before .before .before .before .before .before .before .counts-of .ensures) ∙ length-numbersAt (wordsOf (start n .args .figures .now)) 0 4096)
 
-count-book-requires-2 : tie.Need-count-book-requires-2
-count-book-requires-2 c κs =
-    let j = c .before .before in
-    let n = j .before .before in
-    let f = counts-fit (start n .args .table .now) (start n .args .tokens .now) (start n .args .answers .now) (start n .args .budget) (start n .args .allowance) (start n .args .figures .now) (start n .args .events .now) (long n) (good n) (table n) (tokens n) (answers n) (allowed n) _ (n .number-at2 .ensures) (fits j) in
-    let e : length (visits n (j .if4 .events)) ≡ length (visits n (start n .args .events .now)) = ap (λ (l : List ℕ). length (visits n l)) (same-events j) in
-    (sized j, λ y. omega (arith, ap sum (same-counts j), e, f))
+count-book-requires : tie.Need-count-book-requires
+count-book-requires c κs =
+    let p = c .before .before .before .before .before .before in
+    let n = p .before .before .before .before in
+    let f = counts-fit (start n .args .table .now) (start n .args .tokens .now) (start n .args .answers .now) (start n .args .budget) (start n .args .allowance) (start n .args .figures .now) (start n .args .events .now) (long n) (good n) (table n) (tokens n) (answers n) (allowed n) _ (n .number-at2 .ensures) (fits p (c .before .before .if4 .left)) in
+    let e = ap (λ (l : List ℕ). length (visits n l)) (p .passes .ensures .1 .0) in
+    let s = p .passes .ensures .1 .1 ∙ n .before .before .before .before .before .before .before .before .counts-of .ensures in
+    (ap (λ (l : List ℕ). length l) s ∙ length-numbersAt (wordsOf (start n .args .figures .now)) 0 4096, λ y. omega (arith, ap sum s, e, f))
 
 slice-aggregate-put-figures : tie.Need-slice-aggregate-put-figures
 slice-aggregate-put-figures c = search needs
@@ -176,12 +171,13 @@ add-put-figures : tie.Need-add-put-figures
 add-put-figures c = search needs
 
 add-put-figures-2 : tie.Need-add-put-figures-2
-add-put-figures-2 c =
-    let b = c .before .before .before .before .before .before in
-    record { fits = omega (arith, fits (b .before .before .before), counted b) }
+add-put-figures-2 c = record { fits = omega (arith, fits (c .before .before .before .before .before .before .before .before .before .before .before .before .before) (c .before .before .before .before .before .before .before .before .before .if4 .left), counted (c .before .before .before .before .before .before)) }
 
 put-figures-requires : tie.Need-put-figures-requires
-put-figures-requires c κs = search needs
+put-figures-requires c κs =
+    let p = c .before .before .before .before .before .before .before .before .before .before .before .before .before in
+    let n = p .before .before .before .before in
+    (long n, c .before .before .before .before .before .before .count-book .kept .1 .1 .1 .1 .1 .0 ∙ ap (λ (l : List ℕ). length l) (p .passes .ensures .1 .1 ∙ n .before .before .before .before .before .before .before .before .counts-of .ensures) ∙ length-numbersAt (wordsOf (start n .args .figures .now)) 0 4096)
 
 same-length-5 : tie.Need-same-length-5
 same-length-5 c = search needs
@@ -189,19 +185,21 @@ same-length-5 c = search needs
 same-length-6 : tie.Need-same-length-6
 same-length-6 c =
     let b = c .before .before .before .before .before .before .before .before .before in
-    b .count-book2 .kept .1 .1 .1 .1 .0 ∙ ap (λ (l : List ℕ). length l) (same-events (b .before .before .before))
+    b .count-book .kept .1 .1 .1 .1 .0 ∙ ap (λ (l : List ℕ). length l) (b .before .before .before .before .before .before .before .passes .ensures .1 .0)
 
 returns-5 : tie.Need-returns-5
 returns-5 c =
     let b = c .before .before .before .before .before .before .before .before .before in
-    let j = b .before .before .before in
-    let n = j .before .before in
-    let q = b .count-book2 .ensures .1 in
-    adds (start n .args .table .now) (start n .args .tokens .now) (start n .args .answers .now) (start n .args .budget) (start n .args .allowance) (start n .args .figures .now) (start n .args .events .now) (long n) (good n) (table n) (tokens n) (answers n) (allowed n) (b .count-book2 .result) _ _ _ _ _ (told b)
-    (q .0 ∙ ap (λ (l : List ℕ). book n l .out) (same-events j))
-    (q .1 ∙ (λ i. bumps (same-counts j i) (visits n (same-events j i))))
+    let p = b .before .before .before .before .before .before .before in
+    let n = p .before .before .before .before in
+    let q = b .count-book .ensures .1 in
+    let events = p .passes .ensures .1 .0 in
+    let counts = p .passes .ensures .1 .1 ∙ n .before .before .before .before .before .before .before .before .counts-of .ensures in
+    adds (start n .args .table .now) (start n .args .tokens .now) (start n .args .answers .now) (start n .args .budget) (start n .args .allowance) (start n .args .figures .now) (start n .args .events .now) (long n) (good n) (table n) (tokens n) (answers n) (allowed n) (b .count-book .result) _ _ _ _ _ (told b)
+    (q .0 ∙ ap (λ (l : List ℕ). book n l .out) events)
+    (q .1 ∙ (λ i. bumps (counts i) (visits n (events i))))
     (n .before .before .number-at .ensures) (n .number-at2 .ensures) (c .before .before .put-figures .ensures)
-    (omega (arith, n .before .before .number-at .ok, below-most _ (j .before .if3 .left) (n .before .before .number-at .ok))) (omega (arith, fits j, counted b))
+    (omega (arith, n .before .before .number-at .ok, below-most _ (p .before .before .before .if3 .left) (n .before .before .number-at .ok))) (omega (arith, fits p (b .before .before .before .if4 .left), counted b))
 
 pub add-book-spec : {M : Type 1} → statement M
 add-book-spec =
@@ -220,15 +218,15 @@ add-book-spec =
     ended-requires-3
     same-length-2
     returns-3
-    sub-left
-    slice-aggregate-count-book
-    count-book-requires
+    sub-passes
+    slice-aggregate-passes
+    passes-requires
     ended-requires-4
     same-length-3
     same-length-4
     returns-4
-    slice-aggregate-count-book-2
-    count-book-requires-2
+    slice-aggregate-count-book
+    count-book-requires
     slice-aggregate-put-figures
     add-put-figures
     add-put-figures-2

@@ -1,13 +1,12 @@
 -- `counting::count_book` meets its contract: the invariant carries the call and the locations still to come, and each case of `Next` has its law.
 use mathlib.Core.Bool.{false}
 use mathlib.Core.Logic.{_⊎_, ⊎-elim}
-use mathlib.Core.Path.{_≡_, refl, sym, ap, _∙_}
+use mathlib.Core.Path.{_≡_, refl, sym, _∙_}
 use Prim.Native.Nat.{ℕ, _+_, _-_, _<_, _≤_}
 use native.Mathlib.Omega.{arith}
 use borrow.Author.Needs.{needs}
 use Rattle.machine.specs.Bytes.{count}
 use Rattle.machine.specs.Lengths.{lengths}
-use Rattle.counting.specs.Counting.{toldOf}
 use Rattle.counting.proofs.Loop.{Inv, Moved, never-waits, at-spent, at-full, at-outside, at-stop, stop-room, moved-as, moved-on, moved-tells, moved-push, tells-room, push-deep, move-room, again, start}
 use Rattle.walker.specs.Shape.{stepOf}
 use Rattle.counting.proofs.count_book.Statement.{statement}
@@ -88,26 +87,20 @@ returns-2 c =
 enum-known-x : tie.Need-enum-known-x Inv-loop μ-loop
 enum-known-x c = search needs
 
-bump-requires : tie.Need-bump-requires Inv-loop μ-loop
-bump-requires c κs = let n = c .before .before .before .before in stop-room _ _ _ _ _ _ _ _ _ _ _ _ _ _ _ (inv n) (more n) _ (told n ∙ c .before .before .x .given .1)
-
-number-of-requires : tie.Need-number-of-requires Inv-loop μ-loop
-number-of-requires c κs = search needs
-
-ended-requires-3 : tie.Need-ended-requires-3 Inv-loop μ-loop
-ended-requires-3 c κs = search needs
+stopped-requires : tie.Need-stopped-requires Inv-loop μ-loop
+stopped-requires c κs = let n = c .before .before .before .before in stop-room _ _ _ _ _ _ _ _ _ _ _ _ _ _ _ (inv n) (more n) _ (told n ∙ c .before .before .x .given .1)
 
 same-length-5 : tie.Need-same-length-5 Inv-loop μ-loop
 same-length-5 c = search needs
 
 same-length-6 : tie.Need-same-length-6 Inv-loop μ-loop
-same-length-6 c = c .before .before .before .before .bump .kept .0 ∙ inv (c .before .before .before .before .before .before .before .before .before) .all .size ∙ sym (c .before .before .before .before .before .before .before .before .before .before .before .before .before .before .before .before .before .before .before .before .before .before .before .pre .0)
+same-length-6 c = c .before .before .stopped .kept .1 .0 ∙ inv (c .before .before .before .before .before .before .before) .all .size ∙ sym (c .before .before .before .before .before .before .before .before .before .before .before .before .before .before .before .before .before .before .before .before .before .pre .0)
 
 returns-3 : tie.Need-returns-3 Inv-loop μ-loop
 returns-3 c =
-    let n = c .before .before .before .before .before .before .before .before .before in
-    let p = at-stop _ _ _ _ _ _ _ _ _ _ _ _ _ _ _ (inv n) (more n) _ _ (told n ∙ c .before .before .before .before .before .before .before .x .given .1) (c .before .before .before .before .bump .ensures) in
-    (c .ended3 .ensures ∙ ap (λ (m : ℕ). toldOf m (n .before .before .before .before .before .loop .events) (n .before .before .before .before .before .loop .done + 1)) (c .before .number-of .ensures) ∙ p .0, p .1)
+    let n = c .before .before .before .before .before .before .before in
+    let p = at-stop _ _ _ _ _ _ _ _ _ _ _ _ _ _ _ (inv n) (more n) _ _ (told n ∙ c .before .before .before .before .before .x .given .1) (c .before .before .stopped .ensures .1) in
+    (c .before .before .stopped .ensures .0 ∙ p .0, p .1)
 
 enum-known-x-2 : tie.Need-enum-known-x-2 Inv-loop μ-loop
 enum-known-x-2 c = search needs
@@ -138,20 +131,14 @@ enum-known-x-4 c = search needs
 deep-enough : (c : tie.After-known-told4 Inv-loop μ-loop) → c .before .x4 .given .0 .0 .depth < 64
 deep-enough c = let n = c .before .before .before in push-deep _ _ _ _ _ _ _ _ _ _ _ _ _ _ _ (inv n) (more n) _ _ (told n ∙ c .before .x4 .given .1)
 
-mul-returns : tie.Need-mul-returns Inv-loop μ-loop
-mul-returns c = omega (arith, deep-enough c)
-
-array-write-returns : tie.Need-array-write-returns Inv-loop μ-loop
-array-write-returns c = omega (arith, deep-enough c)
-
-deeper-requires : tie.Need-deeper-requires Inv-loop μ-loop
-deeper-requires c κs = deep-enough c
+hold-requires : tie.Need-hold-requires Inv-loop μ-loop
+hold-requires c κs = deep-enough (c .before)
 
 enum-told-3 : tie.Need-enum-told-3 Inv-loop μ-loop
 enum-told-3 c = search needs
 
-ended-requires-4 : tie.Need-ended-requires-4 Inv-loop μ-loop
-ended-requires-4 c κs = search needs
+ended-requires-3 : tie.Need-ended-requires-3 Inv-loop μ-loop
+ended-requires-3 c κs = search needs
 
 same-length-7 : tie.Need-same-length-7 Inv-loop μ-loop
 same-length-7 c = search needs
@@ -170,20 +157,20 @@ moved c =
     (λ w. moved-as (w .4) (w .5) (w .3) (w .6) (w .7) (moved-on _ _ _ _ _ _ _ _ _ _ _ _ _ _ _ (inv n) (more n) _ (told n ∙ w .1 .given .1)))
     (⊎-elim
     (λ w. moved-as (w .8) (w .9) (w .7) (w .10) (w .11) (moved-tells _ _ _ _ _ _ _ _ _ _ _ _ _ _ _ (inv n) (more n) _ _ _ (told n ∙ w .1 .given .1) (w .4 .ensures) (w .4 .kept .0)))
-    (λ w. moved-as (w .5 ∙ w .3 .ensures) (w .6) (w .4) (w .7) (w .8) (moved-push _ _ _ _ _ _ _ _ _ _ _ _ _ _ _ (inv n) (more n) _ _ (told n ∙ w .1 .given .1))))
+    (λ w. moved-as (w .6 ∙ w .4 .ensures .0) (w .7 ∙ w .4 .ensures .1) (w .5) (w .8) (w .9) (moved-push _ _ _ _ _ _ _ _ _ _ _ _ _ _ _ (inv n) (more n) _ _ (told n ∙ w .1 .given .1))))
     (c .match .came)
 
-bump-requires-2 : tie.Need-bump-requires-2 Inv-loop μ-loop
-bump-requires-2 c κs = let m = c .before in move-room _ _ _ _ _ _ _ _ _ _ _ _ _ _ _ (inv (m .before)) (more (m .before)) _ _ _ _ _ (moved m)
+bump-requires : tie.Need-bump-requires Inv-loop μ-loop
+bump-requires c κs = let m = c .before in move-room _ _ _ _ _ _ _ _ _ _ _ _ _ _ _ (inv (m .before)) (more (m .before)) _ _ _ _ _ (moved m)
 
 loop-less : tie.Need-loop-less Inv-loop μ-loop
 loop-less c = omega (arith, more (c .before .before .before .before .before))
 
 loop-again : tie.Need-loop-again Inv-loop μ-loop
-loop-again c = let m = c .before .before .before .before in again _ _ _ _ _ _ _ _ _ _ _ _ _ _ _ (inv (m .before)) (more (m .before)) _ _ _ _ _ (moved m) _ (c .before .before .bump2 .ensures)
+loop-again c = let m = c .before .before .before .before in again _ _ _ _ _ _ _ _ _ _ _ _ _ _ _ (inv (m .before)) (more (m .before)) _ _ _ _ _ (moved m) _ (c .before .before .bump .ensures)
 
-ended-requires-5 : tie.Need-ended-requires-5 Inv-loop μ-loop
-ended-requires-5 c κs = search needs
+ended-requires-4 : tie.Need-ended-requires-4 Inv-loop μ-loop
+ended-requires-4 c κs = search needs
 
 same-length-9 : tie.Need-same-length-9 Inv-loop μ-loop
 same-length-9 c = search needs
@@ -194,7 +181,7 @@ same-length-10 c = search needs
 returns-5 : tie.Need-returns-5 Inv-loop μ-loop
 returns-5 c =
     let p = at-spent _ _ _ _ _ _ _ _ _ _ _ _ _ _ _ (c .before .before .before .loop .inv) (c .before .if1 .left) in
-    (c .ended5 .ensures ∙ p .0, p .1)
+    (c .ended4 .ensures ∙ p .0, p .1)
 
 pub count-book-spec : {M : Type 1} → statement M
 count-book-spec =
@@ -218,9 +205,7 @@ count-book-spec =
     same-length-4
     returns-2
     enum-known-x
-    bump-requires
-    number-of-requires
-    ended-requires-3
+    stopped-requires
     same-length-5
     same-length-6
     returns-3
@@ -231,18 +216,16 @@ count-book-spec =
     add-events
     sub-room
     enum-known-x-4
-    mul-returns
-    array-write-returns
-    deeper-requires
+    hold-requires
     enum-told-3
-    ended-requires-4
+    ended-requires-3
     same-length-7
     same-length-8
     returns-4
-    bump-requires-2
+    bump-requires
     loop-less
     loop-again
-    ended-requires-5
+    ended-requires-4
     same-length-9
     same-length-10
     returns-5)
