@@ -1,18 +1,16 @@
 -- Words written one after the other are the words of one list, and all the words of a buffer are the buffer.
-use mathlib.Core.Bool.{true, false}
 use mathlib.Core.List.{List, [], _∷_, _++_, append-nil, reverse, reverse-reverse}
-use mathlib.Core.Path.{_≡_, refl, _∙_}
+use mathlib.Core.Path.{_≡_, refl, ap, _∙_}
 use Prim.Native.Nat.{ℕ, zero, suc, _+_, _*_, _-_, _/_, _%_, _<_, _≤_}
 use native.Mathlib.Nat.{add-zero}
 use native.Mathlib.Numerals.{add-one}
 use native.Mathlib.Omega.{arith}
 use lib.ListN.{length, take, drop, getD, set, replicate, length-append, length-take, length-reverse, length-replicate, drop-of-length-le, List·getD-append}
-use lib.Seq.{sets, length-sets, sets-eq, drop-cons, getD-take, getD-append-add}
-use borrow.Author.Tests.{eq-eqb, ne-eqb}
-use Rattle.base.specs.Common.{same}
+use lib.Seq.{sets, length-sets, sets-eq, getD-take, getD-append-add}
 use Rattle.machine.proofs.Bytes.{length-bytesOf}
 use Rattle.machine.specs.Bytes.{bytesOf}
-use Rattle.machine.specs.Form.{returnWords}
+use Rattle.machine.specs.Form.{words64, returnWords}
+use Rattle.buffers.specs.Words.{putWord, put64}
 use Rattle.walker.proofs.LinkWords.{bytesOf-append}
 use Rattle.firmware.specs.Writes.{puts}
 
@@ -36,9 +34,21 @@ unfolding puts
 length-puts s i ws = length-sets s (2 * i) (bytesOf ws)
 
 -- one word
-pub puts-one : (s : List ℕ) (i x : ℕ) → set (set s (2 * i) (x / 256)) (2 * i + 1) (x % 256) ≡ puts s i (x ∷ [])
-unfolding puts bytesOf
+pub puts-one : (s : List ℕ) (i x : ℕ) → putWord s i x ≡ puts s i (x ∷ [])
+unfolding putWord puts bytesOf
 puts-one s i x = rw add-one
+
+-- the four words of a number
+pub puts-64 : (s : List ℕ) (i n : ℕ) → put64 s i n ≡ puts s i (words64 n)
+unfolding put64 words64
+puts-64 s i n =
+    let a = n / 281474976710656 ∷ [] in
+    let b = n / 4294967296 % 65536 ∷ [] in
+    let d = n / 65536 % 65536 ∷ [] in
+    let e = n % 65536 ∷ [] in
+    rw (puts-one s i (n / 281474976710656), puts-one (puts s i a) (i + 1) (n / 4294967296 % 65536), puts-one (puts (puts s i a) (i + 1) b) (i + 2) (n / 65536 % 65536), puts-one (puts (puts (puts s i a) (i + 1) b) (i + 2) d) (i + 3) (n % 65536))
+    (ap (λ (t : List ℕ). puts (puts t (i + 2) d) (i + 3) e) (puts-then s i a b (i + 1) refl) ∙ ap (λ (t : List ℕ). puts t (i + 3) e) (puts-then s i (a ++ b) d (i + 2) refl)
+    ∙ puts-then s i ((a ++ b) ++ d) e (i + 3) refl)
 
 -- nothing is left of a buffer that is written whole
 pub puts-all : (s ws : List ℕ) → length s ≡ 2 * length ws → puts s 0 ws ≡ bytesOf ws
@@ -74,14 +84,3 @@ return-free d rs i h =
     let n : length (take d rs) ≤ i = simp length-take (omega arith) in
     let e : i ≡ length (take d rs) + (i - length (take d rs)) = omega arith in
     rw (return-words, e) (getD-append-add (take d rs) (replicate (64 - length (take d rs)) 0) (i - length (take d rs)) 0 ∙ zeros (64 - length (take d rs)) (i - length (take d rs)))
-
--- Comparing
-
-pub same-next : (a b : List ℕ) (i : ℕ) → i < length a → i < length b → getD a i 0 ≡ getD b i 0 → same (drop i a) (drop i b) ≡ same (drop (i + 1) a) (drop (i + 1) b)
-same-next a b i h k e = rw (add-one, drop-cons a i 0, drop-cons b i 0, eq-eqb (getD a i 0) (getD b i 0))
-
-pub same-not : (a b : List ℕ) (i : ℕ) → i < length a → i < length b → (getD a i 0 ≡ getD b i 0 → ⊥) → same (drop i a) (drop i b) ≡ false
-same-not a b i h k e = rw (drop-cons a i 0, drop-cons b i 0, ne-eqb (getD a i 0) (getD b i 0))
-
-pub same-end : (a b : List ℕ) (i : ℕ) → length a ≤ i → length b ≤ i → same (drop i a) (drop i b) ≡ true
-same-end a b i h k = rw (drop-of-length-le a h, drop-of-length-le b k)

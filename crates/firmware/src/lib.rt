@@ -21,14 +21,29 @@ ghost use Rattle.firmware.specs.Processing.{flagOf, numbersOf, tells};
 ghost use Rattle.walker.specs.View as view;
 ghost use Rattle.firmware.specs.Writes.{puts, registerWords, registersIn, Holds};
 ghost use Rattle.firmware.specs.Entries.{phaseIn, reasonIn, phaseNumber, reasonOrNone, locationOr0, readOr0, usedOr0, allowanceOr0, freshNumber, freshIn, handing, gives};
+use base::PENDING;
+use buffers::read_64;
+use buffers::wide_word;
 use walker::Called;
 use walker::Phase;
 use walker::Reason;
 use walker::Registers;
 use walker::Walk;
 
-// The bytes of a walk, and where some of its words begin.
+// The bytes of a walk, and where its words begin (docs/LAYOUT.md).
 const WALK_BYTES: usize = 158;
+
+const PHASE_WORD: usize = 0;
+
+const REASON_WORD: usize = 1;
+
+const LOCATION_WORD: usize = 2;
+
+const RESULT_WORD: usize = 3;
+
+const PARAMETER_WORD: usize = 4;
+
+const DEPTH_WORD: usize = 5;
 
 const ALLOWANCE_WORD: usize = 6;
 
@@ -37,6 +52,19 @@ const READ_WORD: usize = 7;
 const USED_WORD: usize = 11;
 
 const RETURNS_WORD: usize = 15;
+
+const MOST_HELD: u16 = PENDING as u16;
+
+// The numbers of phases, that of bytes which are no walk, and the reason of a walk that has not stopped.
+const GOING: u16 = 0;
+
+const WAITING: u16 = 1;
+
+const STOPPED: u16 = 2;
+
+const NO_WALK: u16 = 3;
+
+const NO_REASON: u16 = 65535;
 
 // The books of a screen, the bytes and words of each, and where its steps left begin.
 const BOOKS: u16 = 2;
@@ -74,8 +102,7 @@ fn put_word(out: &mut [u8], i: usize, x: u16)
     requires { ⌜ 2 * i + 2 ≤ length (now out) ⌝ }
     ensures { λ _. ⌜ now (out .exit) ≡ puts (now (out .entry)) i (x ∷ []) ⌝ }
 {
-    out[2 * i] = (x / 256) as u8;
-    out[2 * i + 1] = (x % 256) as u8;
+    buffers::put_word(out, i, x);
 }
 
 fn put_two(out: &mut [u8], i: usize, a: u16, b: u16)
@@ -99,11 +126,7 @@ fn put_64(out: &mut [u8], i: usize, n: u64)
     requires { ⌜ 2 * i + 8 ≤ length (now out) ⌝ }
     ensures { λ _. ⌜ now (out .exit) ≡ puts (now (out .entry)) i (form.words64 n) ⌝ }
 {
-    let a = n / 281474976710656;
-    let b = n / 4294967296 % 65536;
-    let d = n / 65536 % 65536;
-    let e = n % 65536;
-    put_four(out, i, a as u16, b as u16, d as u16, e as u16);
+    buffers::put_64(out, i, n);
 }
 
 // The number of a reason.
@@ -112,12 +135,12 @@ fn reason_number(r: Reason) -> u16
 {
     match r {
         Reason::Finished => 0,
-        Reason::Differs => 30,
-        Reason::Missing => 31,
-        Reason::Unlabelled => 32,
-        Reason::Deep => 33,
-        Reason::Unanswered => 34,
-        Reason::Outside => 37,
+        Reason::Differs => base::DIFFERS,
+        Reason::Missing => base::MISSING,
+        Reason::Unlabelled => base::UNLABELLED,
+        Reason::Deep => base::DEEP,
+        Reason::Unanswered => base::UNANSWERED,
+        Reason::Outside => base::OUTSIDE,
     }
 }
 
@@ -127,9 +150,9 @@ fn put_phase(out: &mut [u8], p: Phase)
     ensures { λ _. ⌜ now (out .exit) ≡ puts (now (out .entry)) 0 (form.phaseWords (view.phaseOf p)) ⌝ }
 {
     match p {
-        Phase::Going => put_two(out, 0, 0, 0),
-        Phase::Waiting => put_two(out, 0, 1, 0),
-        Phase::Stopped(r) => put_two(out, 0, 2, reason_number(r)),
+        Phase::Going => put_two(out, PHASE_WORD, GOING, 0),
+        Phase::Waiting => put_two(out, PHASE_WORD, WAITING, 0),
+        Phase::Stopped(r) => put_two(out, PHASE_WORD, STOPPED, reason_number(r)),
     }
 }
 
@@ -137,7 +160,11 @@ fn put_phase(out: &mut [u8], p: Phase)
 fn held_of(depth: usize) -> u16
     ensures { λ r. ⌜ r ≡ min depth 64 ⌝ }
 {
-    if depth < 64 { depth as u16 } else { 64 }
+    if depth < PENDING {
+        depth as u16
+    } else {
+        MOST_HELD
+    }
 }
 
 // Words 2 to 14.
@@ -147,7 +174,7 @@ fn put_registers(out: &mut [u8], r: Registers)
 {
     put_four(
         out,
-        2,
+        LOCATION_WORD,
         r.location as u16,
         narrow(r.result),
         narrow(r.parameter),
@@ -172,7 +199,7 @@ fn put_returns(out: &mut [u8], returns: &[u16], depth: usize)
     ensures { λ _. ⌜ now (out .exit) ≡ puts (now (out .entry)) 15 (form.returnWords (reverse (take depth (now (returns .entry))))) ⌝ }
 {
     let mut i = 0;
-    while i < 64 {
+    while i < PENDING {
         put_word(out, RETURNS_WORD + i, return_at(returns, depth, i));
         i += 1;
     }
@@ -197,12 +224,12 @@ fn reason_of(n: u16) -> Reason
     ensures { λ r. ⌜ view.reasonOf r ≡ form.reasonOf n ⌝ }
 {
     match n {
-        30 => Reason::Differs,
-        31 => Reason::Missing,
-        32 => Reason::Unlabelled,
-        33 => Reason::Deep,
-        34 => Reason::Unanswered,
-        37 => Reason::Outside,
+        base::DIFFERS => Reason::Differs,
+        base::MISSING => Reason::Missing,
+        base::UNLABELLED => Reason::Unlabelled,
+        base::DEEP => Reason::Deep,
+        base::UNANSWERED => Reason::Unanswered,
+        base::OUTSIDE => Reason::Outside,
         _ => Reason::Finished,
     }
 }
@@ -211,28 +238,10 @@ fn phase_of(p: u16, n: u16) -> Phase
     ensures { λ r. ⌜ view.phaseOf r ≡ form.phaseOf p n ⌝ }
 {
     match p {
-        0 => Phase::Going,
-        1 => Phase::Waiting,
+        GOING => Phase::Going,
+        WAITING => Phase::Waiting,
         _ => Phase::Stopped(reason_of(n)),
     }
-}
-
-// The word at index i.
-fn word(s: &[u8], i: usize) -> u64
-    ensures { λ r. ⌜ (r ≡ getD (wordsOf (now (s .entry))) i 0) × (r < 65536) ⌝ }
-{
-    wide(machine::word(s, i))
-}
-
-// The four words from index i on as one number.
-fn read_64(s: &[u8], i: usize) -> u64
-    requires { ⌜ i < 324 ⌝ }
-    ensures { λ r. ⌜ r ≡ form.number64 (drop i (wordsOf (now (s .entry)))) ⌝ }
-{
-    word(s, i) * 281474976710656
-        + word(s, i + 1) * 4294967296
-        + word(s, i + 2) * 65536
-        + word(s, i + 3)
 }
 
 // The registers by words 2 to 14.
@@ -240,24 +249,24 @@ fn registers_of(s: &[u8]) -> Registers
     ensures { λ r. ⌜ (r ≡ registersIn (wordsOf (now (s .entry)))) × (r .location < 65536) ⌝ }
 {
     Registers {
-        location: word(s, 2) as usize,
-        depth: word(s, 5) as usize,
-        result: word(s, 3),
-        parameter: word(s, 4),
+        location: wide_word(s, LOCATION_WORD) as usize,
+        depth: wide_word(s, DEPTH_WORD) as usize,
+        result: wide_word(s, RESULT_WORD),
+        parameter: wide_word(s, PARAMETER_WORD),
         read: read_64(s, READ_WORD),
         used: read_64(s, USED_WORD),
-        allowance: word(s, ALLOWANCE_WORD),
+        allowance: wide_word(s, ALLOWANCE_WORD),
     }
 }
 
 // The return locations by words 15 to 78.
-fn returns_of(s: &[u8]) -> [u16; 64]
+fn returns_of(s: &[u8]) -> [u16; PENDING]
     requires { ⌜ length (now s) ≡ 158 ⌝ }
     ensures { λ r. ⌜ r ≡ take 64 (drop 15 (wordsOf (now (s .entry)))) ⌝ }
 {
-    let mut returns = [0u16; 64];
+    let mut returns = [0u16; PENDING];
     let mut i = 0;
-    while i < 64 {
+    while i < PENDING {
         returns[i] = machine::word(s, RETURNS_WORD + i);
         i += 1;
     }
@@ -269,7 +278,7 @@ fn named(s: &[u8]) -> Walk
     requires { ⌜ length (now s) ≡ 158 ⌝ }
     ensures { λ r. ⌜ (view.walkOf r ≡ form.walkNamed (wordsOf (now (s .entry)))) × (r .at .location < 65536) ⌝ }
 {
-    let phase = phase_of(machine::word(s, 0), machine::word(s, 1));
+    let phase = phase_of(machine::word(s, PHASE_WORD), machine::word(s, REASON_WORD));
     let at = registers_of(s);
     let returns = returns_of(s);
     Walk { phase, at, returns }
@@ -305,7 +314,7 @@ fn fresh_walk(allowance: u16) -> Walk
     Walk {
         phase: Phase::Going,
         at,
-        returns: [0u16; 64],
+        returns: [0u16; PENDING],
     }
 }
 
@@ -337,7 +346,7 @@ pub extern "C" fn sst_fresh(walk: &mut [u8], allowance: u16) -> u16
         put_walk(walk, fresh_walk(allowance));
         0
     } else {
-        21
+        base::REFUSED
     }
 }
 
@@ -347,7 +356,7 @@ fn refuse(written: &mut u64, steps: &mut u64) -> u16
 {
     *written = 0;
     *steps = 0;
-    21
+    base::REFUSED
 }
 
 // A call is done: the walk is written.
@@ -440,7 +449,7 @@ pub extern "C" fn sst_screen_fresh(screen: &mut [u8], allowance_0: u16, allowanc
     ensures { λ r. ⌜ (r ≡ screenNumber (now (screen .entry))) × (now (screen .exit) ≡ freshBytes allowance_0 allowance_1 (now (screen .entry))) ⌝ }
 {
     if screen.len() != SCREEN_BYTES {
-        return 21;
+        return base::REFUSED;
     }
     fresh_book(&mut screen[..BOOK_BYTES], allowance_0);
     fresh_book(&mut screen[BOOK_BYTES..], allowance_1);
@@ -460,7 +469,7 @@ pub extern "C" fn sst_refill(screen: &mut [u8], book: u16, left: u64) -> u16
     ensures { λ r. ⌜ (r ≡ refillNumber book (now (screen .entry))) × (now (screen .exit) ≡ refillBytes book left (now (screen .entry))) ⌝ }
 {
     if !is_book(book, screen) {
-        return 21;
+        return base::REFUSED;
     }
     put_64(screen, left_word(book), left);
     0
@@ -547,9 +556,9 @@ fn phase_number(p: Phase) -> u16
     ensures { λ n. ⌜ n ≡ phaseIn (view.phaseOf p) ⌝ }
 {
     match p {
-        Phase::Going => 0,
-        Phase::Waiting => 1,
-        Phase::Stopped(_) => 2,
+        Phase::Going => GOING,
+        Phase::Waiting => WAITING,
+        Phase::Stopped(_) => STOPPED,
     }
 }
 
@@ -558,8 +567,8 @@ fn reason_or_none(p: Phase) -> u16
     ensures { λ n. ⌜ n ≡ reasonIn (view.phaseOf p) ⌝ }
 {
     match p {
-        Phase::Going => 65535,
-        Phase::Waiting => 65535,
+        Phase::Going => NO_REASON,
+        Phase::Waiting => NO_REASON,
         Phase::Stopped(r) => reason_number(r),
     }
 }
@@ -574,7 +583,7 @@ pub extern "C" fn sst_phase(walk: &[u8]) -> u16
         let p = w.phase;
         phase_number(p)
     } else {
-        3
+        NO_WALK
     }
 }
 
@@ -588,7 +597,7 @@ pub extern "C" fn sst_reason(walk: &[u8]) -> u16
         let p = w.phase;
         reason_or_none(p)
     } else {
-        65535
+        NO_REASON
     }
 }
 

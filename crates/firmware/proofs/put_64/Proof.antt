@@ -1,39 +1,18 @@
 -- `firmware::put_64` meets its contract: the four words are those of the number.
+use mathlib.Core.Path.{_∙_}
 use borrow.Author.Needs.{needs}
-use Rattle.machine.specs.Form.{words64}
+use Rattle.firmware.proofs.Laws.{puts-64}
 use Rattle.firmware.proofs.put_64.Statement.{statement}
 use Rattle.firmware.proofs.put_64.Tie as tie
 
-cast-put-four : tie.Need-cast-put-four
-cast-put-four c = search needs
-
-cast-put-four-2 : tie.Need-cast-put-four-2
-cast-put-four-2 c = search needs
-
-cast-put-four-3 : tie.Need-cast-put-four-3
-cast-put-four-3 c = search needs
-
-cast-put-four-4 : tie.Need-cast-put-four-4
-cast-put-four-4 c = search needs
-
-put-four-requires : tie.Need-put-four-requires
-put-four-requires c κs = search needs
+put-64-requires : tie.Need-put-64-requires
+put-64-requires c κs = search needs
 
 same-length : tie.Need-same-length
 same-length c = search needs
 
 returns : tie.Need-returns
-unfolding words64
-returns c = search needs
+returns c = let a = c .before .before .before .before .before .args in c .before .before .put-64 .ensures ∙ puts-64 (a .out .now) (a .i) (a .n)
 
 pub put-64-spec : {M : Type 1} → statement M
-put-64-spec =
-    tie.close
-    (tie.spec
-    cast-put-four
-    cast-put-four-2
-    cast-put-four-3
-    cast-put-four-4
-    put-four-requires
-    same-length
-    returns)
+put-64-spec = tie.close (tie.spec put-64-requires same-length returns)

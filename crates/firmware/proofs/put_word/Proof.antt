@@ -1,48 +1,18 @@
 -- `firmware::put_word` meets its contract: two stores are one word.
-use native.Mathlib.Omega.{arith}
-use lib.ListN.{length-set}
+use mathlib.Core.Path.{_∙_}
 use borrow.Author.Needs.{needs}
 use Rattle.firmware.proofs.Laws.{puts-one}
 use Rattle.firmware.proofs.put_word.Statement.{statement}
 use Rattle.firmware.proofs.put_word.Tie as tie
 
-cast-out : tie.Need-cast-out
-cast-out c = search needs
-
-mul-out : tie.Need-mul-out
-mul-out c = search needs
-
-slice-write-out : tie.Need-slice-write-out
-slice-write-out c = search needs
-
-cast-out-2 : tie.Need-cast-out-2
-cast-out-2 c = search needs
-
-mul-out-2 : tie.Need-mul-out-2
-mul-out-2 c = search needs
-
-add-out : tie.Need-add-out
-add-out c = search needs
-
-slice-write-out-2 : tie.Need-slice-write-out-2
-slice-write-out-2 c = simp length-set (omega arith)
+put-word-requires : tie.Need-put-word-requires
+put-word-requires c κs = search needs
 
 same-length : tie.Need-same-length
 same-length c = search needs
 
 returns : tie.Need-returns
-returns c = let a = c .args in puts-one (a .out .now) (a .i) (a .x)
+returns c = let a = c .before .before .before .before .before .args in c .before .before .put-word .ensures ∙ puts-one (a .out .now) (a .i) (a .x)
 
 pub put-word-spec : {M : Type 1} → statement M
-put-word-spec =
-    tie.close
-    (tie.spec
-    cast-out
-    mul-out
-    slice-write-out
-    cast-out-2
-    mul-out-2
-    add-out
-    slice-write-out-2
-    same-length
-    returns)
+put-word-spec = tie.close (tie.spec put-word-requires same-length returns)
