@@ -9,10 +9,10 @@ use libc::STDIN_FILENO;
 use libc::STDOUT_FILENO;
 
 // One byte more than a program may have: enough to see that a text is over-long.
-const KEPT: usize = 32769;
+const KEPT: usize = base::TEXT_BYTES + 1;
 
-// The bytes of 4,096 table words.
-const TABLE_BYTES: usize = 8192;
+// The bytes of the longest table.
+const TABLE_BYTES: usize = 2 * base::TABLE_WORDS;
 
 // As many pieces are read at most: an input ends long before they do.
 const PIECES: u64 = 1 << 40;
