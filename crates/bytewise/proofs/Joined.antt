@@ -1,25 +1,25 @@
 -- Every list of calls over bytes is a list of calls of demand 3.
-use mathlib.Core.Bool.{Bool, true, false, _&&_}
 use mathlib.Core.List.{List, [], _∷_, _++_, append-assoc}
-use mathlib.Core.Option.{Option, none, some}
+use mathlib.Core.Option.{none, some}
 use mathlib.Core.Path.{_≡_, refl, sym, ap, _∙_}
-use Prim.Native.Nat.{ℕ, zero, suc, _+_, _*_, _-_, _/_, _%_, _^_, _<_, _≤_}
+use Prim.Native.Nat.{ℕ, _+_, _*_, _-_, _/_, _%_, _<_}
 use native.Mathlib.Omega.{arith}
 use lib.Dec.{leb}
-use lib.ListN.{length, take, drop, getD, getElem?}
+use lib.ListN.{length, take, drop, getD}
 use lib.Seq.{take-append-seam}
 use Rattle.base.specs.Common.{if_then_else_}
 use Rattle.agreement.specs.Demand.{wanted, Allowed, Listed, begin, then-call}
 use Rattle.events.specs.Events.{Event, output, signal, repair, operation, operationWith, eventWords, isChoice, choices}
 use Rattle.machine.proofs.Bytes.{length-wordsOf, length-tableOf}
 use Rattle.machine.proofs.Form.{walkOf-walkBytes}
+use Rattle.machine.proofs.Words.{small-words, small-take}
 use Rattle.machine.specs.Small.{Small, SmallMode}
 use Rattle.machine.proofs.Keeps.{fits-call, fits-fresh}
 use Rattle.machine.specs.Bytes.{count, wordsOf, tableOf, bytesOf, over}
-use Rattle.machine.specs.Call.{Mode, whole, paused, Called, callWalk}
+use Rattle.machine.specs.Call.{Mode, whole, paused, callWalk}
 use Rattle.machine.specs.Form.{Fits, walkBytes, walkOf, eventsWords, Outcome, outcome, callBytes}
 use Rattle.machine.specs.Walk.{Phase, going, waiting, stopped, Walk, fresh}
-use Rattle.bytewise.specs.ByteCalls.{Slice, writtenWords, choicesIn, Waits, Hands, ByteCalls, first, next, Stands}
+use Rattle.bytewise.specs.ByteCalls.{Slice, writtenWords, choicesIn, Hands, ByteCalls, first, next, Stands}
 
 -- Words and bytes
 
@@ -59,19 +59,6 @@ unfolding over
 written-is es buffer =
     let e = wordsOf-then (eventsWords es) (drop (length (bytesOf (eventsWords es))) buffer) in
     rw (e, sym (length-eventsWords es)) (take-append-seam (eventsWords es) (wordsOf (drop (length (bytesOf (eventsWords es))) buffer)))
-
-pub small-words : (s : List ℕ) → ((i : ℕ) → getD s i 0 < 256) → Small (wordsOf s)
-unfolding wordsOf
-small-words [] b i = omega arith
-small-words (h ∷ []) b i = omega arith
-small-words (h ∷ l ∷ s) b zero = omega (arith, b 0, b 1)
-small-words (h ∷ l ∷ s) b (suc i) = small-words s (λ k. b (suc (suc k))) i
-
-pub small-take : (n : ℕ) (l : List ℕ) → Small l → Small (take n l)
-small-take zero l b i = omega arith
-small-take (suc n) [] b i = omega arith
-small-take (suc n) (x ∷ l) b zero = b 0
-small-take (suc n) (x ∷ l) b (suc i) = small-take n l (λ k. b (suc k)) i
 
 small-table : (s : List ℕ) → ((i : ℕ) → getD s i 0 < 256) → Small (tableOf s)
 unfolding tableOf

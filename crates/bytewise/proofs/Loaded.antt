@@ -1,8 +1,8 @@
 -- Where `sst_load` answers 0, no call over the bytes that it left answers 37.
 use mathlib.Core.Bool.{true}
-use mathlib.Core.List.{List, [], _∷_, _++_}
+use mathlib.Core.List.{List, _++_}
 use mathlib.Core.Path.{_≡_, refl, sym, ap, _∙_}
-use Prim.Native.Nat.{ℕ, zero, suc, _<_}
+use Prim.Native.Nat.{ℕ, zero, suc}
 use native.Mathlib.Omega.{arith}
 use lib.ListN.{length, take, drop}
 use Rattle.loading.proofs.Files.{table-file, length-allowed, loads-exactly, loads-0}
@@ -12,7 +12,8 @@ use Rattle.machine.specs.Bytes.{count, wordsOf, tableOf}
 use Rattle.processor.specs.Process.{accepted, lentWords, lentBytes}
 use Rattle.safety.proofs.Theorem.{loaded-never-37}
 use Rattle.bytewise.proofs.Entries.{lent-table, Below, below-then, below-drop, lent-bytes}
-use Rattle.bytewise.proofs.Joined.{small-words, small-take, byte-calls}
+use Rattle.bytewise.proofs.Joined.{byte-calls}
+use Rattle.machine.proofs.Words.{small-words, small-take}
 use Rattle.bytewise.specs.AtLoading.{Loads, NeverBytes37}
 use Rattle.bytewise.specs.ByteCalls.{Slice}
 
