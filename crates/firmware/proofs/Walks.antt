@@ -7,7 +7,7 @@ use Prim.Native.Nat.{ℕ, _+_, _%_, _<_, min}
 use native.Mathlib.Omega.{arith}
 use lib.ListN.{length, take, drop, getD, length-append, length-take, length-reverse}
 use Rattle.base.specs.Common.{same}
-use Rattle.machine.proofs.Form.{walkOf-length}
+use Rattle.machine.proofs.Form.{length-phaseWords, walkOf-length}
 use Rattle.machine.specs.Bytes.{wordsOf}
 use Rattle.machine.specs.Form as form
 use Rattle.machine.specs.Walk as machine
@@ -17,12 +17,6 @@ use Rattle.walker.specs.declared.Registers.{Registers}
 use Rattle.walker.specs.declared.Walk.{Walk}
 use Rattle.firmware.specs.Writes.{puts, registerWords, registersIn}
 use Rattle.firmware.proofs.Laws.{puts-then, puts-all, length-return-words}
-
-length-phase-words : (p : machine.Phase) → length (form.phaseWords p) ≡ 2
-unfolding form.phaseWords
-length-phase-words machine.going = refl
-length-phase-words machine.waiting = refl
-length-phase-words (machine.stopped r) = refl
 
 length-registers : (r : Registers) → length (registerWords r) ≡ 13
 unfolding registerWords form.words64
@@ -44,7 +38,7 @@ walk-written s w e n =
     let a = form.phaseWords (view.phaseOf (w .phase)) in
     let b = registerWords (w .at) in
     let c = form.returnWords (reverse (take (w .at .depth) (w .returns))) in
-    let la = length-phase-words (view.phaseOf (w .phase)) in
+    let la = length-phaseWords (view.phaseOf (w .phase)) in
     let lb : length b ≡ 13 = length-registers (w .at) in
     let lc = length-return-words (w .at .depth) (w .returns) n in
     let lab = length-append a b in
