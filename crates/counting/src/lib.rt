@@ -8,7 +8,7 @@ ghost use lib.Count.{ones};
 ghost use lib.Dec.{eqb};
 ghost use lib.ListN.{length, take, drop, getD, set};
 ghost use Rattle.base.specs.Common.{if_then_else_, same};
-ghost use Rattle.machine.specs.Bytes.{count, wordAt, wordsOf, bytesOf};
+ghost use Rattle.machine.specs.Bytes.{count, wordsOf, bytesOf};
 ghost use Rattle.figures.specs.Figures as sums;
 ghost use Rattle.figures.specs.Figures.{sum, bumps, bitsOf, packed};
 ghost use Rattle.figures.specs.Form as form;
