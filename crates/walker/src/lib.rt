@@ -1008,6 +1008,18 @@ fn ended(walk: Walk, events: usize, steps: u64, number: u16) -> Called
     }
 }
 
+// What a call gives that does nothing: the walk as it is.
+fn undone(walk: Walk, number: u16) -> Called
+    ensures { λ r. ⌜ r ≡ called walk 0 0 number ⌝ }
+{
+    Called {
+        walk,
+        events: 0,
+        steps: 0,
+        number,
+    }
+}
+
 impl Walk {
     // Its registers as they are read.
     fn clipped(mut self) -> Walk
@@ -1105,18 +1117,8 @@ impl Walk {
         match phase {
             Phase::Going => self.clipped()
                 .go(table, tokens, answers, false, budget, events),
-            Phase::Waiting => Called {
-                walk: self,
-                events: 0,
-                steps: 0,
-                number: base::REFUSED,
-            },
-            Phase::Stopped(why) => Called {
-                walk: self,
-                events: 0,
-                steps: 0,
-                number: number_of(why),
-            },
+            Phase::Waiting => undone(self, base::REFUSED),
+            Phase::Stopped(why) => undone(self, number_of(why)),
         }
     }
 
@@ -1141,12 +1143,7 @@ impl Walk {
         match phase {
             Phase::Going => {
                 if given {
-                    return Called {
-                        walk: self,
-                        events: 0,
-                        steps: 0,
-                        number: base::REFUSED,
-                    };
+                    return undone(self, base::REFUSED);
                 }
                 self.clipped()
                     .go(table, tokens, tokens, true, budget, events)
@@ -1157,28 +1154,13 @@ impl Walk {
                         .give_answer(answer)
                         .go(table, tokens, tokens, true, budget, events);
                 }
-                Called {
-                    walk: self,
-                    events: 0,
-                    steps: 0,
-                    number: base::REFUSED,
-                }
+                undone(self, base::REFUSED)
             }
             Phase::Stopped(why) => {
                 if given {
-                    return Called {
-                        walk: self,
-                        events: 0,
-                        steps: 0,
-                        number: base::REFUSED,
-                    };
+                    return undone(self, base::REFUSED);
                 }
-                Called {
-                    walk: self,
-                    events: 0,
-                    steps: 0,
-                    number: number_of(why),
-                }
+                undone(self, number_of(why))
             }
         }
     }

@@ -18,11 +18,17 @@ go-requires c κs = simp (c .before .clipped .ensures .1) (omega arith)
 enum-told-2 : tie.Need-enum-told-2
 enum-told-2 c = search needs
 
+undone-requires : tie.Need-undone-requires
+undone-requires c κs = search needs
+
 enum-known-phase : tie.Need-enum-known-phase
 enum-known-phase c = search needs
 
 number-of-requires : tie.Need-number-of-requires
 number-of-requires c κs = search needs
+
+undone-requires-2 : tie.Need-undone-requires-2
+undone-requires-2 c κs = search needs
 
 same-length : tie.Need-same-length
 same-length c = search needs
@@ -34,13 +40,13 @@ returns c =
 
 returns-2 : tie.Need-returns-2
 returns-2 c =
-    let a = c .before .before .before .before .before .before .args in
-    parts (whole-waits (a .table .now) (a .tokens .now) (a .budget) (a .self) (a .events .now) (a .answers .now) (c .enum-told2 .given .1))
+    let a = c .before .before .before .before .before .before .before .args in
+    rw (c .undone .ensures) (parts (whole-waits (a .table .now) (a .tokens .now) (a .budget) (a .self) (a .events .now) (a .answers .now) (c .before .enum-told2 .given .1)))
 
 returns-3 : tie.Need-returns-3
 returns-3 c =
-    let a = c .before .before .before .before .before .before .before .before .args in
-    parts (whole-stops (a .table .now) (a .tokens .now) (a .budget) (a .self) (a .events .now) (a .answers .now) _ (c .number-of .result) (c .before .before .phase .given .1) (c .number-of .ensures))
+    let a = c .before .before .before .before .before .before .before .before .before .args in
+    rw (c .undone2 .ensures) (parts (whole-stops (a .table .now) (a .tokens .now) (a .budget) (a .self) (a .events .now) (a .answers .now) _ (c .before .number-of .result) (c .before .before .before .phase .given .1) (c .before .number-of .ensures)))
 
 pub whole-spec : {M : Type 1} → statement M
 whole-spec =
@@ -50,8 +56,10 @@ whole-spec =
     clipped-requires
     go-requires
     enum-told-2
+    undone-requires
     enum-known-phase
     number-of-requires
+    undone-requires-2
     same-length
     returns
     returns-2
