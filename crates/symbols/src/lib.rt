@@ -67,6 +67,9 @@ pub const PAIR_OPERAND: usize = 5634;
 
 pub const PAIR_RULE: usize = 5635;
 
+// What a word's hash is multiplied by at each byte.
+const HASH_FACTOR: usize = 33;
+
 // No value and no declaration: more than any.
 pub const NONE: usize = 65536;
 
@@ -135,13 +138,13 @@ fn serves(c: usize, d: usize) -> bool
     if d == c {
         return true;
     }
-    if d != 3 {
+    if d != BOTH {
         return false;
     }
-    if c == 1 {
+    if c == INPUT {
         return true;
     }
-    c == 2
+    c == OUTPUT
 }
 
 // The part is the name of declaration i.
@@ -153,8 +156,8 @@ fn is_name(text: &[u8], rows: &[u16], i: usize, start: usize, len: usize) -> boo
         text,
         start,
         len,
-        number(rows, 8 * i + 2),
-        number(rows, 8 * i + 3),
+        number(rows, ROW * i + NAME_START),
+        number(rows, ROW * i + NAME_LEN),
     )
 }
 
@@ -163,11 +166,11 @@ fn is_second(text: &[u8], rows: &[u16], i: usize, start: usize, len: usize) -> b
     requires { ⌜ i ≤ 512 ⌝ }
     ensures { λ r. ⌜ r ≡ isWord (part (now (text .entry)) start len) (declAt (now (text .entry)) (now (rows .entry)) i .second) ⌝ }
 {
-    let n = number(rows, 8 * i + 5);
+    let n = number(rows, ROW * i + SECOND_LEN);
     if n == 0 {
         return false;
     }
-    same_part(text, start, len, number(rows, 8 * i + 4), n)
+    same_part(text, start, len, number(rows, ROW * i + SECOND_START), n)
 }
 
 // The part is its name or its string, in the class.
@@ -175,7 +178,7 @@ fn knows(text: &[u8], rows: &[u16], i: usize, class: usize, start: usize, len: u
     requires { ⌜ i ≤ 512 ⌝ }
     ensures { λ r. ⌜ r ≡ knows class (part (now (text .entry)) start len) (declAt (now (text .entry)) (now (rows .entry)) i) ⌝ }
 {
-    if !serves(class, number(rows, 8 * i)) {
+    if !serves(class, number(rows, ROW * i)) {
         return false;
     }
     if is_name(text, rows, i, start, len) {
@@ -189,7 +192,7 @@ fn named(text: &[u8], rows: &[u16], i: usize, class: usize, start: usize, len: u
     requires { ⌜ i ≤ 512 ⌝ }
     ensures { λ r. ⌜ r ≡ named class (part (now (text .entry)) start len) (declAt (now (text .entry)) (now (rows .entry)) i) ⌝ }
 {
-    if number(rows, 8 * i) != class {
+    if number(rows, ROW * i) != class {
         return false;
     }
     is_name(text, rows, i, start, len)
@@ -203,7 +206,7 @@ fn declares(text: &[u8], rows: &[u16], i: usize, start: usize, len: usize) -> bo
     if is_name(text, rows, i, start, len) {
         return true;
     }
-    if number(rows, 8 * i) == 6 {
+    if number(rows, ROW * i) == OPERATION {
         return false;
     }
     is_second(text, rows, i, start, len)
@@ -214,10 +217,10 @@ fn counts(rows: &[u16], i: usize, class: usize, v: usize) -> bool
     requires { ⌜ i ≤ 512 ⌝ }
     ensures { λ r. ⌜ r ≡ counts class v (getD (now (rows .entry)) (8 * i) 0) (getD (now (rows .entry)) (8 * i + 1) 0) ⌝ }
 {
-    if v != number(rows, 8 * i + 1) {
+    if v != number(rows, ROW * i + VALUE) {
         return false;
     }
-    serves(class, number(rows, 8 * i))
+    serves(class, number(rows, ROW * i))
 }
 
 // The index by names
@@ -237,10 +240,10 @@ fn bucket(text: &[u8], start: usize, len: usize) -> usize
     let mut h: usize = 0;
     let mut i: usize = 0;
     while i < n {
-        h = (h * 33 + byte(text[start + i])) % 65536;
+        h = (h * HASH_FACTOR + byte(text[start + i])) % 65536;
         i += 1;
     }
-    h % 512
+    h % BUCKETS
 }
 
 // Node k is put before the chain b.
@@ -248,9 +251,9 @@ fn push_node(rows: &mut [u16], b: usize, k: usize)
     requires { ⌜ (length (now rows) ≡ 6017) × (b < 512) × (k < 1024) ⌝ }
     ensures { λ _. ⌜ now (rows .exit) ≡ pushRows (now (rows .entry)) b k ⌝ }
 {
-    let first = rows[4096 + b];
-    rows[4608 + k] = first;
-    rows[4096 + b] = (k + 1) as u16;
+    let first = rows[HEADS + b];
+    rows[LINKS + k] = first;
+    rows[HEADS + b] = (k + 1) as u16;
 }
 
 // Row i is put before the chain of its second word, where it has one.
@@ -258,11 +261,11 @@ fn push_second(text: &[u8], rows: &mut [u16], i: usize)
     requires { ⌜ (length (now rows) ≡ 6017) × (i < 512) ⌝ }
     ensures { λ _. ⌜ now (rows .exit) ≡ pushSecond (now (text .entry)) (now (rows .entry)) i ⌝ }
 {
-    let len = number(rows, 8 * i + 5);
+    let len = number(rows, ROW * i + SECOND_LEN);
     if len == 0 {
         return;
     }
-    let b = bucket(text, number(rows, 8 * i + 4), len);
+    let b = bucket(text, number(rows, ROW * i + SECOND_START), len);
     push_node(rows, b, 2 * i + 1);
 }
 
@@ -271,7 +274,11 @@ fn push_name(text: &[u8], rows: &mut [u16], i: usize)
     requires { ⌜ (length (now rows) ≡ 6017) × (i < 512) ⌝ }
     ensures { λ _. ⌜ now (rows .exit) ≡ pushName (now (text .entry)) (now (rows .entry)) i ⌝ }
 {
-    let b = bucket(text, number(rows, 8 * i + 2), number(rows, 8 * i + 3));
+    let b = bucket(
+        text,
+        number(rows, ROW * i + NAME_START),
+        number(rows, ROW * i + NAME_LEN),
+    );
     push_node(rows, b, 2 * i);
 }
 
@@ -282,8 +289,8 @@ fn clear_heads(rows: &mut [u16])
     ensures clear { λ _. ⌜ ((b : ℕ) → b < 512 → headAt (now (rows .exit)) b ≡ 0) ⌝ }
 {
     let mut b: usize = 0;
-    while b < 512 {
-        rows[4096 + b] = 0;
+    while b < BUCKETS {
+        rows[HEADS + b] = 0;
         b += 1;
     }
 }
@@ -309,7 +316,7 @@ fn first_node(text: &[u8], rows: &[u16], start: usize, len: usize) -> usize
     ensures same { λ r. ⌜ r ≡ headAt (now (rows .entry)) (bucketOf (part (now (text .entry)) start len)) ⌝ }
     ensures low { λ r. ⌜ r < 65536 ⌝ }
 {
-    number(rows, 4096 + bucket(text, start, len))
+    number(rows, HEADS + bucket(text, start, len))
 }
 
 // The node after p, 0 at the end. Nodes rise in an index; the test makes a search end on any rows.
@@ -319,7 +326,7 @@ fn next_node(rows: &[u16], p: usize) -> usize
     ensures up { λ r. ⌜ (0 < r → p < r) ⌝ }
     ensures low { λ r. ⌜ r < 65536 ⌝ }
 {
-    let q = number(rows, 4608 + (p - 1));
+    let q = number(rows, LINKS + (p - 1));
     if p < q {
         return q;
     }
@@ -345,14 +352,14 @@ pub fn find_value(
     while p != 0 {
         let i = (p - 1) / 2;
         if n <= i {
-            return 65536;
+            return NONE;
         }
         if knows(text, rows, i, class, start, len) {
-            return number(rows, 8 * i + 1);
+            return number(rows, ROW * i + VALUE);
         }
         p = next_node(rows, p);
     }
-    65536
+    NONE
 }
 
 // The first declaration of the class that has the part as its name, 65,536 where there is none.
@@ -373,14 +380,14 @@ pub fn find_row(
     while p != 0 {
         let i = (p - 1) / 2;
         if n <= i {
-            return 65536;
+            return NONE;
         }
         if named(text, rows, i, class, start, len) {
             return i;
         }
         p = next_node(rows, p);
     }
-    65536
+    NONE
 }
 
 // The class has the part as a name or string.
@@ -388,7 +395,7 @@ pub fn is_known(text: &[u8], rows: &[u16], n: usize, class: usize, start: usize,
     requires { ⌜ Kept (now text) (now rows) n ⌝ }
     ensures { λ r. ⌜ r ≡ given (find (part (now (text .entry)) start len) (knownsIn class (held (now (text .entry)) (now (rows .entry)) n))) ⌝ }
 {
-    find_value(text, rows, n, class, start, len) < 65536
+    find_value(text, rows, n, class, start, len) < NONE
 }
 
 // There is a declaration of the class that has the part as its name.
@@ -396,7 +403,7 @@ pub fn has_row(text: &[u8], rows: &[u16], n: usize, class: usize, start: usize, 
     requires { ⌜ Kept (now text) (now rows) n ⌝ }
     ensures { λ r. ⌜ r ≡ given (indexOf class (part (now (text .entry)) start len) 0 (held (now (text .entry)) (now (rows .entry)) n)) ⌝ }
 {
-    find_row(text, rows, n, class, start, len) < 65536
+    find_row(text, rows, n, class, start, len) < NONE
 }
 
 // The part is declared in some class.
@@ -447,9 +454,9 @@ fn elsewhere(text: &[u8], rows: &[u16], n: usize, start: usize, len: usize) -> u
     ensures { λ r. ⌜ r ≡ elsewhereIn (held (now (text .entry)) (now (rows .entry)) n) (part (now (text .entry)) start len) ⌝ }
 {
     if is_declared(text, rows, n, start, len) {
-        return 5;
+        return base::NOT_WANTED;
     }
-    3
+    base::UNDECLARED
 }
 
 // The value of a word in a class.
@@ -466,7 +473,7 @@ pub fn value_of(
     ensures low { λ r. ⌜ r .value < 65536 ⌝ }
 {
     let v = find_value(text, rows, n, class, start, len);
-    if v < 65536 {
+    if v < NONE {
         return Looked { fault: 0, value: v };
     }
     Looked {
@@ -482,7 +489,7 @@ fn row_of(text: &[u8], rows: &[u16], n: usize, class: usize, start: usize, len: 
     ensures low { λ r. ⌜ (r .fault ≡ 0 → r .value < n) ⌝ }
 {
     let i = find_row(text, rows, n, class, start, len);
-    if i < 65536 {
+    if i < NONE {
         return Looked { fault: 0, value: i };
     }
     Looked {
@@ -497,7 +504,7 @@ pub fn operation_of(text: &[u8], rows: &[u16], n: usize, start: usize, len: usiz
     ensures looks { λ r. ⌜ ((kind : ℕ) → Looks (r .fault) (r .value) (operationIn (held (now (text .entry)) (now (rows .entry)) n) (wordOf (now (text .entry)) kind start len))) ⌝ }
     ensures low { λ r. ⌜ (r .fault ≡ 0 → r .value < n) ⌝ }
 {
-    row_of(text, rows, n, 6, start, len)
+    row_of(text, rows, n, OPERATION, start, len)
 }
 
 // The declaration of a section of operators.
@@ -515,11 +522,14 @@ pub fn rule_of(text: &[u8], rows: &[u16], n: usize, start: usize, len: usize) ->
     ensures looks { λ r. ⌜ ((kind : ℕ) → Looks (r .fault) (r .value) (ruleIn (held (now (text .entry)) (now (rows .entry)) n) (wordOf (now (text .entry)) kind start len))) ⌝ }
     ensures low { λ r. ⌜ (r .fault ≡ 0 → r .value < n) ⌝ }
 {
-    if has_row(text, rows, n, 6, start, len) {
-        return Looked { fault: 5, value: 0 };
+    if has_row(text, rows, n, OPERATION, start, len) {
+        return Looked {
+            fault: base::NOT_WANTED,
+            value: 0,
+        };
     }
-    let i = find_row(text, rows, n, 7, start, len);
-    if i < 65536 {
+    let i = find_row(text, rows, n, RULE, start, len);
+    if i < NONE {
         return Looked { fault: 0, value: i };
     }
     Looked {
@@ -541,15 +551,18 @@ pub fn type_of(
     ensures looks { λ r. ⌜ ((kind : ℕ) → Looks (r .fault) (r .value) (typeIn (held (now (text .entry)) (now (rows .entry)) n) (held (now (text .entry)) (now (rows .entry)) before) (wordOf (now (text .entry)) kind start len))) ⌝ }
     ensures low { λ r. ⌜ (r .fault ≡ 0 → r .value < 8 + before) ⌝ }
 {
-    let i = find_row(text, rows, before, 5, start, len);
-    if i < 65536 {
+    let i = find_row(text, rows, before, TYPE, start, len);
+    if i < NONE {
         return Looked {
             fault: 0,
-            value: 8 + i,
+            value: VALUES + i,
         };
     }
-    if has_row(text, rows, n, 5, start, len) {
-        return Looked { fault: 3, value: 0 };
+    if has_row(text, rows, n, TYPE, start, len) {
+        return Looked {
+            fault: base::UNDECLARED,
+            value: 0,
+        };
     }
     Looked {
         fault: elsewhere(text, rows, n, start, len),
