@@ -24,6 +24,21 @@ use maker::entries_at;
 use maker::read_entry;
 use scanner::WordAt;
 use scanner::next_word;
+use symbols::BOTH;
+use symbols::INPUT;
+use symbols::NAME_LEN;
+use symbols::NAME_START;
+use symbols::OPERATION;
+use symbols::OPERATORS;
+use symbols::OUTPUT;
+use symbols::ROW;
+use symbols::RULE;
+use symbols::SECOND_LEN;
+use symbols::SECOND_START;
+use symbols::THIRD_LEN;
+use symbols::THIRD_START;
+use symbols::TYPE;
+use symbols::VALUE;
 use symbols::find_value;
 use symbols::has_row;
 use symbols::has_value;
@@ -33,16 +48,6 @@ use symbols::number;
 use symbols::part_len;
 use symbols::type_of;
 use symbols::value_of;
-
-// Classes of declarations: input tokens, output tokens, sections of operators.
-const INPUT: usize = 1;
-
-const OUTPUT: usize = 2;
-
-const OPERATORS: usize = 600;
-
-// The kind of `;`.
-const SEMICOLON: u16 = 59;
 
 // A fault with the place and the length of its word, or 0.
 pub struct Fault {
@@ -61,8 +66,8 @@ fn name_known(text: &[u8], rows: &[u16], i: usize, class: usize) -> bool
         rows,
         i,
         class,
-        number(rows, 8 * i + 2),
-        number(rows, 8 * i + 3),
+        number(rows, ROW * i + NAME_START),
+        number(rows, ROW * i + NAME_LEN),
     )
 }
 
@@ -71,11 +76,18 @@ fn string_known(text: &[u8], rows: &[u16], i: usize, class: usize) -> bool
     requires { ⌜ Kept (now text) (now rows) i ⌝ }
     ensures { λ r. ⌜ r ≡ spelled (declAt (now (text .entry)) (now (rows .entry)) i .second) (knownsIn class (held (now (text .entry)) (now (rows .entry)) i)) ⌝ }
 {
-    let len = number(rows, 8 * i + 5);
+    let len = number(rows, ROW * i + SECOND_LEN);
     if len == 0 {
         return false;
     }
-    is_known(text, rows, i, class, number(rows, 8 * i + 4), len)
+    is_known(
+        text,
+        rows,
+        i,
+        class,
+        number(rows, ROW * i + SECOND_START),
+        len,
+    )
 }
 
 // A declaration of the class has its name before it.
@@ -88,8 +100,8 @@ fn name_taken(text: &[u8], rows: &[u16], i: usize, class: usize) -> bool
         rows,
         i,
         class,
-        number(rows, 8 * i + 2),
-        number(rows, 8 * i + 3),
+        number(rows, ROW * i + NAME_START),
+        number(rows, ROW * i + NAME_LEN),
     )
 }
 
@@ -104,7 +116,7 @@ fn repeats(text: &[u8], rows: &[u16], i: usize, class: usize) -> bool
     if string_known(text, rows, i, class) {
         return true;
     }
-    has_value(rows, i, class, number(rows, 8 * i + 1))
+    has_value(rows, i, class, number(rows, ROW * i + VALUE))
 }
 
 // An operation has its name before it.
@@ -112,7 +124,7 @@ fn clashes(text: &[u8], rows: &[u16], i: usize) -> bool
     requires { ⌜ Kept (now text) (now rows) i ⌝ }
     ensures { λ r. ⌜ r ≡ clashesIn (declAt (now (text .entry)) (now (rows .entry)) i) (held (now (text .entry)) (now (rows .entry)) i) ⌝ }
 {
-    name_taken(text, rows, i, 6)
+    name_taken(text, rows, i, OPERATION)
 }
 
 // An input token again.
@@ -120,7 +132,7 @@ fn input_again(text: &[u8], rows: &[u16], i: usize) -> bool
     requires { ⌜ Kept (now text) (now rows) i ⌝ }
     ensures { λ r. ⌜ r ≡ inputAgain (declAt (now (text .entry)) (now (rows .entry)) i) (held (now (text .entry)) (now (rows .entry)) i) ⌝ }
 {
-    if repeats(text, rows, i, 1) {
+    if repeats(text, rows, i, INPUT) {
         return true;
     }
     clashes(text, rows, i)
@@ -131,10 +143,10 @@ fn both_again(text: &[u8], rows: &[u16], i: usize) -> bool
     requires { ⌜ Kept (now text) (now rows) i ⌝ }
     ensures { λ r. ⌜ r ≡ bothAgain (declAt (now (text .entry)) (now (rows .entry)) i) (held (now (text .entry)) (now (rows .entry)) i) ⌝ }
 {
-    if repeats(text, rows, i, 1) {
+    if repeats(text, rows, i, INPUT) {
         return true;
     }
-    if repeats(text, rows, i, 2) {
+    if repeats(text, rows, i, OUTPUT) {
         return true;
     }
     clashes(text, rows, i)
@@ -145,11 +157,11 @@ fn entry_again(text: &[u8], rows: &[u16], i: usize) -> bool
     requires { ⌜ Kept (now text) (now rows) i ⌝ }
     ensures { λ r. ⌜ r ≡ entryAgain (declAt (now (text .entry)) (now (rows .entry)) i) (held (now (text .entry)) (now (rows .entry)) i) ⌝ }
 {
-    let class = number(rows, 8 * i);
-    if class == 1 {
+    let class = number(rows, ROW * i);
+    if class == INPUT {
         return input_again(text, rows, i);
     }
-    if class == 3 {
+    if class == BOTH {
         return both_again(text, rows, i);
     }
     repeats(text, rows, i, class)
@@ -160,10 +172,10 @@ fn operation_again(text: &[u8], rows: &[u16], i: usize) -> bool
     requires { ⌜ Kept (now text) (now rows) i ⌝ }
     ensures { λ r. ⌜ r ≡ operationAgain (declAt (now (text .entry)) (now (rows .entry)) i) (held (now (text .entry)) (now (rows .entry)) i) ⌝ }
 {
-    if name_taken(text, rows, i, 6) {
+    if name_taken(text, rows, i, OPERATION) {
         return true;
     }
-    name_known(text, rows, i, 1)
+    name_known(text, rows, i, INPUT)
 }
 
 // The fault 4 of declaration i where it is there again.
@@ -172,11 +184,11 @@ fn fault_if(text: &[u8], rows: &[u16], i: usize, again: bool) -> Fault
     ensures { λ r. ⌜ Faults (r .fault) (r .at) (r .len) (faultIf again 4 (declAt (now (text .entry)) (now (rows .entry)) i .name)) ⌝ }
 {
     if again {
-        let at = number(rows, 8 * i + 2);
+        let at = number(rows, ROW * i + NAME_START);
         return Fault {
-            fault: 4,
+            fault: base::REPEATED,
             at,
-            len: part_len(text, at, number(rows, 8 * i + 3)),
+            len: part_len(text, at, number(rows, ROW * i + NAME_LEN)),
         };
     }
     Fault {
@@ -230,8 +242,8 @@ fn types_fault(text: &[u8], rows: &[u16], n: usize, i: usize) -> Fault
         rows,
         n,
         i,
-        number(rows, 8 * i + 4),
-        number(rows, 8 * i + 5),
+        number(rows, ROW * i + SECOND_START),
+        number(rows, ROW * i + SECOND_LEN),
     );
     if f.fault != 0 {
         return f;
@@ -241,8 +253,8 @@ fn types_fault(text: &[u8], rows: &[u16], n: usize, i: usize) -> Fault
         rows,
         n,
         i,
-        number(rows, 8 * i + 6),
-        number(rows, 8 * i + 7),
+        number(rows, ROW * i + THIRD_START),
+        number(rows, ROW * i + THIRD_LEN),
     )
 }
 
@@ -283,7 +295,7 @@ fn has_token(text: &[u8], rows: &[u16], n: usize, v: usize, b: Entry) -> bool
     requires { ⌜ Kept (now text) (now rows) n ⌝ }
     ensures { λ r. ⌜ ((x : Option ℕ) → Tells v x → r ≡ sameValue x (find (part (now (text .entry)) (b .token .start) (b .token .len)) (knownsIn 1 (held (now (text .entry)) (now (rows .entry)) n)))) ⌝ }
 {
-    if v == 65536 {
+    if v == symbols::NONE {
         return false;
     }
     v == find_value(text, rows, n, INPUT, b.token.start, b.token.len)
@@ -339,10 +351,10 @@ fn entry_fault(text: &[u8], rows: &[u16], n: usize, at: usize, count: usize, e: 
 {
     let w = e.token;
     if !is_declared(text, rows, n, w.start, w.len) {
-        return word_fault(text, 3, w);
+        return word_fault(text, base::UNDECLARED, w);
     }
     if against(text, rows, n, at, count, e) {
-        return word_fault(text, 45, w);
+        return word_fault(text, base::CONTRADICTS, w);
     }
     let t = value_of(text, rows, n, INPUT, w.start, w.len);
     if t.fault != 0 {
@@ -367,7 +379,7 @@ fn entries_fault(text: &[u8], rows: &[u16], n: usize, at: usize) -> Fault
         }
         let next = e.emits.next;
         let w = next_word(text, next);
-        if w.kind == SEMICOLON {
+        if w.kind == words::SEMICOLON {
             return f;
         }
         if next <= i {
@@ -396,14 +408,14 @@ fn decl_fault(text: &[u8], rows: &[u16], n: usize, i: usize) -> Fault
     ensures { λ r. ⌜ ((es : List Operator) (ws′ : List Word) → (declAt (now (text .entry)) (now (rows .entry)) i .class ≡ 600 → OperatorsIn (wordsAt (now (text .entry)) (declAt (now (text .entry)) (now (rows .entry)) i .value)) ws′ es)
         → Faults (r .fault) (r .at) (r .len) (declFault (held (now (text .entry)) (now (rows .entry)) n) (held (now (text .entry)) (now (rows .entry)) i) es (declAt (now (text .entry)) (now (rows .entry)) i))) ⌝ }
 {
-    let class = number(rows, 8 * i);
-    if class == 5 {
-        return fault_if(text, rows, i, name_taken(text, rows, i, 5));
+    let class = number(rows, ROW * i);
+    if class == TYPE {
+        return fault_if(text, rows, i, name_taken(text, rows, i, TYPE));
     }
-    if class == 6 {
+    if class == OPERATION {
         return operation_fault(text, rows, n, i);
     }
-    if class == 7 {
+    if class == RULE {
         return fault_if(text, rows, i, false);
     }
     if class == OPERATORS {
