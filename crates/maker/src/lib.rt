@@ -12,31 +12,25 @@ ghost use Rattle.maker.specs.Ranks.{AnEntry, noRank, rankStep, RankDone,
 ghost use Rattle.symbols.specs.Index.{Kept};
 ghost use Rattle.symbols.specs.Search.{Tells};
 use scanner::WordAt;
-
-// The class of sections of operators, and that of rules.
-const OPERATORS: usize = 600;
-
-const RULE: usize = 7;
-
-// Where the number of pairs stands.
-const PAIRS: usize = 5632;
+use symbols::NONE;
+use symbols::OPERATORS;
+use symbols::PAIR;
+use symbols::PAIR_OPERAND;
+use symbols::PAIR_RULE;
+use symbols::PAIR_SECTION;
+use symbols::PAIRS;
+use symbols::ROW;
+use symbols::RULE;
+use symbols::VALUE;
 
 // One above the highest level.
-const NO_LEVEL: usize = 16;
+pub const NO_LEVEL: usize = base::GREATEST_LEVEL + 1;
 
-// Kinds of words: `^`, `;`, `end`.
-const CARET: u16 = 94;
+// The kinds below it are no words.
+pub const FIRST_WORD: u16 = words::LAST + 1;
 
-const SEMICOLON: u16 = 59;
-
-const END: u16 = 266;
-
-// The limits that the rules made are held to: operators of a level, rules, names.
-const LABELS: usize = 64;
-
-const RULES: usize = 128;
-
-const NAMES: usize = 512;
+// A use that is not in order: the pass over the rules says what is wrong with it.
+const NOT_IN_ORDER: u16 = 1;
 
 // An entry of a section: input token, level, side, output token.
 pub struct Entry {
@@ -141,7 +135,7 @@ pub fn next_level(text: &[u8], at: usize, above: usize) -> Rank
         s = with_entry(s, above, e.level, e.right);
         let o = e.emits;
         let w = scanner::next_word(text, o.next);
-        if w.kind == SEMICOLON {
+        if w.kind == words::SEMICOLON {
             return s;
         }
         if o.next <= i {
@@ -166,7 +160,7 @@ fn section_levels(text: &[u8], at: usize) -> Levels
     let mut k: usize = 0;
     let mut crowded = false;
     while l.level < NO_LEVEL {
-        crowded = either(crowded, LABELS < l.count);
+        crowded = either(crowded, base::LABELS < l.count);
         k += 1;
         l = next_level(text, at, l.level);
     }
@@ -178,7 +172,7 @@ pub fn entries_at(text: &[u8], rows: &[u16], row: usize) -> usize
     requires { ⌜ row < 65536 ⌝ }
     ensures { λ r. ⌜ PlaceOf (now (text .entry)) (now (rows .entry)) row r ⌝ }
 {
-    let at = symbols::number(rows, 8 * row + 1);
+    let at = symbols::number(rows, ROW * row + VALUE);
     if at <= text.len() {
         return at;
     }
@@ -192,8 +186,8 @@ fn is_pair(rows: &[u16], j: usize, section: usize, operand: usize) -> bool
     requires { ⌜ j < 65536 ⌝ }
     ensures { λ r. ⌜ r ≡ (eqb (getD (now (rows .entry)) (5633 + 3 * j) 0) section && eqb (getD (now (rows .entry)) (5634 + 3 * j) 0) operand) ⌝ }
 {
-    if symbols::number(rows, 5633 + 3 * j) == section {
-        return symbols::number(rows, 5634 + 3 * j) == operand;
+    if symbols::number(rows, PAIR_SECTION + PAIR * j) == section {
+        return symbols::number(rows, PAIR_OPERAND + PAIR * j) == operand;
     }
     false
 }
@@ -206,11 +200,11 @@ fn look_pair(rows: &[u16], section: usize, operand: usize) -> usize
     let mut j: usize = 0;
     while j < n {
         if is_pair(rows, j, section, operand) {
-            return symbols::number(rows, 5635 + 3 * j);
+            return symbols::number(rows, PAIR_RULE + PAIR * j);
         }
         j += 1;
     }
-    65536
+    NONE
 }
 
 // The place of the lowest rule that is made for a section and an operand rule, by their declarations.
@@ -219,7 +213,7 @@ pub fn lowest(rows: &[u16], section: usize, operand: usize) -> usize
     ensures low { λ r. ⌜ r < 65536 ⌝ }
 {
     let v = look_pair(rows, section, operand);
-    if v < 65536 {
+    if v < NONE {
         return v;
     }
     0
@@ -241,7 +235,7 @@ fn add_pair(rows: &mut [u16], k: usize, section: usize, operand: usize, lowest: 
 {
     put_three(
         rows,
-        5633 + 3 * k,
+        PAIR_SECTION + PAIR * k,
         section as u16,
         operand as u16,
         lowest as u16,
@@ -259,9 +253,9 @@ pub fn read_use(text: &[u8], rows: &[u16], n: usize, at: usize) -> Used
     let o = scanner::next_word(text, c.next);
     let section = symbols::find_row(text, rows, n, OPERATORS, s.start, s.len);
     let operand = symbols::find_row(text, rows, n, RULE, o.start, o.len);
-    if section < 65536 {
+    if section < NONE {
         return Used {
-            there: operand < 65536,
+            there: operand < NONE,
             section,
             operand,
         };
@@ -279,10 +273,10 @@ fn is_over(others: usize, own: usize, l: Levels) -> bool
     ensures { λ r. ⌜ r ≡ (ltb 128 (own + l .count) || ltb 512 (others + (own + l .count)) || l .crowded) ⌝ }
 {
     let rules = own + l.count;
-    if RULES < rules {
+    if base::RULES < rules {
         return true;
     }
-    if NAMES < others + rules {
+    if base::NAMES < others + rules {
         return true;
     }
     l.crowded
@@ -295,19 +289,28 @@ fn take_use(text: &[u8], rows: &mut [u16], n: usize, others: usize, own: usize, 
 {
     let u = read_use(text, rows, n, at);
     if !u.there {
-        return Taken { fault: 1, own };
+        return Taken {
+            fault: NOT_IN_ORDER,
+            own,
+        };
     }
     let v = look_pair(rows, u.section, u.operand);
-    if v < 65536 {
+    if v < NONE {
         return Taken { fault: 0, own };
     }
     let i = entries_at(text, rows, u.section);
     let l = section_levels(text, i);
     if l.count == 0 {
-        return Taken { fault: 1, own };
+        return Taken {
+            fault: NOT_IN_ORDER,
+            own,
+        };
     }
     if is_over(others, own, l) {
-        return Taken { fault: 9, own };
+        return Taken {
+            fault: base::OVER_LIMIT,
+            own,
+        };
     }
     let k = symbols::number(rows, PAIRS);
     add_pair(rows, k, u.section, u.operand, own);
@@ -321,7 +324,7 @@ fn take_word(text: &[u8], rows: &mut [u16], n: usize, others: usize, own: usize,
     requires { ⌜ (length (now text) ≤ 32768) × (length (now rows) ≡ 6017) × Kept (now text) (now rows) n × (others ≤ 512) × (own ≤ 128) × (getD (now rows) 5632 0 ≤ own) ⌝ }
     ensures { λ r. ⌜ WordDone (now (text .entry)) (now (rows .entry)) n others own w (now (rows .exit)) r ⌝ }
 {
-    if w.kind == CARET {
+    if w.kind == words::CARET {
         return take_use(text, rows, n, others, own, w.next);
     }
     Taken { fault: 0, own }
@@ -343,10 +346,10 @@ fn take_words(
     let mut k = own;
     loop {
         let w = scanner::next_word(text, i);
-        if w.kind < 2 {
+        if w.kind < FIRST_WORD {
             return none();
         }
-        if w.kind == END {
+        if w.kind == words::END {
             return none();
         }
         let t = take_word(text, rows, n, others, k, w);
@@ -379,7 +382,7 @@ fn is_without(rows: &[u16], n: usize) -> bool
 {
     let mut i: usize = 0;
     while i < n {
-        if symbols::number(rows, 8 * i) == OPERATORS {
+        if symbols::number(rows, ROW * i) == OPERATORS {
             return false;
         }
         i += 1;
@@ -397,7 +400,7 @@ pub fn pairs(text: &[u8], rows: &mut [u16], n: usize, first: usize, at: usize) -
         return none();
     }
     let own = n - first;
-    if RULES < own {
+    if base::RULES < own {
         return none();
     }
     // most texts use no operators: their words are not gone through
