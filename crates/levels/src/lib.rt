@@ -14,28 +14,28 @@ ghost use Rattle.symbols.specs.Index.{Kept};
 ghost use Rattle.symbols.specs.Rows.{held, wordOf};
 ghost use Rattle.words.specs.Words.{wordsAt};
 use maker::Entry;
+use maker::NO_LEVEL;
 use maker::Rank;
 use scanner::WordAt;
+use symbols::INPUT;
+use symbols::OUTPUT;
+use symbols::PAIR;
+use symbols::PAIR_OPERAND;
+use symbols::PAIR_RULE;
+use symbols::PAIR_SECTION;
+use symbols::PAIRS;
+use symbols::ROW;
+use symbols::VALUE;
 
-// Classes of tokens.
-const INPUT: usize = 1;
+// The alternatives of a level have one label.
+const ONE_LABEL: u16 = cells::ALTERNATIVE + 1;
 
-const OUTPUT: usize = 2;
+// Cells behind another.
+const BY_TOKEN: usize = cells::BY_TOKEN as usize;
 
-// Where the number of pairs stands.
-const PAIRS: usize = 5632;
+const EXIT: usize = cells::EXIT as usize;
 
-// One above the highest level.
-const NO_LEVEL: usize = 16;
-
-// Kinds of words: `;`, `^`, `end`.
-const SEMICOLON: u16 = 59;
-
-const CARET: u16 = 94;
-
-const END: u16 = 266;
-
-const RULES: usize = 128;
+const END: usize = cells::END as usize;
 
 // A pair: where its section's entries stand, the place of its operand rule, that of its lowest rule.
 pub struct Site {
@@ -74,7 +74,7 @@ fn value_in(text: &[u8], rows: &[u16], n: usize, class: usize, start: usize, len
     ensures low { λ r. ⌜ r < 65536 ⌝ }
 {
     let v = symbols::find_value(text, rows, n, class, start, len);
-    if v < 65536 {
+    if v < symbols::NONE {
         return v;
     }
     0
@@ -97,10 +97,10 @@ fn put_operator(
     let emits = e.emits;
     let t = value_in(text, rows, n, INPUT, token.start, token.len);
     let o = value_in(text, rows, n, OUTPUT, emits.start, emits.len);
-    let a = resolver::put_two(cells, count, 65, t);
-    let b = resolver::put_two(cells, a, 8, called);
-    let c = resolver::put_two(cells, b, 5, o);
-    resolver::put(cells, c, 0)
+    let a = resolver::put_two(cells, count, ONE_LABEL, t);
+    let b = resolver::put_two(cells, a, cells::CALL, called);
+    let c = resolver::put_two(cells, b, cells::EMIT, o);
+    resolver::put(cells, c, cells::END)
 }
 
 // An entry, if it is of the level.
@@ -144,7 +144,7 @@ fn put_operators(
         let o = e.emits;
         c = put_if(text, rows, n, level, called, e, cells, c);
         let w = scanner::next_word(text, o.next);
-        if w.kind == SEMICOLON {
+        if w.kind == words::SEMICOLON {
             return c;
         }
         if o.next <= i {
@@ -158,23 +158,23 @@ fn open_level(cells: &mut [u16], count: usize, right: bool, higher: usize) -> us
     requires { ⌜ higher < 65536 ⌝ }
     ensures { λ r. ⌜ Appends (now (cells .entry)) count (openCells right higher) (now (cells .exit)) r ⌝ }
 {
-    let c = resolver::put_two(cells, count, 8, higher);
+    let c = resolver::put_two(cells, count, cells::CALL, higher);
     if right {
-        return resolver::put(cells, c, 7);
+        return resolver::put(cells, c, cells::BY_TOKEN);
     }
-    resolver::put_two(cells, c, 2, 7)
+    resolver::put_two(cells, c, cells::CYCLE, BY_TOKEN)
 }
 
 fn close_level(cells: &mut [u16], count: usize, right: bool) -> usize
     ensures { λ r. ⌜ Appends (now (cells .entry)) count (closeCells right) (now (cells .exit)) r ⌝ }
 {
     if right {
-        let c = resolver::put_two(cells, count, 13, 0);
-        return resolver::put(cells, c, 0);
+        let c = resolver::put_two(cells, count, cells::OTHERWISE, END);
+        return resolver::put(cells, c, cells::END);
     }
-    let a = resolver::put_two(cells, count, 13, 1);
-    let b = resolver::put_two(cells, a, 0, 0);
-    resolver::put(cells, b, 0)
+    let a = resolver::put_two(cells, count, cells::OTHERWISE, EXIT);
+    let b = resolver::put_two(cells, a, cells::END, END);
+    resolver::put(cells, b, cells::END)
 }
 
 // The rule that the alternatives call: a left level the next higher one, a right level itself.
@@ -245,7 +245,7 @@ fn make_levels(
     let mut c = count;
     let mut l = maker::next_level(text, q.at, 0);
     while l.level < NO_LEVEL {
-        if RULES <= own {
+        if base::RULES <= own {
             return Made {
                 count: c,
                 rules: own,
@@ -275,11 +275,11 @@ fn site_of(text: &[u8], rows: &[u16], j: usize) -> Site
     requires { ⌜ j < 65536 ⌝ }
     ensures { λ r. ⌜ SiteOf (now (text .entry)) (now (rows .entry)) j r ⌝ }
 {
-    let section = symbols::number(rows, 5633 + 3 * j);
-    let rule = symbols::number(rows, 5634 + 3 * j);
-    let own = symbols::number(rows, 5635 + 3 * j);
+    let section = symbols::number(rows, PAIR_SECTION + PAIR * j);
+    let rule = symbols::number(rows, PAIR_OPERAND + PAIR * j);
+    let own = symbols::number(rows, PAIR_RULE + PAIR * j);
     let at = maker::entries_at(text, rows, section);
-    let operand = symbols::number(rows, 8 * rule + 1);
+    let operand = symbols::number(rows, ROW * rule + VALUE);
     Site { at, operand, own }
 }
 
@@ -318,7 +318,7 @@ fn is_use_of(text: &[u8], rows: &[u16], n: usize, w: WordAt, section: usize, ope
     requires { ⌜ Kept (now text) (now rows) n ⌝ }
     ensures { λ r. ⌜ WordOf (now (text .entry)) (now (rows .entry)) n w section operand r ⌝ }
 {
-    if w.kind != CARET {
+    if w.kind != words::CARET {
         return false;
     }
     let u = maker::read_use(text, rows, n, w.next);
@@ -364,10 +364,10 @@ pub fn first_use(
     let mut i = at;
     loop {
         let w = scanner::next_word(text, i);
-        if w.kind < 2 {
+        if w.kind < maker::FIRST_WORD {
             return Part { start: 0, len: 0 };
         }
-        if w.kind == END {
+        if w.kind == words::END {
             return Part { start: 0, len: 0 };
         }
         if is_use_of(text, rows, n, w, section, operand) {
