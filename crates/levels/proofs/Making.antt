@@ -10,7 +10,6 @@ use borrow.Author.Tests.{ltb-true, ltb-false}
 use lib.Dec.{ltb}
 use lib.ListN.{length, getD, set, length-set}
 use lib.Seq.{getD-set-same, getD-set-other}
-use Rattle.base.specs.Bools.{never}
 use Rattle.cells.specs.Cells.{actsCells, rulesCells, cellsStart}
 use Rattle.declarations.specs.Decls.{Agrees, Decl, EntriesAt, entriesOf, declOf, indexOf, mapped, ruleFrom, operatorsFrom}
 use Rattle.grammar.specs.Derived.{OperatorsIn}
@@ -21,7 +20,7 @@ use Rattle.levels.specs.declared.Made.{Made}
 use Rattle.levels.specs.declared.Nested.{Nested}
 use Rattle.levels.specs.declared.Site.{Site}
 use Rattle.maker.proofs.Ranking.{RankIs, rank-is}
-use Rattle.maker.proofs.Taking.{held-at, row-at, row-less, levels-used}
+use Rattle.maker.proofs.Taking.{row-at, row-less, levels-used, or-first}
 use Rattle.maker.specs.Pairing.{PlaceOf, passes}
 use Rattle.maker.specs.Pairs.{Pair, pairAt, pairsFrom, pairsHeld, sectionRow, operandRow, Ordered, AllOrdered, pairOf, pairsMean, PairsAre}
 use Rattle.maker.specs.Ranks.{noRank, RankDone}
@@ -33,6 +32,7 @@ use Rattle.program.specs.Made.{Operator, Level, atLevel, levelsFrom, levelsOf, 
 use Rattle.program.specs.Program.{Rule}
 use Rattle.resolver.proofs.Appending.{appends-length, appends-none, appends-then}
 use Rattle.resolver.specs.Resolved.{Appends}
+use Rattle.symbols.proofs.Searches.{held-at}
 use Rattle.symbols.specs.Rows.{declAt, held}
 use Rattle.syntax.specs.Written as written
 use Rattle.syntax.specs.Written.{Program}
@@ -236,10 +236,6 @@ made-split names ks others own u us ms e = go (passes others own (levelsUsed nam
         → _>>=_ (faultIf t 9 (u .sign)) (λ _. _>>=_ (madeFor names ks others (own + length (levelsUsed names u)) us) (λ more. good (rules ++ more))) ≡ good ms → Split names ks others own u us ms
     go true f q = no-good q
     go false f q = inner (madeFor names ks others (own + length (levelsUsed names u)) us) f refl q
-
-or-first : (a b : Bool) → (a || b) ≡ false → a ≡ false
-or-first true b e = never (sym e)
-or-first false b e = refl
 
 few-rules : (others own : ℕ) (ls : List Level) → passes others own ls ≡ false → own + length ls ≤ 128
 few-rules others own ls e = ltb-false 128 (own + length ls) (or-first (ltb 128 (own + length ls)) _ (or-first _ (crowded ls) e))

@@ -7,14 +7,14 @@ use Prim.Native.Nat.{ℕ, suc, _+_, _-_, _<_, _≤_}
 use native.Mathlib.Omega.{arith}
 use borrow.Author.Tests.{eq-eqb, ne-eqb, eqb-true}
 use lib.Dec.{eqb}
-use lib.ListN.{length, take, drop, length-take, length-drop}
+use lib.ListN.{length}
 use Rattle.base.specs.Bools.{never, and}
 use Rattle.base.specs.Common.{if_then_else_, same}
 use Rattle.declarations.specs.Decls.{Decl}
 use Rattle.levels.specs.Naming.{isOf, firstUse, AllFirst, Names, WordOf, FirstDone}
 use Rattle.levels.specs.declared.Part.{Part}
 use Rattle.maker.proofs.Holding.{operand-is}
-use Rattle.maker.proofs.Walking.{same-refl, same-list, same-pair, marks-end, marks-last, marks-use, marks-other}
+use Rattle.maker.proofs.Walking.{same-refl, same-pair, sign-of, word-long, marks-end, marks-last, marks-use, marks-other}
 use Rattle.maker.specs.Marks.{useOf, marks}
 use Rattle.maker.specs.Pairing.{UseRead, AllNamed}
 use Rattle.maker.specs.Pairs.{sectionRow, operandRow, Ordered, AllOrdered}
@@ -22,6 +22,7 @@ use Rattle.maker.specs.declared.Used.{Used}
 use Rattle.names.specs.Uses.{Use, rulesUses, samePair, isUsed, firsts, pairsOf}
 use Rattle.scanner.specs.Next.{Next, asWord}
 use Rattle.scanner.specs.declared.WordAt.{WordAt}
+use Rattle.symbols.proofs.Along.{same-list}
 use Rattle.symbols.specs.Rows.{held}
 use Rattle.syntax.specs.Written.{Rule}
 use Rattle.words.specs.Words.{Word, wordsAt}
@@ -45,13 +46,6 @@ word-else {text} w {s} {o} k d e = record {
   caret = λ _ nm or. let f = d .finds (asWord text w) nm or in rw (ne-eqb _ s (λ q. e (f .section ∙ q))) refl;
 }
 
-word-long : (text : List ℕ) (start len : ℕ) → start + len ≤ length text → length (take len (drop start text)) ≡ len
-word-long text start len h = simp (length-take, length-drop) (omega arith)
-
-sign-of : (w : Word) (ws : List Word) → useOf w ws .sign ≡ w
-unfolding useOf
-sign-of w ws = refl
-
 pub name-is : (text : List ℕ) (w : WordAt) {s c o : WordAt} {k : ℕ} → w .next ≤ length text → Next text (w .next) s → Next text (s .next) c → Next text (c .next) o → k ≡ o .start + o .len - w .start
     → useOf (asWord text w) (wordsAt text (w .next)) .operand .kind ≡ 257 → Names (useOf (asWord text w) (wordsAt text (w .next))) (record { start = w .start; len = k })
 name-is text w {s} {c} {o} {k} h ns nc nq e nm =
@@ -60,7 +54,7 @@ name-is text w {s} {c} {o} {k} h ns nc nq e nm =
     let l = word-long text (o .start) (o .len) (nq .inside (nc .high (ns .high h))) in
     record {
       start = ap (λ (v : Word). v .start) (sym g);
-      len = e ∙ (ap (λ (i : ℕ). o .start + i - w .start) (sym l) ∙ (ap (λ (v : Word). v .start + length (v .text) - w .start) (sym q) ∙ ap (λ (v : Word). useOf (asWord text w) (wordsAt text (w .next)) .operand .start + length (useOf (asWord text w) (wordsAt text (w .next)) .operand .text) - v .start) (sym g)));
+      len = e ∙ (ap (λ (i : ℕ). o .start + i - w .start) l ∙ (ap (λ (v : Word). v .start + length (v .text) - w .start) (sym q) ∙ ap (λ (v : Word). useOf (asWord text w) (wordsAt text (w .next)) .operand .start + length (useOf (asWord text w) (wordsAt text (w .next)) .operand .text) - v .start) (sym g)));
     }
 
 -- The walk

@@ -30,6 +30,7 @@ use Rattle.program.specs.Program as means
 use Rattle.scanner.specs.Next.{Next, asWord}
 use Rattle.scanner.specs.declared.WordAt.{WordAt}
 use Rattle.symbols.proofs.Indexing.{index-same, index-after, held-behind}
+use Rattle.symbols.proofs.Searches.{held-at, held-length}
 use Rattle.symbols.specs.Index.{IndexKept}
 use Rattle.symbols.specs.Rows.{declAt, heldFrom, held}
 use Rattle.symbols.specs.Search.{Tells}
@@ -37,16 +38,6 @@ use Rattle.syntax.specs.Written.{Operator, Program}
 use Rattle.words.specs.Words.{Word, wordsAt}
 
 -- Declarations
-
-heldFrom-at : (text rows : List ℕ) (k n i : ℕ) → i < n → declOf (heldFrom text rows k n) i ≡ declAt text rows (k + i)
-unfolding heldFrom declOf
-heldFrom-at text rows k zero i h = absurd (omega arith)
-heldFrom-at text rows k (suc n) zero h = ap (declAt text rows) (omega arith)
-heldFrom-at text rows k (suc n) (suc i) h = heldFrom-at text rows (suc k) n i (omega arith) ∙ ap (declAt text rows) (omega arith)
-
-pub held-at : (text rows : List ℕ) (n i : ℕ) → i < n → declOf (held text rows n) i ≡ declAt text rows i
-unfolding held
-held-at text rows n i h = heldFrom-at text rows 0 n i h ∙ ap (declAt text rows) (omega arith)
 
 -- the declaration that a search finds
 pub record AtRow (c : ℕ) (w : List ℕ) (d : Decl) : Type 0 where
@@ -83,11 +74,6 @@ index-row c w i k (d ∷ ds) e = go (eqb (d .class) c && same w (d .name .text))
 
 pub row-at : (c : ℕ) (w : List ℕ) (k : ℕ) (ds : List Decl) → indexOf c w 0 ds ≡ some k → AtRow c w (declOf ds k)
 row-at c w k ds e = let d : k - 0 ≡ k = omega arith in rw d at (index-row c w 0 k ds e .row)
-
-held-length : (text rows : List ℕ) (k n : ℕ) → length (heldFrom text rows k n) ≡ n
-unfolding heldFrom
-held-length text rows k zero = refl
-held-length text rows k (suc n) = ap suc (held-length text rows (suc k) n)
 
 index-less : (c : ℕ) (w : List ℕ) (i k : ℕ) (ds : List Decl) → indexOf c w i ds ≡ some k → k < i + length ds
 unfolding indexOf
@@ -167,7 +153,7 @@ use-over {others = others} {own} f g r e t h pl d p z = record {
   takes = λ p₁ names ks ag en w k q. over refl (is-there _ false (tells-not t h) (r .finds w k q)) (over-is others own _ (counts-of ag en q (r .finds w k q) (r .section e) pl d) p ∙ z);
 }
 
-or-first : (a b : Bool) → (a || b) ≡ false → a ≡ false
+pub or-first : (a b : Bool) → (a || b) ≡ false → a ≡ false
 or-first true b e = never (sym e)
 or-first false b e = refl
 

@@ -17,7 +17,7 @@ use Rattle.declarations.specs.Decls.{Agrees, Decl, EntriesAt, entriesOf, declOf
 use Rattle.grammar.specs.Derived.{RulesIn}
 use Rattle.maker.proofs.Marked.{marked}
 use Rattle.maker.proofs.Named.{rules-named}
-use Rattle.maker.proofs.Taking.{row-at, row-less, held-at}
+use Rattle.maker.proofs.Taking.{row-at, row-less}
 use Rattle.maker.specs.Marks.{useOf, marks}
 use Rattle.maker.specs.Pairs.{Pair, pairsFrom, pairsHeld, lookPair, lowestIn, sectionRow, operandRow, Ordered, AllOrdered, pairOf, pairsMean, PairsAre}
 use Rattle.maker.specs.Pairing.{NoSection, isThere, passes, Takes, again, added, over, TakenBound, UseDone, WordDone, Stands, AllNamed, PairsEnd, paired, passed, PairsFrom, PairsDone}
@@ -30,7 +30,9 @@ use Rattle.program.specs.Made.{Level, levelRules, crowded}
 use Rattle.program.specs.Program as means
 use Rattle.scanner.specs.Next.{Next, asWord}
 use Rattle.scanner.specs.declared.WordAt.{WordAt}
+use Rattle.symbols.proofs.Along.{same-list}
 use Rattle.symbols.proofs.Indexing.{index-same, index-after, index-set, held-behind, kept-behind}
+use Rattle.symbols.proofs.Searches.{held-at}
 use Rattle.symbols.specs.Index.{IndexKept, Kept}
 use Rattle.symbols.specs.Rows.{held, declAt}
 use Rattle.syntax.specs.Reading.{peek}
@@ -51,19 +53,6 @@ word-other {rows = rows} k f g = record { bound = record { index = index-same ro
 pub same-refl : (s : List ℕ) → same s s ≡ true
 same-refl [] = refl
 same-refl (x ∷ s) = rw (eq-eqb x x refl) (same-refl s)
-
-pub same-list : (w v : List ℕ) → same w v ≡ true → w ≡ v
-same-list [] [] e = refl
-same-list [] (y ∷ v) e = never e
-same-list (x ∷ w) [] e = never e
-same-list (x ∷ w) (y ∷ v) e = go (eqb x y) refl e (same-list w v)
-  where
-    both : {a b : ℕ} {l m : List ℕ} → a ≡ b → l ≡ m → a ∷ l ≡ b ∷ m
-    both i j = cc
-
-    go : (t : Bool) → eqb x y ≡ t → (if t then same w v else false) ≡ true → (same w v ≡ true → w ≡ v) → x ∷ w ≡ y ∷ v
-    go true p q r = both (eqb-true x y p) (r q)
-    go false p q r = never q
 
 same-index : (c : ℕ) (w v : List ℕ) (i j : ℕ) (ds : List Decl) → indexOf c w 0 ds ≡ some i → indexOf c v 0 ds ≡ some j → same w v ≡ eqb j i
 same-index c w v i j ds e f = go (same w v) refl
@@ -235,11 +224,11 @@ made-over : (names : Names) (ks : List KnownRule) (others own : ℕ) (u : Use) (
 unfolding madeFor
 made-over names ks others own u us e = rw e refl
 
-sign-of : (w : Word) (ws : List Word) → useOf w ws .sign ≡ w
+pub sign-of : (w : Word) (ws : List Word) → useOf w ws .sign ≡ w
 unfolding useOf
 sign-of w ws = refl
 
-word-long : (text : List ℕ) (start len : ℕ) → start + len ≤ length text → len ≡ length (take len (drop start text))
+pub word-long : (text : List ℕ) (start len : ℕ) → start + len ≤ length text → len ≡ length (take len (drop start text))
 word-long text start len h = simp (length-take, length-drop) (omega arith)
 
 abbrev own-use : List ℕ → WordAt → Use

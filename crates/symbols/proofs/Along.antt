@@ -8,6 +8,7 @@ use Prim.Native.Nat.{ℕ, zero, suc, _+_, _-_, _*_, _/_, _%_, _≤_, _<_}
 use lib.Dec.{eqb, ltb}
 use borrow.Author.Tests.{eqb-true, lt-ltb, le-ltb}
 use native.Mathlib.Omega.{arith}
+use Rattle.base.specs.Bools.{never}
 use Rattle.base.specs.Common.{if_then_else_, same}
 use Rattle.declarations.specs.Decls.{Decl, feeds}
 use Rattle.names.specs.Known.{isWord}
@@ -123,10 +124,10 @@ module _ {X : Type 0} {F : ℕ → List Decl → X} {t : Decl → Bool} {h : ℕ
 
 -- a row that passes a test is in the chain of the word
 
-same-list : (w v : List ℕ) → same w v ≡ true → w ≡ v
+pub same-list : (w v : List ℕ) → same w v ≡ true → w ≡ v
 same-list [] [] e = refl
-same-list [] (y ∷ v) e = absurd (let d : _≡_ {A = ℕ} 0 1 = cc in omega (arith, d))
-same-list (x ∷ w) [] e = absurd (let d : _≡_ {A = ℕ} 0 1 = cc in omega (arith, d))
+same-list [] (y ∷ v) e = never e
+same-list (x ∷ w) [] e = never e
 same-list (x ∷ w) (y ∷ v) e = go (eqb x y) refl e (same-list w v)
   where
     go : (t : Bool) → eqb x y ≡ t → (if t then same w v else false) ≡ true → (same w v ≡ true → w ≡ v) → x ∷ w ≡ y ∷ v
@@ -134,7 +135,7 @@ same-list (x ∷ w) (y ∷ v) e = go (eqb x y) refl e (same-list w v)
       where
         both : {a b : ℕ} {l m : List ℕ} → a ≡ b → l ≡ m → a ∷ l ≡ b ∷ m
         both i j = cc
-    go false p q r = absurd (let d : _≡_ {A = ℕ} 0 1 = cc in omega (arith, d))
+    go false p q r = never q
 
 module _ {text rows : List ℕ} {n : ℕ} (f : Indexed text rows n) (w : List ℕ) (j : ℕ) (l : j < n) where
   by-own-name : same w (declAt text rows j .name .text) ≡ true → Among j (f .chain (bucketOf w))
@@ -145,7 +146,7 @@ module _ {text rows : List ℕ} {n : ℕ} (f : Indexed text rows n) (w : List �
   by-second e = go (declAt text rows j .second) refl e
     where
       go : (o : Option Word) → declAt text rows j .second ≡ o → isWord w o ≡ true → Among j (f .chain (bucketOf w))
-      go none p q = absurd (let d : _≡_ {A = ℕ} 0 1 = cc in omega (arith, d))
+      go none p q = never q
       go (some v) p q = rw (same-list w (v .text) q) (f .seconds j v l p)
 
   either : (a b : Bool) → (a ≡ true → Among j (f .chain (bucketOf w))) → (b ≡ true → Among j (f .chain (bucketOf w))) → (a || b) ≡ true → Among j (f .chain (bucketOf w))
@@ -154,7 +155,7 @@ module _ {text rows : List ℕ} {n : ℕ} (f : Indexed text rows n) (w : List �
 
   second-of : (a b : Bool) → (a && b) ≡ true → b ≡ true
   second-of true b e = e
-  second-of false b e = absurd (let d : _≡_ {A = ℕ} 0 1 = cc in omega (arith, d))
+  second-of false b e = never e
 
   pub known-among : (c : ℕ) → knows c w (declAt text rows j) ≡ true → Among j (f .chain (bucketOf w))
   unfolding knows

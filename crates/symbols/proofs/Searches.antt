@@ -3,14 +3,14 @@ use mathlib.Core.Bool.{Bool, true, false, _&&_, _||_}
 use mathlib.Core.List.{List, [], _∷_, _++_}
 use mathlib.Core.Option.{Option, none, some}
 use mathlib.Core.Path.{_≡_, refl, ap, sym, _∙_}
-use Prim.Native.Nat.{ℕ, suc, _+_, _*_, _-_, _≤_, _<_}
+use Prim.Native.Nat.{ℕ, zero, suc, _+_, _*_, _-_, _≤_, _<_}
 use native.Mathlib.Numerals.{add-one}
 use native.Mathlib.Omega.{arith}
 use lib.Dec.{eqb}
 use borrow.Author.Tests.{eq-eqb, ne-eqb}
-use lib.ListN.{getD}
+use lib.ListN.{length, getD}
 use Rattle.base.specs.Common.{if_then_else_, same, member}
-use Rattle.declarations.specs.Decls.{Decl, feeds, knownsOf, knownsIn, indexOf, declaredIn}
+use Rattle.declarations.specs.Decls.{Decl, declOf, feeds, knownsOf, knownsIn, indexOf, declaredIn}
 use Rattle.names.specs.Known.{Known, find, isWord}
 use Rattle.names.specs.Declare.{valuesOf}
 use Rattle.symbols.specs.Rows.{declAt, heldFrom, held, numberOf}
@@ -28,6 +28,23 @@ unfolding heldFrom
 held-end text rows i n h = ap (heldFrom text rows i) done where
   done : n - i ≡ 0
   done = omega arith
+
+-- as many as are asked for, and declaration i of them
+
+pub held-length : (text rows : List ℕ) (k n : ℕ) → length (heldFrom text rows k n) ≡ n
+unfolding heldFrom
+held-length text rows k zero = refl
+held-length text rows k (suc n) = ap suc (held-length text rows (suc k) n)
+
+heldFrom-at : (text rows : List ℕ) (k n i : ℕ) → i < n → declOf (heldFrom text rows k n) i ≡ declAt text rows (k + i)
+unfolding heldFrom declOf
+heldFrom-at text rows k zero i h = absurd (omega arith)
+heldFrom-at text rows k (suc n) zero h = ap (declAt text rows) (omega arith)
+heldFrom-at text rows k (suc n) (suc i) h = heldFrom-at text rows (suc k) n i (omega arith) ∙ ap (declAt text rows) (omega arith)
+
+pub held-at : (text rows : List ℕ) (n i : ℕ) → i < n → declOf (held text rows n) i ≡ declAt text rows i
+unfolding held
+held-at text rows n i h = heldFrom-at text rows 0 n i h ∙ ap (declAt text rows) (omega arith)
 
 -- a search F for the first declaration that t holds of, which has h; z where there is none
 pub record Search {X : Type 0} (F : ℕ → List Decl → X) (t : Decl → Bool) (h : ℕ → Decl → X) (z : X) : Type 0 where
