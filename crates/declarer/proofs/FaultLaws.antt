@@ -16,7 +16,7 @@ use Rattle.grammar.specs.Derived.{OperatorsIn}
 use Rattle.names.specs.Known.{Checked, good, wrong, _>>=_, faultIf}
 use Rattle.symbols.specs.Rows.{wordOf, optionOf, declAt, heldFrom, held, Looks, found, missing}
 use Rattle.symbols.specs.Search.{part}
-use Rattle.symbols.proofs.Searches.{held-next, held-end}
+use Rattle.symbols.proofs.Searches.{held-next, held-end, held-at, held-length}
 use Rattle.syntax.specs.Written.{Operator}
 use Rattle.words.specs.Words.{Word, wordsAt}
 
@@ -151,30 +151,14 @@ module _ (text rows : List ℕ) where
     none-more : 0 + i ≡ i
     none-more = omega arith
 
-  -- as many as are asked for
-  from-length : (j k : ℕ) → length (heldFrom text rows j k) ≡ k
-  unfolding heldFrom
-  from-length j zero = refl
-  from-length j (suc k) = ap suc (from-length (suc j) k)
-
-  held-length : (i : ℕ) → length (held text rows i) ≡ i
+  all-held : (i : ℕ) → length (held text rows i) ≡ i
   unfolding held
-  held-length i = from-length 0 i
-
-  from-decl : (j n i : ℕ) → i < n → declOf (heldFrom text rows j n) i ≡ declAt text rows (j + i)
-  unfolding heldFrom declOf
-  from-decl j zero i h = absurd (omega arith)
-  from-decl j (suc n) zero h = rw add-zero refl
-  from-decl j (suc n) (suc i) h = from-decl (suc j) n i (omega arith) ∙ ap (declAt text rows) (omega arith)
-
-  pub held-decl : (n i : ℕ) → i < n → declOf (held text rows n) i ≡ declAt text rows i
-  unfolding held
-  held-decl n i h = from-decl 0 n i h ∙ ap (declAt text rows) (omega arith)
+  all-held i = held-length text rows 0 i
 
   -- the entries of row i
   pub entries-here : (n : ℕ) (entries : ℕ → List Operator) (at : EntriesAt text (held text rows n) entries) (i : ℕ) → i < n → declAt text rows i .class ≡ 600
       → OperatorsIn (wordsAt text (declAt text rows i .value)) (at .behind i) (entries i)
-  entries-here n entries at i h e = rw (held-decl n i h) at (at .stand i (rw (held-decl n i h) e))
+  entries-here n entries at i h e = rw (held-at text rows n i h) at (at .stand i (rw (held-at text rows n i h) e))
 
   -- row i is checked with its own entries
   abbrev RowFaults : List Decl → ℕ → ℕ → ℕ → ℕ → Type 0
@@ -184,7 +168,7 @@ module _ (text rows : List ℕ) where
   module _ (n : ℕ) (entries : ℕ → List Operator) (at : EntriesAt text (held text rows n) entries) where
     row-fault : {f at′ len : ℕ} (i : ℕ) → i < n → RowFaults (held text rows n) f at′ len i
         → Faults f at′ len (declFault (held text rows n) (held text rows i) (entries (length (held text rows i))) (declAt text rows i))
-    row-fault i l h = rw (held-length i) (h (entries i) (at .behind i) (entries-here n entries at i l))
+    row-fault i l h = rw (all-held i) (h (entries i) (at .behind i) (entries-here n entries at i l))
 
     pub rows-start : declFaults (held text rows n) entries [] (held text rows n) ≡ declFaults (held text rows n) entries (held text rows 0) (heldFrom text rows 0 (n - 0))
     unfolding held heldFrom
