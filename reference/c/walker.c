@@ -355,26 +355,30 @@ uint16_t cw_reason(const uint8_t *walk, size_t walk_len)
     return decode(walk, walk_len, &w) && w.phase == STOPPED ? w.reason : 65535;
 }
 
+/* A walk; one of zeros for bytes that are none. */
+static struct walk decoded(const uint8_t *walk, size_t walk_len)
+{
+    static const struct walk none;
+    struct walk w;
+    return decode(walk, walk_len, &w) ? w : none;
+}
+
 uint16_t cw_location(const uint8_t *walk, size_t walk_len)
 {
-    struct walk w;
-    return decode(walk, walk_len, &w) ? w.location : 0;
+    return decoded(walk, walk_len).location;
 }
 
 uint64_t cw_read(const uint8_t *walk, size_t walk_len)
 {
-    struct walk w;
-    return decode(walk, walk_len, &w) ? w.read : 0;
+    return decoded(walk, walk_len).read;
 }
 
 uint64_t cw_used(const uint8_t *walk, size_t walk_len)
 {
-    struct walk w;
-    return decode(walk, walk_len, &w) ? w.used : 0;
+    return decoded(walk, walk_len).used;
 }
 
 uint16_t cw_allowance(const uint8_t *walk, size_t walk_len)
 {
-    struct walk w;
-    return decode(walk, walk_len, &w) ? w.allowance : 0;
+    return decoded(walk, walk_len).allowance;
 }

@@ -31,4 +31,5 @@ pub mod screen;
 pub mod slow;
 pub mod sums;
 pub mod texts;
+pub mod timing;
 pub mod works;

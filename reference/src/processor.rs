@@ -34,15 +34,20 @@ pub enum Answer {
 
 /// The answer to a text where a buffer of so many words is lent.
 pub fn process(text: &[u8], room_words: usize) -> Answer {
-    let end = |number| Answer::Refused { number, start: text.len(), len: 0 };
+    process_with_starts(text, room_words).0
+}
+
+/// The same with the locations of the first words of an accepted program's rules.
+pub fn process_with_starts(text: &[u8], room_words: usize) -> (Answer, Vec<usize>) {
+    let refused = |(number, start, len)| (Answer::Refused { number, start, len }, Vec::new());
     match resolve(text) {
-        Err((number, start, len)) => Answer::Refused { number, start, len },
+        Err(fault) => refused(fault),
         Ok(program) => {
-            let (words, _) = assemble(&program);
+            let (words, starts) = assemble(&program);
             if words.len() > room_words || words.len() > MAX_TABLE {
-                return end(20);
+                return refused((20, text.len(), 0));
             }
-            Answer::Accepted { table: narrow(&words), finishing: finishing(&program) }
+            (Answer::Accepted { table: narrow(&words), finishing: finishing(&program) }, starts)
         }
     }
 }
@@ -1282,22 +1287,29 @@ impl Assembly {
     }
 }
 
+/// What tests of processors state.
 #[cfg(test)]
-mod tests {
-    use super::*;
+mod asserts {
+    use super::{Answer, MAX_TABLE, process};
 
     #[track_caller]
-    fn accepted(text: &str, table: &[u16], finishing: bool) {
+    pub fn accepted(text: &str, table: &[u16], finishing: bool) {
         assert_eq!(process(text.as_bytes(), MAX_TABLE), Answer::Accepted { table: table.to_vec(), finishing }, "{text}");
     }
 
-    /// `^` marks the word shown and is taken out.
+    /// `~` marks the word shown and is taken out.
     #[track_caller]
-    fn refused(number: u16, marked: &str, len: usize) {
-        let start = marked.find('^').expect("a mark");
-        let text = marked.replacen('^', "", 1);
+    pub fn refused(number: u16, marked: &str, len: usize) {
+        let start = marked.find('~').expect("a mark");
+        let text = marked.replacen('~', "", 1);
         assert_eq!(process(text.as_bytes(), MAX_TABLE), Answer::Refused { number, start, len }, "{text}");
     }
+}
+
+#[cfg(test)]
+mod tests {
+    use super::asserts::{accepted, refused};
+    use super::*;
 
     #[track_caller]
     fn verdict(rules: &str, finishing: bool) {
@@ -1318,7 +1330,7 @@ mod tests {
         accepted("input: a; rules M: a; end", &[3, 0, 9], true);
         accepted("input: a b; rules M: [ | b: ]; end", &[7, 3, 1, 8, 1, 1, 4, 3, 1, 2, 8, 9], true);
         accepted("rules M: @M; end", &[8, 1, 9], false);
-        refused(7, "rules M: ^> ; end", 1);
+        refused(7, "rules M: ~> ; end", 1);
     }
 
     #[test]
@@ -1347,54 +1359,54 @@ mod tests {
     #[test]
     fn readings() {
         // R1
-        refused(5, "input: a 'x'; rules M: #^'x'; end", 3);
-        refused(3, "input: a 'x'; rules M: #^'y'; end", 3);
-        refused(5, "input: a 'x'; type t: v; mechanism m: f(t); rules M: f(^'x'); end", 3);
-        refused(5, "input: a 'x'; type t: v; rules M: ; N>>t: >> ^'x'; end", 3);
+        refused(5, "input: a 'x'; rules M: #~'x'; end", 3);
+        refused(3, "input: a 'x'; rules M: #~'y'; end", 3);
+        refused(5, "input: a 'x'; type t: v; mechanism m: f(t); rules M: f(~'x'); end", 3);
+        refused(5, "input: a 'x'; type t: v; rules M: ; N>>t: >> ~'x'; end", 3);
         // R2
-        refused(2, "input: a 'x'; rules M: @^'x'; end", 3);
-        refused(2, "input: a 'x'; rules M: [^'x' |*:]; end", 3);
-        refused(2, "input: a 'x'; rules M: [@^'x' |*:]; end", 3);
-        refused(2, "mechanism m: f(^'x'); rules M: ; end", 3);
-        refused(2, "mechanism m: f>>^'x'; rules M: ; end", 3);
-        refused(2, "rules M>>^'x': ; end", 3);
+        refused(2, "input: a 'x'; rules M: @~'x'; end", 3);
+        refused(2, "input: a 'x'; rules M: [~'x' |*:]; end", 3);
+        refused(2, "input: a 'x'; rules M: [@~'x' |*:]; end", 3);
+        refused(2, "mechanism m: f(~'x'); rules M: ; end", 3);
+        refused(2, "mechanism m: f>>~'x'; rules M: ; end", 3);
+        refused(2, "rules M>>~'x': ; end", 3);
         // R3
-        refused(5, "input: a 'x'; type t: v; rules M: 'x'^(v); end", 1);
-        refused(5, "input: a 'x'; type t: v; rules M: a^(v); end", 1);
-        refused(2, "rules M: @M^(v); end", 1);
-        refused(2, "output: o; rules M: .o^(v); end", 1);
-        refused(2, "error: o; rules M: #o^(v); end", 1);
-        refused(2, "type t: v; rules M: ; N>>t: >> v^(v); end", 1);
-        refused(2, "type t: v; rules M: [@N^(v)|*:]; N>>t: >> v; end", 1);
+        refused(5, "input: a 'x'; type t: v; rules M: 'x'~(v); end", 1);
+        refused(5, "input: a 'x'; type t: v; rules M: a~(v); end", 1);
+        refused(2, "rules M: @M~(v); end", 1);
+        refused(2, "output: o; rules M: .o~(v); end", 1);
+        refused(2, "error: o; rules M: #o~(v); end", 1);
+        refused(2, "type t: v; rules M: ; N>>t: >> v~(v); end", 1);
+        refused(2, "type t: v; rules M: [@N~(v)|*:]; N>>t: >> v; end", 1);
         // R4
-        refused(8, "rules M: >> ^zz; end", 2);
-        refused(8, "input: a; rules M: >> ^a; end", 1);
-        refused(8, "rules M: >> ^'q'; end", 3);
+        refused(8, "rules M: >> ~zz; end", 2);
+        refused(8, "input: a; rules M: >> ~a; end", 1);
+        refused(8, "rules M: >> ~'q'; end", 3);
         // R5
-        refused(4, "input: a 'x' ^b 'x'; rules M: ; end", 1);
+        refused(4, "input: a 'x' ~b 'x'; rules M: ; end", 1);
         // R6
-        refused(5, "input: a; rules M: [@N | ^a: ]; N >> u: >> z; end", 1);
-        refused(3, "input: a; rules M: [@N | ^z: ]; N >> u: >> z; end", 1);
-        refused(3, "input: a; rules M: [@N | *: ]; N >> ^u: >> z; end", 1);
+        refused(5, "input: a; rules M: [@N | ~a: ]; N >> u: >> z; end", 1);
+        refused(3, "input: a; rules M: [@N | ~z: ]; N >> u: >> z; end", 1);
+        refused(3, "input: a; rules M: [@N | *: ]; N >> ~u: >> z; end", 1);
         // R9, without the numbers of operations
-        refused(9, "input: a = 65535 ^b $", 1);
-        refused(9, "input: a = 65535 ^b '' $", 1);
-        refused(1, "input: a = 65535 b = ^$", 1);
-        refused(2, "input: a = 65535 b = ^;", 1);
-        refused(9, "input: a = 65535 b = ^65536;", 5);
-        refused(9, "input: a = 65535; input: ^b", 1);
-        refused(9, "input: a = 65535; input output: ^b", 1);
-        refused(2, "input: a = 65535; output: b^", 0);
+        refused(9, "input: a = 65535 ~b $", 1);
+        refused(9, "input: a = 65535 ~b '' $", 1);
+        refused(1, "input: a = 65535 b = ~$", 1);
+        refused(2, "input: a = 65535 b = ~;", 1);
+        refused(9, "input: a = 65535 b = ~65536;", 5);
+        refused(9, "input: a = 65535; input: ~b", 1);
+        refused(9, "input: a = 65535; input output: ~b", 1);
+        refused(2, "input: a = 65535; output: b~", 0);
         // R10
-        refused(5, "mechanism m: f; rules M: @^f; f: ; end", 1);
-        refused(4, "mechanism m: f; rules M: f; ^f: ; end", 1);
+        refused(5, "mechanism m: f; rules M: @~f; f: ; end", 1);
+        refused(4, "mechanism m: f; rules M: f; ~f: ; end", 1);
         // R11
-        refused(3, "mechanism m: f(^t); type t: v; rules M: ; end", 1);
-        refused(3, "input: t; mechanism m: f(^t); type t: v; rules M: ; end", 1);
-        refused(5, "input: t; mechanism m: f(^t); rules M: ; end", 1);
-        refused(5, "mechanism m: f>>^t; input: t; rules M: ; end", 1);
-        refused(5, "mechanism m: f>>^M; rules M: ; end", 1);
-        refused(3, "mechanism m: f>>^m; rules M: ; end", 1);
+        refused(3, "mechanism m: f(~t); type t: v; rules M: ; end", 1);
+        refused(3, "input: t; mechanism m: f(~t); type t: v; rules M: ; end", 1);
+        refused(5, "input: t; mechanism m: f(~t); rules M: ; end", 1);
+        refused(5, "mechanism m: f>>~t; input: t; rules M: ; end", 1);
+        refused(5, "mechanism m: f>>~M; rules M: ; end", 1);
+        refused(3, "mechanism m: f>>~m; rules M: ; end", 1);
         // R12
         accepted("input: a 'b' b 'a'; rules M: 'a' a; end", &[3, 1, 3, 0, 9], true);
     }
@@ -1402,92 +1414,92 @@ mod tests {
     #[test]
     fn words_and_order() {
         for bad in ["''", "'", "'a", "'a\n'", "'a%", "'a%\n'", "'123456789012345678901234567890123'"] {
-            refused(1, &format!("rules M: ^{bad} ; end"), 1);
+            refused(1, &format!("rules M: ~{bad} ; end"), 1);
         }
         accepted("input: a '12345678901234567890123456789012'; rules M: ; end", &[9], true);
         accepted("input: a '%' b 'c%'; % 'd\nrules M: 'c%' '%'; end", &[3, 1, 3, 0, 9], true);
         accepted("input: a '\r\t\u{0}\u{f6}'; rules M: '\r\t\u{0}\u{f6}'; end", &[3, 0, 9], true);
         for bad in ["\u{0}", "\u{c}", "\u{b}", "_", "+", "-", "/", "<", "&", "\"", "$"] {
-            refused(1, &format!("rules M: ^{bad} ; end"), 1);
+            refused(1, &format!("rules M: ~{bad} ; end"), 1);
         }
-        refused(1, "rules M: ^\u{f6}; end", 1);
+        refused(1, "rules M: ~\u{f6}; end", 1);
         accepted("%\rx\nrules M: ; end % and so on", &[9], true);
-        refused(2, "input: a = 12 ^12b; rules M: ; end", 2);
+        refused(2, "input: a = 12 ~12b; rules M: ; end", 2);
         accepted("input: a = 12b; rules M: b; end", &[3, 13, 9], true);
         accepted("rules M: {>>>}; end", &[9, 1, 3, 2, 4, 9], true);
         accepted("input: END If do1; rules M: END If do1; end", &[3, 0, 3, 1, 3, 2, 9], true);
         accepted("input: a = 00000000000000000000000000000000000000000065535; rules M: a; end", &[3, 65535, 9], true);
         let long = "a23456789012345678901234567890123";
-        refused(9, &format!("input: ^{long}; rules M: ; end"), 33);
-        refused(9, &format!("mechanism ^{long}: f; rules M: ; end"), 33);
-        refused(2, &format!("^{long}: ; rules M: ; end"), 33);
-        refused(2, "input: a ^99999; rules M: ; end", 5);
-        refused(9, "input: a = ^99999; rules M: ; end", 5);
-        refused(2, "rules M:\n;\n^", 0);
-        refused(2, "^", 0);
+        refused(9, &format!("input: ~{long}; rules M: ; end"), 33);
+        refused(9, &format!("mechanism ~{long}: f; rules M: ; end"), 33);
+        refused(2, &format!("~{long}: ; rules M: ; end"), 33);
+        refused(2, "input: a ~99999; rules M: ; end", 5);
+        refused(9, "input: a = ~99999; rules M: ; end", 5);
+        refused(2, "rules M:\n;\n~", 0);
+        refused(2, "~", 0);
         let over = "$".repeat(MAX_TEXT + 1);
         assert_eq!(process(over.as_bytes(), MAX_TABLE), Answer::Refused { number: 9, start: MAX_TEXT + 1, len: 0 });
         let full = "$".repeat(MAX_TEXT);
         assert_eq!(process(full.as_bytes(), MAX_TABLE), Answer::Refused { number: 1, start: 0, len: 1 });
         // 1, 2 and 9 before all others.
-        refused(2, "input: a a; rules M: ; end ^x", 1);
+        refused(2, "input: a a; rules M: ; end ~x", 1);
     }
 
     #[test]
     fn syntax() {
-        for text in ["[ | *: ^| a: ]", "[ | a, ^*: ]", "[ | *^, a: ]", "[ | a, ^: ]", "[ ^]", "[@R ^]", "[ a^: ]"] {
+        for text in ["[ | *: ~| a: ]", "[ | a, ~*: ]", "[ | *~, a: ]", "[ | a, ~: ]", "[ ~]", "[@R ~]", "[ a~: ]"] {
             refused(2, &format!("input: a; rules M: {text}; end"), 1);
         }
-        refused(2, "input: ^; rules M: ; end", 1);
-        refused(2, "rules ^end", 3);
-        refused(2, "output ^input: a;", 5);
+        refused(2, "input: ~; rules M: ; end", 1);
+        refused(2, "rules ~end", 3);
+        refused(2, "output ~input: a;", 5);
         accepted("rules M: [ | *: ]; end", &[7, 1, 0, 9], true);
-        refused(2, "input: a = 5 ^'x';", 3);
-        refused(2, "error: e ^'x';", 3);
-        refused(2, "type t: v ^'x';", 3);
-        refused(2, "mechanism m: f ^= 3;", 1);
-        refused(2, "type t: v; mechanism m: f >> t ^(t);", 1);
+        refused(2, "input: a = 5 ~'x';", 3);
+        refused(2, "error: e ~'x';", 3);
+        refused(2, "type t: v ~'x';", 3);
+        refused(2, "mechanism m: f ~= 3;", 1);
+        refused(2, "type t: v; mechanism m: f >> t ~(t);", 1);
         accepted("type t: v = 7 w; error: e = 3 f; mechanism m: o(t); rules M: #f o(w); end", &[6, 4, 13, 8, 512, 9], true);
         accepted("rules M: if ! *: fi do > od ; end", &[7, 1, 0, 1, 3, 2, 3, 9], true);
     }
 
     #[test]
     fn names() {
-        refused(4, "input output: a; output: ^a; rules M: ; end", 1);
-        refused(4, "output: a 'x'; input output: ^b 'x'; rules M: ; end", 1);
-        refused(4, "output: a = 5; input: b; input output: ^c = 5; rules M: ; end", 1);
-        refused(4, "input: a = 5 b = 4 ^c; rules M: ; end", 1);
+        refused(4, "input output: a; output: ~a; rules M: ; end", 1);
+        refused(4, "output: a 'x'; input output: ~b 'x'; rules M: ; end", 1);
+        refused(4, "output: a = 5; input: b; input output: ~c = 5; rules M: ; end", 1);
+        refused(4, "input: a = 5 b = 4 ~c; rules M: ; end", 1);
         accepted("input: a = 5 b = 1 c; input: d; rules M: a b c d; end", &[3, 5, 3, 1, 3, 2, 3, 6, 9], true);
         accepted("input: a; output: b c; input output: d; rules M: d .d; end", &[3, 2, 5, 2, 9], true);
-        refused(4, "input: f; mechanism m: ^f; rules M: ; end", 1);
-        refused(4, "mechanism m: f; input: ^f; rules M: ; end", 1);
+        refused(4, "input: f; mechanism m: ~f; rules M: ; end", 1);
+        refused(4, "mechanism m: f; input: ~f; rules M: ; end", 1);
         accepted("output: f; mechanism m: f; mechanism m: g; rules M: .f f g; end", &[5, 0, 256, 257, 9], true);
         accepted("input: M; rules M: M; end", &[3, 0, 9], true);
-        refused(4, "mechanism m: f; type t: v; rules ^f >> t: >> v; end", 1);
-        refused(5, "type t: v; rules ^f >> t: >> v; end", 1);
-        refused(6, "input: a 'x'; rules M: [ | a: | ^'x': ]; end", 3);
+        refused(4, "mechanism m: f; type t: v; rules ~f >> t: >> v; end", 1);
+        refused(5, "type t: v; rules ~f >> t: >> v; end", 1);
+        refused(6, "input: a 'x'; rules M: [ | a: | ~'x': ]; end", 3);
         let many = "a,".repeat(64);
-        refused(9, &format!("input: a; rules M: [ | {many}^a: ]; end"), 1);
-        refused(8, "type t: v; rules M: ; N >> t: { >> v > } ^; end", 1);
+        refused(9, &format!("input: a; rules M: [ | {many}~a: ]; end"), 1);
+        refused(8, "type t: v; rules M: ; N >> t: { >> v > } ~; end", 1);
         accepted("type t: v; rules M: ; N >> t: { { > } }; end", &[9, 1, 3, 2, 3, 2, 5], false);
         accepted("type t: v; rules M: ; N >> t: >> v ? ; end", &[9, 10, 0, 9, 4], true);
-        refused(8, "type t: v; rules M: ; N >> t: ^; end", 1);
-        refused(8, "type t: v; rules M: ; N >> t: ^>>; end", 2);
-        refused(4, "type t: v; type ^t: v; rules M: ; end", 1);
-        refused(4, "type t: v ^v; rules M: ; end", 1);
-        refused(4, "type t: v = 1 w = 0 ^x; rules M: ; end", 1);
-        refused(4, "rules M: ; ^M: ; end", 1);
-        refused(5, "type t: v; mechanism m: f(t); rules M: ^f; end", 1);
-        refused(5, "type t: v; mechanism m: f; rules M: f^(v); end", 1);
-        refused(5, "type t: v; mechanism m: f>>t; rules M: ^f; end", 1);
-        refused(5, "type t: v; mechanism m: f; rules M: [^f|*:]; end", 1);
-        refused(5, "type t: v; mechanism m: f(t)>>t; rules M: [^f|*:]; end", 1);
-        refused(5, "type t: v; mechanism m: f>>t; rules M: [f^(v)|*:]; end", 1);
-        refused(5, "rules M: [@^M|*:]; end", 1);
-        refused(5, "type t: v; rules M: @^N; N>>t: >>v; end", 1);
-        refused(5, "rules M: ^M; end", 1);
-        refused(3, "rules M: ^x; end", 1);
-        refused(5, "output: o; rules M: ^o; end", 1);
+        refused(8, "type t: v; rules M: ; N >> t: ~; end", 1);
+        refused(8, "type t: v; rules M: ; N >> t: ~>>; end", 2);
+        refused(4, "type t: v; type ~t: v; rules M: ; end", 1);
+        refused(4, "type t: v ~v; rules M: ; end", 1);
+        refused(4, "type t: v = 1 w = 0 ~x; rules M: ; end", 1);
+        refused(4, "rules M: ; ~M: ; end", 1);
+        refused(5, "type t: v; mechanism m: f(t); rules M: ~f; end", 1);
+        refused(5, "type t: v; mechanism m: f; rules M: f~(v); end", 1);
+        refused(5, "type t: v; mechanism m: f>>t; rules M: ~f; end", 1);
+        refused(5, "type t: v; mechanism m: f; rules M: [~f|*:]; end", 1);
+        refused(5, "type t: v; mechanism m: f(t)>>t; rules M: [~f|*:]; end", 1);
+        refused(5, "type t: v; mechanism m: f>>t; rules M: [f~(v)|*:]; end", 1);
+        refused(5, "rules M: [@~M|*:]; end", 1);
+        refused(5, "type t: v; rules M: @~N; N>>t: >>v; end", 1);
+        refused(5, "rules M: ~M; end", 1);
+        refused(3, "rules M: ~x; end", 1);
+        refused(5, "output: o; rules M: ~o; end", 1);
     }
 
     #[test]
@@ -1556,22 +1568,22 @@ mod tests {
         let list = |stem: &str, n: usize, tail: &str| (0..n).map(|i| format!("{stem}{i}{tail} ")).collect::<String>();
         let rules = |n: usize| format!("rules {}end", list("r", n, ":;"));
         assert!(matches!(process(rules(128).as_bytes(), 4096), Answer::Accepted { .. }));
-        refused(9, &format!("rules {}^x $", list("r", 128, ":;")), 1);
-        refused(9, &format!("input: {} ^x $", list("a", 512, "")), 1);
-        refused(9, &format!("input: {} ; type ^x $", list("a", 512, "")), 1);
-        refused(2, &format!("input: {} ; mechanism x ^x $", list("a", 512, "")), 1);
-        refused(9, &format!("input: {} ; rules ^x $", list("a", 512, "")), 1);
+        refused(9, &format!("rules {}~x $", list("r", 128, ":;")), 1);
+        refused(9, &format!("input: {} ~x $", list("a", 512, "")), 1);
+        refused(9, &format!("input: {} ; type ~x $", list("a", 512, "")), 1);
+        refused(2, &format!("input: {} ; mechanism x ~x $", list("a", 512, "")), 1);
+        refused(9, &format!("input: {} ; rules ~x $", list("a", 512, "")), 1);
         // Operations of each kind; R9.
         for (tail, more) in [("", ""), ("(t)", "(t)"), (">>t", ">>t"), ("(t)>>t", "(t)>>t")] {
             let head = format!("type t: v; mechanism m: {}", list("f", 256, tail));
-            refused(9, &format!("{head} ^g{more} $"), 1);
+            refused(9, &format!("{head} ~g{more} $"), 1);
             let good = format!("{head}; rules M: ; end");
             assert!(matches!(process(good.as_bytes(), 4096), Answer::Accepted { .. }));
         }
         let head = format!("type t: v; mechanism m: {}", list("f", 256, ""));
-        refused(2, &format!("{head} g(^;"), 1);
-        refused(2, &format!("{head} g>>^;"), 1);
-        refused(9, &format!("{head} g(t) ^h;"), 1);
+        refused(2, &format!("{head} g(~;"), 1);
+        refused(2, &format!("{head} g>>~;"), 1);
+        refused(9, &format!("{head} g(t) ~h;"), 1);
         let labels = |n: usize| list("a", n, ",").trim_end().trim_end_matches(',').to_string();
         let choice = |n: usize| format!("input: {}; rules M: [ | {}: ]; end", list("a", n, ""), labels(n));
         assert!(matches!(process(choice(64).as_bytes(), 4096), Answer::Accepted { .. }));

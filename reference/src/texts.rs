@@ -599,6 +599,22 @@ pub fn damage(seed: &mut Seed, text: &mut Vec<u8>) {
     }
 }
 
+/// The text ended before a byte of it, and the text with that byte left out, put in twice, another put in before it, replaced by the other,
+/// and with one of its bits changed.
+pub fn damaged_at(text: &[u8], at: usize, other: u8, bit: usize) -> [Vec<u8>; 6] {
+    let with = |to: usize, bytes: &[u8]| [&text[..at], bytes, &text[to..]].concat();
+    let byte = text[at];
+    let flipped = byte ^ (1 << bit);
+    [
+        text[..at].to_vec(),
+        with(at + 1, &[]),
+        with(at, &[byte]),
+        with(at, &[other]),
+        with(at + 1, &[other]),
+        with(at + 1, &[flipped]),
+    ]
+}
+
 /// The words with something between them where that is needed, and now and then where it is not.
 pub fn join(seed: &mut Seed, words: &Words) -> Vec<u8> {
     placed(seed, words).0

@@ -11,6 +11,7 @@ use std::process::ExitCode;
 
 use reference::ffi;
 use reference::side::{Inputs, Reference, Side};
+use reference::timing;
 use reference::walker::{WALK_BYTES, Walk};
 use reference::works::{Work, works};
 
@@ -39,23 +40,15 @@ fn walk(side: &dyn Side, work: &Work, budget: u64, events: &mut [u8]) -> End {
     end
 }
 
-fn median(times: &mut [f64]) -> f64 {
-    times.sort_by(f64::total_cmp);
-    times.get(times.len() / 2).copied().unwrap_or(f64::NAN)
-}
-
 fn main() -> ExitCode {
     let mut numbers = std::env::args().skip(1).map(|argument| argument.parse::<u64>());
     let (repetitions, budget) = match (numbers.next(), numbers.next()) {
         (None, _) => (31, u64::MAX),
         (Some(Ok(repetitions)), None) => (repetitions, u64::MAX),
         (Some(Ok(repetitions)), Some(Ok(budget))) if budget > 0 => (repetitions, budget),
-        _ => {
-            eprintln!("bench [repetitions [budget of a call, from 1]]");
-            return ExitCode::from(2);
-        }
+        _ => return timing::no_use("bench [repetitions [budget of a call, from 1]]"),
     };
-    let mut sides: Vec<&dyn Side> = vec![&Reference, &ffi::Plain];
+    let mut sides: Vec<&(dyn Side + Sync)> = vec![&Reference, &ffi::Plain];
     sides.extend(ffi::library());
     println!("median of {repetitions} repetitions, budget of a call {budget}");
     for work in works() {
@@ -72,23 +65,17 @@ fn main() -> ExitCode {
             first.written,
             first.number
         );
-        let mut times = vec![Vec::new(); sides.len()];
-        for turn in 0..repetitions as usize {
-            for k in 0..sides.len() {
-                // Another one goes first each time.
-                let k = (k + turn) % sides.len();
-                events.fill(0);
-                let start = ffi::cpu_seconds();
-                let end = walk(black_box(sides[k]), black_box(&work), budget, black_box(&mut events));
-                times[k].push(ffi::cpu_seconds() - start);
-                if end != first || events != wanted {
-                    println!("  {} differs: {end:?}, wanted {first:?}", sides[k].name());
-                    return ExitCode::FAILURE;
-                }
+        let medians = timing::in_turn(sides.len(), repetitions as usize, |k| {
+            events.fill(0);
+            let (end, seconds) = timing::timed(|| walk(black_box(sides[k]), black_box(&work), budget, black_box(&mut events)));
+            let same = end == first && events == wanted;
+            if !same {
+                println!("  {} differs: {end:?}, wanted {first:?}", sides[k].name());
             }
-        }
-        let steps = first.steps as f64;
-        let each: Vec<f64> = times.iter_mut().map(|times| median(times) / steps).collect();
+            same.then_some(seconds)
+        });
+        let Some(medians) = medians else { return ExitCode::FAILURE };
+        let each: Vec<f64> = medians.iter().map(|median| median / first.steps as f64).collect();
         for (side, time) in sides.iter().zip(&each) {
             println!("  {:<5}{:8.2} ns a step {:10.1} million steps a second", side.name(), time * 1e9, 1e-6 / time);
         }

@@ -11,6 +11,7 @@ use std::process::ExitCode;
 use reference::ffi;
 use reference::figures::{BOOKS, COVERAGE, FIGURES_BYTES, Figures, NUMBERS, PASSES, TOTAL};
 use reference::side::{Inputs, REFUSAL, Reference, Side};
+use reference::timing;
 use reference::walker::{Done, MAX_TABLE, Walk, visit};
 use reference::works::{Work, works};
 
@@ -67,20 +68,12 @@ fn add(which: usize, work: &Work, figures: &mut [u8], events: &mut [u8]) -> Done
     }
 }
 
-fn median(times: &mut [f64]) -> f64 {
-    times.sort_by(f64::total_cmp);
-    times.get(times.len() / 2).copied().unwrap_or(f64::NAN)
+fn main() -> ExitCode {
+    timing::status(bench())
 }
 
-fn main() -> ExitCode {
-    let repetitions = match std::env::args().nth(1).map(|argument| argument.parse::<usize>()) {
-        None => 31,
-        Some(Ok(repetitions)) => repetitions,
-        Some(Err(_)) => {
-            eprintln!("bench_figures [repetitions]");
-            return ExitCode::from(2);
-        }
-    };
+fn bench() -> Result<(), ExitCode> {
+    let repetitions = timing::repetitions("bench_figures", 31)?;
     println!("median of {repetitions} repetitions{}", if ffi::figures().is_none() { ", this crate for the library" } else { "" });
     for work in works() {
         // A few events a token.
@@ -88,27 +81,22 @@ fn main() -> ExitCode {
         let (mut wanted, mut sums) = (events.clone(), vec![0; FIGURES_BYTES]);
         let first = plain(&work, &mut sums, &mut wanted);
         println!("{}: {} steps, {} events, ends with {}", work.name, first.steps, first.written, first.number);
-        let mut times = [const { Vec::new() }; NAMES.len()];
-        for turn in 0..repetitions {
-            for which in 0..NAMES.len() {
-                // Another one goes first each time.
-                let which = (which + turn) % NAMES.len();
-                let mut figures = vec![0; FIGURES_BYTES];
-                events.fill(0);
-                let start = ffi::cpu_seconds();
-                let done = add(black_box(which), black_box(&work), black_box(&mut figures), black_box(&mut events));
-                times[which].push(ffi::cpu_seconds() - start);
-                if done != first || events != wanted || which > 0 && figures != sums {
-                    println!("  {} differs: {done:?}, wanted {first:?}", NAMES[which]);
-                    return ExitCode::FAILURE;
-                }
+        let medians = timing::in_turn(NAMES.len(), repetitions, |which| {
+            let mut figures = vec![0; FIGURES_BYTES];
+            events.fill(0);
+            let (done, seconds) =
+                timing::timed(|| add(black_box(which), black_box(&work), black_box(&mut figures), black_box(&mut events)));
+            let same = done == first && events == wanted && (which == 0 || figures == sums);
+            if !same {
+                println!("  {} differs: {done:?}, wanted {first:?}", NAMES[which]);
             }
-        }
-        let each = times.map(|mut times| median(&mut times) / first.steps as f64);
-        for (name, time) in NAMES.iter().zip(each) {
+            same.then_some(seconds)
+        });
+        let each: Vec<f64> = medians.ok_or(ExitCode::FAILURE)?.iter().map(|median| median / first.steps as f64).collect();
+        for (name, time) in NAMES.iter().zip(&each) {
             println!("  {name:<14}{:8.2} ns a step", time * 1e9);
         }
         println!("  figures over the call alone: {:.2}, over the plain ones: {:.2}", each[1] / each[0], each[1] / each[2]);
     }
-    ExitCode::SUCCESS
+    Ok(())
 }

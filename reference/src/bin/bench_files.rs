@@ -16,6 +16,7 @@ use reference::programs;
 use reference::side::Reference;
 use reference::tables::bytes;
 use reference::texts::Seed;
+use reference::timing;
 
 /// More than the largest file.
 const ROOM: usize = 2 * 4_200;
@@ -65,86 +66,43 @@ fn works() -> Vec<Work> {
     programs.into_iter().chain(crowded).collect()
 }
 
-fn median(times: &mut [f64]) -> f64 {
-    times.sort_by(f64::total_cmp);
-    times.get(times.len() / 2).copied().unwrap_or(f64::NAN)
-}
-
-/// The seconds of one call, over so many.
-fn time(call: &mut dyn FnMut(), calls: usize) -> f64 {
-    let start = ffi::cpu_seconds();
-    (0..calls).for_each(|_| call());
-    (ffi::cpu_seconds() - start) / calls as f64
-}
-
-/// The medians of the calls, taken in turn.
-fn compare(calls: &mut [&mut dyn FnMut(); 2], repetitions: usize) -> [f64; 2] {
-    let mut counts = [1, 1];
-    for (call, count) in calls.iter_mut().zip(&mut counts) {
-        while time(*call, *count) * (*count as f64) < LEAST {
-            *count *= 2;
-        }
-    }
-    let mut times = [const { Vec::new() }; 2];
-    for _ in 0..repetitions {
-        for i in 0..2 {
-            times[i].push(time(calls[i], counts[i]));
-        }
-    }
-    times.map(|mut times| median(&mut times))
-}
-
 fn main() -> ExitCode {
-    let repetitions = match std::env::args().nth(1).map(|argument| argument.parse::<usize>()) {
-        None => 15,
-        Some(Ok(repetitions)) if repetitions > 0 => repetitions,
-        Some(_) => {
-            eprintln!("bench_files [repetitions, from 1]");
-            return ExitCode::from(2);
-        }
-    };
-    let Some(library) = ffi::files() else {
-        eprintln!("built without the library");
-        return ExitCode::from(2);
-    };
+    timing::status(bench())
+}
+
+fn bench() -> Result<(), ExitCode> {
+    let repetitions = timing::repetitions("bench_files", 15)?;
+    let library = timing::linked(ffi::files())?;
     println!("median of {repetitions} repetitions, in microseconds a call");
     println!(
         "{:<16}{:>7}{:>7}{:>12}{:>12}{:>10}{:>12}{:>12}{:>10}",
         "table", "words", "reach", "load lib", "rust", "ratio", "write lib", "rust", "ratio"
     );
+    let sides: [&dyn Files; 2] = [library, &Reference];
     let works = works();
     for Work { name, reachable, table, file } in &works {
         let mut lent = [vec![0; ROOM], vec![0; ROOM]];
-        let answers = [library.load(file, &mut lent[0]), Reference.load(file, &mut lent[1])];
+        let answers = [0, 1].map(|side| sides[side].load(file, &mut lent[side]));
         if answers[0] != answers[1] || lent[0] != lent[1] {
             eprintln!("{name}: the two differ: {answers:?}");
-            return ExitCode::FAILURE;
+            return Err(ExitCode::FAILURE);
         }
-        let [first, second] = &mut lent;
-        let loads = compare(
-            &mut [&mut || _ = black_box(library.load(black_box(file), black_box(first))), &mut || {
-                _ = black_box(Reference.load(black_box(file), black_box(second)))
-            }],
-            repetitions,
-        );
-        let writes = compare(
-            &mut [&mut || _ = black_box(library.write(black_box(table), 1, black_box(first))), &mut || {
-                _ = black_box(Reference.write(black_box(table), 1, black_box(second)))
-            }],
-            repetitions,
-        );
+        let loads: [f64; 2] = timing::calls(repetitions, LEAST, |side| {
+            black_box(sides[side].load(black_box(file), black_box(&mut lent[side])));
+        });
+        let writes: [f64; 2] = timing::calls(repetitions, LEAST, |side| {
+            black_box(sides[side].write(black_box(table), 1, black_box(&mut lent[side])));
+        });
         let line = [loads, writes].map(|[ours, rust]| format!("{:>12.2}{:>12.2}{:>10.2}", ours * 1e6, rust * 1e6, ours / rust));
         println!("{name:<16}{:>7}{reachable:>7}{}", table.len() / 2, line.concat());
     }
     let mut deepest = Some(0);
     for Work { table, file, .. } in &works {
         let mut lent = vec![0; ROOM];
-        // `dyn Files` is not to be sent to the thread that is measured; the library's name for it is.
-        let loads = ffi::stack_used(|| _ = black_box(ffi::files().map(|library| library.load(file, &mut lent))), STACK);
-        let mut lent = vec![0; ROOM];
-        let writes = ffi::stack_used(|| _ = black_box(ffi::files().map(|library| library.write(table, 1, &mut lent))), STACK);
+        let loads = ffi::stack_used(|| _ = black_box(library.load(file, &mut lent)), STACK);
+        let writes = ffi::stack_used(|| _ = black_box(library.write(table, 1, &mut lent)), STACK);
         deepest = deepest.max(loads).max(writes);
     }
     println!("largest stack of the library: {} bytes", deepest.unwrap_or(0));
-    ExitCode::SUCCESS
+    Ok(())
 }

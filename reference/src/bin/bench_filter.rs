@@ -11,6 +11,7 @@ use std::process::ExitCode;
 use reference::ffi;
 use reference::random::Rng;
 use reference::side::{Filtered, Folder};
+use reference::timing;
 
 const SIZES: [usize; 3] = [64, 4_096, 1 << 20];
 /// The seconds that one timing of one side takes at least.
@@ -71,39 +72,6 @@ impl Folder for Plain {
     }
 }
 
-fn median(times: &mut [f64]) -> f64 {
-    times.sort_by(f64::total_cmp);
-    times.get(times.len() / 2).copied().unwrap_or(f64::NAN)
-}
-
-/// The seconds of one call, over so many.
-fn time(side: &dyn Folder, filter: &[u8], text: &[u8], tokens: &mut [u8], calls: usize) -> f64 {
-    let start = ffi::cpu_seconds();
-    for _ in 0..calls {
-        black_box(side.fold(black_box(filter), black_box(text), black_box(&mut *tokens)));
-    }
-    (ffi::cpu_seconds() - start) / calls as f64
-}
-
-/// The medians of one text on each side, taken in turn.
-fn compare(sides: [&dyn Folder; 2], filter: &[u8], text: &[u8], repetitions: usize) -> [f64; 2] {
-    let mut tokens = vec![0; 2 * text.len()];
-    let calls = sides.map(|side| {
-        let mut calls = 1;
-        while time(side, filter, text, &mut tokens, calls) * (calls as f64) < LEAST {
-            calls *= 2;
-        }
-        calls
-    });
-    let mut times = [const { Vec::new() }; 2];
-    for _ in 0..repetitions {
-        for (i, side) in sides.iter().enumerate() {
-            times[i].push(time(*side, filter, text, &mut tokens, calls[i]));
-        }
-    }
-    times.map(|mut times| median(&mut times))
-}
-
 /// A filter with that many entries of the same size.
 fn even(entries: usize) -> Vec<u8> {
     let size = 256 / entries;
@@ -111,35 +79,32 @@ fn even(entries: usize) -> Vec<u8> {
 }
 
 fn main() -> ExitCode {
-    let repetitions = match std::env::args().nth(1).map(|argument| argument.parse::<usize>()) {
-        None => 15,
-        Some(Ok(repetitions)) if repetitions > 0 => repetitions,
-        Some(_) => {
-            eprintln!("bench_filter [repetitions, from 1]");
-            return ExitCode::from(2);
-        }
-    };
-    let Some(library) = ffi::folder() else {
-        eprintln!("built without the library");
-        return ExitCode::from(2);
-    };
+    timing::status(bench())
+}
+
+fn bench() -> Result<(), ExitCode> {
+    let repetitions = timing::repetitions("bench_filter", 15)?;
+    let library = timing::linked(ffi::folder())?;
     println!("median of {repetitions} repetitions, in microseconds a text");
     println!("{:<9}{:>9}{:>12}{:>12}{:>10}{:>13}", "entries", "bytes", "lib", "rust", "lib/rust", "lib ns/byte");
+    let sides: [&dyn Folder; 2] = [library, &Plain];
     for entries in [1, 8, 64] {
         let filter = even(entries);
         for size in SIZES {
             let mut random = Rng::new(7, 0);
             let text: Vec<u8> = (0..size).map(|_| random.below(256) as u8).collect();
             let mut tokens = [vec![0; 2 * size], vec![0; 2 * size]];
-            let answers = [library.fold(&filter, &text, &mut tokens[0]), Plain.fold(&filter, &text, &mut tokens[1])];
+            let answers = [0, 1].map(|side| sides[side].fold(&filter, &text, &mut tokens[side]));
             if answers[0] != answers[1] || tokens[0] != tokens[1] {
                 eprintln!("{entries} entries, {size} bytes: the two differ: {answers:?}");
-                return ExitCode::FAILURE;
+                return Err(ExitCode::FAILURE);
             }
-            let [ours, rust] = compare([library, &Plain], &filter, &text, repetitions);
+            let [ours, rust] = timing::calls(repetitions, LEAST, |side| {
+                black_box(sides[side].fold(black_box(&filter), black_box(&text), black_box(&mut tokens[side])));
+            });
             let per_byte = ours * 1e9 / size as f64;
             println!("{entries:<9}{size:>9}{:>12.2}{:>12.2}{:>10.2}{per_byte:>13.2}", ours * 1e6, rust * 1e6, ours / rust);
         }
     }
-    ExitCode::SUCCESS
+    Ok(())
 }

@@ -10,16 +10,17 @@ use std::fmt::Write;
 use std::process::ExitCode;
 
 use reference::ffi;
+use reference::harness::{self, Compares, Group, Lent, Options, Tally};
 use reference::random::{self, Rng};
 use reference::side::{Inputs, Reference, Side};
 use reference::tables::{assemble, bytes};
 use reference::walker::{self, Done, Phase, WALK_BYTES, Walk};
 
 const SEEDS: u64 = 6000;
-/// Mismatches that are shown in full.
-const SHOWN: u64 = 10;
+const NAME: &str = "compare [--against lib|c]";
 /// A walk that has not ended after so many steps is given no huge budget.
 const BOUND: u64 = 600;
+const GUARD: u8 = 0x5A;
 const HUGE: [u64; 6] = [1 << 16, 1 << 32, (1 << 63) - 1, 1 << 63, u64::MAX - 1, u64::MAX];
 
 /// Bytes that are only read, at an even or odd address.
@@ -145,37 +146,9 @@ struct Left {
     events: Vec<u8>,
 }
 
-/// A lent buffer between guard bytes.
-struct Lent {
-    all: Vec<u8>,
-    from: usize,
-    to: usize,
-}
-
-impl Lent {
-    const GUARD: u8 = 0x5A;
-
-    fn new(contents: &[u8], before: usize, after: usize) -> Lent {
-        let mut all = Vec::with_capacity(before + contents.len() + after);
-        all.resize(before, Lent::GUARD);
-        all.extend_from_slice(contents);
-        all.resize(before + contents.len() + after, Lent::GUARD);
-        Lent { all, from: before, to: before + contents.len() }
-    }
-
-    fn bytes(&mut self) -> &mut [u8] {
-        &mut self.all[self.from..self.to]
-    }
-
-    /// The contents; `None` where a guard byte has changed.
-    fn back(mut self) -> Option<Vec<u8>> {
-        let guards = self.all[..self.from].iter().chain(&self.all[self.to..]);
-        if guards.into_iter().any(|byte| *byte != Lent::GUARD) {
-            return None;
-        }
-        self.all.truncate(self.to);
-        Some(self.all.split_off(self.from))
-    }
+/// A lent buffer between so many guard bytes.
+fn lent(contents: &[u8], before: usize, after: usize) -> Lent {
+    Lent::between(&vec![GUARD; before], contents, &vec![GUARD; after])
 }
 
 /// The bytes that an event buffer holds before a call.
@@ -183,29 +156,25 @@ fn fill(size: usize) -> Vec<u8> {
     (0..size).map(|i| (i as u8).wrapping_mul(37) ^ 0xB1).collect()
 }
 
-struct Harness<'a> {
-    other: &'a dyn Side,
+struct Harness {
+    other: &'static dyn Side,
     exact: bool,
-    group: &'static str,
-    seed: u64,
-    passed: u64,
-    failed: u64,
-    shown: u64,
+    tally: Tally,
     /// How often each number was answered.
     numbers: BTreeMap<u16, u64>,
 }
 
-impl Harness<'_> {
+impl Harness {
     /// One call of one side; `None` where it wrote outside its buffers.
     fn run(&self, side: &dyn Side, case: &Case, call: &Call) -> Option<Left> {
-        let turn = self.passed as usize;
+        let turn = self.tally.passed() as usize;
         let (before, after) = if self.exact { (0, 0) } else { (8 + turn % 2, 24) };
-        let mut walk = Lent::new(call.walk, before, after);
-        let mut events = Lent::new(&fill(call.size), before + turn / 2 % 2, after);
+        let mut walk = lent(call.walk, before, after);
+        let mut events = lent(&fill(call.size), before + turn / 2 % 2, after);
         let done = match call.kind {
-            Kind::Whole => side.whole(case.inputs(), call.budget, walk.bytes(), events.bytes()),
+            Kind::Whole => side.whole(case.inputs(), call.budget, walk.bytes_mut(), events.bytes_mut()),
             Kind::Paused { given, answer } => {
-                side.paused(case.inputs(), given, answer, call.budget, walk.bytes(), events.bytes())
+                side.paused(case.inputs(), given, answer, call.budget, walk.bytes_mut(), events.bytes_mut())
             }
         };
         Some(Left { done, walk: walk.back()?, events: events.back()? })
@@ -215,35 +184,15 @@ impl Harness<'_> {
     fn check(&mut self, case: &Case, call: &Call) -> Left {
         let mine = self.run(&Reference, case, call);
         let theirs = self.run(self.other, case, call);
-        if mine == theirs && mine.is_some() {
-            self.passed += 1;
-        } else {
-            self.fail(|| show(case, call, &mine, &theirs));
-        }
+        self.tally.expect(mine == theirs && mine.is_some(), || show(case, call, &mine, &theirs));
         let mine = mine.unwrap_or(Left { done: Done { number: 0, written: 0, steps: 0 }, walk: vec![], events: vec![] });
         *self.numbers.entry(mine.done.number).or_default() += 1;
         mine
     }
 
-    fn fail(&mut self, text: impl FnOnce() -> String) {
-        self.failed += 1;
-        self.shown += 1;
-        if self.shown <= SHOWN {
-            println!("mismatch in {}, seed {}\n{}", self.group, self.seed, text());
-        }
-    }
-
-    fn expect(&mut self, holds: bool, text: impl FnOnce() -> String) {
-        if holds {
-            self.passed += 1;
-        } else {
-            self.fail(text);
-        }
-    }
-
     /// What is only read may not change.
     fn unchanged(&mut self, case: &Case, before: &Case) {
-        self.expect(case == before, || "a table, tokens or answers were written to".to_string());
+        self.tally.expect(case == before, || "a table, tokens or answers were written to".to_string());
     }
 }
 
@@ -484,15 +433,20 @@ fn labels(h: &mut Harness, rng: &mut Rng) {
     }
 }
 
-/// All budgets from 0 on.
-fn budgets(h: &mut Harness, rng: &mut Rng) {
+/// A case of any sort, a walk over it, and a call of both kinds that fits the walk.
+fn both_kinds(h: &Harness, rng: &mut Rng) -> (Case, [u8; WALK_BYTES], [Kind; 2]) {
     let sort = rng.pick(&[0, 0, 0, 1, 2]);
     let case = case_of(h, rng, sort);
     let state = if rng.once_in(2) { Walk::fresh() } else { case.made_up(rng) };
-    let walk = state.encode();
     let answer = Kind::Paused { given: 1, answer: random::answer(rng) };
     let paused = if state.phase == Phase::Waiting { answer } else { PLAIN };
-    for kind in [Kind::Whole, paused] {
+    (case, state.encode(), [Kind::Whole, paused])
+}
+
+/// All budgets from 0 on.
+fn budgets(h: &mut Harness, rng: &mut Rng) {
+    let (case, walk, kinds) = both_kinds(h, rng);
+    for kind in kinds {
         for budget in 0..=80 {
             let left = h.check(&case, &Call { kind, budget, walk: &walk, size: ROOMY });
             if budget > left.done.steps + 2 {
@@ -505,13 +459,8 @@ fn budgets(h: &mut Harness, rng: &mut Rng) {
 
 /// All sizes of event buffers from 0 bytes on.
 fn buffers(h: &mut Harness, rng: &mut Rng) {
-    let sort = rng.pick(&[0, 0, 0, 1, 2]);
-    let case = case_of(h, rng, sort);
-    let state = if rng.once_in(2) { Walk::fresh() } else { case.made_up(rng) };
-    let walk = state.encode();
-    let answer = Kind::Paused { given: 1, answer: random::answer(rng) };
-    let paused = if state.phase == Phase::Waiting { answer } else { PLAIN };
-    for kind in [Kind::Whole, paused] {
+    let (case, walk, kinds) = both_kinds(h, rng);
+    for kind in kinds {
         for size in 0..=90 {
             let left = h.check(&case, &Call { kind, budget: BOUND, walk: &walk, size });
             if size > 6 * left.done.written as usize + 8 {
@@ -612,7 +561,7 @@ fn sizes(h: &mut Harness, rng: &mut Rng) {
 
 /// More than 65,536 tokens, answers, events and steps.
 fn long(h: &mut Harness, rng: &mut Rng) {
-    if !h.seed.is_multiple_of(16) {
+    if !h.tally.seed().is_multiple_of(16) {
         return;
     }
     let count = rng.within(65530, 70000);
@@ -658,7 +607,7 @@ fn no_walk(h: &mut Harness, rng: &mut Rng) {
         };
         let left = h.check(&case, &Call { kind, budget: rng.below(4) as u64, walk, size: size(rng).min(100) });
         let refused = left.done.number == 21;
-        h.expect(!refused || (left.walk == walk && left.events == fill(left.events.len())), || {
+        h.tally.expect(!refused || (left.walk == walk && left.events == fill(left.events.len())), || {
             format!("the refusing walker of this crate changed a buffer: {}", listed(walk))
         });
         parts_of(h, walk);
@@ -704,7 +653,8 @@ fn parts_of(h: &mut Harness, walk: &[u8]) {
     }
     let lent: Box<[u8]> = walk.into();
     let (mine, theirs) = (parts(&Reference, &lent), parts(h.other, &lent));
-    h.expect(mine == theirs && *lent == *walk, || format!("  walk: {}\n  rust: {mine:?}\n  other: {theirs:?}", listed(walk)));
+    h.tally
+        .expect(mine == theirs && *lent == *walk, || format!("  walk: {}\n  rust: {mine:?}\n  other: {theirs:?}", listed(walk)));
 }
 
 /// The readers on walks, and the writer of fresh walks.
@@ -715,13 +665,13 @@ fn parts(h: &mut Harness, rng: &mut Rng) {
     let near = rng.below(400);
     for length in [0, 1, 2, 3, 6, 100, 156, 157, 158, 159, 160, 316, near] {
         let (before, after) = if h.exact { (0, 0) } else { (8, 200) };
-        let mut mine = Lent::new(&fill(length), before, after);
-        let mut theirs = Lent::new(&fill(length), before, after);
+        let mut mine = lent(&fill(length), before, after);
+        let mut theirs = lent(&fill(length), before, after);
         let allowance = rng.word();
-        let numbers = (Reference.fresh(mine.bytes(), allowance), h.other.fresh(theirs.bytes(), allowance));
+        let numbers = (Reference.fresh(mine.bytes_mut(), allowance), h.other.fresh(theirs.bytes_mut(), allowance));
         let (mine, theirs) = (mine.back(), theirs.back());
         let same = numbers.0 == numbers.1 && mine.is_some() && mine == theirs;
-        h.expect(same, || format!("  fresh of {length} bytes: rust {}, other {}", numbers.0, numbers.1));
+        h.tally.expect(same, || format!("  fresh of {length} bytes: rust {}, other {}", numbers.0, numbers.1));
     }
 }
 
@@ -788,7 +738,7 @@ fn agreement(h: &mut Harness, rng: &mut Rng) {
                 break;
             }
         }
-        h.expect(fine && pieces == one, || text(&format!("{} in pieces", side.name()), &pieces, &one));
+        h.tally.expect(fine && pieces == one, || text(&format!("{} in pieces", side.name()), &pieces, &one));
 
         let mut paused = Run::new(&start);
         let mut kind = PLAIN;
@@ -811,82 +761,59 @@ fn agreement(h: &mut Harness, rng: &mut Rng) {
         } else {
             paused == one
         };
-        h.expect(fine && agree, || text(&format!("{} paused and whole", side.name()), &paused, &one));
+        h.tally.expect(fine && agree, || text(&format!("{} paused and whole", side.name()), &paused, &one));
     }
 }
 
-/// A name, a group, and how often a seed runs it.
-type Group = (&'static str, fn(&mut Harness, &mut Rng), usize);
+impl Compares for Harness {
+    type Source = Rng;
 
-const GROUPS: [Group; 14] = [
-    ("structured tables", structured, 6),
-    ("damaged tables", damaged, 6),
-    ("foreign tables", foreign, 10),
-    ("made-up walks", made_up, 1),
-    ("each instruction", instructions, 1),
-    ("labels", labels, 12),
-    ("budgets", budgets, 6),
-    ("event buffers", buffers, 6),
-    ("lists of calls", lists, 12),
-    ("table sizes", sizes, 3),
-    ("long walks", long, 1),
-    ("bytes that are no walk", no_walk, 1),
-    ("parts", parts, 1),
-    ("pieces and pauses", agreement, 12),
-];
+    const GROUPS: &'static [Group<Harness>] = &[
+        ("structured tables", structured, 6),
+        ("damaged tables", damaged, 6),
+        ("foreign tables", foreign, 10),
+        ("made-up walks", made_up, 1),
+        ("each instruction", instructions, 1),
+        ("labels", labels, 12),
+        ("budgets", budgets, 6),
+        ("event buffers", buffers, 6),
+        ("lists of calls", lists, 12),
+        ("table sizes", sizes, 3),
+        ("long walks", long, 1),
+        ("bytes that are no walk", no_walk, 1),
+        ("parts", parts, 1),
+        ("pieces and pauses", agreement, 12),
+    ];
+
+    fn tally(&mut self) -> &mut Tally {
+        &mut self.tally
+    }
+
+    fn report(&mut self, _least: u64) {
+        let seen: Vec<String> = self.numbers.iter().map(|(number, times)| format!("{number} {times} times")).collect();
+        println!("answered: {}", seen.join(", "));
+    }
+}
+
+/// Takes `--against` and its word out of the command line: the word, or nothing.
+fn against(arguments: &mut Vec<String>) -> Option<String> {
+    let at = arguments.iter().position(|argument| argument == "--against")?;
+    let word = arguments.drain(at..arguments.len().min(at + 2)).nth(1);
+    Some(word.unwrap_or_default())
+}
 
 fn main() -> ExitCode {
-    let mut against = None;
-    let (mut exact, mut trace) = (false, false);
-    let mut numbers = Vec::new();
-    let mut arguments = std::env::args().skip(1);
-    while let Some(argument) = arguments.next() {
-        match argument.as_str() {
-            "--against" => against = arguments.next(),
-            "--exact" => exact = true,
-            "--trace" => trace = true,
-            text => match text.parse::<u64>() {
-                Ok(number) => numbers.push(number),
-                Err(_) => return usage(),
-            },
-        }
-    }
-    let seeds = numbers.first().copied().unwrap_or(SEEDS);
-    let first = numbers.get(1).copied().unwrap_or(1);
-    let other = match (against.as_deref(), ffi::library()) {
-        (Some("c"), _) => &ffi::Plain,
+    let mut arguments: Vec<String> = std::env::args().skip(1).collect();
+    let other: &dyn Side = match (against(&mut arguments).as_deref(), ffi::library()) {
         (None | Some("lib"), Some(library)) => library,
-        (None, None) => &ffi::Plain,
+        (None, None) | (Some("c"), _) => &ffi::Plain,
         (Some("lib"), None) => {
             eprintln!("built without the library");
             return ExitCode::from(2);
         }
-        _ => return usage(),
+        _ => return Options::usage(NAME),
     };
-    println!("rust against {}, seeds {first} to {}", other.name(), first.saturating_add(seeds).saturating_sub(1));
-    let mut h = Harness { other, exact, group: "", seed: 0, passed: 0, failed: 0, shown: 0, numbers: BTreeMap::new() };
-    for (stream, (name, group, times)) in (1..).zip(GROUPS) {
-        let (passed, failed) = (h.passed, h.failed);
-        h.group = name;
-        for seed in first..first.saturating_add(seeds) {
-            if trace {
-                eprintln!("{name}, seed {seed}");
-            }
-            h.seed = seed;
-            let mut rng = Rng::new(seed, stream);
-            for _ in 0..times {
-                group(&mut h, &mut rng);
-            }
-        }
-        println!("{name}: {} passed, {} failed", h.passed - passed, h.failed - failed);
-    }
-    let seen: Vec<String> = h.numbers.iter().map(|(number, times)| format!("{number} {times} times")).collect();
-    println!("answered: {}", seen.join(", "));
-    println!("{} passed, {} failed", h.passed, h.failed);
-    if h.failed == 0 { ExitCode::SUCCESS } else { ExitCode::FAILURE }
-}
-
-fn usage() -> ExitCode {
-    eprintln!("compare [--against lib|c] [--exact] [--trace] [seeds [first seed]]");
-    ExitCode::from(2)
+    let Some(options) = Options::read(arguments, SEEDS) else { return Options::usage(NAME) };
+    println!("rust against {}", other.name());
+    harness::compare(Harness { other, exact: options.exact, tally: Tally::default(), numbers: BTreeMap::new() }, &options)
 }

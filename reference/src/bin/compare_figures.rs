@@ -13,7 +13,7 @@ use reference::faults;
 use reference::ffi;
 use reference::figures::{self, FIGURES_BYTES, Figures, PASSES, ROW_BYTES, SHORT, Shelf, Sums, visits};
 use reference::files::words;
-use reference::harness::{self, Compares, Group, Lent, Options, Tally};
+use reference::harness::{self, Compares, Group, Lent, Tally};
 use reference::limits;
 use reference::processor::{MAX_TABLE, places};
 use reference::programs;
@@ -58,12 +58,6 @@ struct Harness {
     processor: &'static dyn Processor,
     exact: bool,
     tally: Tally,
-}
-
-impl Compares for Harness {
-    fn tally(&mut self) -> &mut Tally {
-        &mut self.tally
-    }
 }
 
 impl Harness {
@@ -114,22 +108,17 @@ impl Harness {
         shelf
     }
 
-    /// Compares the rows of a text's rules; the number, and what this crate leaves.
+    /// Compares the rows of a text's rules; the number, and the rows.
     fn rules(&mut self, rng: &mut Rng, text: &[u8], size: usize) -> (u16, Vec<[u64; 3]>) {
-        let lent_text = Lent::new(rng, text, self.exact);
+        let read = Lent::new(rng, text, self.exact);
         let mut rows = Lent::random(rng, size, self.exact);
-        let mut mine = rows.before().to_vec();
-        let done = Reference.rules(text, &mut mine);
-        let theirs = self.other.rules(lent_text.bytes(), rows.bytes_mut());
-        let same = done == theirs && rows.is(&mine) && lent_text.kept();
-        self.tally.expect(same, || {
-            let differ = if rows.is(&mine) { "" } else { "; the rows differ" };
-            format!("  {size} bytes of rows\n  rust:  {done:?}\n  other: {theirs:?}{differ}\n  text \"{}\"", cut(text))
-        });
+        let given = || format!("  text \"{}\"", cut(text));
+        let done =
+            self.tally.both([self.other, &Reference], &[&read], &mut rows, |side, rows| side.rules(read.bytes(), rows), given);
         self.tally.met(format!("rules {}", done.0));
         let number = |bytes: &[u8]| bytes.iter().fold(0, |sum, byte| sum << 8 | u64::from(*byte));
         let row = |row: &[u8; ROW_BYTES]| [&row[..8], &row[8..16], &row[16..]].map(number);
-        (done.0, mine.as_chunks().0.iter().take(done.1 as usize).map(row).collect())
+        (done.0, rows.bytes().as_chunks().0.iter().take(done.1 as usize).map(row).collect())
     }
 }
 
@@ -222,7 +211,7 @@ fn shelves(h: &mut Harness, rng: &mut Rng) {
         let added = h.add(rng, &book, &mut figures);
         h.tally.expect(added == done, || format!("{}  {added:?}, not {done:?}", shown(&book)));
         if visited.contains(&4_096) {
-            h.tally.met("location 4096".to_string());
+            h.tally.met("location 4096");
         }
         all.push(visited);
     }
@@ -236,7 +225,7 @@ fn shelves(h: &mut Harness, rng: &mut Rng) {
     h.tally.expect(shelf == wanted, || format!("  {shelf:?}, not {wanted:?}"));
     h.tally.met(format!("books {books}"));
     if books > 0 && rest > 0 {
-        h.tally.met("a remainder".to_string());
+        h.tally.met("a remainder");
     }
 }
 
@@ -327,7 +316,7 @@ fn damaged(h: &mut Harness, rng: &mut Rng) {
             h.tally.expect(shelf.number == REFUSED && done == REFUSAL, || format!("  {name}: {done:?}, {shelf:?}"));
             h.tally.met(format!("damaged: {name}"));
             if passes {
-                h.tally.met("21 before 46".to_string());
+                h.tally.met("21 before 46");
             }
         }
     }
@@ -355,12 +344,12 @@ fn edges(h: &mut Harness, rng: &mut Rng) {
         h.tally.expect((figures == before) == (done.number == PASSES), || format!("  {done:?} changed {}", counted(&before)));
         h.tally.met(format!("past by total {by_total}, by books {by_books}"));
         if total == most && !by_books && alone.steps > 0 {
-            h.tally.met("just fits".to_string());
+            h.tally.met("just fits");
         }
         if done.number == PASSES {
             h.tally.met(format!("46 before {}", alone.number));
         } else if books == u64::MAX - 1 {
-            h.tally.met("the last book".to_string());
+            h.tally.met("the last book");
         }
         h.shelf(rng, &figures);
     }
@@ -439,7 +428,7 @@ fn by_rule(h: &mut Harness, rng: &mut Rng) {
     h.tally.expect(same, || format!("  rule by rule {total}, book by book {shelf:?}\n  \"{}\"", cut(&text)));
     h.tally.met(format!("rules of a program: {}", rows.len().min(4)));
     if total > 0 {
-        h.tally.met("sums by rule".to_string());
+        h.tally.met("sums by rule");
     }
 }
 
@@ -452,7 +441,7 @@ fn rows(h: &mut Harness, rng: &mut Rng, text: &[u8]) {
     if done.number != 0 {
         h.tally.expect(number == done.number, || format!("  {number}, not {done:?}\n  \"{}\"", cut(text)));
         if number == SHORT {
-            h.tally.met("20 by the table".to_string());
+            h.tally.met("20 by the table");
         }
         return;
     }
@@ -490,42 +479,49 @@ fn texts_of_all_sorts(h: &mut Harness, rng: &mut Rng) {
     }
 }
 
-const GROUPS: [Group<Harness>; 6] = [
-    ("shelves", shelves, 12),
-    ("figures whose parts do not fit", damaged, 3),
-    ("near 2^64", edges, 6),
-    ("other lengths", lengths, 4),
-    ("rule by rule", by_rule, 6),
-    ("rows of rules", texts_of_all_sorts, 2),
-];
+impl Compares for Harness {
+    type Source = Rng;
+
+    const GROUPS: &'static [Group<Harness>] = &[
+        ("shelves", shelves, 12),
+        ("figures whose parts do not fit", damaged, 3),
+        ("near 2^64", edges, 6),
+        ("other lengths", lengths, 4),
+        ("rule by rule", by_rule, 6),
+        ("rows of rules", texts_of_all_sorts, 2),
+    ];
+
+    fn tally(&mut self) -> &mut Tally {
+        &mut self.tally
+    }
+
+    fn report(&mut self, least: u64) {
+        self.tally.demand_numbers(least, "add", &[0, 21, 30, 31, 32, 33, 34, 35, 36, 37, 46]);
+        self.tally.demand_numbers(least, "shelf", &[0, 21]);
+        self.tally.demand_numbers(least, "rules", &[0, 1, 2, 3, 4, 5, 6, 7, 8, 9, 20]);
+        self.tally.demand_numbers(least, "books", &[0, 1, 2, 5]);
+        self.tally.demand_numbers(least, "location", &[4_096]);
+        self.tally.demand(least, DAMAGES[..DAMAGES.len() - 2].iter().map(|name| format!("damaged: {name}")));
+        let both = [(true, true), (true, false), (false, true), (false, false)];
+        self.tally.demand(least, both.map(|(total, books)| format!("past by total {total}, by books {books}")));
+        self.tally.demand_numbers(least, "46 before", &[0, 30, 31, 32, 33, 34, 35, 36, 37]);
+        self.tally.demand(least, ["just fits", "the last book", "21 before 46", "a remainder"]);
+        self.tally.demand(least, ["length true", "length false", "sums by rule", "20 by the table"]);
+        self.tally.demand_numbers(least, "rules of a program:", &[1, 2, 3, 4]);
+        self.tally.demand(least, [1, 2, 127, 128].map(|rules| format!("{rules} rules")));
+    }
+}
 
 fn main() -> ExitCode {
-    let Some(options) = Options::read(SEEDS) else { return Options::usage("compare_figures") };
-    let mut h = Harness {
-        other: ffi::figures().unwrap_or(&Reference),
-        walker: ffi::library().unwrap_or(&ffi::Plain),
-        processor: ffi::processor().unwrap_or(&Reference),
-        exact: options.exact,
-        tally: Tally::default(),
-    };
-    println!("rust against {}, calls alone of {}", h.other.name(), h.walker.name());
-    harness::run(&mut h, &GROUPS, &options);
-    let least = options.least();
-    let named =
-        |kind: &str, numbers: &[u16]| -> Vec<String> { numbers.iter().map(|number| format!("{kind} {number}")).collect() };
-    h.tally.demand(least, &named("add", &[0, 21, 30, 31, 32, 33, 34, 35, 36, 37, 46]));
-    h.tally.demand(least, &named("shelf", &[0, 21]));
-    h.tally.demand(least, &named("rules", &[0, 1, 2, 3, 4, 5, 6, 7, 8, 9, 20]));
-    h.tally.demand(least, &named("books", &[0, 1, 2, 5]));
-    h.tally.demand(least, &named("location", &[4_096]));
-    let surely: Vec<String> = DAMAGES[..DAMAGES.len() - 2].iter().map(|name| format!("damaged: {name}")).collect();
-    h.tally.demand(least, &surely);
-    let both = [(true, true), (true, false), (false, true), (false, false)];
-    h.tally.demand(least, &both.map(|(total, books)| format!("past by total {total}, by books {books}")));
-    h.tally.demand(least, &named("46 before", &[0, 30, 31, 32, 33, 34, 35, 36, 37]));
-    h.tally.demand(least, &["just fits", "the last book", "21 before 46", "a remainder"].map(str::to_string));
-    h.tally.demand(least, &["length true", "length false", "sums by rule", "20 by the table"].map(str::to_string));
-    h.tally.demand(least, &[1, 2, 3, 4].map(|rules| format!("rules of a program: {rules}")));
-    h.tally.demand(least, &[1, 2, 127, 128].map(|rules| format!("{rules} rules")));
-    h.tally.end()
+    harness::main("compare_figures", SEEDS, |exact| {
+        let h = Harness {
+            other: ffi::figures().unwrap_or(&Reference),
+            walker: ffi::library().unwrap_or(&ffi::Plain),
+            processor: ffi::processor().unwrap_or(&Reference),
+            exact,
+            tally: Tally::default(),
+        };
+        println!("rust against {}, calls alone of {}", h.other.name(), h.walker.name());
+        h
+    })
 }

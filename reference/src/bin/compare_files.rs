@@ -10,12 +10,11 @@ use std::process::ExitCode;
 use reference::crowded::{self, CROWDED};
 use reference::ffi;
 use reference::files::{Files, Loaded, Written, words};
-use reference::harness::{self, Compares, Group, Lent, Options, Tally};
+use reference::harness::{self, Compares, Group, Lent, Tally};
 use reference::random::{self, Rng};
-use reference::side::{Inputs, Processor, Reference, Side};
+use reference::side::{Processor, Reference, Side};
 use reference::tables::bytes;
 use reference::texts::{self, Seed};
-use reference::walker::{WALK_BYTES, Walk};
 
 const SEEDS: u64 = 500;
 /// The records' sizes that files are made of.
@@ -33,12 +32,6 @@ struct Harness {
     tally: Tally,
 }
 
-impl Compares for Harness {
-    fn tally(&mut self) -> &mut Tally {
-        &mut self.tally
-    }
-}
-
 /// Words of bytes, cut where they are many.
 fn listed(bytes: &[u8]) -> String {
     let all = words(bytes);
@@ -50,15 +43,10 @@ impl Harness {
     /// Compares one loading, the lent bytes being random; what this crate's loader answers.
     fn load(&mut self, rng: &mut Rng, file: &[u8], size: usize) -> Loaded {
         let file = Lent::new(rng, file, self.exact);
-        let mut lent = Lent::random(rng, size, self.exact);
-        let mut mine = lent.before().to_vec();
-        let done = Reference.load(file.bytes(), &mut mine);
-        let theirs = self.other.load(file.bytes(), lent.bytes_mut());
-        let same = done == theirs && lent.is(&mine) && file.kept();
-        self.tally.expect(same, || {
-            let table = if lent.is(&mine) { "" } else { "; the lent tables differ" };
-            format!("  {size} bytes lent\n  rust:  {done:?}\n  other: {theirs:?}{table}\n  file of {}", listed(file.bytes()))
-        });
+        let mut table = Lent::random(rng, size, self.exact);
+        let given = || format!("  file of {}", listed(file.bytes()));
+        let done =
+            self.tally.both([self.other, &Reference], &[&file], &mut table, |side, table| side.load(file.bytes(), table), given);
         self.tally.met(format!("load {}", done.number));
         done
     }
@@ -66,16 +54,15 @@ impl Harness {
     /// Compares one writing likewise.
     fn write(&mut self, rng: &mut Rng, table: &[u8], verdict: u64, size: usize) -> Written {
         let table = Lent::new(rng, table, self.exact);
-        let mut lent = Lent::random(rng, size, self.exact);
-        let mut mine = lent.before().to_vec();
-        let done = Reference.write(table.bytes(), verdict, &mut mine);
-        let theirs = self.other.write(table.bytes(), verdict, lent.bytes_mut());
-        let same = done == theirs && lent.is(&mine) && table.kept();
-        self.tally.expect(same, || {
-            let file = if lent.is(&mine) { "" } else { "; the lent files differ" };
-            let head = format!("  {size} bytes lent, verdict {verdict}");
-            format!("{head}\n  rust:  {done:?}\n  other: {theirs:?}{file}\n  table of {}", listed(table.bytes()))
-        });
+        let mut file = Lent::random(rng, size, self.exact);
+        let given = || format!("  verdict {verdict}, table of {}", listed(table.bytes()));
+        let done = self.tally.both(
+            [self.other, &Reference],
+            &[&table],
+            &mut file,
+            |side, file| side.write(table.bytes(), verdict, file),
+            given,
+        );
         self.tally.met(format!("write {}", done.number));
         done
     }
@@ -102,29 +89,7 @@ impl Harness {
         if rng.once_in(2) {
             table.extend((0..rng.below(40)).map(|_| rng.draw() as u8));
         }
-        let (tokens, answers) = random::lead(rng, &table);
-        let (tokens, answer_bytes) = (bytes(&tokens), bytes(&answers));
-        let inputs = Inputs { table: &table, tokens: &tokens, answers: &answer_bytes };
-        let pauses = rng.once_in(2);
-        let mut walk = vec![0; WALK_BYTES];
-        let allowance = rng.pick(&[0, 0, 1, 2, 30, 65_535]);
-        self.walker.fresh(&mut walk, allowance);
-        let mut number = 36;
-        for _ in 0..CALLS {
-            let mut events = vec![0; 6 * rng.below(60)];
-            let budget = rng.within(1, 200) as u64;
-            let done = if pauses {
-                let used = Walk::decode(&walk).map_or(0, |walk| walk.used as usize);
-                let answer = answers.get(used).copied().unwrap_or_else(|| random::answer(rng));
-                self.walker.paused(inputs, u16::from(number == 22), answer, budget, &mut walk, &mut events)
-            } else {
-                self.walker.whole(inputs, budget, &mut walk, &mut events)
-            };
-            number = done.number;
-            if !matches!(number, 22 | 35 | 36) {
-                break;
-            }
-        }
+        let (number, _) = harness::walk(rng, self.walker, &table, &[0, 0, 1, 2, 30, 65_535], CALLS);
         self.tally.met(format!("walk {number}"));
         self.tally.expect(number != 37, || format!("  a walk over a taken table gives 37\n  table of {}", listed(&table)));
     }
@@ -339,7 +304,7 @@ fn accepted(h: &mut Harness, rng: &mut Rng) {
     let table = words(&table);
     let taken = h.both(rng, &table);
     h.tally.expect(taken, || format!("  the table of an accepted program is not taken\n  \"{}\"", text.escape_ascii()));
-    h.tally.met("program".to_string());
+    h.tally.met("program");
 }
 
 /// Tables of 4,096 words that make a loader work, as they are and with a word changed.
@@ -361,39 +326,46 @@ fn large(h: &mut Harness, rng: &mut Rng) {
     }
 }
 
-const GROUPS: [Group<Harness>; 8] = [
-    ("records and lent sizes", sizes, 2),
-    ("not written", not_written, 1),
-    ("bytes that are no file", no_files, 1),
-    ("other records", other_records, 4),
-    ("each word of a table", each_word, 3),
-    ("tables", tables, 80),
-    ("accepted programs", accepted, 8),
-    ("crowded tables", large, 1),
-];
+impl Compares for Harness {
+    type Source = Rng;
+
+    const GROUPS: &'static [Group<Harness>] = &[
+        ("records and lent sizes", sizes, 2),
+        ("not written", not_written, 1),
+        ("bytes that are no file", no_files, 1),
+        ("other records", other_records, 4),
+        ("each word of a table", each_word, 3),
+        ("tables", tables, 80),
+        ("accepted programs", accepted, 8),
+        ("crowded tables", large, 1),
+    ];
+
+    fn tally(&mut self) -> &mut Tally {
+        &mut self.tally
+    }
+
+    fn report(&mut self, least: u64) {
+        self.tally.demand_numbers(least, "load", &[0, 40, 20, 41]);
+        self.tally.demand_numbers(least, "write", &[0, 40, 20, 41]);
+        self.tally.demand_numbers(least, "walk", &[0, 22, 30, 31, 32, 33, 34, 35, 36]);
+        self.tally.demand(least, ["structured", "damaged", "foreign", "crowded"].map(|sort| format!("{sort} taken")));
+        self.tally.demand(least, ["damaged", "foreign", "crowded"].map(|sort| format!("{sort} not")));
+        self.tally.demand(least, LENGTHS.map(|length| format!("{length} words")));
+        self.tally.demand(least, CROWDED);
+        self.tally.demand(least, ["program"]);
+    }
+}
 
 fn main() -> ExitCode {
-    let Some(options) = Options::read(SEEDS) else { return Options::usage("compare_files") };
-    let mut h = Harness {
-        other: ffi::files().unwrap_or(&Reference),
-        processor: ffi::processor().unwrap_or(&Reference),
-        walker: ffi::library().unwrap_or(&ffi::Plain),
-        exact: options.exact,
-        tally: Tally::default(),
-    };
-    println!("rust against {}, walks of {}", h.other.name(), h.walker.name());
-    harness::run(&mut h, &GROUPS, &options);
-    let named =
-        |kind: &str, numbers: &[u16]| -> Vec<String> { numbers.iter().map(|number| format!("{kind} {number}")).collect() };
-    h.tally.demand(options.least(), &named("load", &[0, 40, 20, 41]));
-    h.tally.demand(options.least(), &named("write", &[0, 40, 20, 41]));
-    h.tally.demand(options.least(), &named("walk", &[0, 22, 30, 31, 32, 33, 34, 35, 36]));
-    let sorts = ["structured", "damaged", "foreign", "crowded"].map(|sort| format!("{sort} taken"));
-    h.tally.demand(options.least(), &sorts);
-    let refused = ["damaged", "foreign", "crowded"].map(|sort| format!("{sort} not"));
-    h.tally.demand(options.least(), &refused);
-    h.tally.demand(options.least(), &LENGTHS.map(|length| format!("{length} words")));
-    h.tally.demand(options.least(), &CROWDED.map(str::to_string));
-    h.tally.demand(options.least(), &["program".to_string()]);
-    h.tally.end()
+    harness::main("compare_files", SEEDS, |exact| {
+        let h = Harness {
+            other: ffi::files().unwrap_or(&Reference),
+            processor: ffi::processor().unwrap_or(&Reference),
+            walker: ffi::library().unwrap_or(&ffi::Plain),
+            exact,
+            tally: Tally::default(),
+        };
+        println!("rust against {}, walks of {}", h.other.name(), h.walker.name());
+        h
+    })
 }

@@ -8,7 +8,7 @@
 use std::process::ExitCode;
 
 use reference::ffi;
-use reference::harness::{self, Compares, Group, Lent, Options, Tally};
+use reference::harness::{self, Compares, Group, Lent, Tally};
 use reference::random::Rng;
 use reference::side::{Filtered, Folder, Reference};
 
@@ -18,12 +18,6 @@ struct Harness {
     other: &'static dyn Folder,
     exact: bool,
     tally: Tally,
-}
-
-impl Compares for Harness {
-    fn tally(&mut self) -> &mut Tally {
-        &mut self.tally
-    }
 }
 
 #[derive(Clone, Copy, Debug, PartialEq)]
@@ -41,18 +35,17 @@ impl Harness {
     /// Compares one call; what this crate's filter answers.
     fn check(&mut self, rng: &mut Rng, filter: &[u8], text: &[u8], size: usize) -> Filtered {
         let (filter, text) = (Lent::new(rng, filter, self.exact), Lent::new(rng, text, self.exact));
-        let mut lent = Lent::random(rng, size, self.exact);
-        let mut mine = lent.before().to_vec();
-        let done = Reference.fold(filter.bytes(), text.bytes(), &mut mine);
-        let theirs = self.other.fold(filter.bytes(), text.bytes(), lent.bytes_mut());
-        let same = done == theirs && lent.is(&mine) && filter.kept() && text.kept();
-        self.tally.expect(same, || {
-            let tokens = if lent.is(&mine) { "" } else { "; the lent bytes differ" };
-            let given = format!("  filter {:?}\n  text {:?}", filter.bytes(), text.bytes());
-            format!("  {size} bytes lent\n  rust:  {done:?}\n  other: {theirs:?}{tokens}\n{given}")
-        });
+        let mut tokens = Lent::random(rng, size, self.exact);
+        let given = || format!("  filter {:?}\n  text {:?}", filter.bytes(), text.bytes());
+        let done = self.tally.both(
+            [self.other, &Reference],
+            &[&filter, &text],
+            &mut tokens,
+            |side, tokens| side.fold(filter.bytes(), text.bytes(), tokens),
+            given,
+        );
         if done.number != 0 {
-            let kept = lent.kept() && done.written == 0;
+            let kept = tokens.kept() && done.written == 0;
             self.tally.expect(kept, || format!("  something is written with {}", done.number));
         }
         self.tally.met(format!("answer {}", done.number));
@@ -143,7 +136,7 @@ fn orders(h: &mut Harness, rng: &mut Rng) {
         h.answers(rng, &filter, 0, 0);
         h.other.fold(&filter, &text, &mut tokens[1]);
         h.tally.expect(tokens[0] == tokens[1], || format!("  the order matters in {entries:?}"));
-        h.tally.met("order".to_string());
+        h.tally.met("order");
     }
 }
 
@@ -179,7 +172,7 @@ fn overlaps_and_gaps(h: &mut Harness, rng: &mut Rng) {
             let within = rng.within(usize::from(other.first), usize::from(other.last)) as u8;
             none.push(Entry { first: within, last: other.last, token: 0 });
             h.answers(rng, &bytes(&none), 43, u64::from(within));
-            h.tally.met("overlap beside a gap".to_string());
+            h.tally.met("overlap beside a gap");
             // An entry the wrong way round comes before both.
             let number = rng.below(none.len() + 1);
             let first = rng.within(1, 255) as u8;
@@ -188,7 +181,7 @@ fn overlaps_and_gaps(h: &mut Harness, rng: &mut Rng) {
             none.push(Entry { first: 1, last: 0, token: 0 });
             if none.len() <= 64 {
                 h.answers(rng, &bytes(&none), 42, number as u64);
-                h.tally.met("order beside both".to_string());
+                h.tally.met("order beside both");
             }
         }
     }
@@ -247,32 +240,38 @@ fn random(h: &mut Harness, rng: &mut Rng) {
     h.check(rng, &filter, &text, size);
 }
 
-const GROUPS: [Group<Harness>; 6] = [
-    ("accepted", accepted, 4),
-    ("all orders", orders, 1),
-    ("overlaps and gaps", overlaps_and_gaps, 2),
-    ("64 entries and more", many, 1),
-    ("lent sizes", lent_sizes, 1),
-    ("random", random, 10),
-];
+impl Compares for Harness {
+    type Source = Rng;
+
+    const GROUPS: &'static [Group<Harness>] = &[
+        ("accepted", accepted, 4),
+        ("all orders", orders, 1),
+        ("overlaps and gaps", overlaps_and_gaps, 2),
+        ("64 entries and more", many, 1),
+        ("lent sizes", lent_sizes, 1),
+        ("random", random, 10),
+    ];
+
+    fn tally(&mut self) -> &mut Tally {
+        &mut self.tally
+    }
+
+    fn report(&mut self, least: u64) {
+        self.tally.demand_numbers(least, "answer", &[0, 9, 42, 43, 44, 20]);
+        let places = ["at 0", "at 255", "between"];
+        self.tally.demand(least, places.map(|place| format!("overlap {place}")));
+        self.tally.demand(least, places.map(|place| format!("gap {place}")));
+        self.tally.demand(least, ["overlap beside a gap", "order beside both", "order"]);
+        self.tally.demand(least, ["even enough", "odd enough", "even short", "odd short"]);
+        let sizes = (63..67).flat_map(|count| (0..4).map(move |more| format!("{count} entries and {more} bytes")));
+        self.tally.demand(least, sizes);
+    }
+}
 
 fn main() -> ExitCode {
-    let Some(options) = Options::read(SEEDS) else { return Options::usage("compare_filter") };
-    let other: &'static dyn Folder = match ffi::folder() {
-        Some(library) => library,
-        None => &Reference,
-    };
-    let mut h = Harness { other, exact: options.exact, tally: Tally::default() };
-    println!("rust against {}", h.other.name());
-    harness::run(&mut h, &GROUPS, &options);
-    h.tally.demand(options.least(), &[0, 9, 42, 43, 44, 20].map(|number| format!("answer {number}")));
-    let places = ["at 0", "at 255", "between"];
-    h.tally.demand(options.least(), &places.map(|place| format!("overlap {place}")));
-    h.tally.demand(options.least(), &places.map(|place| format!("gap {place}")));
-    h.tally.demand(options.least(), &["overlap beside a gap", "order beside both", "order"].map(str::to_string));
-    h.tally.demand(options.least(), &["even enough", "odd enough", "even short", "odd short"].map(str::to_string));
-    let sizes: Vec<String> =
-        (63..67).flat_map(|count| (0..4).map(move |more| format!("{count} entries and {more} bytes"))).collect();
-    h.tally.demand(options.least(), &sizes);
-    h.tally.end()
+    harness::main("compare_filter", SEEDS, |exact| {
+        let other = ffi::folder().unwrap_or(&Reference);
+        println!("rust against {}", other.name());
+        Harness { other, exact, tally: Tally::default() }
+    })
 }

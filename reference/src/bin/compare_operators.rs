@@ -10,7 +10,7 @@ use std::process::ExitCode;
 use reference::faults::{Fault, operators as faults};
 use reference::ffi;
 use reference::figures::{Figures, ROW_BYTES, SHORT};
-use reference::harness::{self, Compares, Group, Lent, Options, Tally};
+use reference::harness::{self, Compares, Group, Lent, Tally};
 use reference::precedence::{self, Crowd, FREE, HIGHEST, MOST_LABELS, MOST_NAMES, MOST_RULES};
 use reference::processor::{resolve, written_out};
 use reference::random::Rng;
@@ -37,25 +37,18 @@ struct Harness {
     tally: Tally,
 }
 
-impl Compares for Harness {
-    fn tally(&mut self) -> &mut Tally {
-        &mut self.tally
-    }
-}
-
 impl Harness {
     /// Compares one call, the lent bytes being random; what this crate answers.
     fn check(&mut self, rng: &mut Rng, text: &[u8], size: usize) -> Processed {
         let read = Lent::new(rng, text, self.exact);
         let mut lent = Lent::random(rng, size, self.exact);
-        let mut mine = lent.before().to_vec();
-        let done = Reference.process(text, &mut mine);
-        let theirs = self.processor.process(read.bytes(), lent.bytes_mut());
-        let same = done == theirs && lent.is(&mine) && read.kept();
-        self.tally.expect(same, || {
-            let table = if lent.is(&mine) { "" } else { "; the lent tables differ" };
-            format!("  {size} bytes lent\n  rust:  {done:?}\n  other: {theirs:?}{table}\n{}", shown(text))
-        });
+        let done = self.tally.both(
+            [self.processor, &Reference],
+            &[&read],
+            &mut lent,
+            |side, lent| side.process(read.bytes(), lent),
+            || shown(text),
+        );
         self.tally.met(format!("answer {}", done.number));
         if done.number == 0 {
             self.tally.met(format!("finishing {}", done.finishing));
@@ -79,15 +72,14 @@ impl Harness {
     /// Compares the rows of a text's rules; their number, and how many they are.
     fn rules(&mut self, rng: &mut Rng, text: &[u8], size: usize) -> (u16, u64) {
         let read = Lent::new(rng, text, self.exact);
-        let mut lent = Lent::random(rng, size, self.exact);
-        let mut mine = lent.before().to_vec();
-        let done = Reference.rules(text, &mut mine);
-        let theirs = self.rows.rules(read.bytes(), lent.bytes_mut());
-        let same = done == theirs && lent.is(&mine) && read.kept();
-        self.tally.expect(same, || {
-            let rows = if lent.is(&mine) { "" } else { "; the rows differ" };
-            format!("  {size} bytes lent for rows\n  rust:  {done:?}\n  other: {theirs:?}{rows}\n{}", shown(text))
-        });
+        let mut rows = Lent::random(rng, size, self.exact);
+        let done = self.tally.both(
+            [self.rows, &Reference],
+            &[&read],
+            &mut rows,
+            |side, rows| side.rules(read.bytes(), rows),
+            || shown(text),
+        );
         self.tally.met(format!("rows {}", done.0));
         done
     }
@@ -169,11 +161,7 @@ fn each_byte(h: &mut Harness, rng: &mut Rng) {
     let text = rng.pick(&SMALL).as_bytes();
     for at in 0..text.len() {
         let byte = rng.pick(b"'%_$\n\0^^^+>:;|aZ019\xff=(),.#@?[]{}");
-        let bits = text[at] ^ (1 << rng.below(8));
-        h.check_any(rng, &text[..at]);
-        for (to, with) in [(at + 1, vec![]), (at, vec![text[at]]), (at, vec![byte]), (at + 1, vec![byte]), (at + 1, vec![bits])] {
-            let mut text = text.to_vec();
-            text.splice(at..to, with);
+        for text in texts::damaged_at(text, at, byte, rng.below(8)) {
             h.check_any(rng, &text);
         }
     }
@@ -277,45 +265,53 @@ fn sums(h: &mut Harness, rng: &mut Rng) {
     }
 }
 
-const GROUPS: [Group<Harness>; 10] = [
-    ("good programs", good, 12),
-    ("planted faults", planted, 1),
-    ("several faults", several, 12),
-    ("damaged texts", damaged, 60),
-    ("entries and uses drawn word by word", drawn, 120),
-    ("each byte damaged", each_byte, 1),
-    ("limits", limits, 6),
-    ("lent sizes", lent_sizes, 1),
-    ("rows of rules", rows, 2),
-    ("sums in postfix order", sums, 3),
-];
+impl Compares for Harness {
+    type Source = Rng;
+
+    const GROUPS: &'static [Group<Harness>] = &[
+        ("good programs", good, 12),
+        ("planted faults", planted, 1),
+        ("several faults", several, 12),
+        ("damaged texts", damaged, 60),
+        ("entries and uses drawn word by word", drawn, 120),
+        ("each byte damaged", each_byte, 1),
+        ("limits", limits, 6),
+        ("lent sizes", lent_sizes, 1),
+        ("rows of rules", rows, 2),
+        ("sums in postfix order", sums, 3),
+    ];
+
+    fn tally(&mut self) -> &mut Tally {
+        &mut self.tally
+    }
+
+    fn report(&mut self, least: u64) {
+        self.tally.demand_numbers(least, "answer", &[0, 1, 2, 3, 4, 5, 6, 7, 8, 9, 20, 45]);
+        self.tally.demand_numbers(least, "rows", &[0, 2, 9, 20, 45]);
+        self.tally.demand(least, ["finishing 0", "finishing 1"]);
+        self.tally.demand(least, ["section false, used false", "section true, used false", "section true, used true"]);
+        self.tally.demand(least, FREE.map(|name| format!("`{name}`")));
+        self.tally.demand_numbers(least, "drawn", &[0, 2, 3, 4, 5, 9, 45]);
+        self.tally.demand_numbers(least, "planted", &[2, 3, 4, 5, 6, 7, 8, 9, 45]);
+        let sides = ["rules", "names", "labels"].iter().flat_map(|name| [-1, 0, 1].map(|side| format!("{name} {side}")));
+        self.tally.demand(least, sides);
+        self.tally.demand(least, [0, 1, 2, 3].map(|limits| format!("{limits} limits passed")));
+        let levels = (1..=HIGHEST).flat_map(|level| ["left", "right"].map(|side| format!("level {level} {side}")));
+        self.tally.demand(least, levels);
+        self.tally.demand_numbers(least, "sum", &[0, 30, 33]);
+    }
+}
 
 fn main() -> ExitCode {
-    let Some(options) = Options::read(SEEDS) else { return Options::usage("compare_operators") };
-    let mut h = Harness {
-        processor: ffi::processor().unwrap_or(&Reference),
-        rows: ffi::figures().unwrap_or(&Reference),
-        walker: ffi::library().unwrap_or(&ffi::Plain),
-        exact: options.exact,
-        tally: Tally::default(),
-    };
-    println!("rust against {}, walks of {}", h.processor.name(), h.walker.name());
-    harness::run(&mut h, &GROUPS, &options);
-    let least = options.least();
-    let numbers: [u16; 12] = [0, 1, 2, 3, 4, 5, 6, 7, 8, 9, 20, 45];
-    h.tally.demand(least, &numbers.map(|number| format!("answer {number}")));
-    h.tally.demand(least, &[0, 2, 9, 20, 45].map(|number| format!("rows {number}")));
-    h.tally.demand(least, &["finishing 0", "finishing 1"].map(str::to_string));
-    h.tally
-        .demand(least, &["section false, used false", "section true, used false", "section true, used true"].map(str::to_string));
-    h.tally.demand(least, &FREE.map(|name| format!("`{name}`")));
-    h.tally.demand(least, &[0, 2, 3, 4, 5, 9, 45].map(|number| format!("drawn {number}")));
-    h.tally.demand(least, &[2, 3, 4, 5, 6, 7, 8, 9, 45].map(|number| format!("planted {number}")));
-    let sides = ["rules", "names", "labels"].iter().flat_map(|name| [-1, 0, 1].map(|side| format!("{name} {side}")));
-    h.tally.demand(least, &sides.collect::<Vec<String>>());
-    h.tally.demand(least, &[0, 1, 2, 3].map(|limits| format!("{limits} limits passed")));
-    let levels = (1..=HIGHEST).flat_map(|level| ["left", "right"].map(|side| format!("level {level} {side}")));
-    h.tally.demand(least, &levels.collect::<Vec<String>>());
-    h.tally.demand(least, &[0, 30, 33].map(|number| format!("sum {number}")));
-    h.tally.end()
+    harness::main("compare_operators", SEEDS, |exact| {
+        let h = Harness {
+            processor: ffi::processor().unwrap_or(&Reference),
+            rows: ffi::figures().unwrap_or(&Reference),
+            walker: ffi::library().unwrap_or(&ffi::Plain),
+            exact,
+            tally: Tally::default(),
+        };
+        println!("rust against {}, walks of {}", h.processor.name(), h.walker.name());
+        h
+    })
 }

@@ -13,7 +13,7 @@ use reference::choosers;
 use reference::faults;
 use reference::ffi;
 use reference::figures::visits;
-use reference::harness::{self, Compares, Group, Lent, Options, Tally};
+use reference::harness::{self, Compares, Group, Lent, Tally};
 use reference::limits::{self, LIMITS};
 use reference::processor::{self, MAX_TABLE, resolve};
 use reference::programs;
@@ -67,12 +67,6 @@ struct Harness {
     towers: Nearest,
 }
 
-impl Compares for Harness {
-    fn tally(&mut self) -> &mut Tally {
-        &mut self.tally
-    }
-}
-
 /// A text, escaped so that it can be read, cut where it is long.
 fn shown(text: &[u8]) -> String {
     format!("  text of {} bytes: \"{}\"", text.len(), text[..text.len().min(4_000)].escape_ascii())
@@ -81,16 +75,15 @@ fn shown(text: &[u8]) -> String {
 impl Harness {
     /// Compares one call on both sides, the lent bytes being random; what this crate's processor answers.
     fn check(&mut self, rng: &mut Rng, text: &[u8], size: usize) -> Measured {
-        let lent_text = Lent::new(rng, text, self.exact);
-        let mut lent = Lent::random(rng, size, self.exact);
-        let mut mine = lent.before().to_vec();
-        let done = Reference.measure(text, &mut mine);
-        let theirs = self.other.measure(lent_text.bytes(), lent.bytes_mut());
-        let same = done == theirs && lent.is(&mine) && lent_text.kept();
-        self.tally.expect(same, || {
-            let differ = if lent.is(&mine) { "" } else { "; the lent bytes differ" };
-            format!("  {size} bytes lent\n  rust:  {done:?}\n  other: {theirs:?}{differ}\n{}", shown(text))
-        });
+        let read = Lent::new(rng, text, self.exact);
+        let mut table = Lent::random(rng, size, self.exact);
+        let done = self.tally.both(
+            [self.other, &Reference],
+            &[&read],
+            &mut table,
+            |side, table| side.measure(read.bytes(), table),
+            || shown(text),
+        );
         self.tally.met(format!("answer {}", done.processed.number));
         if done.processed.number == 0 {
             let sort = match done {
@@ -281,7 +274,7 @@ fn deep_nests(h: &mut Harness, rng: &mut Rng) {
     let text = chains::nest(seed, depth);
     let done = h.check(rng, &text, LARGEST);
     if done.figure > 0 && depth == 32 {
-        h.tally.met("depth 32 with a figure".to_string());
+        h.tally.met("depth 32 with a figure");
     }
 }
 
@@ -320,38 +313,46 @@ fn tower(h: &mut Harness, rng: &mut Rng, (deep, long, many): (usize, usize, usiz
     h.towers.take(steps, long as u64, &feed, &text);
 }
 
-const GROUPS: [Group<Harness>; 10] = [
-    ("good programs", good_programs, 40),
-    ("programs rich in choice rules", choice_rules, 60),
-    ("large programs", large, 1),
-    ("refused texts", refused, 10),
-    ("limits", around_limits, 1),
-    ("chains of calls", chains_of_calls, 2),
-    ("chains past every number", endless_chains, 1),
-    ("deep nests", deep_nests, 6),
-    ("slow walks", slow_walks, 4),
-    ("towers", towers, 2),
-];
+impl Compares for Harness {
+    type Source = Rng;
+
+    const GROUPS: &'static [Group<Harness>] = &[
+        ("good programs", good_programs, 40),
+        ("programs rich in choice rules", choice_rules, 60),
+        ("large programs", large, 1),
+        ("refused texts", refused, 10),
+        ("limits", around_limits, 1),
+        ("chains of calls", chains_of_calls, 2),
+        ("chains past every number", endless_chains, 1),
+        ("deep nests", deep_nests, 6),
+        ("slow walks", slow_walks, 4),
+        ("towers", towers, 2),
+    ];
+
+    fn tally(&mut self) -> &mut Tally {
+        &mut self.tally
+    }
+
+    fn report(&mut self, least: u64) {
+        tower(self, &mut Rng::new(0, 0), TOWER, 0);
+        self.tally.demand_numbers(least, "answer", &[0, 1, 2, 3, 4, 5, 6, 7, 8, 9, 20]);
+        let paths = (GREATEST - 2..=GREATEST + 2).map(|figure| format!("a path of {figure}"));
+        let things = ["a figure", "not finishing", "47", "depth 32 with a figure", "figure walked"].map(str::to_string);
+        self.tally.demand(least, things.into_iter().chain(paths));
+        self.tally.demand_numbers(1, "walk", &[0, 22, 30, 31, 32, 33, 34]);
+        println!("figures that no slow walk did: {}", self.tally.times("figure not walked"));
+        for (name, Nearest { ratio, of }) in [("generated programs", &self.generated), ("towers", &self.towers)] {
+            println!("{name}, the most steps for a figure and a stretch: {ratio:.3} of {BOUND} ({of})");
+        }
+    }
+}
 
 fn main() -> ExitCode {
-    let Some(options) = Options::read(SEEDS) else { return Options::usage("compare_quiet") };
-    let other = ffi::measurer().unwrap_or(&Reference);
-    let walker = ffi::library().unwrap_or(&ffi::Plain);
-    println!("rust against {}, walks of {}", other.name(), walker.name());
-    let walkers: Vec<&'static dyn Side> = vec![&Reference, walker];
-    let (generated, towers) = (Nearest::default(), Nearest::default());
-    let mut h = Harness { other, walkers, exact: options.exact, tally: Tally::default(), generated, towers };
-    harness::run(&mut h, &GROUPS, &options);
-    tower(&mut h, &mut Rng::new(0, 0), TOWER, 0);
-    let numbers = [0, 1, 2, 3, 4, 5, 6, 7, 8, 9, 20].map(|number| format!("answer {number}"));
-    h.tally.demand(options.least(), &numbers);
-    let paths = (GREATEST - 2..=GREATEST + 2).map(|figure| format!("a path of {figure}"));
-    let things = ["a figure", "not finishing", "47", "depth 32 with a figure", "figure walked"].map(str::to_string);
-    h.tally.demand(options.least(), &things.into_iter().chain(paths).collect::<Vec<_>>());
-    h.tally.demand(1, &[0, 22, 30, 31, 32, 33, 34].map(|number| format!("walk {number}")));
-    println!("figures that no slow walk did: {}", h.tally.times("figure not walked"));
-    for (name, Nearest { ratio, of }) in [("generated programs", &h.generated), ("towers", &h.towers)] {
-        println!("{name}, the most steps for a figure and a stretch: {ratio:.3} of {BOUND} ({of})");
-    }
-    h.tally.end()
+    harness::main("compare_quiet", SEEDS, |exact| {
+        let other = ffi::measurer().unwrap_or(&Reference);
+        let walker = ffi::library().unwrap_or(&ffi::Plain);
+        println!("rust against {}, walks of {}", other.name(), walker.name());
+        let (generated, towers) = (Nearest::default(), Nearest::default());
+        Harness { other, walkers: vec![&Reference, walker], exact, tally: Tally::default(), generated, towers }
+    })
 }

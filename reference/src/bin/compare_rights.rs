@@ -10,12 +10,11 @@ use std::process::ExitCode;
 use reference::crowded;
 use reference::ffi;
 use reference::files::{Files, Loaded, words};
-use reference::harness::{self, Compares, Group, Lent, Options, Tally};
+use reference::harness::{self, Compares, Group, Lent, Tally};
 use reference::random::{self, Rng};
 use reference::rights::{Admitted, Rights, granted};
-use reference::side::{Inputs, Processor, Reference, Side};
+use reference::side::{Processor, Reference, Side};
 use reference::tables::bytes;
-use reference::walker::{WALK_BYTES, Walk};
 
 const SEEDS: u64 = 1_000;
 /// The bytes that name all operations.
@@ -29,12 +28,6 @@ struct Harness {
     walker: &'static dyn Side,
     exact: bool,
     tally: Tally,
-}
-
-impl Compares for Harness {
-    fn tally(&mut self) -> &mut Tally {
-        &mut self.tally
-    }
 }
 
 impl Harness {
@@ -59,16 +52,15 @@ impl Harness {
     /// Compares one loading with admission.
     fn load(&mut self, rng: &mut Rng, file: &[u8], set: &[u8], size: usize) -> (Loaded, u64) {
         let (file, set) = (Lent::new(rng, file, self.exact), Lent::new(rng, set, self.exact));
-        let mut lent = Lent::random(rng, size, self.exact);
-        let mut mine = lent.before().to_vec();
-        let done = Reference.load_admitted(file.bytes(), set.bytes(), &mut mine);
-        let theirs = self.other.load_admitted(file.bytes(), set.bytes(), lent.bytes_mut());
-        let same = done == theirs && lent.is(&mine) && file.kept() && set.kept();
-        self.tally.expect(same, || {
-            let table = if lent.is(&mine) { "" } else { "; the lent tables differ" };
-            let given = format!("  file {:?}\n  set {:?}", words(file.bytes()), set.bytes());
-            format!("  {size} bytes lent\n  rust:  {done:?}\n  other: {theirs:?}{table}\n{given}")
-        });
+        let mut table = Lent::random(rng, size, self.exact);
+        let given = || format!("  file {:?}\n  set {:?}", words(file.bytes()), set.bytes());
+        let done = self.tally.both(
+            [self.other, &Reference],
+            &[&file, &set],
+            &mut table,
+            |side, table| side.load_admitted(file.bytes(), set.bytes(), table),
+            given,
+        );
         self.tally.met(format!("load {}", done.0.number));
         done
     }
@@ -76,35 +68,11 @@ impl Harness {
     /// Walks a table that was admitted: no event of an operation outside the set.
     fn walk(&mut self, rng: &mut Rng, table: &[u8], set: &[u8]) {
         let granted = granted(set);
-        let (tokens, answers) = random::lead(rng, table);
-        let (tokens, answer_bytes) = (bytes(&tokens), bytes(&answers));
-        let inputs = Inputs { table, tokens: &tokens, answers: &answer_bytes };
-        let (pauses, allowance) = (rng.once_in(2), rng.pick(&[0, 0, 2, 30]));
-        let mut walk = vec![0; WALK_BYTES];
-        self.walker.fresh(&mut walk, allowance);
-        let mut number = 36;
-        for _ in 0..CALLS {
-            let mut events = vec![0; 6 * rng.below(60)];
-            let budget = rng.within(1, 200) as u64;
-            let done = if pauses {
-                let used = Walk::decode(&walk).map_or(0, |walk| walk.used as usize);
-                let answer = answers.get(used).copied().unwrap_or_else(|| random::answer(rng));
-                self.walker.paused(inputs, u16::from(number == 22), answer, budget, &mut walk, &mut events)
-            } else {
-                self.walker.whole(inputs, budget, &mut walk, &mut events)
-            };
-            number = done.number;
-            for event in words(&events).as_chunks::<3>().0.iter().take(done.written as usize) {
-                if event[0] == 3 {
-                    let fine = granted.contains(&event[1]);
-                    self.tally
-                        .expect(fine, || format!("  the event {event:?} is written\n  table {:?}\n  set {set:?}", words(table)));
-                    self.tally.met("operation walked".to_string());
-                }
-            }
-            if !matches!(number, 22 | 35 | 36) {
-                break;
-            }
+        let (number, events) = harness::walk(rng, self.walker, table, &[0, 0, 2, 30], CALLS);
+        for event in events.iter().filter(|event| event[0] == 3) {
+            let fine = granted.contains(&event[1]);
+            self.tally.expect(fine, || format!("  the event {event:?} is written\n  table {:?}\n  set {set:?}", words(table)));
+            self.tally.met("operation walked");
         }
         self.tally.expect(number != 37, || format!("  a walk over an admitted table gives 37\n  table {:?}", words(table)));
     }
@@ -198,7 +166,7 @@ fn unreachable(h: &mut Harness, rng: &mut Rng) {
     ];
     for table in tables {
         h.answers(rng, table, &[], Admitted { number: 0, location: 0 });
-        h.tally.met("unreachable".to_string());
+        h.tally.met("unreachable");
     }
 }
 
@@ -237,7 +205,7 @@ fn tables(h: &mut Harness, rng: &mut Rng) {
     h.tally.expect(more.number == 0, || format!("  a larger set turns the table away: {more:?}\n  {table:?}\n  {set:?}"));
     if rng.once_in(3) {
         h.walk(rng, &lent, &set);
-        h.tally.met("walk".to_string());
+        h.tally.met("walk");
     }
 }
 
@@ -286,33 +254,42 @@ fn large(h: &mut Harness, rng: &mut Rng) {
     h.tally.met(format!("{size} words"));
 }
 
-const GROUPS: [Group<Harness>; 6] = [
-    ("each operation withheld", withheld, 1),
-    ("sets cut at every byte", cut_sets, 1),
-    ("words where nothing leads", unreachable, 1),
-    ("tables and sets", tables, 60),
-    ("loading and admission", loading, 20),
-    ("large tables", large, 2),
-];
+impl Compares for Harness {
+    type Source = Rng;
+
+    const GROUPS: &'static [Group<Harness>] = &[
+        ("each operation withheld", withheld, 1),
+        ("sets cut at every byte", cut_sets, 1),
+        ("words where nothing leads", unreachable, 1),
+        ("tables and sets", tables, 60),
+        ("loading and admission", loading, 20),
+        ("large tables", large, 2),
+    ];
+
+    fn tally(&mut self) -> &mut Tally {
+        &mut self.tally
+    }
+
+    fn report(&mut self, least: u64) {
+        self.tally.demand_numbers(least, "admit", &[0, 41, 48]);
+        self.tally.demand_numbers(least, "load", &[0, 40, 20, 41, 48]);
+        self.tally.demand_numbers(least, "withheld", &[256, 257, 258, 512, 513, 514, 768, 769, 770, 1_024, 1_025, 1_026]);
+        self.tally.demand(least, [0, 1, 127, 128, 129].map(|size| format!("set of {size} bytes")));
+        self.tally.demand(least, [4_094, 4_095, 4_096, 4_097, 4_098].map(|size| format!("{size} words")));
+        self.tally.demand(least, ["unreachable", "walk", "operation walked"]);
+    }
+}
 
 fn main() -> ExitCode {
-    let Some(options) = Options::read(SEEDS) else { return Options::usage("compare_rights") };
-    let mut h = Harness {
-        other: ffi::rights().unwrap_or(&Reference),
-        processor: ffi::processor().unwrap_or(&Reference),
-        walker: ffi::library().unwrap_or(&ffi::Plain),
-        exact: options.exact,
-        tally: Tally::default(),
-    };
-    println!("rust against {}, walks of {}", h.other.name(), h.walker.name());
-    harness::run(&mut h, &GROUPS, &options);
-    let named =
-        |kind: &str, numbers: &[u16]| -> Vec<String> { numbers.iter().map(|number| format!("{kind} {number}")).collect() };
-    h.tally.demand(options.least(), &named("admit", &[0, 41, 48]));
-    h.tally.demand(options.least(), &named("load", &[0, 40, 20, 41, 48]));
-    h.tally.demand(options.least(), &named("withheld", &[256, 257, 258, 512, 513, 514, 768, 769, 770, 1_024, 1_025, 1_026]));
-    h.tally.demand(options.least(), &[0, 1, 127, 128, 129].map(|size| format!("set of {size} bytes")));
-    h.tally.demand(options.least(), &[4_094, 4_095, 4_096, 4_097, 4_098].map(|size| format!("{size} words")));
-    h.tally.demand(options.least(), &["unreachable", "walk", "operation walked"].map(str::to_string));
-    h.tally.end()
+    harness::main("compare_rights", SEEDS, |exact| {
+        let h = Harness {
+            other: ffi::rights().unwrap_or(&Reference),
+            processor: ffi::processor().unwrap_or(&Reference),
+            walker: ffi::library().unwrap_or(&ffi::Plain),
+            exact,
+            tally: Tally::default(),
+        };
+        println!("rust against {}, walks of {}", h.other.name(), h.walker.name());
+        h
+    })
 }

@@ -10,7 +10,7 @@ use std::process::ExitCode;
 
 use reference::ffi;
 use reference::files::words;
-use reference::harness::{self, Compares, Group, Lent, Options, Tally};
+use reference::harness::{self, Compares, Group, Lent, Tally};
 use reference::processor::{Program, resolve};
 use reference::programs;
 use reference::random::{self, Rng};
@@ -98,12 +98,6 @@ struct Harness {
     processor: &'static dyn Processor,
     exact: bool,
     tally: Tally,
-}
-
-impl Compares for Harness {
-    fn tally(&mut self) -> &mut Tally {
-        &mut self.tally
-    }
 }
 
 impl Harness {
@@ -504,7 +498,7 @@ fn accepted(h: &mut Harness, rng: &mut Rng) {
             format!("{rules}{}  text \"{}\"", shown(&turn, &screen), text.escape_ascii())
         });
         if done.number == 22 && reader.answers.len() as u64 == own.used {
-            h.tally.met("waits past the last answer".to_string());
+            h.tally.met("waits past the last answer");
         }
         h.tally.met(format!("program {}", done.number));
     }
@@ -578,43 +572,51 @@ fn side_by_side(h: &mut Harness, rng: &mut Rng) {
     }
 }
 
-const GROUPS: [Group<Harness>; 5] = [
-    ("turns and refills in any order", orders, 20),
-    ("halves that are no walk", halves, 10),
-    ("other lengths and books", lengths, 10),
-    ("accepted programs against the rules' own walk", accepted, 12),
-    ("two runs side by side", side_by_side, 20),
-];
+impl Compares for Harness {
+    type Source = Rng;
+
+    const GROUPS: &'static [Group<Harness>] = &[
+        ("turns and refills in any order", orders, 20),
+        ("halves that are no walk", halves, 10),
+        ("other lengths and books", lengths, 10),
+        ("accepted programs against the rules' own walk", accepted, 12),
+        ("two runs side by side", side_by_side, 20),
+    ];
+
+    fn tally(&mut self) -> &mut Tally {
+        &mut self.tally
+    }
+
+    fn report(&mut self, least: u64) {
+        self.tally.demand_numbers(least, "whole", &[0, 21, 30, 31, 32, 33, 34, 35, 36, 37]);
+        self.tally.demand_numbers(least, "paused", &[0, 21, 22, 30, 31, 32, 33, 34, 35, 36, 37]);
+        self.tally.demand_numbers(least, "refill", &[0, 21]);
+        self.tally.demand_numbers(least, "fresh", &[0, 21]);
+        self.tally.demand_numbers(least, "program", &[0, 22, 30, 31, 32, 33, 34, 35, 36]);
+        self.tally.demand_numbers(least, "book", &[0, 1, 2, 65_535]);
+        self.tally.demand(least, (0..=20).map(|size| format!("buffer of {size}")));
+        let sorts = ["0", "1", "small", "large", "2^64 - 1"];
+        self.tally.demand(least, sorts.map(|sort| format!("left {sort}")));
+        self.tally.demand(least, sorts.map(|sort| format!("turn with left {sort}")));
+        let both = [(true, true), (true, false), (false, true), (false, false)];
+        self.tally.demand(least, both.map(|(this, other)| format!("this half {this}, the other {other}")));
+        self.tally.demand(least, both.map(|(length, book)| format!("length {length}, book {book}")));
+        self.tally.demand(least, ["waits past the last answer"]);
+        self.tally.demand_numbers(least, "in two runs", &[0, 21, 22, 30, 31, 32, 33, 34, 35, 36, 37]);
+        self.tally.demand(least, ["the other half differs true"]);
+    }
+}
 
 fn main() -> ExitCode {
-    let Some(options) = Options::read(SEEDS) else { return Options::usage("compare_screen") };
-    let mut h = Harness {
-        other: ffi::screens().unwrap_or(&Reference),
-        walker: ffi::library().unwrap_or(&ffi::Plain),
-        processor: ffi::processor().unwrap_or(&Reference),
-        exact: options.exact,
-        tally: Tally::default(),
-    };
-    println!("rust against {}, calls alone of {}", h.other.name(), h.walker.name());
-    harness::run(&mut h, &GROUPS, &options);
-    let least = options.least();
-    let named =
-        |kind: &str, numbers: &[u16]| -> Vec<String> { numbers.iter().map(|number| format!("{kind} {number}")).collect() };
-    h.tally.demand(least, &named("whole", &[0, 21, 30, 31, 32, 33, 34, 35, 36, 37]));
-    h.tally.demand(least, &named("paused", &[0, 21, 22, 30, 31, 32, 33, 34, 35, 36, 37]));
-    h.tally.demand(least, &named("refill", &[0, 21]));
-    h.tally.demand(least, &named("fresh", &[0, 21]));
-    h.tally.demand(least, &named("program", &[0, 22, 30, 31, 32, 33, 34, 35, 36]));
-    h.tally.demand(least, &named("book", &[0, 1, 2, 65_535]));
-    h.tally.demand(least, &(0..=20).map(|size| format!("buffer of {size}")).collect::<Vec<_>>());
-    let sorts = ["0", "1", "small", "large", "2^64 - 1"];
-    h.tally.demand(least, &sorts.map(|sort| format!("left {sort}")));
-    h.tally.demand(least, &sorts.map(|sort| format!("turn with left {sort}")));
-    let both = [(true, true), (true, false), (false, true), (false, false)];
-    h.tally.demand(least, &both.map(|(this, other)| format!("this half {this}, the other {other}")));
-    h.tally.demand(least, &both.map(|(length, book)| format!("length {length}, book {book}")));
-    h.tally.demand(least, &["waits past the last answer".to_string()]);
-    h.tally.demand(least, &named("in two runs", &[0, 21, 22, 30, 31, 32, 33, 34, 35, 36, 37]));
-    h.tally.demand(least, &["the other half differs true".to_string()]);
-    h.tally.end()
+    harness::main("compare_screen", SEEDS, |exact| {
+        let h = Harness {
+            other: ffi::screens().unwrap_or(&Reference),
+            walker: ffi::library().unwrap_or(&ffi::Plain),
+            processor: ffi::processor().unwrap_or(&Reference),
+            exact,
+            tally: Tally::default(),
+        };
+        println!("rust against {}, calls alone of {}", h.other.name(), h.walker.name());
+        h
+    })
 }

@@ -13,6 +13,7 @@ use reference::before;
 use reference::choosers;
 use reference::faults::{self, Fault};
 use reference::ffi;
+use reference::harness::{self, Compares, Group, Lent, Tally};
 use reference::limits::{self, LIMITS};
 use reference::pairs::{self, BESIDE, Case, Limit, Sample};
 use reference::processor::resolve;
@@ -24,8 +25,6 @@ use reference::texts::{self, Seed, VOCABULARY, Words};
 use reference::walker::{WALK_BYTES, Walk};
 
 const SEEDS: u64 = 900;
-/// Mismatches that are shown in full.
-const SHOWN: u64 = 10;
 /// Lent bytes for the largest table.
 const LARGEST: usize = 2 * 4_096;
 /// The steps that the rules' own walk may do; the table of a rule step has at most three instructions.
@@ -48,12 +47,13 @@ struct Harness {
     processor: &'static dyn Processor,
     walker: &'static dyn Side,
     exact: bool,
-    group: &'static str,
-    first: u64,
-    seed: u64,
-    passed: u64,
-    failed: u64,
-    shown: u64,
+    tally: Tally,
+    met: Met,
+}
+
+/// How often things were met.
+#[derive(Default)]
+struct Met {
     numbers: Counts<u16>,
     verdicts: Counts<u64>,
     /// The verdicts of programs rich in choice rules, with those before returned values were looked at.
@@ -75,69 +75,30 @@ struct Harness {
     used_up: u64,
 }
 
-/// The bytes that a slice lies in, between others that do harm if they are read or written.
-struct Lent {
-    all: Vec<u8>,
-    from: usize,
-    to: usize,
-}
-
-impl Lent {
-    fn new(contents: &[u8], guard: &[u8], exact: bool) -> Lent {
-        let (before, after): (&[u8], &[u8]) = if exact { (&[], &[]) } else { (guard, b" ; end 'x' % \n{[|") };
-        let mut all = Vec::with_capacity(before.len() + contents.len() + after.len());
-        all.extend_from_slice(before);
-        all.extend_from_slice(contents);
-        all.extend_from_slice(after);
-        Lent { from: before.len(), to: before.len() + contents.len(), all }
-    }
-
-    fn bytes(&self) -> &[u8] {
-        &self.all[self.from..self.to]
-    }
-
-    fn bytes_mut(&mut self) -> &mut [u8] {
-        &mut self.all[self.from..self.to]
-    }
-}
-
 impl Harness {
-    fn expect(&mut self, holds: bool, text: impl FnOnce() -> String) {
-        if holds {
-            self.passed += 1;
-            return;
-        }
-        self.failed += 1;
-        self.shown += 1;
-        if self.shown <= SHOWN {
-            println!("mismatch in {}, seed {}\n{}", self.group, self.seed, text());
-        }
+    /// Bytes between others that do harm if they are read or written.
+    fn lent(&self, contents: &[u8], guard: &[u8]) -> Lent {
+        let (before, after): (&[u8], &[u8]) = if self.exact { (&[], &[]) } else { (guard, b" ; end 'x' % \n{[|") };
+        Lent::between(before, contents, after)
     }
 
     /// Compares one call on both sides, the lent bytes being random; what this crate's processor answers.
     fn check(&mut self, seed: &mut Seed, text: &[u8], size: usize) -> Processed {
-        let mut mine = vec![0; size];
-        seed.fill(&mut mine);
+        let mut random = vec![0; size];
+        seed.fill(&mut random);
         let guard = &b"rules M:"[seed.below(2)..];
-        let lent_text = Lent::new(text, guard, self.exact);
-        let mut lent = Lent::new(&mine, &guard[seed.below(2)..], self.exact);
-        let (text_before, mut wanted) = (lent_text.all.clone(), lent.all.clone());
-        let done = Reference.process(text, &mut mine);
-        wanted[lent.from..lent.to].copy_from_slice(&mine);
-        let theirs = self.processor.process(lent_text.bytes(), lent.bytes_mut());
-        let same = done == theirs && lent.all == wanted && lent_text.all == text_before;
-        self.expect(same, || {
-            let place = lent.all.iter().zip(&wanted).position(|(a, b)| a != b);
-            let changed = if lent_text.all == text_before { "" } else { "; the text was written to" };
-            let place = place.map_or(String::new(), |place| {
-                let from = lent.from;
-                format!("; lent byte {} is {}, not {}", place as i64 - from as i64, lent.all[place], wanted[place])
-            });
-            format!("  {size} bytes lent\n  rust:  {done:?}\n  other: {theirs:?}{place}{changed}\n{}", shown(text))
-        });
-        count(&mut self.numbers, done.number);
+        let read = self.lent(text, guard);
+        let mut table = self.lent(&random, &guard[seed.below(2)..]);
+        let done = self.tally.both(
+            [self.processor, &Reference],
+            &[&read],
+            &mut table,
+            |side, table| side.process(read.bytes(), table),
+            || shown(text),
+        );
+        count(&mut self.met.numbers, done.number);
         if done.number == 0 {
-            count(&mut self.verdicts, done.finishing);
+            count(&mut self.met.verdicts, done.finishing);
         }
         done
     }
@@ -167,7 +128,7 @@ fn programs(h: &mut Harness, seed: &mut Seed) {
         let words = texts::good(seed, size);
         let text = texts::join(seed, &words);
         let done = h.check(seed, &text, LARGEST);
-        h.expect(done.number == 0, || format!("a good program is refused: {done:?}\n{}", shown(&text)));
+        h.tally.expect(done.number == 0, || format!("a good program is refused: {done:?}\n{}", shown(&text)));
     }
 }
 
@@ -200,8 +161,8 @@ fn planted(h: &mut Harness, seed: &mut Seed) {
         let Fault { number, text, start, len } = faults::plant(seed, sort);
         let done = h.check_any(seed, &text);
         let wanted = Processed { number, start: start as u64, len: len as u64, words: 0, finishing: 0 };
-        h.expect(done == wanted, || format!("  planted {wanted:?}\n  found {done:?}\n{}", shown(&text)));
-        count(&mut h.planted, number);
+        h.tally.expect(done == wanted, || format!("  planted {wanted:?}\n  found {done:?}\n{}", shown(&text)));
+        count(&mut h.met.planted, number);
     }
     // 20 is planted by the buffer.
     let words = texts::good(seed, 20);
@@ -210,8 +171,8 @@ fn planted(h: &mut Harness, seed: &mut Seed) {
     let room = 2 * seed.below(words) + seed.below(2);
     let done = h.check(seed, &text, room);
     let wanted = Processed { number: 20, start: text.len() as u64, len: 0, words: 0, finishing: 0 };
-    h.expect(done == wanted, || format!("  planted {wanted:?}\n  found {done:?}\n{}", shown(&text)));
-    count(&mut h.planted, 20);
+    h.tally.expect(done == wanted, || format!("  planted {wanted:?}\n  found {done:?}\n{}", shown(&text)));
+    count(&mut h.met.planted, 20);
 }
 
 /// Several faults in one text: the one that comes first counts.
@@ -244,18 +205,14 @@ fn small(seed: &mut Seed) -> Words {
 
 /// Each byte of a text in turn left out, put in twice, replaced, and the text ended before it.
 fn each_byte(h: &mut Harness, seed: &mut Seed) {
-    if !h.seed.is_multiple_of(4) {
+    if !h.tally.seed().is_multiple_of(4) {
         return;
     }
     let words = small(seed);
     let text = texts::join(seed, &words);
     for at in 0..text.len() {
         let byte = *seed.of(b"'%_$\n\r\t \0\"\\+<>!*:;|aZ09\x0c\xff=(),.#@?[]{}");
-        let bits = text[at] ^ (1 << seed.below(8));
-        h.check_any(seed, &text[..at]);
-        for (to, with) in [(at + 1, vec![]), (at, vec![text[at]]), (at, vec![byte]), (at + 1, vec![byte]), (at + 1, vec![bits])] {
-            let mut text = text.clone();
-            text.splice(at..to, with);
+        for text in texts::damaged_at(&text, at, byte, seed.below(8)) {
             h.check_any(seed, &text);
         }
     }
@@ -263,7 +220,7 @@ fn each_byte(h: &mut Harness, seed: &mut Seed) {
 
 /// Each word of a text in turn left out, put in twice, exchanged with the next, replaced, and the text ended before it.
 fn each_word(h: &mut Harness, seed: &mut Seed) {
-    if !h.seed.is_multiple_of(2) {
+    if !h.tally.seed().is_multiple_of(2) {
         return;
     }
     let words = small(seed);
@@ -309,7 +266,7 @@ fn random(h: &mut Harness, seed: &mut Seed) {
         let text = texts::join(seed, &words);
         h.check_any(seed, &text);
     }
-    if h.seed.is_multiple_of(16) {
+    if h.tally.seed().is_multiple_of(16) {
         let mut text = vec![0; seed.within(32_700, 32_900)];
         seed.fill(&mut text);
         h.check_any(seed, &text);
@@ -324,9 +281,9 @@ fn around_limits(h: &mut Harness, seed: &mut Seed) {
             let done = h.check(seed, &sample.text, size);
             let number = sample.number.unwrap_or(0);
             let amount = sample.amount;
-            h.expect(done.number == number, || format!("  {name}, {amount} of {most}: {done:?}\n{}", shown(&sample.text)));
+            h.tally.expect(done.number == number, || format!("  {name}, {amount} of {most}: {done:?}\n{}", shown(&sample.text)));
             if done.number == number {
-                count(&mut h.limits, (limit, (amount as isize - most as isize).min(2)));
+                count(&mut h.met.limits, (limit, (amount as isize - most as isize).min(2)));
             }
         }
     }
@@ -335,26 +292,26 @@ fn around_limits(h: &mut Harness, seed: &mut Seed) {
 /// One of the texts with two limits passed, or one passed beside another fault.
 fn pair(h: &mut Harness, seed: &mut Seed, case: &Case, sample: &Sample) {
     let Sample { text, planted, passed, beside } = sample;
-    let failed = h.failed;
+    let failed = h.tally.failed();
     let size = LARGEST + seed.below(6);
     let done = h.check(seed, text, size);
-    if h.failed > failed {
-        count(&mut h.differing, case.limits().join(" + "));
+    if h.tally.failed() > failed {
+        count(&mut h.met.differing, case.limits().join(" + "));
     }
     if let Some((number, start, len)) = *planted {
         let wanted = Processed { number, start: start as u64, len: len as u64, words: 0, finishing: 0 };
-        h.expect(done == wanted, || format!("  {passed:?}: {done:?}, not {wanted:?}\n{}", shown(text)));
+        h.tally.expect(done == wanted, || format!("  {passed:?}: {done:?}, not {wanted:?}\n{}", shown(text)));
         if done != wanted {
             return;
         }
     }
-    pairs::pairs(passed).into_iter().for_each(|pair| count(&mut h.pairs, pair));
-    beside.iter().for_each(|beside| count(&mut h.beside, *beside));
+    pairs::pairs(passed).into_iter().for_each(|pair| count(&mut h.met.pairs, pair));
+    beside.iter().for_each(|beside| count(&mut h.met.beside, *beside));
 }
 
 /// Entries and rules that pass two limits at once, or one beside a word that is at fault by itself. All of them, at some seeds.
 fn two_limits(h: &mut Harness, seed: &mut Seed) {
-    if !(h.seed - h.first).is_multiple_of(450) {
+    if !h.tally.seeds_before().is_multiple_of(450) {
         return;
     }
     for case in pairs::cases() {
@@ -367,13 +324,13 @@ fn two_limits(h: &mut Harness, seed: &mut Seed) {
 
 /// Texts that are far beyond a limit all through.
 fn beyond_limits(h: &mut Harness, seed: &mut Seed) {
-    if !h.seed.is_multiple_of(10) {
+    if !h.tally.seed().is_multiple_of(10) {
         return;
     }
     for (text, number) in limits::beyond() {
         for size in [LARGEST, 2 * 70_000] {
             let done = h.check(seed, &text, size);
-            h.expect(done.number == number, || format!("  {done:?}, not {number}\n{}", shown(&text)));
+            h.tally.expect(done.number == number, || format!("  {done:?}, not {number}\n{}", shown(&text)));
         }
     }
 }
@@ -396,7 +353,9 @@ fn lent_sizes(h: &mut Harness, seed: &mut Seed) {
     for size in sizes {
         let done = h.check(seed, &text, size);
         let fits = own > 0 && size / 2 * 2 >= own;
-        h.expect((done.number == 0) == fits, || format!("  {size} bytes lent for a table of {own}: {done:?}\n{}", shown(&text)));
+        h.tally.expect((done.number == 0) == fits, || {
+            format!("  {size} bytes lent for a table of {own}: {done:?}\n{}", shown(&text))
+        });
         let sort = match (size, size.cmp(&own)) {
             (0, _) => "none",
             (1, _) => "one byte",
@@ -407,7 +366,7 @@ fn lent_sizes(h: &mut Harness, seed: &mut Seed) {
             _ if size % 2 == 1 => "larger, odd",
             _ => "larger",
         };
-        count(&mut h.sizes, sort);
+        count(&mut h.met.sizes, sort);
     }
     // A refusal zeroes all words, however many.
     texts::damage(seed, &mut text);
@@ -479,7 +438,7 @@ fn table_walk(h: &mut Harness, seed: &mut Seed, feed: &Feed, own: &Own, pauses: 
         let answer = (run.number == 22).then(|| answers[used]);
         used += usize::from(answer.is_some());
         run.go(h.walker, inputs, pauses.then_some(answer), budget.min(left), size);
-        count(&mut h.walks, run.number);
+        count(&mut h.met.walks, run.number);
         // The rules' own walk writes an operation's event and takes its answer at once.
         let Some(walk) = Walk::decode(&run.walk) else { break };
         let now = (run.events.len() / 6 - usize::from(run.number == 22), walk.read, walk.used, walk.allowance);
@@ -497,7 +456,7 @@ fn table_walk(h: &mut Harness, seed: &mut Seed, feed: &Feed, own: &Own, pauses: 
     match own.end.reason {
         None => {
             agrees &= matches!(run.number, 22 | 35 | 36) && wanted.starts_with(&run.events);
-            h.endless += 1;
+            h.met.endless += 1;
         }
         Some(reason) => {
             if run.number == 22 {
@@ -510,12 +469,12 @@ fn table_walk(h: &mut Harness, seed: &mut Seed, feed: &Feed, own: &Own, pauses: 
             agrees &= run.events == wanted && run.steps <= most;
             agrees &= (walk.read, walk.used, walk.allowance) == (own.end.read, own.end.used, own.end.allowance);
             let repaired = own.end.allowance < allowance;
-            h.repaired += u64::from(repaired);
-            h.used_up += u64::from(repaired && reason == 30);
+            h.met.repaired += u64::from(repaired);
+            h.met.used_up += u64::from(repaired && reason == 30);
         }
     }
     wanted.truncate(120);
-    h.expect(agrees, || {
+    h.tally.expect(agrees, || {
         format!(
             "  pauses: {pauses}\n  rules: {:?} after {} steps, read {}, used {}, events {wanted:?}\n  table: {} after {} steps, read {}, used {}, \
              events {:?}\n  tokens {tokens:?}\n  answers {answers:?}\n{}",
@@ -552,15 +511,15 @@ fn walks(h: &mut Harness, seed: &mut Seed) {
         let done = h.processor.process(&text, &mut table);
         table.truncate(2 * done.words as usize);
         let Ok(program) = resolve(&text) else { continue };
-        h.expect(done.number == 0, || format!("a good program is refused: {done:?}\n{}", shown(&text)));
+        h.tally.expect(done.number == 0, || format!("a good program is refused: {done:?}\n{}", shown(&text)));
         for _ in 0..3 {
             let (tokens, answers) = texts::feed(seed, &program);
             let most = if done.finishing == 1 { RULE_STEPS } else { 40 * ENDLESS };
             let allowance = if seed.one_in(2) { 0 } else { seed.below(30) as u16 };
             let own = Own::new(&program, &tokens, &answers, allowance, most);
             if done.finishing == 1 {
-                h.expect(own.end.reason.is_some(), || format!("a finishing program does not stop\n{}", shown(&text)));
-                h.finished += 1;
+                h.tally.expect(own.end.reason.is_some(), || format!("a finishing program does not stop\n{}", shown(&text)));
+                h.met.finished += 1;
             }
             let feed = Feed { text: &text, table: &table, tokens: &tokens, answers: &answers, allowance };
             table_walk(h, seed, &feed, &own, false);
@@ -577,14 +536,14 @@ fn choice_rules(h: &mut Harness, seed: &mut Seed) {
         let text = choosers::text(&program).into_bytes();
         let done = h.check(seed, &text, 1_024);
         let (before, now) = (before::finishing(&program), done.finishing == 1);
-        h.expect(done.number == 0, || format!("a good program is refused: {done:?}\n{}", shown(&text)));
-        h.expect(now || !before, || format!("a program is no longer finishing\n{}", shown(&text)));
-        count(&mut h.choosers, (before, now));
+        h.tally.expect(done.number == 0, || format!("a good program is refused: {done:?}\n{}", shown(&text)));
+        h.tally.expect(now || !before, || format!("a program is no longer finishing\n{}", shown(&text)));
+        count(&mut h.met.choosers, (before, now));
         if now && !before && seed.one_in(4) {
             let (tokens, answers) = texts::feed(seed, &program);
             let allowance = seed.below(4) as u16;
             let end = rules::walk(&program, &tokens, &answers, allowance, RULE_STEPS);
-            h.expect(end.reason.is_some(), || format!("a finishing program does not stop\n{}", shown(&text)));
+            h.tally.expect(end.reason.is_some(), || format!("a finishing program does not stop\n{}", shown(&text)));
         }
     }
 }
@@ -595,52 +554,33 @@ fn large_choice_rules(h: &mut Harness, seed: &mut Seed) {
     let program = choosers::large(seed, slips);
     let text = choosers::text(&program).into_bytes();
     let done = h.check(seed, &text, LARGEST);
-    h.expect(matches!(done.number, 0 | 20), || format!("a good program is refused: {done:?}\n{}", shown(&text)));
-    h.expect(slips || done.number != 0 || done.finishing == 1, || format!("not finishing without a slip\n{}", shown(&text)));
+    h.tally.expect(matches!(done.number, 0 | 20), || format!("a good program is refused: {done:?}\n{}", shown(&text)));
+    h.tally
+        .expect(slips || done.number != 0 || done.finishing == 1, || format!("not finishing without a slip\n{}", shown(&text)));
     if done.number == 0 {
-        count(&mut h.large, (done.words > 2_048, done.finishing == 1));
+        count(&mut h.met.large, (done.words > 2_048, done.finishing == 1));
     }
 }
 
-/// A name, and a group of texts for a seed.
-type Group = (&'static str, fn(&mut Harness, &mut Seed));
-
-const GROUPS: [Group; 15] = [
-    ("good programs", programs),
-    ("large programs", large),
-    ("planted faults", planted),
-    ("several faults", several),
-    ("damaged texts", damaged),
-    ("each byte damaged", each_byte),
-    ("each word damaged", each_word),
-    ("random bytes and words", random),
-    ("limits", around_limits),
-    ("two limits at once", two_limits),
-    ("far beyond the limits", beyond_limits),
-    ("lent sizes", lent_sizes),
-    ("walks", walks),
-    ("choice rules", choice_rules),
-    ("large programs with choice rules", large_choice_rules),
-];
-
 /// Prints how often each thing was met, and fails for one that never was.
 fn report(h: &mut Harness) {
+    let met = &h.met;
     let mut never: Vec<String> = Vec::new();
-    let mut line = |head: &str, met: Vec<(String, u64)>| {
-        let items: Vec<String> = met.iter().map(|(name, times)| format!("{name} {times} times")).collect();
+    let mut line = |head: &str, things: Vec<(String, u64)>| {
+        let items: Vec<String> = things.iter().map(|(name, times)| format!("{name} {times} times")).collect();
         println!("{head}: {}", items.join(", "));
-        never.extend(met.into_iter().filter(|(_, times)| *times == 0).map(|(name, _)| format!("{head}: {name}")));
+        never.extend(things.into_iter().filter(|(_, times)| *times == 0).map(|(name, _)| format!("{head}: {name}")));
     };
     let times = |counts: &Counts<u16>, numbers: &[u16]| -> Vec<(String, u64)> {
         numbers.iter().map(|number| (number.to_string(), counts.get(number).copied().unwrap_or(0))).collect()
     };
-    line("answered", times(&h.numbers, &NUMBERS));
-    let verdict = |value: u64| h.verdicts.get(&value).copied().unwrap_or(0);
+    line("answered", times(&met.numbers, &NUMBERS));
+    let verdict = |value: u64| met.verdicts.get(&value).copied().unwrap_or(0);
     line("finishing", vec![("yes".to_string(), verdict(1)), ("no".to_string(), verdict(0))]);
-    let chooser = |before, now| h.choosers.get(&(before, now)).copied().unwrap_or(0);
+    let chooser = |before, now| met.choosers.get(&(before, now)).copied().unwrap_or(0);
     let both = [("yes", chooser(true, true)), ("no", chooser(false, false)), ("yes by returned values", chooser(false, true))];
     line("programs rich in choice rules", both.map(|(name, times)| (name.to_string(), times)).to_vec());
-    let large = |size, now| h.large.get(&(size, now)).copied().unwrap_or(0);
+    let large = |size, now| met.large.get(&(size, now)).copied().unwrap_or(0);
     let sizes = [
         ("yes", large(false, true)),
         ("no", large(false, false)),
@@ -648,31 +588,34 @@ fn report(h: &mut Harness) {
         ("large, no", large(true, false)),
     ];
     line("programs with up to 127 choice rules", sizes.map(|(name, times)| (name.to_string(), times)).to_vec());
-    line("planted", times(&h.planted, &NUMBERS[1..]));
+    line("planted", times(&met.planted, &NUMBERS[1..]));
     for (limit, (name, most)) in LIMITS.into_iter().enumerate() {
-        let side = |past: isize| (format!("{}", most as isize + past), h.limits.get(&(limit, past)).copied().unwrap_or(0));
+        let side = |past: isize| (format!("{}", most as isize + past), met.limits.get(&(limit, past)).copied().unwrap_or(0));
         line(&format!("limit of {name}"), vec![side(-1), side(0), side(1)]);
     }
     let sizes =
         ["none", "one byte", "too small", "too small, odd", "the table's own", "larger", "larger, odd", "beyond 4,096 words"];
-    line("lent", sizes.iter().map(|size| (size.to_string(), h.sizes.get(size).copied().unwrap_or(0))).collect());
-    line("walk calls answered", times(&h.walks, &WALK_NUMBERS));
-    line("walks", vec![("of finishing programs".to_string(), h.finished), ("without end".to_string(), h.endless)]);
-    line("repairs", vec![("walks with some".to_string(), h.repaired), ("to the end of the allowance".to_string(), h.used_up)]);
-    never.extend(pairs_never_met(h));
+    line("lent", sizes.iter().map(|size| (size.to_string(), met.sizes.get(size).copied().unwrap_or(0))).collect());
+    line("walk calls answered", times(&met.walks, &WALK_NUMBERS));
+    line("walks", vec![("of finishing programs".to_string(), met.finished), ("without end".to_string(), met.endless)]);
+    line(
+        "repairs",
+        vec![("walks with some".to_string(), met.repaired), ("to the end of the allowance".to_string(), met.used_up)],
+    );
+    never.extend(pairs_never_met(met));
     for name in never {
-        h.expect(false, || format!("never met: {name}"));
+        h.tally.expect(false, || format!("never met: {name}"));
     }
-    for (limits, times) in &h.differing {
+    for (limits, times) in &met.differing {
         println!("the two differ in {times} texts with {limits}");
     }
 }
 
 /// Prints how many of the pairs were met; the ones that never were.
-fn pairs_never_met(h: &Harness) -> Vec<String> {
+fn pairs_never_met(met: &Met) -> Vec<String> {
     let (pairs, beside) = (pairs::wanted(), pairs::wanted_beside());
-    let together = pairs.iter().filter(|pair| !h.pairs.contains_key(*pair)).map(|(a, b)| format!("{a}, together with {b}"));
-    let by_a_fault = beside.iter().filter(|beside| !h.beside.contains_key(*beside));
+    let together = pairs.iter().filter(|pair| !met.pairs.contains_key(*pair)).map(|(a, b)| format!("{a}, together with {b}"));
+    let by_a_fault = beside.iter().filter(|beside| !met.beside.contains_key(*beside));
     let by_a_fault = by_a_fault.map(|(limit, sort)| format!("{limit}, {}", BESIDE[*sort]));
     let never: Vec<String> = together.chain(by_a_fault).collect();
     let all = pairs.len() + beside.len();
@@ -680,67 +623,41 @@ fn pairs_never_met(h: &Harness) -> Vec<String> {
     never
 }
 
+impl Compares for Harness {
+    type Source = Seed;
+
+    const GROUPS: &'static [Group<Harness>] = &[
+        ("good programs", programs, 1),
+        ("large programs", large, 1),
+        ("planted faults", planted, 1),
+        ("several faults", several, 1),
+        ("damaged texts", damaged, 1),
+        ("each byte damaged", each_byte, 1),
+        ("each word damaged", each_word, 1),
+        ("random bytes and words", random, 1),
+        ("limits", around_limits, 1),
+        ("two limits at once", two_limits, 1),
+        ("far beyond the limits", beyond_limits, 1),
+        ("lent sizes", lent_sizes, 1),
+        ("walks", walks, 1),
+        ("choice rules", choice_rules, 1),
+        ("large programs with choice rules", large_choice_rules, 1),
+    ];
+
+    fn tally(&mut self) -> &mut Tally {
+        &mut self.tally
+    }
+
+    fn report(&mut self, _least: u64) {
+        report(self);
+    }
+}
+
 fn main() -> ExitCode {
-    let (mut exact, mut trace) = (false, false);
-    let mut numbers = Vec::new();
-    for argument in std::env::args().skip(1) {
-        match argument.as_str() {
-            "--exact" => exact = true,
-            "--trace" => trace = true,
-            text => match text.parse::<u64>() {
-                Ok(number) => numbers.push(number),
-                Err(_) => {
-                    eprintln!("compare_texts [--exact] [--trace] [seeds [first seed]]");
-                    return ExitCode::from(2);
-                }
-            },
-        }
-    }
-    let seeds = numbers.first().copied().unwrap_or(SEEDS);
-    let first = numbers.get(1).copied().unwrap_or(1);
-    let processor = ffi::processor().unwrap_or(&Reference);
-    let walker = ffi::library().unwrap_or(&ffi::Plain);
-    println!("rust against {}, walks of {}, seeds {first} to {}", processor.name(), walker.name(), first + seeds.max(1) - 1);
-    let mut h = Harness {
-        processor,
-        walker,
-        exact,
-        group: "",
-        first,
-        seed: 0,
-        passed: 0,
-        failed: 0,
-        shown: 0,
-        numbers: BTreeMap::new(),
-        verdicts: BTreeMap::new(),
-        choosers: BTreeMap::new(),
-        large: BTreeMap::new(),
-        planted: BTreeMap::new(),
-        limits: BTreeMap::new(),
-        pairs: BTreeMap::new(),
-        beside: BTreeMap::new(),
-        differing: BTreeMap::new(),
-        sizes: BTreeMap::new(),
-        walks: BTreeMap::new(),
-        endless: 0,
-        finished: 0,
-        repaired: 0,
-        used_up: 0,
-    };
-    for (stream, (name, group)) in (1..).zip(GROUPS) {
-        let (passed, failed, start) = (h.passed, h.failed, ffi::cpu_seconds());
-        h.group = name;
-        for number in first..first + seeds {
-            if trace {
-                eprintln!("{name}, seed {number}");
-            }
-            h.seed = number;
-            group(&mut h, &mut Seed::new(number ^ (stream << 40)));
-        }
-        let seconds = ffi::cpu_seconds() - start;
-        println!("{name}: {} passed, {} failed ({seconds:.1} s)", h.passed - passed, h.failed - failed);
-    }
-    report(&mut h);
-    println!("{} passed, {} failed", h.passed, h.failed);
-    if h.failed == 0 { ExitCode::SUCCESS } else { ExitCode::FAILURE }
+    harness::main("compare_texts", SEEDS, |exact| {
+        let processor = ffi::processor().unwrap_or(&Reference);
+        let walker = ffi::library().unwrap_or(&ffi::Plain);
+        println!("rust against {}, walks of {}", processor.name(), walker.name());
+        Harness { processor, walker, exact, tally: Tally::default(), met: Met::default() }
+    })
 }

@@ -1,17 +1,14 @@
 //! The same for operators under precedence: sections of them, and their uses.
 
-use super::{Fault, Part, Place, base, insert, shown};
+use super::{Fault, Part, Place, base, insert, several_of, shown};
 use crate::precedence;
-use crate::texts::{Seed, Words, placed};
+use crate::texts::{Seed, Words};
 
 /// What the planted parts refer to beside all else.
 const TOKENS: &str = "input : qp 'qq' = 50000 ; output : qr = 50000 ;";
 const SECTION: &str = "operators qE : qi 1 left qo 'qq' 15 right qr ;";
 
-/// A part can hold `^`, so the mark is another.
-const MARK: char = '~';
-
-const PARTS: [Part; 137] = [
+pub(super) const PARTS: [Part; 137] = [
     (2, Place::Sections, "operators ~: qi 1 left qo ;"),
     (2, Place::Sections, "operators ~'qX' : qi 1 left qo ;"),
     (2, Place::Sections, "operators ~input : qi 1 left qo ;"),
@@ -161,7 +158,7 @@ pub const SORTS: usize = PARTS.len() + LEVELS.len() + LONG_NAMES.len();
 /// A good program's words with the sections and rules that parts refer to.
 fn with_section(seed: &mut Seed) -> Words {
     let mut words = base(seed);
-    insert(seed, &mut words, Place::Sections, TOKENS, MARK);
+    insert(seed, &mut words, Place::Sections, TOKENS);
     precedence::put_section(seed, &mut words, SECTION);
     for _ in 0..seed.below(3) {
         precedence::put_use(seed, &mut words, "qE", "Qp");
@@ -179,35 +176,12 @@ pub fn plant(seed: &mut Seed, sort: usize) -> Fault {
             None => (9, Place::Procedure, LONG_NAMES[sort - PARTS.len() - LEVELS.len()].to_string()),
         },
     };
-    let at = insert(seed, &mut words, place, &part, MARK);
+    let at = insert(seed, &mut words, place, &part);
     shown(seed, number, &words, at)
 }
 
 /// A program with two or three parts of any sort planted.
 pub fn several(seed: &mut Seed) -> Vec<u8> {
-    let mut words = with_section(seed);
-    for _ in 0..seed.within(2, 3) {
-        let (_, place, part) = seed.of(&PARTS);
-        insert(seed, &mut words, *place, part, MARK);
-    }
-    placed(seed, &words).0
-}
-
-#[cfg(test)]
-mod tests {
-    use super::*;
-    use crate::processor::{Answer, MAX_TABLE, process};
-
-    #[test]
-    fn faults_are_where_they_are_planted() {
-        for sort in 0..SORTS {
-            for n in 0..6 {
-                let Fault { number, text, start, len } = plant(&mut Seed::new(n), sort);
-                let answer = process(&text, MAX_TABLE);
-                let sort = PARTS.get(sort).map_or("", |(_, _, part)| part);
-                let text = String::from_utf8_lossy(&text);
-                assert_eq!(answer, Answer::Refused { number, start, len }, "{sort}, seed {n}: {text}");
-            }
-        }
-    }
+    let words = with_section(seed);
+    several_of(seed, words, &PARTS)
 }

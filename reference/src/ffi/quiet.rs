@@ -1,23 +1,10 @@
-//! The library's processor with a program's figure.
+//! The library's processor, with a program's figure and without.
 
-use super::{Library, UNSET};
+use super::Library;
 use crate::quiet::{Measured, Measurer};
-use crate::side::Processed;
+use crate::side::{Processed, Processor};
 
-unsafe extern "C" {
-    fn sst_process(
-        text: *const u8,
-        text_len: usize,
-        table: *mut u8,
-        table_len: usize,
-        start: *mut u64,
-        len: *mut u64,
-        words: *mut u64,
-        finishing: *mut u64,
-        figure: *mut u64,
-        figure_number: *mut u64,
-    ) -> u16;
-}
+entry!(sst_process(text;; table; start len words finishing figure figure_number));
 
 impl Measurer for Library {
     fn name(&self) -> &'static str {
@@ -25,22 +12,17 @@ impl Measurer for Library {
     }
 
     fn measure(&self, text: &[u8], table: &mut [u8]) -> Measured {
-        let [mut start, mut len, mut words, mut finishing, mut figure, mut figure_number] = [UNSET; 6];
-        // Each pointer comes with the length of its own slice and is not null; the slices and numbers do not overlap.
-        let number = unsafe {
-            sst_process(
-                text.as_ptr(),
-                text.len(),
-                table.as_mut_ptr(),
-                table.len(),
-                &mut start,
-                &mut len,
-                &mut words,
-                &mut finishing,
-                &mut figure,
-                &mut figure_number,
-            )
-        };
+        let (number, [start, len, words, finishing, figure, figure_number]) = sst_process(text, table);
         Measured { processed: Processed { number, start, len, words, finishing }, figure, figure_number }
+    }
+}
+
+impl Processor for Library {
+    fn name(&self) -> &'static str {
+        "lib"
+    }
+
+    fn process(&self, text: &[u8], table: &mut [u8]) -> Processed {
+        self.measure(text, table).processed
     }
 }

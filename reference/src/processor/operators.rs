@@ -134,20 +134,8 @@ fn collect(nodes: &[Node], out: &mut Vec<Use>) {
 
 #[cfg(test)]
 mod tests {
+    use crate::processor::asserts::{accepted, refused};
     use crate::processor::{Answer, MAX_TABLE, process, written_out};
-
-    #[track_caller]
-    fn accepted(text: &str, table: &[u16], finishing: bool) {
-        assert_eq!(process(text.as_bytes(), MAX_TABLE), Answer::Accepted { table: table.to_vec(), finishing }, "{text}");
-    }
-
-    /// `~` marks the word shown and is taken out.
-    #[track_caller]
-    fn refused(number: u16, marked: &str, len: usize) {
-        let start = marked.find('~').expect("a mark");
-        let text = marked.replacen('~', "", 1);
-        assert_eq!(process(text.as_bytes(), MAX_TABLE), Answer::Refused { number, start, len }, "{text}");
-    }
 
     /// The same answer as for this text without operators.
     #[track_caller]
