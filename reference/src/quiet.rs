@@ -4,8 +4,8 @@
 //! its own rule with a value, or an end on the way. Behind a call the path goes on by each value that the called rule's paths return. What
 //! was found is kept by location and known result.
 
-use crate::processor::{self, Program};
-use crate::side::{Processed, Processor, Reference};
+use crate::processor::{self, Answer, Program};
+use crate::side::{Processed, Reference};
 use crate::verdict::finishing;
 use std::collections::{BTreeMap, HashMap};
 use std::rc::Rc;
@@ -30,7 +30,12 @@ pub fn figure(program: &Program) -> Figure {
         return Figure::Neither;
     }
     let (table, starts) = processor::table(program);
-    let most = Quiet::new(&table, &starts).most();
+    figure_over(&table, &starts)
+}
+
+/// The figure of a finishing program with this table and these rules' first locations.
+fn figure_over(table: &[u16], starts: &[usize]) -> Figure {
+    let most = Quiet::new(table, starts).most();
     match most.expect("the quiet paths of a finishing program end") {
         most if most <= GREATEST => Figure::Most(most),
         _ => Figure::TooLong,
@@ -213,14 +218,18 @@ impl Measurer for Reference {
     }
 
     fn measure(&self, text: &[u8], table: &mut [u8]) -> Measured {
-        let processed = self.process(text, table);
-        let program = if processed.number == 0 { processor::resolve(text).ok() } else { None };
-        let (figure, figure_number) = match program.map_or(Figure::Neither, |program| figure(&program)) {
+        let (answer, starts) = processor::process_with_starts(text, table.len() / 2);
+        processor::lent(&answer, table);
+        let found = match &answer {
+            Answer::Accepted { table, finishing: true } => figure_over(table, &starts),
+            _ => Figure::Neither,
+        };
+        let (figure, figure_number) = match found {
             Figure::Neither => (0, 0),
             Figure::Most(most) => (most, 0),
             Figure::TooLong => (0, TOO_LONG),
         };
-        Measured { processed, figure, figure_number }
+        Measured { processed: Processed::of(&answer), figure, figure_number }
     }
 }
 

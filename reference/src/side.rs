@@ -35,6 +35,19 @@ pub struct Processed {
     pub finishing: u64,
 }
 
+impl Processed {
+    pub fn of(answer: &Answer) -> Processed {
+        match answer {
+            Answer::Accepted { table, finishing } => {
+                Processed { number: 0, start: 0, len: 0, words: table.len() as u64, finishing: u64::from(*finishing) }
+            }
+            Answer::Refused { number, start, len } => {
+                Processed { number: *number, start: *start as u64, len: *len as u64, words: 0, finishing: 0 }
+            }
+        }
+    }
+}
+
 /// The entry `sst_process`.
 pub trait Processor {
     fn name(&self) -> &'static str;
@@ -66,14 +79,7 @@ impl Processor for Reference {
     fn process(&self, text: &[u8], table: &mut [u8]) -> Processed {
         let answer = processor::process(text, table.len() / 2);
         processor::lent(&answer, table);
-        match answer {
-            Answer::Accepted { table, finishing } => {
-                Processed { number: 0, start: 0, len: 0, words: table.len() as u64, finishing: u64::from(finishing) }
-            }
-            Answer::Refused { number, start, len } => {
-                Processed { number, start: start as u64, len: len as u64, words: 0, finishing: 0 }
-            }
-        }
+        Processed::of(&answer)
     }
 }
 
