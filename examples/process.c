@@ -73,16 +73,19 @@ static unsigned get_word(const uint8_t *bytes, size_t i)
     return (unsigned)bytes[2 * i] << 8 | bytes[2 * i + 1];
 }
 
+/* The first word of an event; a walk without repairs writes no other than these and those of operations. */
+enum event_kind { OUTPUT_EVENT = 1, ERROR_EVENT = 2 };
+
 static void show_events(uint64_t written)
 {
     size_t i;
     for (i = 0; i < (size_t)written; i++) {
         unsigned kind = get_word(events, 3 * i), value = get_word(events, 3 * i + 1), parameter = get_word(events, 3 * i + 2);
         switch (kind) {
-        case 1:
+        case OUTPUT_EVENT:
             printf("    output %u\n", value);
             break;
-        case 2:
+        case ERROR_EVENT:
             printf("    error %u\n", value);
             break;
         default:

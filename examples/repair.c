@@ -32,17 +32,18 @@ enum event_kind { OUTPUT_EVENT = 1, REPAIR_EVENT = 4 };
 #define BUDGET 1000
 #define WORDS_OF_AN_EVENT 3
 
+/* The tokens are words, high byte first. */
 struct chapter {
     const char *name;
     size_t token_count;
-    uint16_t tokens[TOKENS];
+    uint8_t tokens[2 * TOKENS];
 };
 
 static const struct chapter chapters[] = {
-    {"nothing missing", 5, {TEXT, OPEN, TEXT, CLOSE, CHAPTER_END}},
-    {"a closing mark missing", 4, {TEXT, OPEN, TEXT, CHAPTER_END}},
-    {"a closing mark and the chapter's end missing", 3, {TEXT, OPEN, TEXT}},
-    {"two closing marks and the chapter's end missing", 4, {OPEN, TEXT, OPEN, TEXT}},
+    {"nothing missing", 5, {0, TEXT, 0, OPEN, 0, TEXT, 0, CLOSE, 0, CHAPTER_END}},
+    {"a closing mark missing", 4, {0, TEXT, 0, OPEN, 0, TEXT, 0, CHAPTER_END}},
+    {"a closing mark and the chapter's end missing", 3, {0, TEXT, 0, OPEN, 0, TEXT}},
+    {"two closing marks and the chapter's end missing", 4, {0, OPEN, 0, TEXT, 0, OPEN, 0, TEXT}},
 };
 
 /* A walk of a chapter, as it is printed. */
@@ -56,15 +57,6 @@ struct walked {
 
 static uint8_t table[2 * TABLE_WORDS];
 
-static void put_words(uint8_t *bytes, const uint16_t *words, size_t count)
-{
-    size_t i;
-    for (i = 0; i < count; i++) {
-        bytes[2 * i] = (uint8_t)(words[i] >> 8);
-        bytes[2 * i + 1] = (uint8_t)(words[i] & 255);
-    }
-}
-
 static unsigned get_word(const uint8_t *bytes, size_t i)
 {
     return (unsigned)bytes[2 * i] << 8 | bytes[2 * i + 1];
@@ -73,12 +65,11 @@ static unsigned get_word(const uint8_t *bytes, size_t i)
 static void walk_chapter(struct walked *walked, const struct chapter *chapter, size_t words, uint16_t allowance)
 {
     static uint8_t walk[SST_WALK_BYTES];
-    uint8_t tokens[2 * TOKENS], answers[2];
+    uint8_t answers[2];
     uint64_t steps;
 
-    put_words(tokens, chapter->tokens, chapter->token_count);
     sst_fresh(walk, sizeof walk, allowance);
-    walked->number = sst_whole(table, 2 * words, tokens, 2 * chapter->token_count, answers, 0, BUDGET, walk, sizeof walk,
+    walked->number = sst_whole(table, 2 * words, chapter->tokens, 2 * chapter->token_count, answers, 0, BUDGET, walk, sizeof walk,
                                walked->buffer, sizeof walked->buffer, &walked->events, &steps);
     walked->left = sst_allowance(walk, sizeof walk);
     walked->read = sst_read(walk, sizeof walk);

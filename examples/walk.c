@@ -16,47 +16,41 @@
 
 #include "sst.h"
 
-static const uint16_t table_words[] = {
-    7,   24,        /*  1 input choice, its table at 26 */
-    768,            /*  3 num: sign */
-    11,  9,         /*  4 choice, its table at 14 */
-    5,   8,         /*  6 neg: emit minus */
-    1,   12,        /*  8 to 21 */
-    5,   7,         /* 10 pos: emit plus */
-    1,   8,         /* 12 to 21 */
-    2,              /* 14 two labels */
-    0,   10,        /* 15 neg, back to 6 */
-    1,   8,         /* 17 pos, back to 10 */
-    6,   5,         /* 19 otherwise: error bad */
-    13,  1,         /* 21 parameter pos */
-    512,            /* 23 note */
-    1,   6,         /* 24 to 31 */
-    1,              /* 26 one label */
-    1,   25,        /* 27 num, back to 3 */
-    1,   3,         /* 29 otherwise: out of the cycle, to 33 */
-    2,   31,        /* 31 back to 1 */
-    9               /* 33 return */
+/* A word, high byte first. */
+#define WORD(x) (x) >> 8, (x) & 255
+
+static const uint8_t table[] = {
+    WORD(7), WORD(24),    /*  1 input choice, its table at 26 */
+    WORD(768),            /*  3 num: sign */
+    WORD(11), WORD(9),    /*  4 choice, its table at 14 */
+    WORD(5), WORD(8),     /*  6 neg: emit minus */
+    WORD(1), WORD(12),    /*  8 to 21 */
+    WORD(5), WORD(7),     /* 10 pos: emit plus */
+    WORD(1), WORD(8),     /* 12 to 21 */
+    WORD(2),              /* 14 two labels */
+    WORD(0), WORD(10),    /* 15 neg, back to 6 */
+    WORD(1), WORD(8),     /* 17 pos, back to 10 */
+    WORD(6), WORD(5),     /* 19 otherwise: error bad */
+    WORD(13), WORD(1),    /* 21 parameter pos */
+    WORD(512),            /* 23 note */
+    WORD(1), WORD(6),     /* 24 to 31 */
+    WORD(1),              /* 26 one label */
+    WORD(1), WORD(25),    /* 27 num, back to 3 */
+    WORD(1), WORD(3),     /* 29 otherwise: out of the cycle, to 33 */
+    WORD(2), WORD(31),    /* 31 back to 1 */
+    WORD(9)               /* 33 return */
 };
-static const uint16_t token_words[] = {1, 1, 1};
+static const uint8_t tokens[] = {WORD(1), WORD(1), WORD(1)};
 
 /* What the operation `sign` looks at, one for each token. */
 static const int values[] = {5, -3, 0};
 
-#define COUNT(list) (sizeof(list) / sizeof((list)[0]))
-
-static uint8_t table[2 * COUNT(table_words)];
-static uint8_t tokens[2 * COUNT(token_words)];
 static uint8_t walk[SST_WALK_BYTES];
 static uint8_t events[6]; /* room for one */
 
-static void put_words(uint8_t *bytes, const uint16_t *words, size_t count)
-{
-    size_t i;
-    for (i = 0; i < count; i++) {
-        bytes[2 * i] = (uint8_t)(words[i] >> 8);
-        bytes[2 * i + 1] = (uint8_t)(words[i] & 255);
-    }
-}
+/* The first word of an event; a walk without repairs writes no other. */
+enum event_kind { OUTPUT_EVENT = 1, ERROR_EVENT, OPERATION_EVENT };
+static const char *const event_kinds[] = {"", "output", "error", "operation"};
 
 static unsigned get_word(const uint8_t *bytes, size_t i)
 {
@@ -68,17 +62,11 @@ static void show(unsigned number, uint64_t written, uint64_t steps)
     size_t i;
     printf("answered %u, steps %lu\n", number, (unsigned long)steps);
     for (i = 0; i < (size_t)written; i++) {
-        unsigned kind = get_word(events, 3 * i), value = get_word(events, 3 * i + 1), parameter = get_word(events, 3 * i + 2);
-        switch (kind) {
-        case 1:
-            printf("  output %u\n", value);
-            break;
-        case 2:
-            printf("  error %u\n", value);
-            break;
-        default:
-            printf("  operation %u, parameter %u\n", value, parameter);
-        }
+        unsigned kind = get_word(events, 3 * i);
+        printf("  %s %u", event_kinds[kind], get_word(events, 3 * i + 1));
+        if (kind == OPERATION_EVENT)
+            printf(", parameter %u", get_word(events, 3 * i + 2));
+        printf("\n");
     }
 }
 
@@ -87,8 +75,6 @@ int main(void)
     uint16_t number, given = 0, answer = 0;
     uint64_t written, steps, all = 0;
 
-    put_words(table, table_words, COUNT(table_words));
-    put_words(tokens, token_words, COUNT(token_words));
     sst_fresh(walk, sizeof walk, 0);
     do {
         /* A small budget and buffer: the walk is called on until it stops. */
@@ -114,9 +100,8 @@ int main(void)
 
     /* The same at once, with room for all events. */
     {
-        static const uint16_t answer_words[] = {1, 0, 2};
-        static uint8_t answers[2 * COUNT(answer_words)], room[60];
-        put_words(answers, answer_words, COUNT(answer_words));
+        static const uint8_t answers[] = {WORD(1), WORD(0), WORD(2)};
+        static uint8_t room[60];
         sst_fresh(walk, sizeof walk, 0);
         number = sst_whole(table, sizeof table, tokens, sizeof tokens, answers, sizeof answers, 1000, walk, sizeof walk, room,
                            sizeof room, &written, &steps);
