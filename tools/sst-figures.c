@@ -311,6 +311,33 @@ static void print_share(uint64_t part, uint64_t total)
     printf("share %u.%u%%\n", 10 * tens + ones, tenths);
 }
 
+/* Where a name goes on behind blanks and comments. */
+static int past_blanks(const struct rule *r, int i)
+{
+    while (i < r->name_len && strchr(" \t\r\n%", r->name[i])) {
+        if (r->name[i] == '%')
+            while (i < r->name_len && r->name[i] != '\n')
+                i++;
+        else
+            i++;
+    }
+    return i;
+}
+
+/* "rule NAME line L", with one space for blanks in the name: a rule made for operators has their use for a name, as the text has it. */
+static void print_rule(const struct rule *r)
+{
+    int i = 0, next;
+
+    printf("rule ");
+    while (i < r->name_len) {
+        next = past_blanks(r, i);
+        putchar(next > i ? ' ' : r->name[next++]);
+        i = next;
+    }
+    printf(" line %lu", r->line);
+}
+
 /* The sum of the rules' executions. */
 static uint64_t print_rules(uint64_t total)
 {
@@ -322,8 +349,8 @@ static uint64_t print_rules(uint64_t total)
         uint64_t sum = 0;
         for (l = r->location; l < r->end; l++)
             sum += count_at(l);
-        printf("rule %.*s line %lu location %lu executions %" PRIu64 " ", r->name_len, (const char *)r->name, r->line,
-               (unsigned long)r->location, sum);
+        print_rule(r);
+        printf(" location %lu executions %" PRIu64 " ", (unsigned long)r->location, sum);
         print_share(sum, total);
         together += sum;
     }
@@ -336,8 +363,11 @@ static void print_never(void)
 
     for (i = 0; i < rule_count; i++)
         for (l = rules[i].location; l < rules[i].end; l++)
-            if (begins[l] && count_at(l) == 0)
-                printf("never %lu rule %.*s line %lu\n", (unsigned long)l, rules[i].name_len, (const char *)rules[i].name, rules[i].line);
+            if (begins[l] && count_at(l) == 0) {
+                printf("never %lu ", (unsigned long)l);
+                print_rule(&rules[i]);
+                putchar('\n');
+            }
 }
 
 static enum status report(void)
