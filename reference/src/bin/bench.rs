@@ -40,14 +40,23 @@ fn walk(side: &dyn Side, work: &Work, budget: u64, events: &mut [u8]) -> End {
     end
 }
 
-fn main() -> ExitCode {
+/// The repetitions, and the budget of a call.
+fn arguments() -> Result<(u64, u64), ExitCode> {
     let mut numbers = std::env::args().skip(1).map(|argument| argument.parse::<u64>());
-    let (repetitions, budget) = match (numbers.next(), numbers.next()) {
-        (None, _) => (31, u64::MAX),
-        (Some(Ok(repetitions)), None) => (repetitions, u64::MAX),
-        (Some(Ok(repetitions)), Some(Ok(budget))) if budget > 0 => (repetitions, budget),
-        _ => return timing::no_use("bench [repetitions [budget of a call, from 1]]"),
-    };
+    match (numbers.next(), numbers.next()) {
+        (None, _) => Ok((31, u64::MAX)),
+        (Some(Ok(repetitions)), None) => Ok((repetitions, u64::MAX)),
+        (Some(Ok(repetitions)), Some(Ok(budget))) if budget > 0 => Ok((repetitions, budget)),
+        _ => Err(timing::no_use("bench [repetitions [budget of a call, from 1]]")),
+    }
+}
+
+fn main() -> ExitCode {
+    timing::status(bench())
+}
+
+fn bench() -> Result<(), ExitCode> {
+    let (repetitions, budget) = arguments()?;
     let mut sides: Vec<&(dyn Side + Sync)> = vec![&Reference, &ffi::Plain];
     sides.extend(ffi::library());
     println!("median of {repetitions} repetitions, budget of a call {budget}");
@@ -74,8 +83,7 @@ fn main() -> ExitCode {
             }
             same.then_some(seconds)
         });
-        let Some(medians) = medians else { return ExitCode::FAILURE };
-        let each: Vec<f64> = medians.iter().map(|median| median / first.steps as f64).collect();
+        let each: Vec<f64> = medians.ok_or(ExitCode::FAILURE)?.iter().map(|median| median / first.steps as f64).collect();
         for (side, time) in sides.iter().zip(&each) {
             println!("  {:<5}{:8.2} ns a step {:10.1} million steps a second", side.name(), time * 1e9, 1e-6 / time);
         }
@@ -85,5 +93,5 @@ fn main() -> ExitCode {
             }
         }
     }
-    ExitCode::SUCCESS
+    Ok(())
 }
