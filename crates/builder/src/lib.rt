@@ -17,6 +17,9 @@ use resolver::Built;
 use resolver::Done;
 use scanner::WordAt;
 
+// The first cell of an alternative without labels.
+const ALTERNATIVE: usize = cells::ALTERNATIVE as usize;
+
 // fault 0: there are `count` cells of `rules` rules. Else the fault's number and its word.
 pub struct Rules {
     pub fault: u16,
@@ -106,7 +109,7 @@ fn put_labels(seen: &[u16], from: usize, to: usize, cells: &mut [u16], count: us
     requires { ⌜ (from ≤ to) × (to ≤ length (now seen)) × (length (now seen) ≤ 64) ⌝ }
     ensures { λ r. ⌜ Appends (now (cells .entry)) count (labelCells (now (seen .entry)) from to) (now (cells .exit)) r ⌝ }
 {
-    let mut c = resolver::put(cells, count, (64 + (to - from)) as u16);
+    let mut c = resolver::put(cells, count, (ALTERNATIVE + (to - from)) as u16);
     let mut i = from;
     while i < to {
         c = resolver::put(cells, c, seen[i]);
@@ -136,7 +139,7 @@ fn build_actions(
     loop {
         let w = look(text, i);
         if is_closing(w.kind) {
-            let e = resolver::put(cells, c, 0);
+            let e = resolver::put(cells, c, cells::END);
             let done = Done {
                 fault: 0,
                 at: i,
@@ -171,10 +174,10 @@ fn build_action(
     ensures { λ r. ⌜ ActDone (now (text .entry)) (now (rows .entry)) n at inside class (now (cells .entry)) count (now (cells .exit)) r ⌝ }
 {
     let w = look(text, at);
-    if w.kind == 123 {
+    if w.kind == words::DO {
         return build_cycle(text, rows, n, w.next, class, cells, count);
     }
-    if w.kind == 91 {
+    if w.kind == words::IF {
         return build_choice(text, rows, n, w.next, inside, class, cells, count);
     }
     resolver::resolve_plain(text, rows, n, at, inside, class, cells, count)
@@ -193,7 +196,7 @@ fn build_cycle(
     requires { ⌜ (at ≤ length (now text)) × Kept (now text) (now rows) n ⌝ }
     ensures { λ r. ⌜ CycleDone (now (text .entry)) (now (rows .entry)) n at class (now (cells .entry)) count (now (cells .exit)) r ⌝ }
 {
-    let c = resolver::put(cells, count, 2);
+    let c = resolver::put(cells, count, cells::CYCLE);
     let b = build_actions(text, rows, n, at, true, class, cells, c);
     let d = b.done;
     if d.fault != 0 {
@@ -239,7 +242,7 @@ fn build_choice(
         };
     }
     let w = look(text, d.at);
-    let mut seen: [u16; 64] = [0; 64];
+    let mut seen: [u16; base::LABELS] = [0; base::LABELS];
     build_alternatives(
         text,
         rows,
@@ -279,7 +282,7 @@ fn build_alternatives(
     let mut exits = false;
     loop {
         let w = look(text, i);
-        if w.kind == 42 {
+        if w.kind == words::STAR {
             let o = build_otherwise(text, rows, n, w.next, inside, class, cells, c);
             return joined(past, exits, o);
         }
@@ -305,7 +308,7 @@ fn build_alternatives(
         past = j.past;
         exits = j.exits;
         let s = look(text, d.at);
-        if s.kind != 124 {
+        if s.kind != words::BAR {
             return without_otherwise(s.next, past, exits, absent, cells, d.count);
         }
         i = s.next;
@@ -370,7 +373,7 @@ fn build_otherwise(
     ensures { λ r. ⌜ OtherDone (now (text .entry)) (now (rows .entry)) n at inside class (now (cells .entry)) count (now (cells .exit)) r ⌝ }
 {
     let w = look(text, at);
-    let c = resolver::put(cells, count, 13);
+    let c = resolver::put(cells, count, cells::OTHERWISE);
     let b = build_actions(text, rows, n, w.next, inside, class, cells, c);
     let d = b.done;
     if d.fault != 0 {
@@ -395,11 +398,11 @@ fn is_taken(text: &[u8], rows: &[u16], n: usize, before: usize, start: usize, le
     requires { ⌜ Kept (now text) (now rows) n ⌝ }
     ensures { λ r. ⌜ r ≡ takenBefore (held (now (text .entry)) (now (rows .entry)) n) before (take len (drop start (now (text .entry)))) ⌝ }
 {
-    let o = symbols::find_row(text, rows, n, 6, start, len);
-    if o < 65536 {
+    let o = symbols::find_row(text, rows, n, symbols::OPERATION, start, len);
+    if o < symbols::NONE {
         return true;
     }
-    let r = symbols::find_row(text, rows, n, 7, start, len);
+    let r = symbols::find_row(text, rows, n, symbols::RULE, start, len);
     r < before
 }
 
@@ -409,7 +412,7 @@ fn read_type(text: &[u8], rows: &[u16], n: usize, at: usize) -> Head
     ensures { λ r. ⌜ TypeDone (now (text .entry)) (now (rows .entry)) n at r ⌝ }
 {
     let g = look(text, at);
-    if g.kind != 256 {
+    if g.kind != words::TWICE {
         return Head {
             fault: 0,
             at: g.next,
@@ -444,16 +447,16 @@ fn read_head(text: &[u8], rows: &[u16], n: usize, first: usize, k: usize, at: us
     let w = look(text, at);
     if is_taken(text, rows, n, first + k, w.start, w.len) {
         return Head {
-            fault: 4,
+            fault: base::REPEATED,
             at: w.start,
             len: w.len,
             class: 0,
         };
     }
     let g = look(text, w.next);
-    if both(k == 0, g.kind == 256) {
+    if both(k == 0, g.kind == words::TWICE) {
         return Head {
-            fault: 5,
+            fault: base::NOT_WANTED,
             at: w.start,
             len: w.len,
             class: 0,
@@ -506,7 +509,7 @@ fn build_rule(
     let w = look(text, d.at);
     let valued = 0 < h.class;
     if both(valued, b.past) {
-        return rejected(8, w.start, w.len);
+        return rejected(base::WRONG_RETURN, w.start, w.len);
     }
     let done = Done {
         fault: 0,
@@ -520,7 +523,11 @@ fn build_rule(
 fn sort_of(valued: bool) -> u8
     ensures { λ r. ⌜ r ≡ sortOf valued ⌝ }
 {
-    if valued { 1 } else { 0 }
+    if valued {
+        resolver::CHOICE
+    } else {
+        resolver::PROCEDURE
+    }
 }
 
 // Where rule k begins, and its sort.
@@ -571,7 +578,7 @@ pub fn build(
         store(starts, sorts, k, c, r.valued);
         let next = k + 1;
         let w = look(text, d.at);
-        if w.kind != 257 {
+        if w.kind != words::NAME {
             return Rules {
                 fault: 0,
                 at: d.at,
@@ -580,8 +587,8 @@ pub fn build(
                 rules: next,
             };
         }
-        if next == 128 {
-            return refused(2, d.at, 0);
+        if next == base::RULES {
+            return refused(base::NOT_ALLOWED, d.at, 0);
         }
         i = d.at;
         c = d.count;

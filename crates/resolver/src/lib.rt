@@ -14,6 +14,14 @@ ghost use Rattle.symbols.specs.Rows.{held};
 ghost use Rattle.symbols.specs.Search.{part};
 use scanner::WordAt;
 
+// Below it a word has no text: words::BAD and words::LAST.
+const LEAST_KIND: u16 = 2;
+
+// The sorts of rules: a procedure rule, and a choice rule, which gives values.
+pub const PROCEDURE: u8 = 0;
+
+pub const CHOICE: u8 = 1;
+
 // fault 0: read up to the place `at`, and there are `count` cells. Else the fault's number and its word.
 pub struct Done {
     pub fault: u16,
@@ -94,7 +102,7 @@ fn put_operation(
     requires { ⌜ (row < 512) × (value < 65536) ⌝ }
     ensures { λ r. ⌜ Appends (now (cells .entry)) count (operationCells (getD (now (rows .entry)) (8 * row + 1) 0) there value) (now (cells .exit)) r ⌝ }
 {
-    let op = symbols::number(rows, 8 * row + 1) as u16;
+    let op = symbols::number(rows, symbols::ROW * row + symbols::VALUE) as u16;
     if there {
         return put_two(cells, count, op, value);
     }
@@ -174,9 +182,9 @@ fn class_named(text: &[u8], rows: &[u16], n: usize, start: usize, len: usize) ->
     requires { ⌜ Kept (now text) (now rows) n ⌝ }
     ensures { λ r. ⌜ r ≡ classNamed (held (now (text .entry)) (now (rows .entry)) n) (part (now (text .entry)) start len) ⌝ }
 {
-    let i = symbols::find_row(text, rows, n, 5, start, len);
-    if i < 65536 {
-        return 8 + i;
+    let i = symbols::find_row(text, rows, n, symbols::TYPE, start, len);
+    if i < symbols::NONE {
+        return symbols::VALUES + i;
     }
     0
 }
@@ -212,7 +220,7 @@ fn misfit(at: usize, len: usize) -> Parameter
     ensures { λ r. ⌜ Misfit at len r ⌝ }
 {
     Parameter {
-        fault: 5,
+        fault: base::NOT_WANTED,
         at,
         len,
         there: false,
@@ -226,8 +234,8 @@ fn parameter_of(text: &[u8], rows: &[u16], n: usize, row: usize, w: WordAt) -> P
     ensures { λ r. ⌜ OperandDone w row (now (text .entry)) (now (rows .entry)) n r ⌝ }
 {
     let k = scanner::next_word(text, w.next);
-    let len = symbols::number(rows, 8 * row + 5);
-    if k.kind != 40 {
+    let len = symbols::number(rows, symbols::ROW * row + symbols::SECOND_LEN);
+    if k.kind != words::OPENING {
         if len != 0 {
             return misfit(w.start, w.len);
         }
@@ -242,7 +250,7 @@ fn parameter_of(text: &[u8], rows: &[u16], n: usize, row: usize, w: WordAt) -> P
     if len == 0 {
         return misfit(k.start, k.len);
     }
-    let start = symbols::number(rows, 8 * row + 4);
+    let start = symbols::number(rows, symbols::ROW * row + symbols::SECOND_START);
     let class = class_named(text, rows, n, start, len);
     parameter_value(text, rows, n, k.next, class)
 }
@@ -255,10 +263,10 @@ fn resolve_match(text: &[u8], at: usize, v: usize, cells: &mut [u16], count: usi
     ensures { λ r. ⌜ ((rows : List ℕ) (n : ℕ) → MatchDone v (now (text .entry)) rows n at (now (cells .entry)) count (now (cells .exit)) r) ⌝ }
 {
     let k = scanner::next_word(text, at);
-    if k.kind == 40 {
-        return stopped(5, k.start, k.len);
+    if k.kind == words::OPENING {
+        return stopped(base::NOT_WANTED, k.start, k.len);
     }
-    let c = put_two(cells, count, 3, v);
+    let c = put_two(cells, count, cells::MATCH, v);
     went(at, c, true)
 }
 
@@ -279,9 +287,9 @@ fn resolve_update(
         return stopped(o.fault, w.start, w.len);
     }
     let row = o.value;
-    let chooses = symbols::number(rows, 8 * row + 7);
+    let chooses = symbols::number(rows, symbols::ROW * row + symbols::THIRD_LEN);
     if chooses != 0 {
-        return stopped(5, w.start, w.len);
+        return stopped(base::NOT_WANTED, w.start, w.len);
     }
     let p = parameter_of(text, rows, n, row, w);
     if p.fault != 0 {
@@ -303,8 +311,8 @@ fn resolve_named(
     requires { ⌜ Lies (now text) w × Kept (now text) (now rows) n ⌝ }
     ensures { λ r. ⌜ NamedDone w (now (text .entry)) (now (rows .entry)) n (now (cells .entry)) count (now (cells .exit)) r ⌝ }
 {
-    let v = symbols::find_value(text, rows, n, 1, w.start, w.len);
-    if v < 65536 {
+    let v = symbols::find_value(text, rows, n, symbols::INPUT, w.start, w.len);
+    if v < symbols::NONE {
         return resolve_match(text, w.next, v, cells, count);
     }
     resolve_update(text, rows, n, w, cells, count)
@@ -352,12 +360,12 @@ fn resolve_call(
         return stopped(o.fault, w.start, w.len);
     }
     let row = o.value;
-    let gives = symbols::number(rows, 8 * row + 7);
+    let gives = symbols::number(rows, symbols::ROW * row + symbols::THIRD_LEN);
     if gives != 0 {
-        return stopped(5, w.start, w.len);
+        return stopped(base::NOT_WANTED, w.start, w.len);
     }
-    let place = symbols::number(rows, 8 * row + 1);
-    let c = put_two(cells, count, 8, place);
+    let place = symbols::number(rows, symbols::ROW * row + symbols::VALUE);
+    let c = put_two(cells, count, cells::CALL, place);
     went(w.next, c, true)
 }
 
@@ -385,12 +393,12 @@ fn resolve_ranked(
         return stopped(operand.fault, o.start, o.len);
     }
     let row = operand.value;
-    let valued = symbols::number(rows, 8 * row + 7);
+    let valued = symbols::number(rows, symbols::ROW * row + symbols::THIRD_LEN);
     if valued != 0 {
-        return stopped(5, o.start, o.len);
+        return stopped(base::NOT_WANTED, o.start, o.len);
     }
     let lowest = maker::lowest(rows, section.value, row);
-    let c = put_two(cells, count, 8, lowest);
+    let c = put_two(cells, count, cells::CALL, lowest);
     went(o.next, c, true)
 }
 
@@ -409,9 +417,19 @@ fn give_value(
 {
     if class == 0 {
         let v = scanner::next_word(text, w.next);
-        return stopped(8, v.start, v.len);
+        return stopped(base::WRONG_RETURN, v.start, v.len);
     }
-    resolve_sent(text, rows, n, w.next, class, 10, false, cells, count)
+    resolve_sent(
+        text,
+        rows,
+        n,
+        w.next,
+        class,
+        cells::GIVE,
+        false,
+        cells,
+        count,
+    )
 }
 
 // The rest of `>>`, the word w.
@@ -428,16 +446,16 @@ fn resolve_give(
     ensures { λ r. ⌜ GiveDone w class (now (text .entry)) (now (rows .entry)) n (now (cells .entry)) count (now (cells .exit)) r ⌝ }
 {
     let v = scanner::next_word(text, w.next);
-    if v.kind == 257 {
+    if v.kind == words::NAME {
         return give_value(text, rows, n, w, class, cells, count);
     }
-    if v.kind == 259 {
+    if v.kind == words::STRING {
         return give_value(text, rows, n, w, class, cells, count);
     }
     if class != 0 {
-        return stopped(8, w.start, w.len);
+        return stopped(base::WRONG_RETURN, w.start, w.len);
     }
-    let c = put(cells, count, 9);
+    let c = put(cells, count, cells::BACK);
     went(w.next, c, false)
 }
 
@@ -445,7 +463,7 @@ fn resolve_give(
 fn resolve_any(w: WordAt, cells: &mut [u16], count: usize) -> Built
     ensures { λ r. ⌜ ((text rows : List ℕ) (n : ℕ) → Lies text w → AnyDone w text rows n (now (cells .entry)) count (now (cells .exit)) r) ⌝ }
 {
-    let c = put(cells, count, 4);
+    let c = put(cells, count, cells::ANY);
     went(w.next, c, true)
 }
 
@@ -454,7 +472,7 @@ fn resolve_exit(w: WordAt, inside: bool, cells: &mut [u16], count: usize) -> Bui
     ensures { λ r. ⌜ ((text rows : List ℕ) (n : ℕ) → Lies text w → ExitDone w inside text rows n (now (cells .entry)) count (now (cells .exit)) r) ⌝ }
 {
     if inside {
-        let count = put(cells, count, 1);
+        let count = put(cells, count, cells::EXIT);
         let done = Done {
             fault: 0,
             at: w.next,
@@ -467,7 +485,7 @@ fn resolve_exit(w: WordAt, inside: bool, cells: &mut [u16], count: usize) -> Bui
             exits: true,
         };
     }
-    stopped(7, w.start, w.len)
+    stopped(base::NO_CYCLE, w.start, w.len)
 }
 
 // A plain action: what it means, in a cycle or not, in a rule that gives values of the class (0: in a procedure rule).
@@ -487,16 +505,36 @@ pub fn resolve_plain(
     let w = scanner::next_word(text, at);
     let kind = w.kind;
     match kind {
-        257 => resolve_named(text, rows, n, w, cells, count),
-        259 => resolve_named(text, rows, n, w, cells, count),
-        63 => resolve_any(w, cells, count),
-        46 => resolve_sent(text, rows, n, w.next, 2, 5, true, cells, count),
-        35 => resolve_sent(text, rows, n, w.next, 4, 6, true, cells, count),
-        62 => resolve_exit(w, inside, cells, count),
-        64 => resolve_call(text, rows, n, w.next, cells, count),
-        256 => resolve_give(text, rows, n, w, class, cells, count),
-        94 => resolve_ranked(text, rows, n, w, cells, count),
-        _ => stopped(2, w.start, w.len),
+        words::NAME => resolve_named(text, rows, n, w, cells, count),
+        words::STRING => resolve_named(text, rows, n, w, cells, count),
+        words::QUESTION => resolve_any(w, cells, count),
+        words::POINT => resolve_sent(
+            text,
+            rows,
+            n,
+            w.next,
+            symbols::OUTPUT,
+            cells::EMIT,
+            true,
+            cells,
+            count,
+        ),
+        words::HASH => resolve_sent(
+            text,
+            rows,
+            n,
+            w.next,
+            symbols::ERROR,
+            cells::ERROR,
+            true,
+            cells,
+            count,
+        ),
+        words::GREATER => resolve_exit(w, inside, cells, count),
+        words::AT => resolve_call(text, rows, n, w.next, cells, count),
+        words::TWICE => resolve_give(text, rows, n, w, class, cells, count),
+        words::CARET => resolve_ranked(text, rows, n, w, cells, count),
+        _ => stopped(base::NOT_ALLOWED, w.start, w.len),
     }
 }
 
@@ -520,15 +558,15 @@ fn select_rule(
         return balked(o.fault, w.start, w.len);
     }
     let row = o.value;
-    let gives = symbols::number(rows, 8 * row + 7);
+    let gives = symbols::number(rows, symbols::ROW * row + symbols::THIRD_LEN);
     if gives == 0 {
-        return balked(5, w.start, w.len);
+        return balked(base::NOT_WANTED, w.start, w.len);
     }
-    let start = symbols::number(rows, 8 * row + 6);
+    let start = symbols::number(rows, symbols::ROW * row + symbols::THIRD_START);
     let class = class_named(text, rows, n, start, gives);
-    let place = symbols::number(rows, 8 * row + 1);
-    let c = put_two(cells, count, 11, place);
-    chose(w.next, c, class, 12)
+    let place = symbols::number(rows, symbols::ROW * row + symbols::VALUE);
+    let c = put_two(cells, count, cells::BY_RULE, place);
+    chose(w.next, c, class, cells::NO_OTHERWISE)
 }
 
 // A choice operation, declaration `row`, and its constant.
@@ -550,7 +588,7 @@ fn select_with(
         return balked(p.fault, p.at, p.len);
     }
     let c = put_operation(rows, row, p.there, p.value, cells, count);
-    chose(p.at, c, class, 12)
+    chose(p.at, c, class, cells::NO_OTHERWISE)
 }
 
 // A choice operation w and its constant.
@@ -570,11 +608,11 @@ fn select_operation(
         return balked(o.fault, w.start, w.len);
     }
     let row = o.value;
-    let chooses = symbols::number(rows, 8 * row + 7);
+    let chooses = symbols::number(rows, symbols::ROW * row + symbols::THIRD_LEN);
     if chooses == 0 {
-        return balked(5, w.start, w.len);
+        return balked(base::NOT_WANTED, w.start, w.len);
     }
-    let start = symbols::number(rows, 8 * row + 6);
+    let start = symbols::number(rows, symbols::ROW * row + symbols::THIRD_START);
     let class = class_named(text, rows, n, start, chooses);
     select_with(text, rows, n, row, w, class, cells, count)
 }
@@ -591,14 +629,14 @@ pub fn resolve_selector(
     ensures { λ r. ⌜ SelectorDone (now (text .entry)) (now (rows .entry)) n at (now (cells .entry)) count (now (cells .exit)) r ⌝ }
 {
     let w = scanner::next_word(text, at);
-    if w.kind == 64 {
+    if w.kind == words::AT {
         return select_rule(text, rows, n, w.next, cells, count);
     }
-    if w.kind == 257 {
+    if w.kind == words::NAME {
         return select_operation(text, rows, n, w, cells, count);
     }
-    let c = put(cells, count, 7);
-    chose(at, c, 1, 14)
+    let c = put(cells, count, cells::BY_TOKEN);
+    chose(at, c, symbols::INPUT, cells::NO_TOKEN)
 }
 
 // Labels
@@ -643,8 +681,8 @@ fn resolve_label(
     ensures { λ r. ⌜ LabelDone (now (text .entry)) (now (rows .entry)) n at class (now (seen .entry)) used r ⌝ }
 {
     let w = scanner::next_word(text, at);
-    if w.kind < 2 {
-        return mislabel(2, w);
+    if w.kind < LEAST_KIND {
+        return mislabel(base::NOT_ALLOWED, w);
     }
     let label = symbols::value_of(text, rows, n, class, w.start, w.len);
     if label.fault != 0 {
@@ -652,10 +690,10 @@ fn resolve_label(
     }
     let value = label.value as u16;
     if is_seen(seen, used, value) {
-        return mislabel(6, w);
+        return mislabel(base::LABEL_REPEATED, w);
     }
     if seen.len() <= used {
-        return mislabel(2, w);
+        return mislabel(base::NOT_ALLOWED, w);
     }
     Label {
         fault: 0,
@@ -693,7 +731,7 @@ pub fn resolve_labels(
         seen[u] = l.value;
         let more = u + 1;
         let w = scanner::next_word(text, l.at);
-        if w.kind != 44 {
+        if w.kind != words::COMMA {
             return Labels {
                 fault: 0,
                 at: l.at,
