@@ -15,6 +15,7 @@ ghost use Rattle.builder.specs.Parts.{ActDone, ActsDone, CycleDone, Choi
 use reader::is_closing;
 use resolver::Built;
 use resolver::Done;
+use resolver::Scope;
 use scanner::WordAt;
 
 // The first cell of an alternative without labels.
@@ -27,6 +28,25 @@ pub struct Rules {
     pub len: usize,
     pub count: usize,
     pub rules: usize,
+}
+
+// What the rows hold: n declarations, the first rule's being `first`.
+pub struct Listed {
+    pub n: usize,
+    pub first: usize,
+}
+
+// A place in the text, how many cells there are, and how many labels the choice has.
+pub struct Spot {
+    pub at: usize,
+    pub count: usize,
+    pub used: usize,
+}
+
+// A choice: the class of its labels, and the cell that stands for no otherwise.
+pub struct Choice {
+    pub labels: usize,
+    pub absent: u16,
 }
 
 // An alternative, and how many labels its choice has now.
@@ -122,15 +142,13 @@ fn put_labels(seen: &[u16], from: usize, to: usize, cells: &mut [u16], count: us
 fn build_actions(
     text: &[u8],
     rows: &[u16],
-    n: usize,
+    scope: Scope,
     at: usize,
-    inside: bool,
-    class: usize,
     cells: &mut [u16],
     count: usize,
 ) -> Built
-    requires { ⌜ (at ≤ length (now text)) × Kept (now text) (now rows) n ⌝ }
-    ensures { λ r. ⌜ ActsDone (now (text .entry)) (now (rows .entry)) n at inside class true false (now (cells .entry)) count (now (cells .exit)) r ⌝ }
+    requires { ⌜ (at ≤ length (now text)) × Kept (now text) (now rows) (scope .n) ⌝ }
+    ensures { λ r. ⌜ ActsDone (now (text .entry)) (now (rows .entry)) (scope .n) at (scope .inside) (scope .class) true false (now (cells .entry)) count (now (cells .exit)) r ⌝ }
 {
     let mut i = at;
     let mut c = count;
@@ -148,7 +166,7 @@ fn build_actions(
             };
             return Built { done, past, exits };
         }
-        let a = build_action(text, rows, n, i, inside, class, cells, c);
+        let a = build_action(text, rows, scope, i, cells, c);
         let d = a.done;
         if d.fault != 0 {
             return a;
@@ -163,41 +181,43 @@ fn build_actions(
 fn build_action(
     text: &[u8],
     rows: &[u16],
-    n: usize,
+    scope: Scope,
     at: usize,
-    inside: bool,
-    class: usize,
     cells: &mut [u16],
     count: usize,
 ) -> Built
-    requires { ⌜ (at ≤ length (now text)) × Kept (now text) (now rows) n ⌝ }
-    ensures { λ r. ⌜ ActDone (now (text .entry)) (now (rows .entry)) n at inside class (now (cells .entry)) count (now (cells .exit)) r ⌝ }
+    requires { ⌜ (at ≤ length (now text)) × Kept (now text) (now rows) (scope .n) ⌝ }
+    ensures { λ r. ⌜ ActDone (now (text .entry)) (now (rows .entry)) (scope .n) at (scope .inside) (scope .class) (now (cells .entry)) count (now (cells .exit)) r ⌝ }
 {
     let w = look(text, at);
     if w.kind == words::DO {
-        return build_cycle(text, rows, n, w.next, class, cells, count);
+        return build_cycle(text, rows, scope, w.next, cells, count);
     }
     if w.kind == words::IF {
-        return build_choice(text, rows, n, w.next, inside, class, cells, count);
+        return build_choice(text, rows, scope, w.next, cells, count);
     }
-    resolver::resolve_plain(text, rows, n, at, inside, class, cells, count)
+    resolver::resolve_plain(text, rows, scope, at, cells, count)
 }
 
 // The rest of a cycle after its brace.
 fn build_cycle(
     text: &[u8],
     rows: &[u16],
-    n: usize,
+    scope: Scope,
     at: usize,
-    class: usize,
     cells: &mut [u16],
     count: usize,
 ) -> Built
-    requires { ⌜ (at ≤ length (now text)) × Kept (now text) (now rows) n ⌝ }
-    ensures { λ r. ⌜ CycleDone (now (text .entry)) (now (rows .entry)) n at class (now (cells .entry)) count (now (cells .exit)) r ⌝ }
+    requires { ⌜ (at ≤ length (now text)) × Kept (now text) (now rows) (scope .n) ⌝ }
+    ensures { λ r. ⌜ CycleDone (now (text .entry)) (now (rows .entry)) (scope .n) at (scope .class) (now (cells .entry)) count (now (cells .exit)) r ⌝ }
 {
     let c = resolver::put(cells, count, cells::CYCLE);
-    let b = build_actions(text, rows, n, at, true, class, cells, c);
+    let body = Scope {
+        n: scope.n,
+        inside: true,
+        class: scope.class,
+    };
+    let b = build_actions(text, rows, body, at, cells, c);
     let d = b.done;
     if d.fault != 0 {
         return b;
@@ -222,17 +242,15 @@ fn build_cycle(
 fn build_choice(
     text: &[u8],
     rows: &[u16],
-    n: usize,
+    scope: Scope,
     at: usize,
-    inside: bool,
-    class: usize,
     cells: &mut [u16],
     count: usize,
 ) -> Built
-    requires { ⌜ (at ≤ length (now text)) × Kept (now text) (now rows) n ⌝ }
-    ensures { λ r. ⌜ ChoiceDone (now (text .entry)) (now (rows .entry)) n at inside class (now (cells .entry)) count (now (cells .exit)) r ⌝ }
+    requires { ⌜ (at ≤ length (now text)) × Kept (now text) (now rows) (scope .n) ⌝ }
+    ensures { λ r. ⌜ ChoiceDone (now (text .entry)) (now (rows .entry)) (scope .n) at (scope .inside) (scope .class) (now (cells .entry)) count (now (cells .exit)) r ⌝ }
 {
-    let s = resolver::resolve_selector(text, rows, n, at, cells, count);
+    let s = resolver::resolve_selector(text, rows, scope.n, at, cells, count);
     let d = s.done;
     if d.fault != 0 {
         return Built {
@@ -243,62 +261,41 @@ fn build_choice(
     }
     let w = look(text, d.at);
     let mut seen: [u16; base::LABELS] = [0; base::LABELS];
-    build_alternatives(
-        text,
-        rows,
-        n,
-        w.next,
-        inside,
-        class,
-        s.class,
-        s.absent,
-        &mut seen,
-        cells,
-        d.count,
-    )
+    let spot = Spot {
+        at: w.next,
+        count: d.count,
+        used: 0,
+    };
+    let choice = Choice {
+        labels: s.class,
+        absent: s.absent,
+    };
+    build_alternatives(text, rows, scope, spot, choice, &mut seen, cells)
 }
 
-// The alternatives of a choice whose labels are of the class `labels`; `absent` is the cell for no otherwise, `seen` holds the labels so far.
+// The alternatives of a choice, behind its bar; `seen` holds the labels so far.
 fn build_alternatives(
     text: &[u8],
     rows: &[u16],
-    n: usize,
-    at: usize,
-    inside: bool,
-    class: usize,
-    labels: usize,
-    absent: u16,
+    scope: Scope,
+    spot: Spot,
+    choice: Choice,
     seen: &mut [u16],
     cells: &mut [u16],
-    count: usize,
 ) -> Built
-    requires { ⌜ (at ≤ length (now text)) × Kept (now text) (now rows) n × (length (now seen) ≡ 64) ⌝ }
-    ensures { λ r. ⌜ AltsDone (now (text .entry)) (now (rows .entry)) n at inside class labels absent (now (seen .entry)) 0 false false (now (cells .entry)) count (now (cells .exit)) r ⌝ }
+    requires { ⌜ (spot .at ≤ length (now text)) × Kept (now text) (now rows) (scope .n) × (length (now seen) ≡ 64) × (spot .used ≤ 64) ⌝ }
+    ensures { λ r. ⌜ AltsDone (now (text .entry)) (now (rows .entry)) (scope .n) (spot .at) (scope .inside) (scope .class) (choice .labels) (choice .absent) (now (seen .entry)) (spot .used) false false (now (cells .entry)) (spot .count) (now (cells .exit)) r ⌝ }
 {
-    let mut i = at;
-    let mut c = count;
-    let mut used: usize = 0;
+    let mut here = spot;
     let mut past = false;
     let mut exits = false;
     loop {
-        let w = look(text, i);
+        let w = look(text, here.at);
         if w.kind == words::STAR {
-            let o = build_otherwise(text, rows, n, w.next, inside, class, cells, c);
+            let o = build_otherwise(text, rows, scope, w.next, cells, here.count);
             return joined(past, exits, o);
         }
-        let l = build_labelled(
-            text,
-            rows,
-            n,
-            i,
-            inside,
-            class,
-            labels,
-            seen,
-            used,
-            cells,
-            c,
-        );
+        let l = build_labelled(text, rows, scope, here, choice.labels, seen, cells);
         let b = l.built;
         let d = b.done;
         if d.fault != 0 {
@@ -309,32 +306,30 @@ fn build_alternatives(
         exits = j.exits;
         let s = look(text, d.at);
         if s.kind != words::BAR {
-            return without_otherwise(s.next, past, exits, absent, cells, d.count);
+            return without_otherwise(s.next, past, exits, choice.absent, cells, d.count);
         }
-        i = s.next;
-        c = d.count;
-        used = l.used;
+        here.at = s.next;
+        here.count = d.count;
+        here.used = l.used;
     }
 }
 
-// An alternative after its bar: its labels and its actions.
+// An alternative after its bar: its labels, of the class, and its actions.
 fn build_labelled(
     text: &[u8],
     rows: &[u16],
-    n: usize,
-    at: usize,
-    inside: bool,
-    class: usize,
+    scope: Scope,
+    spot: Spot,
     labels: usize,
     seen: &mut [u16],
-    used: usize,
     cells: &mut [u16],
-    count: usize,
 ) -> Labelled
-    requires { ⌜ (at ≤ length (now text)) × Kept (now text) (now rows) n × (length (now seen) ≡ 64) × (used ≤ 64) ⌝ }
-    ensures { λ r. ⌜ LabelledDone (now (text .entry)) (now (rows .entry)) n at inside class labels (now (seen .entry)) used (now (seen .exit)) (now (cells .entry)) count (now (cells .exit)) r ⌝ }
+    requires { ⌜ (spot .at ≤ length (now text)) × Kept (now text) (now rows) (scope .n) × (length (now seen) ≡ 64) × (spot .used ≤ 64) ⌝ }
+    ensures { λ r. ⌜ LabelledDone (now (text .entry)) (now (rows .entry)) (scope .n) (spot .at) (scope .inside) (scope .class) labels (now (seen .entry)) (spot .used) (now (seen .exit)) (now (cells .entry)) (spot .count) (now (cells .exit)) r ⌝ }
 {
-    let l = resolver::resolve_labels(text, rows, n, at, labels, seen, used);
+    let n = scope.n;
+    let used = spot.used;
+    let l = resolver::resolve_labels(text, rows, n, spot.at, labels, seen, used);
     if l.fault != 0 {
         let done = Done {
             fault: l.fault,
@@ -350,8 +345,8 @@ fn build_labelled(
         return Labelled { built, used };
     }
     let w = look(text, l.at);
-    let c = put_labels(seen, used, l.used, cells, count);
-    let built = build_actions(text, rows, n, w.next, inside, class, cells, c);
+    let c = put_labels(seen, used, l.used, cells, spot.count);
+    let built = build_actions(text, rows, scope, w.next, cells, c);
     Labelled {
         built,
         used: l.used,
@@ -362,19 +357,17 @@ fn build_labelled(
 fn build_otherwise(
     text: &[u8],
     rows: &[u16],
-    n: usize,
+    scope: Scope,
     at: usize,
-    inside: bool,
-    class: usize,
     cells: &mut [u16],
     count: usize,
 ) -> Built
-    requires { ⌜ (at ≤ length (now text)) × Kept (now text) (now rows) n ⌝ }
-    ensures { λ r. ⌜ OtherDone (now (text .entry)) (now (rows .entry)) n at inside class (now (cells .entry)) count (now (cells .exit)) r ⌝ }
+    requires { ⌜ (at ≤ length (now text)) × Kept (now text) (now rows) (scope .n) ⌝ }
+    ensures { λ r. ⌜ OtherDone (now (text .entry)) (now (rows .entry)) (scope .n) at (scope .inside) (scope .class) (now (cells .entry)) count (now (cells .exit)) r ⌝ }
 {
     let w = look(text, at);
     let c = resolver::put(cells, count, cells::OTHERWISE);
-    let b = build_actions(text, rows, n, w.next, inside, class, cells, c);
+    let b = build_actions(text, rows, scope, w.next, cells, c);
     let d = b.done;
     if d.fault != 0 {
         return b;
@@ -484,30 +477,31 @@ fn rejected(fault: u16, at: usize, len: usize) -> Ruled
 fn build_rule(
     text: &[u8],
     rows: &[u16],
-    n: usize,
-    first: usize,
+    listed: Listed,
     k: usize,
     at: usize,
     cells: &mut [u16],
     count: usize,
 ) -> Ruled
-    requires { ⌜ (at ≤ length (now text)) × Kept (now text) (now rows) n × (first ≤ 512) × (k < 128) ⌝ }
-    ensures { λ r. ⌜ RuleDone (now (text .entry)) (now (rows .entry)) n first k at (now (cells .entry)) count (now (cells .exit)) r ⌝ }
+    requires { ⌜ (at ≤ length (now text)) × Kept (now text) (now rows) (listed .n) × (listed .first ≤ 512) × (k < 128) ⌝ }
+    ensures { λ r. ⌜ RuleDone (now (text .entry)) (now (rows .entry)) (listed .n) (listed .first) k at (now (cells .entry)) count (now (cells .exit)) r ⌝ }
 {
-    let h = read_head(text, rows, n, first, k, at);
+    let h = read_head(text, rows, listed.n, listed.first, k, at);
     if h.fault != 0 {
         return rejected(h.fault, h.at, h.len);
     }
-    let b = build_actions(text, rows, n, h.at, false, h.class, cells, count);
+    let scope = Scope {
+        n: listed.n,
+        inside: false,
+        class: h.class,
+    };
+    let b = build_actions(text, rows, scope, h.at, cells, count);
     let d = b.done;
+    let valued = 0 < h.class;
     if d.fault != 0 {
-        return Ruled {
-            done: d,
-            valued: false,
-        };
+        return Ruled { done: d, valued };
     }
     let w = look(text, d.at);
-    let valued = 0 < h.class;
     if both(valued, b.past) {
         return rejected(base::WRONG_RETURN, w.start, w.len);
     }
@@ -552,25 +546,36 @@ fn refused(fault: u16, at: usize, len: usize) -> Rules
     }
 }
 
-// The rules from the place `at` on: their cells, where each begins, and its sort. The rows hold n declarations, the first rule's being `first`.
+fn finished(d: Done, rules: usize) -> Rules
+    ensures { λ r. ⌜ (r .fault ≡ 0) × (r .rules ≡ rules) × (r .count ≡ d .count) ⌝ }
+{
+    Rules {
+        fault: 0,
+        at: d.at,
+        len: 0,
+        count: d.count,
+        rules,
+    }
+}
+
+// The rules from the place `at` on: their cells, where each begins, and its sort.
 pub fn build(
     text: &[u8],
     rows: &[u16],
-    n: usize,
-    first: usize,
+    listed: Listed,
     at: usize,
     cells: &mut [u16],
     starts: &mut [u16],
     sorts: &mut [u8],
 ) -> Rules
-    requires { ⌜ (at ≤ length (now text)) × (first ≤ 512) × Kept (now text) (now rows) n × (length (now starts) ≡ 128) × (length (now sorts) ≡ 128) × (length (now cells) ≤ 60000) ⌝ }
-    ensures { λ r. ⌜ RulesDone (now (text .entry)) (now (rows .entry)) n first at (now (cells .entry)) (now (cells .exit)) (now (starts .exit)) (now (sorts .exit)) r ⌝ }
+    requires { ⌜ (at ≤ length (now text)) × (listed .first ≤ 512) × Kept (now text) (now rows) (listed .n) × (length (now starts) ≡ 128) × (length (now sorts) ≡ 128) × (length (now cells) ≤ 60000) ⌝ }
+    ensures { λ r. ⌜ RulesDone (now (text .entry)) (now (rows .entry)) (listed .n) (listed .first) at (now (cells .entry)) (now (cells .exit)) (now (starts .exit)) (now (sorts .exit)) r ⌝ }
 {
     let mut i = at;
     let mut c: usize = 0;
     let mut k: usize = 0;
     loop {
-        let r = build_rule(text, rows, n, first, k, i, cells, c);
+        let r = build_rule(text, rows, listed, k, i, cells, c);
         let d = r.done;
         if d.fault != 0 {
             return refused(d.fault, d.at, d.len);
@@ -579,13 +584,7 @@ pub fn build(
         let next = k + 1;
         let w = look(text, d.at);
         if w.kind != words::NAME {
-            return Rules {
-                fault: 0,
-                at: d.at,
-                len: 0,
-                count: d.count,
-                rules: next,
-            };
+            return finished(d, next);
         }
         if next == base::RULES {
             return refused(base::NOT_ALLOWED, d.at, 0);

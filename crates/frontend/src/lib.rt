@@ -4,6 +4,7 @@ ghost use Prim.Native.Nat.{_≤_};
 ghost use lib.ListN.{length};
 ghost use Rattle.frontend.specs.Resolving.{ResolvesRules, ResolvesRead};
 ghost use Rattle.symbols.specs.Index.{Kept};
+use builder::Listed;
 use collector::Collected;
 
 // A text whose rules are resolved: 0, or the number and the part of its first fault; the cells that its rules take, also those past the
@@ -67,7 +68,9 @@ fn resolve_rules(
     ensures { λ r. ⌜ ResolvesRules (now (text .entry)) (now (rows .entry)) (now (rows .exit)) c (now (cells .exit)) (now (starts .exit)) (now (sorts .exit)) r ⌝ }
 {
     let q = maker::pairs(text, rows, c.count, c.rules, c.at);
-    let b = builder::build(text, rows, c.count, c.rules, c.at, cells, starts, sorts);
+    let first = c.rules;
+    let listed = Listed { n: c.count, first };
+    let b = builder::build(text, rows, listed, c.at, cells, starts, sorts);
     if b.fault != 0 {
         return mistake(b.fault, b.at, b.len);
     }

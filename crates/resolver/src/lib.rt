@@ -5,7 +5,7 @@ ghost use Prim.Native.Nat.{ℕ, _+_, _*_, _<_, _≤_};
 ghost use lib.ListN.{length, getD, take};
 ghost use Rattle.base.specs.Common.{member};
 ghost use Rattle.declarations.specs.Decls.{classNamed};
-ghost use Rattle.program.specs.Program.{Plain};
+ghost use Rattle.program.specs.Program.{Plain, emit, error};
 ghost use Rattle.resolver.specs.Parts.{Lies, Went, Stopped, RestDone, NameIn, Sends, MatchDone, UpdateDone, NamedDone, SentDone, callOf, GivenDone, GiveDone, AnyDone, ExitDone, RankedDone};
 ghost use Rattle.resolver.specs.Parts.{operationCells, Misfit, ValueDone, OperandDone, Chose, Balked, ChoiceDone, byRuleOf, WithDone, ByOperationDone, Mislabel, LabelDone};
 ghost use Rattle.resolver.specs.Resolved.{Appends, PlainDone, SelectorDone, LabelsDone};
@@ -21,6 +21,26 @@ const LEAST_KIND: u16 = 2;
 pub const PROCEDURE: u8 = 0;
 
 pub const CHOICE: u8 = 1;
+
+// Where an action stands: among n declarations, in a cycle or not, in a rule that gives values of the class (0: in a procedure rule).
+pub struct Scope {
+    pub n: usize,
+    pub inside: bool,
+    pub class: usize,
+}
+
+// An action with a value: the value's class, the action's first cell, and whether it goes past itself.
+pub struct Sent {
+    pub class: usize,
+    pub first: u16,
+    pub past: bool,
+}
+
+// A choice operation: its declaration, and the class of its answers.
+pub struct Asked {
+    pub row: usize,
+    pub class: usize,
+}
 
 // fault 0: read up to the place `at`, and there are `count` cells. Else the fault's number and its word.
 pub struct Done {
@@ -318,28 +338,66 @@ fn resolve_named(
     resolve_update(text, rows, n, w, cells, count)
 }
 
-// A name or string of the class, and its action of two cells.
+// A name or string, and its action of two cells.
 fn resolve_sent(
     text: &[u8],
     rows: &[u16],
     n: usize,
     at: usize,
-    class: usize,
-    first: u16,
-    past: bool,
+    sent: Sent,
     cells: &mut [u16],
     count: usize,
 ) -> Built
     requires { ⌜ (at ≤ length (now text)) × Kept (now text) (now rows) n ⌝ }
-    ensures { λ r. ⌜ ((f : ℕ → Plain) → Sends first past f → SentDone f class (now (text .entry)) (now (rows .entry)) n at (now (cells .entry)) count (now (cells .exit)) r) ⌝ }
+    ensures { λ r. ⌜ ((f : ℕ → Plain) → Sends (sent .first) (sent .past) f → SentDone f (sent .class) (now (text .entry)) (now (rows .entry)) n at (now (cells .entry)) count (now (cells .exit)) r) ⌝ }
 {
     let w = scanner::next_word(text, at);
-    let v = symbols::value_of(text, rows, n, class, w.start, w.len);
+    let v = symbols::value_of(text, rows, n, sent.class, w.start, w.len);
     if v.fault != 0 {
         return stopped(v.fault, w.start, w.len);
     }
-    let c = put_two(cells, count, first, v.value);
-    went(w.next, c, past)
+    let c = put_two(cells, count, sent.first, v.value);
+    went(w.next, c, sent.past)
+}
+
+// An output's name or string after `.`.
+fn resolve_emit(
+    text: &[u8],
+    rows: &[u16],
+    n: usize,
+    at: usize,
+    cells: &mut [u16],
+    count: usize,
+) -> Built
+    requires { ⌜ (at ≤ length (now text)) × Kept (now text) (now rows) n ⌝ }
+    ensures { λ r. ⌜ SentDone emit 2 (now (text .entry)) (now (rows .entry)) n at (now (cells .entry)) count (now (cells .exit)) r ⌝ }
+{
+    let sent = Sent {
+        class: symbols::OUTPUT,
+        first: cells::EMIT,
+        past: true,
+    };
+    resolve_sent(text, rows, n, at, sent, cells, count)
+}
+
+// An error's name or string after `#`.
+fn resolve_error(
+    text: &[u8],
+    rows: &[u16],
+    n: usize,
+    at: usize,
+    cells: &mut [u16],
+    count: usize,
+) -> Built
+    requires { ⌜ (at ≤ length (now text)) × Kept (now text) (now rows) n ⌝ }
+    ensures { λ r. ⌜ SentDone error 4 (now (text .entry)) (now (rows .entry)) n at (now (cells .entry)) count (now (cells .exit)) r ⌝ }
+{
+    let sent = Sent {
+        class: symbols::ERROR,
+        first: cells::ERROR,
+        past: true,
+    };
+    resolve_sent(text, rows, n, at, sent, cells, count)
 }
 
 // A procedure rule's name after `@`.
@@ -419,17 +477,12 @@ fn give_value(
         let v = scanner::next_word(text, w.next);
         return stopped(base::WRONG_RETURN, v.start, v.len);
     }
-    resolve_sent(
-        text,
-        rows,
-        n,
-        w.next,
+    let sent = Sent {
         class,
-        cells::GIVE,
-        false,
-        cells,
-        count,
-    )
+        first: cells::GIVE,
+        past: false,
+    };
+    resolve_sent(text, rows, n, w.next, sent, cells, count)
 }
 
 // The rest of `>>`, the word w.
@@ -488,51 +541,30 @@ fn resolve_exit(w: WordAt, inside: bool, cells: &mut [u16], count: usize) -> Bui
     stopped(base::NO_CYCLE, w.start, w.len)
 }
 
-// A plain action: what it means, in a cycle or not, in a rule that gives values of the class (0: in a procedure rule).
+// A plain action, and what it means there.
 pub fn resolve_plain(
     text: &[u8],
     rows: &[u16],
-    n: usize,
+    scope: Scope,
     at: usize,
-    inside: bool,
-    class: usize,
     cells: &mut [u16],
     count: usize,
 ) -> Built
-    requires { ⌜ (at ≤ length (now text)) × Kept (now text) (now rows) n ⌝ }
-    ensures { λ r. ⌜ PlainDone (now (text .entry)) (now (rows .entry)) n at inside class (now (cells .entry)) count (now (cells .exit)) r ⌝ }
+    requires { ⌜ (at ≤ length (now text)) × Kept (now text) (now rows) (scope .n) ⌝ }
+    ensures { λ r. ⌜ PlainDone (now (text .entry)) (now (rows .entry)) (scope .n) at (scope .inside) (scope .class) (now (cells .entry)) count (now (cells .exit)) r ⌝ }
 {
+    let n = scope.n;
     let w = scanner::next_word(text, at);
     let kind = w.kind;
     match kind {
         words::NAME => resolve_named(text, rows, n, w, cells, count),
         words::STRING => resolve_named(text, rows, n, w, cells, count),
         words::QUESTION => resolve_any(w, cells, count),
-        words::POINT => resolve_sent(
-            text,
-            rows,
-            n,
-            w.next,
-            symbols::OUTPUT,
-            cells::EMIT,
-            true,
-            cells,
-            count,
-        ),
-        words::HASH => resolve_sent(
-            text,
-            rows,
-            n,
-            w.next,
-            symbols::ERROR,
-            cells::ERROR,
-            true,
-            cells,
-            count,
-        ),
-        words::GREATER => resolve_exit(w, inside, cells, count),
+        words::POINT => resolve_emit(text, rows, n, w.next, cells, count),
+        words::HASH => resolve_error(text, rows, n, w.next, cells, count),
+        words::GREATER => resolve_exit(w, scope.inside, cells, count),
         words::AT => resolve_call(text, rows, n, w.next, cells, count),
-        words::TWICE => resolve_give(text, rows, n, w, class, cells, count),
+        words::TWICE => resolve_give(text, rows, n, w, scope.class, cells, count),
         words::CARET => resolve_ranked(text, rows, n, w, cells, count),
         _ => stopped(base::NOT_ALLOWED, w.start, w.len),
     }
@@ -569,26 +601,25 @@ fn select_rule(
     chose(w.next, c, class, cells::NO_OTHERWISE)
 }
 
-// A choice operation, declaration `row`, and its constant.
+// A choice operation w and its constant, the declaration being known.
 fn select_with(
     text: &[u8],
     rows: &[u16],
     n: usize,
-    row: usize,
+    asked: Asked,
     w: WordAt,
-    class: usize,
     cells: &mut [u16],
     count: usize,
 ) -> Selected
-    requires { ⌜ Lies (now text) w × Kept (now text) (now rows) n × (row < n) ⌝ }
-    ensures { λ r. ⌜ WithDone w row class (now (text .entry)) (now (rows .entry)) n (now (cells .entry)) count (now (cells .exit)) r ⌝ }
+    requires { ⌜ Lies (now text) w × Kept (now text) (now rows) n × (asked .row < n) ⌝ }
+    ensures { λ r. ⌜ WithDone w (asked .row) (asked .class) (now (text .entry)) (now (rows .entry)) n (now (cells .entry)) count (now (cells .exit)) r ⌝ }
 {
-    let p = parameter_of(text, rows, n, row, w);
+    let p = parameter_of(text, rows, n, asked.row, w);
     if p.fault != 0 {
         return balked(p.fault, p.at, p.len);
     }
-    let c = put_operation(rows, row, p.there, p.value, cells, count);
-    chose(p.at, c, class, cells::NO_OTHERWISE)
+    let c = put_operation(rows, asked.row, p.there, p.value, cells, count);
+    chose(p.at, c, asked.class, cells::NO_OTHERWISE)
 }
 
 // A choice operation w and its constant.
@@ -614,7 +645,8 @@ fn select_operation(
     }
     let start = symbols::number(rows, symbols::ROW * row + symbols::THIRD_START);
     let class = class_named(text, rows, n, start, chooses);
-    select_with(text, rows, n, row, w, class, cells, count)
+    let asked = Asked { row, class };
+    select_with(text, rows, n, asked, w, cells, count)
 }
 
 pub fn resolve_selector(

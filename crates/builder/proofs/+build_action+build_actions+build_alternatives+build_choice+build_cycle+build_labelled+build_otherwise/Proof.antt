@@ -60,7 +60,7 @@ abbrev μ-build-actions : Measures 3 build-actions-kinds.ps ℕ
 μ-build-actions κs a = 5 * (length (a .0 .now) - a .1 .1 .1 .0) + 1
 
 abbrev μ-build-alternatives : Measures 4 build-alternatives-kinds.ps ℕ
-μ-build-alternatives κs a = 5 * (length (a .0 .now) - a .1 .1 .1 .0) + 3
+μ-build-alternatives κs a = 5 * (length (a .0 .now) - a .1 .1 .1 .0 .at) + 3
 
 abbrev μ-build-choice : Measures 3 build-choice-kinds.ps ℕ
 μ-build-choice κs a = 5 * (length (a .0 .now) - a .1 .1 .1 .0) + 4
@@ -69,7 +69,7 @@ abbrev μ-build-cycle : Measures 3 build-cycle-kinds.ps ℕ
 μ-build-cycle κs a = 5 * (length (a .0 .now) - a .1 .1 .1 .0) + 2
 
 abbrev μ-build-labelled : Measures 4 build-labelled-kinds.ps ℕ
-μ-build-labelled κs a = 5 * (length (a .0 .now) - a .1 .1 .1 .0) + 2
+μ-build-labelled κs a = 5 * (length (a .0 .now) - a .1 .1 .1 .0 .at) + 2
 
 abbrev μ-build-otherwise : Measures 3 build-otherwise-kinds.ps ℕ
 μ-build-otherwise κs a = 5 * (length (a .0 .now) - a .1 .1 .1 .0) + 2
@@ -218,12 +218,12 @@ build-action-returns-3 : (t : ℕ) → build-action-lts.Need-returns-3 (build-ac
 build-action-returns-3 t c = act-plain (c .before .before .before .before .before .before .before .before .look .ensures) (c .before .before .before .before .before .before .if1 .left) (c .before .before .before .before .if2 .left) (c .before .before .resolve-plain .ensures)
 
 abbrev build-actions-Inv-loop : build-actions-lts.InvT-loop
-build-actions-Inv-loop text rows n at inside class cells₀ count i₀ c₀ past₀ exits₀ cells i c past exits =
+build-actions-Inv-loop text rows scope at cells₀ count i₀ c₀ past₀ exits₀ cells i c past exits =
     (at ≤ i) × (i ≤ length text) × (length cells ≡ length cells₀)
-    × ((cs : List ℕ) (r : Built) → ActsDone text rows n i inside class past exits cells c cs r → ActsDone text rows n at inside class true false cells₀ count cs r)
+    × ((cs : List ℕ) (r : Built) → ActsDone text rows (scope .n) i (scope .inside) (scope .class) past exits cells c cs r → ActsDone text rows (scope .n) at (scope .inside) (scope .class) true false cells₀ count cs r)
 
 abbrev build-actions-μ-loop : build-actions-lts.MeasureT-loop
-build-actions-μ-loop text rows n at inside class cells₀ count i₀ c₀ past₀ exits₀ cells i c past exits = length text - i
+build-actions-μ-loop text rows scope at cells₀ count i₀ c₀ past₀ exits₀ cells i c past exits = length text - i
 
 build-actions-loop-holds : (t : ℕ) → build-actions-lts.Need-loop-holds (build-actions-claims t) (build-actions-at t) build-actions.Post build-actions-Inv-loop build-actions-μ-loop
 build-actions-loop-holds t c = (omega arith, omega arith, refl, λ cs r e. e)
@@ -265,12 +265,12 @@ build-actions-loop-again : (t : ℕ) → build-actions-lts.Need-loop-again (buil
 build-actions-loop-again t c = (omega (arith, c .before .before .before .before .before .before .before .build-action .ensures .kept .low (c .before .before .if2 .left)), c .before .before .before .before .before .before .before .build-action .ensures .kept .high (c .before .before .if2 .left), c .before .before .before .before .before .before .before .build-action .ensures .kept .same ∙ c .before .before .before .before .before .before .before .before .before .before .before .before .loop .inv .2, λ cs r e. c .before .before .before .before .before .before .before .before .before .before .before .before .loop .inv .3 cs r (acts-more (c .before .before .before .before .before .before .before .before .before .before .before .look .ensures) (sym (c .before .before .before .before .before .before .before .before .before .before .is-closing .ensures) ∙ c .before .before .before .before .before .before .before .before .before .if1 .left) (c .before .before .before .before .before .before .before .build-action .ensures) (c .before .before .if2 .left) (c .before .both .ensures) (c .either .ensures) e))
 
 abbrev build-alternatives-Inv-loop : build-alternatives-lts.InvT-loop
-build-alternatives-Inv-loop text rows n at inside class labels absent seen₀ cells₀ count i₀ c₀ used₀ past₀ exits₀ seen cells i c used past exits =
-    (at ≤ i) × (i ≤ length text) × (length cells ≡ length cells₀) × (length seen ≡ 64) × (used ≤ 64)
-    × ((cs : List ℕ) (r : Built) → AltsDone text rows n i inside class labels absent seen used past exits cells c cs r → AltsDone text rows n at inside class labels absent seen₀ 0 false false cells₀ count cs r)
+build-alternatives-Inv-loop text rows scope choice seen₀ cells₀ spot past₀ exits₀ seen cells here past exits =
+    (spot .at ≤ here .at) × (here .at ≤ length text) × (length cells ≡ length cells₀) × (length seen ≡ 64) × (here .used ≤ 64)
+    × ((cs : List ℕ) (r : Built) → AltsDone text rows (scope .n) (here .at) (scope .inside) (scope .class) (choice .labels) (choice .absent) seen (here .used) past exits cells (here .count) cs r → AltsDone text rows (scope .n) (spot .at) (scope .inside) (scope .class) (choice .labels) (choice .absent) seen₀ (spot .used) false false cells₀ (spot .count) cs r)
 
 abbrev build-alternatives-μ-loop : build-alternatives-lts.MeasureT-loop
-build-alternatives-μ-loop text rows n at inside class labels absent seen₀ cells₀ count i₀ c₀ used₀ past₀ exits₀ seen cells i c used past exits = length text - i
+build-alternatives-μ-loop text rows scope choice seen₀ cells₀ spot past₀ exits₀ seen cells here past exits = length text - here .at
 
 build-alternatives-loop-holds : (t : ℕ) → build-alternatives-lts.Need-loop-holds (build-alternatives-claims t) (build-alternatives-at t) build-alternatives.Post build-alternatives-Inv-loop build-alternatives-μ-loop
 build-alternatives-loop-holds t c = (omega arith, omega arith, refl, omega arith, omega arith, λ cs r e. e)
@@ -345,7 +345,7 @@ build-choice-slice-aggregate-build-alternatives : (t : ℕ) → build-choice-lts
 build-choice-slice-aggregate-build-alternatives t c = search needs
 
 build-choice-build-alternatives-requires : (t : ℕ) → build-choice-lts.Need-build-alternatives-requires (build-choice-claims t) (build-choice-at t) build-choice.Post
-build-choice-build-alternatives-requires t c κs = (omega (arith, c .before .before .before .before .before .before .before .before .resolve-selector .ensures .low (c .before .before .before .if1 .left), c .before .before .look .ensures .onto, c .before .before .look .ensures .high (c .before .before .before .before .before .before .before .before .resolve-selector .ensures .high (c .before .before .before .if1 .left))), (c .before .before .look .ensures .high (c .before .before .before .before .before .before .before .before .resolve-selector .ensures .high (c .before .before .before .if1 .left)), c .before .before .before .before .before .before .before .before .before .before .before .before .before .pre .1 .1, refl))
+build-choice-build-alternatives-requires t c κs = (omega (arith, c .before .before .before .before .before .before .before .before .resolve-selector .ensures .low (c .before .before .before .if1 .left), c .before .before .look .ensures .onto, c .before .before .look .ensures .high (c .before .before .before .before .before .before .before .before .resolve-selector .ensures .high (c .before .before .before .if1 .left))), (c .before .before .look .ensures .high (c .before .before .before .before .before .before .before .before .resolve-selector .ensures .high (c .before .before .before .if1 .left)), c .before .before .before .before .before .before .before .before .before .before .before .before .before .pre .1 .1, refl, omega arith))
 
 build-choice-same-length-2 : (t : ℕ) → build-choice-lts.Need-same-length-2 (build-choice-claims t) (build-choice-at t) build-choice.Post
 build-choice-same-length-2 t c = c .before .before .before .build-alternatives .ensures .kept .same ∙ c .before .before .before .before .before .before .before .before .before .before .before .before .resolve-selector .ensures .same

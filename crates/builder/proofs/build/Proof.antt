@@ -18,12 +18,12 @@ use Rattle.builder.proofs.refused.Reads as refused-reads
 use Rattle.builder.proofs.store.Reads as store-reads
 
 abbrev Inv-loop : tie.InvT-loop
-Inv-loop text rows n first at cells₀ starts₀ sorts₀ i₀ c₀ k₀ cells starts sorts i c k =
+Inv-loop text rows listed at cells₀ starts₀ sorts₀ i₀ c₀ k₀ cells starts sorts i c k =
     (k < 128) × (i ≤ length text) × (length cells ≡ length cells₀) × (length starts ≡ 128) × (length sorts ≡ 128)
-    × ((cs a b : List ℕ) (r : Rules) → RowDone text rows n first k i cells c cs starts sorts a b r → RowDone text rows n first 0 at cells₀ 0 cs starts₀ sorts₀ a b r)
+    × ((cs a b : List ℕ) (r : Rules) → RowDone text rows (listed .n) (listed .first) k i cells c cs starts sorts a b r → RowDone text rows (listed .n) (listed .first) 0 at cells₀ 0 cs starts₀ sorts₀ a b r)
 
 abbrev μ-loop : tie.MeasureT-loop
-μ-loop text rows n first at cells₀ starts₀ sorts₀ i₀ c₀ k₀ cells starts sorts i c k = 128 - k
+μ-loop text rows listed at cells₀ starts₀ sorts₀ i₀ c₀ k₀ cells starts sorts i c k = 128 - k
 
 loop-holds : tie.Need-loop-holds Inv-loop μ-loop
 loop-holds c = (omega arith, c .before .before .before .before .before .pre .0, refl, c .before .before .before .before .before .pre .3, c .before .before .before .before .before .pre .4, λ cs a b r e. e)
@@ -55,17 +55,20 @@ add-next c = omega (arith, c .before .before .before .before .before .before .be
 look-requires : tie.Need-look-requires Inv-loop μ-loop
 look-requires c κs = search needs
 
+finished-requires : tie.Need-finished-requires Inv-loop μ-loop
+finished-requires c κs = search needs
+
 same-length-4 : tie.Need-same-length-4 Inv-loop μ-loop
-same-length-4 c = omega (arith, c .before .before .before .before .before .before .before .before .before .before .before .before .before .before .before .before .before .before .before .before .before .before .before .pre .3, c .before .before .before .before .before .before .before .before .before .before .before .before .before .before .before .before .before .before .before .before .before .before .before .pre .4, c .before .before .before .before .before .before .before .before .before .before .before .before .before .before .before .before .before .loop .inv .2, c .before .before .before .before .before .before .before .before .before .before .before .before .before .before .before .before .before .loop .inv .3, c .before .before .before .before .before .before .before .before .before .before .before .before .before .before .before .before .before .loop .inv .4, c .before .before .before .before .before .before .before .before .before .before .before .before .before .before .before .build-rule .ensures .same, c .before .before .before .before .before .before .before .store .kept .0, c .before .before .before .before .before .before .before .store .kept .1 .0)
+same-length-4 c = omega (arith, c .before .before .before .before .before .before .before .before .before .before .before .before .before .before .before .before .before .before .before .before .before .before .before .before .pre .3, c .before .before .before .before .before .before .before .before .before .before .before .before .before .before .before .before .before .before .before .before .before .before .before .before .pre .4, c .before .before .before .before .before .before .before .before .before .before .before .before .before .before .before .before .before .before .loop .inv .2, c .before .before .before .before .before .before .before .before .before .before .before .before .before .before .before .before .before .before .loop .inv .3, c .before .before .before .before .before .before .before .before .before .before .before .before .before .before .before .before .before .before .loop .inv .4, c .before .before .before .before .before .before .before .before .before .before .before .before .before .before .before .before .build-rule .ensures .same, c .before .before .before .before .before .before .before .before .store .kept .0, c .before .before .before .before .before .before .before .before .store .kept .1 .0)
 
 same-length-5 : tie.Need-same-length-5 Inv-loop μ-loop
-same-length-5 c = omega (arith, c .before .before .before .before .before .before .before .before .before .before .before .before .before .before .before .before .before .before .before .before .before .before .before .pre .3, c .before .before .before .before .before .before .before .before .before .before .before .before .before .before .before .before .before .before .before .before .before .before .before .pre .4, c .before .before .before .before .before .before .before .before .before .before .before .before .before .before .before .before .before .loop .inv .2, c .before .before .before .before .before .before .before .before .before .before .before .before .before .before .before .before .before .loop .inv .3, c .before .before .before .before .before .before .before .before .before .before .before .before .before .before .before .before .before .loop .inv .4, c .before .before .before .before .before .before .before .before .before .before .before .before .before .before .before .build-rule .ensures .same, c .before .before .before .before .before .before .before .store .kept .0, c .before .before .before .before .before .before .before .store .kept .1 .0)
+same-length-5 c = omega (arith, c .before .before .before .before .before .before .before .before .before .before .before .before .before .before .before .before .before .before .before .before .before .before .before .before .pre .3, c .before .before .before .before .before .before .before .before .before .before .before .before .before .before .before .before .before .before .before .before .before .before .before .before .pre .4, c .before .before .before .before .before .before .before .before .before .before .before .before .before .before .before .before .before .before .loop .inv .2, c .before .before .before .before .before .before .before .before .before .before .before .before .before .before .before .before .before .before .loop .inv .3, c .before .before .before .before .before .before .before .before .before .before .before .before .before .before .before .before .before .before .loop .inv .4, c .before .before .before .before .before .before .before .before .before .before .before .before .before .before .before .before .build-rule .ensures .same, c .before .before .before .before .before .before .before .before .store .kept .0, c .before .before .before .before .before .before .before .before .store .kept .1 .0)
 
 same-length-6 : tie.Need-same-length-6 Inv-loop μ-loop
-same-length-6 c = omega (arith, c .before .before .before .before .before .before .before .before .before .before .before .before .before .before .before .before .before .before .before .before .before .before .before .pre .3, c .before .before .before .before .before .before .before .before .before .before .before .before .before .before .before .before .before .before .before .before .before .before .before .pre .4, c .before .before .before .before .before .before .before .before .before .before .before .before .before .before .before .before .before .loop .inv .2, c .before .before .before .before .before .before .before .before .before .before .before .before .before .before .before .before .before .loop .inv .3, c .before .before .before .before .before .before .before .before .before .before .before .before .before .before .before .before .before .loop .inv .4, c .before .before .before .before .before .before .before .before .before .before .before .before .before .before .before .build-rule .ensures .same, c .before .before .before .before .before .before .before .store .kept .0, c .before .before .before .before .before .before .before .store .kept .1 .0)
+same-length-6 c = omega (arith, c .before .before .before .before .before .before .before .before .before .before .before .before .before .before .before .before .before .before .before .before .before .before .before .before .pre .3, c .before .before .before .before .before .before .before .before .before .before .before .before .before .before .before .before .before .before .before .before .before .before .before .before .pre .4, c .before .before .before .before .before .before .before .before .before .before .before .before .before .before .before .before .before .before .loop .inv .2, c .before .before .before .before .before .before .before .before .before .before .before .before .before .before .before .before .before .before .loop .inv .3, c .before .before .before .before .before .before .before .before .before .before .before .before .before .before .before .before .before .before .loop .inv .4, c .before .before .before .before .before .before .before .before .before .before .before .before .before .before .before .before .build-rule .ensures .same, c .before .before .before .before .before .before .before .before .store .kept .0, c .before .before .before .before .before .before .before .before .store .kept .1 .0)
 
 returns-2 : tie.Need-returns-2 Inv-loop μ-loop
-returns-2 c = whole-done (c .before .before .before .before .before .before .before .before .before .before .before .before .before .before .before .before .before .before .before .before .before .before .before .pre .2 .few) (c .before .before .before .before .before .before .before .before .before .before .before .before .before .before .before .before .before .loop .inv .5 _ _ _ _ (row-last (omega (arith, c .before .before .before .before .before .before .before .before .before .before .before .before .before .before .before .before .before .before .before .before .before .before .before .pre .5, c .before .before .before .before .before .before .before .before .before .before .before .before .before .before .before .before .before .loop .inv .2)) (omega (arith, c .before .before .before .before .before .before .before .before .before .before .before .before .before .before .before .before .before .loop .inv .0, c .before .before .before .before .before .before .before .before .before .before .before .before .before .before .before .before .before .loop .inv .3)) (omega (arith, c .before .before .before .before .before .before .before .before .before .before .before .before .before .before .before .before .before .loop .inv .0, c .before .before .before .before .before .before .before .before .before .before .before .before .before .before .before .before .before .loop .inv .4)) (c .before .before .before .before .before .before .before .before .before .before .before .before .before .before .before .build-rule .ensures) (c .before .before .before .before .before .before .before .before .before .before .if1 .left) (c .before .before .look .ensures) (c .if2 .taken) (c .before .before .before .before .before .before .before .store .ensures .0) (c .before .before .before .before .before .before .before .store .ensures .1) refl refl refl))
+returns-2 c = whole-done (c .before .before .before .before .before .before .before .before .before .before .before .before .before .before .before .before .before .before .before .before .before .before .before .before .pre .2 .few) (c .before .before .before .before .before .before .before .before .before .before .before .before .before .before .before .before .before .before .loop .inv .5 _ _ _ _ (row-last (omega (arith, c .before .before .before .before .before .before .before .before .before .before .before .before .before .before .before .before .before .before .before .before .before .before .before .before .pre .5, c .before .before .before .before .before .before .before .before .before .before .before .before .before .before .before .before .before .before .loop .inv .2)) (omega (arith, c .before .before .before .before .before .before .before .before .before .before .before .before .before .before .before .before .before .before .loop .inv .0, c .before .before .before .before .before .before .before .before .before .before .before .before .before .before .before .before .before .before .loop .inv .3)) (omega (arith, c .before .before .before .before .before .before .before .before .before .before .before .before .before .before .before .before .before .before .loop .inv .0, c .before .before .before .before .before .before .before .before .before .before .before .before .before .before .before .before .before .before .loop .inv .4)) (c .before .before .before .before .before .before .before .before .before .before .before .before .before .before .before .before .build-rule .ensures) (c .before .before .before .before .before .before .before .before .before .before .before .if1 .left) (c .before .before .before .look .ensures) (c .before .if2 .taken) (c .before .before .before .before .before .before .before .before .store .ensures .0) (c .before .before .before .before .before .before .before .before .store .ensures .1) (c .finished .ensures .0) (c .finished .ensures .1) (c .finished .ensures .2)))
 
 refused-requires-2 : tie.Need-refused-requires-2 Inv-loop μ-loop
 refused-requires-2 c κs = search needs
@@ -104,6 +107,7 @@ build-spec =
     store-requires
     add-next
     look-requires
+    finished-requires
     same-length-4
     same-length-5
     same-length-6

@@ -30,7 +30,7 @@ same-length : tie.Need-same-length
 same-length c = search needs
 
 returns-2 : tie.Need-returns-2
-returns-2 c = rule-fail (c .before .before .before .before .before .before .before .before .before .read-head .ensures) (c .before .before .before .before .before .before .before .if1 .left) (c .before .before .before .before .before .build-actions .ensures) (c .if2 .taken) refl
+returns-2 c = rule-fail (c .before .before .before .before .before .before .before .before .before .before .read-head .ensures) (c .before .before .before .before .before .before .before .before .if1 .left) (c .before .before .before .before .before .before .build-actions .ensures) (c .if2 .taken) refl
 
 look-requires : tie.Need-look-requires
 look-requires c κs = search needs
@@ -45,13 +45,13 @@ same-length-2 : tie.Need-same-length-2
 same-length-2 c = search needs
 
 returns-3 : tie.Need-returns-3
-returns-3 c = rule-closed (c .before .before .before .before .before .before .before .before .before .before .before .before .before .before .read-head .ensures) (c .before .before .before .before .before .before .before .before .before .before .before .before .if1 .left) (c .before .before .before .before .before .before .before .before .before .before .build-actions .ensures) (c .before .before .before .before .before .if2 .left) (c .before .before .before .before .look .ensures) (c .before .before .both .ensures) (λ _. c .rejected2 .ensures) (λ e. absurd (apart _ (c .before .if3 .taken) e)) (λ z. absurd (omega (arith, z, c .rejected2 .ensures .0)))
+returns-3 c = rule-closed (c .before .before .before .before .before .before .before .before .before .before .before .before .before .before .read-head .ensures) (c .before .before .before .before .before .before .before .before .before .before .before .before .if1 .left) (c .before .before .before .before .before .before .before .before .before .before .build-actions .ensures) (c .before .before .before .before .if2 .left) (c .before .before .before .look .ensures) (c .before .before .both .ensures) (λ _. c .rejected2 .ensures) (λ e. absurd (apart _ (c .before .if3 .taken) e)) (λ z. absurd (omega (arith, z, c .rejected2 .ensures .0)))
 
 same-length-3 : tie.Need-same-length-3
 same-length-3 c = search needs
 
 returns-4 : tie.Need-returns-4
-returns-4 c = rule-closed (c .before .before .before .before .before .before .before .before .before .before .before .before .before .read-head .ensures) (c .before .before .before .before .before .before .before .before .before .before .before .if1 .left) (c .before .before .before .before .before .before .before .before .before .build-actions .ensures) (c .before .before .before .before .if2 .left) (c .before .before .before .look .ensures) (c .before .both .ensures) (λ e. absurd (apart _ e (c .if3 .left))) (λ _. (refl, refl, refl, refl)) (λ _. c .before .before .before .look .ensures .high (c .before .before .before .before .before .before .before .before .before .build-actions .ensures .kept .high (c .before .before .before .before .if2 .left)))
+returns-4 c = rule-closed (c .before .before .before .before .before .before .before .before .before .before .before .before .before .read-head .ensures) (c .before .before .before .before .before .before .before .before .before .before .before .if1 .left) (c .before .before .before .before .before .before .before .before .before .build-actions .ensures) (c .before .before .before .if2 .left) (c .before .before .look .ensures) (c .before .both .ensures) (λ e. absurd (apart _ e (c .if3 .left))) (λ _. (refl, refl, refl, refl)) (λ _. c .before .before .look .ensures .high (c .before .before .before .before .before .before .before .before .before .build-actions .ensures .kept .high (c .before .before .before .if2 .left)))
 
 pub build-rule-spec : {M : Type 1} → statement M
 build-rule-spec =

@@ -1,8 +1,7 @@
 -- `resolver::resolve_plain` meets its contract.
 use mathlib.Core.Path.{refl}
 use native.Mathlib.Omega.{arith}
-use Rattle.program.specs.Program.{emit, error}
-use Rattle.resolver.proofs.Plains.{lies-here, emit-sends, error-sends, first-name, first-string, first-any, first-emit, first-error, first-exit, first-call, first-give, first-ranked, first-none}
+use Rattle.resolver.proofs.Plains.{lies-here, first-name, first-string, first-any, first-emit, first-error, first-exit, first-call, first-give, first-ranked, first-none}
 use borrow.Author.Needs.{needs}
 use Rattle.resolver.proofs.resolve_plain.Statement.{statement}
 use Rattle.resolver.proofs.resolve_plain.Tie as tie
@@ -19,11 +18,11 @@ resolve-named-requires-2 c κs = (lies-here (c .before .before .next-word .ensur
 resolve-any-requires : tie.Need-resolve-any-requires
 resolve-any-requires c κs = search needs
 
-resolve-sent-requires : tie.Need-resolve-sent-requires
-resolve-sent-requires c κs = (c .before .before .next-word .ensures .high (c .before .before .before .before .before .before .pre .0), c .before .before .before .before .before .before .pre .1)
+resolve-emit-requires : tie.Need-resolve-emit-requires
+resolve-emit-requires c κs = (c .before .before .next-word .ensures .high (c .before .before .before .before .before .before .pre .0), c .before .before .before .before .before .before .pre .1)
 
-resolve-sent-requires-2 : tie.Need-resolve-sent-requires-2
-resolve-sent-requires-2 c κs = (c .before .before .next-word .ensures .high (c .before .before .before .before .before .before .pre .0), c .before .before .before .before .before .before .pre .1)
+resolve-error-requires : tie.Need-resolve-error-requires
+resolve-error-requires c κs = (c .before .before .next-word .ensures .high (c .before .before .before .before .before .before .pre .0), c .before .before .before .before .before .before .pre .1)
 
 resolve-exit-requires : tie.Need-resolve-exit-requires
 resolve-exit-requires c κs = search needs
@@ -62,13 +61,13 @@ same-length-4 : tie.Need-same-length-4
 same-length-4 c = search needs
 
 returns-4 : tie.Need-returns-4
-returns-4 c = first-emit _ _ _ (c .before .before .before .before .before .next-word .ensures) (c .before .before .before .before .match .keys4) (c .before .before .resolve-sent .ensures emit emit-sends)
+returns-4 c = first-emit _ _ _ (c .before .before .before .before .before .next-word .ensures) (c .before .before .before .before .match .keys4) (c .before .before .resolve-emit .ensures)
 
 same-length-5 : tie.Need-same-length-5
 same-length-5 c = search needs
 
 returns-5 : tie.Need-returns-5
-returns-5 c = first-error _ _ _ (c .before .before .before .before .before .next-word .ensures) (c .before .before .before .before .match .keys5) (c .before .before .resolve-sent2 .ensures error error-sends)
+returns-5 c = first-error _ _ _ (c .before .before .before .before .before .next-word .ensures) (c .before .before .before .before .match .keys5) (c .before .before .resolve-error .ensures)
 
 same-length-6 : tie.Need-same-length-6
 same-length-6 c = search needs
@@ -105,8 +104,8 @@ resolve-plain-spec =
     resolve-named-requires
     resolve-named-requires-2
     resolve-any-requires
-    resolve-sent-requires
-    resolve-sent-requires-2
+    resolve-emit-requires
+    resolve-error-requires
     resolve-exit-requires
     resolve-call-requires
     resolve-give-requires

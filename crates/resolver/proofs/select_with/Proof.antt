@@ -11,7 +11,7 @@ balked-requires : tie.Need-balked-requires
 balked-requires c κs = search needs
 
 returns : tie.Need-returns
-returns c = with-balks (c .before .before .before .before .before .before .before .args .row) (c .before .before .before .before .before .before .before .args .class) (c .before .before .before .before .before .before .before .args .w) (c .before .before .before .parameter-of .ensures) (c .before .if1 .taken) (c .balked .ensures)
+returns c = with-balks (c .before .before .before .before .before .before .before .args .asked .row) (c .before .before .before .before .before .before .before .args .asked .class) (c .before .before .before .before .before .before .before .args .w) (c .before .before .before .parameter-of .ensures) (c .before .if1 .taken) (c .balked .ensures)
 
 put-operation-requires : tie.Need-put-operation-requires
 put-operation-requires c κs = search needs
@@ -23,7 +23,7 @@ same-length : tie.Need-same-length
 same-length c = search needs
 
 returns-2 : tie.Need-returns-2
-returns-2 c = with-picks (c .before .before .before .before .before .before .before .before .before .before .before .args .row) (c .before .before .before .before .before .before .before .before .before .before .before .args .class) (c .before .before .before .before .before .before .before .before .before .before .before .args .w) (c .before .before .before .before .before .before .before .parameter-of .ensures) (c .before .before .before .before .before .if1 .left) (c .before .before .before .put-operation .ensures) (c .chose .ensures)
+returns-2 c = with-picks (c .before .before .before .before .before .before .before .before .before .before .before .args .asked .row) (c .before .before .before .before .before .before .before .before .before .before .before .args .asked .class) (c .before .before .before .before .before .before .before .before .before .before .before .args .w) (c .before .before .before .before .before .before .before .parameter-of .ensures) (c .before .before .before .before .before .if1 .left) (c .before .before .before .put-operation .ensures) (c .chose .ensures)
 
 pub select-with-spec : {M : Type 1} → statement M
 select-with-spec =
