@@ -381,15 +381,8 @@ pub fn add_book(
         allowance,
         writes: true,
     };
-    if passes(
-        table,
-        tokens,
-        answers,
-        b,
-        GREATEST - total,
-        events,
-        &mut counts,
-    ) {
+    let left = GREATEST - total;
+    if passes(table, tokens, answers, b, left, events, &mut counts) {
         return ended(base::PAST, 0, 0);
     }
     let r = count_book(table, tokens, answers, b, events, &mut counts);

@@ -122,8 +122,8 @@ returns-3 c =
     ap (λ (r : Told). gives r (start n .args .figures .now) (start n .args .events .now)) (c .ended3 .ensures)
     ∙ books-past (start n .args .table .now) (start n .args .tokens .now) (start n .args .answers .now) (start n .args .budget) (start n .args .allowance) (start n .args .figures .now) (start n .args .events .now) (long n) (good n) (table n) (tokens n) (answers n) (allowed n) _ (n .before .before .number-at .ensures) (c .before .if3 .taken)
 
-sub-passes : tie.Need-sub-passes
-sub-passes c = search needs
+sub-left : tie.Need-sub-left
+sub-left c = search needs
 
 slice-aggregate-passes : tie.Need-slice-aggregate-passes
 slice-aggregate-passes c = search needs
@@ -218,7 +218,7 @@ add-book-spec =
     ended-requires-3
     same-length-2
     returns-3
-    sub-passes
+    sub-left
     slice-aggregate-passes
     passes-requires
     ended-requires-4
