@@ -6,6 +6,7 @@ ghost use Rattle.frontend.specs.Resolving.{ResolvesRules, ResolvesRead};
 ghost use Rattle.symbols.specs.Index.{Kept};
 use builder::Listed;
 use collector::Collected;
+use levels::Made;
 
 // A text whose rules are resolved: 0, or the number and the part of its first fault; the cells that its rules take, also those past the
 // room for them; its rules, and how many of them are written; its declarations, the row of the first rule's, and where the rules are read again.
@@ -77,8 +78,11 @@ fn resolve_rules(
     if q.fault != 0 {
         return mistake(q.fault, q.at, q.len);
     }
-    let k = filled(b.count);
-    let m = levels::make(text, rows, c.count, b.rules, cells, k, starts, sorts);
+    let written = Made {
+        count: filled(b.count),
+        rules: b.rules,
+    };
+    let m = levels::make(text, rows, c.count, written, cells, starts, sorts);
     Resolved {
         fault: 0,
         at: 0,

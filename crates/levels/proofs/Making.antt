@@ -257,9 +257,9 @@ section-at text rows n p u s en o e =
     let d = held-at text rows n s (row-less text rows n 600 (u .section .text) s i) in
     rw (ap (λ (k : Decl). wordsAt text (k .value)) d) at (en .stand s (row-at 600 (u .section .text) s ds i .class))
 
-pub site-of : {text rows : List ℕ} {j s o w at x : ℕ} → s ≡ getD rows (5633 + 3 * j) 0 → o ≡ getD rows (5634 + 3 * j) 0 → w ≡ getD rows (5635 + 3 * j) 0 → w < 65536 → PlaceOf text rows s at
-    → x ≡ getD rows (8 * o + 1) 0 → x < 65536 → SiteOf text rows j (record { at = at; operand = x; own = w })
-site-of {text} {rows} {at = at} a b c l p d h = record { at = rw (← a) p; operand = rw (← b) d; own = c; low = h; high = l }
+pub site-of : {text rows : List ℕ} {j c s o w at x : ℕ} → s ≡ getD rows (5633 + 3 * j) 0 → o ≡ getD rows (5634 + 3 * j) 0 → w ≡ getD rows (5635 + 3 * j) 0 → w < 65536 → PlaceOf text rows s at
+    → x ≡ getD rows (8 * o + 1) 0 → x < 65536 → SiteOf text rows j c (record { at = at; operand = x; own = w; count = c })
+site-of {text} {rows} {at = at} a b c l p d h = record { at = rw (← a) p; operand = rw (← b) d; own = c; count = refl; low = h; high = l }
 
 pub make-end : {text rows : List ℕ} {n j k own : ℕ} {cs : List ℕ} {c : ℕ} {starts sorts : List ℕ} → k ≡ 0 → c ≤ length cs + 1
     → MakeFrom text rows n j k own cs c starts sorts cs starts sorts (record { count = c; rules = own })
@@ -281,7 +281,7 @@ rules-as a b c = rw (a, b, c) refl
 pair-made : {text rows : List ℕ} {n : ℕ} {cs : List ℕ} {c : ℕ} {starts sorts cs₁ starts₁ sorts₁ cs′ starts′ sorts′ : List ℕ} {q : Site} {r₁ r : Made} (j k₁ own : ℕ)
     (p : Program) (names : Names) (ks : List KnownRule) → Agrees p names ks (held text rows n) → EntriesAt text (held text rows n) (entriesOf p)
     → (u : Use) (us : List Use) (others : ℕ) (ms : List Rule) → pairAt rows j ≡ pairOf (held text rows n) own u → pairsFrom rows (suc j) k₁ ≡ pairsMean names (held text rows n) (own + length (levelsUsed names u)) us
-    → Ordered (held text rows n) u → AllOrdered (held text rows n) us → madeFor names ks others own (u ∷ us) ≡ good ms → SiteOf text rows j q
+    → Ordered (held text rows n) u → AllOrdered (held text rows n) us → madeFor names ks others own (u ∷ us) ≡ good ms → SiteOf text rows j c q
     → SiteDone text rows n q cs c starts sorts cs₁ starts₁ sorts₁ r₁ → MakeFrom text rows n (j + 1) k₁ (r₁ .rules) cs₁ (r₁ .count) starts₁ sorts₁ cs′ starts′ sorts′ r
     → MadeEnd own cs c cs′ starts sorts starts′ sorts′ r ms
 unfolding pairAt
@@ -302,8 +302,12 @@ pair-made {text} {rows} {n} {cs′ = cs′} {starts′} {sorts′} {q} {r₁} {r
     let later = f .made p names ks ag en us others (x .later) (rw (← next, rr) tail) os (rw rr (x .behind)) in
     made-as e₃ (ap (λ (v : List Rule). v ++ x .later) (rules-as e₃ (sym op) (sym lu)) ∙ sym (x .is)) (done .made (entriesOf p s) (en .behind s) y few cs′ starts′ sorts′ r (x .later) later)
 
-pub make-step : {text rows : List ℕ} {n j k k₁ own : ℕ} {cs : List ℕ} {c : ℕ} {starts sorts cs₁ starts₁ sorts₁ cs′ starts′ sorts′ : List ℕ} {q : Site} {r₁ r : Made} → k ≡ suc k₁ → SiteOf text rows j q
-    → SiteDone text rows n q cs c starts sorts cs₁ starts₁ sorts₁ r₁ → MakeFrom text rows n (j + 1) k₁ (r₁ .rules) cs₁ (r₁ .count) starts₁ sorts₁ cs′ starts′ sorts′ r
+done-as : {text rows : List ℕ} {n : ℕ} {q : Site} {cs : List ℕ} {c c₁ : ℕ} {starts sorts cs₁ starts₁ sorts₁ : List ℕ} {r : Made} → c₁ ≡ c → SiteDone text rows n q cs c₁ starts sorts cs₁ starts₁ sorts₁ r
+    → SiteDone text rows n q cs c starts sorts cs₁ starts₁ sorts₁ r
+done-as e d = rw (← e) d
+
+pub make-step : {text rows : List ℕ} {n j k k₁ own : ℕ} {cs : List ℕ} {c : ℕ} {starts sorts cs₁ starts₁ sorts₁ cs′ starts′ sorts′ : List ℕ} {q : Site} {r₁ r : Made} → k ≡ suc k₁ → SiteOf text rows j c q
+    → SiteDone text rows n q cs (q .count) starts sorts cs₁ starts₁ sorts₁ r₁ → MakeFrom text rows n (j + 1) k₁ (r₁ .rules) cs₁ (r₁ .count) starts₁ sorts₁ cs′ starts′ sorts′ r
     → MakeFrom text rows n j k own cs c starts sorts cs′ starts′ sorts′ r
 unfolding pairsFrom pairsMean AllOrdered
 make-step {text} {rows} {n} {j} {k} {k₁} {own} {cs} {c} {starts} {sorts} {cs₁} {starts₁} {sorts₁} {cs′} {starts′} {sorts′} {q} {r₁} {r} z site done f =
@@ -313,7 +317,7 @@ make-step {text} {rows} {n} {j} {k} {k₁} {own} {cs} {c} {starts} {sorts} {cs�
         → (us : List Use) (others : ℕ) (ms : List Rule) → pairAt rows j ∷ pairsFrom rows (suc j) k₁ ≡ pairsMean names (held text rows n) own us → AllOrdered (held text rows n) us
         → madeFor names ks others own us ≡ good ms → MadeEnd own cs c cs′ starts sorts starts′ sorts′ r ms
     go p names ks ag en [] others ms e or m = let y : _≡_ {A = ℕ} 0 1 = cc in absurd (omega (arith, y))
-    go p names ks ag en (u ∷ us) others ms e or m = pair-made j k₁ own p names ks ag en u us others ms head tail (or .0) (or .1) m site done f
+    go p names ks ag en (u ∷ us) others ms e or m = pair-made j k₁ own p names ks ag en u us others ms head tail (or .0) (or .1) m site (done-as (site .count) done) f
       where
         head : pairAt rows j ≡ pairOf (held text rows n) own u
         head = cc

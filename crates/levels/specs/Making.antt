@@ -70,11 +70,12 @@ pub record SiteDone (text rows : List ℕ) (n : ℕ) (q : Site) (cs : List ℕ) 
   pub made : (os : List Operator) (ws′ : List Word) → OperatorsIn (wordsAt text (q .at)) ws′ os → q .own + length (levelsOf (operatorsFrom (held text rows n) os)) ≤ 128
       → Before (q .own) cs c cs′ starts sorts starts′ sorts′ r (levelRules (q .own) (q .operand) (levelsOf (operatorsFrom (held text rows n) os)))
 
--- the site of pair j: the value of its section's declaration is the place of the entries, that of its operand rule's declaration the rule's place
-pub record SiteOf (text rows : List ℕ) (j : ℕ) (q : Site) : Type 0 where
+-- the site of pair j, behind c cells: the value of its section's declaration is the place of the entries, that of its operand rule's declaration the rule's place
+pub record SiteOf (text rows : List ℕ) (j c : ℕ) (q : Site) : Type 0 where
   pub at : PlaceOf text rows (getD rows (5633 + 3 * j) 0) (q .at)
   pub operand : q .operand ≡ getD rows (8 * getD rows (5634 + 3 * j) 0 + 1) 0
   pub own : q .own ≡ getD rows (5635 + 3 * j) 0
+  pub count : q .count ≡ c
   pub low : q .operand < 65536
   pub high : q .own < 65536
 

@@ -37,11 +37,12 @@ const EXIT: usize = cells::EXIT as usize;
 
 const END: usize = cells::END as usize;
 
-// A pair: where its section's entries stand, the place of its operand rule, that of its lowest rule.
+// A pair: where its section's entries stand, the place of its operand rule, that of its lowest rule, how many cells there are before it.
 pub struct Site {
     pub at: usize,
     pub operand: usize,
     pub own: usize,
+    pub count: usize,
 }
 
 // A rule to be made: where its section's entries stand, its level and side, its place, the rule that it calls first.
@@ -53,13 +54,19 @@ pub struct Nested {
     pub higher: usize,
 }
 
+// The alternatives of a rule: the level of their entries, the rule that each calls.
+pub struct Aim {
+    pub level: usize,
+    pub called: usize,
+}
+
 // A part of the text.
 pub struct Part {
     pub start: usize,
     pub len: usize,
 }
 
-// How many cells and rules there are then.
+// How many cells and rules there are.
 pub struct Made {
     pub count: usize,
     pub rules: usize,
@@ -108,17 +115,16 @@ fn put_if(
     text: &[u8],
     rows: &[u16],
     n: usize,
-    level: usize,
-    called: usize,
+    aim: Aim,
     e: Entry,
     cells: &mut [u16],
     count: usize,
 ) -> usize
-    requires { ⌜ Kept (now text) (now rows) n × (called < 65536) × (count ≤ length (now cells) + 1) ⌝ }
-    ensures { λ r. ⌜ Appends (now (cells .entry)) count (entryCells (held (now (text .entry)) (now (rows .entry)) n) (now (text .entry)) level called e) (now (cells .exit)) r ⌝ }
+    requires { ⌜ Kept (now text) (now rows) n × (aim .called < 65536) × (count ≤ length (now cells) + 1) ⌝ }
+    ensures { λ r. ⌜ Appends (now (cells .entry)) count (entryCells (held (now (text .entry)) (now (rows .entry)) n) (now (text .entry)) (aim .level) (aim .called) e) (now (cells .exit)) r ⌝ }
 {
-    if e.level == level {
-        return put_operator(text, rows, n, called, e, cells, count);
+    if e.level == aim.level {
+        return put_operator(text, rows, n, aim.called, e, cells, count);
     }
     count
 }
@@ -129,20 +135,19 @@ fn put_operators(
     rows: &[u16],
     n: usize,
     at: usize,
-    level: usize,
-    called: usize,
+    aim: Aim,
     cells: &mut [u16],
     count: usize,
 ) -> usize
-    requires { ⌜ (at ≤ length (now text)) × Kept (now text) (now rows) n × (called < 65536) × (count ≤ length (now cells) + 1) ⌝ }
-    ensures { λ r. ⌜ OperatorsPut (now (text .entry)) (now (rows .entry)) n at level called (now (cells .entry)) count (now (cells .exit)) r ⌝ }
+    requires { ⌜ (at ≤ length (now text)) × Kept (now text) (now rows) n × (aim .called < 65536) × (count ≤ length (now cells) + 1) ⌝ }
+    ensures { λ r. ⌜ OperatorsPut (now (text .entry)) (now (rows .entry)) n at (aim .level) (aim .called) (now (cells .entry)) count (now (cells .exit)) r ⌝ }
 {
     let mut i = at;
     let mut c = count;
     loop {
         let e = maker::read_entry(text, i);
         let o = e.emits;
-        c = put_if(text, rows, n, level, called, e, cells, c);
+        c = put_if(text, rows, n, aim, e, cells, c);
         let w = scanner::next_word(text, o.next);
         if w.kind == words::SEMICOLON {
             return c;
@@ -198,9 +203,12 @@ fn put_level(
     requires { ⌜ (x .at ≤ length (now text)) × Kept (now text) (now rows) n × (x .own < 65536) × (x .higher < 65536) ⌝ }
     ensures { λ r. ⌜ LevelPut (now (text .entry)) (now (rows .entry)) n x (now (cells .entry)) count (now (cells .exit)) r ⌝ }
 {
-    let called = called_by(x);
+    let aim = Aim {
+        level: x.level,
+        called: called_by(x),
+    };
     let a = open_level(cells, count, x.right, x.higher);
-    let b = put_operators(text, rows, n, x.at, x.level, called, cells, a);
+    let b = put_operators(text, rows, n, x.at, aim, cells, a);
     close_level(cells, b, x.right)
 }
 
@@ -234,53 +242,52 @@ fn make_levels(
     n: usize,
     q: Site,
     cells: &mut [u16],
-    count: usize,
     starts: &mut [u16],
     sorts: &mut [u8],
 ) -> Made
-    requires { ⌜ (q .at ≤ length (now text)) × (length (now text) ≤ 32768) × Kept (now text) (now rows) n × (q .operand < 65536) × (q .own < 65536) × (length (now cells) ≤ 60000) × (count ≤ length (now cells) + 1) × (length (now starts) ≡ 128) × (length (now sorts) ≡ 128) ⌝ }
-    ensures { λ r. ⌜ SiteDone (now (text .entry)) (now (rows .entry)) n q (now (cells .entry)) count (now (starts .entry)) (now (sorts .entry)) (now (cells .exit)) (now (starts .exit)) (now (sorts .exit)) r ⌝ }
+    requires { ⌜ (q .at ≤ length (now text)) × (length (now text) ≤ 32768) × Kept (now text) (now rows) n × (q .operand < 65536) × (q .own < 65536) × (length (now cells) ≤ 60000) × (q .count ≤ length (now cells) + 1) × (length (now starts) ≡ 128) × (length (now sorts) ≡ 128) ⌝ }
+    ensures { λ r. ⌜ SiteDone (now (text .entry)) (now (rows .entry)) n q (now (cells .entry)) (q .count) (now (starts .entry)) (now (sorts .entry)) (now (cells .exit)) (now (starts .exit)) (now (sorts .exit)) r ⌝ }
 {
-    let mut own = q.own;
-    let mut c = count;
+    let mut rules = q.own;
+    let mut count = q.count;
     let mut l = maker::next_level(text, q.at, 0);
     while l.level < NO_LEVEL {
-        if base::RULES <= own {
-            return Made {
-                count: c,
-                rules: own,
-            };
+        if base::RULES <= rules {
+            return Made { count, rules };
         }
         let m = maker::next_level(text, q.at, l.level);
-        let higher = higher_of(own, q.operand, m);
+        let higher = higher_of(rules, q.operand, m);
         let x = Nested {
             at: q.at,
             level: l.level,
             right: l.right,
-            own,
+            own: rules,
             higher,
         };
-        store(starts, sorts, own, c);
-        c = put_level(text, rows, n, x, cells, c);
-        own += 1;
+        store(starts, sorts, rules, count);
+        count = put_level(text, rows, n, x, cells, count);
+        rules += 1;
         l = m;
     }
-    Made {
-        count: c,
-        rules: own,
-    }
+    Made { count, rules }
 }
 
-fn site_of(text: &[u8], rows: &[u16], j: usize) -> Site
+// The site of pair j, behind `count` cells.
+fn site_of(text: &[u8], rows: &[u16], j: usize, count: usize) -> Site
     requires { ⌜ j < 65536 ⌝ }
-    ensures { λ r. ⌜ SiteOf (now (text .entry)) (now (rows .entry)) j r ⌝ }
+    ensures { λ r. ⌜ SiteOf (now (text .entry)) (now (rows .entry)) j count r ⌝ }
 {
     let section = symbols::number(rows, PAIR_SECTION + PAIR * j);
     let rule = symbols::number(rows, PAIR_OPERAND + PAIR * j);
     let own = symbols::number(rows, PAIR_RULE + PAIR * j);
     let at = maker::entries_at(text, rows, section);
     let operand = symbols::number(rows, ROW * rule + VALUE);
-    Site { at, operand, own }
+    Site {
+        at,
+        operand,
+        own,
+        count,
+    }
 }
 
 // The rules made for the pairs in the rows, behind the text's own: their cells, where each begins, and its sort.
@@ -288,27 +295,23 @@ pub fn make(
     text: &[u8],
     rows: &[u16],
     n: usize,
-    own: usize,
+    written: Made,
     cells: &mut [u16],
-    count: usize,
     starts: &mut [u16],
     sorts: &mut [u8],
 ) -> Made
-    requires { ⌜ (length (now text) ≤ 32768) × Kept (now text) (now rows) n × (length (now cells) ≤ 60000) × (count ≤ length (now cells) + 1) × (length (now starts) ≡ 128) × (length (now sorts) ≡ 128) ⌝ }
-    ensures { λ r. ⌜ MakeDone (now (text .entry)) (now (rows .entry)) n own (now (cells .entry)) count (now (starts .entry)) (now (sorts .entry)) (now (cells .exit)) (now (starts .exit)) (now (sorts .exit)) r ⌝ }
+    requires { ⌜ (length (now text) ≤ 32768) × Kept (now text) (now rows) n × (length (now cells) ≤ 60000) × (written .count ≤ length (now cells) + 1) × (length (now starts) ≡ 128) × (length (now sorts) ≡ 128) ⌝ }
+    ensures { λ r. ⌜ MakeDone (now (text .entry)) (now (rows .entry)) n (written .rules) (now (cells .entry)) (written .count) (now (starts .entry)) (now (sorts .entry)) (now (cells .exit)) (now (starts .exit)) (now (sorts .exit)) r ⌝ }
 {
     let k = symbols::number(rows, PAIRS);
     let mut j: usize = 0;
-    let mut c = count;
-    let mut rules = own;
+    let mut made = written;
     while j < k {
-        let q = site_of(text, rows, j);
-        let m = make_levels(text, rows, n, q, cells, c, starts, sorts);
-        c = m.count;
-        rules = m.rules;
+        let q = site_of(text, rows, j, made.count);
+        made = make_levels(text, rows, n, q, cells, starts, sorts);
         j += 1;
     }
-    Made { count: c, rules }
+    made
 }
 
 // Names

@@ -16,12 +16,12 @@ use Rattle.levels.proofs.site_of.Reads as site-of-reads
 use Rattle.symbols.proofs.number.Reads as number-reads
 
 abbrev Inv-loop : tie.InvT-loop
-Inv-loop text rows n own cells₀ count starts₀ sorts₀ k j₀ c₀ rules₀ cells starts sorts j c rules =
-    (j ≤ k) × (k < 65536) × (c ≤ length cells + 1) × (length cells ≡ length cells₀) × (length starts ≡ 128) × (length sorts ≡ 128)
-    × ((cs′ starts′ sorts′ : List ℕ) (r : Made) → MakeFrom text rows n j (k - j) rules cells c starts sorts cs′ starts′ sorts′ r → MakeFrom text rows n 0 k own cells₀ count starts₀ sorts₀ cs′ starts′ sorts′ r)
+Inv-loop text rows n cells₀ starts₀ sorts₀ k j₀ made₀ cells starts sorts j made =
+    (j ≤ k) × (k < 65536) × (made .count ≤ length cells + 1) × (length cells ≡ length cells₀) × (length starts ≡ 128) × (length sorts ≡ 128)
+    × ((cs′ starts′ sorts′ : List ℕ) (r : Made) → MakeFrom text rows n j (k - j) (made .rules) cells (made .count) starts sorts cs′ starts′ sorts′ r → MakeFrom text rows n 0 k (made₀ .rules) cells₀ (made₀ .count) starts₀ sorts₀ cs′ starts′ sorts′ r)
 
 abbrev μ-loop : tie.MeasureT-loop
-μ-loop text rows n own cells₀ count starts₀ sorts₀ k j₀ c₀ rules₀ cells starts sorts j c rules = k - j
+μ-loop text rows n cells₀ starts₀ sorts₀ k j₀ made₀ cells starts sorts j made = k - j
 
 -- src/lib.rt:284:9
 number-requires : tie.Need-number-requires Inv-loop μ-loop
@@ -37,7 +37,7 @@ site-of-requires c κs = omega arith
 
 -- src/lib.rt:290:13
 make-levels-requires : tie.Need-make-levels-requires Inv-loop μ-loop
-make-levels-requires c κs = (c .before .before .before .site-of .ensures .at .inside, c .before .before .before .before .before .before .before .before .before .before .before .before .pre .0, c .before .before .before .before .before .before .before .before .before .before .before .before .pre .1, c .before .before .before .site-of .ensures .low, c .before .before .before .site-of .ensures .high, omega (arith, c .before .before .before .before .before .before .before .before .before .before .before .before .pre .2, c .before .before .before .before .before .loop .inv .3), c .before .before .before .before .before .loop .inv .2, c .before .before .before .before .before .loop .inv .4, c .before .before .before .before .before .loop .inv .5)
+make-levels-requires c κs = (c .before .before .before .site-of .ensures .at .inside, c .before .before .before .before .before .before .before .before .before .before .before .before .pre .0, c .before .before .before .before .before .before .before .before .before .before .before .before .pre .1, c .before .before .before .site-of .ensures .low, c .before .before .before .site-of .ensures .high, omega (arith, c .before .before .before .before .before .before .before .before .before .before .before .before .pre .2, c .before .before .before .before .before .loop .inv .3), omega (arith, c .before .before .before .site-of .ensures .count, c .before .before .before .before .before .loop .inv .2), c .before .before .before .before .before .loop .inv .4, c .before .before .before .before .before .loop .inv .5)
 
 -- src/lib.rt:293:9
 add-j : tie.Need-add-j Inv-loop μ-loop
@@ -49,7 +49,7 @@ loop-less c = omega arith
 
 -- src/lib.rt:288:5
 loop-again : tie.Need-loop-again Inv-loop μ-loop
-loop-again c = (omega arith, c .before .before .before .before .before .before .before .before .before .before .before .before .loop .inv .1, omega (arith, c .before .before .before .before .before .before .make-levels .ensures .bound, c .before .before .before .before .before .before .make-levels .ensures .same), c .before .before .before .before .before .before .make-levels .ensures .same ∙ c .before .before .before .before .before .before .before .before .before .before .before .before .loop .inv .3, c .before .before .before .before .before .before .make-levels .kept .1 .1 .1 .1 .1 .1 .0 ∙ c .before .before .before .before .before .before .before .before .before .before .before .before .loop .inv .4, c .before .before .before .before .before .before .make-levels .kept .1 .1 .1 .1 .1 .1 .1 .0 ∙ c .before .before .before .before .before .before .before .before .before .before .before .before .loop .inv .5, λ cs′ starts′ sorts′ r d. c .before .before .before .before .before .before .before .before .before .before .before .before .loop .inv .6 cs′ starts′ sorts′ r (make-step (omega arith) (c .before .before .before .before .before .before .before .before .before .before .site-of .ensures) (c .before .before .before .before .before .before .make-levels .ensures) d))
+loop-again c = (omega arith, c .before .before .before .before .before .before .before .before .before .before .before .before .loop .inv .1, omega (arith, c .before .before .before .before .before .before .make-levels .ensures .bound, c .before .before .before .before .before .before .make-levels .ensures .same), c .before .before .before .before .before .before .make-levels .ensures .same ∙ c .before .before .before .before .before .before .before .before .before .before .before .before .loop .inv .3, c .before .before .before .before .before .before .make-levels .kept .1 .1 .1 .1 .1 .0 ∙ c .before .before .before .before .before .before .before .before .before .before .before .before .loop .inv .4, c .before .before .before .before .before .before .make-levels .kept .1 .1 .1 .1 .1 .1 .0 ∙ c .before .before .before .before .before .before .before .before .before .before .before .before .loop .inv .5, λ cs′ starts′ sorts′ r d. c .before .before .before .before .before .before .before .before .before .before .before .before .loop .inv .6 cs′ starts′ sorts′ r (make-step (omega arith) (c .before .before .before .before .before .before .before .before .before .before .site-of .ensures) (c .before .before .before .before .before .before .make-levels .ensures) d))
 
 -- src/lib.rt:271:1
 same-length : tie.Need-same-length Inv-loop μ-loop

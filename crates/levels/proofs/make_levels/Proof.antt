@@ -14,10 +14,10 @@ use Rattle.levels.proofs.store.Reads as store-reads
 use Rattle.maker.proofs.next_level.Reads as next-level-reads
 
 abbrev Inv-loop : tie.InvT-loop
-Inv-loop text rows n q cells₀ count starts₀ sorts₀ own₀ c₀ l₀ cells starts sorts own c l = (l .level ≤ 16) × (own < 65536) × (c ≤ length cells + 1) × (length cells ≡ length cells₀) × (length starts ≡ 128) × (length sorts ≡ 128) × RestIs text (q .at) l × Going text rows n q cells₀ count starts₀ sorts₀ own l cells c starts sorts
+Inv-loop text rows n q cells₀ starts₀ sorts₀ rules₀ count₀ l₀ cells starts sorts rules count l = (l .level ≤ 16) × (rules < 65536) × (count ≤ length cells + 1) × (length cells ≡ length cells₀) × (length starts ≡ 128) × (length sorts ≡ 128) × RestIs text (q .at) l × Going text rows n q cells₀ (q .count) starts₀ sorts₀ rules l cells count starts sorts
 
 abbrev μ-loop : tie.MeasureT-loop
-μ-loop text rows n q cells₀ count starts₀ sorts₀ own₀ c₀ l₀ cells starts sorts own c l = 16 - l .level
+μ-loop text rows n q cells₀ starts₀ sorts₀ rules₀ count₀ l₀ cells starts sorts rules count l = 16 - l .level
 
 -- src/lib.rt:230:9
 next-level-requires : tie.Need-next-level-requires Inv-loop μ-loop
@@ -60,8 +60,8 @@ put-level-requires : tie.Need-put-level-requires Inv-loop μ-loop
 put-level-requires c κs = (c .before .before .before .before .before .before .before .before .before .before .before .before .before .before .before .before .before .before .before .before .pre .0, c .before .before .before .before .before .before .before .before .before .before .before .before .before .before .before .before .before .before .before .before .pre .2, c .before .before .before .before .before .before .before .before .before .before .before .before .before .loop .inv .1, higher-low _ (c .before .before .before .before .before .before .before .before .higher-of .ensures .0) (c .before .before .before .before .before .before .before .before .higher-of .ensures .1) (omega arith) (c .before .before .before .before .before .before .before .before .before .before .before .before .before .before .before .before .before .before .before .before .pre .3))
 
 -- src/lib.rt:249:9
-add-own : tie.Need-add-own Inv-loop μ-loop
-add-own c = omega arith
+add-rules : tie.Need-add-rules Inv-loop μ-loop
+add-rules c = omega arith
 
 -- src/lib.rt:231:5
 loop-less : tie.Need-loop-less Inv-loop μ-loop
@@ -103,7 +103,7 @@ make-levels-spec =
     higher-of-requires
     store-requires
     put-level-requires
-    add-own
+    add-rules
     loop-less
     loop-again
     same-length-4

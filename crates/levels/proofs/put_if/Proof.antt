@@ -21,7 +21,7 @@ returns c = entry-put _ _ _ _ _ (c .before .before .before .before .if1 .taken) 
 
 -- src/lib.rt:91:1
 returns-2 : tie.Need-returns-2
-returns-2 c = entry-passed _ _ _ _ _ _ _ (c .if1 .left) (c .before .before .before .before .before .pre .2)
+returns-2 c = entry-passed _ _ _ _ _ _ _ (c .if1 .left) (c .before .before .before .before .before .before .pre .2)
 
 pub put-if-spec : {M : Type 1} → statement M
 put-if-spec = tie.close (tie.spec put-operator-requires same-length returns returns-2)

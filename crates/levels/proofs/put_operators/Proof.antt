@@ -16,10 +16,10 @@ use Rattle.maker.proofs.read_entry.Reads as read-entry-reads
 use Rattle.scanner.proofs.next_word.Reads as next-word-reads
 
 abbrev Inv-loop : tie.InvT-loop
-Inv-loop text rows n at level called cells₀ count i₀ c₀ cells i c = (i ≤ length text) × (c ≤ length cells + 1) × (length cells ≡ length cells₀) × ((cs′ : List ℕ) (r : ℕ) → OperatorsPut text rows n i level called cells c cs′ r → OperatorsPut text rows n at level called cells₀ count cs′ r)
+Inv-loop text rows n at aim cells₀ count i₀ c₀ cells i c = (i ≤ length text) × (c ≤ length cells + 1) × (length cells ≡ length cells₀) × ((cs′ : List ℕ) (r : ℕ) → OperatorsPut text rows n i (aim .level) (aim .called) cells c cs′ r → OperatorsPut text rows n at (aim .level) (aim .called) cells₀ count cs′ r)
 
 abbrev μ-loop : tie.MeasureT-loop
-μ-loop text rows n at level called cells₀ count i₀ c₀ cells i c = length text - i
+μ-loop text rows n at aim cells₀ count i₀ c₀ cells i c = length text - i
 
 -- src/lib.rt:126:5
 loop-holds : tie.Need-loop-holds Inv-loop μ-loop
