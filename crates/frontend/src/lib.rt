@@ -23,11 +23,11 @@ pub struct Resolved {
 }
 
 // The room that resolving a text takes: the numbers of its rows, their index and its uses of operators; its rules' cells; its rules.
-pub const ROWS: usize = 6017;
+pub const ROWS: usize = symbols::PAIR_SECTION + symbols::PAIR * base::RULES;
 
-pub const CELLS: usize = 4224;
+pub const CELLS: usize = cells::CELLS;
 
-pub const RULES: usize = 128;
+pub const RULES: usize = base::RULES;
 
 fn mistake(fault: u16, at: usize, len: usize) -> Resolved
     ensures { λ r. ⌜ (r .fault ≡ fault) × (r .at ≡ at) × (r .len ≡ len) ⌝ }
