@@ -155,13 +155,13 @@ end-is {rows} {j} (suc m) prog names ds k later d c e total =
     d .next (omega (arith, c)) (omega (arith, l, total)) ∙ l
 
 -- what the code reads as the end
-next-at : (rows : List ℕ) (j : ℕ) → getD rows (5632 + 3 * (j + 2)) 0 ≡ getD rows (5638 + 3 * j) 0
-next-at rows j = let e : 5632 + 3 * (j + 2) ≡ 5638 + 3 * j = omega arith in ap (λ i. getD rows i 0) e
+next-at : (rows : List ℕ) (j : ℕ) → getD rows (5635 + 3 * (j + 1)) 0 ≡ getD rows (5638 + 3 * j) 0
+next-at rows j = let e : 5635 + 3 * (j + 1) ≡ 5638 + 3 * j = omega arith in ap (λ i. getD rows i 0) e
 
-pub end-next : {rows : List ℕ} {j rules n v : ℕ} → n ≡ getD rows 5632 0 → v ≡ getD rows (5632 + 3 * (j + 2)) 0 → j + 1 < n → v < rules → EndOf rows j rules v
+pub end-next : {rows : List ℕ} {j rules n v : ℕ} → n ≡ getD rows 5632 0 → v ≡ getD rows (5635 + 3 * (j + 1)) 0 → j + 1 < n → v < rules → EndOf rows j rules v
 end-next {rows} {j} c e h l = record { low = omega (arith, l); next = λ _ _. e ∙ next-at rows j; last = λ q. absurd (omega (arith, q, h, c)) }
 
-pub end-over : {rows : List ℕ} {j rules v : ℕ} → v ≡ getD rows (5632 + 3 * (j + 2)) 0 → rules ≤ v → EndOf rows j rules rules
+pub end-over : {rows : List ℕ} {j rules v : ℕ} → v ≡ getD rows (5635 + 3 * (j + 1)) 0 → rules ≤ v → EndOf rows j rules rules
 end-over {rows} {j} e l = record { low = omega arith; next = λ _ q. omega (arith, q, l, e, next-at rows j); last = λ _. refl }
 
 section-at : (rows : List ℕ) (j : ℕ) → pairAt rows j .section ≡ getD rows (5633 + 3 * j) 0

@@ -9,29 +9,19 @@ ghost use Rattle.mapper.specs.Mapped.{Puts, heldRows, levelsHeld, EndOf,
 ghost use Rattle.symbols.specs.Index.{Kept};
 use frontend::Resolved;
 use levels::Part;
+use symbols::NAME_LEN;
+use symbols::NAME_START;
+use symbols::PAIR;
+use symbols::PAIR_OPERAND;
+use symbols::PAIR_RULE;
+use symbols::PAIR_SECTION;
+use symbols::PAIRS;
+use symbols::ROW;
 
 // A row: three numbers of 64 bits.
 const ROW_BYTES: usize = 24;
 
 const ROW_NUMBERS: usize = 3;
-
-// A row of declarations, and where its name's start and length stand in it.
-const DECLARATION: usize = 8;
-
-const NAME_START: usize = 2;
-
-const NAME_LEN: usize = 3;
-
-// Where the number of pairs of section and operand rule stands in the rows; the numbers of a pair behind it: section, operand rule, lowest rule.
-const PAIRS: usize = 5632;
-
-const PAIR: usize = 3;
-
-// The most words that a table has.
-const TABLE_WORDS: usize = 4096;
-
-// The number of a buffer, or a table, too short.
-const TOO_SHORT: u16 = 20;
 
 // What the map's call answers: 0 and the rules, or a number.
 pub struct Mapped {
@@ -57,7 +47,7 @@ fn put_rows(text: &[u8], rows: &[u16], first: usize, places: &[usize], rules: us
 {
     let mut k: usize = 0;
     while k < rules {
-        let i = DECLARATION * (first + k);
+        let i = ROW * (first + k);
         let start = symbols::number(rows, i + NAME_START);
         let len = symbols::number(rows, i + NAME_LEN);
         put_row(
@@ -89,7 +79,7 @@ fn end_of(rows: &[u16], j: usize, rules: usize) -> usize
     ensures { λ r. ⌜ EndOf (now (rows .entry)) j rules r ⌝ }
 {
     if j + 1 < symbols::number(rows, PAIRS) {
-        let next = symbols::number(rows, PAIRS + PAIR * (j + 2));
+        let next = symbols::number(rows, PAIR_RULE + PAIR * (j + 1));
         if next < rules {
             return next;
         }
@@ -106,8 +96,8 @@ fn put_made(text: &[u8], rows: &[u16], b: Resolved, places: &[usize], out: &mut 
     let mut j: usize = 0;
     let mut k = b.written;
     while j < pairs {
-        let section = symbols::number(rows, PAIRS + 1 + PAIR * j);
-        let operand = symbols::number(rows, PAIRS + 2 + PAIR * j);
+        let section = symbols::number(rows, PAIR_SECTION + PAIR * j);
+        let operand = symbols::number(rows, PAIR_OPERAND + PAIR * j);
         let name = levels::first_use(text, rows, b.declared, b.body, section, operand);
         let end = end_of(rows, j, b.rules);
         if end < k {
@@ -132,15 +122,15 @@ fn map_held(
     ensures { λ r. ⌜ MapsHeld (now (text .entry)) (now (rows .entry)) b (now (cells .entry)) (now (sorts .entry)) (now (out .entry)) (now (out .exit)) (r .number) (r .rules) ⌝ }
 {
     let mut places = [0usize; frontend::RULES];
-    if TABLE_WORDS < sizes::locate(cells, sorts, b.rules, &mut places) {
+    if base::TABLE_WORDS < sizes::locate(cells, sorts, b.rules, &mut places) {
         return Mapped {
-            number: TOO_SHORT,
+            number: base::TOO_SHORT,
             rules: 0,
         };
     }
     if out.len() / ROW_BYTES < b.rules {
         return Mapped {
-            number: TOO_SHORT,
+            number: base::TOO_SHORT,
             rules: 0,
         };
     }
@@ -170,7 +160,7 @@ fn map_read(text: &[u8], out: &mut [u8]) -> Mapped
     }
     if frontend::CELLS < b.cells {
         return Mapped {
-            number: TOO_SHORT,
+            number: base::TOO_SHORT,
             rules: 0,
         };
     }

@@ -30,33 +30,25 @@ number-requires c κs = search needs
 loop-holds : tie.Need-loop-holds Inv-loop μ-loop
 loop-holds c = (omega arith, omega (arith, c .before .before .before .before .before .pre .0 .more), refl, λ out′ m. m)
 
--- src/lib.rt:109:45
-add-number : tie.Need-add-number Inv-loop μ-loop
-add-number c = search needs
-
 -- src/lib.rt:109:57
 mul-number : tie.Need-mul-number Inv-loop μ-loop
 mul-number c = omega (arith, c .loop-test .taken, c .before .before .number .ensures .1)
 
 -- src/lib.rt:109:45
-add-number-2 : tie.Need-add-number-2 Inv-loop μ-loop
-add-number-2 c = omega (arith, c .loop-test .taken, c .before .before .number .ensures .1)
+add-number : tie.Need-add-number Inv-loop μ-loop
+add-number c = omega (arith, c .loop-test .taken, c .before .before .number .ensures .1)
 
 -- src/lib.rt:109:13
 number-requires-2 : tie.Need-number-requires-2 Inv-loop μ-loop
 number-requires-2 c κs = search needs
-
--- src/lib.rt:110:45
-add-number-3 : tie.Need-add-number-3 Inv-loop μ-loop
-add-number-3 c = search needs
 
 -- src/lib.rt:110:57
 mul-number-2 : tie.Need-mul-number-2 Inv-loop μ-loop
 mul-number-2 c = omega (arith, c .before .loop-test .taken, c .before .before .before .number .ensures .1)
 
 -- src/lib.rt:110:45
-add-number-4 : tie.Need-add-number-4 Inv-loop μ-loop
-add-number-4 c = omega (arith, c .before .loop-test .taken, c .before .before .before .number .ensures .1)
+add-number-2 : tie.Need-add-number-2 Inv-loop μ-loop
+add-number-2 c = omega (arith, c .before .loop-test .taken, c .before .before .before .number .ensures .1)
 
 -- src/lib.rt:110:13
 number-requires-3 : tie.Need-number-requires-3 Inv-loop μ-loop
@@ -110,13 +102,11 @@ put-made-spec =
     μ-loop
     number-requires
     loop-holds
-    add-number
     mul-number
-    add-number-2
+    add-number
     number-requires-2
-    add-number-3
     mul-number-2
-    add-number-4
+    add-number-2
     number-requires-3
     first-use-requires
     end-of-requires
