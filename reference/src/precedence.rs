@@ -362,6 +362,7 @@ fn listed(seed: &mut Seed, levels: &[(usize, usize)]) -> String {
 mod tests {
     use super::*;
     use crate::processor::written_out;
+    use crate::texts::tests::numbers_met;
     use std::collections::BTreeMap;
 
     #[test]
@@ -382,19 +383,7 @@ mod tests {
 
     #[test]
     fn every_number_is_met() {
-        let mut met: BTreeMap<u16, usize> = BTreeMap::new();
-        for n in 0..4_000 {
-            let mut seed = Seed::new(n ^ 0xABCD_0000);
-            let text = text(&mut seed, 4 + n as usize % 20);
-            let number = match process(&text, 150) {
-                Answer::Accepted { finishing, .. } => 100 + u16::from(finishing),
-                Answer::Refused { number, start, len } => {
-                    assert!(start + len <= text.len() && (len > 0 || start == text.len()));
-                    number
-                }
-            };
-            *met.entry(number).or_default() += 1;
-        }
+        let met = numbers_met(text, 4_000, 150);
         // 6 to 8 are rare here, and planted elsewhere.
         let numbers: Vec<u16> = met.keys().copied().filter(|number| !(6..=8).contains(number)).collect();
         assert_eq!(numbers, [1, 2, 3, 4, 5, 9, 20, 45, 100, 101], "{met:?}");

@@ -141,28 +141,26 @@ fn chained(before: &str, behind: &str, count: usize) -> Vec<String> {
 
 /// Cycles in choices in cycles, 32 deep, each on a line of its own, over and over.
 fn nesting(bytes: usize) -> String {
-    let mut text = String::from("input: a;\nrules M:\n");
-    let mut words = 0;
     // A small text has no room to indent.
     let indent = if bytes < 4_096 { 0 } else { 1 };
-    loop {
-        let mut part = String::new();
-        for depth in 0..32 {
-            let open = ["{", "[ | a: > | *:"][depth % 2];
-            part.push_str(&format!("{}{open}\n", " ".repeat(indent * depth)));
-        }
-        for depth in (0..32).rev() {
-            let close = ["}", "]"][depth % 2];
-            part.push_str(&format!("{}{close}\n", " ".repeat(indent * depth)));
-        }
-        words += 16 * 11;
-        if text.len() + part.len() + 8 > bytes || words > 4_000 {
-            break;
-        }
-        text.push_str(&part);
+    let mut part = String::new();
+    for depth in 0..32 {
+        let open = ["{", "[ | a: > | *:"][depth % 2];
+        part.push_str(&format!("{}{open}\n", " ".repeat(indent * depth)));
     }
-    text.push_str(";\nend\n");
-    text
+    for depth in (0..32).rev() {
+        let close = ["}", "]"][depth % 2];
+        part.push_str(&format!("{}{close}\n", " ".repeat(indent * depth)));
+    }
+    one_rule("input: a;\n", &part, 16 * 11, bytes)
+}
+
+/// One rule in so many bytes: a part of so many words of a table, as often as it fits.
+fn one_rule(sections: &str, part: &str, words: usize, bytes: usize) -> String {
+    let (head, end) = (format!("{sections}rules M:\n"), ";\nend\n");
+    let room = bytes.saturating_sub(head.len() + 8);
+    let times = (room / part.len()).min(4_000 / words);
+    format!("{head}{}{end}", part.repeat(times))
 }
 
 /// Choices of 64 labels.
@@ -170,26 +168,17 @@ fn labels(bytes: usize) -> String {
     let stem = (bytes / 2_600).clamp(1, 12);
     let name = |i: usize| format!("{}{i:02}", "L".repeat(stem));
     let count = (bytes / 4 / (stem + 3)).clamp(2, 64);
-    let mut text = format!("input: {};\nrules M:\n", (0..count).map(|i| format!("{} ", name(i))).collect::<String>());
-    let mut words = 0;
-    loop {
-        let mut part = String::from("[");
-        for i in 0..count {
-            part.push_str(if i % 8 == 0 { "\n| " } else { ", " });
-            part.push_str(&name(count - 1 - i));
-            if i % 8 == 7 || i + 1 == count {
-                part.push(':');
-            }
+    let sections = format!("input: {};\n", (0..count).map(|i| format!("{} ", name(i))).collect::<String>());
+    let mut part = String::from("[");
+    for i in 0..count {
+        part.push_str(if i % 8 == 0 { "\n| " } else { ", " });
+        part.push_str(&name(count - 1 - i));
+        if i % 8 == 7 || i + 1 == count {
+            part.push(':');
         }
-        part.push_str("]\n");
-        words += 2 * count + 2 * count.div_ceil(8) + 7;
-        if text.len() + part.len() + 8 > bytes || words > 4_000 {
-            break;
-        }
-        text.push_str(&part);
     }
-    text.push_str(";\nend\n");
-    text
+    part.push_str("]\n");
+    one_rule(&sections, &part, 2 * count + 2 * count.div_ceil(8) + 7, bytes)
 }
 
 /// Rules that each call the next; only the last is passed quietly by itself.

@@ -57,6 +57,16 @@ pub fn token(rng: &mut Rng) -> u16 {
     rng.below(TOKENS) as u16
 }
 
+/// The bytes of an event buffer: fewer than `small`, some more, or as many as are enough; odd ones too.
+pub fn event_bytes(rng: &mut Rng, small: usize, enough: usize) -> usize {
+    match rng.below(4) {
+        0 => rng.below(small),
+        1 => rng.below(40),
+        2 => rng.below(200),
+        _ => enough,
+    }
+}
+
 /// An answer; now and then no label has it.
 pub fn answer(rng: &mut Rng) -> u16 {
     if rng.once_in(24) { rng.word() } else { rng.below(VALUES + 1) as u16 }

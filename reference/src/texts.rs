@@ -744,11 +744,29 @@ fn mentioned(acts: &[Act], tokens: &mut Vec<u16>, values: &mut Vec<u16>) {
 }
 
 #[cfg(test)]
-mod tests {
+pub mod tests {
     use super::*;
     use crate::processor::{Answer, MAX_TABLE, process, resolve};
     use crate::walker;
     use std::collections::BTreeMap;
+
+    /// How often texts of a sort are answered with each number where so many words are lent; 100 and 101 are the verdicts.
+    pub fn numbers_met(text: fn(&mut Seed, usize) -> Vec<u8>, texts: u64, room_words: usize) -> BTreeMap<u16, usize> {
+        let mut met = BTreeMap::new();
+        for n in 0..texts {
+            let mut seed = Seed::new(n ^ 0xABCD_0000);
+            let text = text(&mut seed, 4 + n as usize % 20);
+            let number = match process(&text, room_words) {
+                Answer::Accepted { finishing, .. } => 100 + u16::from(finishing),
+                Answer::Refused { number, start, len } => {
+                    assert!(start + len <= text.len() && (len > 0 || start == text.len()));
+                    number
+                }
+            };
+            *met.entry(number).or_default() += 1;
+        }
+        met
+    }
 
     #[test]
     fn good_texts_are_accepted() {
@@ -767,19 +785,7 @@ mod tests {
 
     #[test]
     fn every_number_is_met() {
-        let mut met: BTreeMap<u16, usize> = BTreeMap::new();
-        for n in 0..20_000 {
-            let mut seed = Seed::new(n ^ 0xABCD_0000);
-            let text = text(&mut seed, 4 + n as usize % 20);
-            let number = match process(&text, 60) {
-                Answer::Accepted { finishing, .. } => 100 + u16::from(finishing),
-                Answer::Refused { number, start, len } => {
-                    assert!(start + len <= text.len() && (len > 0 || start == text.len()));
-                    number
-                }
-            };
-            *met.entry(number).or_default() += 1;
-        }
+        let met = numbers_met(text, 20_000, 60);
         let numbers: Vec<u16> = met.keys().copied().collect();
         assert_eq!(numbers, [1, 2, 3, 4, 5, 6, 7, 8, 9, 20, 100, 101], "{met:?}");
     }

@@ -251,14 +251,9 @@ fn case_of(h: &Harness, rng: &mut Rng, sort: usize) -> Case {
     Case::new(h, rng, &table, &tokens, &answers)
 }
 
-/// The size of an event buffer: none, small, or enough; odd ones too.
+/// The size of an event buffer.
 fn size(rng: &mut Rng) -> usize {
-    match rng.below(4) {
-        0 => rng.below(8),
-        1 => rng.below(40),
-        2 => rng.below(200),
-        _ => ROOMY,
-    }
+    random::event_bytes(rng, 8, ROOMY)
 }
 
 fn budget(rng: &mut Rng) -> u64 {

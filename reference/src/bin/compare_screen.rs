@@ -233,14 +233,9 @@ fn steps(rng: &mut Rng) -> u64 {
     }
 }
 
-/// The size of an event buffer: none, small, or enough; odd ones too.
+/// The size of an event buffer.
 fn size(rng: &mut Rng) -> usize {
-    match rng.below(4) {
-        0 => rng.below(20),
-        1 => rng.below(40),
-        2 => rng.below(200),
-        _ => ROOMY,
-    }
+    random::event_bytes(rng, 20, ROOMY)
 }
 
 /// What the turns of one book read.
