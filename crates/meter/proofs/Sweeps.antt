@@ -100,6 +100,40 @@ rules-next {T} {S} {called} {r} u h x e = rw e (record { upto = omega (arith, u 
 pub rules-all : {T S called : List ℕ} {r : ℕ} {rows after : List ℕ} {b : Bool} → RulesFrom T S called r rows after b → r ≤ 0 → Steps T S (AskedFrom T S called 0) called rows after b
 rules-all {r = r} u h = let e : r ≡ 0 = omega arith in rw e at (u .steps)
 
+-- The rules, the first first
+
+pub data AskedBefore (T S called : List ℕ) (q : ℕ) (rows : List ℕ) (i v : ℕ) : Type 0 where
+  asked-before : {r l : ℕ} → r < q → InRule T S r l → AskedAt T S called r l rows i v → AskedBefore T S called q rows i v
+
+pub record RulesBefore (T S called : List ℕ) (r : ℕ) (rows after : List ℕ) (b : Bool) : Type 0 where
+  pub upto : r ≤ length S
+  pub steps : Steps T S (AskedBefore T S called r) called rows after b
+
+pub before-first : {T S called rows : List ℕ} → Kept T S called rows → RulesBefore T S called 0 rows rows false
+before-first {T} {S} {called} {rows} kp = record { upto = omega arith; steps = stays kp (λ i v m. absurd (nothing m)) }
+  where
+    nothing : {i v : ℕ} → AskedBefore T S called 0 rows i v → ⊥
+    nothing (asked-before h i m) = omega arith
+
+pub before-next : {T S called : List ℕ} {r : ℕ} {rows mid after : List ℕ} {a b e : Bool} → RulesBefore T S called r rows mid a → r < length S → Steps T S (AskedBelow T S called r (endOf (length T) S r)) called mid after b → e ≡ (a || b)
+    → RulesBefore T S called (r + 1) rows after e
+before-next {T} {S} {called} {r} u h x e = rw e (record { upto = omega arith; steps = covers (λ i v m. split m) (seq (u .steps) x) })
+  where
+    split : {rows : List ℕ} {i v : ℕ} → AskedBefore T S called (r + 1) rows i v → Both (AskedBefore T S called r) (AskedBelow T S called r (endOf (length T) S r)) rows i v
+    split {rows} {i} {v} (asked-before {r = o} {l = l} y w m) = elim (decLt o r) [
+      | yes q ↦ this (asked-before {r = o} {l = l} q w m)
+      | no q ↦ let f : o ≡ r = omega arith in
+          let w₁ : InRule T S r l = rw f at w in
+          let m₁ : AskedAt T S called r l rows i v = rw f at m in
+          that (asked-below w₁ (w₁ .to) m₁)
+    ]
+
+pub before-all : {T S called : List ℕ} {r : ℕ} {rows after : List ℕ} {b : Bool} → RulesBefore T S called r rows after b → length S ≤ r → Steps T S (AskedFrom T S called 0) called rows after b
+before-all {T} {S} {called} {r} u h = covers (λ i v m. ask m) (u .steps)
+  where
+    ask : {rows : List ℕ} {i v : ℕ} → AskedFrom T S called 0 rows i v → AskedBefore T S called r rows i v
+    ask (asked-from {r = o} {l = l} y z w m) = asked-before {r = o} {l = l} (omega arith) w m
+
 -- Until nothing is raised
 
 pub record Settling (T S called rows after : List ℕ) (changed : Bool) : Type 0 where

@@ -516,8 +516,8 @@ fn sweep_rule(table: &[u8], starts: &[usize], r: usize, called: &[u32], rows: &m
     changed
 }
 
-// One sweep over all rules, the last first: most rules call later ones.
-fn sweep(table: &[u8], starts: &[usize], called: &[u32], rows: &mut [u32]) -> bool
+// One sweep over all rules, the last first.
+fn sweep_down(table: &[u8], starts: &[usize], called: &[u32], rows: &mut [u32]) -> bool
     requires { ⌜ Kept (tableOf (now table)) (now starts) (calledNumbers (now called)) (numbersOf (now rows)) × (length (now rows) ≡ 4490) ⌝ }
     ensures { λ b. ⌜ Steps (tableOf (now (table .entry))) (now (starts .entry)) (AskedFrom (tableOf (now (table .entry))) (now (starts .entry)) (calledNumbers (now (called .entry))) 0) (calledNumbers (now (called .entry))) (numbersOf (now (rows .entry))) (numbersOf (now (rows .exit))) b ⌝ }
 {
@@ -531,14 +531,42 @@ fn sweep(table: &[u8], starts: &[usize], called: &[u32], rows: &mut [u32]) -> bo
     changed
 }
 
-// Sweeps until nothing is raised.
+// One sweep over all rules, the first first.
+fn sweep_up(table: &[u8], starts: &[usize], called: &[u32], rows: &mut [u32]) -> bool
+    requires { ⌜ Kept (tableOf (now table)) (now starts) (calledNumbers (now called)) (numbersOf (now rows)) × (length (now rows) ≡ 4490) ⌝ }
+    ensures { λ b. ⌜ Steps (tableOf (now (table .entry))) (now (starts .entry)) (AskedFrom (tableOf (now (table .entry))) (now (starts .entry)) (calledNumbers (now (called .entry))) 0) (calledNumbers (now (called .entry))) (numbersOf (now (rows .entry))) (numbersOf (now (rows .exit))) b ⌝ }
+{
+    let mut changed = false;
+    let mut r: usize = 0;
+    while r < starts.len() {
+        let more = sweep_rule(table, starts, r, called, rows);
+        changed = either(changed, more);
+        r += 1;
+    }
+    changed
+}
+
+// One sweep: down is good for rules that call later ones, up for those that call earlier ones.
+fn sweep(table: &[u8], starts: &[usize], called: &[u32], up: bool, rows: &mut [u32]) -> bool
+    requires { ⌜ Kept (tableOf (now table)) (now starts) (calledNumbers (now called)) (numbersOf (now rows)) × (length (now rows) ≡ 4490) ⌝ }
+    ensures { λ b. ⌜ Steps (tableOf (now (table .entry))) (now (starts .entry)) (AskedFrom (tableOf (now (table .entry))) (now (starts .entry)) (calledNumbers (now (called .entry))) 0) (calledNumbers (now (called .entry))) (numbersOf (now (rows .entry))) (numbersOf (now (rows .exit))) b ⌝ }
+{
+    if up {
+        return sweep_up(table, starts, called, rows);
+    }
+    sweep_down(table, starts, called, rows)
+}
+
+// Sweeps down and up in turn, until nothing is raised.
 fn settle(table: &[u8], starts: &[usize], called: &[u32], rows: &mut [u32])
     requires { ⌜ Kept (tableOf (now table)) (now starts) (calledNumbers (now called)) (numbersOf (now rows)) × (length (now rows) ≡ 4490) ⌝ }
     ensures { λ _. ⌜ Settled (tableOf (now (table .entry))) (now (starts .entry)) (calledNumbers (now (called .entry))) (numbersOf (now (rows .entry))) (numbersOf (now (rows .exit))) ⌝ }
 {
     let mut changed = true;
+    let mut up = false;
     while changed {
-        changed = sweep(table, starts, called, rows);
+        changed = sweep(table, starts, called, up, rows);
+        up = !up;
     }
 }
 

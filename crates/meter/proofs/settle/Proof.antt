@@ -12,10 +12,10 @@ use Rattle.meter.proofs.settle.Lts as lts
 use Rattle.meter.proofs.sweep.Reads as sweep-reads
 
 abbrev Inv-loop : tie.InvT-loop
-Inv-loop table starts called rows₀ changed₀ rows changed = (Settling (tableOf table) starts (calledNumbers called) (numbersOf rows₀) (numbersOf rows) changed) × (length rows ≡ 4490)
+Inv-loop table starts called rows₀ changed₀ up₀ rows changed up = (Settling (tableOf table) starts (calledNumbers called) (numbersOf rows₀) (numbersOf rows) changed) × (length rows ≡ 4490)
 
 abbrev μ-loop : tie.MeasureT-loop
-μ-loop table starts called rows₀ changed₀ rows changed = todo (numbersOf rows) changed
+μ-loop table starts called rows₀ changed₀ up₀ rows changed up = todo (numbersOf rows) changed
 
 -- src/lib.rt:429:5
 loop-holds : tie.Need-loop-holds Inv-loop μ-loop

@@ -5,10 +5,10 @@ use Rattle.meter.proofs.Sweeps.{RulesFrom, rules-first, rules-next, rul
 use Rattle.machine.specs.Bytes.{tableOf}
 use borrow.Author.Needs.{needs}
 use native.Mathlib.Omega.{arith}
-use Rattle.meter.proofs.sweep.Statement.{statement}
-use Rattle.meter.proofs.sweep.Tie as tie
-use Rattle.meter.proofs.sweep.Reads as reads
-use Rattle.meter.proofs.sweep.Lts as lts
+use Rattle.meter.proofs.sweep_down.Statement.{statement}
+use Rattle.meter.proofs.sweep_down.Tie as tie
+use Rattle.meter.proofs.sweep_down.Reads as reads
+use Rattle.meter.proofs.sweep_down.Lts as lts
 use Rattle.meter.proofs.either.Reads as either-reads
 use Rattle.meter.proofs.sweep_rule.Reads as sweep-rule-reads
 
@@ -50,8 +50,8 @@ same-length c = search needs
 returns : tie.Need-returns Inv-loop μ-loop
 returns c = rules-all (c .before .loop .inv .0) (search needs)
 
-pub sweep-spec : {M : Type 1} → statement M
-sweep-spec =
+pub sweep-down-spec : {M : Type 1} → statement M
+sweep-down-spec =
     tie.close
     (tie.spec
     Inv-loop
