@@ -454,31 +454,27 @@ fn visit_two(
 fn visit(
     table: &[u8],
     starts: &[usize],
-    r: usize,
-    l: usize,
+    rule: usize,
+    at: usize,
     called: &[u32],
     rows: &mut [u32],
 ) -> bool
-    requires { ⌜ Kept (tableOf (now table)) (now starts) (calledNumbers (now called)) (numbersOf (now rows)) × (r < length (now starts)) × InRule (tableOf (now table)) (now starts) r l × (length (now rows) ≡ 4490) ⌝ }
-    ensures { λ b. ⌜ Steps (tableOf (now (table .entry))) (now (starts .entry)) (AskedAt (tableOf (now (table .entry))) (now (starts .entry)) (calledNumbers (now (called .entry))) r l) (calledNumbers (now (called .entry))) (numbersOf (now (rows .entry))) (numbersOf (now (rows .exit))) b ⌝ }
+    requires { ⌜ Kept (tableOf (now table)) (now starts) (calledNumbers (now called)) (numbersOf (now rows)) × (rule < length (now starts)) × InRule (tableOf (now table)) (now starts) rule at × (length (now rows) ≡ 4490) ⌝ }
+    ensures { λ b. ⌜ Steps (tableOf (now (table .entry))) (now (starts .entry)) (AskedAt (tableOf (now (table .entry))) (now (starts .entry)) (calledNumbers (now (called .entry))) rule at) (calledNumbers (now (called .entry))) (numbersOf (now (rows .entry))) (numbersOf (now (rows .exit))) b ⌝ }
 {
-    if l == 0 {
+    if at == 0 {
         return false;
     }
     let size = loader::size_of(table);
-    if size < l {
+    if size < at {
         return false;
     }
-    let n = number(rows, l);
-    if n == 0 {
+    let number = number(rows, at);
+    if number == 0 {
         return false;
     }
-    let here = Spot {
-        rule: r,
-        at: l,
-        number: n,
-    };
-    let i = machine::word(table, l - 1);
+    let here = Spot { rule, at, number };
+    let i = machine::word(table, at - 1);
     let k = machine::instruction_length(i);
     if k == 0 {
         return false;
@@ -486,18 +482,12 @@ fn visit(
     if k == 1 {
         return visit_one(wide(i), called, here, rows);
     }
-    if size < l + 1 {
+    if size < at + 1 {
         return false;
     }
-    visit_two(
-        table,
-        starts,
-        wide(i),
-        loader::word_at(table, l + 1),
-        called,
-        here,
-        rows,
-    )
+    let w = wide(i);
+    let x = loader::word_at(table, at + 1);
+    visit_two(table, starts, w, x, called, here, rows)
 }
 
 // What the instructions of a rule ask for.
