@@ -10,13 +10,11 @@ use borrow.Author.Tests.{ltb-true, ltb-false}
 use native.Mathlib.Omega.{arith}
 use Rattle.acceptance.proofs.Accepts.{rule-before, later-procedures}
 use Rattle.acceptance.proofs.Used.{rules-used, pairs-used, made-are, made-few}
-use Rattle.builder.specs.Rules as build
 use Rattle.builder.specs.Rules.{RulesEnd, built, faulty, RulesDone}
 use Rattle.builder.specs.declared.Rules.{Rules}
-use Rattle.cells.specs.Cells.{rulesCells, cellsStart}
+use Rattle.cells.specs.Cells.{rulesCells, cellsStart, sortOf}
 use Rattle.declarations.proofs.Whole.{length-sections}
 use Rattle.declarations.specs.Decls.{Agrees, EntriesAt, declsOf, entriesOf}
-use Rattle.emitter.specs.Emitted as emit
 use Rattle.grammar.proofs.Labels.{rules-labelled}
 use Rattle.grammar.specs.Labels.{LabelledRules}
 use Rattle.levels.specs.Making.{MadeEnd, MakeDone}
@@ -41,13 +39,8 @@ use Rattle.frontend.proofs.Ordering.{all-ordered}
 use Rattle.frontend.specs.Resolving.{Ready, writtenBy, madeBy, rulesBy, Declared, Rowed, Resolves, meant, mistaken}
 use Rattle.frontend.specs.declared.Resolved.{Resolved}
 
-same-sort : (b : Bool) → build.sortOf b ≡ emit.sortOf b
-unfolding build.sortOf emit.sortOf
-same-sort true = refl
-same-sort false = refl
-
-no-sort : (b : Bool) → b ≡ false → 0 ≡ emit.sortOf b
-unfolding emit.sortOf
+no-sort : (b : Bool) → b ≡ false → 0 ≡ sortOf b
+unfolding sortOf
 no-sort true e = let z : _≡_ {A = ℕ} 0 1 = cc in absurd (omega (arith, z))
 no-sort false e = refl
 
@@ -69,12 +62,12 @@ module _ {cs cs₁ starts₁ sorts₁ cs₂ starts₂ sorts₂ : List ℕ} {c k 
       subst (λ x. Appends cs 0 x cs₂ (m .count)) (sym (rules-append own ms)) (appends-then app b)
 
   module _ (later : (r : ℕ) → length own ≤ r → r < length (own ++ ms) → ruleOf (own ++ ms) r .valued ≡ false)
-      (sorted : (r : ℕ) → r < length own → getD sorts₁ r 0 ≡ build.sortOf (ruleOf own r .valued)) where
-    sorts-are : (r : ℕ) → r < length (own ++ ms) → getD sorts₂ r 0 ≡ emit.sortOf (ruleOf (own ++ ms) r .valued)
+      (sorted : (r : ℕ) → r < length own → getD sorts₁ r 0 ≡ sortOf (ruleOf own r .valued)) where
+    sorts-are : (r : ℕ) → r < length (own ++ ms) → getD sorts₂ r 0 ≡ sortOf (ruleOf (own ++ ms) r .valued)
     sorts-are r l = go (side r (length own))
       where
-        go : (r < length own) ⊎ (length own ≤ r) → getD sorts₂ r 0 ≡ emit.sortOf (ruleOf (own ++ ms) r .valued)
-        go (inl h) = more .sorts-kept r h ∙ sorted r h ∙ same-sort _ ∙ ap (λ (x : Rule). emit.sortOf (x .valued)) (sym (rule-before own ms r h))
+        go : (r < length own) ⊎ (length own ≤ r) → getD sorts₂ r 0 ≡ sortOf (ruleOf (own ++ ms) r .valued)
+        go (inl h) = more .sorts-kept r h ∙ sorted r h ∙ ap (λ (x : Rule). sortOf (x .valued)) (sym (rule-before own ms r h))
         go (inr h) =
             let e : r ≡ length own + (r - length own) = omega (arith, h) in
             ap (λ i. getD sorts₂ i 0) e ∙ more .sorted (r - length own) (omega (arith, h, l, length-append own ms)) ∙ no-sort _ (later r h l)
