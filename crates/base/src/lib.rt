@@ -88,3 +88,12 @@ pub const PENDING: usize = 64;
 pub const BYTE_VALUES: usize = 256;
 
 pub const WORD_VALUES: usize = 65536;
+
+// The operations' instructions, each sort from its first number on.
+pub const UPDATE: u16 = 256;
+
+pub const UPDATE_WITH: u16 = 512;
+
+pub const ASK: u16 = 768;
+
+pub const ASK_WITH: u16 = 1024;

@@ -518,9 +518,9 @@ fn sort_of(valued: bool) -> u8
     ensures { λ r. ⌜ r ≡ sortOf valued ⌝ }
 {
     if valued {
-        resolver::CHOICE
+        cells::CHOICE_RULE
     } else {
-        resolver::PROCEDURE
+        cells::PROCEDURE_RULE
     }
 }
 

@@ -42,13 +42,13 @@ pub const ALTERNATIVE: u16 = 64;
 pub const PREFIX: u16 = 63;
 
 // The operations, each sort from its first number on.
-pub const UPDATE: u16 = 256;
+pub const UPDATE: u16 = base::UPDATE;
 
-pub const UPDATE_WITH: u16 = 512;
+pub const UPDATE_WITH: u16 = base::UPDATE_WITH;
 
-pub const ASK: u16 = 768;
+pub const ASK: u16 = base::ASK;
 
-pub const ASK_WITH: u16 = 1024;
+pub const ASK_WITH: u16 = base::ASK_WITH;
 
 // The sorts of rules: a procedure rule and a choice rule.
 pub const PROCEDURE_RULE: u8 = 0;

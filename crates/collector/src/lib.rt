@@ -18,13 +18,13 @@ use reader::one_more;
 use scanner::WordAt;
 
 // The first numbers of operations, by kind: updates, updates with a parameter, choices, choices with a parameter.
-const UPDATE: usize = 256;
+const UPDATE: usize = base::UPDATE as usize;
 
-const UPDATE_WITH: usize = 512;
+const UPDATE_WITH: usize = base::UPDATE_WITH as usize;
 
-const ASK: usize = 768;
+const ASK: usize = base::ASK as usize;
 
-const ASK_WITH: usize = 1024;
+const ASK_WITH: usize = base::ASK_WITH as usize;
 
 // The place of the last operation of a kind, from 0.
 const LAST_OF_KIND: usize = base::OPERATIONS - 1;

@@ -367,7 +367,7 @@ pub fn first_use(
     let mut i = at;
     loop {
         let w = scanner::next_word(text, i);
-        if w.kind < maker::FIRST_WORD {
+        if w.kind < words::FIRST_WORD {
             return Part { start: 0, len: 0 };
         }
         if w.kind == words::END {

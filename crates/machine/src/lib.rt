@@ -33,13 +33,13 @@ pub const END_CHOICE: u16 = 12;
 pub const SET_PARAMETER: u16 = 13;
 
 // The operations, each sort from its first number on, and the first number past them.
-pub const UPDATE: u16 = 256;
+pub const UPDATE: u16 = base::UPDATE;
 
-pub const UPDATE_WITH: u16 = 512;
+pub const UPDATE_WITH: u16 = base::UPDATE_WITH;
 
-pub const ASK: u16 = 768;
+pub const ASK: u16 = base::ASK;
 
-pub const ASK_WITH: u16 = 1024;
+pub const ASK_WITH: u16 = base::ASK_WITH;
 
 pub const PAST_OPERATIONS: u16 = 1280;
 

@@ -26,9 +26,6 @@ use symbols::VALUE;
 // One above the highest level.
 pub const NO_LEVEL: usize = base::GREATEST_LEVEL + 1;
 
-// The kinds below it are no words.
-pub const FIRST_WORD: u16 = words::LAST + 1;
-
 // A use that is not in order: the pass over the rules says what is wrong with it.
 const NOT_IN_ORDER: u16 = 1;
 
@@ -346,7 +343,7 @@ fn take_words(
     let mut k = own;
     loop {
         let w = scanner::next_word(text, i);
-        if w.kind < FIRST_WORD {
+        if w.kind < words::FIRST_WORD {
             return none();
         }
         if w.kind == words::END {

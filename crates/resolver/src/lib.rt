@@ -14,14 +14,6 @@ ghost use Rattle.symbols.specs.Rows.{held};
 ghost use Rattle.symbols.specs.Search.{part};
 use scanner::WordAt;
 
-// Below it a word has no text: words::BAD and words::LAST.
-const LEAST_KIND: u16 = 2;
-
-// The sorts of rules: a procedure rule, and a choice rule, which gives values.
-pub const PROCEDURE: u8 = 0;
-
-pub const CHOICE: u8 = 1;
-
 // Where an action stands: among n declarations, in a cycle or not, in a rule that gives values of the class (0: in a procedure rule).
 pub struct Scope {
     pub n: usize,
@@ -713,7 +705,7 @@ fn resolve_label(
     ensures { λ r. ⌜ LabelDone (now (text .entry)) (now (rows .entry)) n at class (now (seen .entry)) used r ⌝ }
 {
     let w = scanner::next_word(text, at);
-    if w.kind < LEAST_KIND {
+    if w.kind < words::FIRST_WORD {
         return mislabel(base::NOT_ALLOWED, w);
     }
     let label = symbols::value_of(text, rows, n, class, w.start, w.len);

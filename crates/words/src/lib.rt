@@ -5,6 +5,9 @@ pub const BAD: u16 = 0;
 
 pub const LAST: u16 = 1;
 
+// The kinds below it have no text.
+pub const FIRST_WORD: u16 = LAST + 1;
+
 pub const HASH: u16 = 35;
 
 pub const OPENING: u16 = 40;
