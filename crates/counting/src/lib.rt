@@ -20,6 +20,7 @@ use walker::Event;
 use walker::Next;
 use walker::Reason;
 use walker::Registers;
+use walker::Terms;
 
 // Figures as bytes (docs/LAYOUT.md): a count for each location, the words of their bits, books, total.
 const LOCATIONS: usize = base::TABLE_WORDS;
@@ -142,6 +143,7 @@ fn hold(returns: &mut [u16; base::PENDING], q: Registers, back: u16) -> Register
 }
 
 // A whole call from a fresh walk, its steps counted at their locations; or only measured, and then nothing is written. Room is words left for events.
+// A whole walk hands nothing out, so that it does not wait.
 fn count_book(
     table: &[u8],
     tokens: &[u8],
@@ -163,7 +165,8 @@ fn count_book(
     let known = machine::LENGTHS;
     while done < b.budget {
         let here = at.location;
-        let x = at.next(&known, &returns, table, tokens, answers, room, false);
+        let terms = Terms { room, pause: false };
+        let x = at.next(&known, &returns, table, tokens, answers, terms);
         let next = done + 1;
         match x {
             Next::Full => return ended(base::FULL, events, done),
@@ -177,7 +180,6 @@ fn count_book(
                 room -= EVENT_WORDS;
             }
             Next::Push(q, back) => at = hold(&mut returns, q, back),
-            // a whole walk hands nothing out
             Next::Waits(_, _) => return ended(base::WAITS, events, next),
         }
         bump(counts, here, b.writes);

@@ -706,6 +706,20 @@ impl Registers {
 
 // Steps
 
+// What a step may do: write so many words of events, and wait for an answer.
+pub struct Terms {
+    pub room: usize,
+    pub pause: bool,
+}
+
+// The same, with the instruction that was fetched and the words of the table.
+struct Due {
+    n: usize,
+    room: usize,
+    paused: bool,
+    ins: u16,
+}
+
 impl Registers {
     // What the instruction of this number does, at a location of the table. 0 has an arm so that the branch by number begins there.
     fn act(
@@ -713,16 +727,16 @@ impl Registers {
         known: &[usize; LAST_PLAIN],
         returns: &[u16; PENDING],
         t: &[u8],
-        n: usize,
         tokens: &[u8],
         answers: &[u8],
-        room: usize,
-        paused: bool,
-        ins: u16,
+        x: Due,
     ) -> Next
-        requires { ⌜ (now known ≡ lengths) × (n ≡ size (now t)) × (self .location ≤ n) × (self .depth ≤ 64) ⌝ }
-        ensures { λ r. ⌜ r ≡ fetchedOf (now (returns .entry)) (now (t .entry)) (now (tokens .entry)) (now (answers .entry)) room paused ins self ⌝ }
+        requires { ⌜ (now known ≡ lengths) × (x .n ≡ size (now t)) × (self .location ≤ x .n) × (self .depth ≤ 64) ⌝ }
+        ensures { λ r. ⌜ r ≡ fetchedOf (now (returns .entry)) (now (t .entry)) (now (tokens .entry)) (now (answers .entry)) (x .room) (x .paused) (x .ins) self ⌝ }
     {
+        let n = x.n;
+        let room = x.room;
+        let ins = x.ins;
         match ins {
             JUMP_FORWARD => self.forward(t, n, length_of(known, JUMP_FORWARD)),
             JUMP_BACK => self.back(t, n, length_of(known, JUMP_BACK)),
@@ -738,7 +752,7 @@ impl Registers {
             END_CHOICE => self.end_choice(n, length_of(known, END_CHOICE)),
             SET_PARAMETER => self.set_parameter(t, n, length_of(known, SET_PARAMETER)),
             0 => Next::Outside,
-            _ => self.operate(n, answers, room, paused, ins),
+            _ => self.operate(n, answers, room, x.paused, ins),
         }
     }
 
@@ -789,11 +803,10 @@ impl Registers {
         t: &[u8],
         tokens: &[u8],
         answers: &[u8],
-        room: usize,
-        paused: bool,
+        terms: Terms,
     ) -> Next
         requires { ⌜ (now known ≡ lengths) × (self .depth ≤ 64) ⌝ }
-        ensures { λ r. ⌜ r ≡ stepOf (now (returns .entry)) (now (t .entry)) (now (tokens .entry)) (now (answers .entry)) room paused self ⌝ }
+        ensures { λ r. ⌜ r ≡ stepOf (now (returns .entry)) (now (t .entry)) (now (tokens .entry)) (now (answers .entry)) (terms .room) (terms .pause) self ⌝ }
     {
         let n = table_words(t);
         let at = self.location;
@@ -803,17 +816,13 @@ impl Registers {
         if n < at {
             return Next::Outside;
         }
-        self.act(
-            known,
-            returns,
-            t,
+        let x = Due {
             n,
-            tokens,
-            answers,
-            room,
-            paused,
-            word(t, at - 1),
-        )
+            room: terms.room,
+            paused: terms.pause,
+            ins: word(t, at - 1),
+        };
+        self.act(known, returns, t, tokens, answers, x)
     }
 }
 
@@ -965,9 +974,9 @@ impl Walk {
     }
 
     // One step of a walk that goes on. An instruction that is not done here changes registers, or pushes.
-    fn next(self, t: &[u8], tokens: &[u8], answers: &[u8], room: usize, paused: bool) -> Stepped
+    fn next(self, t: &[u8], tokens: &[u8], answers: &[u8], room: usize, pause: bool) -> Stepped
         requires { ⌜ self .at .depth ≤ 64 ⌝ }
-        ensures { λ r. ⌜ r ≡ nextOf (now (t .entry)) (now (tokens .entry)) (now (answers .entry)) room paused self ⌝ }
+        ensures { λ r. ⌜ r ≡ nextOf (now (t .entry)) (now (tokens .entry)) (now (answers .entry)) room pause self ⌝ }
     {
         let known = machine::LENGTHS;
         let n = table_words(t);
@@ -977,7 +986,7 @@ impl Walk {
         match ins {
             INPUT_ANY => self.step_any(n, length_of(&known, INPUT_ANY), tokens),
             RETURN => self.step_return(t, n, length_of(&known, RETURN)),
-            _ => self.took(at.next(&known, &returns, t, tokens, answers, room, paused)),
+            _ => self.took(at.next(&known, &returns, t, tokens, answers, Terms { room, pause })),
         }
     }
 
@@ -1036,16 +1045,16 @@ impl Walk {
         t: &[u8],
         tokens: &[u8],
         answers: &[u8],
-        paused: bool,
+        pause: bool,
         budget: u64,
         out: &mut [u8],
     ) -> Called
         requires { ⌜ self .at .depth ≤ 64 ⌝ }
-        ensures { λ r. ⌜ r .walk ≡ goOf (now (t .entry)) (now (tokens .entry)) (now (answers .entry)) paused budget (self .at) (self .returns) (now (out .entry)) 0 0 .walk ⌝ }
-        ensures { λ r. ⌜ r .events ≡ goOf (now (t .entry)) (now (tokens .entry)) (now (answers .entry)) paused budget (self .at) (self .returns) (now (out .entry)) 0 0 .events ⌝ }
-        ensures { λ r. ⌜ r .steps ≡ goOf (now (t .entry)) (now (tokens .entry)) (now (answers .entry)) paused budget (self .at) (self .returns) (now (out .entry)) 0 0 .steps ⌝ }
-        ensures { λ r. ⌜ r .number ≡ goOf (now (t .entry)) (now (tokens .entry)) (now (answers .entry)) paused budget (self .at) (self .returns) (now (out .entry)) 0 0 .number ⌝ }
-        ensures { λ _. ⌜ now (out .exit) ≡ goOf (now (t .entry)) (now (tokens .entry)) (now (answers .entry)) paused budget (self .at) (self .returns) (now (out .entry)) 0 0 .out ⌝ }
+        ensures { λ r. ⌜ r .walk ≡ goOf (now (t .entry)) (now (tokens .entry)) (now (answers .entry)) pause budget (self .at) (self .returns) (now (out .entry)) 0 0 .walk ⌝ }
+        ensures { λ r. ⌜ r .events ≡ goOf (now (t .entry)) (now (tokens .entry)) (now (answers .entry)) pause budget (self .at) (self .returns) (now (out .entry)) 0 0 .events ⌝ }
+        ensures { λ r. ⌜ r .steps ≡ goOf (now (t .entry)) (now (tokens .entry)) (now (answers .entry)) pause budget (self .at) (self .returns) (now (out .entry)) 0 0 .steps ⌝ }
+        ensures { λ r. ⌜ r .number ≡ goOf (now (t .entry)) (now (tokens .entry)) (now (answers .entry)) pause budget (self .at) (self .returns) (now (out .entry)) 0 0 .number ⌝ }
+        ensures { λ _. ⌜ now (out .exit) ≡ goOf (now (t .entry)) (now (tokens .entry)) (now (answers .entry)) pause budget (self .at) (self .returns) (now (out .entry)) 0 0 .out ⌝ }
     {
         let mut at = self.at;
         let mut returns = self.returns;
@@ -1055,7 +1064,7 @@ impl Walk {
         let mut room = machine::count_words(out);
         let known = machine::LENGTHS;
         while done < budget {
-            let x = at.next(&known, &returns, t, tokens, answers, room, paused);
+            let x = at.next(&known, &returns, t, tokens, answers, Terms { room, pause });
             let next = done + 1;
             match x {
                 Next::Full => {

@@ -21,7 +21,7 @@ abbrev μ-loop : tie.MeasureT-loop
 μ-loop t tokens answers paused budget out₀ at₀ returns₀ events₀ done₀ room₀ known out at returns events done room = budget - done
 
 -- the step that was taken is that of `goOf`
-told : (c : tie.After-next Inv-loop μ-loop) → stepped (c .before .before .before .before .before .before .before .before .before .before .before .before .before .args .t .now) (c .before .before .before .before .before .before .before .before .before .before .before .before .before .args .tokens .now) (c .before .before .before .before .before .before .before .before .before .before .before .before .before .args .answers .now) (c .before .before .before .before .before .before .before .before .before .before .before .before .before .args .paused) (c .before .before .before .before .loop .at) (c .before .before .before .before .loop .returns) (c .before .before .before .before .loop .out) (c .before .before .before .before .loop .events) (c .before .before .before .before .loop .done) ≡ c .next .result
+told : (c : tie.After-next Inv-loop μ-loop) → stepped (c .before .before .before .before .before .before .before .before .before .before .before .before .before .args .t .now) (c .before .before .before .before .before .before .before .before .before .before .before .before .before .args .tokens .now) (c .before .before .before .before .before .before .before .before .before .before .before .before .before .args .answers .now) (c .before .before .before .before .before .before .before .before .before .before .before .before .before .args .pause) (c .before .before .before .before .loop .at) (c .before .before .before .before .loop .returns) (c .before .before .before .before .loop .out) (c .before .before .before .before .loop .events) (c .before .before .before .before .loop .done) ≡ c .next .result
 told c =
     let l = c .before .before .before .before .loop in
     let e : count (l .out) - 3 * l .events ≡ l .room = omega (arith, l .inv .left) in
@@ -32,7 +32,7 @@ kept : (c : tie.After-next Inv-loop μ-loop) → Keeps (c .before .before .befor
 kept c =
     let a = c .before .before .before .before .before .before .before .before .before .before .before .before .before .args in
     let l = c .before .before .before .before .loop in
-    rw (c .next .ensures) (keeps (l .room) (l .at) (l .inv .deep) (l .returns) (a .t .now) (a .tokens .now) (a .answers .now) (a .paused))
+    rw (c .next .ensures) (keeps (l .room) (l .at) (l .inv .deep) (l .returns) (a .t .now) (a .tokens .now) (a .answers .now) (a .pause))
 
 count-words-requires : tie.Need-count-words-requires Inv-loop μ-loop
 count-words-requires c κs = search needs
@@ -40,7 +40,7 @@ count-words-requires c κs = search needs
 loop-holds : tie.Need-loop-holds Inv-loop μ-loop
 loop-holds c =
     let a = c .before .before .before .before .before .before .before .before .args in
-    record { deep = c .before .before .before .before .before .before .before .before .pre; left = omega (arith, c .count-words .ensures); as-long = refl; within = omega arith; same = ap (λ (n : ℕ). goOf (a .t .now) (a .tokens .now) (a .answers .now) (a .paused) n (a .self .at) (a .self .returns) (a .out .now) 0 0) (omega arith) }
+    record { deep = c .before .before .before .before .before .before .before .before .pre; left = omega (arith, c .count-words .ensures); as-long = refl; within = omega arith; same = ap (λ (n : ℕ). goOf (a .t .now) (a .tokens .now) (a .answers .now) (a .pause) n (a .self .at) (a .self .returns) (a .out .now) 0 0) (omega arith) }
 
 next-requires : tie.Need-next-requires Inv-loop μ-loop
 unfolding lengths
@@ -198,7 +198,7 @@ loop-again-2 c =
     let k = subst (Keeps (l .room)) (c .before .before .before .before .before .x3 .given .1) (kept (c .before .before .before .before .before .before .before)) in
     let s = sym (tells _ _ _ _ _ _ _ _ _ (a .budget - l .done) (a .budget - (l .done + 1)) _ _ (omega (arith, c .before .before .before .before .before .before .before .before .before .before .loop-test .taken)) x) ∙ l .inv .same in
     let long : length (c .before .before .put-event .last .0) ≡ length (l .out) = c .before .before .put-event .kept .0 in
-    record { deep = k .0; left = omega (arith, k .1, l .inv .left, long); as-long = long ∙ l .inv .as-long; within = omega (arith, c .before .before .before .before .before .before .before .before .before .before .loop-test .taken); same = ap (λ (o : List ℕ). goOf (a .t .now) (a .tokens .now) (a .answers .now) (a .paused) (a .budget - (l .done + 1)) v (l .returns) o (l .events + 1) (l .done + 1)) (c .before .before .put-event .ensures) ∙ s }
+    record { deep = k .0; left = omega (arith, k .1, l .inv .left, long); as-long = long ∙ l .inv .as-long; within = omega (arith, c .before .before .before .before .before .before .before .before .before .before .loop-test .taken); same = ap (λ (o : List ℕ). goOf (a .t .now) (a .tokens .now) (a .answers .now) (a .pause) (a .budget - (l .done + 1)) v (l .returns) o (l .events + 1) (l .done + 1)) (c .before .before .put-event .ensures) ∙ s }
 
 loop-less-3 : tie.Need-loop-less-3 Inv-loop μ-loop
 loop-less-3 c = omega (arith, c .before .before .before .before .before .before .before .loop-test .taken)
@@ -222,7 +222,7 @@ returns-5 : tie.Need-returns-5 Inv-loop μ-loop
 returns-5 c =
     let a = c .before .before .before .before .before .before .before .before .before .before .before .args in
     let l = c .before .before .loop in
-    rw (c .ended5 .ensures) (parts (sym (spent (a .t .now) (a .tokens .now) (a .answers .now) (a .paused) (a .budget - l .done) (l .at) (l .returns) (l .out) (l .events) (l .done) (omega (arith, l .inv .within, c .before .loop-test .left))) ∙ l .inv .same))
+    rw (c .ended5 .ensures) (parts (sym (spent (a .t .now) (a .tokens .now) (a .answers .now) (a .pause) (a .budget - l .done) (l .at) (l .returns) (l .out) (l .events) (l .done) (omega (arith, l .inv .within, c .before .loop-test .left))) ∙ l .inv .same))
 
 pub go-spec : {M : Type 1} → statement M
 go-spec =

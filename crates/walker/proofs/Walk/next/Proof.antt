@@ -37,17 +37,17 @@ next-requires c κs = (refl, c .before .before .before .before .before .before .
 took-requires : tie.Need-took-requires
 took-requires c κs =
     let a = c .before .before .before .before .before .before .before .before .before .before .before .args in
-    rw (c .next .ensures) (step-holds (a .self .returns) (a .t .now) (a .tokens .now) (a .answers .now) (a .room) (a .paused) (a .self .at) (c .before .before .before .before .before .before .before .before .before .before .before .pre))
+    rw (c .next .ensures) (step-holds (a .self .returns) (a .t .now) (a .tokens .now) (a .answers .now) (a .room) (a .pause) (a .self .at) (c .before .before .before .before .before .before .before .before .before .before .before .pre))
 
 returns : tie.Need-returns
 returns c =
     let a = c .before .before .before .before .before .before .before .before .before .before .before .args in
-    c .step-any .ensures ∙ ap (tookOf (a .self)) (sym (step-any (a .t .now) (a .self .returns) (a .tokens .now) (a .answers .now) (a .room) (a .paused) (a .self .at) (sym (c .before .before .before .before .fetched .ensures) ∙ c .before .before .before .match .keys1)))
+    c .step-any .ensures ∙ ap (tookOf (a .self)) (sym (step-any (a .t .now) (a .self .returns) (a .tokens .now) (a .answers .now) (a .room) (a .pause) (a .self .at) (sym (c .before .before .before .before .fetched .ensures) ∙ c .before .before .before .match .keys1)))
 
 returns-2 : tie.Need-returns-2
 returns-2 c =
     let a = c .before .before .before .before .before .before .before .before .before .before .before .args in
-    c .step-return .ensures ∙ ap (tookOf (a .self)) (sym (step-return (a .t .now) (a .self .returns) (a .tokens .now) (a .answers .now) (a .room) (a .paused) (a .self .at) (sym (c .before .before .before .before .fetched .ensures) ∙ c .before .before .before .match .keys2)))
+    c .step-return .ensures ∙ ap (tookOf (a .self)) (sym (step-return (a .t .now) (a .self .returns) (a .tokens .now) (a .answers .now) (a .room) (a .pause) (a .self .at) (sym (c .before .before .before .before .fetched .ensures) ∙ c .before .before .before .match .keys2)))
 
 returns-3 : tie.Need-returns-3
 returns-3 c = c .took .ensures ∙ ap (tookOf (c .before .before .before .before .before .before .before .before .before .before .before .before .args .self)) (c .before .next .ensures)
