@@ -6,7 +6,7 @@ ghost use mathlib.Core.Path.{_≡_};
 ghost use Prim.Native.Nat.{_+_, _*_, _-_, _/_, _%_, _<_, _≤_, _^_};
 ghost use lib.Count.{ones};
 ghost use lib.Dec.{eqb};
-ghost use lib.ListN.{length, take, drop, getD, set};
+ghost use lib.ListN.{length, take, drop, getD};
 ghost use Rattle.base.specs.Common.{if_then_else_, same};
 ghost use Rattle.machine.specs.Bytes.{count, wordsOf, bytesOf};
 ghost use Rattle.figures.specs.Figures as sums;
@@ -14,7 +14,7 @@ ghost use Rattle.figures.specs.Figures.{sum, bumps, bitsOf, packed};
 ghost use Rattle.figures.specs.Form as form;
 ghost use Rattle.figures.specs.Form.{numberAt, numbersAt, figuresNamed};
 ghost use Rattle.counting.specs.Counting.{freshAt, bookVisits, bookOf, Inside, toldOf, numbersOf, pastOf, gives, reports};
-ghost use Rattle.walker.specs.Shape.{putEvent, numberOf, withDepth};
+ghost use Rattle.walker.specs.Shape.{putEvent, numberOf};
 use machine::EVENT_WORDS;
 use walker::Event;
 use walker::Next;
@@ -131,17 +131,6 @@ fn stopped(
     ended(walker::number_of(why), events, steps)
 }
 
-// A call: one return location more is held.
-fn hold(returns: &mut [u16; base::PENDING], q: Registers, back: u16) -> Registers
-    requires { ⌜ q .depth < 64 ⌝ }
-    ensures { λ r. ⌜ r ≡ withDepth q (q .depth + 1) ⌝ }
-    ensures { λ _. ⌜ now (returns .exit) ≡ set (now (returns .entry)) (q .depth) back ⌝ }
-{
-    let d = q.depth;
-    returns[d] = back;
-    q.deeper()
-}
-
 // A whole call from a fresh walk, its steps counted at their locations; or only measured, and then nothing is written. Room is words left for events.
 // A whole walk hands nothing out, so that it does not wait.
 fn count_book(
@@ -179,7 +168,7 @@ fn count_book(
                 events += 1;
                 room -= EVENT_WORDS;
             }
-            Next::Push(q, back) => at = hold(&mut returns, q, back),
+            Next::Push(q, back) => at = walker::hold(&mut returns, q, back),
             Next::Waits(_, _) => return ended(base::WAITS, events, next),
         }
         bump(counts, here, b.writes);

@@ -1,17 +1,19 @@
 -- A call's loop is the walk's steps repeated: `repeats`. Assumes nothing.
 use mathlib.Core.Path.{_≡_, refl, sym, ap, _∙_}
 use mathlib.Core.Bool.{Bool, true, false}
-use mathlib.Core.List.{List, []}
+use mathlib.Core.List.{List, [], _∷_}
 use Prim.Native.Nat.{ℕ, zero, suc, _+_, _*_, _-_, _<_, _≤_, min}
 use native.Mathlib.Omega.{arith}
+use denote.Enum.Declared.{tagOf}
 use lib.Dec.{eqb, leb}
 use lib.ListN.{set}
 use borrow.Author.Tests.{leb-true}
+use types.Run.{OneOf, miss}
 use Rattle.base.specs.Common.{if_then_else_}
 use Rattle.machine.specs.Bytes.{count, wordAt}
 use Rattle.machine.specs.Lengths.{lengths, lengthOf}
 use Rattle.walker.specs.Shape.{size, putEvent, numberOf, anyOf, returnOf, actOf, fetchedOf, withDepth, first64, answeredOne, stepOf, goOf, wholeOf, pausedOf, Outcome}
-use Rattle.walker.specs.Steps.{says, Holds, tookOf, numberAt, nextOf, walkStepOf, turnOf, stepsOf, Repeats}
+use Rattle.walker.specs.Steps.{says, Holds, Ends, tookOf, numberAt, nextOf, walkStepOf, turnOf, lastOf, stepsOf, Repeats}
 use Rattle.walker.specs.declared.Next.{Next}
 use Rattle.walker.specs.declared.Phase.{Phase}
 use Rattle.walker.specs.declared.Reason.{Reason}
@@ -20,6 +22,7 @@ use Rattle.walker.specs.declared.Said.{Said}
 use Rattle.walker.specs.declared.Walk.{Walk}
 use Rattle.walker.proofs.Keeps.{Keeps, keeps}
 use Rattle.walker.proofs.Laws.{here}
+use Rattle.walker.proofs.Next.{the-type}
 use Rattle.walker.proofs.Go.{stepped, full, outside, stops, waits, on, tells, pushes}
 
 abbrev going : Registers → List ℕ → Walk
@@ -113,6 +116,21 @@ holds room (Next.Waits v x) h = tt
 
 pub step-holds : (rs t k a : List ℕ) (room : ℕ) (q : Bool) (r : Registers) → r .depth ≤ 64 → Holds (stepOf rs t k a room q r)
 step-holds rs t k a room q r deep = holds room (stepOf rs t k a room q r) (keeps room r deep rs t k a q)
+
+-- The step that ends a call
+
+-- the last arm of `last`
+pub only-full : (room : ℕ) (x : Next) → Ends room x → OneOf (0 ∷ 3 ∷ 4 ∷ 5 ∷ []) (tagOf the-type x) → x ≡ Next.Full
+only-full room Next.Full h k = refl
+only-full room Next.Outside h k = absurd (miss (0 ∷ 3 ∷ 4 ∷ 5 ∷ []) _ tt k)
+only-full room (Next.Stop y) h k = absurd (miss (0 ∷ 3 ∷ 4 ∷ 5 ∷ []) _ tt k)
+only-full room (Next.On v) h k = absurd h
+only-full room (Next.Tells v y) h k = absurd h
+only-full room (Next.Push v l) h k = absurd h
+only-full room (Next.Waits v y) h k = absurd (miss (0 ∷ 3 ∷ 4 ∷ 5 ∷ []) _ tt k)
+
+pub last-as : (w : Walk) (o : List ℕ) (e d : ℕ) {x y : Next} → x ≡ y → lastOf (tookOf w y) o e d ≡ lastOf (tookOf w x) o e d
+last-as w o e d p = ap (λ (z : Next). lastOf (tookOf w z) o e d) (sym p)
 
 -- A step by the walk's phase
 

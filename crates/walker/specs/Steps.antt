@@ -2,7 +2,7 @@
 use mathlib.Core.Bool.{Bool, true, false}
 use mathlib.Core.List.{List, []}
 use mathlib.Core.Path.{_≡_}
-use Prim.Native.Nat.{ℕ, zero, suc, _+_, _*_, _-_, _<_}
+use Prim.Native.Nat.{ℕ, zero, suc, _+_, _*_, _-_, _<_, _≤_}
 use lib.Dec.{eqb, leb}
 use lib.ListN.{getD}
 use Rattle.base.specs.Common.{if_then_else_}
@@ -100,6 +100,20 @@ turnOf further s o e d =
       | Said.Stops m ↦ outcome (s .walk) o e (d + 1) m
       | Said.Hands x ↦ outcome (s .walk) (putEvent o (3 * e) x) (e + 1) (d + 1) 22
     ]
+
+-- a step that does not go on, with room for so many words of events: an operation is handed out only where an event's three are free
+abbrev pub Ends : ℕ → Next → Type 0
+Ends room Next.Full = Unit {0}
+Ends room Next.Outside = Unit {0}
+Ends room (Next.Stop x) = Unit {0}
+Ends room (Next.On r) = ⊥
+Ends room (Next.Tells r e) = ⊥
+Ends room (Next.Push r l) = ⊥
+Ends room (Next.Waits r e) = 3 ≤ room
+
+-- a call that ends with this step; after one that goes on, its budget is spent
+abbrev pub lastOf : Stepped → List ℕ → ℕ → ℕ → Outcome
+lastOf s o e d = turnOf (λ w u f g. outcome w u f g 36) s o e d
 
 -- up to n steps
 unfoldable pub stepsOf : List ℕ → List ℕ → List ℕ → Bool → ℕ → Walk → List ℕ → ℕ → ℕ → Outcome

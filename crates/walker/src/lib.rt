@@ -1,6 +1,7 @@
 // The walker: whole and paused walks over a table of 16-bit words.
 ghost use mathlib.Core.Path.{_≡_};
-ghost use Prim.Native.Nat.{_+_, _*_, _%_, _<_, _≤_, _^_};
+ghost use Prim.Native.Nat.{_+_, _*_, _-_, _%_, _<_, _≤_, _^_};
+ghost use lib.ListN.{set};
 ghost use Rattle.machine.specs.Bytes.{count, wordAt};
 ghost use Rattle.machine.specs.Lengths.{lengths, lengthOf};
 ghost use Rattle.walker.specs.Shape.{size, setWord, putEvent, swapped, numberOf};
@@ -8,7 +9,8 @@ ghost use Rattle.walker.specs.Shape.{moved, readOne, spentOne, answeredO
 ghost use Rattle.walker.specs.Shape.{otherwiseOf, labelOf, labelledOf, choiceOf, defaultOf, takeOther};
 ghost use Rattle.walker.specs.Shape.{forwardOf, backOf, mendOf, inputOf, anyOf, tellOf, inputChoiceOf, callOf, backTo, returnOf, answerOf};
 ghost use Rattle.walker.specs.Shape.{inFull, operateOf, fetchedOf, stepOf, goOf, wholeOf, pausedOf, pushed};
-ghost use Rattle.walker.specs.Steps.{withAt, inPhase, tokenRead, returned, answered, asRead, says, Holds, tookOf, numberAt, nextOf, walkStepOf, called};
+ghost use Rattle.walker.specs.Steps.{withAt, inPhase, tokenRead, returned, answered, asRead, says, Holds, tookOf, numberAt, nextOf, walkStepOf, outcome, called, Ends, lastOf};
+ghost use Rattle.walker.specs.declared.Phase.the-variants.{Stopped};
 use base::PENDING;
 use machine::ASK;
 use machine::ASK_WITH;
@@ -1029,6 +1031,17 @@ fn undone(walk: Walk, number: u16) -> Called
     }
 }
 
+// A call: one return location more is held.
+pub fn hold(returns: &mut [u16; PENDING], q: Registers, back: u16) -> Registers
+    requires { ⌜ q .depth < 64 ⌝ }
+    ensures { λ r. ⌜ r ≡ withDepth q (q .depth + 1) ⌝ }
+    ensures { λ _. ⌜ now (returns .exit) ≡ set (now (returns .entry)) (q .depth) back ⌝ }
+{
+    let d = q.depth;
+    returns[d] = back;
+    q.deeper()
+}
+
 impl Walk {
     // Its registers as they are read.
     fn clipped(mut self) -> Walk
@@ -1037,6 +1050,36 @@ impl Walk {
         let at = self.at.clipped();
         self.at = at;
         self
+    }
+
+    // It stops for good, and its call ends.
+    fn stopped(self, why: Reason, events: usize, steps: u64) -> Called
+        ensures { λ r. ⌜ r ≡ called (inPhase self (Stopped why)) events steps (numberOf why) ⌝ }
+    {
+        ended(
+            self.in_phase(Phase::Stopped(why)),
+            events,
+            steps,
+            number_of(why),
+        )
+    }
+
+    // The end of a call, with a step x that does not go on.
+    fn last(self, x: Next, events: usize, steps: u64, out: &mut [u8]) -> Called
+        requires { ⌜ Ends (count (now out) - 3 * events) x × (steps + 1 < 2 ^ 64) ⌝ }
+        ensures { λ r. ⌜ outcome (r .walk) (now (out .exit)) (r .events) (r .steps) (r .number) ≡ lastOf (tookOf self x) (now (out .entry)) events steps ⌝ }
+    {
+        match x {
+            Next::Outside => self.stopped(Reason::Outside, events, steps),
+            Next::Stop(why) => self.stopped(why, events, steps + 1),
+            Next::Waits(q, e) => {
+                put_event(out, EVENT_WORDS * events, e);
+                let walk = self.with_registers(q).in_phase(Phase::Waiting);
+                ended(walk, events + 1, steps + 1, base::WAITS)
+            }
+            // the one that is left: no room
+            _ => ended(self, events, steps, base::FULL),
+        }
     }
 
     // Up to budget steps of a walk that goes on.
@@ -1056,6 +1099,7 @@ impl Walk {
         ensures { λ r. ⌜ r .number ≡ goOf (now (t .entry)) (now (tokens .entry)) (now (answers .entry)) pause budget (self .at) (self .returns) (now (out .entry)) 0 0 .number ⌝ }
         ensures { λ _. ⌜ now (out .exit) ≡ goOf (now (t .entry)) (now (tokens .entry)) (now (answers .entry)) pause budget (self .at) (self .returns) (now (out .entry)) 0 0 .out ⌝ }
     {
+        let phase = Phase::Going;
         let mut at = self.at;
         let mut returns = self.returns;
         let mut events: usize = 0;
@@ -1065,44 +1109,19 @@ impl Walk {
         let known = machine::LENGTHS;
         while done < budget {
             let x = at.next(&known, &returns, t, tokens, answers, Terms { room, pause });
-            let next = done + 1;
             match x {
-                Next::Full => {
-                    let phase = Phase::Going;
-                    return ended(Walk { phase, at, returns }, events, done, base::FULL);
-                }
-                Next::Outside => {
-                    let phase = Phase::Stopped(Reason::Outside);
-                    return ended(Walk { phase, at, returns }, events, done, base::OUTSIDE);
-                }
-                Next::Stop(why) => {
-                    let phase = Phase::Stopped(why);
-                    return ended(Walk { phase, at, returns }, events, next, number_of(why));
-                }
-                Next::On(q) => {
-                    at = q;
-                }
+                Next::On(q) => at = q,
                 Next::Tells(q, e) => {
                     put_event(out, EVENT_WORDS * events, e);
                     at = q;
                     events += 1;
                     room -= EVENT_WORDS;
                 }
-                Next::Push(q, back) => {
-                    let d = q.depth;
-                    returns[d] = back;
-                    at = q.deeper();
-                }
-                Next::Waits(q, e) => {
-                    put_event(out, EVENT_WORDS * events, e);
-                    let phase = Phase::Waiting;
-                    at = q;
-                    return ended(Walk { phase, at, returns }, events + 1, next, base::WAITS);
-                }
+                Next::Push(q, back) => at = hold(&mut returns, q, back),
+                _ => return Walk { phase, at, returns }.last(x, events, done, out),
             }
-            done = next;
+            done += 1;
         }
-        let phase = Phase::Going;
         ended(Walk { phase, at, returns }, events, done, base::SPENT)
     }
 
