@@ -726,45 +726,38 @@ pub struct Answer {
     pub size: usize,
 }
 
+// What does not fit, or is no program's cells: every word zero.
+fn too_short(table: &mut [u8], size: usize) -> Answer
+    ensures { λ r. ⌜ (r .fault ≡ 20) × (r .size ≡ size) ⌝ }
+    ensures { λ _. ⌜ now (table .exit) ≡ puts (now (table .entry)) 0 (replicate (words (now (table .entry)) - 0) 0) ⌝ }
+{
+    zero_from(table, 0);
+    Answer {
+        fault: TOO_SHORT,
+        size,
+    }
+}
+
 // The table of the program whose cells these are into the lent words, zero words behind it; all zero if it does not fit.
 pub fn emit(cells: &[u16], sorts: &[u8], rules: usize, table: &mut [u8]) -> Answer
     ensures { λ r. ⌜ Emits (now (cells .entry)) (now (sorts .entry)) rules (now (table .entry)) (now (table .exit)) (r .fault) (r .size) ⌝ }
 {
     if base::WORD_VALUES < cells.len() {
-        zero_from(table, 0);
-        return Answer {
-            fault: TOO_SHORT,
-            size: 0,
-        };
+        return too_short(table, 0);
     }
     if base::RULES < rules {
-        zero_from(table, 0);
-        return Answer {
-            fault: TOO_SHORT,
-            size: 0,
-        };
+        return too_short(table, 0);
     }
     let mut slots = [0usize; base::RULES];
     // no word is written past the room
     let end = 2 * least(table.len() / 2, base::TABLE_WORDS);
     let size = emit_rules(cells, sorts, rules, &mut slots, &mut table[..end]);
     if base::TABLE_WORDS < size {
-        zero_from(table, 0);
-        return Answer {
-            fault: TOO_SHORT,
-            size: size,
-        };
+        return too_short(table, size);
     }
     if table.len() / 2 < size {
-        zero_from(table, 0);
-        return Answer {
-            fault: TOO_SHORT,
-            size: size,
-        };
+        return too_short(table, size);
     }
     zero_from(table, size);
-    Answer {
-        fault: 0,
-        size: size,
-    }
+    Answer { fault: 0, size }
 }
