@@ -6,10 +6,9 @@ use native.Mathlib.Numerals.{add-one}
 use native.Mathlib.Omega.{arith}
 use lib.ListN.{length, getD, set, take, drop, length-append, length-drop}
 use lib.Seq.{set-at, drop-cons, take-suc, take-all, length-take-le}
-use Rattle.machine.proofs.Bytes.{length-bytesOf}
+use Rattle.machine.proofs.Bytes.{length-bytesOf, bytesOf-append}
 use Rattle.machine.specs.Bytes.{bytesOf, over}
 use Rattle.buffers.specs.Words.{putWord}
-use Rattle.buffers.proofs.Zeros.{bytes-append}
 
 -- a word's two bytes behind k words
 two-behind : (A out : List ℕ) (k x : ℕ) → length A ≡ 2 * k → 2 * k + 2 ≤ length out
@@ -37,7 +36,7 @@ put-behind ws out k x e h =
     let l : length (A ++ (x / 256 ∷ x % 256 ∷ [])) ≡ 2 * k + 2 = omega (arith, length-append A (x / 256 ∷ x % 256 ∷ [])) in
     ap (λ (n : ℕ). putWord (A ++ drop n out) k x) a ∙ two-behind A out k x a h
     ∙ ap (λ (n : ℕ). (A ++ (x / 256 ∷ x % 256 ∷ [])) ++ drop n out) (sym l)
-    ∙ ap (λ (z : List ℕ). z ++ drop (length z) out) (sym (bytes-append ws (x ∷ [])))
+    ∙ ap (λ (z : List ℕ). z ++ drop (length z) out) (sym (bytesOf-append ws (x ∷ [])))
 
 pub over-length : (ws out : List ℕ) → 2 * length ws ≤ length out → length (over (bytesOf ws) out) ≡ length out
 unfolding over

@@ -6,14 +6,9 @@ use native.Mathlib.Numerals.{add-one}
 use native.Mathlib.Omega.{arith}
 use lib.ListN.{length, getD, set, drop, replicate, length-append, length-drop, length-replicate, replicate-append-replicate}
 use lib.Seq.{set-at, drop-cons, drop-at}
-use Rattle.machine.proofs.Bytes.{length-bytesOf}
+use Rattle.machine.proofs.Bytes.{length-bytesOf, bytesOf-append}
 use Rattle.machine.specs.Bytes.{count, bytesOf, over}
 use Rattle.buffers.specs.Words.{zeroed}
-
-pub bytes-append : (a b : List ℕ) → bytesOf (a ++ b) ≡ bytesOf a ++ bytesOf b
-unfolding bytesOf
-bytes-append [] b = refl
-bytes-append (x ∷ a) b = ap (λ (l : List ℕ). x / 256 ∷ x % 256 ∷ l) (bytes-append a b)
 
 zero-bytes : (n : ℕ) → bytesOf (replicate n 0) ≡ replicate (2 * n) 0
 unfolding bytesOf
@@ -70,7 +65,7 @@ pub over-zeroed : (ws t : List ℕ) → length ws ≤ count t → over (bytesOf 
 over-zeroed ws t h =
     over-zeros ws t h ∙ sym (append-assoc (bytesOf ws) (replicate (2 * (count t - length ws)) 0) (drop (2 * count t) t))
     ∙ ap (λ (y : List ℕ). (bytesOf ws ++ y) ++ drop (2 * count t) t) (sym (zero-bytes (count t - length ws)))
-    ∙ ap (λ (y : List ℕ). y ++ drop (2 * count t) t) (sym (bytes-append ws (replicate (count t - length ws) 0)))
+    ∙ ap (λ (y : List ℕ). y ++ drop (2 * count t) t) (sym (bytesOf-append ws (replicate (count t - length ws) 0)))
 
 -- and cleared again
 pub zeroed-over : (ws t : List ℕ) → length ws ≤ count t → zeroed (over (bytesOf ws) (zeroed t)) ≡ zeroed t

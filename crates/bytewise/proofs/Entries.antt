@@ -18,14 +18,14 @@ use Rattle.events.specs.Events.{Event, Reason, Io}
 use Rattle.figure.specs.Told.{figureOf}
 use Rattle.firmware.proofs.Zero.{accepts-0}
 use Rattle.firmware.specs.Processing.{Numbers}
-use Rattle.machine.proofs.Bytes.{length-wordsOf}
+use Rattle.machine.proofs.Bytes.{length-wordsOf, wordsOf-append}
 use Rattle.machine.specs.Bytes.{count, wordsOf, tableOf, bytesOf}
 use Rattle.machine.specs.Form.{walkOf, eventsWords}
 use Rattle.machine.specs.Walk.{Phase, going, waiting, stopped, Walk}
 use Rattle.ownwalk.specs.OwnWalk.{owns, ownStart}
 use Rattle.processor.specs.Process.{Answer, accepted, process, understood, meaning, lentWords, lentBytes}
 use Rattle.program.specs.Program.{Rule}
-use Rattle.bytewise.proofs.Joined.{wordsOf-then, eventsWords-then, choices-words, byte-calls}
+use Rattle.bytewise.proofs.Joined.{eventsWords-then, choices-words, byte-calls}
 use Rattle.bytewise.specs.AtEntries.{RulesWriteWords, RulesStopWords, WaitsPastBytes, StoppedBytes, SufficesBytes, AgreesBytes, Leaves, AtEntries, Processed, Claimed}
 use Rattle.bytewise.specs.ByteCalls.{Slice, choicesIn, Waits, ByteCalls, Stands}
 
@@ -38,7 +38,7 @@ unfolding tableOf lentBytes lentWords
 lent-table words verdict lent h =
     let zeros : List ℕ = replicate (count lent - length words) 0 in
     let rest = drop (2 * count lent) lent in
-    let e : wordsOf (bytesOf (words ++ zeros) ++ rest) ≡ (words ++ zeros) ++ wordsOf rest = wordsOf-then (words ++ zeros) rest in
+    let e : wordsOf (bytesOf (words ++ zeros) ++ rest) ≡ (words ++ zeros) ++ wordsOf rest = wordsOf-append (words ++ zeros) rest in
     let a : (words ++ zeros) ++ wordsOf rest ≡ words ++ (zeros ++ wordsOf rest) = append-assoc words zeros (wordsOf rest) in
     let n : 4096 ≡ length words + (4096 - length words) = omega arith in (
       take (4096 - length words) (zeros ++ wordsOf rest),

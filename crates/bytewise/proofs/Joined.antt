@@ -2,7 +2,7 @@
 use mathlib.Core.List.{List, [], _∷_, _++_, append-assoc}
 use mathlib.Core.Option.{none, some}
 use mathlib.Core.Path.{_≡_, refl, sym, ap, _∙_}
-use Prim.Native.Nat.{ℕ, _+_, _*_, _-_, _/_, _%_, _<_}
+use Prim.Native.Nat.{ℕ, _+_, _*_, _-_, _<_}
 use native.Mathlib.Omega.{arith}
 use lib.Dec.{leb}
 use lib.ListN.{length, take, drop, getD}
@@ -10,10 +10,10 @@ use lib.Seq.{take-append-seam}
 use Rattle.base.specs.Common.{if_then_else_}
 use Rattle.agreement.specs.Demand.{wanted, Allowed, Listed, begin, then-call}
 use Rattle.events.specs.Events.{Event, output, signal, repair, operation, operationWith, eventWords, isChoice, choices}
-use Rattle.machine.proofs.Bytes.{length-wordsOf, length-tableOf}
+use Rattle.machine.proofs.Bytes.{length-wordsOf, length-tableOf, wordsOf-append}
 use Rattle.machine.proofs.Form.{walkOf-walkBytes}
-use Rattle.machine.proofs.Words.{small-words, small-take}
-use Rattle.machine.specs.Small.{Small, SmallMode}
+use Rattle.machine.proofs.Words.{small-words, small-table}
+use Rattle.machine.specs.Small.{SmallMode}
 use Rattle.machine.proofs.Keeps.{fits-call, fits-fresh}
 use Rattle.machine.specs.Bytes.{count, wordsOf, tableOf, bytesOf, over}
 use Rattle.machine.specs.Call.{Mode, whole, paused, callWalk}
@@ -22,13 +22,6 @@ use Rattle.machine.specs.Walk.{Phase, going, waiting, stopped, Walk, fresh}
 use Rattle.bytewise.specs.ByteCalls.{Slice, writtenWords, choicesIn, Hands, ByteCalls, first, next, Stands}
 
 -- Words and bytes
-
-pub wordsOf-then : (ws r : List ℕ) → wordsOf (bytesOf ws ++ r) ≡ ws ++ wordsOf r
-unfolding wordsOf bytesOf
-wordsOf-then [] r = refl
-wordsOf-then (w ∷ ws) r =
-    let e : w / 256 * 256 + w % 256 ≡ w = omega arith in
-    λ i. e i ∷ wordsOf-then ws r i
 
 length-eventsWords : (es : List Event) → length (eventsWords es) ≡ 3 * length es
 unfolding eventsWords eventWords
@@ -57,12 +50,8 @@ choices-words (operationWith t v ∷ es) = ap (λ (k : ℕ). (if leb 768 t then 
 written-is : (es : List Event) (buffer : List ℕ) → take (3 * length es) (wordsOf (over (bytesOf (eventsWords es)) buffer)) ≡ eventsWords es
 unfolding over
 written-is es buffer =
-    let e = wordsOf-then (eventsWords es) (drop (length (bytesOf (eventsWords es))) buffer) in
+    let e = wordsOf-append (eventsWords es) (drop (length (bytesOf (eventsWords es))) buffer) in
     rw (e, sym (length-eventsWords es)) (take-append-seam (eventsWords es) (wordsOf (drop (length (bytesOf (eventsWords es))) buffer)))
-
-small-table : (s : List ℕ) → ((i : ℕ) → getD s i 0 < 256) → Small (tableOf s)
-unfolding tableOf
-small-table s b = small-take 4096 (wordsOf s) (small-words s b)
 
 short-words : (s : List ℕ) → Slice s → length (wordsOf s) < 18446744073709551616
 short-words s h = let z = length-wordsOf s in let k = h .short in unfold count in omega arith

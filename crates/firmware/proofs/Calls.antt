@@ -1,16 +1,17 @@
 -- A call of the walker's definitions on the walk that some bytes are gives what the call over bytes gives.
 use mathlib.Core.Bool.{Bool, true, false, not}
-use mathlib.Core.List.{List, [], _∷_}
+use mathlib.Core.List.{List}
 use mathlib.Core.Option.{none, some}
 use mathlib.Core.Path.{_≡_, refl, ap}
-use Prim.Native.Nat.{ℕ, zero, suc, _<_}
+use Prim.Native.Nat.{ℕ, _<_}
 use native.Mathlib.Omega.{arith}
 use lib.Dec.{eqb}
-use lib.ListN.{length, take}
+use lib.ListN.{length}
 use Rattle.base.specs.Common.{if_then_else_}
 use Rattle.machine.proofs.Bytes.{length-wordsOf, length-tableOf}
 use Rattle.machine.proofs.Form.{walkOf-fits}
-use Rattle.machine.specs.Small.{Small, SmallMode}
+use Rattle.machine.proofs.Words.{small-words, small-table}
+use Rattle.machine.specs.Small.{SmallMode}
 use Rattle.machine.proofs.Keeps.{fits-call}
 use Rattle.machine.specs.Bytes.{count, wordsOf, tableOf}
 use Rattle.machine.specs.Call.{Mode, whole, paused, callWalk}
@@ -21,23 +22,6 @@ use Rattle.walker.specs.Shape as shape
 use Rattle.walker.specs.View as view
 use Rattle.walker.specs.declared.Walk.{Walk}
 use Rattle.firmware.specs.Entries.{handing}
-
-pub small-words : (s : List ℕ) → Bytes s → Small (wordsOf s)
-unfolding wordsOf
-small-words [] b i = omega arith
-small-words (h ∷ []) b i = omega arith
-small-words (h ∷ l ∷ s) b zero = omega (arith, b 0, b 1)
-small-words (h ∷ l ∷ s) b (suc i) = small-words s (λ k. b (suc (suc k))) i
-
-small-take : (n : ℕ) (l : List ℕ) → Small l → Small (take n l)
-small-take zero l b i = omega arith
-small-take (suc n) [] b i = omega arith
-small-take (suc n) (x ∷ l) b zero = b 0
-small-take (suc n) (x ∷ l) b (suc i) = small-take n l (λ k. b (suc k)) i
-
-small-table : (s : List ℕ) → Bytes s → Small (tableOf s)
-unfolding tableOf
-small-table s b = small-take 4096 (wordsOf s) (small-words s b)
 
 -- what a call of the code's definitions gives, x, is what the call over bytes gives, y, and its walk can be written
 pub record Done (x : shape.Outcome) (y : form.Outcome) : Type 0 where

@@ -7,11 +7,10 @@ use native.Mathlib.Numerals.{add-one}
 use native.Mathlib.Omega.{arith}
 use lib.ListN.{length, take, drop, getD, set, replicate, length-append, length-take, length-reverse, length-replicate, drop-of-length-le, List·getD-append}
 use lib.Seq.{sets, length-sets, sets-eq, getD-take, getD-append-add}
-use Rattle.machine.proofs.Bytes.{length-bytesOf}
+use Rattle.machine.proofs.Bytes.{length-bytesOf, bytesOf-append}
 use Rattle.machine.specs.Bytes.{bytesOf}
 use Rattle.machine.specs.Form.{words64, returnWords}
 use Rattle.buffers.specs.Words.{putWord, put64}
-use Rattle.walker.proofs.LinkWords.{bytesOf-append}
 use Rattle.firmware.specs.Writes.{puts}
 
 -- Writing

@@ -2,18 +2,19 @@
 use mathlib.Core.Bool.{Bool, true, false, _&&_}
 use mathlib.Core.List.{List, [], _∷_, _++_, append-assoc, flatten}
 use mathlib.Core.Path.{_≡_, refl, sym, ap, _∙_}
-use Prim.Native.Nat.{ℕ, _+_, _*_, _-_, _/_, _%_, _<_, _≤_}
+use Prim.Native.Nat.{ℕ, _+_, _*_, _-_, _<_, _≤_}
 use native.Mathlib.Nat.{zero-add}
 use native.Mathlib.Omega.{arith}
 use borrow.Author.Tests.{ltb-true, ltb-false, leb-true}
 use lib.Dec.{ltb, leb}
 use lib.ListN.{length, take, drop, replicate, length-append, length-take}
-use lib.Seq.{take-all, take-length, take-take, length-take-le}
+use lib.Seq.{take-append-seam, take-all, take-length, take-take, length-take-le}
 use Rattle.acceptance.proofs.Numbers.{never-0}
 use Rattle.base.specs.Common.{if_then_else_}
 use Rattle.figure.proofs.Battery.{figure-exact}
 use Rattle.figure.specs.Told.{Told, figureOf}
 use Rattle.finishing.specs.Test.{finishing}
+use Rattle.machine.proofs.Bytes.{wordsOf-append, bytesOf-append}
 use Rattle.machine.specs.Bytes.{count, wordsOf, tableOf, bytesOf}
 use Rattle.processor.specs.Process as means
 use Rattle.processor.specs.Process.{Part, Understood, meaning, faulty, readIn, understood, accepted, refused, answerFor, process, partOf, lentWords, lentBytes}
@@ -107,17 +108,6 @@ refused-listing kept rest f s line figure e d n q = go (ltb 32768 (length kept))
 
 -- The listing of an accepted text
 
--- the words of bytes that begin with those of ws
-words-back : (ws s : List ℕ) → take (length ws) (wordsOf (bytesOf ws ++ s)) ≡ ws
-unfolding wordsOf bytesOf
-words-back [] s = refl
-words-back (w ∷ ws) s = let e : w / 256 * 256 + w % 256 ≡ w = omega arith in λ i. e i ∷ words-back ws s i
-
-bytes-append : (a b : List ℕ) → bytesOf (a ++ b) ≡ bytesOf a ++ bytesOf b
-unfolding bytesOf
-bytes-append [] b = refl
-bytes-append (x ∷ a) b = ap (λ (s : List ℕ). x / 256 ∷ x % 256 ∷ s) (bytes-append a b)
-
 acceptance : (text lent : List ℕ) (a : means.Answer) (told : Told) (s : Answer) {after : List ℕ} → ((number : ℕ) (at : Part) → a ≡ refused number at → number ≡ 0 → ⊥) → s ≡ answered a told → after ≡ lentBytes a lent → s .number ≡ 0 → s .words ≤ 4096
     → tableListing (take (s .words) (tableOf after)) (s .finishing) (s .figure) ≡ listing text a (told .figure)
 unfolding answered listing lentBytes lentWords tableOf
@@ -127,8 +117,8 @@ acceptance text lent (accepted ws verdict) told s {after} x e q n m =
     let f : s .finishing ≡ verdict = ap (λ (x : Answer). x .finishing) e in
     let g : s .figure ≡ told .figure = ap (λ (x : Answer). x .figure) e in
     let z : List ℕ = replicate (count lent - length ws) 0 in
-    let y : after ≡ bytesOf ws ++ (bytesOf z ++ drop (2 * count lent) lent) = q ∙ ap (λ (b : List ℕ). b ++ drop (2 * count lent) lent) (bytes-append ws z) ∙ append-assoc (bytesOf ws) (bytesOf z) (drop (2 * count lent) lent) in
-    let w : take (s .words) (wordsOf after) ≡ ws = ap (λ (k : ℕ). take k (wordsOf after)) d ∙ ap (λ (b : List ℕ). take (length ws) (wordsOf b)) y ∙ words-back ws (bytesOf z ++ drop (2 * count lent) lent) in
+    let y : after ≡ bytesOf ws ++ (bytesOf z ++ drop (2 * count lent) lent) = q ∙ ap (λ (b : List ℕ). b ++ drop (2 * count lent) lent) (bytesOf-append ws z) ∙ append-assoc (bytesOf ws) (bytesOf z) (drop (2 * count lent) lent) in
+    let w : take (s .words) (wordsOf after) ≡ ws = ap (λ (k : ℕ). take k (wordsOf after)) d ∙ ap (λ (b : List ℕ). take (length ws) (wordsOf b)) y ∙ ap (take (length ws)) (wordsOf-append ws (bytesOf z ++ drop (2 * count lent) lent)) ∙ take-append-seam ws _ in
     rw (take-take (s .words) 4096 (wordsOf after) m, w, f, g) refl
 
 -- "or 4,096 words"

@@ -1,6 +1,6 @@
 -- Words and bytes: each is the other, and an odd last byte counts for nothing.
-use mathlib.Core.Path.{_≡_, refl, _∙_}
-use mathlib.Core.List.{List, [], _∷_}
+use mathlib.Core.Path.{_≡_, refl, sym, ap, _∙_}
+use mathlib.Core.List.{List, [], _∷_, _++_, append-nil}
 use mathlib.Core.Option.{none}
 use Prim.Native.Nat.{ℕ, zero, suc, _+_, _*_, _/_, _%_, _<_, _≤_}
 use native.Mathlib.Omega.{arith}
@@ -24,12 +24,21 @@ getD-wordsOf (h ∷ l ∷ s) (suc i) b =
     let f : 2 * suc i + 1 ≡ suc (suc (2 * i + 1)) = omega arith in
     getD-wordsOf s i (omega arith) ∙ rw (f, e)
 
-pub wordsOf-bytesOf : (ws : List ℕ) → wordsOf (bytesOf ws) ≡ ws
+pub wordsOf-append : (ws r : List ℕ) → wordsOf (bytesOf ws ++ r) ≡ ws ++ wordsOf r
 unfolding wordsOf bytesOf
-wordsOf-bytesOf [] = refl
-wordsOf-bytesOf (w ∷ ws) =
+wordsOf-append [] r = refl
+wordsOf-append (w ∷ ws) r =
     let e : w / 256 * 256 + w % 256 ≡ w = omega arith in
-    λ i. e i ∷ wordsOf-bytesOf ws i
+    λ i. e i ∷ wordsOf-append ws r i
+
+pub wordsOf-bytesOf : (ws : List ℕ) → wordsOf (bytesOf ws) ≡ ws
+unfolding wordsOf
+wordsOf-bytesOf ws = ap wordsOf (sym (append-nil (bytesOf ws))) ∙ wordsOf-append ws [] ∙ append-nil ws
+
+pub bytesOf-append : (a b : List ℕ) → bytesOf (a ++ b) ≡ bytesOf a ++ bytesOf b
+unfolding bytesOf
+bytesOf-append [] b = refl
+bytesOf-append (x ∷ a) b = ap (λ (l : List ℕ). x / 256 ∷ x % 256 ∷ l) (bytesOf-append a b)
 
 pub length-bytesOf : (ws : List ℕ) → length (bytesOf ws) ≡ 2 * length ws
 unfolding bytesOf

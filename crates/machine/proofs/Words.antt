@@ -5,7 +5,7 @@ use Prim.Native.Nat.{ℕ, zero, suc, _+_, _*_, _/_, _%_, _<_}
 use native.Mathlib.Omega.{arith}
 use native.Mathlib.Nat.{div-div-eq-div-mul}
 use lib.ListN.{take, drop, getD}
-use Rattle.machine.specs.Bytes.{wordsOf}
+use Rattle.machine.specs.Bytes.{wordsOf, tableOf}
 use Rattle.machine.specs.Form.{words64, number64}
 use Rattle.machine.specs.Small.{Small}
 
@@ -21,6 +21,10 @@ small-take zero l b i = omega arith
 small-take (suc n) [] b i = omega arith
 small-take (suc n) (x ∷ l) b zero = b 0
 small-take (suc n) (x ∷ l) b (suc i) = small-take n l (λ k. b (suc k)) i
+
+pub small-table : (s : List ℕ) → ((i : ℕ) → getD s i 0 < 256) → Small (tableOf s)
+unfolding tableOf
+small-table s b = small-take 4096 (wordsOf s) (small-words s b)
 
 pub small-drop : (n : ℕ) (l : List ℕ) → Small l → Small (drop n l)
 small-drop zero l b i = b i

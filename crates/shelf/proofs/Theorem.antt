@@ -2,26 +2,19 @@
 use mathlib.Core.Bool.{Bool}
 use mathlib.Core.List.{List, [], _∷_, _++_, append-nil}
 use mathlib.Core.Path.{_≡_, refl, sym, ap, _∙_, subst}
-use Prim.Native.Nat.{ℕ, zero, suc, _+_, _*_, _-_, _/_, _%_, _≤_}
+use Prim.Native.Nat.{ℕ, zero, suc, _+_, _*_, _-_, _≤_}
 use native.Mathlib.Omega.{arith}
 use lib.ListN.{length, take, drop, replicate, length-drop}
 use lib.Seq.{take-append-add}
 use Rattle.acceptance.proofs.Accepts.{accepted-table}
 use Rattle.figures.proofs.Shelves.{by-rule}
 use Rattle.figures.specs.Shelf.{Shelf, RuleByRule}
-use Rattle.machine.proofs.Bytes.{length-tableOf}
+use Rattle.machine.proofs.Bytes.{length-tableOf, wordsOf-append}
 use Rattle.machine.specs.Bytes.{count, wordsOf, tableOf, bytesOf}
 use Rattle.processor.specs.Process.{process, accepted, meaning, lentWords, lentBytes}
 use Rattle.program.specs.Program.{Rule}
 use Rattle.program.specs.Table.{table}
 use Rattle.shelf.specs.ByText.{tableLeft, ByText}
-
-words-append : (ws r : List ℕ) → wordsOf (bytesOf ws ++ r) ≡ ws ++ wordsOf r
-unfolding wordsOf bytesOf
-words-append [] r = refl
-words-append (w ∷ ws) r =
-    let e : w / 256 * 256 + w % 256 ≡ w = omega arith in
-    λ i. e i ∷ words-append ws r i
 
 -- one byte is no word
 odd-byte : (r : List ℕ) → length r ≤ 1 → wordsOf r ≡ []
@@ -44,7 +37,7 @@ left-behind text lent words verdict e h =
     let n = count lent in
     let zs : List ℕ = replicate (n - length words) 0 in
     let ws = words ++ zs in
-    let b : wordsOf (bytesOf ws ++ drop (2 * n) lent) ≡ ws = words-append ws (drop (2 * n) lent) ∙ ap (λ (l : List ℕ). ws ++ l) (odd-byte (drop (2 * n) lent) (omega (arith, length-drop (2 * n) lent))) ∙ append-nil ws in
+    let b : wordsOf (bytesOf ws ++ drop (2 * n) lent) ≡ ws = wordsOf-append ws (drop (2 * n) lent) ∙ ap (λ (l : List ℕ). ws ++ l) (odd-byte (drop (2 * n) lent) (omega (arith, length-drop (2 * n) lent))) ∙ append-nil ws in
     let k : length words + (4096 - length words) ≡ 4096 = omega arith in
     let c = take-zeros (4096 - length words) (n - length words) in
     (c .0, rw e (ap (take 4096) b ∙ ap (λ (m : ℕ). take m ws) (sym k) ∙ take-append-add words zs (4096 - length words) ∙ ap (λ (l : List ℕ). words ++ l) (c .1)))

@@ -12,7 +12,7 @@ use borrow.Author.Tests.{eq-eqb, ne-eqb, eqb-true, eqb-false, leb-true, leb-fals
 use Rattle.base.specs.Bools.{split}
 use Rattle.machine.specs.Bytes.{count, wordsOf, wordAt, tableOf, bytesOf, over}
 use Rattle.machine.specs.Decode.{fetch}
-use Rattle.machine.proofs.Bytes.{length-wordsOf, getD-wordsOf, length-bytesOf}
+use Rattle.machine.proofs.Bytes.{length-wordsOf, getD-wordsOf, length-bytesOf, bytesOf-append}
 use Rattle.events.specs.Events as events
 use Rattle.events.specs.Events.{eventWords}
 use Rattle.machine.specs.Form.{eventsWords}
@@ -96,11 +96,6 @@ clip-returns rs d h =
     (λ f. let b = leb-false d 64 f in let e : min d 64 ≡ 64 = omega arith in rw (e, take-all 64 rs (omega arith), take-all d rs (omega arith)))
 
 -- Events of a buffer
-
-pub bytesOf-append : (a b : List ℕ) → bytesOf (a ++ b) ≡ bytesOf a ++ bytesOf b
-unfolding bytesOf
-bytesOf-append [] b = refl
-bytesOf-append (x ∷ a) b = ap (λ (l : List ℕ). x / 256 ∷ x % 256 ∷ l) (bytesOf-append a b)
 
 pub length-setWord : (s : List ℕ) (i x : ℕ) → length (setWord s i x) ≡ length s
 unfolding setWord

@@ -1,7 +1,7 @@
 -- `firmware::named` meets its contract: part by part.
 use borrow.Author.Needs.{needs}
 use Rattle.machine.specs.Bytes.{wordsOf}
-use Rattle.firmware.proofs.Calls.{small-words}
+use Rattle.machine.proofs.Words.{small-words}
 use Rattle.firmware.proofs.Walks.{named-is}
 use Rattle.firmware.proofs.named.Statement.{statement}
 use Rattle.firmware.proofs.named.Tie as tie
