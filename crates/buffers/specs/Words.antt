@@ -16,12 +16,7 @@ putWord out i x = set (set out (2 * i) (x / 256)) (2 * i + 1) (x % 256)
 unfoldable pub put64 : List ℕ → ℕ → ℕ → List ℕ
 put64 out i n = putWord (putWord (putWord (putWord out i (n / 281474976710656)) (i + 1) (n / 4294967296 % 65536)) (i + 2) (n / 65536 % 65536)) (i + 3) (n % 65536)
 
--- a buffer with the number n written as number i
-unfoldable pub putNumber : List ℕ → ℕ → ℕ → List ℕ
-putNumber out i n =
-    putWord (putWord (putWord (putWord out (4 * i) (n / 281474976710656)) (4 * i + 1) (n / 4294967296 % 65536)) (4 * i + 2) (n / 65536 % 65536)) (4 * i + 3) (n % 65536)
-
 -- all of this file computes where this is unfolded
 unfoldable pub opened : Unit {0}
-unfolding zeroed putWord put64 putNumber
+unfolding zeroed putWord put64
 opened = tt

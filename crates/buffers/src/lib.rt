@@ -4,7 +4,7 @@ ghost use Prim.Native.Nat.{_+_, _*_, _<_, _≤_};
 ghost use lib.ListN.{length, drop, getD};
 ghost use Rattle.machine.specs.Bytes.{wordsOf};
 ghost use Rattle.machine.specs.Form.{number64};
-ghost use Rattle.buffers.specs.Words.{zeroed, putWord, put64, putNumber};
+ghost use Rattle.buffers.specs.Words.{zeroed, putWord, put64};
 
 // How many values one word has, two words, and three.
 const ONE_WORD: u64 = 65536;
@@ -63,7 +63,7 @@ pub fn put_64(out: &mut [u8], i: usize, n: u64)
 // The number n as number i.
 pub fn put_number(out: &mut [u8], i: usize, n: u64)
     requires { ⌜ 8 * i + 8 ≤ length (now out) ⌝ }
-    ensures { λ _. ⌜ now (out .exit) ≡ putNumber (now (out .entry)) i n ⌝ }
+    ensures { λ _. ⌜ now (out .exit) ≡ put64 (now (out .entry)) (4 * i) n ⌝ }
 {
     put_64(out, NUMBER_WORDS * i, n);
 }

@@ -15,7 +15,7 @@ use borrow.Author.Tests.{eq-eqb, ne-eqb, eqb-true}
 use Rattle.base.specs.Bools.{split}
 use Rattle.base.specs.Common.{if_then_else_, same}
 use Rattle.buffers.proofs.Writes.{upto-put, upto-end}
-use Rattle.buffers.specs.Words.{putNumber}
+use Rattle.buffers.specs.Words.{put64}
 use Rattle.counting.specs.Counting.{numbersOf}
 use Rattle.figures.proofs.Bits.{getD-bits}
 use Rattle.figures.proofs.Form.{length-numberWords, length-bits}
@@ -126,8 +126,8 @@ module _ (ns out₀ : List ℕ) (fits : 8 * length ns ≤ length out₀) where
   enough = omega (arith, length-numberWords ns)
 
   -- one number more
-  pub written-next : (out out′ : List ℕ) (i n : ℕ) → out′ ≡ putNumber out i n → out ≡ written (4 * i) → i < length ns → n ≡ getD ns i 0 → out′ ≡ written (4 * (i + 1))
-  unfolding putNumber words64
+  pub written-next : (out out′ : List ℕ) (i n : ℕ) → out′ ≡ put64 out (4 * i) n → out ≡ written (4 * i) → i < length ns → n ≡ getD ns i 0 → out′ ≡ written (4 * (i + 1))
+  unfolding put64 words64
   written-next out out′ i n e o h f =
       let ws = numberWords ns in
       let l = length-numberWords ns in

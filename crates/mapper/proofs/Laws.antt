@@ -6,7 +6,7 @@ use native.Mathlib.Numerals.{add-one}
 use native.Mathlib.Omega.{arith}
 use lib.ListN.{length, getD, length-append}
 use Rattle.buffers.proofs.Writes.{put-behind, over-length}
-use Rattle.buffers.specs.Words.{putWord, putNumber}
+use Rattle.buffers.specs.Words.{putWord, put64}
 use Rattle.declarations.specs.Decls.{Decl, declsOf, sectionsDecls, ruleDecls}
 use Rattle.machine.specs.Bytes.{bytesOf, over}
 use Rattle.machine.specs.Form.{words64}
@@ -35,8 +35,8 @@ puts-more {a} {b} {c} {i} {j} {xs} {ys} p q e = record {
 }
 
 -- number i is words 4 i to 4 i + 3
-pub puts-number : {out out′ : List ℕ} (i n : ℕ) {j : ℕ} → j ≡ 4 * i → out′ ≡ putNumber out i n → Puts out out′ j (words64 n)
-unfolding putNumber words64
+pub puts-number : {out out′ : List ℕ} (i n : ℕ) {j : ℕ} → j ≡ 4 * i → out′ ≡ put64 out (4 * i) n → Puts out out′ j (words64 n)
+unfolding put64 words64
 puts-number i n q e = rw q (puts-more (puts-word refl) (puts-more (puts-word refl) (puts-more (puts-word refl) (puts-word e) (omega arith)) (omega arith)) (omega arith))
 
 -- Rows

@@ -1,5 +1,4 @@
 -- `buffers::put_number` meets its contract.
-use Rattle.buffers.specs.Words.{put64, putNumber}
 use borrow.Author.Needs.{needs}
 use Rattle.buffers.proofs.put_number.Statement.{statement}
 use Rattle.buffers.proofs.put_number.Tie as tie
@@ -14,7 +13,6 @@ same-length : tie.Need-same-length
 same-length c = search needs
 
 returns : tie.Need-returns
-unfolding put64 putNumber
 returns c = search needs
 
 pub put-number-spec : {M : Type 1} → statement M
