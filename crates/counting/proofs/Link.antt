@@ -8,7 +8,7 @@ use lib.Dec.{ltb}
 use lib.ListN.{length, set, replicate, length-set, length-replicate}
 use borrow.Author.Tests.{lt-ltb, le-ltb}
 use Rattle.base.specs.Common.{if_then_else_}
-use Rattle.counting.specs.Counting.{freshAt, visitsOf, bookVisits, bookOf}
+use Rattle.counting.specs.Counting.{visitsOf, bookVisits, bookOf}
 use Rattle.events.specs.Events as events
 use Rattle.figures.specs.Form.{givenOf}
 use Rattle.figures.specs.Visits.{visits, called, visited}
@@ -21,7 +21,7 @@ use Rattle.walker.proofs.Link.{Held, Keeps, step-keeps, go-run}
 use Rattle.walker.proofs.Link as link
 use Rattle.walker.proofs.LinkStep.{withEvents, inCall, turnOf, step-turn}
 use Rattle.walker.specs.Linked.{Bytes, Agrees}
-use Rattle.walker.specs.Shape.{withDepth, stepOf}
+use Rattle.walker.specs.Shape.{freshAt, withDepth, stepOf}
 use Rattle.walker.specs.View.{walkIn, eventOf}
 use Rattle.walker.specs.declared.Next.{Next}
 use Rattle.walker.specs.declared.Next.the-variants.{Full, Stop, On, Tells, Push, Waits}

@@ -9,7 +9,7 @@ use lib.ListN.{length, set, getD, replicate}
 use borrow.Author.Tests.{eqb-false, leb-true}
 use Rattle.base.specs.Common.{if_then_else_}
 use Rattle.machine.specs.Bytes.{count, wordAt}
-use Rattle.counting.specs.Counting.{freshAt, visitsOf, bookVisits, bookOf, Inside, toldOf}
+use Rattle.counting.specs.Counting.{visitsOf, bookVisits, bookOf, Inside, toldOf}
 use Rattle.counting.specs.declared.Told.{Told}
 use Rattle.figures.proofs.Sums.{sum-bumps, count-most, length-bump}
 use Rattle.figures.specs.Figures.{sum, bump, bumps}
@@ -17,7 +17,7 @@ use Rattle.machine.specs.Lengths.{lengthOf}
 use Rattle.walker.proofs.Go as go
 use Rattle.walker.proofs.Keeps.{Keeps, keeps}
 use Rattle.walker.proofs.LinkWords.{count-putEvent}
-use Rattle.walker.specs.Shape.{withDepth, size, operand, tableAt, choiceOf, defaultOf, takeInput, takeOther, spentOne, forwardOf, backOf, mendOf, inputOf, anyOf, tellOf, inputChoiceOf, callOf, backTo, returnOf, askOf, answerOf, actOf, operateOf, fetchedOf, stepOf, putEvent, numberOf, ended, goOf, Outcome}
+use Rattle.walker.specs.Shape.{freshAt, withDepth, size, operand, tableAt, choiceOf, defaultOf, takeInput, takeOther, spentOne, forwardOf, backOf, mendOf, inputOf, anyOf, tellOf, inputChoiceOf, callOf, backTo, returnOf, askOf, answerOf, actOf, operateOf, fetchedOf, stepOf, putEvent, numberOf, ended, goOf, Outcome}
 use Rattle.walker.specs.declared.Event.{Event}
 use Rattle.walker.specs.declared.Next.{Next}
 use Rattle.walker.specs.declared.Reason.{Reason}

@@ -10,14 +10,10 @@ use Rattle.figures.specs.Figures.{bitsOf}
 use Rattle.figures.specs.Form as form
 use Rattle.counting.specs.declared.Report.{Report}
 use Rattle.counting.specs.declared.Told.{Told}
-use Rattle.walker.specs.Shape.{withDepth, stepOf, goOf, Outcome}
+use Rattle.walker.specs.Shape.{freshAt, withDepth, stepOf, goOf, Outcome}
 use Rattle.walker.specs.declared.Next.{Next}
 use Rattle.walker.specs.declared.Next.the-variants.{Full, Stop, On, Tells, Push, Waits}
 use Rattle.walker.specs.declared.Registers.{Registers}
-
--- the registers of a fresh walk
-abbrev pub freshAt : ℕ → Registers
-freshAt allowance = record { location = 1; depth = 0; result = 0; parameter = 0; read = 0; used = 0; allowance = allowance }
 
 -- the locations of up to n steps from the registers r and the return locations rs, with so many words left for events
 unfoldable pub visitsOf : List ℕ → List ℕ → List ℕ → ℕ → Registers → List ℕ → ℕ → List ℕ

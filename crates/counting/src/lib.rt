@@ -13,7 +13,7 @@ ghost use Rattle.figures.specs.Figures as sums;
 ghost use Rattle.figures.specs.Figures.{sum, bumps, bitsOf, packed};
 ghost use Rattle.figures.specs.Form as form;
 ghost use Rattle.figures.specs.Form.{numberAt, numbersAt, figuresNamed};
-ghost use Rattle.counting.specs.Counting.{freshAt, bookVisits, bookOf, Inside, toldOf, numbersOf, pastOf, gives, reports};
+ghost use Rattle.counting.specs.Counting.{bookVisits, bookOf, Inside, toldOf, numbersOf, pastOf, gives, reports};
 ghost use Rattle.walker.specs.Shape.{putEvent, numberOf};
 use machine::EVENT_WORDS;
 use walker::Event;
@@ -77,21 +77,6 @@ fn ended(number: u16, events: usize, steps: u64) -> Told
 
 // A book's call
 
-// The registers of a fresh walk.
-fn fresh_at(allowance: u16) -> Registers
-    ensures { λ r. ⌜ r ≡ freshAt allowance ⌝ }
-{
-    Registers {
-        location: 1,
-        depth: 0,
-        result: 0,
-        parameter: 0,
-        read: 0,
-        used: 0,
-        allowance: allowance as u64,
-    }
-}
-
 // One execution more of the location l, where a call writes.
 fn bump(counts: &mut [u64], l: usize, writes: bool)
     requires { ⌜ (length (now counts) ≡ 4096) × (Inside l × (writes ≡ true → getD (now counts) (l - 1) 0 + 1 < 2 ^ 64)) ⌝ }
@@ -146,7 +131,7 @@ fn count_book(
     ensures { λ _. ⌜ now (out .exit) ≡ (if b .writes then bookOf (now (table .entry)) (now (tokens .entry)) (now (answers .entry)) (b .budget) (b .allowance) (now (out .entry)) .out else now (out .entry)) ⌝ }
     ensures { λ _. ⌜ now (counts .exit) ≡ (if b .writes then bumps (now (counts .entry)) (bookVisits (now (table .entry)) (now (tokens .entry)) (now (answers .entry)) (b .budget) (b .allowance) (count (now (out .entry)))) else now (counts .entry)) ⌝ }
 {
-    let mut at = fresh_at(b.allowance);
+    let mut at = walker::fresh(b.allowance);
     let mut returns = [0u16; base::PENDING];
     let mut events: usize = 0;
     let mut done: u64 = 0;

@@ -4,7 +4,6 @@ ghost use mathlib.Core.Path.{_≡_};
 ghost use Prim.Native.Nat.{_+_, _*_, _%_, _<_, _≤_, min};
 ghost use lib.ListN.{length, take, drop, getD};
 ghost use Rattle.base.specs.Common.{same as sameBytes};
-ghost use Rattle.events.specs.Events.{reasonNumber};
 ghost use Rattle.machine.specs.Bytes.{wordsOf, tableOf, count};
 ghost use Rattle.machine.specs.Walk.{fresh};
 ghost use Rattle.machine.specs.Call.{whole};
@@ -29,6 +28,7 @@ use walker::Phase;
 use walker::Reason;
 use walker::Registers;
 use walker::Walk;
+use walker::number_of;
 
 // The bytes of a walk, and where its words begin (docs/LAYOUT.md).
 const WALK_BYTES: usize = 158;
@@ -83,12 +83,6 @@ struct Held {
     walk: Walk,
 }
 
-fn wide(x: u16) -> u64
-    ensures { λ r. ⌜ (r ≡ x) × (r < 65536) ⌝ }
-{
-    x as u64
-}
-
 fn narrow(x: u64) -> u16
     ensures { λ r. ⌜ r ≡ x % 65536 ⌝ }
 {
@@ -129,21 +123,6 @@ fn put_64(out: &mut [u8], i: usize, n: u64)
     buffers::put_64(out, i, n);
 }
 
-// The number of a reason.
-fn reason_number(r: Reason) -> u16
-    ensures { λ n. ⌜ n ≡ reasonNumber (view.reasonOf r) ⌝ }
-{
-    match r {
-        Reason::Finished => 0,
-        Reason::Differs => base::DIFFERS,
-        Reason::Missing => base::MISSING,
-        Reason::Unlabelled => base::UNLABELLED,
-        Reason::Deep => base::DEEP,
-        Reason::Unanswered => base::UNANSWERED,
-        Reason::Outside => base::OUTSIDE,
-    }
-}
-
 // Words 0 and 1 of a walk.
 fn put_phase(out: &mut [u8], p: Phase)
     requires { ⌜ 4 ≤ length (now out) ⌝ }
@@ -152,7 +131,7 @@ fn put_phase(out: &mut [u8], p: Phase)
     match p {
         Phase::Going => put_two(out, PHASE_WORD, GOING, 0),
         Phase::Waiting => put_two(out, PHASE_WORD, WAITING, 0),
-        Phase::Stopped(r) => put_two(out, PHASE_WORD, STOPPED, reason_number(r)),
+        Phase::Stopped(r) => put_two(out, PHASE_WORD, STOPPED, number_of(r)),
     }
 }
 
@@ -302,18 +281,9 @@ fn same(a: &[u8], b: &[u8]) -> bool
 fn fresh_walk(allowance: u16) -> Walk
     ensures { λ r. ⌜ (view.walkOf r ≡ fresh allowance) × (r .at .location < 65536) ⌝ }
 {
-    let at = Registers {
-        location: 1,
-        depth: 0,
-        result: 0,
-        parameter: 0,
-        read: 0,
-        used: 0,
-        allowance: wide(allowance),
-    };
     Walk {
         phase: Phase::Going,
-        at,
+        at: walker::fresh(allowance),
         returns: [0u16; PENDING],
     }
 }
@@ -569,7 +539,7 @@ fn reason_or_none(p: Phase) -> u16
     match p {
         Phase::Going => NO_REASON,
         Phase::Waiting => NO_REASON,
-        Phase::Stopped(r) => reason_number(r),
+        Phase::Stopped(r) => number_of(r),
     }
 }
 

@@ -180,7 +180,7 @@ module _ (room : ℕ) (r : Registers) (held : Held r) where
         either (leb (r .location) (size t)) _ _ (λ y.
         either (ltb i 14) _ _ (λ z. either (leb (r .location + lengthOf i) (size t + 1)) _ _ (λ u. act-keeps i) (λ u. out)) (λ z. operate-keeps q a i)) (λ y. out))
 
-number-reason : (x : Reason) → numberOf x ≡ reasonNumber (reasonOf x)
+pub number-reason : (x : Reason) → numberOf x ≡ reasonNumber (reasonOf x)
 unfolding numberOf reasonNumber reasonOf
 number-reason Finished = refl
 number-reason Differs = refl

@@ -48,6 +48,10 @@ unfoldable pub findFrom : List ℕ → ℕ → ℕ → ℕ → ℕ → ℕ
 findFrom t b x zero i = i
 findFrom t b x (suc left) i = let later = findFrom t b x left (i + 1) in if eqb (wordAt t (b + 2 * i)) x then i else later
 
+-- the registers of a fresh walk
+abbrev pub freshAt : ℕ → Registers
+freshAt allowance = record { location = 1; depth = 0; result = 0; parameter = 0; read = 0; used = 0; allowance = allowance }
+
 -- Registers with one thing changed
 
 abbrev pub moved : Registers → ℕ → Registers

@@ -5,7 +5,7 @@ ghost use lib.ListN.{set};
 ghost use Rattle.machine.specs.Bytes.{count, wordAt};
 ghost use Rattle.machine.specs.Lengths.{lengths, lengthOf};
 ghost use Rattle.walker.specs.Shape.{size, setWord, putEvent, swapped, numberOf};
-ghost use Rattle.walker.specs.Shape.{moved, readOne, spentOne, answeredOne, withResult, withParameter, poppedTo, withDepth, first64};
+ghost use Rattle.walker.specs.Shape.{freshAt, moved, readOne, spentOne, answeredOne, withResult, withParameter, poppedTo, withDepth, first64};
 ghost use Rattle.walker.specs.Shape.{otherwiseOf, labelOf, labelledOf, choiceOf, defaultOf, takeOther};
 ghost use Rattle.walker.specs.Shape.{forwardOf, backOf, mendOf, inputOf, anyOf, tellOf, inputChoiceOf, callOf, backTo, returnOf, answerOf};
 ghost use Rattle.walker.specs.Shape.{inFull, operateOf, fetchedOf, stepOf, goOf, wholeOf, pausedOf, pushed};
@@ -169,7 +169,7 @@ fn table_words(t: &[u8]) -> usize
 }
 
 // The word at index i, from 0: `machine::word` without its test.
-pub fn word(s: &[u8], i: usize) -> u16
+fn word(s: &[u8], i: usize) -> u16
     requires { ⌜ i < count (now s) ⌝ }
     ensures { λ r. ⌜ r ≡ wordAt (now (s .entry)) i ⌝ }
 {
@@ -252,6 +252,21 @@ pub fn number_of(why: Reason) -> u16
         Reason::Deep => base::DEEP,
         Reason::Unanswered => base::UNANSWERED,
         Reason::Outside => base::OUTSIDE,
+    }
+}
+
+// The registers of a fresh walk.
+pub fn fresh(allowance: u16) -> Registers
+    ensures { λ r. ⌜ r ≡ freshAt allowance ⌝ }
+{
+    Registers {
+        location: 1,
+        depth: 0,
+        result: 0,
+        parameter: 0,
+        read: 0,
+        used: 0,
+        allowance: allowance as u64,
     }
 }
 

@@ -29,8 +29,8 @@ more c = c .before .before .before .if1 .taken
 told : (c : tie.After-next Inv-loop μ-loop) → stepOf (c .before .before .before .before .before .loop .returns) (c .before .before .before .before .before .before .before .before .before .before .before .before .before .before .args .table .now) (c .before .before .before .before .before .before .before .before .before .before .before .before .before .before .args .tokens .now) (c .before .before .before .before .before .before .before .before .before .before .before .before .before .before .args .answers .now) (c .before .before .before .before .before .loop .room) false (c .before .before .before .before .before .loop .at) ≡ c .next .result
 told c = sym (c .next .ensures)
 
-fresh-at-requires : tie.Need-fresh-at-requires Inv-loop μ-loop
-fresh-at-requires c κs = search needs
+fresh-requires : tie.Need-fresh-requires Inv-loop μ-loop
+fresh-requires c κs = search needs
 
 count-words-requires : tie.Need-count-words-requires Inv-loop μ-loop
 count-words-requires c κs = search needs
@@ -39,7 +39,7 @@ loop-holds : tie.Need-loop-holds Inv-loop μ-loop
 loop-holds c =
     let s = c .before .before .before .before .before .before .before .before in
     let a = s .args in
-    rw (c .before .before .fresh-at .ensures) (start (a .table .now) (a .tokens .now) (a .answers .now) (a .b .budget) (a .b .allowance) (a .b .writes) (a .out .now) (a .counts .now) _ (c .count-words .ensures) (s .pre .0) (s .pre .1))
+    rw (c .before .before .fresh .ensures) (start (a .table .now) (a .tokens .now) (a .answers .now) (a .b .budget) (a .b .allowance) (a .b .writes) (a .out .now) (a .counts .now) _ (c .count-words .ensures) (s .pre .0) (s .pre .1))
 
 next-requires : tie.Need-next-requires Inv-loop μ-loop
 unfolding lengths
@@ -189,7 +189,7 @@ count-book-spec =
     (tie.spec
     Inv-loop
     μ-loop
-    fresh-at-requires
+    fresh-requires
     count-words-requires
     loop-holds
     next-requires

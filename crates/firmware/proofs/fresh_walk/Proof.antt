@@ -7,12 +7,12 @@ use Rattle.walker.specs.View.{opened as view-opened}
 use Rattle.firmware.proofs.fresh_walk.Statement.{statement}
 use Rattle.firmware.proofs.fresh_walk.Tie as tie
 
-wide-requires : tie.Need-wide-requires
-wide-requires c κs = search needs
+fresh-requires : tie.Need-fresh-requires
+fresh-requires c κs = search needs
 
 returns : tie.Need-returns
 unfolding view-opened walk-opened
-returns c = (ap fresh (omega (arith, c .wide .ensures .0, c .wide .ensures .1)), search needs)
+returns c = (rw (c .fresh .ensures) (ap fresh (omega arith)), rw (c .fresh .ensures) (omega arith))
 
 pub fresh-walk-spec : {M : Type 1} → statement M
-fresh-walk-spec = tie.close (tie.spec wide-requires returns)
+fresh-walk-spec = tie.close (tie.spec fresh-requires returns)

@@ -4,6 +4,7 @@ use mathlib.Core.Path.{sym, ap, _∙_}
 use Prim.Native.Nat.{ℕ}
 use borrow.Author.Needs.{needs}
 use Rattle.machine.specs.Form.{phaseWords}
+use Rattle.walker.proofs.Link.{number-reason}
 use Rattle.walker.specs.View.{phaseOf}
 use Rattle.walker.specs.declared.Phase.{Phase}
 use Rattle.firmware.specs.Writes.{puts}
@@ -29,8 +30,8 @@ put-two-requires-2 c κs = search needs
 enum-known-p : tie.Need-enum-known-p
 enum-known-p c = search needs
 
-reason-number-requires : tie.Need-reason-number-requires
-reason-number-requires c κs = search needs
+number-of-requires : tie.Need-number-of-requires
+number-of-requires c κs = search needs
 
 put-two-requires-3 : tie.Need-put-two-requires-3
 put-two-requires-3 c κs = search needs
@@ -55,7 +56,7 @@ same-length-3 c = search needs
 returns-3 : tie.Need-returns-3
 unfolding phaseWords phaseOf
 returns-3 c =
-    let number = c .before .before .before .reason-number .ensures in
+    let number = c .before .before .before .number-of .ensures ∙ number-reason _ in
     c .before .before .put-two3 .ensures ∙ rw number (sym (ap (written (c .before .before .before .before .before .before .before .before .before .args .out .now)) (c .before .before .before .before .before .before .p .given .1)))
 
 pub put-phase-spec : {M : Type 1} → statement M
@@ -67,7 +68,7 @@ put-phase-spec =
     enum-told-2
     put-two-requires-2
     enum-known-p
-    reason-number-requires
+    number-of-requires
     put-two-requires-3
     same-length
     returns

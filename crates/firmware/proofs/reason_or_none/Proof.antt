@@ -1,6 +1,7 @@
 -- `firmware::reason_or_none` meets its contract: by the phases.
 use mathlib.Core.Path.{sym, ap, _∙_}
 use borrow.Author.Needs.{needs}
+use Rattle.walker.proofs.Link.{number-reason}
 use Rattle.walker.specs.View as view
 use Rattle.walker.specs.declared.Phase.{Phase}
 use Rattle.firmware.specs.Entries.{reasonIn}
@@ -16,8 +17,8 @@ enum-told-2 c = search needs
 enum-known-p : tie.Need-enum-known-p
 enum-known-p c = search needs
 
-reason-number-requires : tie.Need-reason-number-requires
-reason-number-requires c κs = search needs
+number-of-requires : tie.Need-number-of-requires
+number-of-requires c κs = search needs
 
 returns : tie.Need-returns
 unfolding reasonIn view.phaseOf
@@ -29,7 +30,7 @@ returns-2 c = sym (ap (λ (p : Phase). reasonIn (view.phaseOf p)) (c .enum-told2
 
 returns-3 : tie.Need-returns-3
 unfolding reasonIn view.phaseOf
-returns-3 c = c .reason-number .ensures ∙ sym (ap (λ (p : Phase). reasonIn (view.phaseOf p)) (c .before .before .p .given .1))
+returns-3 c = c .number-of .ensures ∙ number-reason _ ∙ sym (ap (λ (p : Phase). reasonIn (view.phaseOf p)) (c .before .before .p .given .1))
 
 pub reason-or-none-spec : {M : Type 1} → statement M
 reason-or-none-spec =
@@ -38,7 +39,7 @@ reason-or-none-spec =
     enum-told
     enum-told-2
     enum-known-p
-    reason-number-requires
+    number-of-requires
     returns
     returns-2
     returns-3)
