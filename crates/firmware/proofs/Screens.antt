@@ -7,6 +7,7 @@ use native.Mathlib.Omega.{arith}
 use lib.ListN.{length, take, drop, length-append, length-drop, drop-of-length-le}
 use lib.Seq.{sets, sets-eq, take-at, drop-drop}
 use borrow.Rule.Slice.PartMut.{midOf, postOf, putMid}
+use Rattle.buffers.specs.Words.{put64}
 use Rattle.machine.specs.Bytes.{wordsOf, bytesOf}
 use Rattle.machine.specs.Call.{Mode}
 use Rattle.machine.specs.Form.{words64, number64, walkBytes, Outcome, callBytes}
@@ -18,6 +19,7 @@ use Rattle.screen.specs.Screen.{cut, patch, bookSize, screenSize, walkIn, leftI
 use Rattle.firmware.specs.Entries.{gives}
 use Rattle.firmware.specs.Turning.{leaves}
 use Rattle.firmware.specs.Writes.{puts}
+use Rattle.firmware.proofs.Laws.{puts-64}
 
 -- the steps left, read and written
 
@@ -27,12 +29,12 @@ left-read b r =
     let e : 2 * (b * 83 + 79) ≡ b * bookSize + 158 = omega arith in
     ap number64 (words-drop (b * 83 + 79) r) ∙ ap (λ (i : ℕ). number64 (wordsOf (drop i r))) e ∙ sym (number-cut (drop (b * bookSize + 158) r))
 
-pub left-put : (b n : ℕ) (r : List ℕ) → b < 2 → length r ≡ screenSize → puts r (b * 83 + 79) (words64 n) ≡ withLeft b n r
+pub left-put : (b n : ℕ) (r : List ℕ) → b < 2 → length r ≡ screenSize → put64 r (b * 83 + 79) n ≡ withLeft b n r
 unfolding puts withLeft patch
 left-put b n r h k =
     let e : 2 * (b * 83 + 79) ≡ b * bookSize + 158 = omega arith in
     let f = b * bookSize + 158 in
-    ap (λ (i : ℕ). sets r i (bytesOf (words64 n))) e ∙ sets-eq (bytesOf (words64 n)) r f (omega (arith, length-counter n))
+    puts-64 r (b * 83 + 79) n ∙ ap (λ (i : ℕ). sets r i (bytesOf (words64 n))) e ∙ sets-eq (bytesOf (words64 n)) r f (omega (arith, length-counter n))
     ∙ append-assoc (take f r) (bytesOf (words64 n)) (drop (f + length (bytesOf (words64 n))) r)
 
 -- a call does no more steps than its budget
@@ -44,7 +46,7 @@ enough {left = left} table tokens m walk buffer q = let e = ap (λ (o : Outcome)
 module _ (table tokens : List ℕ) (m : Mode) (b : ℕ) (r buffer : List ℕ) (is : isBook b r ≡ true) where
   pub turned : (W E P : List ℕ) (from end place left number written done : ℕ) → from ≡ b * bookSize → end ≡ from + 158 → place ≡ b * 83 + 79 → left ≡ number64 (drop place (wordsOf r))
       → gives number W E written done ≡ callBytes table tokens m left (midOf from (end - from) r) buffer
-      → P ≡ puts (putMid from (end - from) r W) place (words64 (left - done))
+      → P ≡ put64 (putMid from (end - from) r W) place (left - done)
       → leaves number P E written done ≡ turnBytes table tokens m b r buffer
   unfolding taken walkIn cut patch
   turned W E P from end place left number written done f e j d q p =
@@ -61,7 +63,7 @@ module _ (table tokens : List ℕ) (m : Mode) (b : ℕ) (r buffer : List ℕ) (i
       let v : putMid from (end - from) r W ≡ patch (b * bookSize) W r = ap₂ (λ (i : ℕ) (y : List ℕ). take i r ++ (W ++ y)) f z in
       let s : length (patch (b * bookSize) W r) ≡ screenSize = length-patch (b * bookSize) W r (omega arith) ∙ k in
       let t : P ≡ withLeft b (leftIn b r - done) (patch (b * bookSize) W r) =
-      p ∙ (λ i. puts (v i) (j i) (words64 (l i - done))) ∙ left-put b (leftIn b r - done) (patch (b * bookSize) W r) h s in
+      p ∙ (λ i. put64 (v i) (j i) (l i - done)) ∙ left-put b (leftIn b r - done) (patch (b * bookSize) W r) h s in
       (λ i. leaves number (t i) E written done) ∙ ap (taken b r) c ∙ sym (turn-is table tokens m b r buffer h k)
 
 pub turned-away : (table tokens : List ℕ) (m : Mode) (b : ℕ) (r buffer : List ℕ) → isBook b r ≡ false → leaves 21 r buffer 0 0 ≡ turnBytes table tokens m b r buffer
@@ -69,14 +71,14 @@ unfolding turnedAway
 turned-away table tokens m b r buffer e = sym (away table tokens m b r buffer e)
 
 -- a fresh book: its walk, then no steps left
-pub book-put : (a : ℕ) (seat W P : List ℕ) → length seat ≡ bookSize → W ≡ walkBytes (fresh a) → P ≡ puts (W ++ drop 158 seat) 79 (words64 0) → P ≡ freshBook a
+pub book-put : (a : ℕ) (seat W P : List ℕ) → length seat ≡ bookSize → W ≡ walkBytes (fresh a) → P ≡ put64 (W ++ drop 158 seat) 79 0 → P ≡ freshBook a
 unfolding freshBook puts
 book-put a seat W P k e p =
     let B = bytesOf (words64 0) in
     let l : length W ≡ 158 = ap (λ (s : List ℕ). length s) e ∙ length-fresh a in
     let n : length (W ++ drop 158 seat) ≡ bookSize = length-append W (drop 158 seat) ∙ omega (arith, length-drop 158 seat) in
     let d : drop (158 + length B) (W ++ drop 158 seat) ≡ [] = drop-of-length-le (W ++ drop 158 seat) {i = 158 + length B} (omega (arith, length-counter 0)) in
-    p ∙ sets-eq B (W ++ drop 158 seat) 158 (omega (arith, length-counter 0))
+    p ∙ puts-64 (W ++ drop 158 seat) 79 0 ∙ sets-eq B (W ++ drop 158 seat) 158 (omega (arith, length-counter 0))
     ∙ ap₂ (λ (x y : List ℕ). (x ++ B) ++ y) (take-at W (drop 158 seat) 158 l ∙ e) d ∙ append-nil (walkBytes (fresh a) ++ B)
 
 -- both

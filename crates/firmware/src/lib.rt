@@ -21,6 +21,8 @@ ghost use Rattle.walker.specs.View as view;
 ghost use Rattle.firmware.specs.Writes.{puts, registerWords, registersIn, Holds};
 ghost use Rattle.firmware.specs.Entries.{phaseIn, reasonIn, phaseNumber, reasonOrNone, locationOr0, readOr0, usedOr0, allowanceOr0, freshNumber, freshIn, handing, gives};
 use base::PENDING;
+use buffers::put_64;
+use buffers::put_word;
 use buffers::read_64;
 use buffers::wide_word;
 use walker::Called;
@@ -91,14 +93,6 @@ fn narrow(x: u64) -> u16
 
 // Writing words
 
-// The word x at index i, high byte first.
-fn put_word(out: &mut [u8], i: usize, x: u16)
-    requires { ⌜ 2 * i + 2 ≤ length (now out) ⌝ }
-    ensures { λ _. ⌜ now (out .exit) ≡ puts (now (out .entry)) i (x ∷ []) ⌝ }
-{
-    buffers::put_word(out, i, x);
-}
-
 fn put_two(out: &mut [u8], i: usize, a: u16, b: u16)
     requires { ⌜ 2 * i + 4 ≤ length (now out) ⌝ }
     ensures { λ _. ⌜ now (out .exit) ≡ puts (now (out .entry)) i (a ∷ b ∷ []) ⌝ }
@@ -113,14 +107,6 @@ fn put_four(out: &mut [u8], i: usize, a: u16, b: u16, d: u16, e: u16)
 {
     put_two(out, i, a, b);
     put_two(out, i + 2, d, e);
-}
-
-// n as four words, the high word first.
-fn put_64(out: &mut [u8], i: usize, n: u64)
-    requires { ⌜ 2 * i + 8 ≤ length (now out) ⌝ }
-    ensures { λ _. ⌜ now (out .exit) ≡ puts (now (out .entry)) i (form.words64 n) ⌝ }
-{
-    buffers::put_64(out, i, n);
 }
 
 // Words 0 and 1 of a walk.

@@ -5,7 +5,7 @@ use Prim.Native.Nat.{_%_, min}
 use borrow.Author.Needs.{needs}
 use Rattle.machine.specs.Form as form
 use Rattle.firmware.specs.Writes.{puts, registerWords}
-use Rattle.firmware.proofs.Laws.{puts-then}
+use Rattle.firmware.proofs.Laws.{puts-one, puts-64, puts-then}
 use Rattle.firmware.proofs.put_registers.Statement.{statement}
 use Rattle.firmware.proofs.put_registers.Tie as tie
 
@@ -54,7 +54,7 @@ returns c =
     let result = c .before .before .before .before .before .before .before .before .before .before .before .before .before .before .before .before .before .before .narrow .ensures in
     let parameter = c .before .before .before .before .before .before .before .before .before .before .before .before .before .before .before .before .before .narrow2 .ensures in
     let allowance = c .before .before .before .before .before .before .before .before .before .before .before .narrow3 .ensures in
-    c .before .before .put-642 .ensures ∙ rw (c .before .before .before .before .before .before .put-64 .ensures, c .before .before .before .before .before .before .before .before .before .before .put-word .ensures, four, held, result, parameter, allowance)
+    c .before .before .put-642 .ensures ∙ puts-64 _ 11 (r .used) ∙ rw (c .before .before .before .before .before .before .put-64 .ensures, puts-64, c .before .before .before .before .before .before .before .before .before .before .put-word .ensures, four, held, result, parameter, allowance, puts-one)
     (ap (λ t. puts (puts t 7 read) 11 used) (puts-then s 2 first left 6 refl) ∙ ap (λ t. puts t 11 used) (puts-then s 2 (first ++ left) read 7 refl)
     ∙ puts-then s 2 ((first ++ left) ++ read) used 11 refl)
 

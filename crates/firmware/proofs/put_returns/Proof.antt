@@ -10,7 +10,7 @@ use borrow.Author.Needs.{needs}
 use Rattle.machine.specs.Bytes.{bytesOf}
 use Rattle.machine.specs.Form as form
 use Rattle.firmware.specs.Writes.{puts}
-use Rattle.firmware.proofs.Laws.{puts-then, length-puts, length-return-words}
+use Rattle.firmware.proofs.Laws.{puts-one, puts-then, length-puts, length-return-words}
 use Rattle.firmware.proofs.put_returns.Statement.{statement}
 use Rattle.firmware.proofs.put_returns.Tie as tie
 
@@ -60,7 +60,7 @@ loop-again c =
     let word = c .before .before .before .return-at .ensures in
     let one : puts (puts s 15 (take i w)) (15 + i) (getD w i 0 ∷ []) ≡ puts s 15 (take (i + 1) w) =
     puts-then s 15 (take i w) (getD w i 0 ∷ []) (15 + i) (omega arith) ∙ rw (add-one, take-suc w i 0 (omega arith)) in
-    (search needs, c .before .before .put-word .ensures ∙ rw (l .loop .inv .1, word) one)
+    (search needs, c .before .before .put-word .ensures ∙ rw (l .loop .inv .1, word, puts-one) one)
 
 same-length : tie.Need-same-length Inv-loop μ-loop
 same-length c =

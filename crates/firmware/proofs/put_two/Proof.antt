@@ -3,7 +3,7 @@ use mathlib.Core.List.{[], _∷_}
 use mathlib.Core.Path.{refl, _∙_}
 use Prim.Native.Nat.{_+_}
 use borrow.Author.Needs.{needs}
-use Rattle.firmware.proofs.Laws.{puts-then}
+use Rattle.firmware.proofs.Laws.{puts-one, puts-then}
 use Rattle.firmware.proofs.put_two.Statement.{statement}
 use Rattle.firmware.proofs.put_two.Tie as tie
 
@@ -22,7 +22,7 @@ same-length c = search needs
 returns : tie.Need-returns
 returns c =
     let a = c .before .before .before .before .before .before .before .before .before .args in
-    c .before .before .put-word2 .ensures ∙ rw (c .before .before .before .before .before .before .put-word .ensures) (puts-then (a .out .now) (a .i) (a .a ∷ []) (a .b ∷ []) (a .i + 1) refl)
+    c .before .before .put-word2 .ensures ∙ puts-one _ (a .i + 1) (a .b) ∙ rw (c .before .before .before .before .before .before .put-word .ensures, puts-one) (puts-then (a .out .now) (a .i) (a .a ∷ []) (a .b ∷ []) (a .i + 1) refl)
 
 pub put-two-spec : {M : Type 1} → statement M
 put-two-spec =

@@ -3,10 +3,9 @@ use mathlib.Core.Path.{sym, ap, _∙_}
 use native.Mathlib.Omega.{arith}
 use borrow.Author.Needs.{needs}
 use borrow.Author.Tests.{not-true, not-false}
-use Rattle.machine.specs.Form.{words64}
+use Rattle.buffers.specs.Words.{put64}
 use Rattle.screen.proofs.Turns.{book-in}
 use Rattle.screen.specs.Screen.{refillNumber, refillBytes}
-use Rattle.firmware.specs.Writes.{puts}
 use Rattle.firmware.proofs.Screens.{left-put}
 use Rattle.firmware.proofs.sst_refill.Statement.{statement}
 use Rattle.firmware.proofs.sst_refill.Tie as tie
@@ -38,7 +37,7 @@ returns-2 c =
     let a = c .before .before .before .before .before .before .before .before .before .args in
     let e = sym (c .before .before .before .before .before .before .is-book .ensures) ∙ not-false _ (c .before .before .before .before .before .if1 .left) in
     let k = book-in (a .book) (a .screen .now) e in
-    (rw e, rw e (c .before .before .put-64 .ensures ∙ ap (λ i. puts (a .screen .now) i (words64 (a .left))) (c .before .before .before .left-word .ensures) ∙ left-put (a .book) (a .left) (a .screen .now) (k .0) (k .1)))
+    (rw e, rw e (c .before .before .put-64 .ensures ∙ ap (λ i. put64 (a .screen .now) i (a .left)) (c .before .before .before .left-word .ensures) ∙ left-put (a .book) (a .left) (a .screen .now) (k .0) (k .1)))
 
 pub sst-refill-spec : {M : Type 1} → statement M
 sst-refill-spec = tie.close (tie.spec is-book-requires same-length returns left-word-requires put-64-requires same-length-2 returns-2)
