@@ -2,7 +2,7 @@
 use mathlib.Core.Bool.{Bool, true, false, not}
 use mathlib.Core.List.{List}
 use mathlib.Core.Option.{none, some}
-use mathlib.Core.Path.{_≡_, refl, ap}
+use mathlib.Core.Path.{_≡_, refl, ap, _∙_}
 use Prim.Native.Nat.{ℕ, _<_}
 use native.Mathlib.Omega.{arith}
 use lib.Dec.{eqb}
@@ -20,8 +20,9 @@ use Rattle.walker.proofs.Link.{whole-call, paused-call}
 use Rattle.walker.specs.Linked.{Bytes, handed, Agrees}
 use Rattle.walker.specs.Shape as shape
 use Rattle.walker.specs.View as view
+use Rattle.walker.specs.declared.Called.{Called}
 use Rattle.walker.specs.declared.Walk.{Walk}
-use Rattle.firmware.specs.Entries.{handing}
+use Rattle.firmware.specs.Entries.{handing, gives}
 
 -- what a call of the code's definitions gives, x, is what the call over bytes gives, y, and its walk can be written
 pub record Done (x : shape.Outcome) (y : form.Outcome) : Type 0 where
@@ -49,6 +50,21 @@ handed-is false x = refl
 small-handed : (g : Bool) (x : ℕ) → x < 65536 → SmallMode (paused (handed g x))
 small-handed true x h = h
 small-handed false x h = tt
+
+-- what the call's caller is left with: y, where the call was done
+pub left-with : {r : Called} {x : shape.Outcome} {y : form.Outcome} {number written steps : ℕ} {walk buffer : List ℕ} → Done x y
+    → (r .walk ≡ x .walk) × ((r .events ≡ x .events) × ((r .steps ≡ x .steps) × ((r .number ≡ x .number) × (buffer ≡ x .out))))
+    → (number ≡ r .number) × (walk ≡ form.walkBytes (view.walkOf (r .walk))) × (written ≡ r .events) × (steps ≡ r .steps)
+    → gives number walk buffer written steps ≡ y
+left-with d r g =
+    let walk = g .1 ∙ ap (λ w. form.walkBytes (view.walkOf w)) (r .0) ∙ d .walk in
+    λ i. gives ((g .0 ∙ r .1 .1 .1 .0 ∙ d .number) i) (walk i) ((r .1 .1 .1 .1 ∙ d .buffer) i) ((g .2 ∙ r .1 .0 ∙ d .events) i) ((g .3 ∙ r .1 .1 .0 ∙ d .steps) i)
+
+-- and where the bytes are no walk
+pub left-refused : {number written steps : ℕ} (table tokens s buffer : List ℕ) (m : Mode) (budget : ℕ) → form.walkOf s ≡ none
+    → (number ≡ 21) × (written ≡ 0) × (steps ≡ 0) → gives number s buffer written steps ≡ form.callBytes table tokens m budget s buffer
+unfolding form.callBytes form.outcome
+left-refused table tokens s buffer m budget e r = rw e (λ i. gives (r .0 i) s buffer (r .1 i) (r .2 i))
 
 module _ (table tokens : List ℕ) (budget : ℕ) (s buffer : List ℕ) (w : Walk) (small-t : Bytes table) (small-k : Bytes tokens) (small-s : Bytes s)
     (long : length tokens < 18446744073709551616) (sized : length (w .returns) ≡ 64) (e : form.walkOf s ≡ some (view.walkOf w)) where

@@ -66,9 +66,10 @@ module _ (table tokens : List ℕ) (m : Mode) (b : ℕ) (r buffer : List ℕ) (i
       p ∙ (λ i. put64 (v i) (j i) (l i - done)) ∙ left-put b (leftIn b r - done) (patch (b * bookSize) W r) h s in
       (λ i. leaves number (t i) E written done) ∙ ap (taken b r) c ∙ sym (turn-is table tokens m b r buffer h k)
 
-pub turned-away : (table tokens : List ℕ) (m : Mode) (b : ℕ) (r buffer : List ℕ) → isBook b r ≡ false → leaves 21 r buffer 0 0 ≡ turnBytes table tokens m b r buffer
+pub turned-away : {number written steps : ℕ} (table tokens : List ℕ) (m : Mode) (b : ℕ) (r buffer : List ℕ) → isBook b r ≡ false
+    → (number ≡ 21) × (written ≡ 0) × (steps ≡ 0) → leaves number r buffer written steps ≡ turnBytes table tokens m b r buffer
 unfolding turnedAway
-turned-away table tokens m b r buffer e = sym (away table tokens m b r buffer e)
+turned-away table tokens m b r buffer e x = (λ i. leaves (x .0 i) r buffer (x .1 i) (x .2 i)) ∙ sym (away table tokens m b r buffer e)
 
 -- a fresh book: its walk, then no steps left
 pub book-put : (a : ℕ) (seat W P : List ℕ) → length seat ≡ bookSize → W ≡ walkBytes (fresh a) → P ≡ put64 (W ++ drop 158 seat) 79 0 → P ≡ freshBook a

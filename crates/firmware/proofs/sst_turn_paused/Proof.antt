@@ -6,7 +6,6 @@ use borrow.Author.Needs.{needs}
 use borrow.Author.Tests.{not-true, not-false}
 use Rattle.firmware.specs.Entries.{handing}
 use Rattle.screen.proofs.Turns.{book-in}
-use Rattle.firmware.specs.Turning.{leaves}
 use Rattle.firmware.proofs.Screens.{enough, turned, turned-away}
 use Rattle.firmware.proofs.sst_turn_paused.Statement.{statement}
 use Rattle.firmware.proofs.sst_turn_paused.Tie as tie
@@ -21,11 +20,7 @@ same-length : tie.Need-same-length
 same-length c = search needs
 
 returns : tie.Need-returns
-returns c =
-    let a = c .before .before .before .before .before .before .before .before .before .before .args in
-    let r = c .refuse .ensures in
-    (λ i. leaves (r .0 i) (a .screen .now) (a .events .now) (r .1 i) (r .2 i))
-    ∙ turned-away (a .table .now) (a .tokens .now) (handing (a .given) (a .answer)) (a .book) (a .screen .now) (a .events .now) (sym (c .before .before .before .before .is-book .ensures) ∙ not-true _ (c .before .before .before .if1 .taken))
+returns c = turned-away _ _ _ _ _ _ (sym (c .before .before .before .before .is-book .ensures) ∙ not-true _ (c .before .before .before .if1 .taken)) (c .refuse .ensures)
 
 left-word-requires : tie.Need-left-word-requires
 left-word-requires c κs = search needs
