@@ -19,7 +19,6 @@ use machine::EVENT_WORDS;
 use walker::Event;
 use walker::Next;
 use walker::Reason;
-use walker::Registers;
 use walker::Terms;
 
 // Figures as bytes (docs/LAYOUT.md): a count for each location, the words of their bits, books, total.
