@@ -5,6 +5,7 @@ ghost use lib.ListN.{length, drop, getD};
 ghost use Rattle.machine.specs.Bytes.{wordsOf};
 ghost use Rattle.machine.specs.Form.{number64};
 ghost use Rattle.buffers.specs.Words.{zeroed, putWord, put64};
+use base::wide_64;
 
 // How many values one word has, two words, and three.
 const ONE_WORD: u64 = 65536;
@@ -16,17 +17,11 @@ const THREE_WORDS: u64 = 281474976710656;
 // The words of a number.
 pub const NUMBER_WORDS: usize = 4;
 
-fn wide(x: u16) -> u64
-    ensures { λ r. ⌜ (r ≡ x) × (r < 65536) ⌝ }
-{
-    x as u64
-}
-
 // The word at index i: 0 past the last whole word.
 pub fn wide_word(s: &[u8], i: usize) -> u64
     ensures { λ r. ⌜ (r ≡ getD (wordsOf (now (s .entry))) i 0) × (r < 65536) ⌝ }
 {
-    wide(machine::word(s, i))
+    wide_64(machine::word(s, i))
 }
 
 // The four words from index i on as one number.

@@ -1,5 +1,5 @@
 -- Choices: alternatives, the choice table, otherwise. Assumes nothing.
-use Prim.Native.Nat.{ℕ, zero, suc, _+_, _*_, _-_, _<_, _≤_}
+use Prim.Native.Nat.{ℕ, zero, suc, _+_, _*_, _-_, _<_, _≤_, min}
 use mathlib.Core.Path.{_≡_, refl, sym, ap, _∙_, subst}
 use mathlib.Core.Bool.{Bool, true, false, cond}
 use mathlib.Core.List.{List, [], _∷_, _++_, append-assoc, append-nil}
@@ -208,7 +208,7 @@ absent-done cs p old new at x v from slots p′ at′ x′ d y n s o e m h = sub
 known-done : (ws : List ℕ) (e : ℕ) (old new : List ℕ) (at x : ℕ) (slots : List ℕ) (p′ at′ : ℕ) → p′ ≡ e → at′ ≡ at + length ws → (at + length ws < 65536 → new ≡ puts old at ws) → Done (knowns ws) e old new at x slots slots p′ at′ x
 known-done ws e old new at x slots p′ at′ h k w = record { next = h; after = k ∙ ap (λ (i : ℕ). at + i) (sym (length-knowns ws)); emitted = emitted-known ws w }
 
-pub token-done : (cs : List ℕ) (p : ℕ) (old mid new : List ℕ) (at v from p′ : ℕ) → getD cs p 0 ≡ 14 → p′ ≡ length cs - (length cs - (p + 1)) → mid ≡ puts old at (3 ∷ v ∷ []) → new ≡ puts mid (at + 2) (2 ∷ cut (at + 3 - from) ∷ []) → AbsentDone cs p old new at v from p′ (at + 4)
+pub token-done : (cs : List ℕ) (p : ℕ) (old mid new : List ℕ) (at v from p′ : ℕ) → getD cs p 0 ≡ 14 → p′ ≡ min (p + 1) (length cs) → mid ≡ puts old at (3 ∷ v ∷ []) → new ≡ puts mid (at + 2) (2 ∷ cut (at + 3 - from) ∷ []) → AbsentDone cs p old new at v from p′ (at + 4)
 unfolding AbsentDone marksOther absentWords
 token-done cs p old mid new at v from p′ t y a b n s o e x slots h =
     let w = other-token h t in
@@ -217,7 +217,7 @@ token-done cs p old mid new at v from p′ t y a b n s o e x slots h =
     let W : at + 4 < 65536 → new ≡ puts old at (3 ∷ v ∷ 2 ∷ d ∷ []) = λ z. puts-then old mid new at (at + 2) (3 ∷ v ∷ []) (2 ∷ d ∷ []) a refl (b ∙ ap (λ (i : ℕ). puts mid (at + 2) (2 ∷ i ∷ [])) (cut-small d (omega arith))) in
     subst (λ (i : Other). Done (marksOther i (absentWords s v d)) e old new at x slots slots p′ (at + 4) x) (sym (w .0)) (subst (λ (i : Selector). Done (knowns (absentWords i v d)) e old new at x slots slots p′ (at + 4) x) (sym (w .1)) (known-done (3 ∷ v ∷ 2 ∷ d ∷ []) e old new at x slots p′ (at + 4) (omega (arith, w .2)) refl W))
 
-pub end-done : (cs : List ℕ) (p : ℕ) (old new : List ℕ) (at v from p′ : ℕ) → (getD cs p 0 ≡ 13 → ⊥) → (getD cs p 0 ≡ 14 → ⊥) → p′ ≡ length cs - (length cs - (p + 1)) → new ≡ puts old at (12 ∷ []) → AbsentDone cs p old new at v from p′ (at + 1)
+pub end-done : (cs : List ℕ) (p : ℕ) (old new : List ℕ) (at v from p′ : ℕ) → (getD cs p 0 ≡ 13 → ⊥) → (getD cs p 0 ≡ 14 → ⊥) → p′ ≡ min (p + 1) (length cs) → new ≡ puts old at (12 ∷ []) → AbsentDone cs p old new at v from p′ (at + 1)
 unfolding AbsentDone marksOther
 end-done cs p old new at v from p′ f g y a n s o e x slots h =
     let w = other-end h f g in

@@ -1,5 +1,5 @@
 -- Emission over the cells: what stands where, and how the words grow. Assumes nothing.
-use Prim.Native.Nat.{ℕ, zero, suc, _+_, _*_, _-_, _%_, _<_, _≤_}
+use Prim.Native.Nat.{ℕ, zero, suc, _+_, _*_, _-_, _%_, _<_, _≤_, min}
 use mathlib.Core.Path.{_≡_, refl, sym, ap, _∙_, subst}
 use mathlib.Core.Bool.{Bool, true, false, cond}
 use mathlib.Core.List.{List, [], _∷_, _++_, append-assoc, append-nil}
@@ -187,7 +187,7 @@ goes-more cs p old at x slots q l y q′ l′ y′ out new more last f k d g n a
       emitted = emitted-join (r .emitted) (w .emitted) (r .after);
     }
 
-pub goes-end : (cs : List ℕ) (p : ℕ) (old : List ℕ) (at x : ℕ) (slots : List ℕ) (q l y p′ : ℕ) (out more : List ℕ) → getD cs q 0 ≡ 0 → p′ ≡ length cs - (length cs - (q + 1)) → Goes cs p old at x slots q l y out more → ListDone cs p old out at x slots more p′ l y
+pub goes-end : (cs : List ℕ) (p : ℕ) (old : List ℕ) (at x : ℕ) (slots : List ℕ) (q l y p′ : ℕ) (out more : List ℕ) → getD cs q 0 ≡ 0 → p′ ≡ min (q + 1) (length cs) → Goes cs p old at x slots q l y out more → ListDone cs p old out at x slots more p′ l y
 unfolding ListDone marksAll
 goes-end cs p old at x slots q l y p′ out more z i g n a e s h =
     let r = g n a e s h in

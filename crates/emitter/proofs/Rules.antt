@@ -1,5 +1,5 @@
 -- The rules one after the other: their locations and words, and the lent bytes. Assumes nothing.
-use Prim.Native.Nat.{ℕ, zero, suc, _+_, _*_, _-_, _/_, _<_, _≤_}
+use Prim.Native.Nat.{ℕ, zero, suc, _+_, _*_, _-_, _/_, _<_, _≤_, min}
 use mathlib.Core.Path.{_≡_, refl, sym, ap, _∙_, subst}
 use mathlib.Core.Bool.{Bool, true, false, cond, _&&_}
 use mathlib.Core.List.{List, [], _∷_, _++_, append-assoc, append-nil}
@@ -355,7 +355,7 @@ part-long old part e h k = omega (arith, length-append part (drop e old), length
 pub refused-part : (prog : List Rule) (old part new : List ℕ) (size e : ℕ) → size ≡ sizeRules prog → (4096 < sizeRules prog) ⊎ (words old < sizeRules prog) → length part ≡ e → e ≤ 2 * words old → new ≡ puts (part ++ drop e old) 0 (replicate (words (part ++ drop e old) - 0) 0) → EmitDone prog old new 20 size
 refused-part prog old part new size e s h n k w = refused prog old (part ++ drop e old) new size s h (part-long old part e n (omega arith)) (tail-same old part e n k) w
 
-pub accepted-part : (cells sorts : List ℕ) (rules : ℕ) (prog : List Rule) (slots old part new : List ℕ) (size e : ℕ) → CellsOf cells sorts rules prog → slots ≡ replicate 128 0 → RulesDone cells sorts rules slots (take e old) part size → size ≤ 4096 → size ≤ words old → e ≡ 2 * (4096 - (4096 - words old)) → new ≡ puts (part ++ drop e old) size (replicate (words (part ++ drop e old) - size) 0) → EmitDone prog old new 0 size
+pub accepted-part : (cells sorts : List ℕ) (rules : ℕ) (prog : List Rule) (slots old part new : List ℕ) (size e : ℕ) → CellsOf cells sorts rules prog → slots ≡ replicate 128 0 → RulesDone cells sorts rules slots (take e old) part size → size ≤ 4096 → size ≤ words old → e ≡ 2 * min (words old) 4096 → new ≡ puts (part ++ drop e old) size (replicate (words (part ++ drop e old) - size) 0) → EmitDone prog old new 0 size
 unfolding RulesDone
 accepted-part cells sorts rules prog slots old part new size e h z d i j k w =
     let r = d prog (program-stands cells sorts rules prog h) (h .count) z in

@@ -8,6 +8,10 @@ ghost use Rattle.emitter.specs.Words.{words, setWord, puts, cut};
 ghost use Rattle.emitter.specs.Heads.{firsts, one, two, three, plainOf, plainAt, chooses, insOf, selOf, selAt, labelsIn, labelsAt, startOf, calledBy, calledAt, linkAt, anchor, behind};
 ghost use Rattle.emitter.specs.Work.{Room, Moved, Passed, ItemDone, PatchDone, ListDone, ActDone, CycleDone, LabelsDone, TableDone, AltsDone, OtherDone, AbsentDone};
 ghost use Rattle.emitter.specs.Emitted.{Emits, RuleDone, PlaceDone, RulesDone, zeroedBytes};
+use base::cell;
+use base::least;
+use base::wide;
+use cells::sort_at;
 
 // Numbers as words and answers are counted here.
 const END_CHOICE: usize = machine::END_CHOICE as usize;
@@ -78,25 +82,6 @@ pub struct Spot {
     pub p: usize,
     pub at: usize,
     pub exit: usize,
-}
-
-// The element at i, 0 past the end.
-fn cell(cells: &[u16], i: usize) -> u16
-    ensures { λ r. ⌜ r ≡ getD (now (cells .entry)) i 0 ⌝ }
-{
-    if i < cells.len() { cells[i] } else { 0 }
-}
-
-fn wide(x: u16) -> usize
-    ensures { λ r. ⌜ (r ≡ x) × (r < 65536) ⌝ }
-{
-    x as usize
-}
-
-fn least(a: usize, b: usize) -> usize
-    ensures { λ r. ⌜ r ≡ b - (b - a) ⌝ }
-{
-    if a < b { a } else { b }
 }
 
 // A rule's slot: its newest open call, 0: none, and once the rule is placed its location and PLACED.
@@ -654,12 +639,6 @@ pub fn zero(table: &mut [u8])
 }
 
 // The rules.
-
-fn sort_at(sorts: &[u8], r: usize) -> u8
-    ensures { λ s. ⌜ s ≡ getD (now (sorts .entry)) r 0 ⌝ }
-{
-    if r < sorts.len() { sorts[r] } else { 0 }
-}
 
 // One rule: its actions and, but in a choice rule, the return.
 fn emit_rule(

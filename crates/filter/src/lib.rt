@@ -7,6 +7,7 @@ ghost use Rattle.machine.specs.Bytes.{count, bytesOf, over};
 ghost use Rattle.filtering.specs.Filter.{entries, crossed, filter, numbersOf, tells, bufferAfter};
 ghost use Rattle.filter.specs.Working.{entryAt, turned, orNone, lowestDoubled, lowestMissing, Counts, Tallied, mapTokens, putWords};
 use base::BYTE_VALUES;
+use base::byte;
 
 // The bytes of an entry: first, last, and the token's two.
 const ENTRY_BYTES: usize = 4;
@@ -32,12 +33,6 @@ pub struct Filtered {
     pub written: usize,
 }
 
-fn wide(x: u8) -> usize
-    ensures { λ r. ⌜ (r ≡ x) × (r < 256) ⌝ }
-{
-    x as usize
-}
-
 // The first entry whose first exceeds its last.
 fn first_crossed(s: &[u8], n: usize) -> usize
     requires { ⌜ n ≡ length (now s) / 4 ⌝ }
@@ -58,7 +53,7 @@ fn turned_token(s: &[u8], i: usize) -> u16
     requires { ⌜ i < length (now s) / 4 ⌝ }
     ensures { λ r. ⌜ turned r ≡ entryAt (now (s .entry)) i .token ⌝ }
 {
-    let token = wide(s[ENTRY_BYTES * i + LOW_AT]) * 256 + wide(s[ENTRY_BYTES * i + HIGH_AT]);
+    let token = byte(s[ENTRY_BYTES * i + LOW_AT]) * 256 + byte(s[ENTRY_BYTES * i + HIGH_AT]);
     token as u16
 }
 
@@ -81,8 +76,8 @@ fn tally_entry(s: &[u8], i: usize, held: &mut [u8], map: &mut [u16])
     ensures { λ _. ⌜ Tallied (now (s .entry)) (i + 1) (now (held .exit)) (now (map .exit)) ⌝ }
 {
     let token = turned_token(s, i);
-    let last = wide(s[ENTRY_BYTES * i + LAST_AT]);
-    let mut b = wide(s[ENTRY_BYTES * i]);
+    let last = byte(s[ENTRY_BYTES * i + LAST_AT]);
+    let mut b = byte(s[ENTRY_BYTES * i]);
     while b <= last {
         tally_byte(b, token, held, map);
         b += 1;
@@ -145,7 +140,7 @@ fn put_token(map: &[u16], text: &[u8], k: usize, out: &mut [u8])
     requires { ⌜ (length (now map) ≡ 256) × (k < length (now text)) × (2 * length (now text) ≤ length (now out)) ⌝ }
     ensures { λ _. ⌜ now (out .exit) ≡ putWords (mapTokens (now (map .entry)) (now (text .entry))) 1 k (now (out .entry)) ⌝ }
 {
-    let b = wide(text[k]);
+    let b = byte(text[k]);
     put_turned(out, k, map[b]);
 }
 

@@ -1,7 +1,7 @@
 // The C entries (include/sst.h): numbers and byte slices, the walk as its 158 bytes (docs/LAYOUT.md).
 ghost use mathlib.Core.List.{[], _∷_, reverse};
 ghost use mathlib.Core.Path.{_≡_};
-ghost use Prim.Native.Nat.{_+_, _*_, _%_, _<_, _≤_, min};
+ghost use Prim.Native.Nat.{_+_, _*_, _<_, _≤_, min};
 ghost use lib.ListN.{length, take, drop, getD};
 ghost use Rattle.base.specs.Common.{same as sameBytes};
 ghost use Rattle.machine.specs.Bytes.{wordsOf, tableOf, count};
@@ -21,6 +21,7 @@ ghost use Rattle.walker.specs.View as view;
 ghost use Rattle.firmware.specs.Writes.{puts, registerWords, registersIn, Holds};
 ghost use Rattle.firmware.specs.Entries.{phaseIn, reasonIn, phaseNumber, reasonOrNone, locationOr0, readOr0, usedOr0, allowanceOr0, freshNumber, freshIn, handing, gives};
 use base::PENDING;
+use base::low_word;
 use buffers::put_64;
 use buffers::put_word;
 use buffers::read_64;
@@ -85,12 +86,6 @@ struct Held {
     walk: Walk,
 }
 
-fn narrow(x: u64) -> u16
-    ensures { λ r. ⌜ r ≡ x % 65536 ⌝ }
-{
-    (x % 65536) as u16
-}
-
 // Writing words
 
 fn put_two(out: &mut [u8], i: usize, a: u16, b: u16)
@@ -141,11 +136,11 @@ fn put_registers(out: &mut [u8], r: Registers)
         out,
         LOCATION_WORD,
         r.location as u16,
-        narrow(r.result),
-        narrow(r.parameter),
+        low_word(r.result),
+        low_word(r.parameter),
         held_of(r.depth),
     );
-    put_word(out, ALLOWANCE_WORD, narrow(r.allowance));
+    put_word(out, ALLOWANCE_WORD, low_word(r.allowance));
     put_64(out, READ_WORD, r.read);
     put_64(out, USED_WORD, r.used);
 }
@@ -607,7 +602,7 @@ pub extern "C" fn sst_allowance(walk: &[u8]) -> u16
     if h.ok {
         let w = h.walk;
         let at = w.at;
-        narrow(at.allowance)
+        low_word(at.allowance)
     } else {
         0
     }

@@ -277,11 +277,11 @@ fn site_of(text: &[u8], rows: &[u16], j: usize, count: usize) -> Site
     requires { ⌜ j < 65536 ⌝ }
     ensures { λ r. ⌜ SiteOf (now (text .entry)) (now (rows .entry)) j count r ⌝ }
 {
-    let section = symbols::number(rows, PAIR_SECTION + PAIR * j);
-    let rule = symbols::number(rows, PAIR_OPERAND + PAIR * j);
-    let own = symbols::number(rows, PAIR_RULE + PAIR * j);
+    let section = base::number(rows, PAIR_SECTION + PAIR * j);
+    let rule = base::number(rows, PAIR_OPERAND + PAIR * j);
+    let own = base::number(rows, PAIR_RULE + PAIR * j);
     let at = maker::entries_at(text, rows, section);
-    let operand = symbols::number(rows, ROW * rule + VALUE);
+    let operand = base::number(rows, ROW * rule + VALUE);
     Site {
         at,
         operand,
@@ -303,7 +303,7 @@ pub fn make(
     requires { ⌜ (length (now text) ≤ 32768) × Kept (now text) (now rows) n × (length (now cells) ≤ 60000) × (written .count ≤ length (now cells) + 1) × (length (now starts) ≡ 128) × (length (now sorts) ≡ 128) ⌝ }
     ensures { λ r. ⌜ MakeDone (now (text .entry)) (now (rows .entry)) n (written .rules) (now (cells .entry)) (written .count) (now (starts .entry)) (now (sorts .entry)) (now (cells .exit)) (now (starts .exit)) (now (sorts .exit)) r ⌝ }
 {
-    let k = symbols::number(rows, PAIRS);
+    let k = base::number(rows, PAIRS);
     let mut j: usize = 0;
     let mut made = written;
     while j < k {

@@ -1,21 +1,17 @@
 // The listing of the processor's answer, written into a lent buffer.
 ghost use mathlib.Core.Path.{_≡_};
 ghost use mathlib.Core.List.{[], _∷_};
-ghost use Prim.Native.Nat.{_+_, _*_, _%_, _<_, _≤_, min};
+ghost use Prim.Native.Nat.{_+_, _*_, _%_, _<_, _≤_};
 ghost use lib.ListN.{length, take};
 ghost use Rattle.machine.specs.Bytes.{wordsOf, tableOf};
 ghost use Rattle.listing.specs.Listing.{decimal, lineFeeds, lineAt, wordLine, wordLines, verdictEnd, heading, figureLine, tableListing, refusalListing};
 ghost use Rattle.listing.specs.Written.{Puts, Listed};
 use base::TABLE_WORDS;
+use base::least;
+use base::wide;
 
 // No listing is longer: 12 bytes for each word of the longest table are more than enough.
 pub const LONGEST: usize = 12 * TABLE_WORDS;
-
-fn least(a: usize, b: usize) -> usize
-    ensures { λ r. ⌜ r ≡ min a b ⌝ }
-{
-    if a < b { a } else { b }
-}
 
 // The line feeds in a text, or in a piece of one.
 pub fn line_feeds(text: &[u8]) -> usize
@@ -95,12 +91,6 @@ fn put_line(out: &mut [u8], at: usize, location: usize, word: usize) -> usize
     let b = put_byte(out, a, b' ');
     let d = put_decimal(out, b, word);
     put_byte(out, d, b'\n')
-}
-
-fn wide(x: u16) -> usize
-    ensures { λ r. ⌜ (r ≡ x) × (r < 65536) ⌝ }
-{
-    x as usize
 }
 
 // The lines of the table's first words.

@@ -14,6 +14,7 @@ ghost use Rattle.loader.specs.Marking.{work, markOf, marksOf, choiceOf, 
 ghost use Rattle.loader.specs.Passing.{Passed, Through, Piece, Whole};
 ghost use Rattle.loader.specs.Records.{fullAt, lastAt, sizeNamed, Loads};
 use base::TABLE_WORDS;
+use base::wide;
 
 // Choice tables are gone through in blocks of 16 entries, each once, so that tables which many choices share or which overlap cost no more than their
 // entries. A block begins at a location that its words divide, or one behind it.
@@ -91,12 +92,6 @@ pub fn size_of(table: &[u8]) -> usize
     if n < TABLE_WORDS { n } else { TABLE_WORDS }
 }
 
-fn wide(x: u16) -> usize
-    ensures { λ r. ⌜ (r ≡ x) × (r < 65536) ⌝ }
-{
-    x as usize
-}
-
 // The word at a location of the table.
 pub fn word_at(table: &[u8], l: usize) -> usize
     requires { ⌜ (1 ≤ l) × (l ≤ length (tableOf (now table))) ⌝ }
@@ -106,7 +101,7 @@ pub fn word_at(table: &[u8], l: usize) -> usize
 }
 
 // Back from a location by a distance; 0 where there is no such location.
-fn back(l: usize, x: usize) -> usize
+pub fn back(l: usize, x: usize) -> usize
     ensures { λ r. ⌜ r ≡ l - x ⌝ }
 {
     if x < l { l - x } else { 0 }

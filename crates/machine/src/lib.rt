@@ -4,6 +4,7 @@ ghost use Prim.Native.Nat.{_<_};
 ghost use lib.ListN.{getD};
 ghost use Rattle.machine.specs.Bytes.{count, wordsOf};
 ghost use Rattle.machine.specs.Lengths.{lengthOf};
+use base::byte_word;
 
 // The instructions by their numbers.
 pub const JUMP_FORWARD: u16 = 1;
@@ -64,12 +65,6 @@ pub const EVENT_WORDS: usize = 3;
 // The lengths of instructions 1 to 13, in words, each at its number less one.
 pub const LENGTHS: [usize; LAST_PLAIN] = [2, 2, 2, 1, 2, 2, 2, 2, 1, 2, 2, 1, 2];
 
-fn wide(x: u8) -> u16
-    ensures { λ r. ⌜ (r ≡ x) × (r < 256) ⌝ }
-{
-    x as u16
-}
-
 // The words that an instruction takes, by its number: 0 if no instruction has it.
 pub fn instruction_length(number: u16) -> usize
     ensures { λ r. ⌜ r ≡ lengthOf number ⌝ }
@@ -100,7 +95,7 @@ pub fn word(s: &[u8], i: usize) -> u16
     ensures { λ r. ⌜ r ≡ getD (wordsOf (now (s .entry))) i 0 ⌝ }
 {
     if i < count_words(s) {
-        wide(s[2 * i]) * 256 + wide(s[2 * i + 1])
+        byte_word(s[2 * i]) * 256 + byte_word(s[2 * i + 1])
     } else {
         0
     }

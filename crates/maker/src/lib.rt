@@ -169,7 +169,7 @@ pub fn entries_at(text: &[u8], rows: &[u16], row: usize) -> usize
     requires { ⌜ row < 65536 ⌝ }
     ensures { λ r. ⌜ PlaceOf (now (text .entry)) (now (rows .entry)) row r ⌝ }
 {
-    let at = symbols::number(rows, ROW * row + VALUE);
+    let at = base::number(rows, ROW * row + VALUE);
     if at <= text.len() {
         return at;
     }
@@ -183,8 +183,8 @@ fn is_pair(rows: &[u16], j: usize, section: usize, operand: usize) -> bool
     requires { ⌜ j < 65536 ⌝ }
     ensures { λ r. ⌜ r ≡ (eqb (getD (now (rows .entry)) (5633 + 3 * j) 0) section && eqb (getD (now (rows .entry)) (5634 + 3 * j) 0) operand) ⌝ }
 {
-    if symbols::number(rows, PAIR_SECTION + PAIR * j) == section {
-        return symbols::number(rows, PAIR_OPERAND + PAIR * j) == operand;
+    if base::number(rows, PAIR_SECTION + PAIR * j) == section {
+        return base::number(rows, PAIR_OPERAND + PAIR * j) == operand;
     }
     false
 }
@@ -193,11 +193,11 @@ fn is_pair(rows: &[u16], j: usize, section: usize, operand: usize) -> bool
 fn look_pair(rows: &[u16], section: usize, operand: usize) -> usize
     ensures { λ r. ⌜ Tells r (lookPair section operand (pairsHeld (now (rows .entry)))) ⌝ }
 {
-    let n = symbols::number(rows, PAIRS);
+    let n = base::number(rows, PAIRS);
     let mut j: usize = 0;
     while j < n {
         if is_pair(rows, j, section, operand) {
-            return symbols::number(rows, PAIR_RULE + PAIR * j);
+            return base::number(rows, PAIR_RULE + PAIR * j);
         }
         j += 1;
     }
@@ -309,7 +309,7 @@ fn take_use(text: &[u8], rows: &mut [u16], n: usize, others: usize, own: usize, 
             own,
         };
     }
-    let k = symbols::number(rows, PAIRS);
+    let k = base::number(rows, PAIRS);
     add_pair(rows, k, u.section, u.operand, own);
     Taken {
         fault: 0,
@@ -379,7 +379,7 @@ fn is_without(rows: &[u16], n: usize) -> bool
 {
     let mut i: usize = 0;
     while i < n {
-        if symbols::number(rows, ROW * i) == OPERATORS {
+        if base::number(rows, ROW * i) == OPERATORS {
             return false;
         }
         i += 1;

@@ -48,8 +48,8 @@ fn put_rows(text: &[u8], rows: &[u16], first: usize, places: &[usize], rules: us
     let mut k: usize = 0;
     while k < rules {
         let i = ROW * (first + k);
-        let start = symbols::number(rows, i + NAME_START);
-        let len = symbols::number(rows, i + NAME_LEN);
+        let start = base::number(rows, i + NAME_START);
+        let len = base::number(rows, i + NAME_LEN);
         put_row(
             out,
             k,
@@ -78,8 +78,8 @@ fn end_of(rows: &[u16], j: usize, rules: usize) -> usize
     requires { ⌜ j < 65536 ⌝ }
     ensures { λ r. ⌜ EndOf (now (rows .entry)) j rules r ⌝ }
 {
-    if j + 1 < symbols::number(rows, PAIRS) {
-        let next = symbols::number(rows, PAIR_RULE + PAIR * (j + 1));
+    if j + 1 < base::number(rows, PAIRS) {
+        let next = base::number(rows, PAIR_RULE + PAIR * (j + 1));
         if next < rules {
             return next;
         }
@@ -92,12 +92,12 @@ fn put_made(text: &[u8], rows: &[u16], b: Resolved, places: &[usize], out: &mut 
     requires { ⌜ Placed (now text) (now rows) b × (b .rules ≤ length (now places)) × (24 * b .rules ≤ length (now out)) ⌝ }
     ensures { λ _. ⌜ MadePut (now (text .entry)) (now (rows .entry)) b 0 (b .written) (now (places .entry)) (now (out .entry)) (now (out .exit)) ⌝ }
 {
-    let pairs = symbols::number(rows, PAIRS);
+    let pairs = base::number(rows, PAIRS);
     let mut j: usize = 0;
     let mut k = b.written;
     while j < pairs {
-        let section = symbols::number(rows, PAIR_SECTION + PAIR * j);
-        let operand = symbols::number(rows, PAIR_OPERAND + PAIR * j);
+        let section = base::number(rows, PAIR_SECTION + PAIR * j);
+        let operand = base::number(rows, PAIR_OPERAND + PAIR * j);
         let name = levels::first_use(text, rows, b.declared, b.body, section, operand);
         let end = end_of(rows, j, b.rules);
         if end < k {

@@ -13,6 +13,8 @@ ghost use Rattle.meter.specs.Shaped.{Rising, Between, indexOf, endOf, In
 ghost use Rattle.meter.specs.Found.{Found};
 ghost use Rattle.meter.specs.Store.{atCap, numbersOf, calledNumbers};
 ghost use Rattle.figure.specs.Figure.{wayOut};
+use base::wide;
+use loader::back;
 
 // Places in a half: the locations, then the paths of each rule that are over and those that are back.
 const OVER: usize = 4097;
@@ -120,19 +122,6 @@ fn raise(rows: &mut [u32], i: usize, v: u64) -> bool
         return true;
     }
     false
-}
-
-fn wide(x: u16) -> usize
-    ensures { λ r. ⌜ (r ≡ x) × (r < 65536) ⌝ }
-{
-    x as usize
-}
-
-// Back from a location by a distance; 0 where there is no such location.
-fn back(l: usize, x: usize) -> usize
-    ensures { λ r. ⌜ r ≡ l - x ⌝ }
-{
-    if x < l { l - x } else { 0 }
 }
 
 // What begins a path in the second half: every instruction that can be reached.

@@ -114,7 +114,7 @@ fn put_operation(
     requires { ⌜ (row < 512) × (value < 65536) ⌝ }
     ensures { λ r. ⌜ Appends (now (cells .entry)) count (operationCells (getD (now (rows .entry)) (8 * row + 1) 0) there value) (now (cells .exit)) r ⌝ }
 {
-    let op = symbols::number(rows, symbols::ROW * row + symbols::VALUE) as u16;
+    let op = base::number(rows, symbols::ROW * row + symbols::VALUE) as u16;
     if there {
         return put_two(cells, count, op, value);
     }
@@ -246,7 +246,7 @@ fn parameter_of(text: &[u8], rows: &[u16], n: usize, row: usize, w: WordAt) -> P
     ensures { λ r. ⌜ OperandDone w row (now (text .entry)) (now (rows .entry)) n r ⌝ }
 {
     let k = scanner::next_word(text, w.next);
-    let len = symbols::number(rows, symbols::ROW * row + symbols::SECOND_LEN);
+    let len = base::number(rows, symbols::ROW * row + symbols::SECOND_LEN);
     if k.kind != words::OPENING {
         if len != 0 {
             return misfit(w.start, w.len);
@@ -262,7 +262,7 @@ fn parameter_of(text: &[u8], rows: &[u16], n: usize, row: usize, w: WordAt) -> P
     if len == 0 {
         return misfit(k.start, k.len);
     }
-    let start = symbols::number(rows, symbols::ROW * row + symbols::SECOND_START);
+    let start = base::number(rows, symbols::ROW * row + symbols::SECOND_START);
     let class = class_named(text, rows, n, start, len);
     parameter_value(text, rows, n, k.next, class)
 }
@@ -299,7 +299,7 @@ fn resolve_update(
         return stopped(o.fault, w.start, w.len);
     }
     let row = o.value;
-    let chooses = symbols::number(rows, symbols::ROW * row + symbols::THIRD_LEN);
+    let chooses = base::number(rows, symbols::ROW * row + symbols::THIRD_LEN);
     if chooses != 0 {
         return stopped(base::NOT_WANTED, w.start, w.len);
     }
@@ -410,11 +410,11 @@ fn resolve_call(
         return stopped(o.fault, w.start, w.len);
     }
     let row = o.value;
-    let gives = symbols::number(rows, symbols::ROW * row + symbols::THIRD_LEN);
+    let gives = base::number(rows, symbols::ROW * row + symbols::THIRD_LEN);
     if gives != 0 {
         return stopped(base::NOT_WANTED, w.start, w.len);
     }
-    let place = symbols::number(rows, symbols::ROW * row + symbols::VALUE);
+    let place = base::number(rows, symbols::ROW * row + symbols::VALUE);
     let c = put_two(cells, count, cells::CALL, place);
     went(w.next, c, true)
 }
@@ -443,7 +443,7 @@ fn resolve_ranked(
         return stopped(operand.fault, o.start, o.len);
     }
     let row = operand.value;
-    let valued = symbols::number(rows, symbols::ROW * row + symbols::THIRD_LEN);
+    let valued = base::number(rows, symbols::ROW * row + symbols::THIRD_LEN);
     if valued != 0 {
         return stopped(base::NOT_WANTED, o.start, o.len);
     }
@@ -582,13 +582,13 @@ fn select_rule(
         return balked(o.fault, w.start, w.len);
     }
     let row = o.value;
-    let gives = symbols::number(rows, symbols::ROW * row + symbols::THIRD_LEN);
+    let gives = base::number(rows, symbols::ROW * row + symbols::THIRD_LEN);
     if gives == 0 {
         return balked(base::NOT_WANTED, w.start, w.len);
     }
-    let start = symbols::number(rows, symbols::ROW * row + symbols::THIRD_START);
+    let start = base::number(rows, symbols::ROW * row + symbols::THIRD_START);
     let class = class_named(text, rows, n, start, gives);
-    let place = symbols::number(rows, symbols::ROW * row + symbols::VALUE);
+    let place = base::number(rows, symbols::ROW * row + symbols::VALUE);
     let c = put_two(cells, count, cells::BY_RULE, place);
     chose(w.next, c, class, cells::NO_OTHERWISE)
 }
@@ -631,11 +631,11 @@ fn select_operation(
         return balked(o.fault, w.start, w.len);
     }
     let row = o.value;
-    let chooses = symbols::number(rows, symbols::ROW * row + symbols::THIRD_LEN);
+    let chooses = base::number(rows, symbols::ROW * row + symbols::THIRD_LEN);
     if chooses == 0 {
         return balked(base::NOT_WANTED, w.start, w.len);
     }
-    let start = symbols::number(rows, symbols::ROW * row + symbols::THIRD_START);
+    let start = base::number(rows, symbols::ROW * row + symbols::THIRD_START);
     let class = class_named(text, rows, n, start, chooses);
     let asked = Asked { row, class };
     select_with(text, rows, n, asked, w, cells, count)

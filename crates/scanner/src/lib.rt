@@ -6,6 +6,7 @@ ghost use Rattle.base.specs.Common.{same, member};
 ghost use Rattle.words.specs.Words.{blank, symbol, digit, letter, nameByte, stringByte, kindOf, reserved, stringHere, wordHere};
 ghost use Rattle.scanner.specs.Next.{Next};
 ghost use Rattle.scanner.specs.Scanning.{inClass, Ran, brackets, heads, others, nameHere, numberHere, greaterHere, symbolHere, wordFound, Spelt, SkippedOne, Skipped};
+use base::byte_word;
 
 // A word of a text: its kind (crates/words has the numbers), the place and the number of its bytes, the place past it.
 pub struct WordAt {
@@ -282,12 +283,6 @@ fn greater_here(text: &[u8], at: usize) -> WordAt
     found(words::GREATER, at, 1)
 }
 
-fn wide(x: u8) -> u16
-    ensures { λ r. ⌜ r ≡ x ⌝ }
-{
-    x as u16
-}
-
 fn symbol_here(text: &[u8], at: usize) -> WordAt
     requires { ⌜ at < length (now text) ⌝ }
     ensures { λ r. ⌜ Spelt (now (text .entry)) at (symbolHere (getD (now (text .entry)) at 0)) r ⌝ }
@@ -297,7 +292,7 @@ fn symbol_here(text: &[u8], at: usize) -> WordAt
         return found(words::BAR, at, 1);
     }
     if is_symbol(b) {
-        return found(wide(b), at, 1);
+        return found(byte_word(b), at, 1);
     }
     found(words::BAD, at, 1)
 }

@@ -2,33 +2,19 @@
 // Nothing is asked of the cells: on any cells each function ends and keeps to its bounds.
 ghost use mathlib.Core.Path.{_≡_};
 ghost use Prim.Native.Nat.{ℕ, _+_, _*_, _-_, _<_, _≤_};
-ghost use lib.ListN.{length, getD, set};
+ghost use lib.ListN.{length, set};
 ghost use Rattle.sizes.specs.Heads.{cellsOf, wordsOf, openAfter};
 ghost use Rattle.sizes.specs.Located.{Room, Moved, Scanned, Locates};
+use base::byte;
+use base::cell;
+use base::least;
+use base::wide;
+use cells::sort_at;
 
 // A place in the cells and a count of words.
 pub struct Spot {
     pub p: usize,
     pub at: usize,
-}
-
-// The element at i, 0 past the end.
-fn cell(cells: &[u16], i: usize) -> u16
-    ensures { λ r. ⌜ r ≡ getD (now (cells .entry)) i 0 ⌝ }
-{
-    if i < cells.len() { cells[i] } else { 0 }
-}
-
-fn wide(x: u16) -> usize
-    ensures { λ r. ⌜ (r ≡ x) × (r < 65536) ⌝ }
-{
-    x as usize
-}
-
-fn least(a: usize, b: usize) -> usize
-    ensures { λ r. ⌜ r ≡ b - (b - a) ⌝ }
-{
-    if a < b { a } else { b }
 }
 
 const PAST: usize = cells::PAST as usize;
@@ -38,17 +24,11 @@ const CELLS: [u8; PAST] = [1, 1, 1, 2, 1, 2, 2, 1, 2, 1, 2, 2, 1, 1, 1];
 
 const WORDS: [u8; PAST] = [0, 2, 2, 2, 1, 2, 2, 3, 2, 1, 3, 5, 1, 0, 4];
 
-fn small(x: u8) -> usize
-    ensures { λ r. ⌜ (r ≡ x) × (r < 256) ⌝ }
-{
-    x as usize
-}
-
 fn cells_of(k: u16) -> usize
     ensures { λ r. ⌜ r ≡ cellsOf k ⌝ }
 {
     if k < cells::PAST {
-        return small(CELLS[wide(k)]);
+        return byte(CELLS[wide(k)]);
     }
     if k < cells::ALTERNATIVE {
         return 1;
@@ -69,7 +49,7 @@ fn words_of(k: u16) -> usize
     ensures { λ r. ⌜ r ≡ wordsOf k ⌝ }
 {
     if k < cells::PAST {
-        return small(WORDS[wide(k)]);
+        return byte(WORDS[wide(k)]);
     }
     if k < cells::ALTERNATIVE {
         return 0;
@@ -124,12 +104,6 @@ fn scan(cells: &[u16], p: usize) -> Spot
         p: least(q, cells.len()),
         at: w,
     }
-}
-
-fn sort_at(sorts: &[u8], r: usize) -> u8
-    ensures { λ s. ⌜ s ≡ getD (now (sorts .entry)) r 0 ⌝ }
-{
-    if r < sorts.len() { sorts[r] } else { 0 }
 }
 
 fn put_start(starts: &mut [usize], r: usize, l: usize)

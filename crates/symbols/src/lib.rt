@@ -11,6 +11,8 @@ ghost use Rattle.declarations.specs.Decls.{knownsIn, indexOf, declaredIn, elsew
 ghost use Rattle.symbols.specs.Index.{bucketOf, headAt, nextOf, pushRows, pushSecond, pushName, RowsKept, Kept};
 ghost use Rattle.symbols.specs.Rows.{wordOf, declAt, held, numberOf, rowIn, operationIn, operatorsRow, ruleIn, Looks};
 ghost use Rattle.symbols.specs.Search.{part, serves, knows, named, declares, counts, Tells};
+use base::byte;
+use base::number;
 
 // A declaration takes this many numbers of the rows: its class, its value, and where its words stand.
 pub const ROW: usize = 8;
@@ -115,22 +117,6 @@ pub fn same_part(text: &[u8], a: usize, alen: usize, b: usize, blen: usize) -> b
 
 // One declaration
 
-fn wide(x: u16) -> usize
-    ensures { λ r. ⌜ (r ≡ x) × (r < 65536) ⌝ }
-{
-    x as usize
-}
-
-// The number at i, 0 past the end.
-pub fn number(rows: &[u16], i: usize) -> usize
-    ensures { λ r. ⌜ (r ≡ getD (now (rows .entry)) i 0) × (r < 65536) ⌝ }
-{
-    if i < rows.len() {
-        return wide(rows[i]);
-    }
-    0
-}
-
 // A declaration of class d feeds the class c.
 fn serves(c: usize, d: usize) -> bool
     ensures { λ r. ⌜ r ≡ serves c d ⌝ }
@@ -224,12 +210,6 @@ fn counts(rows: &[u16], i: usize, class: usize, v: usize) -> bool
 }
 
 // The index by names
-
-fn byte(b: u8) -> usize
-    ensures { λ r. ⌜ (r ≡ b) × (r < 256) ⌝ }
-{
-    b as usize
-}
 
 // The chain of a word.
 fn bucket(text: &[u8], start: usize, len: usize) -> usize

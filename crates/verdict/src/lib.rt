@@ -11,6 +11,9 @@ ghost use Rattle.base.specs.Common.{member as listed};
 ghost use Rattle.program.specs.Program.{Rule};
 ghost use Rattle.finishing.specs.Test.{some-below};
 ghost use Rattle.verdict.specs.Told.{member, someIn, knownIn, Simple, Giving, Then, Either, Cycled, Calling, Placed, pastCell, takes, heads, LeafTold, ActTold, ActsTold, AltsTold, ValuedTold, Collected, RuleTold, rowOf, sought, GatheredTold, NotedTold, NotesTold, Joined, TriedTold, LookedTold, SweepTold, LearntTold, alike, Puts, Widened, Closure, Arrows, Verdict};
+use base::cell;
+use base::number;
+use base::wide;
 
 // First cells as a number that places are counted in.
 const END: usize = cells::END as usize;
@@ -121,29 +124,6 @@ fn union(s: Rules, t: Rules) -> Rules
         lo: s.lo | t.lo,
         hi: s.hi | t.hi,
     }
-}
-
-fn wide(x: u16) -> usize
-    ensures { λ r. ⌜ r ≡ x ⌝ }
-{
-    x as usize
-}
-
-// The cell at a place, 0 past the end.
-fn half(cells: &[u16], at: usize) -> u16
-    ensures { λ r. ⌜ r ≡ getD (now (cells .entry)) at 0 ⌝ }
-{
-    if at < cells.len() {
-        return cells[at];
-    }
-    0
-}
-
-// The same as a number that places are counted in.
-fn cell(cells: &[u16], at: usize) -> usize
-    ensures { λ r. ⌜ r ≡ getD (now (cells .entry)) at 0 ⌝ }
-{
-    wide(half(cells, at))
 }
 
 // The place n cells on, the end at most.
@@ -377,13 +357,13 @@ fn leaf(cells: &[u16], at: usize, ps: Rules, wanted: &[u16]) -> Ways
     requires { ⌜ at < length (now cells) ⌝ }
     ensures { λ w. ⌜ LeafTold (now (cells .entry)) at ps (now (wanted .entry)) w ⌝ }
 {
-    let tag = cell(cells, at);
+    let tag = number(cells, at);
     if tag == CALL {
-        let r = cell(cells, at + 1);
+        let r = number(cells, at + 1);
         return calling(simple(has(ps, r), false, false, ahead(cells, at, 2)), r);
     }
     if tag == GIVE {
-        return giving(matches(wanted, half(cells, at + 1)), ahead(cells, at, 2));
+        return giving(matches(wanted, cell(cells, at + 1)), ahead(cells, at, 2));
     }
     simple(
         past(tag),
@@ -487,12 +467,12 @@ fn act(cells: &[u16], at: usize, known: Learnt, facts: &[u16], wanted: &[u16]) -
     requires { ⌜ (at < length (now cells)) × (2 * known .count ≤ length (now facts)) ⌝ }
     ensures { λ w. ⌜ ActTold (now (cells .entry)) at (knownIn (known .passed) (now (facts .entry)) (known .count)) (now (wanted .entry)) w ⌝ }
 {
-    let tag = cell(cells, at);
+    let tag = number(cells, at);
     if tag == CYCLE {
         return cycled(acts(cells, at + 1, known, facts, wanted));
     }
     if tag == BY_RULE {
-        let r = half(cells, at + 1);
+        let r = cell(cells, at + 1);
         return calling(
             valued(cells, ahead(cells, at, 2), known, facts, wanted, r),
             wide(r),
@@ -513,7 +493,7 @@ fn acts(cells: &[u16], at: usize, known: Learnt, facts: &[u16], wanted: &[u16]) 
 {
     let mut w = simple(true, false, false, at);
     let mut i = at;
-    while cell(cells, i) != END {
+    while number(cells, i) != END {
         w = then(w, act(cells, i, known, facts, wanted));
         i = w.next;
     }
@@ -535,12 +515,12 @@ fn alts(
 {
     let mut w = simple(false, false, false, at);
     let mut i = at;
-    let mut tag = cell(cells, at);
+    let mut tag = number(cells, at);
     while ALTERNATIVE <= tag {
         let b = acts(cells, ahead(cells, i, tag - PREFIX), known, facts, wanted);
         w = either(w, b, x);
         i = b.next;
-        tag = cell(cells, i);
+        tag = number(cells, i);
     }
     if tag == OTHERWISE {
         return either(w, acts(cells, ahead(cells, i, 1), known, facts, wanted), y);
@@ -557,7 +537,7 @@ fn valued(cells: &[u16], at: usize, known: Learnt, facts: &[u16], wanted: &[u16]
     let mut n = 0;
     let mut w = simple(false, false, false, at);
     let mut i = at;
-    let mut tag = cell(cells, at);
+    let mut tag = number(cells, at);
     while ALTERNATIVE <= tag {
         let from = ahead(cells, i, 1);
         let to = ahead(cells, from, tag - ALTERNATIVE);
@@ -565,7 +545,7 @@ fn valued(cells: &[u16], at: usize, known: Learnt, facts: &[u16], wanted: &[u16]
         let b = acts(cells, to, known, facts, wanted);
         w = either(w, b, opened(cells, from, to, facts, known.count, r));
         i = b.next;
-        tag = cell(cells, i);
+        tag = number(cells, i);
     }
     if tag == OTHERWISE {
         let y = unnamed(&labels, n, facts, known.count, r);
@@ -586,7 +566,7 @@ fn rule(
     requires { ⌜ 2 * known .count ≤ length (now facts) ⌝ }
     ensures { λ w. ⌜ RuleTold (now (cells .entry)) (now (starts .entry)) r (knownIn (known .passed) (now (facts .entry)) (known .count)) (now (wanted .entry)) w ⌝ }
 {
-    let at = cell(starts, r);
+    let at = number(starts, r);
     acts(cells, ahead(cells, 0, at), known, facts, wanted)
 }
 
@@ -601,8 +581,8 @@ fn seeks(cells: &[u16], i: usize, facts: &[u16], m: usize, r: u16) -> bool
     requires { ⌜ (i < length (now cells)) × (2 * m ≤ length (now facts)) ⌝ }
     ensures { λ b. ⌜ b ≡ sought (now (cells .entry)) i (now (facts .entry)) m r ⌝ }
 {
-    if cell(cells, i) == GIVE {
-        return !told(facts, m, r, half(cells, i + 1));
+    if number(cells, i) == GIVE {
+        return !told(facts, m, r, cell(cells, i + 1));
     }
     false
 }
@@ -627,7 +607,7 @@ fn gathered(
             if wanted.len() <= n {
                 return Query { count: n, next: i };
             }
-            wanted[n] = half(cells, i + 1);
+            wanted[n] = cell(cells, i + 1);
             n += 1;
         }
         i += 1;
@@ -742,7 +722,7 @@ fn bound(cells: &[u16], starts: &[u16], r: usize, at: usize) -> usize
     requires { ⌜ (at ≤ length (now cells)) × (r < 128) ⌝ }
     ensures { λ n. ⌜ (at ≤ n) × (n ≤ length (now (cells .entry))) ⌝ }
 {
-    let n = cell(starts, r + 1);
+    let n = number(starts, r + 1);
     if n < at {
         return at;
     }
@@ -757,7 +737,7 @@ fn looked(cells: &[u16], starts: &[u16], r: u16, k: Learnt, facts: &mut [u16]) -
     requires { ⌜ (2 * k .count ≤ length (now facts)) × (r < 128) ⌝ }
     ensures { λ j. ⌜ LookedTold (now (cells .entry)) (now (starts .entry)) r k (now (facts .entry)) j (now (facts .exit)) ⌝ }
 {
-    let at = ahead(cells, 0, cell(starts, wide(r)));
+    let at = ahead(cells, 0, number(starts, wide(r)));
     let to = bound(cells, starts, wide(r), at);
     let mut t = pressed(cells, starts, r, k, facts, at, to);
     while t.at < t.end {

@@ -12,6 +12,9 @@ ghost use Rattle.walker.specs.Shape.{inFull, operateOf, fetchedOf, stepO
 ghost use Rattle.walker.specs.Steps.{withAt, inPhase, tokenRead, returned, answered, asRead, says, Holds, tookOf, numberAt, nextOf, walkStepOf, outcome, called, Ends, lastOf};
 ghost use Rattle.walker.specs.declared.Phase.the-variants.{Stopped};
 use base::PENDING;
+use base::byte_word;
+use base::low_word;
+use base::wide;
 use machine::ASK;
 use machine::ASK_WITH;
 use machine::CALL;
@@ -138,24 +141,6 @@ pub struct Called {
 
 // Words of a byte buffer
 
-fn wide(x: u8) -> u16
-    ensures { λ r. ⌜ (r ≡ x) × (r < 256) ⌝ }
-{
-    x as u16
-}
-
-fn narrow(x: u64) -> u16
-    ensures { λ r. ⌜ r ≡ x % 65536 ⌝ }
-{
-    (x % 65536) as u16
-}
-
-fn location_of(x: u16) -> usize
-    ensures { λ r. ⌜ r ≡ x ⌝ }
-{
-    x as usize
-}
-
 // The words of a table.
 fn table_words(t: &[u8]) -> usize
     ensures { λ r. ⌜ r ≡ size (now (t .entry)) ⌝ }
@@ -173,7 +158,7 @@ fn word(s: &[u8], i: usize) -> u16
     requires { ⌜ i < count (now s) ⌝ }
     ensures { λ r. ⌜ r ≡ wordAt (now (s .entry)) i ⌝ }
 {
-    wide(s[2 * i]) * 256 + wide(s[2 * i + 1])
+    byte_word(s[2 * i]) * 256 + byte_word(s[2 * i + 1])
 }
 
 // `buffers::put_word` writes the same. This one stays: the loop that it is put into is timed, and uses `machine` alone.
@@ -229,7 +214,7 @@ fn swapped_word(s: &[u8], i: usize) -> u16
     requires { ⌜ i < count (now s) ⌝ }
     ensures { λ r. ⌜ r ≡ swapped (wordAt (now (s .entry)) i) ⌝ }
 {
-    wide(s[2 * i]) + wide(s[2 * i + 1]) * 256
+    byte_word(s[2 * i]) + byte_word(s[2 * i + 1]) * 256
 }
 
 // The words that instruction 1 to 13 takes. The constant table is lent, so that a fetch does not make it anew.
@@ -473,7 +458,7 @@ impl Registers {
         ensures { λ r. ⌜ r ≡ mendOf (now (t .entry)) room self ⌝ }
     {
         let loc = self.location;
-        if 0 < narrow(self.allowance) {
+        if 0 < low_word(self.allowance) {
             self.spend()
                 .tell(room, loc + len, Event::Repair(word(t, loc)))
         } else {
@@ -591,7 +576,7 @@ impl Registers {
         if n < loc + len - 1 {
             return Next::Outside;
         }
-        self.take_other(choice_target(t, n, loc, narrow(self.result)))
+        self.take_other(choice_target(t, n, loc, low_word(self.result)))
     }
 
     fn input_choice(self, t: &[u8], n: usize, len: usize, tokens: &[u8]) -> Next
@@ -664,7 +649,7 @@ impl Registers {
         if d == 0 {
             return Next::Stop(Reason::Finished);
         }
-        self.back_to(n, location_of(returns[d - 1]), t)
+        self.back_to(n, wide(returns[d - 1]), t)
     }
 
     fn end_choice(self, n: usize, len: usize) -> Next
@@ -787,7 +772,7 @@ impl Registers {
                 n,
                 machine::instruction_length(ins),
                 room,
-                Event::With(ins, narrow(self.parameter)),
+                Event::With(ins, low_word(self.parameter)),
             )
         } else if ins < ASK_WITH {
             self.answer(
@@ -805,7 +790,7 @@ impl Registers {
                 room,
                 paused,
                 answers,
-                Event::With(ins, narrow(self.parameter)),
+                Event::With(ins, low_word(self.parameter)),
             )
         } else {
             Next::Outside
@@ -906,7 +891,7 @@ impl Walk {
         let at = self.at;
         let returns = self.returns;
         let d = at.depth;
-        self.with_registers(at.popped_to(location_of(returns[d - 1])))
+        self.with_registers(at.popped_to(wide(returns[d - 1])))
     }
 
     // Takes the answer that it waited for, and goes on.

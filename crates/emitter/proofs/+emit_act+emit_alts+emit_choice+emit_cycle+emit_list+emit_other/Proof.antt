@@ -29,7 +29,7 @@ use Rattle.emitter.proofs.+emit_act+emit_alts+emit_choice+emit_cycle+em
 use Rattle.emitter.proofs.emit_other.Reads as emit-other
 use Rattle.emitter.proofs.emit_other.Kinds as emit-other-kinds
 use Rattle.emitter.proofs.+emit_act+emit_alts+emit_choice+emit_cycle+emit_list+emit_other.Lts-emit_other as emit-other-lts
-use Rattle.emitter.proofs.cell.Reads as cell-reads
+use Rattle.base.proofs.cell.Reads as cell-reads
 use Rattle.emitter.proofs.chooses.Reads as chooses-reads
 use Rattle.emitter.proofs.emit_absent.Reads as emit-absent-reads
 use Rattle.emitter.proofs.emit_plain.Reads as emit-plain-reads
@@ -37,7 +37,7 @@ use Rattle.emitter.proofs.emit_sel.Reads as emit-sel-reads
 use Rattle.emitter.proofs.emit_table.Reads as emit-table-reads
 use Rattle.emitter.proofs.ins_of.Reads as ins-of-reads
 use Rattle.emitter.proofs.labels_at.Reads as labels-at-reads
-use Rattle.emitter.proofs.least.Reads as least-reads
+use Rattle.base.proofs.least.Reads as least-reads
 use Rattle.emitter.proofs.low.Reads as low-reads
 use Rattle.emitter.proofs.patch.Reads as patch-reads
 use Rattle.emitter.proofs.put_one.Reads as put-one-reads

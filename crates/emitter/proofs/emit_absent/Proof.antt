@@ -9,8 +9,6 @@ use Rattle.emitter.proofs.emit_absent.Statement.{statement}
 use Rattle.emitter.proofs.emit_absent.Tie as tie
 use Rattle.emitter.proofs.emit_absent.Reads as reads
 use Rattle.emitter.proofs.emit_absent.Lts as lts
-use Rattle.emitter.proofs.cell.Reads as cell-reads
-use Rattle.emitter.proofs.least.Reads as least-reads
 use Rattle.emitter.proofs.put_one.Reads as put-one-reads
 use Rattle.emitter.proofs.put_span.Reads as put-span-reads
 use Rattle.emitter.proofs.put_two.Reads as put-two-reads

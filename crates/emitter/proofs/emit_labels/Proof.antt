@@ -10,7 +10,6 @@ use Rattle.emitter.proofs.emit_labels.Statement.{statement}
 use Rattle.emitter.proofs.emit_labels.Tie as tie
 use Rattle.emitter.proofs.emit_labels.Reads as reads
 use Rattle.emitter.proofs.emit_labels.Lts as lts
-use Rattle.emitter.proofs.cell.Reads as cell-reads
 use Rattle.emitter.proofs.put_span.Reads as put-span-reads
 
 abbrev Inv-loop : tie.InvT-loop

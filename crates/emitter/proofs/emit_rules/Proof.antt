@@ -10,7 +10,6 @@ use Rattle.emitter.proofs.emit_rules.Reads as reads
 use Rattle.emitter.proofs.emit_rules.Lts as lts
 use Rattle.emitter.proofs.emit_rule.Reads as emit-rule-reads
 use Rattle.emitter.proofs.place_rule.Reads as place-rule-reads
-use Rattle.emitter.proofs.sort_at.Reads as sort-at-reads
 
 abbrev Inv-loop : tie.InvT-loop
 Inv-loop cells sorts rules slots₀ out₀ q₀ l₀ r₀ slots out q l r = (r ≤ rules) × (q ≤ length cells) × (l ≤ 400 * q + r) × (length out ≡ length out₀) × (length slots ≡ length slots₀) × RulesGo cells sorts rules slots₀ out₀ q l r out slots

@@ -13,12 +13,9 @@ use Rattle.emitter.proofs.emit_sel.Tie as tie
 use Rattle.emitter.proofs.emit_sel.Reads as reads
 use Rattle.emitter.proofs.emit_sel.Lts as lts
 use Rattle.emitter.proofs.call_at.Reads as call-at-reads
-use Rattle.emitter.proofs.cell.Reads as cell-reads
-use Rattle.emitter.proofs.least.Reads as least-reads
 use Rattle.emitter.proofs.put_some.Reads as put-some-reads
 use Rattle.emitter.proofs.sel_of.Reads as sel-of-reads
 use Rattle.emitter.proofs.start_at.Reads as start-at-reads
-use Rattle.emitter.proofs.wide.Reads as wide-reads
 
 -- src/lib.rt:353:9
 cell-requires : tie.Need-cell-requires

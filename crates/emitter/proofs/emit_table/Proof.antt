@@ -16,7 +16,6 @@ use Rattle.emitter.proofs.labels_at.Reads as labels-at-reads
 use Rattle.emitter.proofs.less.Reads as less-reads
 use Rattle.emitter.proofs.older_at.Reads as older-at-reads
 use Rattle.emitter.proofs.put_word.Reads as put-word-reads
-use Rattle.emitter.proofs.wide.Reads as wide-reads
 use Rattle.machine.proofs.word.Reads as word-reads
 
 abbrev Inv-loop : tie.InvT-loop

@@ -9,7 +9,6 @@ use Rattle.emitter.proofs.labels_at.Statement.{statement}
 use Rattle.emitter.proofs.labels_at.Tie as tie
 use Rattle.emitter.proofs.labels_at.Reads as reads
 use Rattle.emitter.proofs.labels_at.Lts as lts
-use Rattle.emitter.proofs.cell.Reads as cell-reads
 use Rattle.emitter.proofs.labels_in.Reads as labels-in-reads
 
 -- src/lib.rt:268:23

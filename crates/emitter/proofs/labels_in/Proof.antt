@@ -8,7 +8,6 @@ use Rattle.emitter.proofs.labels_in.Statement.{statement}
 use Rattle.emitter.proofs.labels_in.Tie as tie
 use Rattle.emitter.proofs.labels_in.Reads as reads
 use Rattle.emitter.proofs.labels_in.Lts as lts
-use Rattle.emitter.proofs.wide.Reads as wide-reads
 
 -- src/lib.rt:210:9
 returns : tie.Need-returns

@@ -7,7 +7,6 @@ use Rattle.emitter.proofs.older_at.Statement.{statement}
 use Rattle.emitter.proofs.older_at.Tie as tie
 use Rattle.emitter.proofs.older_at.Reads as reads
 use Rattle.emitter.proofs.older_at.Lts as lts
-use Rattle.emitter.proofs.wide.Reads as wide-reads
 use Rattle.machine.proofs.word.Reads as word-reads
 
 -- src/lib.rt:132:18

@@ -4,32 +4,32 @@ use Rattle.filter.proofs.Writes.{turned-is}
 use Rattle.filter.proofs.turned_token.Statement.{statement}
 use Rattle.filter.proofs.turned_token.Tie as tie
 
-mul-wide : tie.Need-mul-wide
-mul-wide c = search needs
+mul-byte : tie.Need-mul-byte
+mul-byte c = search needs
 
-add-wide : tie.Need-add-wide
-add-wide c = search needs
+add-byte : tie.Need-add-byte
+add-byte c = search needs
 
-shared-slice-read-wide : tie.Need-shared-slice-read-wide
-shared-slice-read-wide c = search needs
+shared-slice-read-byte : tie.Need-shared-slice-read-byte
+shared-slice-read-byte c = search needs
 
-wide-requires : tie.Need-wide-requires
-wide-requires c κs = search needs
+byte-requires : tie.Need-byte-requires
+byte-requires c κs = search needs
 
 mul-token : tie.Need-mul-token
 mul-token c = search needs
 
-mul-wide-2 : tie.Need-mul-wide-2
-mul-wide-2 c = search needs
+mul-byte-2 : tie.Need-mul-byte-2
+mul-byte-2 c = search needs
 
-add-wide-2 : tie.Need-add-wide-2
-add-wide-2 c = search needs
+add-byte-2 : tie.Need-add-byte-2
+add-byte-2 c = search needs
 
-shared-slice-read-wide-2 : tie.Need-shared-slice-read-wide-2
-shared-slice-read-wide-2 c = search needs
+shared-slice-read-byte-2 : tie.Need-shared-slice-read-byte-2
+shared-slice-read-byte-2 c = search needs
 
-wide-requires-2 : tie.Need-wide-requires-2
-wide-requires-2 c κs = search needs
+byte-requires-2 : tie.Need-byte-requires-2
+byte-requires-2 c κs = search needs
 
 add-token : tie.Need-add-token
 add-token c = search needs
@@ -38,21 +38,21 @@ cast-result : tie.Need-cast-result
 cast-result c = search needs
 
 returns : tie.Need-returns
-returns c = turned-is (c .before .before .before .before .before .args .s .now) (c .before .before .before .before .before .args .i) (c .wide2 .result) (c .before .before .wide .result) (c .wide2 .ensures .0) (c .before .before .wide .ensures .0) (c .wide2 .ensures .1) (c .before .before .wide .ensures .1)
+returns c = turned-is (c .before .before .before .before .before .args .s .now) (c .before .before .before .before .before .args .i) (c .byte2 .result) (c .before .before .byte .result) (c .byte2 .ensures .0) (c .before .before .byte .ensures .0) (c .byte2 .ensures .1) (c .before .before .byte .ensures .1)
 
 pub turned-token-spec : {M : Type 1} → statement M
 turned-token-spec =
     tie.close
     (tie.spec
-    mul-wide
-    add-wide
-    shared-slice-read-wide
-    wide-requires
+    mul-byte
+    add-byte
+    shared-slice-read-byte
+    byte-requires
     mul-token
-    mul-wide-2
-    add-wide-2
-    shared-slice-read-wide-2
-    wide-requires-2
+    mul-byte-2
+    add-byte-2
+    shared-slice-read-byte-2
+    byte-requires-2
     add-token
     cast-result
     returns)

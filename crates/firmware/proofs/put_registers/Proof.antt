@@ -12,11 +12,11 @@ use Rattle.firmware.proofs.put_registers.Tie as tie
 cast-put-four : tie.Need-cast-put-four
 cast-put-four c = search needs
 
-narrow-requires : tie.Need-narrow-requires
-narrow-requires c κs = search needs
+low-word-requires : tie.Need-low-word-requires
+low-word-requires c κs = search needs
 
-narrow-requires-2 : tie.Need-narrow-requires-2
-narrow-requires-2 c κs = search needs
+low-word-requires-2 : tie.Need-low-word-requires-2
+low-word-requires-2 c κs = search needs
 
 held-of-requires : tie.Need-held-of-requires
 held-of-requires c κs = search needs
@@ -24,8 +24,8 @@ held-of-requires c κs = search needs
 put-four-requires : tie.Need-put-four-requires
 put-four-requires c κs = search needs
 
-narrow-requires-3 : tie.Need-narrow-requires-3
-narrow-requires-3 c κs = search needs
+low-word-requires-3 : tie.Need-low-word-requires-3
+low-word-requires-3 c κs = search needs
 
 put-word-requires : tie.Need-put-word-requires
 put-word-requires c κs = search needs
@@ -51,9 +51,9 @@ returns c =
     let used = form.words64 (r .used) in
     let four = c .before .before .before .before .before .before .before .before .before .before .before .before .before .before .before .put-four .ensures in
     let held = c .before .before .before .before .before .before .before .before .before .before .before .before .before .before .before .before .held-of .ensures in
-    let result = c .before .before .before .before .before .before .before .before .before .before .before .before .before .before .before .before .before .before .narrow .ensures in
-    let parameter = c .before .before .before .before .before .before .before .before .before .before .before .before .before .before .before .before .before .narrow2 .ensures in
-    let allowance = c .before .before .before .before .before .before .before .before .before .before .before .narrow3 .ensures in
+    let result = c .before .before .before .before .before .before .before .before .before .before .before .before .before .before .before .before .before .before .low-word .ensures in
+    let parameter = c .before .before .before .before .before .before .before .before .before .before .before .before .before .before .before .before .before .low-word2 .ensures in
+    let allowance = c .before .before .before .before .before .before .before .before .before .before .before .low-word3 .ensures in
     c .before .before .put-642 .ensures ∙ puts-64 _ 11 (r .used) ∙ rw (c .before .before .before .before .before .before .put-64 .ensures, puts-64, c .before .before .before .before .before .before .before .before .before .before .put-word .ensures, four, held, result, parameter, allowance, puts-one)
     (ap (λ t. puts (puts t 7 read) 11 used) (puts-then s 2 first left 6 refl) ∙ ap (λ t. puts t 11 used) (puts-then s 2 (first ++ left) read 7 refl)
     ∙ puts-then s 2 ((first ++ left) ++ read) used 11 refl)
@@ -63,11 +63,11 @@ put-registers-spec =
     tie.close
     (tie.spec
     cast-put-four
-    narrow-requires
-    narrow-requires-2
+    low-word-requires
+    low-word-requires-2
     held-of-requires
     put-four-requires
-    narrow-requires-3
+    low-word-requires-3
     put-word-requires
     put-64-requires
     put-64-requires-2

@@ -13,7 +13,6 @@ use Rattle.levels.proofs.make.Reads as reads
 use Rattle.levels.proofs.make.Lts as lts
 use Rattle.levels.proofs.make_levels.Reads as make-levels-reads
 use Rattle.levels.proofs.site_of.Reads as site-of-reads
-use Rattle.symbols.proofs.number.Reads as number-reads
 
 abbrev Inv-loop : tie.InvT-loop
 Inv-loop text rows n cells₀ starts₀ sorts₀ k j₀ made₀ cells starts sorts j made =

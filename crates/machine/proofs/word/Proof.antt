@@ -12,34 +12,34 @@ use Rattle.machine.proofs.word.Tie as tie
 count-words-requires : tie.Need-count-words-requires
 count-words-requires c κs = search needs
 
-mul-wide : tie.Need-mul-wide
+mul-byte-word : tie.Need-mul-byte-word
 unfolding count
-mul-wide c = omega arith
+mul-byte-word c = omega arith
 
-shared-slice-read-wide : tie.Need-shared-slice-read-wide
+shared-slice-read-byte-word : tie.Need-shared-slice-read-byte-word
 unfolding count
-shared-slice-read-wide c = omega arith
+shared-slice-read-byte-word c = omega arith
 
-wide-requires : tie.Need-wide-requires
-wide-requires c κs = search needs
+byte-word-requires : tie.Need-byte-word-requires
+byte-word-requires c κs = search needs
 
 mul-result : tie.Need-mul-result
 mul-result c = search needs
 
-mul-wide-2 : tie.Need-mul-wide-2
+mul-byte-word-2 : tie.Need-mul-byte-word-2
 unfolding count
-mul-wide-2 c = omega arith
+mul-byte-word-2 c = omega arith
 
-add-wide : tie.Need-add-wide
+add-byte-word : tie.Need-add-byte-word
 unfolding count
-add-wide c = omega arith
+add-byte-word c = omega arith
 
-shared-slice-read-wide-2 : tie.Need-shared-slice-read-wide-2
+shared-slice-read-byte-word-2 : tie.Need-shared-slice-read-byte-word-2
 unfolding count
-shared-slice-read-wide-2 c = omega arith
+shared-slice-read-byte-word-2 c = omega arith
 
-wide-requires-2 : tie.Need-wide-requires-2
-wide-requires-2 c κs = search needs
+byte-word-requires-2 : tie.Need-byte-word-requires-2
+byte-word-requires-2 c κs = search needs
 
 add-result : tie.Need-add-result
 add-result c = search needs
@@ -62,14 +62,14 @@ word-spec =
     tie.close
     (tie.spec
     count-words-requires
-    mul-wide
-    shared-slice-read-wide
-    wide-requires
+    mul-byte-word
+    shared-slice-read-byte-word
+    byte-word-requires
     mul-result
-    mul-wide-2
-    add-wide
-    shared-slice-read-wide-2
-    wide-requires-2
+    mul-byte-word-2
+    add-byte-word
+    shared-slice-read-byte-word-2
+    byte-word-requires-2
     add-result
     returns
     returns-2)

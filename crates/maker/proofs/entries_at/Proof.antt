@@ -6,7 +6,6 @@ use Rattle.maker.proofs.entries_at.Statement.{statement}
 use Rattle.maker.proofs.entries_at.Tie as tie
 use Rattle.maker.proofs.entries_at.Reads as reads
 use Rattle.maker.proofs.entries_at.Lts as lts
-use Rattle.symbols.proofs.number.Reads as number-reads
 
 -- src/lib.rt:181:36
 mul-number : tie.Need-mul-number

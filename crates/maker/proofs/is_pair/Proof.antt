@@ -5,7 +5,6 @@ use Rattle.maker.proofs.is_pair.Statement.{statement}
 use Rattle.maker.proofs.is_pair.Tie as tie
 use Rattle.maker.proofs.is_pair.Reads as reads
 use Rattle.maker.proofs.is_pair.Lts as lts
-use Rattle.symbols.proofs.number.Reads as number-reads
 
 -- src/lib.rt:199:37
 mul-number : tie.Need-mul-number

@@ -8,7 +8,6 @@ use Rattle.maker.proofs.is_without.Statement.{statement}
 use Rattle.maker.proofs.is_without.Tie as tie
 use Rattle.maker.proofs.is_without.Reads as reads
 use Rattle.maker.proofs.is_without.Lts as lts
-use Rattle.symbols.proofs.number.Reads as number-reads
 
 abbrev Inv-loop : tie.InvT-loop
 Inv-loop rows n i₀ i = (i ≤ n) × NoSection rows i

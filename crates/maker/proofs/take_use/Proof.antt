@@ -13,7 +13,6 @@ use Rattle.maker.proofs.is_over.Reads as is-over-reads
 use Rattle.maker.proofs.look_pair.Reads as look-pair-reads
 use Rattle.maker.proofs.read_use.Reads as read-use-reads
 use Rattle.maker.proofs.section_levels.Reads as section-levels-reads
-use Rattle.symbols.proofs.number.Reads as number-reads
 
 -- src/lib.rt:282:9
 read-use-requires : tie.Need-read-use-requires

@@ -4,7 +4,6 @@ use Rattle.mapper.proofs.end_of.Statement.{statement}
 use Rattle.mapper.proofs.end_of.Tie as tie
 use Rattle.mapper.proofs.end_of.Reads as reads
 use Rattle.mapper.proofs.end_of.Lts as lts
-use Rattle.symbols.proofs.number.Reads as number-reads
 
 -- src/lib.rt:91:8
 add-if1 : tie.Need-add-if1

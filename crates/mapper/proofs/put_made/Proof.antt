@@ -13,7 +13,6 @@ use Rattle.mapper.proofs.put_made.Lts as lts
 use Rattle.levels.proofs.first_use.Reads as first-use-reads
 use Rattle.mapper.proofs.end_of.Reads as end-of-reads
 use Rattle.mapper.proofs.put_levels.Reads as put-levels-reads
-use Rattle.symbols.proofs.number.Reads as number-reads
 
 abbrev Inv-loop : tie.InvT-loop
 Inv-loop text rows b places out₀ pairs j₀ k₀ out j k =

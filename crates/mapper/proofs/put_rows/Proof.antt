@@ -11,7 +11,6 @@ use Rattle.mapper.proofs.put_rows.Tie as tie
 use Rattle.mapper.proofs.put_rows.Reads as reads
 use Rattle.mapper.proofs.put_rows.Lts as lts
 use Rattle.mapper.proofs.put_row.Reads as put-row-reads
-use Rattle.symbols.proofs.number.Reads as number-reads
 use Rattle.symbols.proofs.part_len.Reads as part-len-reads
 
 abbrev Inv-loop : tie.InvT-loop

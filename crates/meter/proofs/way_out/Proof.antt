@@ -9,7 +9,6 @@ use Rattle.meter.proofs.way_out.Tie as tie
 use Rattle.meter.proofs.way_out.Reads as reads
 use Rattle.meter.proofs.way_out.Lts as lts
 use Rattle.loader.proofs.word_at.Reads as word-at-reads
-use Rattle.meter.proofs.back.Reads as back-reads
 
 abbrev Inv-loop : tie.InvT-loop
 Inv-loop table c v n i₀ i = Seeking (tableOf table) c v n i

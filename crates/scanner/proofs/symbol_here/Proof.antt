@@ -21,14 +21,14 @@ returns c = spells _ 124 1 (bar-is (getD (c .before .before .before .before .arg
 is-symbol-requires : tie.Need-is-symbol-requires
 is-symbol-requires c κs = search needs
 
-wide-requires : tie.Need-wide-requires
-wide-requires c κs = search needs
+byte-word-requires : tie.Need-byte-word-requires
+byte-word-requires c κs = search needs
 
 found-requires-2 : tie.Need-found-requires-2
 found-requires-2 c κs = search needs
 
 returns-2 : tie.Need-returns-2
-returns-2 c = spells _ (c .before .wide .result) 1 (symbol-is (getD (c .before .before .before .before .before .before .before .args .text .now) (c .before .before .before .before .before .before .before .args .at) 0) (c .before .before .before .before .if1 .left) (sym (c .before .before .before .is-symbol .ensures) ∙ c .before .before .if2 .taken) ∙ ap (λ (k : ℕ). found k 1) (sym (c .before .wide .ensures))) (c .found2 .ensures) (omega arith) (omega arith)
+returns-2 c = spells _ (c .before .byte-word .result) 1 (symbol-is (getD (c .before .before .before .before .before .before .before .args .text .now) (c .before .before .before .before .before .before .before .args .at) 0) (c .before .before .before .before .if1 .left) (sym (c .before .before .before .is-symbol .ensures) ∙ c .before .before .if2 .taken) ∙ ap (λ (k : ℕ). found k 1) (sym (c .before .byte-word .ensures .0))) (c .found2 .ensures) (omega arith) (omega arith)
 
 found-requires-3 : tie.Need-found-requires-3
 found-requires-3 c κs = search needs
@@ -44,7 +44,7 @@ symbol-here-spec =
     found-requires
     returns
     is-symbol-requires
-    wide-requires
+    byte-word-requires
     found-requires-2
     returns-2
     found-requires-3

@@ -9,25 +9,23 @@ use Rattle.sizes.proofs.cells_of.Statement.{statement}
 use Rattle.sizes.proofs.cells_of.Tie as tie
 use Rattle.sizes.proofs.cells_of.Reads as reads
 use Rattle.sizes.proofs.cells_of.Lts as lts
-use Rattle.sizes.proofs.small.Reads as small-reads
-use Rattle.sizes.proofs.wide.Reads as wide-reads
 
 -- src/lib.rt:179:28
 wide-requires : tie.Need-wide-requires
 wide-requires c κs = search needs
 
 -- src/lib.rt:179:22
-array-read-small : tie.Need-array-read-small
-array-read-small c = search needs
+array-read-byte : tie.Need-array-read-byte
+array-read-byte c = search needs
 
 -- src/lib.rt:179:9
-small-requires : tie.Need-small-requires
-small-requires c κs = search needs
+byte-requires : tie.Need-byte-requires
+byte-requires c κs = search needs
 
 -- src/lib.rt:179:9
 returns : tie.Need-returns
 unfolding cellsOf
-returns c = simp (lt-ltb _ _ (c .before .before .if1 .taken)) (c .small .ensures .0 ∙ ap (λ (i : ℕ). getD cellsTable i 0) (c .before .wide .ensures .0))
+returns c = simp (lt-ltb _ _ (c .before .before .if1 .taken)) (c .byte .ensures .0 ∙ ap (λ (i : ℕ). getD cellsTable i 0) (c .before .wide .ensures .0))
 
 -- src/lib.rt:182:9
 returns-2 : tie.Need-returns-2
@@ -72,8 +70,8 @@ cells-of-spec =
     tie.close
     (tie.spec
     wide-requires
-    array-read-small
-    small-requires
+    array-read-byte
+    byte-requires
     returns
     returns-2
     sub-wide

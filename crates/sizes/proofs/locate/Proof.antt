@@ -12,7 +12,6 @@ use Rattle.sizes.proofs.locate.Lts as lts
 use Rattle.sizes.proofs.end_size.Reads as end-size-reads
 use Rattle.sizes.proofs.put_start.Reads as put-start-reads
 use Rattle.sizes.proofs.scan.Reads as scan-reads
-use Rattle.sizes.proofs.sort_at.Reads as sort-at-reads
 
 abbrev Inv-loop : tie.InvT-loop
 Inv-loop cells sorts rules starts₀ q₀ w₀ r₀ starts q w r = (q ≤ length cells) × (w ≤ 400 * q + r) × (length starts ≡ length starts₀) × PlacesGo cells sorts rules starts q w r

@@ -11,9 +11,7 @@ use Rattle.sizes.proofs.scan.Statement.{statement}
 use Rattle.sizes.proofs.scan.Tie as tie
 use Rattle.sizes.proofs.scan.Reads as reads
 use Rattle.sizes.proofs.scan.Lts as lts
-use Rattle.sizes.proofs.cell.Reads as cell-reads
 use Rattle.sizes.proofs.cells_of.Reads as cells-of-reads
-use Rattle.sizes.proofs.least.Reads as least-reads
 use Rattle.sizes.proofs.open_after.Reads as open-after-reads
 use Rattle.sizes.proofs.words_of.Reads as words-of-reads
 

@@ -25,11 +25,11 @@ use Rattle.verdict.proofs.valued.Kinds as valued-kinds
 use Rattle.verdict.proofs.+act+acts+alts+valued.Lts-valued as valued-lts
 use Rattle.verdict.proofs.ahead.Reads as ahead-reads
 use Rattle.verdict.proofs.calling.Reads as calling-reads
-use Rattle.verdict.proofs.cell.Reads as cell-reads
+use Rattle.base.proofs.number.Reads as number-reads
 use Rattle.verdict.proofs.collected.Reads as collected-reads
 use Rattle.verdict.proofs.cycled.Reads as cycled-reads
 use Rattle.verdict.proofs.either.Reads as either-reads
-use Rattle.verdict.proofs.half.Reads as half-reads
+use Rattle.base.proofs.cell.Reads as cell-reads
 use Rattle.verdict.proofs.head.Reads as head-reads
 use Rattle.verdict.proofs.leaf.Reads as leaf-reads
 use Rattle.verdict.proofs.opened.Reads as opened-reads
@@ -37,7 +37,7 @@ use Rattle.verdict.proofs.placed.Reads as placed-reads
 use Rattle.verdict.proofs.simple.Reads as simple-reads
 use Rattle.verdict.proofs.then.Reads as then-reads
 use Rattle.verdict.proofs.unnamed.Reads as unnamed-reads
-use Rattle.verdict.proofs.wide.Reads as wide-reads
+use Rattle.base.proofs.wide.Reads as wide-reads
 use Rattle.verdict.proofs.+act+acts+alts+valued.{statement}
 use Rattle.verdict.proofs.+act+acts+alts+valued.Tie.{close}
 
@@ -78,19 +78,19 @@ abbrev valued-below : ℕ → In 3 valued-kinds.ps
 valued-below t = and 3 valued-kinds.ps (falls 3 valued-kinds.ps _<_ μ-valued t) valued.Pre
 
 abbrev act-claims : ℕ → act-lts.Claims
-act-claims t = (cell-reads.Asked, cell-reads.Learnt, acts-below t, acts.Post, cycled-reads.Asked, cycled-reads.Learnt, half-reads.Asked, half-reads.Learnt, ahead-reads.Asked, ahead-reads.Learnt, valued-below t, valued.Post, wide-reads.Asked, wide-reads.Learnt, calling-reads.Asked, calling-reads.Learnt, head-reads.Asked, head-reads.Learnt, alts-below t, alts.Post, leaf-reads.Asked, leaf-reads.Learnt)
+act-claims t = (number-reads.Asked, number-reads.Learnt, acts-below t, acts.Post, cycled-reads.Asked, cycled-reads.Learnt, cell-reads.Asked, cell-reads.Learnt, ahead-reads.Asked, ahead-reads.Learnt, valued-below t, valued.Post, wide-reads.Asked, wide-reads.Learnt, calling-reads.Asked, calling-reads.Learnt, head-reads.Asked, head-reads.Learnt, alts-below t, alts.Post, leaf-reads.Asked, leaf-reads.Learnt)
 
 abbrev acts-claims : ℕ → acts-lts.Claims
-acts-claims t = (simple-reads.Asked, simple-reads.Learnt, cell-reads.Asked, cell-reads.Learnt, act-below t, act.Post, then-reads.Asked, then-reads.Learnt, ahead-reads.Asked, ahead-reads.Learnt, placed-reads.Asked, placed-reads.Learnt)
+acts-claims t = (simple-reads.Asked, simple-reads.Learnt, number-reads.Asked, number-reads.Learnt, act-below t, act.Post, then-reads.Asked, then-reads.Learnt, ahead-reads.Asked, ahead-reads.Learnt, placed-reads.Asked, placed-reads.Learnt)
 
 abbrev alts-claims : ℕ → alts-lts.Claims
-alts-claims t = (simple-reads.Asked, simple-reads.Learnt, cell-reads.Asked, cell-reads.Learnt, ahead-reads.Asked, ahead-reads.Learnt, acts-below t, acts.Post, either-reads.Asked, either-reads.Learnt, placed-reads.Asked, placed-reads.Learnt)
+alts-claims t = (simple-reads.Asked, simple-reads.Learnt, number-reads.Asked, number-reads.Learnt, ahead-reads.Asked, ahead-reads.Learnt, acts-below t, acts.Post, either-reads.Asked, either-reads.Learnt, placed-reads.Asked, placed-reads.Learnt)
 
 abbrev valued-claims : ℕ → valued-lts.Claims
-valued-claims t = (simple-reads.Asked, simple-reads.Learnt, cell-reads.Asked, cell-reads.Learnt, ahead-reads.Asked, ahead-reads.Learnt, collected-reads.Asked, collected-reads.Learnt, acts-below t, acts.Post, opened-reads.Asked, opened-reads.Learnt, either-reads.Asked, either-reads.Learnt, unnamed-reads.Asked, unnamed-reads.Learnt, placed-reads.Asked, placed-reads.Learnt)
+valued-claims t = (simple-reads.Asked, simple-reads.Learnt, number-reads.Asked, number-reads.Learnt, ahead-reads.Asked, ahead-reads.Learnt, collected-reads.Asked, collected-reads.Learnt, acts-below t, acts.Post, opened-reads.Asked, opened-reads.Learnt, either-reads.Asked, either-reads.Learnt, unnamed-reads.Asked, unnamed-reads.Learnt, placed-reads.Asked, placed-reads.Learnt)
 
-act-cell-requires : (t : ℕ) → act-lts.Need-cell-requires (act-claims t) (act-at t) act.Post
-act-cell-requires t c κs = tt
+act-number-requires : (t : ℕ) → act-lts.Need-number-requires (act-claims t) (act-at t) act.Post
+act-number-requires t c κs = tt
 
 act-add-acts : (t : ℕ) → act-lts.Need-add-acts (act-claims t) (act-at t) act.Post
 act-add-acts t c = omega arith
@@ -102,13 +102,13 @@ act-cycled-requires : (t : ℕ) → act-lts.Need-cycled-requires (act-claims t) 
 act-cycled-requires t c κs = tt
 
 act-returns : (t : ℕ) → act-lts.Need-returns (act-claims t) (act-at t) act.Post
-act-returns t c = let a = c .before .before .before .before .before .before .before .args in cycle-told (a .wanted .now) (a .cells .now) (a .at) (knownIn (a .known .passed) (a .facts .now) (a .known .count)) (c .before .acts .result) (c .cycled .result) (c .before .before .before .before .before .before .before .pre .1 .0) (sym (c .before .before .before .cell .ensures) ∙ c .before .before .if1 .taken) (c .before .acts .ensures) (c .cycled .ensures)
+act-returns t c = let a = c .before .before .before .before .before .before .before .args in cycle-told (a .wanted .now) (a .cells .now) (a .at) (knownIn (a .known .passed) (a .facts .now) (a .known .count)) (c .before .acts .result) (c .cycled .result) (c .before .before .before .before .before .before .before .pre .1 .0) (sym (c .before .before .before .number .ensures .0) ∙ c .before .before .if1 .taken) (c .before .acts .ensures) (c .cycled .ensures)
 
-act-add-half : (t : ℕ) → act-lts.Need-add-half (act-claims t) (act-at t) act.Post
-act-add-half t c = omega arith
+act-add-cell : (t : ℕ) → act-lts.Need-add-cell (act-claims t) (act-at t) act.Post
+act-add-cell t c = omega arith
 
-act-half-requires : (t : ℕ) → act-lts.Need-half-requires (act-claims t) (act-at t) act.Post
-act-half-requires t c κs = tt
+act-cell-requires : (t : ℕ) → act-lts.Need-cell-requires (act-claims t) (act-at t) act.Post
+act-cell-requires t c κs = tt
 
 act-ahead-requires : (t : ℕ) → act-lts.Need-ahead-requires (act-claims t) (act-at t) act.Post
 act-ahead-requires t c κs = omega arith
@@ -127,7 +127,7 @@ act-returns-2 t c =
     let a = c .before .before .before .before .before .before .before .before .before .before .before .args in
     let A = c .before .before .before .ahead .ensures in
     let h = c .before .before .before .before .before .before .before .before .before .before .before .pre .1 .0 in
-    rule-told (a .wanted .now) (a .cells .now) (a .at) (knownIn (a .known .passed) (a .facts .now) (a .known .count)) (c .before .before .valued .result) (c .calling .result) (c .before .before .before .before .half .result) (c .before .before .before .ahead .result) h (sym (c .before .before .before .before .before .before .before .cell .ensures) ∙ c .before .before .before .before .before .if2 .taken) (c .before .before .before .before .half .ensures) (A .1 .0 (omega arith) h) (A .1 .1) (c .before .before .valued .ensures) (rw (c .before .wide .ensures) at (c .calling .ensures))
+    rule-told (a .wanted .now) (a .cells .now) (a .at) (knownIn (a .known .passed) (a .facts .now) (a .known .count)) (c .before .before .valued .result) (c .calling .result) (c .before .before .before .before .cell .result) (c .before .before .before .ahead .result) h (sym (c .before .before .before .before .before .before .before .number .ensures .0) ∙ c .before .before .before .before .before .if2 .taken) (c .before .before .before .before .cell .ensures) (A .1 .0 (omega arith) h) (A .1 .1) (c .before .before .valued .ensures) (rw (c .before .wide .ensures .0) at (c .calling .ensures))
 
 act-head-requires : (t : ℕ) → act-lts.Need-head-requires (act-claims t) (act-at t) act.Post
 act-head-requires t c κs = tt
@@ -147,13 +147,13 @@ act-returns-3 t c =
     let A = c .before .ahead2 .ensures in
     let h = c .before .before .before .before .before .before .before .before .before .before .pre .1 .0 in
     let z : 0 < c .before .before .head .result = rw (c .before .before .head .ensures) (heads-some (a .wanted .now) _) in
-    choice-told (a .wanted .now) (a .cells .now) (a .at) (knownIn (a .known .passed) (a .facts .now) (a .known .count)) (c .alts .result) (c .before .before .before .before .before .before .cell .result) (c .before .before .head .result) (c .before .ahead2 .result) _ h (c .before .before .before .before .before .before .cell .ensures) (c .before .before .before .if3 .taken) refl (c .before .before .head .ensures) (A .1 .0 z h) (A .1 .1) (c .alts .ensures)
+    choice-told (a .wanted .now) (a .cells .now) (a .at) (knownIn (a .known .passed) (a .facts .now) (a .known .count)) (c .alts .result) (c .before .before .before .before .before .before .number .result) (c .before .before .head .result) (c .before .ahead2 .result) _ h (c .before .before .before .before .before .before .number .ensures .0) (c .before .before .before .if3 .taken) refl (c .before .before .head .ensures) (A .1 .0 z h) (A .1 .1) (c .alts .ensures)
 
 act-leaf-requires : (t : ℕ) → act-lts.Need-leaf-requires (act-claims t) (act-at t) act.Post
 act-leaf-requires t c κs = omega arith
 
 act-returns-4 : (t : ℕ) → act-lts.Need-returns-4 (act-claims t) (act-at t) act.Post
-act-returns-4 t c = let a = c .before .before .before .before .before .before .before .before .args in leaf-act (a .wanted .now) (a .cells .now) (a .at) (a .known .passed) (a .facts .now) (a .known .count) (c .leaf .result) (c .before .before .before .before .cell .result) (c .before .before .before .before .before .before .before .before .pre .1 .0) (c .before .before .before .before .cell .ensures) (c .before .before .before .if1 .left) (c .before .before .if2 .left) (c .before .if3 .left) (c .leaf .ensures)
+act-returns-4 t c = let a = c .before .before .before .before .before .before .before .before .args in leaf-act (a .wanted .now) (a .cells .now) (a .at) (a .known .passed) (a .facts .now) (a .known .count) (c .leaf .result) (c .before .before .before .before .number .result) (c .before .before .before .before .before .before .before .before .pre .1 .0) (c .before .before .before .before .number .ensures .0) (c .before .before .before .if1 .left) (c .before .before .if2 .left) (c .before .if3 .left) (c .leaf .ensures)
 
 abbrev acts-Inv-loop : acts-lts.InvT-loop
 acts-Inv-loop cells at known facts wanted w₀ i₀ w i = (at ≤ i) × (i ≤ length cells) × ((t : Acts) (k : List ℕ) → LiesAll (drop at cells) t k → Left wanted cells i (knownIn (known .passed) facts (known .count)) w t k)
@@ -167,11 +167,11 @@ acts-simple-requires t c κs = tt
 acts-loop-holds : (t : ℕ) → acts-lts.Need-loop-holds (acts-claims t) (acts-at t) acts.Post acts-Inv-loop acts-μ-loop
 acts-loop-holds t c = let a = c .before .before .before .before .args in (omega arith, omega arith, left-start (a .wanted .now) (a .cells .now) (a .at) (knownIn (a .known .passed) (a .facts .now) (a .known .count)) (c .simple .result) (a .at) (c .simple .ensures))
 
-acts-cell-requires : (t : ℕ) → acts-lts.Need-cell-requires (acts-claims t) (acts-at t) acts.Post acts-Inv-loop acts-μ-loop
-acts-cell-requires t c κs = tt
+acts-number-requires : (t : ℕ) → acts-lts.Need-number-requires (acts-claims t) (acts-at t) acts.Post acts-Inv-loop acts-μ-loop
+acts-number-requires t c κs = tt
 
 acts-act-requires : (t : ℕ) → acts-lts.Need-act-requires (acts-claims t) (acts-at t) acts.Post acts-Inv-loop acts-μ-loop
-acts-act-requires t c κs = let z = nonzero-lt (c .before .before .before .before .before .before .before .args .cells .now) (c .before .before .loop .i) (λ e. c .if1 .taken (c .before .cell .ensures ∙ e)) in (omega arith, (z, omega arith))
+acts-act-requires t c κs = let z = nonzero-lt (c .before .before .before .before .before .before .before .args .cells .now) (c .before .before .loop .i) (λ e. c .if1 .taken (c .before .number .ensures .0 ∙ e)) in (omega arith, (z, omega arith))
 
 acts-then-requires : (t : ℕ) → acts-lts.Need-then-requires (acts-claims t) (acts-at t) acts.Post acts-Inv-loop acts-μ-loop
 acts-then-requires t c κs = tt
@@ -184,7 +184,7 @@ acts-loop-again t c =
     let a = c .before .before .before .before .before .before .before .before .before .args in
     let n = c .then .ensures .next in
     let s = c .before .act .ensures in
-    (omega (arith, s .after), omega (arith, s .within), λ t k l. left-step (a .wanted .now) (a .cells .now) (c .before .before .before .before .loop .i) (knownIn (a .known .passed) (a .facts .now) (a .known .count)) (c .before .before .before .before .loop .w) (c .before .act .result) (c .then .result) t k (λ e. c .before .before .if1 .taken (c .before .before .before .cell .ensures ∙ e)) s (c .then .ensures) (c .before .before .before .before .loop .inv .2 t k l))
+    (omega (arith, s .after), omega (arith, s .within), λ t k l. left-step (a .wanted .now) (a .cells .now) (c .before .before .before .before .loop .i) (knownIn (a .known .passed) (a .facts .now) (a .known .count)) (c .before .before .before .before .loop .w) (c .before .act .result) (c .then .result) t k (λ e. c .before .before .if1 .taken (c .before .before .before .number .ensures .0 ∙ e)) s (c .then .ensures) (c .before .before .before .before .loop .inv .2 t k l))
 
 acts-ahead-requires : (t : ℕ) → acts-lts.Need-ahead-requires (acts-claims t) (acts-at t) acts.Post acts-Inv-loop acts-μ-loop
 acts-ahead-requires t c κs = omega arith
@@ -196,7 +196,7 @@ acts-returns : (t : ℕ) → acts-lts.Need-returns (acts-claims t) (acts-at t) a
 acts-returns t c =
     let a = c .before .before .before .before .before .before .before .before .before .args in
     let A = c .before .ahead .ensures in
-    left-done (a .wanted .now) (a .cells .now) (a .at) (c .before .before .before .before .loop .i) (knownIn (a .known .passed) (a .facts .now) (a .known .count)) (c .before .before .before .before .loop .w) (c .placed .result) (c .before .ahead .result) (sym (c .before .before .before .cell .ensures) ∙ c .before .before .if1 .left) (A .1 .1) (c .placed .ensures) (omega (arith, A .0 .0)) (A .0 .1) (c .before .before .before .before .loop .inv .2)
+    left-done (a .wanted .now) (a .cells .now) (a .at) (c .before .before .before .before .loop .i) (knownIn (a .known .passed) (a .facts .now) (a .known .count)) (c .before .before .before .before .loop .w) (c .placed .result) (c .before .ahead .result) (sym (c .before .before .before .number .ensures .0) ∙ c .before .before .if1 .left) (A .1 .1) (c .placed .ensures) (omega (arith, A .0 .0)) (A .0 .1) (c .before .before .before .before .loop .inv .2)
 
 abbrev alts-Inv-loop : alts-lts.InvT-loop
 alts-Inv-loop cells at known facts wanted x y w₀ i₀ tag₀ w i tag =
@@ -208,11 +208,11 @@ alts-μ-loop cells at known facts wanted x y w₀ i₀ tag₀ w i tag = length c
 alts-simple-requires : (t : ℕ) → alts-lts.Need-simple-requires (alts-claims t) (alts-at t) alts.Post alts-Inv-loop alts-μ-loop
 alts-simple-requires t c κs = tt
 
-alts-cell-requires : (t : ℕ) → alts-lts.Need-cell-requires (alts-claims t) (alts-at t) alts.Post alts-Inv-loop alts-μ-loop
-alts-cell-requires t c κs = tt
+alts-number-requires : (t : ℕ) → alts-lts.Need-number-requires (alts-claims t) (alts-at t) alts.Post alts-Inv-loop alts-μ-loop
+alts-number-requires t c κs = tt
 
 alts-loop-holds : (t : ℕ) → alts-lts.Need-loop-holds (alts-claims t) (alts-at t) alts.Post alts-Inv-loop alts-μ-loop
-alts-loop-holds t c = let a = c .before .before .before .before .before .args in (omega arith, omega arith, c .cell .ensures, rest-start (a .wanted .now) (a .cells .now) (a .at) (knownIn (a .known .passed) (a .facts .now) (a .known .count)) (a .x) (c .before .simple .result) (a .at) (c .before .simple .ensures))
+alts-loop-holds t c = let a = c .before .before .before .before .before .args in (omega arith, omega arith, c .number .ensures .0, rest-start (a .wanted .now) (a .cells .now) (a .at) (knownIn (a .known .passed) (a .facts .now) (a .known .count)) (a .x) (c .before .simple .result) (a .at) (c .before .simple .ensures))
 
 alts-sub-ahead : (t : ℕ) → alts-lts.Need-sub-ahead (alts-claims t) (alts-at t) alts.Post alts-Inv-loop alts-μ-loop
 alts-sub-ahead t c = omega arith
@@ -229,8 +229,8 @@ alts-acts-requires t c κs =
 alts-either-requires : (t : ℕ) → alts-lts.Need-either-requires (alts-claims t) (alts-at t) alts.Post alts-Inv-loop alts-μ-loop
 alts-either-requires t c κs = tt
 
-alts-cell-requires-2 : (t : ℕ) → alts-lts.Need-cell-requires-2 (alts-claims t) (alts-at t) alts.Post alts-Inv-loop alts-μ-loop
-alts-cell-requires-2 t c κs = tt
+alts-number-requires-2 : (t : ℕ) → alts-lts.Need-number-requires-2 (alts-claims t) (alts-at t) alts.Post alts-Inv-loop alts-μ-loop
+alts-number-requires-2 t c κs = tt
 
 alts-loop-less : (t : ℕ) → alts-lts.Need-loop-less (alts-claims t) (alts-at t) alts.Post alts-Inv-loop alts-μ-loop
 alts-loop-less t c =
@@ -246,7 +246,7 @@ alts-loop-again t c =
     let A = c .before .before .before .ahead .ensures in
     let s = c .before .before .acts .ensures in
     let z : 64 ≤ getD (a .cells .now) (c .before .before .before .before .before .loop .i) 0 = omega (arith, I .2) in
-    (omega (arith, A .0 .0, s .after), s .within, c .cell2 .ensures, λ q o k l. rest-step (a .wanted .now) (a .cells .now) (c .before .before .before .before .before .loop .i) (knownIn (a .known .passed) (a .facts .now) (a .known .count)) (a .x) (c .before .before .before .before .before .loop .w) (c .before .before .acts .result) (c .before .either .result) (c .before .before .before .ahead .result) q o k z (rw (I .2) at (A .1 .1)) s (c .before .either .ensures) (I .3 q o k l))
+    (omega (arith, A .0 .0, s .after), s .within, c .number2 .ensures .0, λ q o k l. rest-step (a .wanted .now) (a .cells .now) (c .before .before .before .before .before .loop .i) (knownIn (a .known .passed) (a .facts .now) (a .known .count)) (a .x) (c .before .before .before .before .before .loop .w) (c .before .before .acts .result) (c .before .either .result) (c .before .before .before .ahead .result) q o k z (rw (I .2) at (A .1 .1)) s (c .before .either .ensures) (I .3 q o k l))
 
 alts-ahead-requires-2 : (t : ℕ) → alts-lts.Need-ahead-requires-2 (alts-claims t) (alts-at t) alts.Post alts-Inv-loop alts-μ-loop
 alts-ahead-requires-2 t c κs = omega arith
@@ -291,11 +291,11 @@ valued-μ-loop cells at known facts wanted r labels₀ n₀ w₀ i₀ tag₀ lab
 valued-simple-requires : (t : ℕ) → valued-lts.Need-simple-requires (valued-claims t) (valued-at t) valued.Post valued-Inv-loop valued-μ-loop
 valued-simple-requires t c κs = tt
 
-valued-cell-requires : (t : ℕ) → valued-lts.Need-cell-requires (valued-claims t) (valued-at t) valued.Post valued-Inv-loop valued-μ-loop
-valued-cell-requires t c κs = tt
+valued-number-requires : (t : ℕ) → valued-lts.Need-number-requires (valued-claims t) (valued-at t) valued.Post valued-Inv-loop valued-μ-loop
+valued-number-requires t c κs = tt
 
 valued-loop-holds : (t : ℕ) → valued-lts.Need-loop-holds (valued-claims t) (valued-at t) valued.Post valued-Inv-loop valued-μ-loop
-valued-loop-holds t c = (omega arith, omega arith, c .cell .ensures, omega arith, refl, by-start (c .before .before .before .before .before .args .wanted .now) (c .before .before .before .before .before .args .cells .now) (c .before .before .before .before .before .args .at) (knownIn (c .before .before .before .before .before .args .known .passed) (c .before .before .before .before .before .args .facts .now) (c .before .before .before .before .before .args .known .count)) (c .before .before .before .before .before .args .r) (c .before .simple .result) (c .before .before .before .before .before .args .at) (c .before .simple .ensures))
+valued-loop-holds t c = (omega arith, omega arith, c .number .ensures .0, omega arith, refl, by-start (c .before .before .before .before .before .args .wanted .now) (c .before .before .before .before .before .args .cells .now) (c .before .before .before .before .before .args .at) (knownIn (c .before .before .before .before .before .args .known .passed) (c .before .before .before .before .before .args .facts .now) (c .before .before .before .before .before .args .known .count)) (c .before .before .before .before .before .args .r) (c .before .simple .result) (c .before .before .before .before .before .args .at) (c .before .simple .ensures))
 
 valued-ahead-requires : (t : ℕ) → valued-lts.Need-ahead-requires (valued-claims t) (valued-at t) valued.Post valued-Inv-loop valued-μ-loop
 valued-ahead-requires t c κs = omega arith
@@ -321,8 +321,8 @@ valued-opened-requires t c κs = (c .before .before .before .before .ahead2 .ens
 valued-either-requires : (t : ℕ) → valued-lts.Need-either-requires (valued-claims t) (valued-at t) valued.Post valued-Inv-loop valued-μ-loop
 valued-either-requires t c κs = tt
 
-valued-cell-requires-2 : (t : ℕ) → valued-lts.Need-cell-requires-2 (valued-claims t) (valued-at t) valued.Post valued-Inv-loop valued-μ-loop
-valued-cell-requires-2 t c κs = tt
+valued-number-requires-2 : (t : ℕ) → valued-lts.Need-number-requires-2 (valued-claims t) (valued-at t) valued.Post valued-Inv-loop valued-μ-loop
+valued-number-requires-2 t c κs = tt
 
 valued-loop-less : (t : ℕ) → valued-lts.Need-loop-less (valued-claims t) (valued-at t) valued.Post valued-Inv-loop valued-μ-loop
 valued-loop-less t c =
@@ -340,7 +340,7 @@ valued-loop-again t c =
     let s = c .before .before .before .acts .ensures in
     let z : 64 ≤ getD (c .before .before .before .before .before .before .before .before .before .before .before .before .before .before .before .before .args .cells .now) (c .before .before .before .before .before .before .before .before .before .before .loop .i) 0 = omega (arith, I .2) in
     let e : length (c .before .before .before .before .before .collected .last .1 .1 .1 .0) ≡ 64 = search needs in
-    (omega (arith, A .0 .0, B .0 .0, s .after), s .within, c .cell2 .ensures, omega (arith, c .before .before .before .before .before .collected .ensures .0, e), e, λ q o k g l. by-step (c .before .before .before .before .before .before .before .before .before .before .before .before .before .before .before .before .args .wanted .now) (c .before .before .before .before .before .before .before .before .before .before .before .before .before .before .before .before .args .cells .now) (c .before .before .before .before .before .before .before .before .before .before .loop .i) (knownIn (c .before .before .before .before .before .before .before .before .before .before .before .before .before .before .before .before .args .known .passed) (c .before .before .before .before .before .before .before .before .before .before .before .before .before .before .before .before .args .facts .now) (c .before .before .before .before .before .before .before .before .before .before .before .before .before .before .before .before .args .known .count)) (c .before .before .before .before .before .before .before .before .before .before .before .before .before .before .before .before .args .r) (c .before .before .opened .result) (c .before .before .before .before .before .before .before .before .before .before .loop .w) (c .before .before .before .acts .result) (c .before .either .result) (c .before .before .before .before .before .before .before .before .ahead .result) (c .before .before .before .before .before .before .before .ahead2 .result) (take (c .before .before .before .before .before .before .before .before .before .before .loop .n) (c .before .before .before .before .before .before .before .before .before .before .loop .labels)) _ (c .before .before .before .before .before .before .before .before .before .before .loop .n) (c .before .before .before .before .before .collected .result) q o k z (A .1 .1) (rw (I .2) at (B .1 .1)) (B .0 .0) (B .0 .1) (c .before .before .opened .ensures) (λ h. c .before .before .before .before .before .collected .ensures .1 .all (rw (I .4) h)) s (c .before .either .ensures) (I .5 q o k g l))
+    (omega (arith, A .0 .0, B .0 .0, s .after), s .within, c .number2 .ensures .0, omega (arith, c .before .before .before .before .before .collected .ensures .0, e), e, λ q o k g l. by-step (c .before .before .before .before .before .before .before .before .before .before .before .before .before .before .before .before .args .wanted .now) (c .before .before .before .before .before .before .before .before .before .before .before .before .before .before .before .before .args .cells .now) (c .before .before .before .before .before .before .before .before .before .before .loop .i) (knownIn (c .before .before .before .before .before .before .before .before .before .before .before .before .before .before .before .before .args .known .passed) (c .before .before .before .before .before .before .before .before .before .before .before .before .before .before .before .before .args .facts .now) (c .before .before .before .before .before .before .before .before .before .before .before .before .before .before .before .before .args .known .count)) (c .before .before .before .before .before .before .before .before .before .before .before .before .before .before .before .before .args .r) (c .before .before .opened .result) (c .before .before .before .before .before .before .before .before .before .before .loop .w) (c .before .before .before .acts .result) (c .before .either .result) (c .before .before .before .before .before .before .before .before .ahead .result) (c .before .before .before .before .before .before .before .ahead2 .result) (take (c .before .before .before .before .before .before .before .before .before .before .loop .n) (c .before .before .before .before .before .before .before .before .before .before .loop .labels)) _ (c .before .before .before .before .before .before .before .before .before .before .loop .n) (c .before .before .before .before .before .collected .result) q o k z (A .1 .1) (rw (I .2) at (B .1 .1)) (B .0 .0) (B .0 .1) (c .before .before .opened .ensures) (λ h. c .before .before .before .before .before .collected .ensures .1 .all (rw (I .4) h)) s (c .before .either .ensures) (I .5 q o k g l))
 
 valued-slice-aggregate-unnamed : (t : ℕ) → valued-lts.Need-slice-aggregate-unnamed (valued-claims t) (valued-at t) valued.Post valued-Inv-loop valued-μ-loop
 valued-slice-aggregate-unnamed t c = search needs
@@ -381,13 +381,13 @@ valued-returns-2 t c =
 
 pub +act+acts+alts+valued-spec : {M : Type 1} → statement M
 +act+acts+alts+valued-spec = close μ-act μ-acts μ-alts μ-valued (λ t. act-lts.spec (act-claims t) (act-at t) act.Post
-    (act-cell-requires t)
+    (act-number-requires t)
     (act-add-acts t)
     (act-acts-requires t)
     (act-cycled-requires t)
     (act-returns t)
-    (act-add-half t)
-    (act-half-requires t)
+    (act-add-cell t)
+    (act-cell-requires t)
     (act-ahead-requires t)
     (act-valued-requires t)
     (act-wide-requires t)
@@ -402,7 +402,7 @@ pub +act+acts+alts+valued-spec : {M : Type 1} → statement M
     (λ t. acts-lts.spec (acts-claims t) (acts-at t) acts.Post acts-Inv-loop acts-μ-loop
     (acts-simple-requires t)
     (acts-loop-holds t)
-    (acts-cell-requires t)
+    (acts-number-requires t)
     (acts-act-requires t)
     (acts-then-requires t)
     (acts-loop-less t)
@@ -412,13 +412,13 @@ pub +act+acts+alts+valued-spec : {M : Type 1} → statement M
     (acts-returns t))
     (λ t. alts-lts.spec (alts-claims t) (alts-at t) alts.Post alts-Inv-loop alts-μ-loop
     (alts-simple-requires t)
-    (alts-cell-requires t)
+    (alts-number-requires t)
     (alts-loop-holds t)
     (alts-sub-ahead t)
     (alts-ahead-requires t)
     (alts-acts-requires t)
     (alts-either-requires t)
-    (alts-cell-requires-2 t)
+    (alts-number-requires-2 t)
     (alts-loop-less t)
     (alts-loop-again t)
     (alts-ahead-requires-2 t)
@@ -430,7 +430,7 @@ pub +act+acts+alts+valued-spec : {M : Type 1} → statement M
     (alts-returns-2 t))
     λ t. valued-lts.spec (valued-claims t) (valued-at t) valued.Post valued-Inv-loop valued-μ-loop
     (valued-simple-requires t)
-    (valued-cell-requires t)
+    (valued-number-requires t)
     (valued-loop-holds t)
     (valued-ahead-requires t)
     (valued-ahead-requires-2 t)
@@ -439,7 +439,7 @@ pub +act+acts+alts+valued-spec : {M : Type 1} → statement M
     (valued-acts-requires t)
     (valued-opened-requires t)
     (valued-either-requires t)
-    (valued-cell-requires-2 t)
+    (valued-number-requires-2 t)
     (valued-loop-less t)
     (valued-loop-again t)
     (valued-slice-aggregate-unnamed t)

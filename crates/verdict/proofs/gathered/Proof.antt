@@ -27,11 +27,11 @@ same-length c = omega arith
 returns : tie.Need-returns Inv-loop μ-loop
 returns c = gather-full (c .before .before .before .before .before .before .before .before .args .cells .now) (c .before .before .before .before .before .before .before .before .args .from) (c .before .before .before .before .before .before .before .before .args .to) (c .before .before .before .before .before .before .before .before .args .facts .now) (c .before .before .before .before .before .before .before .before .args .m) (c .before .before .before .before .before .before .before .before .args .r) (c .before .before .before .before .loop .wanted) (c .before .before .before .before .loop .n) (c .before .before .before .before .loop .i) (c .before .before .before .loop-test .taken) (omega arith) (omega arith) (c .before .before .before .before .loop .inv .2)
 
-add-half : tie.Need-add-half Inv-loop μ-loop
-add-half c = omega arith
+add-cell : tie.Need-add-cell Inv-loop μ-loop
+add-cell c = omega arith
 
-half-requires : tie.Need-half-requires Inv-loop μ-loop
-half-requires c κs = tt
+cell-requires : tie.Need-cell-requires Inv-loop μ-loop
+cell-requires c κs = tt
 
 mul-wanted : tie.Need-mul-wanted Inv-loop μ-loop
 mul-wanted c = search needs
@@ -74,8 +74,8 @@ gathered-spec =
     seeks-requires
     same-length
     returns
-    add-half
-    half-requires
+    add-cell
+    cell-requires
     mul-wanted
     slice-write-wanted
     add-n

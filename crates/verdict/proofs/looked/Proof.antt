@@ -20,8 +20,8 @@ abbrev μ-loop : tie.MeasureT-loop
 wide-requires : tie.Need-wide-requires Inv-loop μ-loop
 wide-requires c κs = search needs
 
-cell-requires : tie.Need-cell-requires Inv-loop μ-loop
-cell-requires c κs = search needs
+number-requires : tie.Need-number-requires Inv-loop μ-loop
+number-requires c κs = search needs
 
 ahead-requires : tie.Need-ahead-requires Inv-loop μ-loop
 ahead-requires c κs = search needs
@@ -64,7 +64,7 @@ returns : tie.Need-returns Inv-loop μ-loop
 returns c =
     let a = c .before .before .before .before .before .before .before .before .before .before .before .before .before .before .before .before .args in
     let l = c .before .before .before .loop in
-    looks-done (a .cells .now) (a .starts .now) (a .r) (a .k) (a .facts .now) (c .before .before .before .before .before .before .before .before .before .before .before .cell .result) (c .before .before .before .before .before .before .before .before .before .before .ahead .result) (l .t) (l .facts) (rw (c .before .before .before .before .before .before .before .before .before .before .before .before .wide .ensures) at (c .before .before .before .before .before .before .before .before .before .before .before .cell .ensures)) (c .before .before .before .before .before .before .before .before .before .before .ahead .ensures .1 .1) (omega arith) (l .inv .1 (a .k) (a .facts .now) (c .before .before .before .before .before .before .pressed .ensures .looks))
+    looks-done (a .cells .now) (a .starts .now) (a .r) (a .k) (a .facts .now) (c .before .before .before .before .before .before .before .before .before .before .before .number .result) (c .before .before .before .before .before .before .before .before .before .before .ahead .result) (l .t) (l .facts) (rw (c .before .before .before .before .before .before .before .before .before .before .before .before .wide .ensures .0) at (c .before .before .before .before .before .before .before .before .before .before .before .number .ensures .0)) (c .before .before .before .before .before .before .before .before .before .before .ahead .ensures .1 .1) (omega arith) (l .inv .1 (a .k) (a .facts .now) (c .before .before .before .before .before .before .pressed .ensures .looks))
 
 pub looked-spec : {M : Type 1} → statement M
 looked-spec =
@@ -73,7 +73,7 @@ looked-spec =
     Inv-loop
     μ-loop
     wide-requires
-    cell-requires
+    number-requires
     ahead-requires
     wide-requires-2
     bound-requires

@@ -43,8 +43,8 @@ returns c =
     let g = c .before .before .before .before .before .before .before .before .before .before .before .before .before .before .before .gathered in
     let w = c .before .before .before .before .before .before .before .before .before .before .rule in
     let n = c .before .before .before .before .before .grown in
-    let told : RuleTold (a .cells .now) (a .starts .now) (a .r) (knownIn (a .k .passed) (a .facts .now) (a .k .count)) (g .last .1 .1 .1 .1 .1 .1 .0) (w .result) = rw (c .before .before .before .before .before .before .before .before .before .before .before .before .before .wide .ensures) at (w .ensures) in
-    let joined : Joined (a .k .passed) (a .r) (w .result .end || w .result .ret) (c .joined .result) = rw (c .before .before .wide2 .ensures) at (c .joined .ensures) in
+    let told : RuleTold (a .cells .now) (a .starts .now) (a .r) (knownIn (a .k .passed) (a .facts .now) (a .k .count)) (g .last .1 .1 .1 .1 .1 .1 .0) (w .result) = rw (c .before .before .before .before .before .before .before .before .before .before .before .before .before .wide .ensures .0) at (w .ensures) in
+    let joined : Joined (a .k .passed) (a .r) (w .result .end || w .result .ret) (c .joined .result) = rw (c .before .before .wide2 .ensures .0) at (c .joined .ensures) in
     look-told (a .cells .now) (a .starts .now) (a .r) (a .k) (a .facts .now) (g .last .1 .1 .1 .1 .1 .1 .0) (g .result) (w .result) (n .last .0) (n .result) (c .joined .result) (omega (arith, g .ensures .few, g .kept .1 .1 .1 .1 .1 .1 .0)) told (n .ensures) joined (a .from) (a .to) (c .before .before .before .before .before .before .before .before .before .before .before .before .before .before .before .before .before .before .before .before .before .pre .3) (g .ensures)
 
 pub tried-spec : {M : Type 1} → statement M

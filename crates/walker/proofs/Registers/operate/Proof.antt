@@ -17,8 +17,8 @@ update-requires c κs = (c .before .before .before .before .pre .0, c .before .b
 instruction-length-requires-2 : tie.Need-instruction-length-requires-2
 instruction-length-requires-2 c κs = search needs
 
-narrow-requires : tie.Need-narrow-requires
-narrow-requires c κs = search needs
+low-word-requires : tie.Need-low-word-requires
+low-word-requires c κs = search needs
 
 update-requires-2 : tie.Need-update-requires-2
 update-requires-2 c κs = (c .before .before .before .before .before .before .pre .0, c .before .before .before .before .before .before .pre .1, c .before .instruction-length2 .ensures ∙ length-operation _ (omega (arith, c .before .before .before .before .if1 .left)) (omega (arith, c .before .before .if3 .taken)))
@@ -32,8 +32,8 @@ answer-requires c κs = (c .before .before .before .before .before .before .pre 
 instruction-length-requires-4 : tie.Need-instruction-length-requires-4
 instruction-length-requires-4 c κs = search needs
 
-narrow-requires-2 : tie.Need-narrow-requires-2
-narrow-requires-2 c κs = search needs
+low-word-requires-2 : tie.Need-low-word-requires-2
+low-word-requires-2 c κs = search needs
 
 answer-requires-2 : tie.Need-answer-requires-2
 answer-requires-2 c κs = (c .before .before .before .before .before .before .before .before .pre .0, c .before .before .before .before .before .before .before .before .pre .1, c .before .instruction-length4 .ensures ∙ length-operation _ (omega (arith, c .before .before .before .before .before .before .if1 .left)) (omega (arith, c .before .before .if5 .taken)))
@@ -48,7 +48,7 @@ returns-2 c = simp (le-ltb _ _ (c .before .before .before .if1 .left), lt-ltb _ 
 
 returns-3 : tie.Need-returns-3
 unfolding operateOf
-returns-3 c = simp (le-ltb _ _ (c .before .before .before .before .before .if1 .left), le-ltb _ _ (c .before .before .before .before .if2 .left), lt-ltb _ _ (c .before .before .before .if3 .taken), c .update2 .ensures, c .before .narrow .ensures)
+returns-3 c = simp (le-ltb _ _ (c .before .before .before .before .before .if1 .left), le-ltb _ _ (c .before .before .before .before .if2 .left), lt-ltb _ _ (c .before .before .before .if3 .taken), c .update2 .ensures, c .before .low-word .ensures)
 
 returns-4 : tie.Need-returns-4
 unfolding operateOf
@@ -56,7 +56,7 @@ returns-4 c = simp (le-ltb _ _ (c .before .before .before .before .before .if1 .
 
 returns-5 : tie.Need-returns-5
 unfolding operateOf
-returns-5 c = simp (le-ltb _ _ (c .before .before .before .before .before .before .before .if1 .left), le-ltb _ _ (c .before .before .before .before .before .before .if2 .left), le-ltb _ _ (c .before .before .before .before .before .if3 .left), le-ltb _ _ (c .before .before .before .before .if4 .left), lt-ltb _ _ (c .before .before .before .if5 .taken), c .answer2 .ensures, c .before .narrow2 .ensures)
+returns-5 c = simp (le-ltb _ _ (c .before .before .before .before .before .before .before .if1 .left), le-ltb _ _ (c .before .before .before .before .before .before .if2 .left), le-ltb _ _ (c .before .before .before .before .before .if3 .left), le-ltb _ _ (c .before .before .before .before .if4 .left), lt-ltb _ _ (c .before .before .before .if5 .taken), c .answer2 .ensures, c .before .low-word2 .ensures)
 
 returns-6 : tie.Need-returns-6
 unfolding operateOf
@@ -69,12 +69,12 @@ operate-spec =
     instruction-length-requires
     update-requires
     instruction-length-requires-2
-    narrow-requires
+    low-word-requires
     update-requires-2
     instruction-length-requires-3
     answer-requires
     instruction-length-requires-4
-    narrow-requires-2
+    low-word-requires-2
     answer-requires-2
     returns
     returns-2

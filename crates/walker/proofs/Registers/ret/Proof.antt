@@ -19,24 +19,24 @@ returns-2 : tie.Need-returns-2
 unfolding returnOf
 returns-2 c = simp (eq-eqb _ _ (c .if2 .taken))
 
-sub-location-of : tie.Need-sub-location-of
-sub-location-of c = search needs
+sub-wide : tie.Need-sub-wide
+sub-wide c = search needs
 
-mul-location-of : tie.Need-mul-location-of
-mul-location-of c = search needs
+mul-wide : tie.Need-mul-wide
+mul-wide c = search needs
 
-element-copy-out-location-of : tie.Need-element-copy-out-location-of
-element-copy-out-location-of c = search needs
+element-copy-out-wide : tie.Need-element-copy-out-wide
+element-copy-out-wide c = search needs
 
-location-of-requires : tie.Need-location-of-requires
-location-of-requires c κs = search needs
+wide-requires : tie.Need-wide-requires
+wide-requires c κs = search needs
 
 back-to-requires : tie.Need-back-to-requires
 back-to-requires c κs = search needs
 
 returns-3 : tie.Need-returns-3
 unfolding returnOf
-returns-3 c = simp (ne-eqb (c .before .before .before .before .before .before .before .args .self .depth) 0 (c .before .before .before .if2 .left), c .back-to .ensures, c .before .location-of .ensures)
+returns-3 c = simp (ne-eqb (c .before .before .before .before .before .before .before .args .self .depth) 0 (c .before .before .before .if2 .left), c .back-to .ensures, c .before .wide .ensures .0)
 
 pub ret-spec : {M : Type 1} → statement M
 ret-spec =
@@ -46,9 +46,9 @@ ret-spec =
     sub-if1
     returns
     returns-2
-    sub-location-of
-    mul-location-of
-    element-copy-out-location-of
-    location-of-requires
+    sub-wide
+    mul-wide
+    element-copy-out-wide
+    wide-requires
     back-to-requires
     returns-3)

@@ -1,20 +1,16 @@
+-- `cells::sort_at` meets its contract: the sort itself, or the default past the end.
 use mathlib.Core.Path.{sym}
 use lib.ListN.{List·getD-eq-default}
 use borrow.Author.Needs.{needs}
-use Rattle.emitter.proofs.sort_at.Statement.{statement}
-use Rattle.emitter.proofs.sort_at.Tie as tie
-use Rattle.emitter.proofs.sort_at.Reads as reads
-use Rattle.emitter.proofs.sort_at.Lts as lts
+use Rattle.cells.proofs.sort_at.Statement.{statement}
+use Rattle.cells.proofs.sort_at.Tie as tie
 
--- src/lib.rt:524:26
 shared-slice-read-result : tie.Need-shared-slice-read-result
 shared-slice-read-result c = search needs
 
--- src/lib.rt:521:1
 returns : tie.Need-returns
 returns c = search needs
 
--- src/lib.rt:521:1
 returns-2 : tie.Need-returns-2
 returns-2 c = sym (List·getD-eq-default (c .before .args .sorts .now) 0 (c .if1 .left))
 

@@ -1,26 +1,21 @@
+-- `base::cell` meets its contract: the element itself, or the default past the end.
 use mathlib.Core.Path.{sym}
 use lib.ListN.{List·getD-eq-default}
 use borrow.Author.Needs.{needs}
-use Rattle.sizes.proofs.cell.Statement.{statement}
-use Rattle.sizes.proofs.cell.Tie as tie
-use Rattle.sizes.proofs.cell.Reads as reads
-use Rattle.sizes.proofs.cell.Lts as lts
+use Rattle.base.proofs.cell.Statement.{statement}
+use Rattle.base.proofs.cell.Tie as tie
 
--- src/lib.rt:51:26
 mul-result : tie.Need-mul-result
 mul-result c = search needs
 
--- src/lib.rt:51:26
 shared-slice-read-result : tie.Need-shared-slice-read-result
 shared-slice-read-result c = search needs
 
--- src/lib.rt:48:1
 returns : tie.Need-returns
 returns c = search needs
 
--- src/lib.rt:48:1
 returns-2 : tie.Need-returns-2
-returns-2 c = sym (List·getD-eq-default (c .before .args .cells .now) 0 (c .if1 .left))
+returns-2 c = sym (List·getD-eq-default (c .before .args .row .now) 0 (c .if1 .left))
 
 pub cell-spec : {M : Type 1} → statement M
 cell-spec = tie.close (tie.spec mul-result shared-slice-read-result returns returns-2)
