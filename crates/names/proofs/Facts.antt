@@ -3,11 +3,11 @@
 use mathlib.Core.Bool.{Bool, true, false, _&&_}
 use mathlib.Core.List.{List, [], _∷_}
 use Prim.Native.Char.{code}
-use Prim.Native.Nat.{ℕ, zero, suc}
+use Prim.Native.Nat.{ℕ, zero}
 use Prim.Native.String.{String}
 use lib.Dec.{T, eqb}
 use lib.ListN.{length}
-use Rattle.base.specs.Common.{if_then_else_, bytes, same}
+use Rattle.base.specs.Common.{bytes, same}
 use Rattle.names.specs.Declare
 use Rattle.names.specs.Known
 use Rattle.names.specs.Known.{Checked, good, wrong}
@@ -21,6 +21,7 @@ use Rattle.program.specs.Program
 use Rattle.program.specs.Program.{Rule}
 use Rattle.program.specs.Table
 use Rattle.program.specs.Table.{table}
+use Rattle.syntax.proofs.Marks.{markAt, unmarked}
 use Rattle.syntax.specs.Actions
 use Rattle.syntax.specs.Parse
 use Rattle.syntax.specs.Parse.{parse}
@@ -58,20 +59,12 @@ unfoldable pub allAgree : List Line → Bool
 allAgree [] = true
 allAgree (l ∷ ls) = agrees (parse (l .text)) (l .outcome) && allAgree ls
 
-pub markAt : List ℕ → ℕ
-markAt [] = 0
-markAt (b ∷ s) = let later = suc (markAt s) in if eqb b (code "^") then 0 else later
-
-pub unmarked : List ℕ → List ℕ
-unmarked [] = []
-unmarked (b ∷ s) = let later = b ∷ unmarked s in if eqb b (code "^") then s else later
-
 -- a text and its table; a marked text, its number and the length of the word
 abbrev pub fine : String → List ℕ → Line
 fine t ws = record { text = bytes t; outcome = means ws }
 
 abbrev pub at : String → ℕ → ℕ → Line
-at t n l = record { text = unmarked (bytes t); outcome = stops n (markAt (bytes t)) l }
+at t n l = record { text = unmarked (code "^") (bytes t); outcome = stops n (markAt (code "^") (bytes t)) l }
 
 -- the classes are apart: input tokens, output tokens, errors, type names, the values of each type, rules with operations; "A string is a
 -- second name in its class"; "Mechanism names declare nothing and may repeat"

@@ -2,35 +2,25 @@
 use mathlib.Core.Bool.{Bool, true, false, _&&_}
 use mathlib.Core.List.{List, [], _∷_, _++_}
 use Prim.Native.Char.{code}
-use Prim.Native.Nat.{ℕ, zero, suc, _+_}
+use Prim.Native.Nat.{ℕ, zero, _+_}
 use Prim.Native.String.{String}
-use lib.Dec.{T, eqb}
-use Rattle.base.specs.Common.{if_then_else_, bytes, same}
-use Rattle.names.proofs.Facts.{understanding, Outcome, means, stops, Line, isChecked, agrees, allAgree}
+use lib.Dec.{T}
+use Rattle.base.specs.Common.{bytes, same}
+use Rattle.names.proofs.Facts.{understanding, Outcome, means, stops, Line, isChecked, agrees, allAgree, fine}
 use Rattle.names.specs.Known.{Checked, good, wrong}
 use Rattle.names.specs.Understand.{understand}
 use Rattle.program.specs.Program.{Rule}
 use Rattle.program.specs.Table.{table}
+use Rattle.syntax.proofs.Marks.{markAt, unmarked}
 use Rattle.syntax.specs.Parse.{parse}
 use Rattle.syntax.specs.Reading.{Read, got, fault}
 use Rattle.syntax.specs.Written as written
 
-pub markAt : List ℕ → ℕ
-markAt [] = 0
-markAt (b ∷ s) = let later = suc (markAt s) in if eqb b (code "~") then 0 else later
-
-pub unmarked : List ℕ → List ℕ
-unmarked [] = []
-unmarked (b ∷ s) = let later = b ∷ unmarked s in if eqb b (code "~") then s else later
-
 abbrev pub fineOf : List ℕ → List ℕ → Line
 fineOf t ws = record { text = t; outcome = means ws }
 
-abbrev pub fine : String → List ℕ → Line
-fine t ws = fineOf (bytes t) ws
-
 abbrev pub atOf : List ℕ → ℕ → ℕ → Line
-atOf t n l = record { text = unmarked t; outcome = stops n (markAt t) l }
+atOf t n l = record { text = unmarked (code "~") t; outcome = stops n (markAt (code "~") t) l }
 
 abbrev pub at : String → ℕ → ℕ → Line
 at t n l = atOf (bytes t) n l

@@ -7,7 +7,8 @@ use Prim.Native.Nat.{ℕ, zero, suc, _+_}
 use Prim.Native.String.{String}
 use lib.Dec.{T, eqb}
 use lib.ListN.{length, replicate}
-use Rattle.base.specs.Common.{if_then_else_, bytes}
+use Rattle.base.specs.Common.{bytes}
+use Rattle.syntax.proofs.Marks.{markAt, unmarked}
 use Rattle.syntax.specs.Actions
 use Rattle.syntax.specs.Parse
 use Rattle.syntax.specs.Parse.{parse}
@@ -42,14 +43,6 @@ unfoldable pub allAgree : List Line → Bool
 allAgree [] = true
 allAgree (l ∷ ls) = agrees (parse (l .text)) (l .outcome) && allAgree ls
 
-pub markAt : List ℕ → ℕ
-markAt [] = 0
-markAt (b ∷ s) = let later = suc (markAt s) in if eqb b (code "^") then 0 else later
-
-pub unmarked : List ℕ → List ℕ
-unmarked [] = []
-unmarked (b ∷ s) = let later = b ∷ unmarked s in if eqb b (code "^") then s else later
-
 -- so many times the same bytes
 pub times : ℕ → String → List ℕ
 times zero s = []
@@ -63,7 +56,7 @@ abbrev pub fineOf : List ℕ → Line
 fineOf t = record { text = t; outcome = reads }
 
 abbrev pub atOf : List ℕ → ℕ → ℕ → Line
-atOf t n l = record { text = unmarked t; outcome = stops n (markAt t) l }
+atOf t n l = record { text = unmarked (code "^") t; outcome = stops n (markAt (code "^") t) l }
 
 abbrev pub at : String → ℕ → ℕ → Line
 at t n l = atOf (bytes t) n l

@@ -3,26 +3,16 @@
 use mathlib.Core.Bool.{Bool, true, false}
 use mathlib.Core.List.{List, [], _∷_}
 use Prim.Native.Char.{code}
-use Prim.Native.Nat.{ℕ, suc}
+use Prim.Native.Nat.{ℕ}
 use Prim.Native.String.{String}
-use lib.Dec.{T, eqb}
-use Rattle.base.specs.Common.{if_then_else_, bytes}
-use Rattle.syntax.proofs.Facts.{reading, Outcome, reads, stops, Line, agrees, allAgree}
+use lib.Dec.{T}
+use Rattle.base.specs.Common.{bytes}
+use Rattle.syntax.proofs.Facts.{reading, Outcome, stops, Line, agrees, allAgree, fine}
+use Rattle.syntax.proofs.Marks.{markAt, unmarked}
 use Rattle.syntax.proofs.Trees.{Counted, counted, valuesOf, instructionsOf, rankingsOf, countsIn, counts, allCount, sectionsOf}
 
-pub markAt : List ℕ → ℕ
-markAt [] = 0
-markAt (b ∷ s) = let later = suc (markAt s) in if eqb b (code "~") then 0 else later
-
-pub unmarked : List ℕ → List ℕ
-unmarked [] = []
-unmarked (b ∷ s) = let later = b ∷ unmarked s in if eqb b (code "~") then s else later
-
-abbrev pub fine : String → Line
-fine t = record { text = bytes t; outcome = reads }
-
 abbrev pub at : String → ℕ → ℕ → Line
-at t n l = record { text = unmarked (bytes t); outcome = stops n (markAt (bytes t)) l }
+at t n l = record { text = unmarked (code "~") (bytes t); outcome = stops n (markAt (code "~") (bytes t)) l }
 
 pub operators : List Line
 operators =
