@@ -25,8 +25,11 @@ use Rattle.figure.specs.Count.{startsOf, reachable, figureAt, mostFigure
 use Rattle.figure.specs.Promise.{RuleStart, rule-start, IsFigure, EnoughFor, FigureExact, FigureEnough, BoundEnough, FigureLong, Settles, FigureSettles}
 use Rattle.figure.proofs.Counted.{Start, From, counted-bounds, counted-figure, counted-small, counted-long}
 use Rattle.figure.proofs.Enough.{enough}
-use Rattle.figure.proofs.Rows.{one-figure}
 use Rattle.figure.proofs.Spots.{reached-rule}
+
+-- one figure at most
+one-figure : {T : List ℕ} {Start : ℕ → Type 0} {q r : ℕ} → Figure T Start q → Figure T Start r → q ≡ r
+one-figure f g = omega (arith, g .bounds .most (f .is-start) (f .reached) (f .path), f .bounds .most (g .is-start) (g .reached) (g .path))
 
 -- the starts that are listed are the rules'
 
