@@ -11,7 +11,7 @@ use borrow.Author.Tests.{ltb-false, ltb-true, eqb-false}
 use native.Mathlib.Omega.{arith}
 use Rattle.acceptance.proofs.ReadLaws.{Gives, Any, any, no-got, bind, after, gives, refuses, either, on-kind, limited}
 use Rattle.acceptance.proofs.Shape.{Each, Defaulted, Shaped, ShapedAll, ShapedAlts, ShapedOther, ShapedChoices, NotEmpty, InRange, OfKind, Ranked, SectionOk, WrittenOk}
-use Rattle.base.specs.Bools.{never}
+use Rattle.base.proofs.Laws.{neither, above-zero}
 use Rattle.base.specs.Common.{if_then_else_, bytes, given}
 use Rattle.base.specs.Tree.{Action, plain, cycle, choice, Actions, done, _▸_, Alternatives, nil, alternative, Otherwise, absent, otherwise}
 use Rattle.syntax.proofs.Ahead.{kinds-read, room-left}
@@ -114,14 +114,6 @@ operations-ok (suc k) left seen =
 abbrev Level : ℕ → Type 0
 Level n = (1 ≤ n) × (n ≤ 15)
 
-neither : (a b : Bool) → (a || b) ≡ false → (a ≡ false) × (b ≡ false)
-neither true b e = let z : _≡_ {A = Bool} false true = cc in never z
-neither false b e = (refl, e)
-
-some-level : (n : ℕ) → (n ≡ 0 → ⊥) → 1 ≤ n
-some-level zero h = absurd (h refl)
-some-level (suc n) h = omega arith
-
 ranking-in : Gives Level ranking
 unfolding ranking over onward
 ranking-in ws a rest e = go (eqb n 0 || ltb 15 n) refl e
@@ -137,7 +129,7 @@ ranking-in ws a rest e = go (eqb n 0 || ltb 15 n) refl e
     go true t e₁ = no-got e₁
     go false t e₁ =
         let h = neither (eqb n 0) (ltb 15 n) t in
-        got-in (pass ws) (some-level n (eqb-false n 0 (h .0)), ltb-false 15 n (h .1)) e₁
+        got-in (pass ws) (above-zero n (eqb-false n 0 (h .0)), ltb-false 15 n (h .1)) e₁
 
 level-in : Gives Level aLevel
 unfolding aLevel

@@ -2,7 +2,7 @@
 use mathlib.Core.Bool.{Bool, true, false, _&&_, _||_}
 use mathlib.Core.List.{List, [], _∷_, _++_}
 use mathlib.Core.Option.{Option, none, some}
-use mathlib.Core.Path.{_≡_, refl, sym, ap, _∙_}
+use mathlib.Core.Path.{_≡_, refl, ap, _∙_}
 use Prim.Native.Nat.{ℕ, zero, suc, _+_, _<_, _≤_}
 use lib.Dec.{ltb}
 use lib.ListN.{length, length-append}
@@ -11,7 +11,7 @@ use native.Mathlib.Omega.{arith}
 use Rattle.acceptance.proofs.CheckLaws.{Yields, no-good, yields, next, passed}
 use Rattle.acceptance.proofs.NamesOk.{NamesOk, OperatorOk, LevelOk, each-append, operators-in}
 use Rattle.acceptance.proofs.Shape.{Each, NotEmpty}
-use Rattle.base.specs.Bools.{never}
+use Rattle.base.proofs.Laws.{neither}
 use Rattle.base.specs.Common.{if_then_else_, given}
 use Rattle.base.specs.Tree.{Action, plain, cycle, choice, Actions, done, _▸_, Alternatives, nil, alternative, Otherwise, absent, otherwise}
 use Rattle.names.specs.Known.{Checked, good, wrong, _>>=_, faultIf, Known, KnownRule, Names, findOperation, findOperators, findRule, elsewhere, optionalType}
@@ -191,10 +191,6 @@ made-are n rules others own (u ∷ us) =
 -- "limits .. cover those rules": 128 rules and 512 names with those made
 abbrev pub Within : ℕ → ℕ → ℕ → Type 0
 Within others own made = (own + made ≤ 128) × (others + (own + made) ≤ 512)
-
-neither : (a b : Bool) → (a || b) ≡ false → (a ≡ false) × (b ≡ false)
-neither true b e = never (sym e)
-neither false b e = (refl, e)
 
 -- of a pair that passes no limit
 pub not-passed : (others own : ℕ) (ls : List Level) → passes others own ls ≡ false → Within others own (length ls) × (crowded ls ≡ false)

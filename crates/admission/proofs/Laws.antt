@@ -7,15 +7,15 @@ use Prim.Native.Nat.{ℕ, zero, suc, _+_, _*_, _-_, _<_, _≤_, _/_, _%_, _^_}
 use native.Mathlib.Decide.{decLe}
 use native.Mathlib.Nat.{zero-div}
 use native.Mathlib.Omega.{arith}
-use lib.Dec.{eqb, leb, ltb}
+use lib.Dec.{eqb, leb}
 use lib.ListN.{length, getD, List·getD-eq-default}
-use borrow.Author.Tests.{eqb-true, eqb-false, eq-eqb, ne-eqb, leb-true, le-leb, lt-leb}
+use borrow.Author.Tests.{eqb-false, eq-eqb, ne-eqb, leb-true, le-leb, lt-leb, not-false}
 use Rattle.base.specs.Bools.{never}
 use Rattle.base.specs.Common.{if_then_else_, member}
+use Rattle.machine.proofs.Decoded.{of-operation, of-two, of-word}
 use Rattle.machine.proofs.Lengths.{length-rule, length-none, length-operation, length-between, length-above}
-use Rattle.machine.specs.Decode.{fetch, Instruction, invalid, jump, input, inputAny, write, inputChoice, callRule, return, setResult, choice, endChoice, setParameter, update, updateWith, choose, chooseWith, decodeOperation, decodeTwo, decodeOne, decodeWord, decodeAt, decode}
+use Rattle.machine.specs.Decode.{fetch, inputAny, return, endChoice, decodeOperation, decodeTwo, decodeOne, decodeWord, decodeAt, decode}
 use Rattle.machine.specs.Lengths.{lengthRule, lengths, lengthOf}
-use Rattle.events.specs.Events.{output, signal}
 use Rattle.rights.specs.Rights.{bitOf, granted, operationOf, allows, right, lowest, denied, Admission, says, admit}
 use Rattle.loading.specs.Taking.{reached, taken}
 use Rattle.admission.specs.Flags.{Flagged, AllFlagged, wrongAt}
@@ -54,31 +54,12 @@ grants-past set op a h = rw (le-leb 256 op a, List·getD-eq-default set 0 h) (sy
 -- The operation
 
 operation-one : (i : ℕ) → operationOf (decodeOperation i) ≡ some i
-unfolding operationOf decodeOperation
-operation-one i = go (ltb i 512) (ltb i 768) (ltb i 1024)
-  where
-    go : (a b c : Bool) → operationOf (if a then update i else (if b then updateWith i else (if c then choose i else chooseWith i))) ≡ some i
-    go true b c = refl
-    go false true c = refl
-    go false false true = refl
-    go false false false = refl
-
-if-none : (b : Bool) (x y : Instruction) → operationOf x ≡ none → operationOf y ≡ none → operationOf (if b then x else y) ≡ none
-if-none true x y p q = p
-if-none false x y p q = q
+unfolding operationOf
+operation-one i = of-operation (λ j. operationOf j ≡ some i) i (λ _. refl) (λ _. refl) (λ _. refl) (λ _. refl)
 
 two-none : (l i x : ℕ) → operationOf (decodeTwo l i x) ≡ none
-unfolding operationOf decodeTwo
-two-none l i x =
-    if-none (eqb i 1) (jump (l + 1 + x)) _ refl
-    (if-none (eqb i 2) (jump (l + 1 - x)) _ refl
-    (if-none (eqb i 3) (input x) _ refl
-    (if-none (eqb i 5) (write (output x)) _ refl
-    (if-none (eqb i 6) (write (signal x)) _ refl
-    (if-none (eqb i 7) (inputChoice (l + 1 + x)) _ refl
-    (if-none (eqb i 8) (callRule x) _ refl
-    (if-none (eqb i 10) (setResult x) _ refl
-    (if-none (eqb i 11) (choice (l + 1 + x)) (setParameter x) refl refl))))))))
+unfolding operationOf
+two-none l i x = of-two (λ j. operationOf j ≡ none) l i x (λ _ _. refl) (λ _ _. refl) (λ _. refl) (λ _. refl) (λ _. refl) (λ _ _ _. refl) (λ _. refl) (λ _. refl) (λ _ _ _. refl) refl
 
 -- an instruction of one word below 256 is 4, 9 or 12
 one-none : (i : ℕ) → i < 256 → lengthOf i ≡ 1 → operationOf (decodeOne i) ≡ none
@@ -102,17 +83,8 @@ one-none i h e = elim (decLe 1 i) [
         rule k = refl
 
 word-none : (l i : ℕ) (o : Option ℕ) → i < 256 → operationOf (decodeWord l i o) ≡ none
-unfolding operationOf decodeWord
-word-none l i none h = go (eqb (lengthOf i) 1) refl
-  where
-    go : (t : Bool) → eqb (lengthOf i) 1 ≡ t → operationOf (if t then decodeOne i else invalid) ≡ none
-    go true e = one-none i h (eqb-true (lengthOf i) 1 e)
-    go false e = refl
-word-none l i (some x) h = go (eqb (lengthOf i) 1) refl
-  where
-    go : (t : Bool) → eqb (lengthOf i) 1 ≡ t → operationOf (if t then decodeOne i else (if eqb (lengthOf i) 2 then decodeTwo l i x else invalid)) ≡ none
-    go true e = one-none i h (eqb-true (lengthOf i) 1 e)
-    go false e = if-none (eqb (lengthOf i) 2) (decodeTwo l i x) invalid (two-none l i x) refl
+unfolding operationOf
+word-none l i o h = of-word (λ j. operationOf j ≡ none) l i o refl (λ e. one-none i h e) (λ x _. two-none l i x)
 
 module _ (T set : List ℕ) (l i : ℕ) (here : fetch T l ≡ some i) where
   right-low : i < 256 → right T set l ≡ true
@@ -156,12 +128,8 @@ module _ (T set seen : List ℕ) (l : ℕ) (f : Flagged T seen l) where
   pub wrong-operation : (i : ℕ) (g : Bool) → fetch T l ≡ some i → (getD seen (l - 1) 0 ≡ 0 → ⊥) → 256 ≤ i → i ≤ 1279 → g ≡ granted set i → not g ≡ wrongAt T set l
   unfolding wrongAt
   wrong-operation i g h ne a b e =
-      let m : member l (reached T) ≡ true = seen-is (member l (reached T)) (sym (f .flag) ∙ ne-eqb (getD seen (l - 1) 0) 0 ne) in
+      let m : member l (reached T) ≡ true = not-false (member l (reached T)) (sym (f .flag) ∙ ne-eqb (getD seen (l - 1) 0) 0 ne) in
       rw (m, right-operation T set l i h a b, ← e)
-    where
-      seen-is : (b : Bool) → not b ≡ false → b ≡ true
-      seen-is true d = refl
-      seen-is false d = never (sym d)
 
 -- The search
 

@@ -214,12 +214,12 @@ element-lt [] i u h = let z : _≡_ {A = ℕ} 0 1 = cc in absurd (omega arith)
 element-lt (v ∷ l) zero u h = omega arith
 element-lt (v ∷ l) (suc i) u h = omega (arith, element-lt l i u h)
 
-given-lt : (tokens : List ℕ) (io : Io) (w : Option ℕ) → present tokens io ≡ w → given w ≡ true → io .read < length tokens
+pub given-lt : (tokens : List ℕ) (io : Io) (w : Option ℕ) → present tokens io ≡ w → given w ≡ true → io .read < length tokens
 unfolding present
 given-lt tokens io none e h = let z : _≡_ {A = ℕ} 0 1 = cc in absurd (omega arith)
 given-lt tokens io (some u) e h = element-lt tokens (io .read) u e
 
-is-given : (t : ℕ) (w : Option ℕ) → is t w ≡ true → given w ≡ true
+pub is-given : (t : ℕ) (w : Option ℕ) → is t w ≡ true → given w ≡ true
 unfolding is
 is-given t none h = h
 is-given t (some u) h = refl

@@ -5,15 +5,16 @@ use mathlib.Core.Option.{Option, none, some}
 use mathlib.Core.Path.{_≡_, refl, sym, ap, _∙_}
 use Prim.Native.Nat.{ℕ, zero, suc, _+_, _-_, _*_, _^_, _<_, _≤_, min}
 use native.Mathlib.Omega.{arith}
-use lib.Dec.{eqb, leb, ltb}
+use lib.Dec.{leb, ltb}
 use lib.ListN.{length, getElem?}
 use borrow.Author.Tests.{ltb-true, ltb-false, lt-leb, le-leb}
 use Rattle.base.specs.Bools.{split}
 use Rattle.base.specs.Common.{if_then_else_, given}
 use Rattle.events.specs.Events
-use Rattle.events.specs.Events.{Event, output, signal, repair, Reason, finished, differs, missing, unlabelled, deep, unanswered, outside, reasonNumber, isChoice, choices, answer, mends, is, present}
-use Rattle.machine.specs.Decode.{fetch, Instruction, invalid, jump, input, inputAny, write, inputChoice, callRule, return, setResult, choice, endChoice, setParameter, update, updateWith, choose, chooseWith, decodeOperation, decodeTwo, decodeOne, decodeWord, decodeAt, decode}
-use Rattle.machine.specs.Lengths.{lengthOf}
+use Rattle.events.specs.Events.{Event, repair, Reason, finished, differs, missing, unlabelled, deep, unanswered, outside, reasonNumber, isChoice, choices, answer, mends, is, present}
+use Rattle.machine.proofs.Bytes.{past-end}
+use Rattle.machine.proofs.Decoded.{of-operation, of-one, of-two, of-decode}
+use Rattle.machine.specs.Decode.{fetch, Instruction, invalid, jump, input, inputAny, write, inputChoice, callRule, return, setResult, choice, endChoice, setParameter, update, updateWith, choose, chooseWith, decodeOperation, decode}
 use Rattle.machine.specs.Walk
 use Rattle.machine.specs.Walk.{Phase, going, waiting, stopped, Walk, fresh, moved, withReturns, withResult, withIo, inPhase, withAnswer, first64, atRest}
 use Rattle.machine.specs.Step.{Next, goesOutside, stops, goes, tells, asks, goTo, seekBy, landed, branched, inputChoosing, calling, returning, requiring, exec, step}
@@ -145,52 +146,13 @@ Kind (updateWith op) = leb 768 op ≡ false
 Kind (choose op) = leb 768 op ≡ true
 Kind (chooseWith op) = leb 768 op ≡ true
 
-if-kind : (b : Bool) (x y : Instruction) → (b ≡ true → Kind x) → (b ≡ false → Kind y) → Kind (if b then x else y)
-if-kind true x y p q = p refl
-if-kind false x y p q = q refl
-
-kind-operation : (i : ℕ) → Kind (decodeOperation i)
-unfolding Kind decodeOperation
-kind-operation i =
-    if-kind (ltb i 512) (update i) _ (λ t. lt-leb 768 i (omega (arith, ltb-true i 512 t)))
-    (λ f. if-kind (ltb i 768) (updateWith i) _ (λ t. lt-leb 768 i (ltb-true i 768 t))
-    (λ f. if-kind (ltb i 1024) (choose i) (chooseWith i) (λ _. le-leb 768 i (ltb-false i 768 f)) (λ _. le-leb 768 i (ltb-false i 768 f))))
-
-kind-two : (l i x : ℕ) → Kind (decodeTwo l i x)
-unfolding Kind decodeTwo isChoice
-kind-two l i x =
-    if-kind (eqb i 1) (jump (l + 1 + x)) _ (λ _. tt)
-    (λ _. if-kind (eqb i 2) (jump (l + 1 - x)) _ (λ _. tt)
-    (λ _. if-kind (eqb i 3) (input x) _ (λ _. tt)
-    (λ _. if-kind (eqb i 5) (write (output x)) _ (λ _. refl)
-    (λ _. if-kind (eqb i 6) (write (signal x)) _ (λ _. refl)
-    (λ _. if-kind (eqb i 7) (inputChoice (l + 1 + x)) _ (λ _. tt)
-    (λ _. if-kind (eqb i 8) (callRule x) _ (λ _. tt)
-    (λ _. if-kind (eqb i 10) (setResult x) _ (λ _. tt)
-    (λ _. if-kind (eqb i 11) (choice (l + 1 + x)) (setParameter x) (λ _. tt) (λ _. tt)))))))))
-
-kind-one : (i : ℕ) → Kind (decodeOne i)
-unfolding Kind decodeOne
-kind-one i =
-    if-kind (eqb i 4) inputAny _ (λ _. tt)
-    (λ _. if-kind (eqb i 9) return _ (λ _. tt)
-    (λ _. if-kind (eqb i 12) endChoice (decodeOperation i) (λ _. tt) (λ _. kind-operation i)))
-
-kind-word : (l i : ℕ) (o : Option ℕ) → Kind (decodeWord l i o)
-unfolding Kind decodeWord
-kind-word l i none = if-kind (eqb (lengthOf i) 1) (decodeOne i) invalid (λ _. kind-one i) (λ _. tt)
-kind-word l i (some x) =
-    if-kind (eqb (lengthOf i) 1) (decodeOne i) _ (λ _. kind-one i)
-    (λ _. if-kind (eqb (lengthOf i) 2) (decodeTwo l i x) invalid (λ _. kind-two l i x) (λ _. tt))
-
-kind-at : (l : ℕ) (i x : Option ℕ) → Kind (decodeAt l i x)
-unfolding Kind decodeAt
-kind-at l none x = tt
-kind-at l (some i) x = kind-word l i x
-
 kind : (T : List ℕ) (l : ℕ) → Kind (decode T l)
-unfolding decode
-kind T l = kind-at l (fetch T l) (fetch T (suc l))
+unfolding Kind isChoice
+kind T l = of-decode Kind T l tt (λ i _. of-one Kind i (λ _. tt) (λ _. tt) (λ _. tt) (operation i))
+    (λ i x _ _. of-two Kind l i x (λ _ _. tt) (λ _ _. tt) (λ _. tt) (λ _. refl) (λ _. refl) (λ _ _ _. tt) (λ _. tt) (λ _. tt) (λ _ _ _. tt) tt)
+  where
+    operation : (i : ℕ) → Kind (decodeOperation i)
+    operation i = of-operation Kind i (λ h. lt-leb 768 i (omega arith)) (λ h. lt-leb 768 i h) (λ h. le-leb 768 i h) (λ h. le-leb 768 i h)
 
 -- what an instruction leaves as it is: all of the walk but location, result, parameter, tokens read, allowance and return locations, of which there
 -- are no more than 64 if there were no more
@@ -348,12 +310,6 @@ wanted-asked answers es e t =
     let c = choices-asked es e t in
     let z : choices (es ++ (e ∷ [])) - 1 ≡ choices es = omega arith in
     ap (getElem? answers) z
-
--- past the last there is none
-past-end : (l : List ℕ) (i : ℕ) → length l ≤ i → getElem? l i ≡ none
-past-end [] i h = refl
-past-end (x ∷ l) zero h = absurd (omega arith)
-past-end (x ∷ l) (suc i) h = past-end l i (omega arith)
 
 -- answers used stop at their greatest only past the last answer
 used-enough : (answers : List ℕ) (c : ℕ) → length answers < 2 ^ 64 → getElem? answers (min c (2 ^ 64 - 1)) ≡ getElem? answers c

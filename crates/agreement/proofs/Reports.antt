@@ -8,6 +8,7 @@ use native.Mathlib.Omega.{arith}
 use lib.Dec.{ltb}
 use Rattle.base.specs.Common.{if_then_else_}
 use Rattle.events.specs.Events.{Event, Reason, finished, differs, missing, unlabelled, deep, unanswered, outside, reasonNumber, answer}
+use Rattle.machine.proofs.Form.{reason-back}
 use Rattle.machine.specs.Call.{Mode, whole, paused, Called, ends, endsFor, writing, Turn, over, further, takes, handsOut, turn, run, callIn, callWalk}
 use Rattle.machine.specs.Form.{reasonOf}
 use Rattle.machine.specs.Step.{Next, step}
@@ -85,16 +86,6 @@ module _ (T tokens : List ℕ) where
   reports-last (then-call {w = w} l m budget room a) = reports m budget room w
 
 -- A reason's number is no other's, nor 21, 22, 35 or 36
-
-reason-back : (r : Reason) → reasonOf (reasonNumber r) ≡ r
-unfolding reasonOf reasonNumber
-reason-back finished = refl
-reason-back differs = refl
-reason-back missing = refl
-reason-back unlabelled = refl
-reason-back deep = refl
-reason-back unanswered = refl
-reason-back outside = refl
 
 none-low : (r : Reason) (k : ℕ) → 1 ≤ k → k ≤ 29 → k ≡ reasonNumber r → ⊥
 unfolding reasonNumber

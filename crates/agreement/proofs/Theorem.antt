@@ -39,7 +39,7 @@ module _ (T tokens answers : List ℕ) where
   unfolding one oneIn
   one-stopped w r e = rw e
 
-  stays : (k : ℕ) (w : Walk) (r : Reason) → w .phase ≡ stopped r → runs T tokens answers k w ≡ w
+  pub stays : (k : ℕ) (w : Walk) (r : Reason) → w .phase ≡ stopped r → runs T tokens answers k w ≡ w
   unfolding runs
   stays zero w r e = refl
   stays (suc k) w r e = ap (runs T tokens answers k) (one-stopped w r e) ∙ stays k w r e

@@ -1,19 +1,14 @@
 -- A buffer whose whole words are 0, and words over zeros.
 use mathlib.Core.List.{List, [], _∷_, _++_, append-assoc}
 use mathlib.Core.Path.{_≡_, refl, sym, ap, _∙_}
-use Prim.Native.Nat.{ℕ, zero, suc, _+_, _*_, _-_, _/_, _<_, _≤_}
+use Prim.Native.Nat.{ℕ, suc, _+_, _*_, _-_, _/_, _<_, _≤_}
 use native.Mathlib.Numerals.{add-one}
 use native.Mathlib.Omega.{arith}
 use lib.ListN.{length, getD, set, drop, replicate, length-append, length-drop, length-replicate, replicate-append-replicate}
 use lib.Seq.{set-at, drop-cons, drop-at}
-use Rattle.machine.proofs.Bytes.{length-bytesOf, bytesOf-append}
+use Rattle.machine.proofs.Bytes.{length-bytesOf, bytesOf-append, zero-bytes}
 use Rattle.machine.specs.Bytes.{count, bytesOf, over}
 use Rattle.buffers.specs.Words.{zeroed}
-
-zero-bytes : (n : ℕ) → bytesOf (replicate n 0) ≡ replicate (2 * n) 0
-unfolding bytesOf
-zero-bytes zero = refl
-zero-bytes (suc n) = let e : 2 * suc n ≡ suc (suc (2 * n)) = omega arith in rw e (ap (λ (z : List ℕ). 0 ∷ 0 ∷ z) (zero-bytes n))
 
 zeroed-is : (t : List ℕ) → zeroed t ≡ replicate (2 * count t) 0 ++ drop (2 * count t) t
 unfolding zeroed

@@ -1,5 +1,5 @@
 -- The parts of a rule's actions, one law for each way in which a function of the cycle goes on or returns.
-use mathlib.Core.Bool.{Bool, true, false, _&&_, _||_}
+use mathlib.Core.Bool.{Bool, true, false, _&&_, _||_, and-true, or-false, and-assoc, or-assoc}
 use mathlib.Core.List.{List, [], _∷_, _++_}
 use mathlib.Core.Logic.{_⊎_, inl, inr}
 use mathlib.Core.Path.{_≡_, refl, sym, ap, _∙_, subst}
@@ -10,7 +10,7 @@ use Rattle.base.specs.Common.{member}
 use Rattle.base.specs.Tree.{Action, plain, cycle, choice, Actions, done, _▸_, Alternatives, nil, alternative, Otherwise, absent, otherwise}
 use Rattle.resolver.proofs.Appending.{appends-length, appends-then}
 use Rattle.builder.proofs.Encoding.{more-cells, choice-cells, alternative-cells}
-use Rattle.builder.proofs.Laws.{ends-fails, ends-map, ends-after, ends-moved, ends-passed, ends-same, ends-then, and-true, or-false, and-assoc, or-assoc, member-more}
+use Rattle.builder.proofs.Laws.{ends-fails, ends-map, ends-after, ends-moved, ends-passed, ends-same, ends-then, member-more}
 use Rattle.builder.specs.Parts.{placeOf, labelledOf, choicesOf, labelCells, Kept, ActDone, ActsDone, CycleDone, ChoiceDone, AltsDone, OtherDone, LabelledDone}
 use Rattle.builder.specs.declared.Labelled.{Labelled}
 use Rattle.cells.specs.Cells.{plainCells, selectorCells, absentCell, actCells, actsCells, altsCells, otherCells}

@@ -1,5 +1,5 @@
 -- Choices: the selector, the labelled alternatives and otherwise, one law for each way in which a function goes on or returns.
-use mathlib.Core.Bool.{Bool, true, false, _&&_, _||_}
+use mathlib.Core.Bool.{Bool, true, false, _&&_, _||_, or-false, or-assoc}
 use mathlib.Core.List.{List, [], _∷_, _++_}
 use mathlib.Core.Logic.{_⊎_, inl, inr}
 use mathlib.Core.Path.{_≡_, refl, sym, ap, _∙_, subst}
@@ -10,10 +10,11 @@ use Rattle.base.specs.Common.{member}
 use Rattle.base.specs.Tree.{Action, plain, cycle, choice, Actions, done, _▸_, Alternatives, nil, alternative, Otherwise, absent, otherwise}
 use Rattle.resolver.proofs.Appending.{appends-length, appends-then}
 use Rattle.builder.proofs.Encoding.{more-cells, choice-cells, alternative-cells}
-use Rattle.builder.proofs.Laws.{Holds, ends-fails, ends-here, ends-map, ends-after, ends-moved, ends-same, ends-then, bind-same, or-false, or-assoc, member-more}
+use Rattle.builder.proofs.Laws.{Holds, ends-fails, ends-here, ends-map, ends-after, ends-moved, ends-same, ends-then, member-more}
 use Rattle.builder.specs.Parts.{placeOf, labelledOf, choicesOf, Choices, choicesCells, Marks, labelCells, Kept, ActDone, ActsDone, CycleDone, ChoiceDone, AltsDone, OtherDone, LabelledDone}
 use Rattle.builder.specs.declared.Labelled.{Labelled}
 use Rattle.cells.specs.Cells.{plainCells, selectorCells, absentCell, actCells, actsCells, altsCells, otherCells}
+use Rattle.declarations.proofs.Declaring.{alike}
 use Rattle.declarations.specs.Decls.{Agrees, knownsIn}
 use Rattle.grammar.specs.Derived.{Took, Not, Reference, PlainIn, named-in, any-in, emit-in, error-in, exit-in, call-in, give-in, SelectorIn, LabelsIn, last-label, more-labels, ActIn, plain-in, cycle-in, choice-in, ActsIn, none-in, more-in, AltsIn, other-in, last-in, next-in}
 use Rattle.maker.specs.Pairs.{PairsAre}
@@ -48,7 +49,7 @@ choice-order : (p : Program) (names : Names) (rs : List KnownRule) (s : written.
     → _>>=_ (selectorOf p names rs s) (λ c. _>>=_ (choicesOf p names rs q o at (c .labels) []) (λ x. good (choice (c .by) (x .0) (x .1)))) ≡ actOf p names rs (choice s q o) at
 unfolding choicesOf actOf
 choice-order p names rs s q o at =
-    bind-same (selectorOf p names rs s) (λ c. pair-then (altsOf p names rs q at (c .labels) []) (otherOf p names rs o at) (λ alts other. choice (c .by) alts other))
+    alike (selectorOf p names rs s) (λ c. pair-then (altsOf p names rs q at (c .labels) []) (otherOf p names rs o at) (λ alts other. choice (c .by) alts other))
 
 abbrev both : Checked means.Alts → Checked means.Other → Checked Choices
 both a l = _>>=_ a (λ alts. _>>=_ l (λ other. good (alts, other)))

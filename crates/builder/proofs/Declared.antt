@@ -1,5 +1,5 @@
 -- The names of the rules before one, by the row of declarations.
-use mathlib.Core.Bool.{Bool, true, false, _&&_, _||_}
+use mathlib.Core.Bool.{Bool, true, false, _&&_, _||_, or-assoc}
 use mathlib.Core.List.{List, [], _∷_, _++_}
 use mathlib.Core.Option.{Option, none, some}
 use mathlib.Core.Path.{_≡_, refl, sym, ap, _∙_, subst}
@@ -10,7 +10,6 @@ use lib.Seq.{drop-append-seam}
 use native.Mathlib.Omega.{arith}
 use borrow.Author.Tests.{eq-eqb, ne-eqb, lt-ltb, le-ltb}
 use Rattle.base.specs.Common.{if_then_else_, same}
-use Rattle.builder.proofs.Laws.{or-assoc}
 use Rattle.builder.specs.Row.{Sofar}
 use Rattle.declarations.specs.Decls.{Decl, ofEntry, ofOperation, ofType, ofOperators, ofRule, indexOf, entryDecls, operationDecls, sectionDecls, sectionsDecls, ruleDecls, declsOf}
 use Rattle.names.specs.Understand.{isOne, isFirst}

@@ -1,5 +1,5 @@
 -- Outcomes put together: one law for each way in which the code goes on after a part.
-use mathlib.Core.Bool.{Bool, true, false, _&&_, _||_}
+use mathlib.Core.Bool.{Bool, true, false, _||_, or-comm}
 use mathlib.Core.List.{List, [], _∷_, _++_, append-assoc, append-nil}
 use mathlib.Core.Path.{_≡_, refl, sym, ap, _∙_, subst}
 use Prim.Native.Nat.{ℕ, zero, suc, _+_, _-_, _<_, _≤_}
@@ -30,11 +30,6 @@ pub ends-here : {E A : Type 0} {text : List ℕ} {ws : List Word} {cs : List ℕ
     → Ends E text ws cs c cs′ f P r m → r .fault ≡ 0 → ws ≡ wordsAt text (r .at)
 ends-here (good a) (ended e here app pa) z = here
 ends-here (wrong n w) (failed e nz at len) z = absurd (nz (sym e ∙ z))
-
--- the same afterwards
-pub bind-same : {A B : Type 0} (m : Checked A) {f g : A → Checked B} → ((a : A) → f a ≡ g a) → _>>=_ m f ≡ _>>=_ m g
-bind-same (good a) q = q a
-bind-same (wrong n w) q = refl
 
 -- the value is put into something
 pub ends-map : {E A B : Type 0} {text : List ℕ} {ws : List Word} {cs : List ℕ} {c : ℕ} {cs′ : List ℕ} {f : A → List ℕ} {P : A → Type 0} {r : Done} (h : B → List ℕ) (R : B → Type 0) (v : A → B) (m : Checked A)
@@ -84,30 +79,6 @@ ends-then {E} {A} {B} {C} {text} {ws₁} {cs} {c} {cs₁} {f} {P} {r₁} {ws} {c
     go (wrong n w) (failed e₂ nz at len) = failed e₂ nz at len
 ends-then g Q h R v (wrong n w) k (failed e nz at len) z next joins = absurd (nz (sym e ∙ z))
 
--- Truth values
-
-pub and-true : (b : Bool) → (b && true) ≡ b
-and-true true = refl
-and-true false = refl
-
-pub or-false : (b : Bool) → (b || false) ≡ b
-or-false true = refl
-or-false false = refl
-
-pub and-assoc : (a b c : Bool) → ((a && b) && c) ≡ (a && (b && c))
-and-assoc true b c = refl
-and-assoc false b c = refl
-
-pub or-assoc : (a b c : Bool) → ((a || b) || c) ≡ (a || (b || c))
-or-assoc true b c = refl
-or-assoc false b c = refl
-
-pub or-swap : (a b : Bool) → (a || b) ≡ (b || a)
-or-swap true true = refl
-or-swap true false = refl
-or-swap false true = refl
-or-swap false false = refl
-
 -- Labels
 
 pub member-append : (v : ℕ) (xs ys : List ℕ) → member v (xs ++ ys) ≡ (member v xs || member v ys)
@@ -121,4 +92,4 @@ member-append v (x ∷ xs) ys = go (eqb v x) (member-append v xs ys)
 -- the labels so far, whatever their order
 pub member-more : (old vs seen : List ℕ) → ((v : ℕ) → member v old ≡ member v seen) → (v : ℕ) → member v (vs ++ old) ≡ member v (seen ++ vs)
 member-more old vs seen q v =
-    member-append v vs old ∙ or-swap (member v vs) (member v old) ∙ ap (λ b. b || member v vs) (q v) ∙ sym (member-append v seen vs)
+    member-append v vs old ∙ or-comm (member v vs) (member v old) ∙ ap (λ b. b || member v vs) (q v) ∙ sym (member-append v seen vs)

@@ -18,6 +18,7 @@ use Rattle.builder.specs.Row.{ruleBy, RuleDone}
 use Rattle.builder.specs.declared.Head.{Head}
 use Rattle.builder.specs.declared.Ruled.{Ruled}
 use Rattle.cells.specs.Cells.{actsCells}
+use Rattle.declarations.proofs.Rows.{given-mapped}
 use Rattle.declarations.specs.Decls.{Agrees, Decl, indexOf, declaredIn, elsewhereIn, typeIn, optionalIn, mapped, knownsIn}
 use Rattle.grammar.specs.Derived.{Took, GivesIn, ActsIn, RuleIn, a-rule}
 use Rattle.maker.specs.Pairs.{PairsAre}
@@ -165,10 +166,6 @@ tested true f w m q k = refl
 tested false true w m q k = refl
 tested false false w (good a) q k = refl
 tested false false w (wrong n u) q k = refl
-
-given-mapped : {A B : Type 0} (f : A → B) (o : Option A) → given (mapped f o) ≡ given o
-given-mapped f none = refl
-given-mapped f (some a) = refl
 
 pub rule-means : (p : Program) (names : Names) (rs : List KnownRule) (ds : List Decl) (first k : ℕ) (seen : List (List ℕ)) (r : written.Rule) → Agrees p names rs ds
     → isFirst seen ≡ eqb k 0 → isOne (r .rule .text) seen ≡ ltb (numberOf (indexOf 7 (r .rule .text) 0 ds)) (first + k)

@@ -32,16 +32,12 @@ use Rattle.resolver.specs.Resolved.{Appends, Ends, ended, failed}
 use Rattle.resolver.specs.declared.Done.{Done}
 use Rattle.scanner.specs.Next.{Next}
 use Rattle.scanner.specs.declared.WordAt.{WordAt}
-use Rattle.symbols.specs.Rows.{held, heldFrom}
+use Rattle.symbols.proofs.Searches.{held-length}
+use Rattle.symbols.specs.Rows.{held}
 use Rattle.syntax.specs.Reading.{peek}
 use Rattle.syntax.specs.Written as written
 use Rattle.syntax.specs.Written.{Program}
 use Rattle.words.specs.Words.{Word, wordsAt}
-
-held-length : (text rows : List ℕ) (i n : ℕ) → length (heldFrom text rows i n) ≡ n
-unfolding heldFrom
-held-length text rows i zero = refl
-held-length text rows i (suc n) = ap suc (held-length text rows (suc i) n)
 
 pub held-short : (text rows : List ℕ) (n : ℕ) → n ≤ 512 → length (held text rows n) ≤ 512
 unfolding held

@@ -10,6 +10,7 @@ use lib.ListN.{length, getD, set, length-set, length-append}
 use lib.Seq.{getD-set-same, getD-set-other}
 use lib.Dec.{eqb, ltb}
 use borrow.Author.Tests.{eqb-true, eqb-false, eq-eqb, ne-eqb, ltb-true, ltb-false}
+use Rattle.base.proofs.Laws.{is-false}
 use Rattle.chains.specs.Marks.{Target, outside, end, head, table, rule, Mark, known, waiting, waits, number, knowns, filled, close, shut}
 use Rattle.chains.specs.Chain.{Chain, places, patched, At, at-here, at-there, newest, Waiting, Fixed, fixed-known, fixed-call, Grown, placed}
 
@@ -56,10 +57,6 @@ waits-eq t (waiting u) h = ap waiting (sym (number-eq t u (eqb-true (number t) (
 pub waits-self : (t : Target) → waits t (waiting t) ≡ true
 unfolding waits
 waits-self t = eq-eqb (number t) (number t) refl
-
-is-false : (b : Bool) → (b ≡ true → ⊥) → b ≡ false
-is-false true h = absurd (h refl)
-is-false false h = refl
 
 pub waits-ne : (t u : Target) → (t ≡ u → ⊥) → waits t (waiting u) ≡ false
 waits-ne t u h = is-false (waits t (waiting u)) (λ e. h (let q = waits-eq t (waiting u) e in cc))

@@ -6,7 +6,7 @@ use Prim.Native.Nat.{ℕ, suc, _+_, _≤_, max}
 use native.Mathlib.Omega.{arith}
 use lib.Dec.{T, eqb}
 use lib.ListN.{length, length-append}
-use Rattle.collector.proofs.Standing.{entries-at, section-count, sections-count}
+use Rattle.collector.proofs.Standing.{entries-at}
 use Rattle.collector.proofs.Laws.{appended, decl-is}
 use Rattle.collector.proofs.Rows.{appends-none, appends-then}
 use Rattle.collector.proofs.Skips.{entries-behind}
@@ -18,6 +18,7 @@ use Rattle.collector.specs.declared.Row.{Row}
 use Rattle.collector.specs.declared.Sectioned.{Sectioned}
 use Rattle.collector.specs.declared.Spot.{Spot}
 use Rattle.collector.specs.declared.State.{State}
+use Rattle.declarations.proofs.Whole.{length-section, length-sections}
 use Rattle.declarations.specs.Decls.{Decl, declsOf, entriesOf, entryDecls, ofOperators, ofType, placeOf, operationDecls, ruleDecls, sectionDecls, sectionsDecls}
 use Rattle.grammar.specs.Derived.{Took, ListedIn, OperationsIn, OperatorsIn, an-operator, last-operator, more-operators, SectionIn, inputs-in, both-in, outputs-in, errors-in, values-in, operations-in, operators-in, SectionsIn, no-section, more-sections, RulesIn, ProgramIn, a-program, namesIn, namesInAll}
 use Rattle.reader.proofs.Laws.{apart}
@@ -404,7 +405,7 @@ sections-more {text} {rows} {rows₁} {rows′} {i} {n} {t} {w} {x} {r} h e a z 
   added s ws′ [] (no-section k g) y o = absurd (e (next-kind 265 h k))
   added s ws′ (y ∷ ys) (more-sections {ws₁ = ws₁} b q l) k o =
       let d = a .appends s ws₁ y q k (record { size = o .size; room = omega (arith, o .room) }) in
-      let f = u .appends (after s y) ws′ ys (others s q k l) (a .keeps s ws₁ y q k) (record { size = z ∙ o .size; room = omega (arith, o .room, d .counted, section-count n y) }) in
+      let f = u .appends (after s y) ws′ ys (others s q k l) (a .keeps s ws₁ y q k) (record { size = z ∙ o .size; room = omega (arith, o .room, d .counted, length-section n y) }) in
       appends-then d (from-row _ _ ys (d .counted) f)
 
   standing : (s : Sofar) (ws′ : List Word) (xs : List Section) → SectionsIn s (wordsAt text i) ws′ xs → Keeps s t → AllStand text xs
@@ -442,6 +443,6 @@ collected {text} {rows} {rows₁} {rows′} {c} {s} {w} y z a h b = record { siz
   all p (a-program {ws₁ = ws₁} {ws₂ = ws₂} {ws₃ = ws₃} q t r e m n) l =
       let d = a .appends nothing ws₁ (p .sections) q start-kept (record { size = l; room = omega arith }) in
       let r′ : RulesIn (wordsAt text (w .next)) ws₃ (p .rules) = rw (took-rest h (omega arith) (took-at (a .rest nothing ws₁ (p .sections) q start-kept) t)) at r in
-      let f = b .appends ws₃ (p .rules) r′ (record { size = y ∙ l; room = omega (arith, d .counted, sections-count 0 (p .sections)) }) in
+      let f = b .appends ws₃ (p .rules) r′ (record { size = y ∙ l; room = omega (arith, d .counted, length-sections 0 (p .sections)) }) in
       let g = appends-then d f in
       record { rows = g .filled ∙ start text rows (sectionsDecls 0 (p .sections) ++ ruleDecls 0 (p .rules)); count = omega (arith, g .counted); rules = omega (arith, d .counted); entries = entries-at (p .sections) (p .rules) (a .stands nothing ws₁ (p .sections) q start-kept) (omega arith); left = ws₃; again = r′; ending = e }

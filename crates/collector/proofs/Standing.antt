@@ -5,44 +5,16 @@ use mathlib.Core.Path.{_≡_, refl, sym, ap, _∙_}
 use Prim.Native.Nat.{ℕ, zero, suc, _+_, _≤_}
 use native.Mathlib.Omega.{arith}
 use lib.Dec.{eqb}
-use lib.ListN.{length, length-append}
+use lib.ListN.{length}
 use borrow.Author.Tests.{eq-eqb, ne-eqb, eqb-true}
 use Rattle.base.specs.Bools.{never}
 use Rattle.base.specs.Common.{if_then_else_}
 use Rattle.collector.specs.Collecting.{AllStand, all-none, all-more, Stands}
+use Rattle.declarations.proofs.Whole.{length-section}
 use Rattle.declarations.specs.Decls.{Decl, declOf, entryDecls, operationDecls, ofOperators, ofType, sectionDecls, sectionsDecls, ruleDecls, entriesOr, entriesFrom, EntriesAt}
-use Rattle.grammar.specs.Derived.{OperatorsIn, namesIn, namesInAll}
+use Rattle.grammar.specs.Derived.{OperatorsIn, namesInAll}
 use Rattle.syntax.specs.Written.{Entry, Operation, Operator, Section, inputs, outputs, both, errors, values, operations, operators, Rule}
 use Rattle.words.specs.Words.{Word, wordsAt}
-
--- How many declarations
-
-entries-count : (c : ℕ) (es : List Entry) → length (entryDecls c es) ≡ length es
-unfolding entryDecls
-entries-count c [] = refl
-entries-count c (e ∷ es) = ap suc (entries-count c es)
-
-operations-count : (os : List Operation) → length (operationDecls os) ≡ length os
-unfolding operationDecls
-operations-count [] = refl
-operations-count (o ∷ os) = ap suc (operations-count os)
-
-pub section-count : (i : ℕ) (x : Section) → length (sectionDecls i x) ≡ namesIn x
-unfolding sectionDecls namesIn
-section-count i (inputs es) = entries-count 1 es
-section-count i (outputs es) = entries-count 2 es
-section-count i (both es) = entries-count 3 es
-section-count i (errors es) = entries-count 4 es
-section-count i (values w es) = omega (arith, entries-count (8 + i) es)
-section-count i (operations os) = operations-count os
-section-count i (operators w os) = refl
-
-pub sections-count : (i : ℕ) (xs : List Section) → length (sectionsDecls i xs) ≡ namesInAll xs
-unfolding sectionsDecls namesInAll
-sections-count i [] = refl
-sections-count i (x ∷ xs) =
-    length-append (sectionDecls i x) (sectionsDecls (i + length (sectionDecls i x)) xs)
-    ∙ omega (arith, section-count i x, sections-count (i + length (sectionDecls i x)) xs)
 
 -- Places
 
@@ -113,7 +85,7 @@ module _ {text : List ℕ} (ds : List Decl) (none : (i : ℕ) → declOf ds i .c
   sections j [] all-none l i e = absurd (none i e)
   sections j (x ∷ xs) (all-more s r) l i e =
       let a = append-assoc (sectionDecls j x) (sectionsDecls (j + length (sectionDecls j x)) xs) ds in
-      rw a (section j x xs s (omega (arith, l)) (sectionsDecls (j + length (sectionDecls j x)) xs ++ ds) (sections (j + length (sectionDecls j x)) xs r (omega (arith, l, section-count j x))) i (rw a at e))
+      rw a (section j x xs s (omega (arith, l)) (sectionsDecls (j + length (sectionDecls j x)) xs ++ ds) (sections (j + length (sectionDecls j x)) xs r (omega (arith, l, length-section j x))) i (rw a at e))
 
 -- declaration i, where it is of a section of operators
 record Pick (text : List ℕ) (ds : List Decl) (entries : ℕ → List Operator) (i : ℕ) : Type 0 where

@@ -1,5 +1,5 @@
 -- What the code of adding a book does is `addBytes`, case by case.
-use mathlib.Core.Bool.{Bool, true, false, _&&_}
+use mathlib.Core.Bool.{Bool, true, false, _&&_, and-false}
 use mathlib.Core.List.{List, [], _∷_, _++_}
 use mathlib.Core.Logic.{_⊎_, inl, inr}
 use mathlib.Core.Option.{none}
@@ -102,10 +102,6 @@ module _ (t k a : List ℕ) (budget allowance : ℕ) (fs o : List ℕ) where
     unfolding unchanged
     past e = sym (adds-as false e)
 
-    and-no : (b : Bool) → (b && false) ≡ false
-    and-no true = refl
-    and-no false = refl
-
     pub books-past : (n : ℕ) → n ≡ numberAt ws 4160 → n ≡ 18446744073709551615 → Unchanged 46
     unfolding figuresNamed
     books-past n p e =
@@ -116,7 +112,7 @@ module _ (t k a : List ℕ) (budget allowance : ℕ) (fs o : List ℕ) where
     unfolding figuresNamed
     total-past n p h s =
         let b : below64 (numberAt ws 4161 + called T g .steps) ≡ false = le-ltb (numberAt ws 4161 + called T g .steps) 18446744073709551616 (omega (arith, steps-are)) in
-        past (decides false (ap (λ (x : Bool). below64 (f .books + 1) && x) b ∙ and-no (below64 (f .books + 1))))
+        past (decides false (ap (λ (x : Bool). below64 (f .books + 1) && x) b ∙ and-false (below64 (f .books + 1))))
 
     pub counts-fit : (n : ℕ) → n ≡ numberAt ws 4161 → n + length vs < 18446744073709551616 → sum (numbersAt ws 0 4096) + length vs < 18446744073709551616
     unfolding figuresNamed

@@ -1,5 +1,5 @@
 -- The laws of the byte form's loops: reading, comparing, adding up, writing.
-use mathlib.Core.Bool.{Bool, true, false, _&&_}
+use mathlib.Core.Bool.{Bool, true, false, _&&_, and-true}
 use mathlib.Core.List.{List, [], _∷_, _++_, append-nil}
 use mathlib.Core.Path.{_≡_, refl, sym, ap, _∙_}
 use Prim.Native.Nat.{ℕ, zero, suc, _+_, _*_, _-_, _/_, _%_, _^_, _<_, _≤_}
@@ -205,10 +205,6 @@ module _ (f : Figures) (size : length (f .counts) ≡ 4096) where
   and-off true false = refl
   and-off false b = refl
 
-  and-on : (a : Bool) → (a && true) ≡ a
-  and-on true = refl
-  and-on false = refl
-
   pub total-of-none : f .books ≡ 0 → (f .total ≡ 0 → ⊥) → false ≡ sound f
   total-of-none b t =
       let e : last-test ≡ false = rw (eq-eqb (f .books) 0 b) (ne-eqb (f .total) 0 t) in
@@ -220,4 +216,4 @@ module _ (f : Figures) (size : length (f .counts) ≡ 4096) where
   pub fits-together : same (f .bits) (bitsOf 64 (f .counts)) ≡ true → (f .books ≡ 0 → f .total ≡ 0) → eqb (f .total) (sum (f .counts)) ≡ sound f
   fits-together e h =
       let l : last-test ≡ true = split (eqb (f .books) 0) (λ t. rw t (eq-eqb (f .total) 0 (h (eqb-true (f .books) 0 t)))) (λ t. rw t refl) in
-      sym (sound-is ∙ ap (λ (x : Bool). x && (eqb (f .total) (sum (f .counts)) && last-test)) e ∙ ap (λ (x : Bool). eqb (f .total) (sum (f .counts)) && x) l ∙ and-on (eqb (f .total) (sum (f .counts))))
+      sym (sound-is ∙ ap (λ (x : Bool). x && (eqb (f .total) (sum (f .counts)) && last-test)) e ∙ ap (λ (x : Bool). eqb (f .total) (sum (f .counts)) && x) l ∙ and-true (eqb (f .total) (sum (f .counts))))

@@ -7,6 +7,7 @@ use native.Mathlib.Omega.{arith}
 use lib.Dec.{eqb, leb, ltb}
 use lib.ListN.{length, set, getD, replicate}
 use borrow.Author.Tests.{eqb-false, leb-true}
+use Rattle.base.proofs.Laws.{above-zero}
 use Rattle.base.specs.Common.{if_then_else_}
 use Rattle.machine.specs.Bytes.{count, wordAt}
 use Rattle.counting.specs.Counting.{visitsOf, bookVisits, bookOf, Inside, toldOf}
@@ -89,12 +90,8 @@ stands rs t k a room q r d =
     either (Inside (r .location)) (eqb (r .location) 0) Next.Outside (if leb (r .location) (size t) then fetchedOf rs t k a room q (wordAt t (r .location - 1)) r else Next.Outside)
     (λ e z. absurd z)
     (λ e. either (Inside (r .location)) (leb (r .location) (size t)) (fetchedOf rs t k a room q (wordAt t (r .location - 1)) r) Next.Outside
-    (λ f z. let n = eqb-false (r .location) 0 e in let b = leb-true (r .location) (size t) f in (positive (r .location) n, omega (arith, size-most t)))
+    (λ f z. let n = eqb-false (r .location) 0 e in let b = leb-true (r .location) (size t) f in (above-zero (r .location) n, omega (arith, size-most t)))
     (λ f z. absurd z)) d
-  where
-    positive : (l : ℕ) → (l ≡ 0 → ⊥) → 0 < l
-    positive zero h = absurd (h refl)
-    positive (suc l) h = omega arith
 
 -- A whole walk hands nothing out
 

@@ -319,7 +319,7 @@ values-same p ds en w es n before rest l q none-later a s =
 
 -- Operators
 
-alike : {A B : Type 0} (x : Checked A) {f g : A → Checked B} → ((a : A) → f a ≡ g a) → _>>=_ x f ≡ _>>=_ x g
+pub alike : {A B : Type 0} (x : Checked A) {f g : A → Checked B} → ((a : A) → f a ≡ g a) → _>>=_ x f ≡ _>>=_ x g
 alike (good a) h = h a
 alike (wrong n w) h = refl
 

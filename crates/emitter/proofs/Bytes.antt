@@ -6,14 +6,10 @@ use native.Mathlib.Omega.{arith}
 use native.Mathlib.Numerals.{add-one}
 use lib.ListN.{length, getD, set, take, drop, replicate, length-replicate, length-append}
 use lib.Seq.{sets, sets-eq}
+use Rattle.machine.proofs.Bytes.{length-bytesOf}
 use Rattle.machine.specs.Bytes.{bytesOf}
 use Rattle.emitter.specs.Words.{words, setWord, puts}
 use Rattle.emitter.proofs.Laws.{puts-append, puts-then, set-in, length-setWord}
-
-pub length-bytes : (ws : List ℕ) → length (bytesOf ws) ≡ 2 * length ws
-unfolding bytesOf
-length-bytes [] = refl
-length-bytes (w ∷ ws) = omega (arith, length-bytes ws)
 
 pub puts-sets : (s : List ℕ) (i : ℕ) (ws : List ℕ) → i + length ws ≤ words s → puts s i ws ≡ sets s (2 * i) (bytesOf ws)
 unfolding puts bytesOf
@@ -27,7 +23,7 @@ puts-sets s i (w ∷ ws) h =
 -- the whole buffer: what stood before, the words, what stood behind them
 pub puts-eq : (s : List ℕ) (i : ℕ) (ws : List ℕ) → i + length ws ≤ words s → puts s i ws ≡ take (2 * i) s ++ (bytesOf ws ++ drop (2 * i + 2 * length ws) s)
 puts-eq s i ws h =
-    puts-sets s i ws h ∙ sets-eq (bytesOf ws) s (2 * i) (omega (arith, length-bytes ws)) ∙ append-assoc (take (2 * i) s) (bytesOf ws) (drop (2 * i + length (bytesOf ws)) s) ∙ ap (λ (j : ℕ). take (2 * i) s ++ (bytesOf ws ++ drop (2 * i + j) s)) (length-bytes ws)
+    puts-sets s i ws h ∙ sets-eq (bytesOf ws) s (2 * i) (omega (arith, length-bytesOf ws)) ∙ append-assoc (take (2 * i) s) (bytesOf ws) (drop (2 * i + length (bytesOf ws)) s) ∙ ap (λ (j : ℕ). take (2 * i) s ++ (bytesOf ws ++ drop (2 * i + j) s)) (length-bytesOf ws)
 
 pub lengths : (ws : List ℕ) (k n : ℕ) → length ws + k ≡ n → length (ws ++ replicate {A = ℕ} k 0) ≡ n
 lengths ws k n h = length-append ws (replicate {A = ℕ} k 0) ∙ ap (λ (j : ℕ). length ws + j) (length-replicate {A = ℕ} k 0) ∙ h

@@ -1,7 +1,7 @@
 -- The rules one after the other: their locations and words, and the lent bytes. Assumes nothing.
-use Prim.Native.Nat.{ℕ, zero, suc, _+_, _*_, _-_, _/_, _<_, _≤_, min}
+use Prim.Native.Nat.{ℕ, suc, _+_, _*_, _-_, _/_, _<_, _≤_, min}
 use mathlib.Core.Path.{_≡_, refl, sym, ap, _∙_, subst}
-use mathlib.Core.Bool.{Bool, true, false, cond, _&&_}
+use mathlib.Core.Bool.{Bool, true, false, cond, and-false}
 use mathlib.Core.List.{List, [], _∷_, _++_, append-assoc, append-nil}
 use mathlib.Core.Logic.{_⊎_, inl, inr}
 use native.Mathlib.Omega.{arith}
@@ -9,6 +9,7 @@ use lib.Dec.{eqb, ltb, leb}
 use lib.ListN.{length, getD, set, take, drop, replicate, length-append, length-set, length-replicate, length-drop, take-append-drop}
 use lib.Seq.{getD-set-same, getD-set-other, ext-getD, drop-append-add, drop-drop, drop-append-le, length-take-le}
 use borrow.Author.Tests.{ltb-true, ltb-false, eqb-true, eqb-false, le-leb, lt-leb}
+use Rattle.base.proofs.Laws.{lt-or-le, zeros-at}
 use Rattle.base.specs.Common.{if_then_else_}
 use Rattle.program.specs.Program.{Acts, Rule}
 use Rattle.program.specs.Table.{endWords, sizes, sizeRule, sizeRules, rulesWords, place, table}
@@ -26,7 +27,7 @@ use Rattle.emitter.specs.Stands.{IsAll}
 use Rattle.emitter.specs.Work.{Done, Emitted, Extended, ListDone, PatchDone}
 use Rattle.emitter.specs.Emitted.{CellsOf, sortOf, fits, emittedWords, emittedBytes, faultOf, EmitDone, IsRules, rules-none, rules-more, RuleDone, PlaceDone, RulesDone}
 use Rattle.emitter.proofs.Laws.{puts-append, puts-then, cut-small, length-puts}
-use Rattle.emitter.proofs.Bytes.{puts-eq, whole, lengths, length-bytes}
+use Rattle.emitter.proofs.Bytes.{puts-eq, whole, lengths}
 use Rattle.emitter.proofs.Link.{program-stands}
 use Rattle.emitter.proofs.Emits.{emitted-join, emitted-known, emitted-close}
 use Rattle.emitter.proofs.Waits.{Only, Calls, calls, rules-only}
@@ -136,10 +137,6 @@ fixed-back {more} {last} {v = v} k t (fixed-call {r = s} e h) = by (ltb (getD mo
     by true x = let z = t s (ltb-true (getD more s 0) placed x) in absurd (omega arith)
     by false x = fixed-call (sym (k s (ltb-false (getD more s 0) placed x)) ∙ e) h
 
-lt-or : (a b : ℕ) (t : Bool) → ltb a b ≡ t → (a < b) ⊎ (b ≤ a)
-lt-or a b true e = inl (ltb-true a b e)
-lt-or a b false e = inr (ltb-false a b e)
-
 -- and its words written
 module _ (old out mid new : List ℕ) (ms ns : List Mark) (slots more last : List ℕ) (r l : ℕ) (prog : List Rule) (w : Written old out ms slots r prog) (inside : r < length slots) (is-l : l ≡ length ms) (fits : length ms + length ns ≤ words old) (small : length ms + length ns ≤ 4096) (here : l + 1 ≡ place 1 prog r)
     (d : PlaceDone slots more r out mid l) (g : Emitted ns mid new l 0 0 more last) where
@@ -192,7 +189,7 @@ module _ (old out mid new : List ℕ) (ms ns : List Mark) (slots more last : Lis
         let C : Chain P (getD more i 0) (places (rule i) 0 ms) = subst (λ (k : ℕ). Chain P k (places (rule i) 0 ms)) (sym (o i n)) (chain-fill (w .now) (getD slots i 0) (rule r) (rule i) (λ j. l + 1 - 0) 0 ms (λ q. n (rule-eq q)) (w .chains i (omega arith) (omega (arith, E .grown .many, c)))) in
         let D = E .grown .chains (rule i) (places (rule i) 0 ms) (omega (arith, E .grown .many), b) C in
         subst (λ (k : List ℕ). Chain (E .now) (getD last i 0) k) (ap (λ (k : ℕ). places (rule i) k ns ++ places (rule i) 0 ms) (L ∙ omega arith) ∙ sym (places-append (rule i) 0 ms ns)) D);
-    behind = λ i y. rule-behind i y (lt-or i r (ltb i r) refl);
+    behind = λ i y. rule-behind i y (lt-or-le i r);
     ahead = λ i y. (let n : i ≡ r → ⊥ = λ q. omega arith in let q = w .ahead i (omega arith) in E .grown .still i (omega (arith, o i n)));
   }
 
@@ -209,11 +206,6 @@ pub record RulesRest (cs sorts : List ℕ) (rules : ℕ) (prog : List Rule) (old
 
 abbrev pub RulesGo : List ℕ → List ℕ → ℕ → List ℕ → List ℕ → ℕ → ℕ → ℕ → List ℕ → List ℕ → Type 0
 RulesGo cs sorts rules start old q l r out slots = (prog : List Rule) → IsRules cs sorts (length prog) 0 0 prog → rules ≡ length prog → start ≡ replicate 128 0 → RulesRest cs sorts rules prog old q l r out slots
-
-zeros-at : (k i : ℕ) → getD (replicate {A = ℕ} k 0) i 0 ≡ 0
-zeros-at zero i = refl
-zeros-at (suc k) zero = refl
-zeros-at (suc k) (suc i) = zeros-at k i
 
 pub rules-start : (cs sorts : List ℕ) (rules : ℕ) (old slots : List ℕ) → RulesGo cs sorts rules slots old 0 0 0 old slots
 unfolding puts Chain places
@@ -295,13 +287,9 @@ zeros s t e =
     let z : words s - 0 ≡ words s = omega arith in
     whole s [] t (omega arith) (e ∙ ap (λ (u : List ℕ). puts u 0 (replicate {A = ℕ} (words s - 0) 0)) (nothing s 0)) ∙ ap (λ (k : ℕ). bytesOf (replicate {A = ℕ} k 0) ++ drop (2 * words s) s) z
 
-last : (b : Bool) → (b && false) ≡ false
-last true = refl
-last false = refl
-
 off : (prog : List Rule) (room : ℕ) → (4096 < sizeRules prog) ⊎ (room < sizeRules prog) → fits prog room ≡ false
 unfolding fits
-off prog room (inl h) = simp (lt-leb (sizeRules prog) 4096 h) (last (leb (sizeRules prog) room))
+off prog room (inl h) = simp (lt-leb (sizeRules prog) 4096 h) (and-false (leb (sizeRules prog) room))
 off prog room (inr h) = simp (lt-leb (sizeRules prog) room h)
 
 -- 20: whatever stood there, but for an odd last byte

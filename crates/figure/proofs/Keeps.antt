@@ -8,12 +8,12 @@ use native.Mathlib.Decide.{decLt}
 use native.Mathlib.Omega.{arith}
 use native.Mathlib.Nat.{zero-add, suc-add}
 use Prim.Native.Nat.{ℕ, zero, suc, _+_, _-_, _*_, _≤_, _<_}
-use lib.Dec.{eqb, ltb}
 use lib.ListN.{length, getElem?, drop, replicate, length-append, length-replicate}
 use Rattle.agreement.proofs.Laid.{fetch-le, ownWords, rule-alone}
 use Rattle.base.specs.Common.{if_then_else_}
 use Rattle.events.specs.Events.{Event, is}
-use Rattle.machine.specs.Decode.{fetch, Instruction, invalid, jump, input, inputAny, write, inputChoice, callRule, return, setResult, choice, endChoice, setParameter, update, updateWith, choose, chooseWith, decodeOperation, decodeOne, decodeTwo, decodeWord, decodeAt, decode}
+use Rattle.machine.proofs.Decoded.{of-operation, of-one, of-two, of-decode}
+use Rattle.machine.specs.Decode.{fetch, Instruction, invalid, jump, input, inputAny, write, inputChoice, callRule, return, setResult, choice, endChoice, setParameter, update, updateWith, choose, chooseWith, decodeWord, decodeAt, decode}
 use Rattle.machine.specs.Lengths.{lengthOf}
 use Rattle.program.proofs.Lengths.{length-codes}
 use Rattle.program.proofs.Places.{place-from, place-words}
@@ -45,35 +45,10 @@ data Ahead (l : ℕ) : Instruction → Type 0 where
   a-choose : {op : ℕ} → Ahead l (choose op)
   a-chooseWith : {op : ℕ} → Ahead l (chooseWith op)
 
-if-ahead : {l : ℕ} (b : Bool) {i j : Instruction} → Ahead l i → Ahead l j → Ahead l (if b then i else j)
-if-ahead true x y = x
-if-ahead false x y = y
-
-one-ahead : (l i : ℕ) → Ahead l (decodeOne i)
-unfolding decodeOne decodeOperation
-one-ahead l i =
-    if-ahead (eqb i 4) a-any (if-ahead (eqb i 9) a-return (if-ahead (eqb i 12) a-end
-    (if-ahead (ltb i 512) a-update (if-ahead (ltb i 768) a-updateWith (if-ahead (ltb i 1024) a-choose a-chooseWith)))))
-
-two-ahead : (l i x : ℕ) → Ahead l (decodeTwo l i x)
-unfolding decodeTwo
-two-ahead l i x =
-    let far : l < l + 1 + x = omega arith in
-    if-ahead (eqb i 1) a-jump (if-ahead (eqb i 2) a-jump (if-ahead (eqb i 3) a-input (if-ahead (eqb i 5) a-write (if-ahead (eqb i 6) a-write
-    (if-ahead (eqb i 7) (a-token far) (if-ahead (eqb i 8) a-call (if-ahead (eqb i 10) a-result (if-ahead (eqb i 11) (a-choice far) a-parameter))))))))
-
-word-ahead : (l i : ℕ) (f : Option ℕ) → Ahead l (decodeWord l i f)
-unfolding decodeWord
-word-ahead l i none = if-ahead (eqb (lengthOf i) 1) (one-ahead l i) a-invalid
-word-ahead l i (some x) = if-ahead (eqb (lengthOf i) 1) (one-ahead l i) (if-ahead (eqb (lengthOf i) 2) (two-ahead l i x) a-invalid)
-
 decode-ahead : (T : List ℕ) (l : ℕ) → Ahead l (decode T l)
-unfolding decode decodeAt
-decode-ahead T l = go (fetch T l)
-  where
-    go : (f : Option ℕ) → Ahead l (decodeAt l f (fetch T (suc l)))
-    go none = a-invalid
-    go (some i) = word-ahead l i (fetch T (suc l))
+decode-ahead T l = of-decode (Ahead l) T l a-invalid
+    (λ i _. of-one (Ahead l) i (λ _. a-any) (λ _. a-return) (λ _. a-end) (of-operation (Ahead l) i (λ _. a-update) (λ _. a-updateWith) (λ _. a-choose) (λ _. a-chooseWith)))
+    (λ i x _ _. of-two (Ahead l) l i x (λ _ _. a-jump) (λ _ _. a-jump) (λ _. a-input) (λ _. a-write) (λ _. a-write) (λ _ _ h. a-token h) (λ _. a-call) (λ _. a-result) (λ _ _ h. a-choice h) a-parameter)
 
 -- Two tables, the second with instructions behind n only, where the first has the same words
 

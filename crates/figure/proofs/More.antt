@@ -10,6 +10,7 @@ use lib.ListN.{length, getElem?, length-append}
 use borrow.Author.Tests.{leb-true, le-leb}
 use Rattle.agreement.proofs.Lists.{going-stopped, one-going}
 use Rattle.agreement.proofs.Single.{taking, done, oneIn, one, runs}
+use Rattle.agreement.proofs.Theorem.{stays}
 use Rattle.base.specs.Common.{if_then_else_, given}
 use Rattle.events.specs.Events.{Reason, deep, outside, Io, present, took, is}
 use Rattle.machine.specs.Decode.{fetch, Instruction, invalid, jump, input, inputAny, write, inputChoice, callRule, return, setResult, choice, endChoice, setParameter, update, updateWith, choose, chooseWith, decodeOne, decodeTwo, decodeWord, decodeAt, decode}
@@ -168,13 +169,6 @@ module _ (T more : List ℕ) where
     step-alike w = by-decode (decode T (w .location)) (decode (T ++ more) (w .location)) w (decode-alike (w .location))
 
     module _ (answers : List ℕ) where
-      stays : (k : ℕ) (w : Walk) (r : Reason) → w .phase ≡ stopped r → runs T tokens answers k w ≡ w
-      unfolding runs one oneIn
-      stays zero w r e = refl
-      stays (suc k) w r e =
-          let z : one T tokens answers w ≡ w = rw e refl in
-          ap (runs T tokens answers k) z ∙ stays k w r e
-
       stops-same : {p : Phase} {r s : Reason} → p ≡ stopped r → p ≡ stopped s → s ≡ r
       stops-same e f = cc
 
@@ -187,7 +181,7 @@ module _ (T more : List ℕ) where
           next : (n m : Next) → Alike n m → done T tokens answers n w ≡ one T tokens answers w → done (T ++ more) tokens answers m w ≡ one T tokens answers w
           next n m alike-out z =
               let y : one T tokens answers w .phase ≡ stopped outside = ap (λ (u : Walk). u .phase) (sym z) in
-              absurd (h (stops-same y (ap (λ (u : Walk). u .phase) (sym (stays k (one T tokens answers w) outside y)) ∙ e)))
+              absurd (h (stops-same y (ap (λ (u : Walk). u .phase) (sym (stays T tokens answers k (one T tokens answers w) outside y)) ∙ e)))
           next n m alike z = z
 
           go : (p : Phase) → w .phase ≡ p → one (T ++ more) tokens answers w ≡ one T tokens answers w

@@ -9,9 +9,10 @@ use Prim.Native.Nat.{ℕ, zero, suc, _+_, _-_, _*_, _≤_, _<_}
 use lib.Dec.{leb, ltb}
 use lib.ListN.{length, getElem?}
 use borrow.Author.Tests.{ltb-true}
+use Rattle.agreement.proofs.BoundWalk.{given-lt, is-given}
 use Rattle.agreement.proofs.Single.{taking, done}
 use Rattle.base.specs.Common.{if_then_else_, given}
-use Rattle.events.specs.Events.{Event, repair, operation, operationWith, Reason, finished, differs, missing, unlabelled, deep, unanswered, outside, choices, Io, present, took, wrote, answered, mends, spent, is}
+use Rattle.events.specs.Events.{Event, repair, operation, operationWith, Reason, finished, differs, missing, unlabelled, deep, unanswered, outside, choices, present, took, wrote, answered, mends, spent, is}
 use Rattle.machine.specs.Call.{writing}
 use Rattle.machine.specs.Decode.{fetch, Instruction, invalid, jump, input, inputAny, write, inputChoice, callRule, return, setResult, choice, endChoice, setParameter, update, updateWith, choose, chooseWith, decode}
 use Rattle.machine.specs.Step.{Next, goesOutside, stops, goes, tells, asks, goTo, seek, seekBy, landed, branched, inputChoosing, calling, returning, requiring, exec}
@@ -104,26 +105,6 @@ module _ (T tokens answers : List ℕ) where
   unfolding wayOut
   branch P c v taken w o g d = branch-of P c v taken w (fetch T c) o g d
 
-  -- Tokens
-
-  element-lt : (l : List ℕ) (i u : ℕ) → getElem? l i ≡ some u → i < length l
-  element-lt [] i u h = let z : _≡_ {A = ℕ} 0 1 = cc in absurd (omega arith)
-  element-lt (v ∷ l) zero u h = omega arith
-  element-lt (v ∷ l) (suc i) u h = omega (arith, element-lt l i u h)
-
-  present-lt : (io : Io) (u : ℕ) → present tokens io ≡ some u → io .read < length tokens
-  unfolding present
-  present-lt io u e = element-lt tokens (io .read) u e
-
-  given-lt : (io : Io) (o : Option ℕ) → present tokens io ≡ o → given o ≡ true → io .read < length tokens
-  given-lt io none e h = let z : _≡_ {A = ℕ} 0 1 = cc in absurd (omega arith)
-  given-lt io (some u) e h = present-lt io u e
-
-  is-given : (t : ℕ) (o : Option ℕ) → is t o ≡ true → given o ≡ true
-  unfolding is
-  is-given t none h = h
-  is-given t (some u) h = refl
-
   -- Instructions
 
   module _ (w : Walk) (g : w .phase ≡ going) where
@@ -179,7 +160,7 @@ module _ (T tokens answers : List ℕ) where
         default = goes-on g refl refl (leads-token none) (λ x k. record { known = none; true-of = knows-none; onward = λ n e q. does-default q })
     token-step c (some t) e =
         branch (Step (inputChoice c)) c (some t) (withIo (took (w .io)) (withResult t w)) (withResult t w) (out (inputChoice c))
-        (reads-here g (omega (arith, present-lt (w .io) t e)) refl (leads-token (some t)) (λ x. does-token))
+        (reads-here g (omega (arith, given-lt tokens (w .io) (some t) e refl)) refl (leads-token (some t)) (λ x. does-token))
         (λ z. goes-on g refl refl (leads-token (some t)) (λ x k. record { known = none; true-of = knows-none; onward = λ n e q. does-default (rw z at q) }))
 
     choice-step : (c : ℕ) → Step (choice c) (branched T tokens (fetch T c) (some (w .result)) c w w)
@@ -215,11 +196,11 @@ module _ (T tokens answers : List ℕ) where
     step-sort (jump m) = went (Step (jump m)) m w (out (jump m)) (plain-step (jump m) m leads-jump (λ x n e q. does-jump q))
     step-sort (input t) =
         if-step (input t) (is t (present tokens (w .io))) _ _
-        (λ b. reads (input t) (w .location + 2) leads-input (λ x. does-input) (given-lt (w .io) (present tokens (w .io)) refl (is-given t (present tokens (w .io)) b)))
+        (λ b. reads (input t) (w .location + 2) leads-input (λ x. does-input) (given-lt tokens (w .io) (present tokens (w .io)) refl (is-given t (present tokens (w .io)) b)))
         (λ b. if-step (input t) (mends (w .io)) _ _ (λ c. repairs t c) (λ c. stop (input t) differs (λ x. does-input)))
     step-sort inputAny =
         if-step inputAny (given (present tokens (w .io))) _ _
-        (λ b. reads inputAny (w .location + 1) leads-any (λ x. does-any) (given-lt (w .io) (present tokens (w .io)) refl b))
+        (λ b. reads inputAny (w .location + 1) leads-any (λ x. does-any) (given-lt tokens (w .io) (present tokens (w .io)) refl b))
         (λ b. stop inputAny missing (λ x. does-any))
     step-sort (write e) = told-step (write e) (w .location + 2) e leads-write (λ x n e₁ q. does-write q)
     step-sort (inputChoice c) = token-step c (present tokens (w .io)) refl

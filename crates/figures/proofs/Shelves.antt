@@ -8,6 +8,7 @@ use lib.Dec.{eqb}
 use lib.ListN.{length, take, drop, getD, replicate, length-replicate, replicate-append-replicate}
 use lib.Seq.{drop-drop, getD-drop}
 use borrow.Author.Tests.{eq-eqb, ne-eqb, eqb-true}
+use Rattle.base.proofs.Laws.{same-refl, same-eq, zeros-at}
 use Rattle.base.specs.Common.{if_then_else_, same}
 use Rattle.base.specs.Bools.{and, both}
 use Rattle.figures.proofs.Bits.{covered-is, bits-bumps, bit-is}
@@ -18,7 +19,6 @@ use Rattle.figures.specs.Figures.{sum, Figures, empty, bumps, marks, plu
 use Rattle.figures.specs.Figures as figures
 use Rattle.figures.specs.Shelf.{Shelf, no-book, and-book, allSteps, allVisited, bitAt, Sums, RuleByRule}
 use Rattle.figures.specs.Visits.{Given, called, visited, tally}
-use Rattle.machine.proofs.Form.{same-refl, same-≡}
 use Rattle.program.proofs.Lengths.{length-table}
 use Rattle.program.proofs.Places.{place-from}
 use Rattle.program.specs.Program.{Rule, ruleOf}
@@ -41,11 +41,6 @@ every-inside T g h = go (visited T g) (valid-visited T g)
     go : (ls : List ℕ) → Every (Valid T) ls → Every (Inside 4096) ls
     go [] e = tt
     go (l ∷ ls) e = (one l (e .0), go ls (e .1))
-
-getD-zeros : (n i : ℕ) → _≡_ {A = ℕ} (getD (replicate n 0) i 0) 0
-getD-zeros zero i = refl
-getD-zeros (suc n) zero = refl
-getD-zeros (suc n) (suc i) = getD-zeros n i
 
 sum-zeros : (n : ℕ) → sum (replicate n 0) ≡ 0
 unfolding sum
@@ -71,7 +66,7 @@ sums-empty T =
     let b : _≡_ {A = List ℕ} (bitsOf 64 (replicate 4096 0)) (replicate 64 0) = bits-zeros 64 in
     record {
       size = length-replicate {A = ℕ} 4096 0;
-      counts = λ i. getD-zeros 4096 i;
+      counts = λ i. zeros-at 4096 i;
       bits = sym b;
       bit = λ l p h. ap (λ (ws : List ℕ). bitAt ws l) (sym b) ∙ bit-is (replicate 4096 0) l p h;
       coverage = ap covered (sym b) ∙ covered-is (replicate 4096 0) (length-replicate {A = ℕ} 4096 0);
@@ -212,7 +207,7 @@ balanced f e =
     let c = and (eqb (f .total) (sum (f .counts))) last (b .1) in
     record {
       size = eqb-true (length (f .counts)) 4096 (a .0);
-      bits = same-≡ (f .bits) (bitsOf 64 (f .counts)) (b .0);
+      bits = same-eq (f .bits) (bitsOf 64 (f .counts)) (b .0);
       total = eqb-true (f .total) (sum (f .counts)) (c .0);
     }
 

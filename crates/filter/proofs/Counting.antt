@@ -6,9 +6,10 @@ use Prim.Native.Nat.{ℕ, zero, suc, _+_, _*_, _/_, _<_, _≤_}
 use native.Mathlib.Decide.{decLe, decLt}
 use native.Mathlib.Omega.{arith}
 use lib.Dec.{eqb, leb}
-use lib.ListN.{length, getD, set, drop, replicate, length-set}
+use lib.ListN.{length, getD, set, drop, length-set}
 use lib.Seq.{getD-set-same, getD-set-other}
 use borrow.Author.Tests.{eqb-true, eqb-false, le-leb, lt-leb}
+use Rattle.base.proofs.Laws.{above-zero}
 use Rattle.base.specs.Bools.{split}
 use Rattle.base.specs.Common.{if_then_else_}
 use Rattle.filtering.specs.Filter.{Entry, entries, has, holders, lowest, doubled, missing, tokenOf}
@@ -57,11 +58,7 @@ module _ (s : List ℕ) (i x : ℕ) (h : i < length s / 4) where
   unfolding holders
   sofar-later k t n z p =
       let c = rw (drop-entries s i h, n) at (p .count) in
-      record { few = omega (arith, p .few); count = omega (arith, c); none-yet = λ y. absurd (omega (arith, y)); found = λ y. p .found (some-yet k z) }
-    where
-      some-yet : (k : ℕ) → (k ≡ 0 → ⊥) → 1 ≤ k
-      some-yet zero z = absurd (z refl)
-      some-yet (suc k) z = omega arith
+      record { few = omega (arith, p .few); count = omega (arith, c); none-yet = λ y. absurd (omega (arith, y)); found = λ y. p .found (above-zero k z) }
 
 -- what `tally_byte` leaves
 pub counts-later : (b token : ℕ) (held map : List ℕ) → (getD held b 0 ≡ 0 → ⊥) → Counts b token held map (set held b (getD held b 0 + 1)) map
@@ -142,11 +139,6 @@ module _ (s : List ℕ) (i : ℕ) (h : i < length s / 4) where
         less x y p q = elim (decLt x y) [ yes t ↦ t | no n ↦ absurd (q (omega arith)) ]
 
 -- All entries
-
-pub zeros : (n x : ℕ) → _≡_ {A = ℕ} (getD (replicate n 0) x 0) 0
-zeros zero x = refl
-zeros (suc n) zero = refl
-zeros (suc n) (suc x) = zeros n x
 
 pub tally-start : (s held map : List ℕ) → length held ≡ 256 → length map ≡ 256 → ((x : ℕ) → getD held x 0 ≡ 0) → Tallied s 0 held map
 tally-start s held map a b z = record {

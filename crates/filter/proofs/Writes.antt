@@ -8,6 +8,7 @@ use native.Mathlib.Omega.{arith}
 use lib.Dec.{eqb, leb, ltb}
 use lib.ListN.{length, getD, set, take, length-set}
 use borrow.Author.Tests.{eqb-false, le-leb, lt-leb}
+use Rattle.base.proofs.Laws.{above-zero}
 use Rattle.base.specs.Common.{if_then_else_}
 use Rattle.buffers.proofs.Writes.{upto-start, upto-put, upto-end}
 use Rattle.buffers.specs.Words.{putWord}
@@ -199,12 +200,8 @@ module _ (s text out : List ℕ) where
 
           mapped : Mapped (entries s) map
           unfolding missing
-          mapped = map-is s (length s / 4) refl held map p (λ x u. one-at-least (holders x (entries s))
+          mapped = map-is s (length s / 4) refl held map p (λ x u. above-zero (holders x (entries s))
               (eqb-false (holders x (entries s)) 0 (lowest-none (λ b. eqb (holders b (entries s)) 0) 256 0 (no-missing um) x (omega arith) (omega arith))))
-            where
-              one-at-least : (k : ℕ) → (k ≡ 0 → ⊥) → 1 ≤ k
-              one-at-least zero z = absurd (z refl)
-              one-at-least (suc k) z = omega arith
 
           pub all-written : (after : List ℕ) → length text ≤ count out → ((i : ℕ) → getD text i 0 < 256) → after ≡ over (bytesOf (mapTokens map text)) out
               → Leaves (filter s text (count out)) 0 0 (length text) out after

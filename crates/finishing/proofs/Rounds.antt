@@ -47,7 +47,7 @@ none-missing (g ∷ fs) es e (List·Memᴰ·tail i) =
     (λ d. let z : 0 + missing fs es ≡ 0 = rw d at e in none-missing fs es (omega arith) i)
     (λ d. let z : 1 + missing fs es ≡ 0 = rw d at e in absurd (omega arith))
 
-one-more : (a b : Bool) → cond (a || b) 0 1 ≤ cond b 0 1
+pub one-more : (a b : Bool) → cond (a || b) 0 1 ≤ cond b 0 1
 one-more true true = omega arith
 one-more true false = omega arith
 one-more false true = omega arith

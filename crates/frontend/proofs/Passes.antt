@@ -10,8 +10,8 @@ use Rattle.declarations.proofs.Declaring.{declares-wrong, declares-good}
 use Rattle.declarations.proofs.Whole.{length-sections, length-decls, few-decls}
 use Rattle.declarations.specs.Decls.{EntriesAt, declsOf, declFaults, entriesOf}
 use Rattle.declarer.specs.Faults.{Faults, clean, faulty}
-use Rattle.grammar.proofs.ProgramIn.{parse-in}
-use Rattle.grammar.specs.Derived.{ProgramIn, a-program}
+use Rattle.grammar.proofs.ProgramIn.{few-in, parse-in}
+use Rattle.grammar.specs.Derived.{ProgramIn}
 use Rattle.names.specs.Known.{Checked, good, wrong, Names}
 use Rattle.names.specs.Understand.{understand}
 use Rattle.symbols.specs.Rows.{held}
@@ -22,10 +22,6 @@ use Rattle.frontend.proofs.Steps.{understand-wrong, understand-good, ru
 use Rattle.frontend.specs.Resolving.{rulesBy, Declared, Resolves, mistaken, ResolvesRules}
 use Rattle.frontend.specs.declared.Resolved.{Resolved}
 use Rattle.words.specs.Words.{Word, words, wordsAt}
-
--- at most 128 rules were read
-few-rules : {ws : List Word} {p : Program} → ProgramIn ws p → length (p .rules) ≤ 128
-few-rules (a-program s h r e few names) = few
 
 -- the whole text is its words from place 0 on
 derives : (text : List ℕ) (p : Program) (ws : List Word) → parse text ≡ got p ws → ProgramIn (wordsAt text 0) p
@@ -87,7 +83,7 @@ module _ (text : List ℕ) (p : Program) (ws : List Word) (e : parse text ≡ go
             left = its .left;
             again = its .again;
             ending = its .ending;
-            few = few-rules (derives text p ws e);
+            few = few-in (derives text p ws e) .0;
             few-names = omega (arith, few, length-decls p);
             accepts = rules-accepted text p ws n e (x .1);
           }))

@@ -4,12 +4,11 @@ use mathlib.Core.List.{List, [], _++_}
 use mathlib.Core.Logic.{_⊎_, inl, inr}
 use mathlib.Core.Path.{_≡_, refl, sym, ap, _∙_, subst}
 use Prim.Native.Nat.{ℕ, _+_, _-_, _<_, _≤_}
-use lib.Dec.{ltb}
 use lib.ListN.{length, length-append, getD}
-use borrow.Author.Tests.{ltb-true, ltb-false}
 use native.Mathlib.Omega.{arith}
 use Rattle.acceptance.proofs.Accepts.{rule-before, later-procedures}
 use Rattle.acceptance.proofs.Used.{rules-used, pairs-used, made-are, made-few}
+use Rattle.base.proofs.Laws.{lt-or-le}
 use Rattle.builder.specs.Rules.{RulesEnd, built, faulty, RulesDone}
 use Rattle.builder.specs.declared.Rules.{Rules}
 use Rattle.cells.specs.Cells.{rulesCells, cellsStart, sortOf}
@@ -44,14 +43,6 @@ unfolding sortOf
 no-sort true e = let z : _≡_ {A = ℕ} 0 1 = cc in absurd (omega (arith, z))
 no-sort false e = refl
 
--- before a place, or behind it
-side : (r k : ℕ) → (r < k) ⊎ (k ≤ r)
-side r k = go (ltb r k) refl
-  where
-    go : (b : Bool) → ltb r k ≡ b → (r < k) ⊎ (k ≤ r)
-    go true e = inl (ltb-true r k e)
-    go false e = inr (ltb-false r k e)
-
 -- The buffers with the rules made behind those written
 
 module _ {cs cs₁ starts₁ sorts₁ cs₂ starts₂ sorts₂ : List ℕ} {c k : ℕ} {m : Made} (own ms : List Rule) (app : Appends cs 0 (rulesCells own) cs₁ c) (same : k ≡ c)
@@ -64,7 +55,7 @@ module _ {cs cs₁ starts₁ sorts₁ cs₂ starts₂ sorts₂ : List ℕ} {c k 
   module _ (later : (r : ℕ) → length own ≤ r → r < length (own ++ ms) → ruleOf (own ++ ms) r .valued ≡ false)
       (sorted : (r : ℕ) → r < length own → getD sorts₁ r 0 ≡ sortOf (ruleOf own r .valued)) where
     sorts-are : (r : ℕ) → r < length (own ++ ms) → getD sorts₂ r 0 ≡ sortOf (ruleOf (own ++ ms) r .valued)
-    sorts-are r l = go (side r (length own))
+    sorts-are r l = go (lt-or-le r (length own))
       where
         go : (r < length own) ⊎ (length own ≤ r) → getD sorts₂ r 0 ≡ sortOf (ruleOf (own ++ ms) r .valued)
         go (inl h) = more .sorts-kept r h ∙ sorted r h ∙ ap (λ (x : Rule). sortOf (x .valued)) (sym (rule-before own ms r h))
@@ -74,7 +65,7 @@ module _ {cs cs₁ starts₁ sorts₁ cs₂ starts₂ sorts₂ : List ℕ} {c k 
 
   module _ (begins : c ≤ length cs → (r : ℕ) → r < length own → getD starts₁ r 0 ≡ cellsStart 0 own r) where
     starts-are : m .count ≤ length cs → (r : ℕ) → r < length (own ++ ms) → getD starts₂ r 0 ≡ cellsStart 0 (own ++ ms) r
-    starts-are fits r l = go (side r (length own))
+    starts-are fits r l = go (lt-or-le r (length own))
       where
         low : c ≤ length cs
         low = omega (arith, fits, same, more .cells .count, appends-length app)

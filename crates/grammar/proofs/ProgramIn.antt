@@ -63,6 +63,9 @@ rules-from (suc k) left =
 -- The program
 
 -- "Limits: 128 rules, 512 names"
+pub few-in : {ws : List Word} {p : Program} → ProgramIn ws p → (length (p .rules) ≤ 128) × (namesInAll (p .sections) + length (p .rules) ≤ 512)
+few-in (a-program s h r e few names) = (few, names)
+
 counts : {s : Sections} {ws rest ws₁ rest₁ : List Word} {rs : List Rule} → AllSections nothing ws rest s → SomeRules (min 128 (s .left)) ws₁ rest₁ rs
     → (length rs ≤ 128) × (namesInAll (s .sections) + length rs ≤ 512)
 unfolding nothing

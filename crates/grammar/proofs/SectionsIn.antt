@@ -9,6 +9,7 @@ use lib.Dec.{eqb, ltb}
 use lib.ListN.{length}
 use borrow.Author.Tests.{ltb-false, eq-eqb, ne-eqb, ltb-true, eqb-true, eqb-false}
 use native.Mathlib.Omega.{arith}
+use Rattle.base.proofs.Laws.{neither, above-zero, same-eq}
 use Rattle.base.specs.Common.{if_then_else_, given, bytes, same}
 use Rattle.grammar.specs.Derived.{Took, Not, SpellingIn, no-strings, no-spelling, a-spelling, CountIn, a-number, counted, EntryIn, an-entry, EntriesIn, last-entry, more-entries, GivesIn, gives-none, gives-some, TakesIn, takes-none, takes-some, OperationIn, an-operation, OperationsIn, last-operation, more-operations, ListedIn, listed-in, SectionIn, inputs-in, both-in, outputs-in, errors-in, values-in, operations-in, SectionsIn, no-section, more-sections, namesIn, namesInAll, SideIn, left-in, right-in, OperatorIn, an-operator, OperatorsIn, last-operator, more-operators, operators-in}
 use Rattle.grammar.proofs.Laws.{From, no-got, bind, next, gives, refuses, either, on-kind, weaken, passes, expects, a-name, Named, one-name, name-or-string}
@@ -17,7 +18,7 @@ use Rattle.syntax.specs.Reading.{got, fault, onward, _>>=_, _>>_, pure, peek, p
 use Rattle.syntax.specs.Sections.{aSpelling, aCount, anEntry, entries, firstOf, kindAhead, isFull, aParameter, numbered, anOperation, someOperations, Sofar, after, tokenSection, aSection, Sections, someSections, ofKind, spells, ranking, aLevel, aSide, anOperator, someOperators, operatorSection, mechanismSection, otherSection}
 use Rattle.syntax.specs.Written.{Entry, Operation, Section, inputs, outputs, both, errors, values, operations, Operator, operators}
 use Rattle.words.specs.Words.{Word, twice, number, string, input, output, error, type, mechanism, rules, value, name}
-use Rattle.base.specs.Bools.{never, and}
+use Rattle.base.specs.Bools.{and}
 
 -- Entries
 
@@ -36,7 +37,7 @@ record Number (ws rest : List Word) (n : ℕ) : Type 0 where
   pub low : n ≤ 65535
 
 -- the next word is the one that was taken
-peek-took : {k : ℕ} {ws rest : List Word} {w : Word} → Took k ws w rest → peek ws ≡ w
+pub peek-took : {k : ℕ} {ws rest : List Word} {w : Word} → Took k ws w rest → peek ws ≡ w
 unfolding peek
 peek-took {w = w} t = rw (t .here) refl
 
@@ -183,16 +184,6 @@ some-operations-in (suc k) left seen =
 
 -- Operators
 
-same-eq : (a b : List ℕ) → same a b ≡ true → a ≡ b
-same-eq [] [] e = refl
-same-eq [] (y ∷ ys) e = never e
-same-eq (x ∷ xs) [] e = never e
-same-eq (x ∷ xs) (y ∷ ys) e = go (eqb x y) refl e (same-eq xs ys)
-  where
-    go : (t : Bool) → eqb x y ≡ t → (if t then same xs ys else false) ≡ true → (same xs ys ≡ true → xs ≡ ys) → x ∷ xs ≡ y ∷ ys
-    go true d h f = rw (eqb-true x y d, f h) refl
-    go false d h f = never h
-
 -- the next word, a name with this text
 record Spelt (text : List ℕ) (ws rest : List Word) (w : Word) : Type 0 where
   pub word : Took 257 ws w rest
@@ -211,14 +202,6 @@ record Ranking (ws rest : List Word) (n : ℕ) : Type 0 where
   pub same : n ≡ value 0 (digits .text)
   pub low : 1 ≤ n
   pub high : n ≤ 15
-
-neither : (a b : Bool) → (a || b) ≡ false → (a ≡ false) × (b ≡ false)
-neither true b e = never (sym e)
-neither false b e = (refl, e)
-
-above-zero : (n : ℕ) → (n ≡ 0 → ⊥) → 1 ≤ n
-above-zero zero h = absurd (h refl)
-above-zero (suc n) h = omega arith
 
 ranking-in : {ws : List Word} → peek ws .kind ≡ 258 → From ws ranking (λ rest n. Ranking ws rest n)
 unfolding ranking over

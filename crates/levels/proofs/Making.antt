@@ -10,6 +10,7 @@ use borrow.Author.Tests.{ltb-true, ltb-false}
 use lib.Dec.{ltb}
 use lib.ListN.{length, getD, set, length-set}
 use lib.Seq.{getD-set-same, getD-set-other}
+use Rattle.base.proofs.Laws.{neither}
 use Rattle.cells.specs.Cells.{actsCells, rulesCells, cellsStart}
 use Rattle.declarations.specs.Decls.{Agrees, Decl, EntriesAt, entriesOf, declOf, indexOf, mapped, ruleFrom, operatorsFrom}
 use Rattle.grammar.specs.Derived.{OperatorsIn}
@@ -20,7 +21,7 @@ use Rattle.levels.specs.declared.Made.{Made}
 use Rattle.levels.specs.declared.Nested.{Nested}
 use Rattle.levels.specs.declared.Site.{Site}
 use Rattle.maker.proofs.Ranking.{RankIs, rank-is}
-use Rattle.maker.proofs.Taking.{row-at, row-less, levels-used, or-first}
+use Rattle.maker.proofs.Taking.{row-at, row-less, levels-used}
 use Rattle.maker.specs.Pairing.{PlaceOf, passes}
 use Rattle.maker.specs.Pairs.{Pair, pairAt, pairsFrom, pairsHeld, sectionRow, operandRow, Ordered, AllOrdered, pairOf, pairsMean, PairsAre}
 use Rattle.maker.specs.Ranks.{noRank, RankDone}
@@ -238,7 +239,7 @@ made-split names ks others own u us ms e = go (passes others own (levelsUsed nam
     go false f q = inner (madeFor names ks others (own + length (levelsUsed names u)) us) f refl q
 
 few-rules : (others own : ℕ) (ls : List Level) → passes others own ls ≡ false → own + length ls ≤ 128
-few-rules others own ls e = ltb-false 128 (own + length ls) (or-first (ltb 128 (own + length ls)) _ (or-first _ (crowded ls) e))
+few-rules others own ls e = ltb-false 128 (own + length ls) (neither (ltb 128 (own + length ls)) _ (neither _ (crowded ls) e .0) .0)
 
 operand-is : (text rows : List ℕ) (n : ℕ) {p : Program} {names : Names} {ks : List KnownRule} (u : Use) → Agrees p names ks (held text rows n) → Ordered (held text rows n) u
     → operandOf ks u ≡ getD rows (8 * operandRow (held text rows n) u + 1) 0

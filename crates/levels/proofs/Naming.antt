@@ -8,13 +8,14 @@ use native.Mathlib.Omega.{arith}
 use borrow.Author.Tests.{eq-eqb, ne-eqb, eqb-true}
 use lib.Dec.{eqb}
 use lib.ListN.{length}
+use Rattle.base.proofs.Laws.{same-eq, same-refl, neither}
 use Rattle.base.specs.Bools.{never, and}
 use Rattle.base.specs.Common.{if_then_else_, same}
 use Rattle.declarations.specs.Decls.{Decl}
 use Rattle.levels.specs.Naming.{isOf, firstUse, AllFirst, Names, WordOf, FirstDone}
 use Rattle.levels.specs.declared.Part.{Part}
 use Rattle.maker.proofs.Holding.{operand-is}
-use Rattle.maker.proofs.Walking.{same-refl, same-pair, sign-of, word-long, marks-end, marks-last, marks-use, marks-other}
+use Rattle.maker.proofs.Walking.{same-pair, sign-of, word-long, marks-end, marks-last, marks-use, marks-other}
 use Rattle.maker.specs.Marks.{useOf, marks}
 use Rattle.maker.specs.Pairing.{UseRead, AllNamed}
 use Rattle.maker.specs.Pairs.{sectionRow, operandRow, Ordered, AllOrdered}
@@ -22,7 +23,6 @@ use Rattle.maker.specs.declared.Used.{Used}
 use Rattle.names.specs.Uses.{Use, rulesUses, samePair, isUsed, firsts, pairsOf}
 use Rattle.scanner.specs.Next.{Next, asWord}
 use Rattle.scanner.specs.declared.WordAt.{WordAt}
-use Rattle.symbols.proofs.Along.{same-list}
 use Rattle.symbols.specs.Rows.{held}
 use Rattle.syntax.specs.Written.{Rule}
 use Rattle.words.specs.Words.{Word, wordsAt}
@@ -129,7 +129,7 @@ unfolding samePair isUsed
 used-same u v [] e = refl
 used-same u v (x ∷ seen) e =
     let b = and (same (u .section .text) (v .section .text)) (same (u .operand .text) (v .operand .text)) e in
-    let one : samePair u x ≡ samePair v x = rw (same-list (u .section .text) (v .section .text) (b .0), same-list (u .operand .text) (v .operand .text) (b .1)) refl in
+    let one : samePair u x ≡ samePair v x = rw (same-eq (u .section .text) (v .section .text) (b .0), same-eq (u .operand .text) (v .operand .text) (b .1)) refl in
     ap (λ (t : Bool). t || isUsed u seen) one ∙ ap (λ (t : Bool). samePair v x || t) (used-same u v seen e)
 
 is-same : {ds : List Decl} {u v : Use} → Ordered ds v → Ordered ds u → isOf ds (sectionRow ds v) (operandRow ds v) u ≡ samePair v u
@@ -158,14 +158,6 @@ first-not : (ds : List Decl) (s o : ℕ) (pre : List Use) (u : Use) → firstUse
 unfolding firstUse
 first-not ds s o pre u e f = first-behind ds s o pre (u ∷ []) e ∙ rw f refl
 
-or-left : (a b : Bool) → (a || b) ≡ false → a ≡ false
-or-left true b e = never (sym e)
-or-left false b e = refl
-
-or-right : (a b : Bool) → (a || b) ≡ false → b ≡ false
-or-right true b e = never (sym e)
-or-right false b e = e
-
 self : (u : Use) → samePair u u ≡ true
 unfolding samePair
 self u = rw (same-refl (u .section .text), same-refl (u .operand .text)) refl
@@ -191,7 +183,7 @@ all-first ds pre (u ∷ us) seen or c = go (isUsed u seen) refl (all-first ds (p
         not-same v true p q = never (sym q ∙ (used-same v u seen p ∙ e))
     go false e f g = (
       first-behind ds (sectionRow ds u) (operandRow ds u) pre (u ∷ us) (c u (or .0) e) ∙ first-one ds (sectionRow ds u) (operandRow ds u) u us (is-same (or .0) (or .0) ∙ self u),
-      rw whole at (g (λ v a q. first-not ds (sectionRow ds v) (operandRow ds v) pre u (c v a (or-right (samePair v u) (isUsed v seen) q)) (other v a (or-left (samePair v u) (isUsed v seen) q)))),
+      rw whole at (g (λ v a q. first-not ds (sectionRow ds v) (operandRow ds v) pre u (c v a (neither (samePair v u) (isUsed v seen) q .1)) (other v a (neither (samePair v u) (isUsed v seen) q .0)))),
     )
 
 pub pairs-first : (ds : List Decl) (rules : List Rule) → AllOrdered ds (rulesUses rules) → AllFirst ds (rulesUses rules) (pairsOf rules)

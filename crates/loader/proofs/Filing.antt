@@ -8,6 +8,7 @@ use lib.Dec.{eqb, leb}
 use lib.ListN.{length, drop, getD, length-drop}
 use lib.Seq.{getD-drop, drop-drop}
 use borrow.Author.Tests.{eqb-true, eqb-false, eq-eqb, ne-eqb, leb-true, le-leb, lt-leb}
+use Rattle.base.proofs.Laws.{above-zero}
 use Rattle.base.specs.Bools.{never, and, both, split, same}
 use Rattle.base.specs.Common.{if_then_else_}
 use Rattle.machine.proofs.Bytes.{length-wordsOf}
@@ -192,16 +193,8 @@ module _ (s : List ℕ) where
       → n ≡ getD (wordsOf s) 2 0 → (n ≡ 0 → ⊥) → n ≤ 4096 → v ≡ getD (wordsOf s) 3 0 → v ≤ 1 → x ≡ formed 16 n (drop 4 (wordsOf s)) → x ≡ true → n ≡ sizeNamed s
   unfolding sizeNamed tableNamed
   whole-file w₀ w₁ n v x b o e₀ m₀ e₁ m₁ e₂ a u e₃ l g t =
-      let h = heading (wordsOf s) (sym e₀ ∙ m₀) (sym e₁ ∙ m₁) (allowed-is (getD (wordsOf s) 2 0) (getD (wordsOf s) 3 0) (above (getD (wordsOf s) 2 0) (λ q. a (e₂ ∙ q))) (omega arith) (omega arith))
+      let h = heading (wordsOf s) (sym e₀ ∙ m₀) (sym e₁ ∙ m₁) (allowed-is (getD (wordsOf s) 2 0) (getD (wordsOf s) 3 0) (above-zero (getD (wordsOf s) 2 0) (λ q. a (e₂ ∙ q))) (omega arith) (omega arith))
       (ap (λ (m : ℕ). formed 16 m (drop 4 (wordsOf s))) (sym e₂) ∙ sym g ∙ t) in
       let f = headed-file s b o h in
       let k = file-words (wordsOf s) (heads (wordsOf s) h) in
       rw f (e₂ ∙ sym (k .0))
-    where
-      above : (z : ℕ) → (z ≡ 0 → ⊥) → 1 ≤ z
-      above zero q = absurd (q refl)
-      above (suc z) q = omega arith
-
-pub positive : (z : ℕ) → (z ≡ 0 → ⊥) → 1 ≤ z
-positive zero q = absurd (q refl)
-positive (suc z) q = omega arith

@@ -9,6 +9,7 @@ use lib.Dec.{eqb, leb}
 use lib.ListN.{length, getD, set, replicate, length-set, length-replicate}
 use lib.Seq.{getD-set-same, getD-set-other}
 use borrow.Author.Tests.{eqb-true, eqb-false, leb-true, le-leb}
+use Rattle.base.proofs.Laws.{zeros-at}
 use Rattle.base.specs.Bools.{never, and, split}
 use Rattle.base.specs.Common.{if_then_else_, member}
 use Rattle.loading.proofs.Members.{member-head, member-tail, member-cons}
@@ -233,10 +234,5 @@ passed-room passed e = ap length e ∙ length-replicate {A = ℕ} 256 0
 pub none-passed : (T : List ℕ) (size : ℕ) (seen passed : List ℕ) → passed ≡ replicate 256 0 → Passed T size seen passed
 none-passed T size seen passed e = record {
   room = passed-room passed e;
-  ways = λ b f. absurd (f (ap (λ (z : List ℕ). getD z b 0) e ∙ zero-at 256 b));
+  ways = λ b f. absurd (f (ap (λ (z : List ℕ). getD z b 0) e ∙ zeros-at 256 b));
 }
-  where
-    zero-at : (n i : ℕ) → getD (replicate {A = ℕ} n 0) i 0 ≡ 0
-    zero-at zero i = refl
-    zero-at (suc n) zero = refl
-    zero-at (suc n) (suc i) = zero-at n i

@@ -7,17 +7,17 @@ use mathlib.Core.Path.{_≡_, refl, sym, ap, _∙_}
 use Prim.Native.Nat.{ℕ, zero, suc, _+_, _*_, _-_, _<_, _≤_}
 use native.Mathlib.Omega.{arith}
 use native.Mathlib.Numerals.{add-one}
-use lib.Dec.{eqb, leb, ltb}
+use lib.Dec.{eqb, leb}
 use lib.ListN.{length, getD, set, replicate, length-replicate, getD-replicate}
 use lib.Seq.{ext-getD, getD-set-same, getD-set-other}
 use native.Mathlib.Decide.{decLt}
-use borrow.Author.Tests.{eqb-true, eqb-false, eq-eqb, ne-eqb, leb-true, le-leb, lt-leb}
+use borrow.Author.Tests.{eqb-true, eqb-false, eq-eqb, leb-true, le-leb, lt-leb}
 use Rattle.base.specs.Bools.{never, split}
 use Rattle.base.specs.Common.{if_then_else_, given}
-use Rattle.machine.specs.Decode.{fetch, Instruction, invalid, jump, input, inputAny, write, inputChoice, callRule, return, setResult, choice, endChoice, setParameter, update, updateWith, choose, chooseWith, decodeOperation, decodeTwo, decodeOne, decodeWord, decodeAt, decode}
+use Rattle.machine.proofs.Decoded.{of-operation, of-one, of-two}
+use Rattle.machine.specs.Decode.{fetch, Instruction, invalid, jump, inputChoice, callRule, return, choice, endChoice, decodeTwo, decodeOne, decodeWord, decodeAt, decode}
 use Rattle.machine.specs.Bytes.{wordsOf, tableOf}
 use Rattle.machine.specs.Lengths.{lengths, lengthOf}
-use Rattle.events.specs.Events.{output, signal}
 use Rattle.loading.specs.Reach.{fits, bad, gives37}
 use Rattle.loading.specs.Taking.{backFrom, labelled, chosen, onward, ways}
 use Rattle.loading.proofs.Members.{fetch-inside, inside-fetch}
@@ -25,12 +25,16 @@ use Rattle.loader.specs.Marking.{Work, work, markOf, marksOf, failed, vi
 use Rattle.loader.proofs.Laws.{table-fetch, marks-one, marks-on, marks-stop, append-on, append-stop}
 
 -- no word past the table
-fetch-past : (T : List ℕ) (l : ℕ) → length T < l → fetch T l ≡ none
+pub fetch-past : (T : List ℕ) (l : ℕ) → length T < l → fetch T l ≡ none
 fetch-past T l h = go (fetch T l) refl
   where
     go : (o : Option ℕ) → fetch T l ≡ o → o ≡ none
     go none e = refl
     go (some x) e = let r = fetch-inside T l (rw e) in absurd (omega (arith, r .1))
+
+pub decode-both : (T : List ℕ) (l i x : ℕ) → fetch T l ≡ some i → lengthOf i ≡ 2 → fetch T (l + 1) ≡ some x → decode T l ≡ decodeTwo l i x
+unfolding decode decodeAt decodeWord
+decode-both T l i x here e f = let g : fetch T (suc l) ≡ some x = rw (add-one l) at f in rw (here, g, decodeWord, e)
 
 module _ (T : List ℕ) (l i : ℕ) (here : fetch T l ≡ some i) where
   pub decode-none : lengthOf i ≡ 0 → decode T l ≡ invalid
@@ -49,13 +53,9 @@ module _ (T : List ℕ) (l i : ℕ) (here : fetch T l ≡ some i) where
       go none = rw e
       go (some x) = rw e
 
-  decode-two : (x : ℕ) → lengthOf i ≡ 2 → fetch T (l + 1) ≡ some x → decode T l ≡ decodeTwo l i x
+  pub decode-short : lengthOf i ≡ 2 → length T < l + 1 → decode T l ≡ invalid
   unfolding decode decodeAt decodeWord
-  decode-two x e f = let g : fetch T (suc l) ≡ some x = rw (add-one l) at f in rw (here, g, decodeWord, e)
-
-  decode-cut : lengthOf i ≡ 2 → length T < l + 1 → decode T l ≡ invalid
-  unfolding decode decodeAt decodeWord
-  decode-cut e h = let g : fetch T (suc l) ≡ none = fetch-past T (suc l) (omega arith) in rw (here, g, decodeWord, e)
+  decode-short e h = let g : fetch T (suc l) ≡ none = fetch-past T (suc l) (omega arith) in rw (here, g, decodeWord, e)
 
 -- a visit, by the instruction
 visit-by : (T : List ℕ) (l : ℕ) (i : Instruction) (w : Work) → decode T l ≡ i
@@ -84,29 +84,17 @@ visit-choice T l c i w e b o = visit-by T l i w e ∙ rw (b, o) (go (fits T c (f
 abbrev Next : List ℕ → ℕ → Instruction → ℕ → Type 0
 Next T l i m = (bad T i ≡ false) × (onward T l i ≡ m ∷ [])
 
-if-next : (T : List ℕ) (l m : ℕ) (b : Bool) (x y : Instruction) → Next T l x m → Next T l y m → Next T l (if b then x else y) m
-if-next T l m true x y p q = p
-if-next T l m false x y p q = q
-
-next-operation : (T : List ℕ) (l i : ℕ) → Next T l (decodeOperation i) (l + 1)
-unfolding decodeOperation bad onward
-next-operation T l i =
-    if-next T l (l + 1) (ltb i 512) (update i) _ (refl, refl)
-    (if-next T l (l + 1) (ltb i 768) (updateWith i) _ (refl, refl) (if-next T l (l + 1) (ltb i 1024) (choose i) (chooseWith i) (refl, refl) (refl, refl)))
-
 next-one : (T : List ℕ) (l i : ℕ) → (i ≡ 9 → ⊥) → (i ≡ 12 → ⊥) → Next T l (decodeOne i) (l + 1)
-unfolding decodeOne bad onward
-next-one T l i a b =
-    rw (ne-eqb i 9 a, ne-eqb i 12 b) (if-next T l (l + 1) (eqb i 4) inputAny (decodeOperation i) (refl, refl) (next-operation T l i))
+unfolding bad onward
+next-one T l i a b = of-one on i (λ _. (refl, refl)) (λ e. absurd (a e)) (λ e. absurd (b e)) (of-operation on i (λ _. (refl, refl)) (λ _. (refl, refl)) (λ _. (refl, refl)) (λ _. (refl, refl)))
+  where
+    on : Instruction → Type 0
+    on j = Next T l j (l + 1)
 
 next-two : (T : List ℕ) (l i x : ℕ) → (i ≡ 1 → ⊥) → (i ≡ 2 → ⊥) → (i ≡ 7 → ⊥) → (i ≡ 8 → ⊥) → (i ≡ 11 → ⊥) → Next T l (decodeTwo l i x) (l + 2)
-unfolding decodeTwo bad onward
+unfolding bad onward
 next-two T l i x a b c d e =
-    rw (ne-eqb i 1 a, ne-eqb i 2 b, ne-eqb i 7 c, ne-eqb i 8 d, ne-eqb i 11 e)
-    (if-next T l (l + 2) (eqb i 3) (input x) _ (refl, refl)
-    (if-next T l (l + 2) (eqb i 5) (write (output x)) _ (refl, refl)
-    (if-next T l (l + 2) (eqb i 6) (write (signal x)) _ (refl, refl)
-    (if-next T l (l + 2) (eqb i 10) (setResult x) (setParameter x) (refl, refl) (refl, refl)))))
+    of-two (λ j. Next T l j (l + 2)) l i x (λ q. absurd (a q)) (λ q. absurd (b q)) (λ _. (refl, refl)) (λ _. (refl, refl)) (λ _. (refl, refl)) (λ q. absurd (c q)) (λ q. absurd (d q)) (λ _. (refl, refl)) (λ q. absurd (e q)) (refl, refl)
 
 -- The ways out of the functions
 
@@ -128,7 +116,7 @@ module _ {T : List ℕ} {l size tail : ℕ} {seen order : List ℕ} where
 
   pub outside-cut : (i : ℕ) → Ready T l size tail seen order → fetch T l ≡ some i → lengthOf i ≡ 2 → size < l + 1
       → Marked size (visitOf T l (work true tail seen order)) false tail seen order
-  outside-cut i r h e b = failing _ (r .kept) (visit-invalid T l _ (decode-cut T l i h e (omega (arith, r .size-is))) ∙ failed-is tail seen order)
+  outside-cut i r h e b = failing _ (r .kept) (visit-invalid T l _ (decode-short T l i h e (omega (arith, r .size-is))) ∙ failed-is tail seen order)
 
   -- of one word
   module _ {i : ℕ} (h : Holds T l i 1 size tail seen order) where
@@ -150,7 +138,7 @@ module _ {T : List ℕ} {l size tail : ℕ} {seen order : List ℕ} where
     w₀ = work true tail seen order
 
     decoded : decode T l ≡ decodeTwo l i x
-    decoded = decode-two T l i (h .holds .here) x (h .holds .long) (h .operand)
+    decoded = decode-both T l i x (h .holds .here) (h .holds .long) (h .operand)
 
     to-one : (m : ℕ) (j : Instruction) → decodeTwo l i x ≡ j → bad T j ≡ false → onward T l j ≡ m ∷ [] → visitOf T l w₀ ≡ markOf size m w₀
     to-one m j e b o =

@@ -9,7 +9,7 @@ use native.Mathlib.Decide.{decLe}
 use native.Mathlib.Omega.{arith}
 use lib.Dec.{eqb}
 use lib.ListN.{length}
-use borrow.Author.Tests.{eqb-true, eqb-false, eq-eqb, ne-eqb}
+use borrow.Author.Tests.{eqb-true, eqb-false, eq-eqb, ne-eqb, not-true}
 use Rattle.base.specs.Bools.{never, and, both, split, not-both, not-intro}
 use Rattle.base.specs.Common.{if_then_else_, member, given}
 use Rattle.machine.specs.Decode.{fetch, decode}
@@ -227,10 +227,6 @@ module _ (T : List ℕ) where
   unfolding allSound
   all-sound [] f = refl
   all-sound (x ∷ ls) f = both (sound T x) (allSound T ls) (f x (member-head x ls)) (all-sound ls (λ l h. f l (member-tail l x ls h)))
-
-  not-true : (b : Bool) → not b ≡ true → b ≡ false
-  not-true true e = sym e
-  not-true false e = refl
 
   false-not : (b : Bool) → b ≡ false → not b ≡ true
   false-not true e = sym e

@@ -8,11 +8,11 @@ use lib.Dec.{eqb, leb}
 use lib.ListN.{length, take, drop, getD, length-drop, length-take, take-append-drop, drop-of-length-le}
 use lib.Seq.{take-all, take-nil, drop-nil, take-at, drop-at, length-take-le}
 use borrow.Author.Tests.{eqb-true, eq-eqb, leb-true, leb-false, le-leb, lt-leb}
+use Rattle.base.proofs.Laws.{same-refl, same-eq}
 use Rattle.base.specs.Bools.{never, and, both, split}
 use Rattle.base.specs.Common.{if_then_else_, same}
 use Rattle.machine.specs.Bytes.{wordsOf, bytesOf}
 use Rattle.machine.proofs.Bytes.{wordsOf-bytesOf}
-use Rattle.machine.proofs.Form.{same-refl, same-≡}
 use Rattle.loading.specs.File.{hd, tw, records, fileWords, fileBytes, blocks, tableNamed, verdictNamed, allowed, isFile, Answer, done, refused, load, store, numbersOf}
 use Rattle.loading.specs.Promise.{Loadable, LoadsExactly}
 use Rattle.loading.specs.Taking.{taken}
@@ -65,7 +65,7 @@ pub is-file : (s : List ℕ) → isFile s ≡ true → fileBytes (tableNamed s) 
 unfolding isFile
 is-file s e =
     let r = and (allowed (length (tableNamed s)) (verdictNamed s)) (same (fileBytes (tableNamed s) (verdictNamed s)) s) e in
-    same-≡ (fileBytes (tableNamed s) (verdictNamed s)) s (r .1)
+    same-eq (fileBytes (tableNamed s) (verdictNamed s)) s (r .1)
 
 -- the file of a table that is taken is loaded, with its verdict
 file-loads : (ws : List ℕ) (v room : ℕ) → allowed (length ws) v ≡ true → length ws ≤ room → taken ws ≡ true → load (fileBytes ws v) room ≡ done ws v

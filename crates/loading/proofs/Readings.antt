@@ -9,12 +9,12 @@ use lib.Dec.{eqb, leb}
 use lib.ListN.{length, take, drop, getD, length-append, length-drop, length-take, take-append-drop, drop-of-length-le, List·getD-append}
 use lib.Seq.{take-all, take-at, drop-at, length-take-le, getD-take, getD-drop, getD-append-add}
 use borrow.Author.Tests.{eqb-true, eq-eqb, leb-true, leb-false, le-leb, lt-leb}
+use Rattle.base.proofs.Laws.{same-refl}
 use Rattle.base.specs.Bools.{never, and, both, split}
 use Rattle.base.specs.Common as common
 use Rattle.base.specs.Common.{if_then_else_}
 use Rattle.machine.specs.Bytes.{wordsOf, bytesOf}
 use Rattle.machine.proofs.Bytes.{wordsOf-bytesOf, bytesOf-wordsOf, length-bytesOf}
-use Rattle.machine.proofs.Form.{same-refl, same-≡}
 use Rattle.loading.specs.File.{hd, tw, records, fileWords, fileBytes, blocks, tableNamed, verdictNamed, allowed, isFile}
 use Rattle.loading.specs.Reading.{formed, headed}
 use Rattle.loading.proofs.Files.{blocks-nil, table-file, verdict-file, is-file, length-allowed}
@@ -182,7 +182,7 @@ file-headed s e =
 
 -- Where word i of the table stands
 
-below : (x y : ℕ) (ws : List ℕ) (i j : ℕ) → j ≡ suc (suc i) → getD (x ∷ y ∷ ws) j 0 ≡ getD ws i 0
+pub below : (x y : ℕ) (ws : List ℕ) (i j : ℕ) → j ≡ suc (suc i) → getD (x ∷ y ∷ ws) j 0 ≡ getD ws i 0
 below x y ws i j e = rw e
 
 last-at : (k left : ℕ) (ws : List ℕ) → left ≤ 256 → eqb (length ws) (left + 2) ≡ true → (i : ℕ) → i < left

@@ -4,7 +4,7 @@ use mathlib.Core.List.{List, [], _∷_, _++_, append-nil}
 use mathlib.Core.Option.{none}
 use Prim.Native.Nat.{ℕ, zero, suc, _+_, _*_, _/_, _%_, _<_, _≤_}
 use native.Mathlib.Omega.{arith}
-use lib.ListN.{length, getD, getElem?, length-take}
+use lib.ListN.{length, getD, getElem?, length-take, replicate}
 use Rattle.machine.specs.Bytes.{count, wordsOf, wordAt, tableOf, bytesOf}
 use Rattle.machine.specs.Decode.{fetch}
 
@@ -45,6 +45,11 @@ unfolding bytesOf
 length-bytesOf [] = refl
 length-bytesOf (w ∷ ws) = let ih = length-bytesOf ws in omega arith
 
+pub zero-bytes : (n : ℕ) → bytesOf (replicate n 0) ≡ replicate (2 * n) 0
+unfolding bytesOf
+zero-bytes zero = refl
+zero-bytes (suc n) = let e : 2 * suc n ≡ suc (suc (2 * n)) = omega arith in rw e (ap (λ (z : List ℕ). 0 ∷ 0 ∷ z) (zero-bytes n))
+
 pub bytesOf-wordsOf : (s : List ℕ) → ((i : ℕ) → getD s i 0 < 256) → length s % 2 ≡ 0 → bytesOf (wordsOf s) ≡ s
 unfolding wordsOf bytesOf
 bytesOf-wordsOf [] b e = refl
@@ -60,7 +65,7 @@ pub length-tableOf : (s : List ℕ) → length (tableOf s) ≤ 4096
 unfolding tableOf
 length-tableOf s = let e = length-take 4096 (wordsOf s) in omega arith
 
-past-end : (l : List ℕ) (i : ℕ) → length l ≤ i → getElem? l i ≡ none
+pub past-end : (l : List ℕ) (i : ℕ) → length l ≤ i → getElem? l i ≡ none
 past-end [] i h = refl
 past-end (x ∷ l) zero h = absurd (omega arith)
 past-end (x ∷ l) (suc i) h = past-end l i (omega arith)

@@ -3,13 +3,12 @@ use mathlib.Core.Path.{_≡_, refl, sym, ap, _∙_, subst}
 use mathlib.Core.Bool.{Bool, true, false}
 use mathlib.Core.List.{List, [], _∷_, _++_, reverse, reverse-reverse}
 use mathlib.Core.Option.{none, some}
-use Prim.Native.Nat.{ℕ, _+_, _-_, _<_, _≤_}
-use native.Mathlib.Numerals.{add-one}
+use Prim.Native.Nat.{ℕ, _-_, _<_, _≤_}
 use native.Mathlib.Omega.{arith}
-use lib.Dec.{eqb}
-use lib.ListN.{length, take, drop, getD, replicate, length-append, length-take, length-drop, length-reverse, length-replicate, drop-of-length-le}
-use lib.Seq.{take-at, take-take, drop-cons}
-use borrow.Author.Tests.{eq-eqb, ne-eqb, eqb-true}
+use lib.ListN.{length, take, drop, getD, replicate, length-append, length-take, length-drop, length-reverse, length-replicate}
+use lib.Seq.{take-at, take-take}
+pub use Rattle.base.proofs.Laws.{same-next, same-not, same-end}
+use Rattle.base.proofs.Laws.{same-refl, same-eq}
 use Rattle.base.specs.Common.{same}
 use Rattle.base.specs.Bools.{never, split}
 use Rattle.events.specs.Events.{Reason, finished, differs, missing, unlabelled, deep, unanswered, outside, reasonNumber}
@@ -20,43 +19,17 @@ use Rattle.machine.specs.Small.{Small}
 use Rattle.machine.proofs.Bytes.{wordsOf-bytesOf, length-bytesOf}
 use Rattle.machine.proofs.Words.{small-words, small-take, small-drop, small-reverse, small-number, number64-words64}
 
--- The test of two lists
-
-pub same-refl : (s : List ℕ) → same s s ≡ true
-same-refl [] = refl
-same-refl (x ∷ s) = rw (eq-eqb x x refl) (same-refl s)
-
-pub same-≡ : (a b : List ℕ) → same a b ≡ true → a ≡ b
-same-≡ [] [] e = refl
-same-≡ [] (y ∷ b) e = never e
-same-≡ (x ∷ a) [] e = never e
-same-≡ (x ∷ a) (y ∷ b) e =
-    split (eqb x y)
-    (λ t. let h = eqb-true x y t in let r = same-≡ a b (rw t at e) in λ i. h i ∷ r i)
-    (λ f. never (rw f at e))
-
--- a loop that compares them, from the place i on
-
-pub same-next : (a b : List ℕ) (i : ℕ) → i < length a → i < length b → getD a i 0 ≡ getD b i 0 → same (drop i a) (drop i b) ≡ same (drop (i + 1) a) (drop (i + 1) b)
-same-next a b i h k e = rw (add-one, drop-cons a i 0, drop-cons b i 0, eq-eqb (getD a i 0) (getD b i 0))
-
-pub same-not : (a b : List ℕ) (i : ℕ) → i < length a → i < length b → (getD a i 0 ≡ getD b i 0 → ⊥) → same (drop i a) (drop i b) ≡ false
-same-not a b i h k e = rw (drop-cons a i 0, drop-cons b i 0, ne-eqb (getD a i 0) (getD b i 0))
-
-pub same-end : (a b : List ℕ) (i : ℕ) → length a ≤ i → length b ≤ i → same (drop i a) (drop i b) ≡ true
-same-end a b i h k = rw (drop-of-length-le a h, drop-of-length-le b k)
-
 -- From a walk to its bytes and back
 
-reasonOf-number : (r : Reason) → reasonOf (reasonNumber r) ≡ r
+pub reason-back : (r : Reason) → reasonOf (reasonNumber r) ≡ r
 unfolding reasonOf reasonNumber
-reasonOf-number finished = refl
-reasonOf-number differs = refl
-reasonOf-number missing = refl
-reasonOf-number unlabelled = refl
-reasonOf-number deep = refl
-reasonOf-number unanswered = refl
-reasonOf-number outside = refl
+reason-back finished = refl
+reason-back differs = refl
+reason-back missing = refl
+reason-back unlabelled = refl
+reason-back deep = refl
+reason-back unanswered = refl
+reason-back outside = refl
 
 returns-back : (rs : List ℕ) → length rs ≤ 64 → reverse (take (length rs) (take 64 (returnWords rs))) ≡ rs
 unfolding returnWords
@@ -88,7 +61,7 @@ namedIn : (p : Phase) (w : Walk) → length (w .returns) ≤ 64 → w .io .event
 unfolding phaseWords phaseOf
 namedIn going w d e q = named 0 0 w d e q
 namedIn waiting w d e q = named 1 0 w d e q
-namedIn (stopped r) w d e q = named 2 (reasonNumber r) w d e (ap stopped (reasonOf-number r) ∙ q)
+namedIn (stopped r) w d e q = named 2 (reasonNumber r) w d e (ap stopped (reason-back r) ∙ q)
 
 walkNamed-walkWords : (w : Walk) → length (w .returns) ≤ 64 → w .io .events ≡ [] → walkNamed (walkWords w) ≡ w
 unfolding walkWords afterPhase
@@ -108,7 +81,7 @@ walkBytes-walkOf s w e =
     split (same (walkBytes (walkNamed (wordsOf s))) s)
     (λ t. let v : some (walkNamed (wordsOf s)) ≡ some w = rw t at e in
     let u : walkNamed (wordsOf s) ≡ w = cc in
-    rw u at (same-≡ (walkBytes (walkNamed (wordsOf s))) s t))
+    rw u at (same-eq (walkBytes (walkNamed (wordsOf s))) s t))
     (λ f. let v : none ≡ some w = rw f at e in let z : _≡_ {A = Bool} false true = cc in never z)
 
 pub length-phaseWords : (p : Phase) → length (phaseWords p) ≡ 2

@@ -12,12 +12,12 @@ use borrow.Author.Tests.{ltb-true, ltb-false}
 use Rattle.base.specs.Common.{if_then_else_, given}
 use Rattle.base.specs.Bools.{never}
 use Rattle.events.specs.Events.{Event, repair, Reason, differs, deep, reasonNumber, unanswered, outside, Io, present, answer, took, wrote, answered, mends, spent, is}
-use Rattle.machine.specs.Lengths.{lengthOf}
-use Rattle.machine.specs.Decode.{fetch, Instruction, invalid, jump, input, inputAny, write, inputChoice, callRule, return, setResult, choice, endChoice, setParameter, update, updateWith, choose, chooseWith, decodeOperation, decodeTwo, decodeOne, decodeWord, decodeAt, decode}
+use Rattle.machine.specs.Decode.{fetch, Instruction, invalid, jump, input, inputAny, write, inputChoice, callRule, return, setResult, choice, endChoice, setParameter, update, updateWith, choose, chooseWith, decodeTwo, decodeOne, decode}
 use Rattle.machine.specs.Walk.{Phase, going, waiting, stopped, Walk, fresh, moved, withReturns, withResult, withParameter, withIo, inPhase, withAnswer, first64, atRest}
 use Rattle.machine.specs.Step.{Next, goesOutside, stops, goes, tells, asks, goTo, seekBy, landed, branched, inputChoosing, calling, returning, requiring, exec, step}
 use Rattle.machine.specs.Call.{Mode, whole, paused, Called, waits, ends, endsFor, writing, Turn, over, further, takes, handsOut, turn, run, callIn, callWalk}
 use Rattle.machine.specs.Form.{Fits}
+use Rattle.machine.proofs.Decoded.{of-operation, of-one, of-two, of-decode}
 use Rattle.machine.proofs.Words.{small-drop, small-cons}
 
 -- Lists
@@ -215,44 +215,11 @@ Stands l (updateWith op) = l ≤ 4096
 Stands l (choose op) = l ≤ 4096
 Stands l (chooseWith op) = l ≤ 4096
 
-stands-operation : (l i : ℕ) → l ≤ 4096 → Stands l (decodeOperation i)
-unfolding decodeOperation
-stands-operation l i h =
-    either (Stands l) (ltb i 512) _ _ h (
-    either (Stands l) (ltb i 768) _ _ h (
-    either (Stands l) (ltb i 1024) _ _ h h))
-
 stands-one : (l i : ℕ) → l ≤ 4096 → Stands l (decodeOne i)
-unfolding decodeOne
-stands-one l i h =
-    either (Stands l) (eqb i 4) _ _ h (
-    either (Stands l) (eqb i 9) _ _ h (
-    either (Stands l) (eqb i 12) _ _ h (stands-operation l i h)))
+stands-one l i h = of-one (Stands l) i (λ _. h) (λ _. h) (λ _. h) (of-operation (Stands l) i (λ _. h) (λ _. h) (λ _. h) (λ _. h))
 
 stands-two : (l i x : ℕ) → l ≤ 4096 → x < 65536 → Stands l (decodeTwo l i x)
-unfolding decodeTwo
-stands-two l i x h b =
-    either (Stands l) (eqb i 1) _ _ h (
-    either (Stands l) (eqb i 2) _ _ h (
-    either (Stands l) (eqb i 3) _ _ h (
-    either (Stands l) (eqb i 5) _ _ h (
-    either (Stands l) (eqb i 6) _ _ h (
-    either (Stands l) (eqb i 7) _ _ h (
-    either (Stands l) (eqb i 8) _ _ h (
-    either (Stands l) (eqb i 10) _ _ (h, b) (
-    either (Stands l) (eqb i 11) _ _ h (h, b)))))))))
-
-stands-word : (l i : ℕ) (x : Option ℕ) → l ≤ 4096 → Word x → Stands l (decodeWord l i x)
-unfolding decodeWord
-stands-word l i none h b = either (Stands l) (eqb (lengthOf i) 1) _ _ (stands-one l i h) tt
-stands-word l i (some x) h b =
-    either (Stands l) (eqb (lengthOf i) 1) _ _ (stands-one l i h) (
-    either (Stands l) (eqb (lengthOf i) 2) _ _ (stands-two l i x h b) tt)
-
-stands-at : (l : ℕ) (i x : Option ℕ) → (given i ≡ true → l ≤ 4096) → Word x → Stands l (decodeAt l i x)
-unfolding decodeAt
-stands-at l none x h b = tt
-stands-at l (some i) x h b = stands-word l i x (h refl) b
+stands-two l i x h b = of-two (Stands l) l i x (λ _ _. h) (λ _ _. h) (λ _. h) (λ _. h) (λ _. h) (λ _ _ _. h) (λ _. h) (λ _. (h, b)) (λ _ _ _. h) (h, b)
 
 module _ (T tokens : List ℕ) (smallT : Small T) (smallTokens : Small tokens) (longT : length T ≤ 4096) (longTokens : length tokens < 18446744073709551616) where
   fetch-word : (l : ℕ) → Word (fetch T l)
@@ -264,6 +231,11 @@ module _ (T tokens : List ℕ) (smallT : Small T) (smallTokens : Small tokens) (
   unfolding fetch
   fetch-below zero e = never e
   fetch-below (suc i) e = let h = below T i e in omega arith
+
+  stands : (l : ℕ) → Stands l (decode T l)
+  stands l =
+      of-decode (Stands l) T l tt (λ i e. stands-one l i (fetch-below l (rw e refl)))
+      (λ i x e f. stands-two l i x (fetch-below l (rw e refl)) (let h = fetch-word (suc l) in rw f at h))
 
   runs-took : (w : Walk) → given (present tokens (w .io)) ≡ true → Runs w → Runs (withIo (took (w .io)) w)
   unfolding took present
@@ -358,7 +330,7 @@ module _ (T tokens : List ℕ) (smallT : Small T) (smallTokens : Small tokens) (
   unfolding step decode
   on-step w r =
       on-exec (decode T (w .location)) w
-      (stands-at (w .location) (fetch T (w .location)) (fetch T (suc (w .location))) (fetch-below (w .location)) (fetch-word (suc (w .location)))) r
+      (stands (w .location)) r
 
 -- Turns of a call
 

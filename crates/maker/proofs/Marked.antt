@@ -8,6 +8,7 @@ use lib.Dec.{eqb}
 use borrow.Author.Tests.{eq-eqb}
 use Rattle.base.specs.Common.{if_then_else_}
 use Rattle.base.specs.Tree.{Action, plain, cycle, choice, Actions, done, _▸_, Alternatives, nil, alternative, Otherwise, absent, otherwise}
+use Rattle.grammar.proofs.SectionsIn.{peek-took}
 use Rattle.grammar.specs.Derived.{Took, Not, Reference, by-name, by-string, ConstantIn, no-constant, a-constant, ValueIn, no-value, a-value, PlainIn, named-in, any-in, emit-in, error-in, exit-in, call-in, give-in, ranked-in, SelectorIn, token-in, rule-in, operation-in, LabelsIn, last-label, more-labels, ActIn, plain-in, cycle-in, choice-in, ActsIn, none-in, more-in, AltsIn, other-in, last-in, next-in, GivesIn, gives-none, gives-some, RuleIn, a-rule, RulesIn, last-rule, more-rules}
 use Rattle.maker.specs.Marks.{behind, useOf, marks}
 use Rattle.names.specs.Uses.{Use, plainUses, actUses, actsUses, altsUses, otherUses, rulesUses}
@@ -34,10 +35,6 @@ constant (a-constant p r q) = skip p refl refl ∙ reference r ∙ skip q refl r
 value : {ws ws′ : List Word} {v : Option Word} → ValueIn ws ws′ v → marks ws ≡ marks ws′
 value (no-value n m e) = ap marks (sym e)
 value (a-value r) = reference r
-
-peek-took : {k : ℕ} {ws ws′ : List Word} {w : Word} → Took k ws w ws′ → peek ws ≡ w
-unfolding peek
-peek-took {w = w} t = rw (t .here) refl
 
 behind-took : {k : ℕ} {ws ws′ : List Word} {w : Word} → Took k ws w ws′ → behind ws ≡ ws′
 unfolding behind

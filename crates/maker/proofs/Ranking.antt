@@ -1,5 +1,5 @@
 -- The levels of a section by scans of its entries: the next level in use begins what is left of them.
-use mathlib.Core.Bool.{Bool, true, false, _||_}
+use mathlib.Core.Bool.{Bool, true, false, _||_, or-false, or-assoc}
 use mathlib.Core.List.{List, [], _∷_, _++_, append-assoc, append-nil}
 use mathlib.Core.Logic.{_⊎_, inl, inr}
 use mathlib.Core.Path.{_≡_, refl, sym, ap, _∙_}
@@ -9,6 +9,7 @@ use native.Mathlib.Omega.{arith}
 use borrow.Author.Tests.{eq-eqb, ne-eqb, le-leb, lt-leb, lt-ltb, le-ltb}
 use lib.Dec.{eqb, leb, ltb}
 use lib.ListN.{length, length-append}
+use Rattle.base.proofs.Laws.{lt-or-le}
 use Rattle.base.specs.Common.{if_then_else_}
 use Rattle.declarations.specs.Decls.{Decl, operatorsFrom}
 use Rattle.grammar.specs.Derived.{OperatorIn, an-operator, OperatorsIn, last-operator, more-operators}
@@ -18,15 +19,6 @@ use Rattle.maker.specs.declared.Rank.{Rank}
 use Rattle.program.specs.Made.{Operator, Level, atLevel, levelAnd, levelsFrom, levelsOf, crowded}
 use Rattle.syntax.specs.Written as written
 use Rattle.words.specs.Words.{Word, wordsAt}
-
-order : (a b : ℕ) → (a < b) ⊎ (b ≤ a)
-order a zero = inr (omega arith)
-order zero (suc b) = inl (omega arith)
-order (suc a) (suc b) = go (order a b)
-  where
-    go : (a < b) ⊎ (b ≤ a) → (suc a < suc b) ⊎ (suc b ≤ suc a)
-    go (inl h) = inl (omega arith)
-    go (inr h) = inr (omega arith)
 
 -- The step by its tests
 
@@ -97,7 +89,7 @@ scanned-as : {above : ℕ} {xs : List Operator} {s t : Rank} → t ≡ s → Sca
 scanned-as e f = rw e f
 
 scanned-one : (above : ℕ) (xs : List Operator) (s : Rank) (o : Operator) → Scanned above xs s → Scanned above (xs ++ (o ∷ [])) (rankStep above s (o .level) (o .right))
-scanned-one above xs s o f = low (order above (o .level))
+scanned-one above xs s o f = low (lt-or-le above (o .level))
   where
     kept : (above < o .level → s .level < o .level) → Scanned above (xs ++ (o ∷ [])) s
     kept g = record {
@@ -123,11 +115,11 @@ scanned-one above xs s o f = low (order above (o .level))
 
     high : above < o .level → (s .level < o .level) ⊎ (o .level ≤ s .level) → Scanned above (xs ++ (o ∷ [])) (rankStep above s (o .level) (o .right))
     high h (inl g) = scanned-as (step-high above s (o .level) (o .right) h g) (kept (λ _. g))
-    high h (inr g) = new h g (order (o .level) (s .level))
+    high h (inr g) = new h g (lt-or-le (o .level) (s .level))
 
     low : (above < o .level) ⊎ (o .level ≤ above) → Scanned above (xs ++ (o ∷ [])) (rankStep above s (o .level) (o .right))
     low (inr h) = scanned-as (step-low above s (o .level) (o .right) h) (kept (λ g. absurd (omega (arith, g, h))))
-    low (inl h) = high h (order (s .level) (o .level))
+    low (inl h) = high h (lt-or-le (s .level) (o .level))
 
 scanned : (above : ℕ) (xs os : List Operator) (s : Rank) → Scanned above xs s → Scanned above (xs ++ os) (rankOf above s os)
 unfolding rankOf
@@ -204,10 +196,6 @@ levels-first {r = r} d ds os ws′ x =
     let i = rank-is ds os ws′ d (omega arith) x in
     record { count = ap length (whole ∙ i .levels) ∙ sym (zero-add (length (levelsFrom (16 - r .level) (r .level) (operatorsFrom ds os)))); crowd = ap crowded (whole ∙ i .levels); here = i .here; many = i .many }
 
-or-then : (a b c : Bool) → (a || (b || c)) ≡ ((a || b) || c)
-or-then true b c = refl
-or-then false b c = refl
-
 pub levels-more : {text : List ℕ} {at : ℕ} {l r : Rank} {k : ℕ} {c c′ : Bool} → CountedAt text at l k c → l .level < 16 → RankDone text at (l .level) noRank r → c′ ≡ (c || ltb 64 (l .count))
     → CountedAt text at r (k + 1) c′
 unfolding crowded
@@ -221,14 +209,10 @@ levels-more {l = l} {r} {k} {c} {c′} s h d e ds os ws′ x =
       crowd =
           q .crowd ∙ (ap (λ (v : List Level). c || crowded v) a
           ∙ (ap (λ (n : ℕ). c || (ltb 64 n || crowded (levelsFrom (16 - r .level) (r .level) ops))) (q .many h)
-          ∙ (or-then c (ltb 64 (l .count)) (crowded (levelsFrom (16 - r .level) (r .level) ops)) ∙ ap (λ (b : Bool). b || crowded (levelsFrom (16 - r .level) (r .level) ops)) (sym e))));
+          ∙ (sym (or-assoc c (ltb 64 (l .count)) (crowded (levelsFrom (16 - r .level) (r .level) ops))) ∙ ap (λ (b : Bool). b || crowded (levelsFrom (16 - r .level) (r .level) ops)) (sym e))));
       here = i .here;
       many = i .many;
     }
-
-or-false : (c : Bool) → (c || false) ≡ c
-or-false true = refl
-or-false false = refl
 
 pub levels-end : {text : List ℕ} {at : ℕ} {l : Rank} {k : ℕ} {c : Bool} → CountedAt text at l k c → l .level ≡ 16 → k ≤ 15 → LevelsDone text at (record { count = k; crowded = c })
 unfolding crowded levelsFrom
@@ -247,7 +231,7 @@ levels-end {l = l} {k} {c} s h few = record { few = few; done = λ ds os ws′ x
 
 some-level : (o : Operator) (os : List Operator) → 1 ≤ o .level → o .level ≤ 15 → 1 ≤ length (levelsOf (o ∷ os))
 unfolding levelsOf atLevel
-some-level o os low high = go (order (rankOf 0 noRank (o ∷ os) .level) 16)
+some-level o os low high = go (lt-or-le (rankOf 0 noRank (o ∷ os) .level) 16)
   where
     f : Scanned 0 (o ∷ os) (rankOf 0 noRank (o ∷ os))
     f = scanned-all 0 (o ∷ os) (omega arith)
@@ -270,7 +254,7 @@ levels-some ds _ (more-operators (an-operator r k q a b z y) n m) = some-level _
 -- Bounds
 
 pub bound-step : (above : ℕ) (s : Rank) (l : ℕ) (b : Bool) {s′ : Rank} → s′ ≡ rankStep above s l b → RankBound above s → RankBound above s′
-bound-step above s l b {s′} e h = rw e (low (order above l))
+bound-step above s l b {s′} e h = rw e (low (lt-or-le above l))
   where
     new : above < l → l ≤ s .level → (l < s .level) ⊎ (s .level ≤ l) → RankBound above (rankStep above s l b)
     new g k (inl d) = rw (step-new above s l b g d) (record { higher = g; most = omega (arith, d, h .most) })
@@ -278,14 +262,14 @@ bound-step above s l b {s′} e h = rw e (low (order above l))
 
     high : above < l → (s .level < l) ⊎ (l ≤ s .level) → RankBound above (rankStep above s l b)
     high g (inl d) = rw (step-high above s l b g d) h
-    high g (inr d) = new g d (order l (s .level))
+    high g (inr d) = new g d (lt-or-le l (s .level))
 
     low : (above < l) ⊎ (l ≤ above) → RankBound above (rankStep above s l b)
-    low (inl g) = high g (order (s .level) l)
+    low (inl g) = high g (lt-or-le (s .level) l)
     low (inr g) = rw (step-low above s l b g) h
 
 pub count-step : (above : ℕ) (s : Rank) (l : ℕ) (b : Bool) {s′ : Rank} → s′ ≡ rankStep above s l b → s′ .count ≤ s .count + 1
-count-step above s l b {s′} e = rw e (low (order above l))
+count-step above s l b {s′} e = rw e (low (lt-or-le above l))
   where
     new : above < l → l ≤ s .level → (l < s .level) ⊎ (s .level ≤ l) → rankStep above s l b .count ≤ s .count + 1
     new g k (inl d) = rw (step-new above s l b g d) (omega arith)
@@ -293,8 +277,8 @@ count-step above s l b {s′} e = rw e (low (order above l))
 
     high : above < l → (s .level < l) ⊎ (l ≤ s .level) → rankStep above s l b .count ≤ s .count + 1
     high g (inl d) = rw (step-high above s l b g d) (omega arith)
-    high g (inr d) = new g d (order l (s .level))
+    high g (inr d) = new g d (lt-or-le l (s .level))
 
     low : (above < l) ⊎ (l ≤ above) → rankStep above s l b .count ≤ s .count + 1
-    low (inl g) = high g (order (s .level) l)
+    low (inl g) = high g (lt-or-le (s .level) l)
     low (inr g) = rw (step-low above s l b g) (omega arith)

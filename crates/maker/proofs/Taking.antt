@@ -9,7 +9,8 @@ use native.Mathlib.Omega.{arith}
 use borrow.Author.Tests.{eq-eqb, ne-eqb, eqb-true, ltb-true, le-ltb, ltb-false}
 use lib.Dec.{eqb, ltb}
 use lib.ListN.{length, getD}
-use Rattle.base.specs.Bools.{never}
+use Rattle.base.proofs.Laws.{neither, above-zero}
+use Rattle.base.specs.Bools.{never, and}
 use Rattle.base.specs.Common.{if_then_else_, given, same}
 use Rattle.declarations.specs.Decls.{Agrees, Decl, EntriesAt, entriesOf, declOf, indexOf, mapped, operatorsFrom}
 use Rattle.grammar.specs.Derived.{OperatorsIn}
@@ -48,14 +49,6 @@ record Row (c : ℕ) (w : List ℕ) (i k : ℕ) (ds : List Decl) : Type 0 where
   low : i ≤ k
   row : AtRow c w (declOf ds (k - i))
 
-and-left : (a b : Bool) → (a && b) ≡ true → a ≡ true
-and-left true b e = refl
-and-left false b e = never e
-
-and-right : (a b : Bool) → (a && b) ≡ true → b ≡ true
-and-right true b e = e
-and-right false b e = never e
-
 index-row : (c : ℕ) (w : List ℕ) (i k : ℕ) (ds : List Decl) → indexOf c w i ds ≡ some k → Row c w i k ds
 unfolding indexOf declOf
 index-row c w i k [] e = let z : _≡_ {A = ℕ} 0 1 = cc in absurd (omega (arith, z))
@@ -66,7 +59,7 @@ index-row c w i k (d ∷ ds) e = go (eqb (d .class) c && same w (d .name .text))
     go true q f g =
         let z : i ≡ k = cc in
         let y : 0 ≡ k - i = omega (arith, z) in
-        record { low = omega (arith, z); row = rw (sym y) (record { class = eqb-true (d .class) c (and-left _ _ q); name = and-right (eqb (d .class) c) _ q }) }
+        record { low = omega (arith, z); row = rw (sym y) (record { class = eqb-true (d .class) c (and _ _ q .0); name = and (eqb (d .class) c) _ q .1 }) }
     go false q f g =
         let r = g f in
         let y : suc (k - suc i) ≡ k - i = omega (arith, r .low) in
@@ -153,29 +146,21 @@ use-over {others = others} {own} f g r e t h pl d p z = record {
   takes = λ p₁ names ks ag en w k q. over refl (is-there _ false (tells-not t h) (r .finds w k q)) (over-is others own _ (counts-of ag en q (r .finds w k q) (r .section e) pl d) p ∙ z);
 }
 
-pub or-first : (a b : Bool) → (a || b) ≡ false → a ≡ false
-or-first true b e = never (sym e)
-or-first false b e = refl
-
 pub not-over : (others own : ℕ) (l : Levels) {b : Bool} → b ≡ (ltb 128 (own + l .count) || ltb 512 (others + (own + l .count)) || l .crowded) → b ≡ false → own + l .count ≤ 128
-not-over others own l {b} e z = ltb-false 128 (own + l .count) (or-first _ _ (or-first _ _ (sym e ∙ z)))
+not-over others own l {b} e z = ltb-false 128 (own + l .count) (neither _ _ (neither _ _ (sym e ∙ z) .0) .0)
 
 pub use-added : {text rows rows′ : List ℕ} {n others own at v i k : ℕ} {u : Used} {l : Levels} {b : Bool} → getD rows 5632 0 ≤ own → UseRead text rows n at u → u .there ≡ true
     → Looked rows u v → 65536 ≤ v → PlaceOf text rows (u .section) i → LevelsDone text i l → (l .count ≡ 0 → ⊥)
     → b ≡ (ltb 128 (own + l .count) || ltb 512 (others + (own + l .count)) || l .crowded) → b ≡ false → k ≡ getD rows 5632 0 → Adds rows rows′ k (u .section) (u .operand) own
     → UseDone text rows n others own at rows′ (record { fault = 0; own = own + l .count })
 use-added {text} {rows} {rows′} {n} {others} {own} {at} {k = k} {u} {l} g r e t h pl d nz p z ek a = record {
-  bound = record { index = a .index; few = not-over others own l p z; count = omega (arith, a .count, ek, g, some (l .count) nz) };
+  bound = record { index = a .index; few = not-over others own l p z; count = omega (arith, a .count, ek, g, above-zero (l .count) nz) };
   takes = λ p₁ names ks ag en w m q.
       let f = r .finds w m q in
       let c = counts-of ag en q f (r .section e) pl d in
       added refl (ap (λ (j : ℕ). own + j) (c .count)) (a .pairs (sym ek) ∙ pair-as f) (is-there _ false (tells-not t h) f) (over-is others own _ c p ∙ z);
 }
   where
-    some : (c : ℕ) → (c ≡ 0 → ⊥) → 1 ≤ c
-    some zero f = absurd (f refl)
-    some (suc c) f = omega arith
-
     pair-as : {x : Use} → Finds (held text rows n) x u
         → pairsHeld rows ++ (record { section = u .section; operand = u .operand; lowest = own } ∷ []) ≡ pairsHeld rows ++ (pairOf (held text rows n) own x ∷ [])
     pair-as f = rw (f .section, f .operand) refl

@@ -1,5 +1,5 @@
 -- The walk over the words: what is found from a place on, and from the start.
-use mathlib.Core.Bool.{Bool, true, false, _&&_, _||_}
+use mathlib.Core.Bool.{Bool, true, false, _&&_, _||_, or-comm}
 use mathlib.Core.List.{List, [], _∷_, _++_, append-assoc, append-nil}
 use mathlib.Core.Logic.{_⊎_, inl, inr}
 use mathlib.Core.Option.{Option, none, some}
@@ -11,6 +11,7 @@ use borrow.Author.Tests.{eq-eqb, ne-eqb, eqb-true}
 use lib.Dec.{eqb}
 use lib.ListN.{length, getD, set, take, drop, length-take, length-drop, length-set}
 use lib.Seq.{getD-set-same}
+use Rattle.base.proofs.Laws.{same-eq, same-refl}
 use Rattle.base.specs.Bools.{never}
 use Rattle.base.specs.Common.{if_then_else_, given, same}
 use Rattle.declarations.specs.Decls.{Agrees, Decl, EntriesAt, entriesOf, declOf, indexOf}
@@ -30,7 +31,6 @@ use Rattle.program.specs.Made.{Level, levelRules, crowded}
 use Rattle.program.specs.Program as means
 use Rattle.scanner.specs.Next.{Next, asWord}
 use Rattle.scanner.specs.declared.WordAt.{WordAt}
-use Rattle.symbols.proofs.Along.{same-list}
 use Rattle.symbols.proofs.Indexing.{index-same, index-after, index-set, held-behind, kept-behind}
 use Rattle.symbols.proofs.Searches.{held-at}
 use Rattle.symbols.specs.Index.{IndexKept, Kept}
@@ -50,19 +50,15 @@ word-other {rows = rows} k f g = record { bound = record { index = index-same ro
 
 -- Pairs are the same by their texts and by their declarations
 
-pub same-refl : (s : List ℕ) → same s s ≡ true
-same-refl [] = refl
-same-refl (x ∷ s) = rw (eq-eqb x x refl) (same-refl s)
-
 same-index : (c : ℕ) (w v : List ℕ) (i j : ℕ) (ds : List Decl) → indexOf c w 0 ds ≡ some i → indexOf c v 0 ds ≡ some j → same w v ≡ eqb j i
 same-index c w v i j ds e f = go (same w v) refl
   where
     name-of : (u : List ℕ) (k : ℕ) → indexOf c u 0 ds ≡ some k → u ≡ declOf ds k .name .text
-    name-of u k q = same-list u (declOf ds k .name .text) (row-at c u k ds q .name)
+    name-of u k q = same-eq u (declOf ds k .name .text) (row-at c u k ds q .name)
 
     go : (t : Bool) → same w v ≡ t → t ≡ eqb j i
     go true q =
-        let d : _≡_ {A = Option ℕ} (some j) (some i) = sym f ∙ (ap (λ (u : List ℕ). indexOf c u 0 ds) (sym (same-list w v q)) ∙ e) in
+        let d : _≡_ {A = Option ℕ} (some j) (some i) = sym f ∙ (ap (λ (u : List ℕ). indexOf c u 0 ds) (sym (same-eq w v q)) ∙ e) in
         let z : j ≡ i = cc in
         sym (eq-eqb j i z)
     go false q = sym (ne-eqb j i (λ z. never (sym q ∙ (ap (same w) (name-of v j f ∙ (ap (λ (k : ℕ). declOf ds k .name .text) z ∙ sym (name-of w i e))) ∙ same-refl w))))
@@ -98,12 +94,6 @@ lowest-is {text} {rows} {n} {p} {names} u h o =
 
 -- The pairs of the uses seen
 
-or-flip : (a b : Bool) → (a || b) ≡ (b || a)
-or-flip true true = refl
-or-flip true false = refl
-or-flip false true = refl
-or-flip false false = refl
-
 look-append : (s o : ℕ) (qs : List Pair) (q : Pair) → given (lookPair s o (qs ++ (q ∷ []))) ≡ (given (lookPair s o qs) || (eqb (q .section) s && eqb (q .operand) o))
 unfolding lookPair
 look-append s o [] q = go (eqb (q .section) s && eqb (q .operand) o)
@@ -123,7 +113,7 @@ unfolding isUsed
 stands-more {ds} qs seen own v f b u a =
     look-append (sectionRow ds u) (operandRow ds u) qs (pairOf ds own v)
     ∙ (ap (λ (t : Bool). t || (eqb (sectionRow ds v) (sectionRow ds u) && eqb (operandRow ds v) (operandRow ds u))) (f u a)
-    ∙ (ap (λ (t : Bool). isUsed u seen || t) (sym (same-pair a b)) ∙ or-flip (isUsed u seen) (samePair u v)))
+    ∙ (ap (λ (t : Bool). isUsed u seen || t) (sym (same-pair a b)) ∙ or-comm (isUsed u seen) (samePair u v)))
 
 stands-as : {ds : List Decl} {qs rs : List Pair} (seen : List Use) → rs ≡ qs → Stands ds qs seen → Stands ds rs seen
 stands-as {ds} seen e f u a = ap (λ (l : List Pair). isThere ds l u) e ∙ f u a

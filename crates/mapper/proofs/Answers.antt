@@ -2,7 +2,7 @@
 use mathlib.Core.Bool.{true, false}
 use mathlib.Core.List.{List, [], _∷_, _++_}
 use mathlib.Core.Path.{_≡_, refl, sym, ap, _∙_, subst}
-use Prim.Native.Nat.{ℕ, suc, _+_, _-_, _*_, _/_, _<_, _≤_}
+use Prim.Native.Nat.{ℕ, _+_, _-_, _*_, _/_, _<_, _≤_}
 use native.Mathlib.Omega.{arith}
 use lib.ListN.{length, length-append, getD}
 use Rattle.acceptance.proofs.Used.{total}
@@ -20,7 +20,7 @@ use Rattle.mapper.proofs.Laws.{held-map, inside, length-rows}
 use Rattle.mapper.proofs.Made.{rows-append, made-long}
 use Rattle.mapper.specs.Mapped.{Maps, Puts, Holds, Placed, MadePut, MapsHeld, heldRows}
 use Rattle.mapping.specs.Mapping as mapping
-use Rattle.mapping.proofs.Parting.{all-understood}
+use Rattle.mapping.proofs.Parting.{all-understood, own-length}
 use Rattle.mapping.specs.Mapping.{Row, rowsFrom, madeRows, rowsOf, rowsRead, ruleRows, Answer, mapped, refused, mapOf, mapRules, numbersOf, roomIn, rowsWords, lentRows}
 use Rattle.names.specs.Declare.{declareSections}
 use Rattle.names.specs.Known as known
@@ -53,11 +53,6 @@ maps-refused e q = record { numbers = rw e refl; lent = rw e q }
 held-pairs : (rows : List ℕ) → pairsFrom rows 0 (getD rows 5632 0) ≡ pairsHeld rows
 unfolding pairsHeld
 held-pairs rows = refl
-
-rows-length : (prog : List Rule) (i : ℕ) (rs : List written.Rule) → length (rowsFrom prog i rs) ≡ length rs
-unfolding rowsFrom
-rows-length prog i [] = refl
-rows-length prog i (r ∷ rs) = ap suc (rows-length prog (suc i) rs)
 
 fits-not : (prog : List Rule) → 4096 < sizeRules prog → fits prog 4096 ≡ false
 unfolding fits
@@ -106,7 +101,7 @@ module _ {text rows : List ℕ} (cells sorts places : List ℕ) {b : Resolved} (
   written-all = omega (arith, its .count, all-understood p names (rowed .known .declares) prog means, made-count prog names (length (p .rules)) (pairsOf (p .rules)))
 
   counted : length (allRows prog names p) ≡ b .rules
-  counted = omega (arith, length-append (rowsFrom prog 0 (p .rules)) (madeRows prog names (length (p .rules)) (pairsOf (p .rules))), rows-length prog 0 (p .rules), written-all)
+  counted = omega (arith, length-append (rowsFrom prog 0 (p .rules)) (madeRows prog names (length (p .rules)) (pairsOf (p .rules))), own-length prog 0 (p .rules), written-all)
 
   pub held-long : {old : List ℕ} → 4096 < size → Maps (mapOf (rowsOf p (good names) (good prog)) (roomIn old) (answerFor text 4096 (meaning prog))) 20 0 old old
   held-long {old} h = maps-refused (map-long text prog (rowsOf p (good names) (good prog)) (roomIn old) (fits-not prog (omega (arith, sized, h)))) refl
@@ -136,7 +131,7 @@ module _ {text rows : List ℕ} (cells sorts places : List ℕ) {b : Resolved} (
       (subst (λ xs. AllFirst (held text rows (b .declared)) xs (pairsOf (p .rules))) (sym us) (pairs-first (held text rows (b .declared)) (p .rules) (rowed .ordered)))
       (ap (λ i. i + length (madeRows prog names i (pairsOf (p .rules)))) n ∙ sym written-all) (placed few) in
       let puts′ : Puts mid new (12 * b .written) (rowsWords made) = subst (λ i. Puts mid new (12 * b .written) (rowsWords (madeRows prog names i (pairsOf (p .rules))))) n puts in
-      let long : length (rowsWords own) ≡ 12 * b .written = length-rows own ∙ omega (arith, rows-length prog 0 (p .rules), n) in
+      let long : length (rowsWords own) ≡ 12 * b .written = length-rows own ∙ omega (arith, own-length prog 0 (p .rules), n) in
       puts′ .puts (rowsWords own) old long (omega (arith, l, n, written-all, length-rows made)) (e ∙ ap (λ (z : List Row). over (bytesOf (rowsWords z)) old) m)
       ∙ ap (λ (w : List ℕ). over (bytesOf w) old) (sym (rows-append own made))
 

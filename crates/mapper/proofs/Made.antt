@@ -15,6 +15,7 @@ use Rattle.maker.specs.Pairing.{AllNamed}
 use Rattle.maker.specs.Pairs.{Pair, pairAt, pairsFrom, sectionRow, operandRow, AllOrdered, pairOf, pairsMean}
 use Rattle.mapper.proofs.Laws.{puts-more, length-rows, one-more}
 use Rattle.mapper.specs.Mapped.{Puts, levelsHeld, EndOf, MadePut}
+use Rattle.mapping.proofs.Parting.{levels-length as level-rows}
 use Rattle.mapping.specs.Mapping.{Row, rowFor, levelRows, madeRows, rowWords, rowsWords}
 use Rattle.names.specs.Known as known
 use Rattle.names.specs.Uses.{Use, levelsUsed}
@@ -87,11 +88,6 @@ module _ (start len : ℕ) (places : List ℕ) where
       ap (λ (x : Row). x ∷ levelsHeld start len places (suc k) n) h ∙ ap (λ (z : List Row). rowFor u (place 1 prog k) ∷ z) (levels-are prog u (suc k) n e (λ r q. f r (omega (arith, q))))
 
 -- Pairs
-
-level-rows : (prog : List Rule) (u : Use) (k n : ℕ) → length (levelRows prog u k n) ≡ n
-unfolding levelRows
-level-rows prog u k zero = refl
-level-rows prog u k (suc n) = ap suc (level-rows prog u (suc k) n)
 
 abbrev levels : known.Names → Use → ℕ
 levels names u = length (levelsUsed names u)

@@ -57,7 +57,7 @@ located-append whole i [] ys h k = let z : i + 0 ≡ i = omega arith in rw z at 
 located-append whole i (x ∷ xs) ys h k = let z : i + suc (length xs) ≡ suc i + length xs = omega arith in (h .0, located-append whole (suc i) xs ys (h .1) (rw z at k))
 
 -- those of the rules as written
-own-length : (whole : List Rule) (i : ℕ) (rs : List written.Rule) → length (rowsFrom whole i rs) ≡ length rs
+pub own-length : (whole : List Rule) (i : ℕ) (rs : List written.Rule) → length (rowsFrom whole i rs) ≡ length rs
 unfolding rowsFrom
 own-length whole i [] = refl
 own-length whole i (r ∷ rs) = ap suc (own-length whole (suc i) rs)
@@ -68,7 +68,7 @@ own-located whole i [] = tt
 own-located whole i (r ∷ rs) = (refl, own-located whole (suc i) rs)
 
 -- those of the rules made
-levels-length : (whole : List Rule) (u : Use) (i k : ℕ) → length (levelRows whole u i k) ≡ k
+pub levels-length : (whole : List Rule) (u : Use) (i k : ℕ) → length (levelRows whole u i k) ≡ k
 unfolding levelRows
 levels-length whole u i zero = refl
 levels-length whole u i (suc k) = ap suc (levels-length whole u (suc i) k)
@@ -124,7 +124,7 @@ rows-part whole i l (r ∷ rs) (b ∷ bs) e h f =
 
 -- A text
 
-same-program : {p q : List Rule} → meaning p ≡ meaning q → p ≡ q
+pub same-program : {p q : List Rule} → meaning p ≡ meaning q → p ≡ q
 same-program e = cc
 
 -- nothing is understood where the declarations are at fault

@@ -1,19 +1,18 @@
 -- Choices by the present token, and values that a called rule sets.
-use mathlib.Core.Bool.{Bool, true, false, _||_}
+use mathlib.Core.Bool.{Bool, false, _||_}
 use mathlib.Core.List.{List, [], _∷_}
 use mathlib.Core.Option.{Option, none, some}
 use mathlib.Core.Path.{_≡_, refl, sym, ap, _∙_}
 use native.Mathlib.Decide.{decLt}
 use native.Mathlib.Numerals.{add-one}
 use native.Mathlib.Omega.{arith}
-use Prim.Native.Nat.{ℕ, zero, suc, _+_, _*_, _-_, _≤_, _<_, min}
-use lib.Dec.{eqb, ltb}
+use Prim.Native.Nat.{ℕ, zero, suc, _+_, _*_, _≤_, _<_, min}
 use lib.ListN.{length, getD}
-use borrow.Author.Tests.{eqb-true}
-use Rattle.base.specs.Common.{if_then_else_}
-use Rattle.events.specs.Events.{Event, output, signal}
+use Rattle.base.proofs.Laws.{above-zero}
+use Rattle.events.specs.Events.{Event}
 use Rattle.loading.proofs.Members.{fetch-inside}
-use Rattle.machine.specs.Decode.{fetch, Instruction, invalid, jump, input, inputAny, write, inputChoice, callRule, return, setResult, choice, endChoice, setParameter, update, updateWith, choose, chooseWith, decodeOperation, decodeTwo, decodeOne, decodeWord, decodeAt, decode}
+use Rattle.machine.proofs.Decoded.{of-operation, of-one, of-two, of-decode}
+use Rattle.machine.specs.Decode.{fetch, Instruction, invalid, jump, input, inputAny, write, inputChoice, callRule, return, setResult, choice, endChoice, setParameter, update, updateWith, choose, chooseWith, decodeTwo, decodeOne, decodeWord, decodeAt, decode}
 use Rattle.machine.specs.Lengths.{lengths, lengthOf}
 use Rattle.figure.specs.Figure.{wayOut}
 use Rattle.meter.specs.Makes.{overAt, half, Makes, makes-token, makes-default, marks-label, makes-call-value}
@@ -62,51 +61,23 @@ not-some : {A : Type 0} {v : ℕ} → _≡_ {A = Option ℕ} none (some v) → A
 not-some e = let z : _≡_ {A = ℕ} 0 1 = cc in absurd (omega arith)
 
 one-value : {A : Type 0} (i v : ℕ) → valueOf (decodeOne i) ≡ some v → A
-unfolding decodeOne decodeOperation valueOf
-one-value {A} i v = go (eqb i 4) (eqb i 9) (eqb i 12) (ltb i 512) (ltb i 768) (ltb i 1024)
+unfolding valueOf
+one-value {A} i v = of-one no i (λ _. not-some) (λ _. not-some) (λ _. not-some) (of-operation no i (λ _. not-some) (λ _. not-some) (λ _. not-some) (λ _. not-some))
   where
-    go : (a b c d e f : Bool) → valueOf (if a then inputAny else if b then return else if c then endChoice else if d then update i else if e then updateWith i else if f then choose i else chooseWith i) ≡ some v → A
-    go true b c d e f z = not-some z
-    go false true c d e f z = not-some z
-    go false false true d e f z = not-some z
-    go false false false true e f z = not-some z
-    go false false false false true f z = not-some z
-    go false false false false false true z = not-some z
-    go false false false false false false z = not-some z
+    no : Instruction → Type 0
+    no j = valueOf j ≡ some v → A
 
 two-value : (l i x v : ℕ) → valueOf (decodeTwo l i x) ≡ some v → (i ≡ 10) × (x ≡ v)
-unfolding decodeTwo valueOf
-two-value l i x v = go (eqb i 1) (eqb i 2) (eqb i 3) (eqb i 5) (eqb i 6) (eqb i 7) (eqb i 8) (eqb i 10) (eqb i 11) refl
-  where
-    go : (a b c d e f g h j : Bool) → eqb i 10 ≡ h → valueOf (if a then jump (l + 1 + x) else if b then jump (l + 1 - x) else if c then input x else if d then write (output x) else if e then write (signal x) else if f then inputChoice (l + 1 + x) else if g then callRule x else if h then setResult x else if j then choice (l + 1 + x) else setParameter x) ≡ some v → (i ≡ 10) × (x ≡ v)
-    go true b c d e f g h j y z = not-some z
-    go false true c d e f g h j y z = not-some z
-    go false false true d e f g h j y z = not-some z
-    go false false false true e f g h j y z = not-some z
-    go false false false false true f g h j y z = not-some z
-    go false false false false false true g h j y z = not-some z
-    go false false false false false false true h j y z = not-some z
-    go false false false false false false false true j y z = let q : x ≡ v = cc in (eqb-true i 10 y, q)
-    go false false false false false false false false true y z = not-some z
-    go false false false false false false false false false y z = not-some z
+unfolding valueOf
+two-value l i x v =
+    of-two (λ j. valueOf j ≡ some v → (i ≡ 10) × (x ≡ v)) l i x (λ _ _. not-some) (λ _ _. not-some) (λ _. not-some) (λ _. not-some) (λ _. not-some)
+    (λ _ _ _. not-some) (λ _. not-some) (λ e z. (e, (let q : x ≡ v = cc in q))) (λ _ _ _. not-some) not-some
 
 set-words : (T : List ℕ) (p v : ℕ) → decode T p ≡ setResult v → (fetch T p ≡ some 10) × (fetch T (p + 1) ≡ some v)
-unfolding decode decodeAt decodeWord valueOf
-set-words T p v d = rw (add-one p) (go (fetch T p) (fetch T (suc p)) (ap valueOf d))
-  where
-    two : (i x : ℕ) (b c : Bool) → valueOf (if b then decodeOne i else if c then decodeTwo p i x else invalid) ≡ some v → (_≡_ {A = Option ℕ} (some i) (some 10)) × (_≡_ {A = Option ℕ} (some x) (some v))
-    two i x true c z = one-value i v z
-    two i x false true z = let y = two-value p i x v z in (ap some (y .0), ap some (y .1))
-    two i x false false z = not-some z
-
-    one : (i : ℕ) (b : Bool) → valueOf (if b then decodeOne i else invalid) ≡ some v → (_≡_ {A = Option ℕ} (some i) (some 10)) × (_≡_ {A = Option ℕ} none (some v))
-    one i true z = one-value i v z
-    one i false z = not-some z
-
-    go : (o u : Option ℕ) → valueOf (decodeAt p o u) ≡ some v → (o ≡ some 10) × (u ≡ some v)
-    go none u z = not-some z
-    go (some i) none z = one i (eqb (lengthOf i) 1) z
-    go (some i) (some x) z = two i x (eqb (lengthOf i) 1) (eqb (lengthOf i) 2) z
+unfolding valueOf
+set-words T p v d =
+    rw (add-one p) (of-decode (λ j. valueOf j ≡ some v → (fetch T p ≡ some 10) × (fetch T (suc p) ≡ some v)) T p not-some (λ i _. one-value i v)
+    (λ i x a b z. let y = two-value p i x v z in (a ∙ ap some (y .0), b ∙ ap some (y .1))) (ap valueOf d))
 
 set-decode : (T : List ℕ) (p : ℕ) {i v : ℕ} → fetch T p ≡ some i → i ≡ 10 → fetch T (p + 1) ≡ some v → decode T p ≡ setResult v
 unfolding decode decodeAt decodeWord decodeTwo lengthOf lengths
@@ -149,8 +120,4 @@ module _ {T S called : List ℕ} {k c p : ℕ} {rows : List ℕ} (kp : Kept T S 
       ask d (value-at {v = a} d₁ q) = let o : a ≡ v = (let o₁ : setResult a ≡ setResult v = sym d₁ ∙ d in cc) in rw o only
 
       makes : decode T p ≡ setResult v → Makes T S (calledOf called rows) (flagOf called) r l k (callRule (startOf S (h .rule))) (wayOut T c (some v)) (k + calledOf called rows p + 3)
-      makes d = makes-call-value {s = startOf S (h .rule)} {p = p} (rw (h .here .is-index) (h .here .found)) (h .chooses) (rw (h .here .is-index) (h .in-rule)) d (positive (calledOf called rows p) (λ n. s (z ∙ n)))
-        where
-          positive : (n : ℕ) → (n ≡ 0 → ⊥) → 0 < n
-          positive zero f = absurd (f refl)
-          positive (suc n) f = omega arith
+      makes d = makes-call-value {s = startOf S (h .rule)} {p = p} (rw (h .here .is-index) (h .here .found)) (h .chooses) (rw (h .here .is-index) (h .in-rule)) d (above-zero (calledOf called rows p) (λ n. s (z ∙ n)))

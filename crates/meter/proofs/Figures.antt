@@ -4,9 +4,10 @@ use mathlib.Core.Option.{none}
 use mathlib.Core.Path.{_≡_, refl, sym, ap, _∙_}
 use native.Mathlib.Decide.{decLt}
 use native.Mathlib.Omega.{arith}
-use Prim.Native.Nat.{ℕ, zero, suc, _+_, _≤_, _<_}
+use Prim.Native.Nat.{ℕ, _+_, _≤_, _<_}
 use lib.ListN.{length, getD, set, drop, replicate, length-set, length-replicate, drop-of-length-le, List·getD-eq-default}
 use borrow.Author.Fill.{fill-none, fill-more}
+use Rattle.base.proofs.Laws.{zeros-at}
 use Rattle.figure.specs.Figure.{Reached, at-start, End, Quiet, Bounds, Figure, Long}
 use Rattle.meter.specs.Found.{Starts, starts, Found}
 use Rattle.meter.specs.Makes.{overAt, backAt, half, cap, Closed, Origin, the-start, any-place, Ends, Sound, Stands, stands-place, stands-over, stands-back}
@@ -71,13 +72,8 @@ cleared-all {n} {i} {before} {rows} u h =
     let z : rows ≡ replicate n 0 ++ drop n before = rw e at (u .is) in
     z ∙ ap (λ (l : List ℕ). replicate n 0 ++ l) (drop-of-length-le before {i = n} (omega (arith, u .before-sized))) ∙ append-nil (replicate n 0)
 
-zero-at : (n i : ℕ) → _≡_ {A = ℕ} (getD (replicate n 0) i 0) 0
-zero-at zero i = refl
-zero-at (suc n) zero = refl
-zero-at (suc n) (suc i) = zero-at n i
-
 none-at : {rows : List ℕ} → rows ≡ replicate 4353 0 → (i : ℕ) → getD rows i 0 ≡ 0
-none-at e i = ap (λ (l : List ℕ). getD l i 0) e ∙ zero-at 4353 i
+none-at e i = ap (λ (l : List ℕ). getD l i 0) e ∙ zeros-at 4353 i
 
 module _ {T S : List ℕ} where
   no-numbers : {row : ℕ → ℕ} {flag : ℕ} → ((i : ℕ) → i < half → row i ≡ 0) → Sound T S row flag

@@ -13,14 +13,11 @@ use Rattle.meter.specs.Shaped.{indexOf, startOf, endOf, InRule, isChoice
 use Rattle.meter.specs.Steps.{flagOf, calledOf, Kept, Here, Steps, Only, only, Both, this, that, Raised, RaisedTwo, MakesAt, CallsHere, ValueAt, value-at, ValueHere, Values, values, Behind, behind-back, behind-value, ChoiceAt}
 use Rattle.meter.proofs.Bounds.{index-start, next-to}
 use Rattle.meter.proofs.Raising.{stays, seq, covers, may}
+use Rattle.base.proofs.Laws.{above-zero}
 use Rattle.base.specs.Bools.{never}
 
 pub not-nothing : {n : ℕ} → (n ≡ 0 → ⊥) → 1 ≤ n
-not-nothing {n} f = go n f
-  where
-    go : (n : ℕ) → (n ≡ 0 → ⊥) → 1 ≤ n
-    go zero f = absurd (f refl)
-    go (suc n) f = omega arith
+not-nothing {n} f = above-zero n f
 
 no-both : (T : List ℕ) (l : ℕ) {c : ℕ} → decode T l ≡ choice c → isChoice (decode T l) ≡ false → ⊥
 unfolding isChoice

@@ -13,7 +13,7 @@ use Rattle.agreement.proofs.Lay.{At}
 use Rattle.base.specs.Bools.{never}
 use Rattle.base.specs.Common.{if_then_else_, given}
 use Rattle.finishing.specs.Finishing.{Finishing}
-use Rattle.loading.proofs.Members.{fetch-inside, outside-invalid}
+use Rattle.loading.proofs.Members.{fetch-inside}
 use Rattle.machine.specs.Decode.{fetch, Instruction, invalid, jump, input, inputAny, write, inputChoice, callRule, return, setResult, choice, endChoice, setParameter, update, updateWith, choose, chooseWith, decode}
 use Rattle.program.proofs.Lengths.{length-table}
 use Rattle.program.proofs.Places.{place-next, place-fits}
@@ -27,6 +27,7 @@ use Rattle.figure.proofs.Battery.{figure-exact, figure-long, figure-settles}
 use Rattle.figure.proofs.Keeps.{rule-keeps}
 use Rattle.figure.proofs.Spots.{Stage, plainly, choosing, giving, Returns, returns-value, returns-plain, Spot, behindCall, CallsThen, Inside, Fine, Place, spot-fine, start-spot, program-laid-here, rule-place}
 use Rattle.meter.proofs.Bounds.{some-instruction}
+use Rattle.meter.proofs.Stands.{valid-inside}
 use Rattle.meter.specs.Shaped.{indexOf, startOf, endOf, InRule, isChoice, Given, given-none, given-some, Fits, HasTable, by-token, by-result, Shaped}
 use Rattle.meter.specs.Found.{Starts, starts, Found}
 use Rattle.meter.specs.Makes.{cap}
@@ -70,14 +71,6 @@ index-found (t ∷ ts) s (suc r) h e = go (eqb t s) (index-found ts s r (omega a
     go : (b : Bool) → indexOf ts s < length ts → (if b then 0 else suc (indexOf ts s)) < suc (length ts)
     go true z = omega arith
     go false z = omega arith
-
--- an instruction stands in the table
-valid-inside : (T : List ℕ) (l : ℕ) → (decode T l ≡ invalid → ⊥) → (1 ≤ l) × (l ≤ length T)
-valid-inside T l f = go (given (fetch T l)) refl
-  where
-    go : (b : Bool) → given (fetch T l) ≡ b → (1 ≤ l) × (l ≤ length T)
-    go true e = fetch-inside T l e
-    go false e = absurd (f (outside-invalid T l e))
 
 -- What a rule gives
 

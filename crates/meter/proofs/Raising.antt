@@ -11,6 +11,7 @@ use lib.Dec.{ltb}
 use lib.ListN.{length, getD, set, length-set}
 use lib.Seq.{getD-set-same, getD-set-other}
 use borrow.Author.Tests.{ltb-true, ltb-false}
+use Rattle.base.proofs.Laws.{neither}
 use Rattle.base.specs.Bools.{never}
 use Rattle.machine.specs.Decode.{Instruction, decode}
 use Rattle.figure.specs.Figure.{End}
@@ -120,19 +121,11 @@ module _ {T S called : List ℕ} where
   seq {M} {N} {rows} {mid} {after} {a} {b} x y = record {
     kept = y .kept;
     grows = λ i. omega (arith, x .grows i, y .grows i);
-    same = λ e. y .same (second a b e) ∙ x .same (first a b e);
+    same = λ e. y .same (neither a b e .1) ∙ x .same (neither a b e .0);
     less = λ e. less a b e (x .less) (x .same) (y .less) (y .same);
     all = λ e m h. all e m h;
   }
     where
-      first : (a b : Bool) → (a || b) ≡ false → a ≡ false
-      first true b e = e
-      first false b e = refl
-
-      second : (a b : Bool) → (a || b) ≡ false → b ≡ false
-      second true b e = never (sym e)
-      second false b e = e
-
       less : (a b : Bool) → (a || b) ≡ true → (a ≡ true → left mid < left rows) → (a ≡ false → mid ≡ rows) → (b ≡ true → left after < left mid) → (b ≡ false → after ≡ mid) → left after < left rows
       less true true e p q r s = omega (arith, p refl, r refl)
       less true false e p q r s = rw (s refl) (p refl)
@@ -140,11 +133,11 @@ module _ {T S called : List ℕ} where
       less false false e p q r s = never e
 
       all : (a || b) ≡ false → {i v : ℕ} → Both M N rows i v → i < half → min v cap ≤ rowOf rows i
-      all e (this m) h = x .all (first a b e) m h
+      all e (this m) h = x .all (neither a b e .0) m h
       all e {i} {v} (that m) h =
-          let q = x .same (first a b e) in
+          let q = x .same (neither a b e .0) in
           let z : N mid i v = rw q m in
-          rw (← q) (y .all (second a b e) z h)
+          rw (← q) (y .all (neither a b e .1) z h)
 
   -- more is asked for by less
   pub covers : {M N : Asked} {rows after : List ℕ} {a : Bool} → ((i v : ℕ) → N rows i v → M rows i v) → Steps T S M called rows after a → Steps T S N called rows after a

@@ -1,21 +1,17 @@
 -- A visit, by what stands at the location.
-use mathlib.Core.Bool.{Bool, true, false, _||_}
+use mathlib.Core.Bool.{Bool, false}
 use mathlib.Core.List.{List}
-use mathlib.Core.Option.{Option, none, some}
+use mathlib.Core.Option.{some}
 use mathlib.Core.Path.{_≡_, refl, sym, ap, _∙_}
-use native.Mathlib.Numerals.{add-one}
 use native.Mathlib.Omega.{arith}
 use Prim.Native.Nat.{ℕ, zero, suc, _+_, _-_, _≤_, _<_}
-use lib.Dec.{eqb}
 use lib.ListN.{length, getD}
-use borrow.Author.Tests.{ne-eqb}
-use Rattle.base.specs.Common.{if_then_else_, given}
+use Rattle.base.specs.Common.{given}
 use Rattle.loader.proofs.Laws.{table-fetch}
-use Rattle.loader.proofs.Visits.{decode-none, decode-one, two-words}
-use Rattle.loading.proofs.Members.{fetch-inside, outside-invalid}
+use Rattle.loader.proofs.Visits.{fetch-past}
+use Rattle.loading.proofs.Members.{outside-invalid}
 use Rattle.machine.specs.Bytes.{wordsOf, tableOf}
-use Rattle.machine.specs.Decode.{fetch, Instruction, invalid, decodeOne, decodeTwo, decodeWord, decodeAt, decode}
-use Rattle.machine.specs.Lengths.{lengthOf}
+use Rattle.machine.specs.Decode.{fetch, Instruction, invalid, decode}
 use Rattle.meter.specs.Makes.{Makes, Comes}
 use Rattle.meter.specs.Shaped.{InRule}
 use Rattle.meter.specs.Steps.{flagOf, rowOf, calledOf, Kept, Here, Steps, MakesAt, Visited, AskedAt, asked-at}
@@ -23,33 +19,15 @@ use Rattle.meter.proofs.Laws.{not-nothing}
 use Rattle.meter.proofs.Raising.{stays, covers}
 use Rattle.meter.proofs.Stands.{comes-at}
 
-no-word : (T : List ℕ) (l : ℕ) → (given (fetch T l) ≡ true → ⊥) → decode T l ≡ invalid
-no-word T l f = go (given (fetch T l)) refl
-  where
-    go : (b : Bool) → given (fetch T l) ≡ b → decode T l ≡ invalid
-    go true e = absurd (f e)
-    go false e = outside-invalid T l e
-
 pub outside-low : (T : List ℕ) (l : ℕ) → l ≡ 0 → decode T l ≡ invalid
-outside-low T l e = no-word T l (λ z. omega (arith, fetch-inside T l z .0))
+unfolding fetch
+outside-low T l e = outside-invalid T l (rw e refl)
 
 pub outside-high : (T : List ℕ) (l : ℕ) → length T < l → decode T l ≡ invalid
-outside-high T l h = no-word T l (λ z. omega (arith, fetch-inside T l z .1))
+outside-high T l h = outside-invalid T l (ap given (fetch-past T l h))
 
 pub here-word : (s : List ℕ) (l : ℕ) {w : ℕ} → (l ≡ 0 → ⊥) → l ≤ length (tableOf s) → w ≡ getD (wordsOf s) (l - 1) 0 → fetch (tableOf s) l ≡ some w
 here-word s l n h e = table-fetch s l (not-nothing n) h ∙ ap some (sym e)
-
-pub decode-both : (T : List ℕ) (l i x : ℕ) → fetch T l ≡ some i → lengthOf i ≡ 2 → fetch T (l + 1) ≡ some x → decode T l ≡ decodeTwo l i x
-unfolding decode decodeAt decodeWord
-decode-both T l i x f e g = let h : fetch T (suc l) ≡ some x = rw (add-one l) at g in rw (f, h, decodeWord, e)
-
-pub decode-short : (T : List ℕ) (l i : ℕ) → fetch T l ≡ some i → lengthOf i ≡ 2 → length T < l + 1 → decode T l ≡ invalid
-unfolding decode decodeAt decodeWord
-decode-short T l i f e h = rw f (go (fetch T (suc l)) refl)
-  where
-    go : (o : Option ℕ) → fetch T (suc l) ≡ o → decodeWord l i o ≡ invalid
-    go none g = rw e
-    go (some x) g = absurd (omega (arith, fetch-inside T (suc l) (rw g refl) .1))
 
 module _ {T S called : List ℕ} {r l : ℕ} {rows : List ℕ} (kp : Kept T S called rows) where
   pub visit-invalid : decode T l ≡ invalid → Steps T S (AskedAt T S called r l) called rows rows false

@@ -57,15 +57,15 @@ is-over-path : {T : List ℕ} {b n : ℕ} {e : End} → IsOver e → Quiet T b n
 is-over-path is-over p = p
 
 -- an instruction stands in the table
-pub set-inside : (T : List ℕ) (l : ℕ) {v : ℕ} → decode T l ≡ setResult v → l ≤ length T
-set-inside T l {v} d = go (given (fetch T l)) refl
+pub valid-inside : (T : List ℕ) (l : ℕ) → (decode T l ≡ invalid → ⊥) → (1 ≤ l) × (l ≤ length T)
+valid-inside T l f = go (given (fetch T l)) refl
   where
-    go : (b : Bool) → given (fetch T l) ≡ b → l ≤ length T
-    go true e = fetch-inside T l e .1
-    go false e =
-        let z : _≡_ {A = Instruction} invalid (setResult v) = sym (outside-invalid T l e) ∙ d in
-        let y : _≡_ {A = ℕ} 0 1 = cc in
-        absurd (omega arith)
+    go : (b : Bool) → given (fetch T l) ≡ b → (1 ≤ l) × (l ≤ length T)
+    go true e = fetch-inside T l e
+    go false e = absurd (f (outside-invalid T l e))
+
+pub set-inside : (T : List ℕ) (l : ℕ) {v : ℕ} → decode T l ≡ setResult v → l ≤ length T
+set-inside T l d = valid-inside T l (λ e. let y : _≡_ {A = ℕ} 0 1 = cc in omega arith) .1
 
 from-start : {T : List ℕ} {s b : ℕ} → Origin T 0 s b → b ≡ s
 from-start (the-start e) = e

@@ -8,8 +8,7 @@ use lib.ListN.{length}
 use Rattle.acceptance.proofs.Accepts.{understand-few, understood-accepted, accepted-table}
 use Rattle.acceptance.proofs.Used.{Within}
 use Rattle.acceptance.specs.Answers.{TableOf}
-use Rattle.grammar.proofs.ProgramIn.{parse-in}
-use Rattle.grammar.specs.Derived.{ProgramIn, a-program}
+use Rattle.grammar.proofs.ProgramIn.{few-in, parse-in}
 use Rattle.names.specs.Known.{Checked, good, wrong}
 use Rattle.names.specs.Understand.{understand}
 use Rattle.processor.specs.Process.{Part, meaning, faulty, checked, readIn, understood, accepted, process}
@@ -24,9 +23,6 @@ use Rattle.meter.specs.Shaped.{Shaped}
 use Rattle.meter.specs.Starts.{startsIn}
 use Rattle.meter.proofs.Programs.{rules-shaped}
 
-rules-read : {ws : List Word} {p : Program} → ProgramIn ws p → Within (namesInAll (p .sections)) (length (p .rules)) 0
-rules-read (a-program s h r e few names) = (omega (arith, few), omega (arith, names))
-
 -- "Limits: 128 rules", those made for operators among them
 pub rules-few : (text : List ℕ) (prog : List Rule) → understood text ≡ meaning prog → length prog ≤ 128
 unfolding understood readIn checked
@@ -40,7 +36,7 @@ rules-few text prog e = go (parse text) refl e
     inner p h (wrong n w) u d = no-meaning d
 
     go : (r : Read Program) → parse text ≡ r → readIn r ≡ meaning prog → length prog ≤ 128
-    go (got p rest) q d = inner p (rules-read (parse-in text p rest q)) (understand p) refl d
+    go (got p rest) q d = let f = few-in (parse-in text p rest q) in inner p (omega (arith, f .0), omega (arith, f .1)) (understand p) refl d
     go (fault n w) q d = no-meaning d
 
 -- a text that means something, with a table of at most 4,096 words

@@ -1,19 +1,17 @@
 -- Instructions of two words, and what stands behind a call.
-use mathlib.Core.Bool.{Bool, true, false, _||_}
+use mathlib.Core.Bool.{Bool, false, _||_}
 use mathlib.Core.List.{List, [], _∷_}
 use mathlib.Core.Logic.{_⊎_, inl, inr}
-use mathlib.Core.Option.{Option, none, some}
+use mathlib.Core.Option.{some}
 use mathlib.Core.Path.{_≡_, refl, sym, ap, _∙_}
 use native.Mathlib.Numerals.{add-one}
 use native.Mathlib.Omega.{arith}
 use Prim.Native.Nat.{ℕ, zero, suc, _+_, _*_, _-_, _≤_, _<_, min}
-use lib.Dec.{eqb, ltb}
 use lib.ListN.{length, getD}
-use borrow.Author.Tests.{ne-eqb}
-use Rattle.base.specs.Common.{if_then_else_}
-use Rattle.events.specs.Events.{Event, output, signal}
+use Rattle.events.specs.Events.{Event}
 use Rattle.loading.proofs.Members.{fetch-inside}
-use Rattle.machine.specs.Decode.{fetch, Instruction, invalid, jump, input, inputAny, write, inputChoice, callRule, return, setResult, choice, endChoice, setParameter, update, updateWith, choose, chooseWith, decodeOperation, decodeTwo, decodeOne, decodeWord, decodeAt, decode}
+use Rattle.machine.proofs.Decoded.{of-operation, of-one, of-two, of-decode}
+use Rattle.machine.specs.Decode.{fetch, Instruction, jump, input, write, callRule, setResult, choice, setParameter, decodeTwo, decodeOne, decodeWord, decodeAt, decode}
 use Rattle.machine.specs.Lengths.{lengths, lengthOf}
 use Rattle.meter.specs.Makes.{overAt, Makes, makes-jump, makes-input, marks-input, makes-write, makes-result, makes-choice, makes-parameter}
 use Rattle.meter.specs.Shaped.{isChoice}
@@ -89,85 +87,34 @@ module _ {T S called : List ℕ} {r l k : ℕ} {rows after : List ℕ} {b : Bool
     unfolding decodeTwo
     two-plain n₁ n₂ n₃ n₇ n₈ n₁₁ y = as-plain plains d y
       where
-        pick : (a b e : Bool) → Plain (if a then write (output x) else if b then write (signal x) else if e then setResult x else setParameter x)
-        pick true b e = plain-write
-        pick false true e = plain-write
-        pick false false true = plain-result
-        pick false false false = plain-parameter
-
         plains : Plain (decodeTwo l i x)
-        plains = rw (ne-eqb i 1 n₁, ne-eqb i 2 n₂, ne-eqb i 3 n₃, ne-eqb i 7 n₇, ne-eqb i 8 n₈, ne-eqb i 11 n₁₁) (pick (eqb i 5) (eqb i 6) (eqb i 10))
+        plains = of-two Plain l i x (λ e. absurd (n₁ e)) (λ e. absurd (n₂ e)) (λ e. absurd (n₃ e)) (λ _. plain-write) (λ _. plain-write) (λ e. absurd (n₇ e)) (λ e. absurd (n₈ e)) (λ _. plain-result) (λ e. absurd (n₁₁ e)) plain-parameter
 
 -- What stands at l
 
 one-no-choice : (i : ℕ) → isChoice (decodeOne i) ≡ false
-unfolding decodeOne decodeOperation isChoice
-one-no-choice i = go (eqb i 4) (eqb i 9) (eqb i 12) (ltb i 512) (ltb i 768) (ltb i 1024)
+unfolding isChoice
+one-no-choice i = of-one no i (λ _. refl) (λ _. refl) (λ _. refl) (of-operation no i (λ _. refl) (λ _. refl) (λ _. refl) (λ _. refl))
   where
-    go : (a b c d e f : Bool) → isChoice (if a then inputAny else if b then return else if c then endChoice else if d then update i else if e then updateWith i else if f then choose i else chooseWith i) ≡ false
-    go true b c d e f = refl
-    go false true c d e f = refl
-    go false false true d e f = refl
-    go false false false true e f = refl
-    go false false false false true f = refl
-    go false false false false false true = refl
-    go false false false false false false = refl
+    no : Instruction → Type 0
+    no j = isChoice j ≡ false
 
 two-no-choice : (l i x : ℕ) → (i ≡ 11 → ⊥) → isChoice (decodeTwo l i x) ≡ false
-unfolding decodeTwo isChoice
-two-no-choice l i x n = rw (ne-eqb i 11 n) (go (eqb i 1) (eqb i 2) (eqb i 3) (eqb i 5) (eqb i 6) (eqb i 7) (eqb i 8) (eqb i 10))
-  where
-    go : (a b c d e f g h : Bool) → isChoice (if a then jump (l + 1 + x) else if b then jump (l + 1 - x) else if c then input x else if d then write (output x) else if e then write (signal x) else if f then inputChoice (l + 1 + x) else if g then callRule x else if h then setResult x else setParameter x) ≡ false
-    go true b c d e f g h = refl
-    go false true c d e f g h = refl
-    go false false true d e f g h = refl
-    go false false false true e f g h = refl
-    go false false false false true f g h = refl
-    go false false false false false true g h = refl
-    go false false false false false false true h = refl
-    go false false false false false false false true = refl
-    go false false false false false false false false = refl
+unfolding isChoice
+two-no-choice l i x n = of-two (λ j. isChoice j ≡ false) l i x (λ _ _. refl) (λ _ _. refl) (λ _. refl) (λ _. refl) (λ _. refl) (λ _ _ _. refl) (λ _. refl) (λ _. refl) (λ e. absurd (n e)) refl
 
--- a word that is no choice's
-word-no-choice : (l i : ℕ) (o : Option ℕ) → (i ≡ 11 → ⊥) → isChoice (decodeWord l i o) ≡ false
-unfolding decodeWord isChoice
-word-no-choice l i none n = go (eqb (lengthOf i) 1)
-  where
-    go : (b : Bool) → isChoice (if b then decodeOne i else invalid) ≡ false
-    go true = one-no-choice i
-    go false = refl
-word-no-choice l i (some x) n = go (eqb (lengthOf i) 1) (eqb (lengthOf i) 2)
-  where
-    go : (b d : Bool) → isChoice (if b then decodeOne i else if d then decodeTwo l i x else invalid) ≡ false
-    go true d = one-no-choice i
-    go false true = two-no-choice l i x n
-    go false false = refl
+no-choice-at : (T : List ℕ) (l : ℕ) → ((i x : ℕ) → fetch T l ≡ some i → fetch T (suc l) ≡ some x → i ≡ 11 → ⊥) → ChoiceAt T l 0
+unfolding isChoice
+no-choice-at T l f = record {
+  no-choice = λ e. of-decode (λ j. isChoice j ≡ false) T l refl (λ i _. one-no-choice i) (λ i x a b. two-no-choice l i x (f i x a b));
+  is-choice = λ h. absurd (omega arith);
+}
 
 pub choice-other : (T : List ℕ) (l : ℕ) {i : ℕ} → fetch T l ≡ some i → (i ≡ 11 → ⊥) → ChoiceAt T l 0
-unfolding decode decodeAt
-choice-other T l {i} f n = record { no-choice = λ e. rw f (word-no-choice l i (fetch T (suc l)) n); is-choice = λ h. absurd (omega arith) }
+choice-other T l f n = no-choice-at T l (λ j x a _ e. n cc)
 
 pub choice-cut : (T : List ℕ) (l : ℕ) → length T < l + 1 → ChoiceAt T l 0
-unfolding decode decodeAt decodeWord isChoice
-choice-cut T l h = record { no-choice = λ e. rw (past) (go (fetch T l)); is-choice = λ h. absurd (omega arith) }
-  where
-    past : fetch T (suc l) ≡ none
-    past = gone (fetch T (suc l)) refl
-      where
-        gone : (o : Option ℕ) → fetch T (suc l) ≡ o → o ≡ none
-        gone none e = refl
-        gone (some x) e = let z = fetch-inside T (suc l) (rw e refl) in absurd (omega (arith, z .1))
-
-    go : (o : Option ℕ) → isChoice (decodeAt l o none) ≡ false
-    go none = refl
-    go (some i) = cut i
-      where
-        cut : (i : ℕ) → isChoice (decodeWord l i none) ≡ false
-        cut i = pick (eqb (lengthOf i) 1)
-          where
-            pick : (b : Bool) → isChoice (if b then decodeOne i else invalid) ≡ false
-            pick true = one-no-choice i
-            pick false = refl
+choice-cut T l h = no-choice-at T l (λ i x _ b _. omega (arith, fetch-inside T (suc l) (rw b refl) .1))
 
 pub choice-here : (T : List ℕ) (l : ℕ) {i x c : ℕ} → fetch T l ≡ some i → i ≡ 11 → fetch T (l + 1) ≡ some x → c ≡ l + 1 + x → ChoiceAt T l c
 unfolding decode decodeAt decodeWord decodeTwo lengthOf lengths

@@ -1,5 +1,5 @@
 -- What a visit of an instruction does is what the instruction asks for.
-use mathlib.Core.Bool.{Bool, true, false, _||_}
+use mathlib.Core.Bool.{Bool, false, _||_, or-false}
 use mathlib.Core.List.{List, [], _∷_}
 use mathlib.Core.Logic.{_⊎_, inl, inr}
 use mathlib.Core.Option.{Option, none, some}
@@ -179,10 +179,6 @@ label-raised f e r = way-raised f (rw e at r)
 
 pub label-enough : {T : List ℕ} {c i x v way : ℕ} {rows : List ℕ} {b : Bool} → fetch T (c + 1 + 2 * i + 1) ≡ some x → way ≡ c + 1 + 2 * i + 1 - x → IsBelow way v rows b → b ≡ false → LabelRaised T c i v rows rows false
 label-enough f e r q = has-enough f (rw (e, q) at r)
-
-or-false : (b : Bool) → (b || false) ≡ b
-or-false true = refl
-or-false false = refl
 
 pub ways-next : {T : List ℕ} {c v n i : ℕ} {rows mid after : List ℕ} {b d e : Bool} → WaysUpto T c v n i rows mid b → i < n → LabelRaised T c i v mid after d → e ≡ (b || d) → WaysUpto T c v n (i + 1) rows after e
 ways-next {T} {c} {v} {n} {i} {rows} {mid} {b = b} u h r q = rw q (go r)

@@ -10,6 +10,7 @@ use borrow.Author.Tests.{eqb-true, eqb-false, eq-eqb, ne-eqb}
 use Rattle.acceptance.proofs.CheckLaws.{Yields, no-good, yields, next, passed}
 use Rattle.acceptance.proofs.Shape.{Each}
 use Rattle.acceptance.proofs.NamesOk.{each-append, picked}
+use Rattle.base.proofs.Laws.{neither}
 use Rattle.base.specs.Bools.{never}
 use Rattle.base.specs.Common.{if_then_else_, same, given}
 use Rattle.names.specs.Declare.{declareAll, declareBoth, declareOperations, withOperations, inputsOf, outputsOf, otherSide, listed, operatorOf, operatorsOf, declareSection, declareSections}
@@ -25,14 +26,10 @@ unfoldable pub Distinct : List Operator → Type 0
 Distinct [] = Unit {0}
 Distinct (o ∷ os) = (listed (some (o .token)) os ≡ false) × Distinct os
 
-or-false : (a b : Bool) → (a || b) ≡ false → (a ≡ false) × (b ≡ false)
-or-false true b e = never (sym e)
-or-false false b e = (refl, e)
-
 not-at : (t m : ℕ) (os : List Operator) → listed (some t) os ≡ false → emitsOf t (atLevel m os) ≡ none
 unfolding listed emitsOf atLevel
 not-at t m [] h = refl
-not-at t m (o ∷ os) h = let x = or-false (eqb t (o .token)) (listed (some t) os) h in go (eqb (o .level) m) (x .0) (not-at t m os (x .1))
+not-at t m (o ∷ os) h = let x = neither (eqb t (o .token)) (listed (some t) os) h in go (eqb (o .level) m) (x .0) (not-at t m os (x .1))
   where
     go : (b : Bool) → eqb t (o .token) ≡ false → emitsOf t (atLevel m os) ≡ none → emitsOf t (if b then o ∷ atLevel m os else atLevel m os) ≡ none
     go true e k = rw e k
@@ -99,13 +96,13 @@ eqb-sym a b e = ne-eqb b a (λ q. eqb-false a b e (sym q))
 listed-more : (t : ℕ) (os : List Operator) (o : Operator) → listed (some t) os ≡ false → eqb t (o .token) ≡ false → listed (some t) (os ++ (o ∷ [])) ≡ false
 unfolding listed
 listed-more t [] o h e = rw e refl
-listed-more t (x ∷ os) o h e = let y = or-false (eqb t (x .token)) (listed (some t) os) h in rw (y .0) (listed-more t os o (y .1) e)
+listed-more t (x ∷ os) o h e = let y = neither (eqb t (x .token)) (listed (some t) os) h in rw (y .0) (listed-more t os o (y .1) e)
 
 distinct-more : (os : List Operator) (o : Operator) → Distinct os → listed (some (o .token)) os ≡ false → Distinct (os ++ (o ∷ []))
 unfolding Distinct listed
 distinct-more [] o d h = (refl, tt)
 distinct-more (x ∷ os) o d h =
-    let y = or-false (eqb (o .token) (x .token)) (listed (some (o .token)) os) h in
+    let y = neither (eqb (o .token) (x .token)) (listed (some (o .token)) os) h in
     (listed-more (x .token) os o (d .0) (eqb-sym (o .token) (x .token) (y .0)), distinct-more os o (d .1) (y .1))
 
 abbrev Fresh : List Operator → Operator → Type 0
@@ -127,7 +124,7 @@ fresh p e have =
     next (Fresh have) (λ t. find (e .token .text) (inputsOf (p .sections)) ≡ some t) (lookup p (inputsOf (p .sections)) (e .token)) _ (found p (inputsOf (p .sections)) (e .token)) (λ t ht.
     next (Fresh have) (λ _. Unit {0}) (lookup p (outputsOf (p .sections)) (e .emits)) _ (λ _ _. tt) (λ o _.
     yields (Fresh have) (record { token = t; level = e .level; right = e .right; emits = o })
-    (ap (λ (x : Option ℕ). listed x have) (sym ht) ∙ or-false (otherSide e have) (listed (find (e .token .text) (inputsOf (p .sections))) have) h .1)))))
+    (ap (λ (x : Option ℕ). listed x have) (sym ht) ∙ neither (otherSide e have) (listed (find (e .token .text) (inputsOf (p .sections))) have) h .1)))))
 
 distinct : (p : Program) (es : List written.Operator) (have : List Operator) → Distinct have → Yields Distinct (operatorsOf p es have)
 unfolding operatorsOf

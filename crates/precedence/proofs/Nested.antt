@@ -8,6 +8,7 @@ use native.Mathlib.Nat.{zero-add, suc-add}
 use native.Mathlib.Omega.{arith}
 use lib.Dec.{eqb, ltb}
 use lib.ListN.{length, drop, getElem?, length-append}
+use lib.Seq.{drop-drop, drop-append-seam}
 use borrow.Author.Tests.{lt-ltb}
 use Rattle.base.specs.Bools.{never}
 use Rattle.base.specs.Common.{if_then_else_, member}
@@ -61,22 +62,9 @@ present-first [] (suc n) = refl
 present-first (t ∷ ts) zero = refl
 present-first (t ∷ ts) (suc n) = present-first ts n
 
-drop-none : (n : ℕ) → drop {A = ℕ} n [] ≡ []
-drop-none zero = refl
-drop-none (suc n) = refl
-
-drop-drop : (m n : ℕ) (ts : List ℕ) → drop (m + n) ts ≡ drop n (drop m ts)
-drop-drop zero n ts = ap (λ (k : ℕ). drop k ts) (zero-add n)
-drop-drop (suc m) n [] = drop-none (suc m + n) ∙ sym (drop-none n)
-drop-drop (suc m) n (t ∷ ts) = ap (λ (k : ℕ). drop k (t ∷ ts)) (suc-add m n) ∙ drop-drop m n ts
-
-drop-append : (xs ys : List ℕ) → drop (length xs) (xs ++ ys) ≡ ys
-drop-append [] ys = refl
-drop-append (x ∷ xs) ys = drop-append xs ys
-
 -- past a beginning
 drop-past : (n : ℕ) (ts xs ys : List ℕ) → drop n ts ≡ xs ++ ys → drop (n + length xs) ts ≡ ys
-drop-past n ts xs ys e = drop-drop n (length xs) ts ∙ ap (drop (length xs)) e ∙ drop-append xs ys
+drop-past n ts xs ys e = sym (drop-drop (length xs) n ts) ∙ ap (drop (length xs)) e ∙ drop-append-seam xs ys
 
 -- the same behind a sum
 told-past : {ls : List Level} (e : Sum ls) (io : Io) (ts rest : List ℕ) → drop (io .read) ts ≡ tokensOf e ++ rest → drop (told e io .read) ts ≡ rest

@@ -5,14 +5,14 @@ use mathlib.Core.Logic.{_⊎_, inl, inr}
 use mathlib.Core.Option.{Option, none, some}
 use mathlib.Core.Path.{_≡_, refl, sym, ap, _∙_}
 use Prim.Native.Nat.{ℕ, zero, suc, _+_, _<_, _≤_}
-use lib.Dec.{eqb, ltb}
+use lib.Dec.{ltb}
 use lib.ListN.{length, length-append}
 use native.Mathlib.Omega.{arith}
-use borrow.Author.Tests.{eqb-true, eq-eqb}
 use Rattle.acceptance.proofs.CheckLaws.{Yields, no-good, yields, next, passed}
 use Rattle.acceptance.proofs.Accepts.{rules-count}
 use Rattle.acceptance.proofs.Shape.{Each}
 use Rattle.acceptance.proofs.Used.{passes, level-rules-length}
+use Rattle.base.proofs.Laws.{same-refl, same-eq}
 use Rattle.base.specs.Bools.{never, or, and, or₁, or₂, both}
 use Rattle.base.specs.Common.{if_then_else_, same, given}
 use Rattle.names.specs.Declare.{declareSections, knownRules}
@@ -29,20 +29,6 @@ use Rattle.syntax.specs.Written as written
 use Rattle.syntax.specs.Written.{Program}
 
 -- Texts of words
-
-same-eq : (a b : List ℕ) → same a b ≡ true → a ≡ b
-same-eq [] [] e = refl
-same-eq [] (y ∷ ys) e = never e
-same-eq (x ∷ xs) [] e = never e
-same-eq (x ∷ xs) (y ∷ ys) e = go (eqb x y) refl e (same-eq xs ys)
-  where
-    go : (t : Bool) → eqb x y ≡ t → (if t then same xs ys else false) ≡ true → (same xs ys ≡ true → xs ≡ ys) → x ∷ xs ≡ y ∷ ys
-    go true d h f = rw (eqb-true x y d, f h) refl
-    go false d h f = never h
-
-same-refl : (a : List ℕ) → same a a ≡ true
-same-refl [] = refl
-same-refl (x ∷ xs) = rw (eq-eqb x x refl) (same-refl xs)
 
 pair-refl : (u : Use) → samePair u u ≡ true
 unfolding samePair

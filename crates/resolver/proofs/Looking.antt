@@ -15,7 +15,7 @@ use Rattle.names.specs.Resolve.{operationOf, ruleNamed, rankedOf}
 use Rattle.names.specs.Uses.{lowestOf, pairsOf}
 use Rattle.program.specs.Made.{levelsOf}
 use Rattle.program.specs.Program.{Plain, call}
-use Rattle.symbols.specs.Rows.{wordOf, optionOf, declAt, heldFrom, held, rowIn, operationIn, operatorsRow, ruleIn, givesOf, Looks, found, missing}
+use Rattle.symbols.specs.Rows.{wordOf, optionOf, rowIn, operationIn, operatorsRow, ruleIn, givesOf, Looks, found, missing}
 use Rattle.symbols.specs.Search.{Tells, there, nowhere}
 use Rattle.syntax.specs.Written.{Program}
 use Rattle.words.specs.Words.{Word}
@@ -166,16 +166,6 @@ tells-none (there e q) h = absurd (omega arith)
 tells-none (nowhere e) h = refl
 
 -- Declarations of the row
-
-heldFrom-at : (text rows : List ℕ) (k n i : ℕ) → i < n → declOf (heldFrom text rows k n) i ≡ declAt text rows (k + i)
-unfolding heldFrom declOf
-heldFrom-at text rows k zero i h = absurd (omega arith)
-heldFrom-at text rows k (suc n) zero h = ap (declAt text rows) (omega arith)
-heldFrom-at text rows k (suc n) (suc i) h = heldFrom-at text rows (suc k) n i (omega arith) ∙ ap (declAt text rows) (omega arith)
-
-pub held-at : (text rows : List ℕ) (n i : ℕ) → i < n → declOf (held text rows n) i ≡ declAt text rows i
-unfolding held
-held-at text rows n i h = heldFrom-at text rows 0 n i h ∙ ap (declAt text rows) (omega arith)
 
 pub option-none : (text : List ℕ) (kind start len : ℕ) → len ≡ 0 → optionOf text kind start len ≡ none
 unfolding optionOf

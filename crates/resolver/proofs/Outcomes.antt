@@ -13,8 +13,9 @@ use Rattle.names.specs.Known.{Checked, good, wrong, _>>=_, faultIf, Known, Know
 use Rattle.names.specs.Resolve.{Place, Chooses, updating, choosing, operationOf, ruleNamed, parameterOf, updateOf, matchOf, giveOf, rankedOf, plainOf, selectorOf}
 use Rattle.names.specs.Resolve as resolve
 use Rattle.program.specs.Program.{Plain, match, any, emit, error, exit, call, back, give, Selector, byToken, byRule}
-use Rattle.resolver.proofs.Looking.{after-good, after-wrong, operation-is, rule-is, ranked-is, procedureOf, lowestFor, held-at, option-none, option-some}
+use Rattle.resolver.proofs.Looking.{after-good, after-wrong, operation-is, rule-is, ranked-is, procedureOf, lowestFor, option-none, option-some}
 use Rattle.resolver.specs.Parts.{valued, namedOf, callOf, byRuleOf, byOperationOf, choosesOf}
+use Rattle.symbols.proofs.Searches.{held-at}
 use Rattle.symbols.specs.Rows.{wordOf, optionOf, secondKind, declAt, held, operationIn, operatorsRow, ruleIn}
 use Rattle.syntax.specs.Written as written
 use Rattle.syntax.specs.Written.{Constant, Program}

@@ -10,6 +10,7 @@ use native.Mathlib.Omega.{arith}
 use lib.Dec.{eqb}
 use lib.ListN.{length}
 use borrow.Author.Tests.{eqb-true, eqb-false, not-true}
+use Rattle.base.proofs.Laws.{above-zero}
 use Rattle.base.specs.Bools.{never, and, both, split}
 use Rattle.base.specs.Common.{if_then_else_, member, given}
 use Rattle.machine.specs.Decode.{fetch, decode}
@@ -132,7 +133,7 @@ names-lowest T set l e = go (taken T) refl e
 
     is-lowest : taken T ≡ true → (at : ℕ) → denied T set ≡ at → (at ≡ 0 → ⊥) → Denied T set at
     is-lowest t at d n =
-        let s = lowest-is T set (length T) 1 at d (one-at-least at n) in
+        let s = lowest-is T set (length T) 1 at d (above-zero at n) in
         let w = and (member at (reached T)) (not (right T set at)) (s .wrong) in
         record {
           takes = taken-Taken T t;
@@ -146,10 +147,6 @@ names-lowest T set l e = go (taken T) refl e
                 never (sym a ∙ b))
           ];
         }
-      where
-        one-at-least : (k : ℕ) → (k ≡ 0 → ⊥) → 1 ≤ k
-        one-at-least zero z = absurd (z refl)
-        one-at-least (suc k) z = omega arith
 
     there : taken T ≡ true → (b : Bool) → eqb (denied T set) 0 ≡ b → (if b then says 0 0 else says 48 (denied T set)) ≡ says 48 l → Denied T set l
     there t true q d = absurd (impossible d)

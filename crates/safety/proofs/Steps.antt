@@ -13,10 +13,10 @@ use Rattle.base.specs.Bools.{never, split}
 use Rattle.base.specs.Common.{if_then_else_, member, given}
 use Rattle.events.specs.Events
 use Rattle.events.specs.Events.{Event, output, signal, repair, operation, operationWith, Reason, finished, differs, missing, unlabelled, deep, unanswered, outside, reasonNumber, Io, present, took, wrote, answer, answered, mends, spent, is}
+use Rattle.machine.proofs.Decoded as decoded
 use Rattle.machine.specs.Call
 use Rattle.machine.specs.Call.{Mode, whole, paused, Called, ends, endsFor, writing, Turn, over, further, takes, handsOut, turn, keeps, run, callIn, callWalk}
-use Rattle.machine.specs.Decode.{fetch, Instruction, invalid, jump, input, inputAny, write, inputChoice, callRule, return, setResult, choice, endChoice, setParameter, update, updateWith, choose, chooseWith, decodeOperation, decodeTwo, decodeOne, decodeWord, decodeAt, decode}
-use Rattle.machine.specs.Lengths.{lengthOf}
+use Rattle.machine.specs.Decode.{fetch, Instruction, invalid, jump, input, inputAny, write, inputChoice, callRule, return, setResult, choice, endChoice, setParameter, update, updateWith, choose, chooseWith, decode}
 use Rattle.machine.specs.Step.{Next, goesOutside, stops, goes, tells, asks, goTo, seek, seekBy, landed, branched, inputChoosing, calling, returning, requiring, exec, step}
 use Rattle.machine.specs.Walk
 use Rattle.machine.specs.Walk.{Phase, going, waiting, stopped, Walk, fresh, moved, withReturns, withResult, withParameter, withIo, inPhase, withAnswer, first64, atRest}
@@ -55,48 +55,14 @@ Writes (updateWith op) = true
 Writes (choose op) = true
 Writes (chooseWith op) = true
 
-if-writes : (b : Bool) (x y : Instruction) → Writes x ≡ true → Writes y ≡ true → Writes (if b then x else y) ≡ true
-if-writes true x y p q = p
-if-writes false x y p q = q
-
-writes-operation : (i : ℕ) → Writes (decodeOperation i) ≡ true
-unfolding Writes decodeOperation
-writes-operation i =
-    if-writes (ltb i 512) (update i) _ refl (if-writes (ltb i 768) (updateWith i) _ refl (if-writes (ltb i 1024) (choose i) (chooseWith i) refl refl))
-
-writes-two : (l i x : ℕ) → Writes (decodeTwo l i x) ≡ true
-unfolding Writes Plain decodeTwo
-writes-two l i x =
-    if-writes (eqb i 1) (jump (l + 1 + x)) _ refl
-    (if-writes (eqb i 2) (jump (l + 1 - x)) _ refl
-    (if-writes (eqb i 3) (input x) _ refl
-    (if-writes (eqb i 5) (write (output x)) _ refl
-    (if-writes (eqb i 6) (write (signal x)) _ refl
-    (if-writes (eqb i 7) (inputChoice (l + 1 + x)) _ refl
-    (if-writes (eqb i 8) (callRule x) _ refl
-    (if-writes (eqb i 10) (setResult x) _ refl
-    (if-writes (eqb i 11) (choice (l + 1 + x)) (setParameter x) refl refl))))))))
-
-writes-one : (i : ℕ) → Writes (decodeOne i) ≡ true
-unfolding Writes decodeOne
-writes-one i =
-    if-writes (eqb i 4) inputAny _ refl
-    (if-writes (eqb i 9) return _ refl (if-writes (eqb i 12) endChoice (decodeOperation i) refl (writes-operation i)))
-
-writes-word : (l i : ℕ) (o : Option ℕ) → Writes (decodeWord l i o) ≡ true
-unfolding Writes decodeWord
-writes-word l i none = if-writes (eqb (lengthOf i) 1) (decodeOne i) invalid (writes-one i) refl
-writes-word l i (some x) =
-    if-writes (eqb (lengthOf i) 1) (decodeOne i) _ (writes-one i) (if-writes (eqb (lengthOf i) 2) (decodeTwo l i x) invalid (writes-two l i x) refl)
-
-writes-at : (l : ℕ) (i x : Option ℕ) → Writes (decodeAt l i x) ≡ true
-unfolding Writes decodeAt
-writes-at l none x = refl
-writes-at l (some i) x = writes-word l i x
-
 writes : (T : List ℕ) (l : ℕ) → Writes (decode T l) ≡ true
-unfolding decode
-writes T l = writes-at l (fetch T l) (fetch T (suc l))
+unfolding Writes Plain
+writes T l = decoded.of-decode is T l refl
+    (λ i _. decoded.of-one is i (λ _. refl) (λ _. refl) (λ _. refl) (decoded.of-operation is i (λ _. refl) (λ _. refl) (λ _. refl) (λ _. refl)))
+    (λ i x _ _. decoded.of-two is l i x (λ _ _. refl) (λ _ _. refl) (λ _. refl) (λ _. refl) (λ _. refl) (λ _ _ _. refl) (λ _. refl) (λ _. refl) (λ _ _ _. refl) refl)
+  where
+    is : Instruction → Type 0
+    is i = Writes i ≡ true
 
 -- Where an event comes from: an operation's stands at a reachable location
 

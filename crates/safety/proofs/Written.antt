@@ -13,7 +13,8 @@ use Rattle.acceptance.proofs.Accepts.{accepted-table}
 use Rattle.acceptance.specs.Answers.{TableOf}
 use Rattle.agreement.proofs.Laid.{program-laid}
 use Rattle.agreement.proofs.Lay.{Entry, entries, Entries, entries-nil, entries-cons, Table, LayPlain, lay-match, lay-any, lay-emit, lay-error, lay-exit, lay-call, lay-back, lay-give, lay-update, lay-updateWith, Lay, lay-plain, lay-cycle, lay-token, lay-rule, lay-operation, lay-operationWith, Lays, lays-done, lays-cons, LayChoice, lay-choice, LayAlts, alts-nil, alts-cons, LayOther, other-input, other-end, other-is, At, at-place, End, end-rule, end-cycle, end-alternative, end-otherwise, Out, out-cycle, out-alternative, out-otherwise, AtChoice, at-choice}
-use Rattle.base.specs.Bools.{never, or₁, or₂, both}
+use Rattle.agreement.proofs.Sim.{rest-at, exit-out}
+use Rattle.base.specs.Bools.{never, or₁, or₂}
 use Rattle.base.specs.Common.{if_then_else_, member, given}
 use Rattle.base.specs.Tree.{plain, cycle, choice, done, _▸_, nil, alternative, absent, otherwise}
 use Rattle.loading.proofs.Members.{member-cons, member-either}
@@ -159,32 +160,21 @@ module _ (T : List ℕ) (start : ℕ → ℕ) (prog : List Rule) where
   out-place (out-alternative o) = out-place o
   out-place (out-otherwise o) = out-place o
 
-  rest-at : {v : Bool} (a : Act) {q : Acts} {k : List Context} {x m e : ℕ} → Lays T start prog v q x m e
-      → (pastAll (a ▸ q) ≡ true → End T start prog v k e) → (exitsAll (a ▸ q) ≡ true → Out T start prog v k x)
-      → past a ≡ true → At T start prog v q k m
-  unfolding pastAll exitsAll
-  rest-at a {q} hs hg hh g = at-place hs (λ gs. hg (both (past a) (pastAll q) g gs)) (λ h. hh (or₂ (exits a) (exitsAll q) h))
-
-  exit-out : {v : Bool} (a : Act) (q : Acts) {k : List Context} {x : ℕ} → (exitsAll (a ▸ q) ≡ true → Out T start prog v k x)
-      → exits a ≡ true → Out T start prog v k x
-  unfolding exitsAll
-  exit-out a q hh g = hh (or₁ (exits a) (exitsAll q) g)
-
   module _ (laid : (r : ℕ) → r < length prog → At T start prog (ruleOf prog r .valued) (bodyOf prog r) [] (start r)) where
     plain-sound : {v : Bool} (p : Plain) {q : Acts} {k : List Context} {x l m e : ℕ} → LayPlain T start prog v p x l m → Lays T start prog v q x m e
         → (pastAll (plain p ▸ q) ≡ true → End T start prog v k e) → (exitsAll (plain p ▸ q) ≡ true → Out T start prog v k x) → Sound l
     unfolding bad onward past plainPast exits isExit
-    plain-sound (match t) (lay-match d) hs hg hh = input-sound d (p-at (rest-at (plain (match t)) hs hg hh refl))
-    plain-sound any (lay-any d) hs hg hh = by inputAny d refl (only (p-at (rest-at (plain any) hs hg hh refl)))
-    plain-sound (emit t) (lay-emit d) hs hg hh = by (write _) d refl (only (p-at (rest-at (plain (emit t)) hs hg hh refl)))
-    plain-sound (error t) (lay-error d) hs hg hh = by (write _) d refl (only (p-at (rest-at (plain (error t)) hs hg hh refl)))
-    plain-sound exit {q = q} (lay-exit d) hs hg hh = jump-sound d (out-place (exit-out (plain exit) q hh refl))
-    plain-sound (call r) (lay-call d c) hs hg hh = call-sound d (p-at (laid r (c .there))) (p-at (rest-at (plain (call r)) hs hg hh refl))
+    plain-sound (match t) (lay-match d) hs hg hh = input-sound d (p-at (rest-at T start prog (plain (match t)) hs hg hh refl))
+    plain-sound any (lay-any d) hs hg hh = by inputAny d refl (only (p-at (rest-at T start prog (plain any) hs hg hh refl)))
+    plain-sound (emit t) (lay-emit d) hs hg hh = by (write _) d refl (only (p-at (rest-at T start prog (plain (emit t)) hs hg hh refl)))
+    plain-sound (error t) (lay-error d) hs hg hh = by (write _) d refl (only (p-at (rest-at T start prog (plain (error t)) hs hg hh refl)))
+    plain-sound exit {q = q} (lay-exit d) hs hg hh = jump-sound d (out-place (exit-out T start prog (plain exit) q hh refl))
+    plain-sound (call r) (lay-call d c) hs hg hh = call-sound d (p-at (laid r (c .there))) (p-at (rest-at T start prog (plain (call r)) hs hg hh refl))
     plain-sound back (lay-back z d) hs hg hh = return-sound d
     plain-sound (give u) (lay-give z d d₁) hs hg hh = by (setResult u) d refl (only (p-return d₁))
-    plain-sound (update op) (lay-update d) hs hg hh = by (updates op) d refl (only (p-at (rest-at (plain (update op)) hs hg hh refl)))
+    plain-sound (update op) (lay-update d) hs hg hh = by (updates op) d refl (only (p-at (rest-at T start prog (plain (update op)) hs hg hh refl)))
     plain-sound (updateWith op u) (lay-updateWith d d₁) hs hg hh =
-        set-sound d (p-update d₁ (p-at (rest-at (plain (updateWith op u)) hs hg hh refl)))
+        set-sound d (p-update d₁ (p-at (rest-at T start prog (plain (updateWith op u)) hs hg hh refl)))
 
     mutual
       unfolding bad onward past exits pastAll
@@ -193,21 +183,21 @@ module _ (T : List ℕ) (start : ℕ → ℕ) (prog : List Rule) where
           → (pastAll (a ▸ q) ≡ true → End T start prog v k e) → (exitsAll (a ▸ q) ≡ true → Out T start prog v k x) → Sound l
       lay-sound (plain p) (lay-plain h) hs hg hh = plain-sound p h hs hg hh
       lay-sound (cycle b) (lay-cycle h d) hs hg hh =
-          lays-sound b h (λ g. end-cycle h d (λ y. out-cycle (rest-at (cycle b) hs hg hh y))) (λ y. out-cycle (rest-at (cycle b) hs hg hh y))
+          lays-sound b h (λ g. end-cycle h d (λ y. out-cycle (rest-at T start prog (cycle b) hs hg hh y))) (λ y. out-cycle (rest-at T start prog (cycle b) hs hg hh y))
           (λ g. jump-sound d (p-at (at-place h
-          (λ x. end-cycle h d (λ y. out-cycle (rest-at (cycle b) hs hg hh y))) (λ y. out-cycle (rest-at (cycle b) hs hg hh y)))))
+          (λ x. end-cycle h d (λ y. out-cycle (rest-at T start prog (cycle b) hs hg hh y))) (λ y. out-cycle (rest-at T start prog (cycle b) hs hg hh y)))))
       lay-sound (choice byToken al o) {q = q} (lay-token {c = c} nl d t a b) hs hg hh =
           by (inputChoice c) d (table-fits t)
-          (choice-leads t a b (λ x. rest-at (choice byToken al o) hs hg hh x) (λ x. exit-out (choice byToken al o) q hh x))
+          (choice-leads t a b (λ x. rest-at T start prog (choice byToken al o) hs hg hh x) (λ x. exit-out T start prog (choice byToken al o) q hh x))
       lay-sound (choice (byRule r) al o) {q = q} (lay-rule d c a) hs hg hh =
           call-sound d (p-at (laid r (c .there)))
-          (p-choice (at-choice a (λ x. rest-at (choice (byRule r) al o) hs hg hh x) (λ x. exit-out (choice (byRule r) al o) q hh x)))
+          (p-choice (at-choice a (λ x. rest-at T start prog (choice (byRule r) al o) hs hg hh x) (λ x. exit-out T start prog (choice (byRule r) al o) q hh x)))
       lay-sound (choice (byOperation op) al o) {q = q} (lay-operation d a) hs hg hh =
           by (choose op) d refl (only
-          (p-choice (at-choice a (λ x. rest-at (choice (byOperation op) al o) hs hg hh x) (λ x. exit-out (choice (byOperation op) al o) q hh x))))
+          (p-choice (at-choice a (λ x. rest-at T start prog (choice (byOperation op) al o) hs hg hh x) (λ x. exit-out T start prog (choice (byOperation op) al o) q hh x))))
       lay-sound (choice (byOperationWith op u) al o) {q = q} (lay-operationWith d d₁ a) hs hg hh =
           set-sound d (p-choose d₁
-          (p-choice (at-choice a (λ x. rest-at (choice (byOperationWith op u) al o) hs hg hh x) (λ x. exit-out (choice (byOperationWith op u) al o) q hh x))))
+          (p-choice (at-choice a (λ x. rest-at T start prog (choice (byOperationWith op u) al o) hs hg hh x) (λ x. exit-out T start prog (choice (byOperationWith op u) al o) q hh x))))
 
       lays-sound : (q : Acts) {v : Bool} {k : List Context} {x l e : ℕ} → Lays T start prog v q x l e → (pastAll q ≡ true → End T start prog v k e)
           → (exitsAll q ≡ true → Out T start prog v k x) → (pastAll q ≡ true → Sound e) → Sound l

@@ -207,10 +207,6 @@ pub word-number : (b : ℕ) (s : List ℕ) → letter b ≡ false → digit b �
 unfolding wordHere numberHere
 word-number b s e f = rw (e, f)
 
-pub word-string : (b : ℕ) (s : List ℕ) → b ≡ 39 → wordHere b s ≡ stringHere s
-unfolding wordHere letter digit
-word-string b s e = rw e
-
 pub word-greater : (b : ℕ) (s : List ℕ) → b ≡ 62 → wordHere b s ≡ greaterHere s
 unfolding wordHere letter digit symbol greaterHere
 word-greater b s e = rw e
@@ -280,15 +276,6 @@ past text at n = getD-drop (at + 1) text n 0
 
 pub past-end : (text : List ℕ) (at n : ℕ) → length text ≤ at + 1 + n → getD (drop (at + 1) text) n 0 ≡ 0
 past-end text at n h = past text at n ∙ List·getD-eq-default text 0 h
-
-pub same-go : (w v : List ℕ) (i : ℕ) → i < length w → i < length v → getD w i 0 ≡ getD v i 0 → same (drop i w) (drop i v) ≡ same (drop (i + 1) w) (drop (i + 1) v)
-same-go w v i h g e = rw (add-one, drop-cons w i 0, drop-cons v i 0, eq-eqb (getD w i 0) (getD v i 0) e) refl
-
-pub same-stop : (w v : List ℕ) (i : ℕ) → i < length w → i < length v → (getD w i 0 ≡ getD v i 0 → ⊥) → same (drop i w) (drop i v) ≡ false
-same-stop w v i h g e = rw (drop-cons w i 0, drop-cons v i 0, ne-eqb (getD w i 0) (getD v i 0) e) refl
-
-pub same-end : (w v : List ℕ) (i : ℕ) → length w ≤ i → length v ≤ i → same (drop i w) (drop i v) ≡ true
-same-end w v i h g = rw (drop-of-length-le w h, drop-of-length-le v g) refl
 
 pub same-length : (w v : List ℕ) → (length w ≡ length v → ⊥) → same w v ≡ false
 same-length [] [] h = absurd (h refl)

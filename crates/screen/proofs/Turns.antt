@@ -1,5 +1,5 @@
 -- A turn answers and writes as its call alone, keeps the other book's bytes, and takes no more steps than are left to its book.
-use mathlib.Core.Bool.{Bool, true, false, _&&_}
+use mathlib.Core.Bool.{Bool, true, false, _&&_, and-false}
 use mathlib.Core.List.{List, [], _∷_}
 use mathlib.Core.Option.{Option, none, some}
 use mathlib.Core.Path.{_≡_, refl, sym, ap, ap₂, _∙_, subst}
@@ -57,10 +57,6 @@ no-book b r h = rw (le-ltb b 2 h) refl
 pub no-screen : (b : ℕ) (r : List ℕ) → (length r ≡ screenSize → ⊥) → isBook b r ≡ false
 unfolding isBook
 no-screen b r h = rw (screen-not r h) (and-false (ltb b 2))
-  where
-    and-false : (x : Bool) → (x && false) ≡ false
-    and-false true = refl
-    and-false false = refl
 
 -- a call over bytes does no more steps than its budget: what the subtraction needs
 pub bytes-budget : (table tokens : List ℕ) (m : Mode) (budget : ℕ) (walk buffer : List ℕ) → callBytes table tokens m budget walk buffer .steps ≤ budget

@@ -16,7 +16,7 @@ use Rattle.figures.specs.Figures.{Figures, empty, plus, within64}
 use Rattle.figures.specs.Form.{numberWords, numbers, figuresBytes, figuresOf, Outcome, unchanged, counted, added, givenOf, addBytes}
 use Rattle.figures.specs.Shelf.{Shelf, no-book, and-book}
 use Rattle.figures.specs.Visits.{Given, called}
-use Rattle.machine.proofs.Bytes.{length-tableOf}
+use Rattle.machine.proofs.Bytes.{length-tableOf, zero-bytes}
 use Rattle.machine.specs.Bytes.{tableOf, bytesOf}
 use Rattle.machine.specs.Call.{Mode, whole, paused, Called, Turn, over, further, ends, endsFor, writing, takes, handsOut, turn, run, callIn, callWalk}
 use Rattle.machine.specs.Form.{words64}
@@ -86,13 +86,6 @@ zero-words zero = refl
 zero-words (suc n) =
     let e : 4 * suc n ≡ suc (suc (suc (suc (4 * n)))) = omega arith in
     ap (λ (l : List ℕ). 0 ∷ 0 ∷ 0 ∷ 0 ∷ l) (zero-words n) ∙ ap (λ (k : ℕ). replicate k 0) (sym e)
-
-zero-bytes : (n : ℕ) → bytesOf (replicate n 0) ≡ replicate (2 * n) 0
-unfolding bytesOf
-zero-bytes zero = refl
-zero-bytes (suc n) =
-    let e : 2 * suc n ≡ suc (suc (2 * n)) = omega arith in
-    ap (λ (l : List ℕ). 0 ∷ 0 ∷ l) (zero-bytes n) ∙ ap (λ (k : ℕ). replicate k 0) (sym e)
 
 all-zero : numbers empty ≡ replicate 4162 0
 unfolding numbers empty

@@ -11,8 +11,8 @@ use Rattle.figures.proofs.Shelves.{by-rule}
 use Rattle.figures.specs.Shelf.{Shelf, RuleByRule}
 use Rattle.machine.proofs.Bytes.{length-tableOf, wordsOf-append}
 use Rattle.machine.specs.Bytes.{count, wordsOf, tableOf, bytesOf}
-use Rattle.processor.specs.Process.{process, accepted, meaning, lentWords, lentBytes}
-use Rattle.program.specs.Program.{Rule}
+use Rattle.mapping.proofs.Parting.{same-program}
+use Rattle.processor.specs.Process.{process, accepted, lentWords, lentBytes}
 use Rattle.program.specs.Table.{table}
 use Rattle.shelf.specs.ByText.{tableLeft, ByText}
 
@@ -41,9 +41,6 @@ left-behind text lent words verdict e h =
     let k : length words + (4096 - length words) ≡ 4096 = omega arith in
     let c = take-zeros (4096 - length words) (n - length words) in
     (c .0, rw e (ap (take 4096) b ∙ ap (λ (m : ℕ). take m ws) (sym k) ∙ take-append-add words zs (4096 - length words) ∙ ap (λ (l : List ℕ). words ++ l) (c .1)))
-
-same-program : {p q : List Rule} → meaning p ≡ meaning q → p ≡ q
-same-program e = cc
 
 pub by-rule-of-text : ByText
 unfolding tableLeft

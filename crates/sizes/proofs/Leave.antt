@@ -8,6 +8,7 @@ use native.Mathlib.Omega.{arith}
 use lib.ListN.{length, getD, List·getD-eq-default}
 use lib.Dec.{eqb, ltb}
 use borrow.Author.Tests.{eq-eqb, ne-eqb, lt-ltb, le-ltb, ltb-true, ltb-false, eqb-true, eqb-false}
+use Rattle.base.proofs.Laws.{lt-or-le}
 use Rattle.base.specs.Tree.{plain, cycle, choice, done, _▸_, nil, alternative, absent, otherwise}
 use Rattle.program.specs.Program.{Plain, match, any, emit, error, exit, call, back, give, update, updateWith, Selector, byToken, byRule, byOperation, byOperationWith, Act, Acts, Alts, Other, Rule}
 use Rattle.program.specs.Table.{sizePlain, sizeSelector, sizeAbsent, countLabels, size, sizes, sizeAlts, sizeOther, labelWords, tableWords, firstOf, firstLabel, absentWords, choiceNumber, selectorWords, plainWords, code, codes, codeAlts, codeOther, endWords, sizeRule, sizeRules, rulesWords, place, table}
@@ -197,10 +198,6 @@ runs-end cs p q w d z r n a e h =
 
 -- What holds of any cells
 
-lt-or : (a b : ℕ) (t : Bool) → ltb a b ≡ t → (a < b) ⊎ (b ≤ a)
-lt-or a b true e = inl (ltb-true a b e)
-lt-or a b false e = inr (ltb-false a b e)
-
 by-test : (P : ℕ → Type 0) (a b x y : ℕ) (t : Bool) → ltb a b ≡ t → (a < b → P x) → (b ≤ a → P y) → P (cond t x y)
 by-test P a b x y true e f g = f (ltb-true a b e)
 by-test P a b x y false e f g = g (ltb-false a b e)
@@ -288,4 +285,4 @@ turn-of cs p q w d k e P h o g n f (inr i) =
 
 pub turn : (cs : List ℕ) (p q w d k : ℕ) → k ≡ getD cs q 0 → p ≤ length cs → p ≤ q → 0 < d → d ≤ q + 1 → q + d ≤ 2 * length cs + 300 → w + 400 * p ≤ 400 * (length cs - (length cs - q))
     → Turn cs p q w d (q + cellsOf k) (w + wordsOf k) (openAfter k d)
-turn cs p q w d k e P h o g n f = turn-of cs p q w d k e P h o g n f (lt-or q (length cs) (ltb q (length cs)) refl)
+turn cs p q w d k e P h o g n f = turn-of cs p q w d k e P h o g n f (lt-or-le q (length cs))

@@ -8,7 +8,7 @@ use native.Mathlib.Omega.{arith}
 use lib.Dec.{ltb}
 use lib.ListN.{length, getD, set}
 use lib.Seq.{getD-set-same, getD-set-other}
-use borrow.Author.Tests.{ltb-true, ltb-false}
+use Rattle.base.proofs.Laws.{lt-or-le}
 use Rattle.program.specs.Program.{Rule}
 use Rattle.program.specs.Table.{endWords, sizes, sizeRule, sizeRules, place}
 use Rattle.program.proofs.Places.{place-first}
@@ -36,10 +36,6 @@ unfolding sortOf endWords
 end-is true sort k e f g = g e
 end-is false sort k e f g = f e
 
-lt-or : (a b : ℕ) (t : Bool) → ltb a b ≡ t → (a < b) ⊎ (b ≤ a)
-lt-or a b true e = inl (ltb-true a b e)
-lt-or a b false e = inr (ltb-false a b e)
-
 place-kept : (prog : List Rule) (starts : List ℕ) (r l i : ℕ) → ((i : ℕ) → i < r → i < length starts → getD starts i 0 ≡ place 1 prog i) → l ≡ place 1 prog r → i < r + 1 → i < length (set starts r l) → length (set starts r l) ≡ length starts → (i < r) ⊎ (r ≤ i)
     → getD (set starts r l) i 0 ≡ place 1 prog i
 place-kept prog starts r l i f e h k s (inl x) = getD-set-other starts r i l 0 (λ z. omega arith) ∙ f i x (omega arith)
@@ -63,7 +59,7 @@ places-step cs sorts n rules prog starts new q w r sort k q′ v (b ∷ bs) (rul
       count = omega arith;
       sum = omega arith;
       onward = λ j. (let p : w + v + k + 1 ≡ w + 1 + (sizes (b .body) + length (endWords (b .valued))) = omega arith in let p2 : r + suc j ≡ r + 1 + j = omega arith in ap (λ (l : ℕ). place l bs j) p ∙ (f (suc j) ∙ ap (λ (l : ℕ). place 1 prog l) p2));
-      behind = λ j l l2. subst (λ (ss : List ℕ). getD ss j 0 ≡ place 1 prog j) (sym e) (place-kept prog starts r (w + 1) j g here l (omega (arith, ap length e)) (omega (arith, ap length e)) (lt-or j r (ltb j r) refl));
+      behind = λ j l l2. subst (λ (ss : List ℕ). getD ss j 0 ≡ place 1 prog j) (sym e) (place-kept prog starts r (w + 1) j g here l (omega (arith, ap length e)) (omega (arith, ap length e)) (lt-or-le j r));
     }
 
 pub places-go : (cs sorts : List ℕ) (rules : ℕ) (starts new : List ℕ) (q w r sort k q′ v : ℕ) → r < rules → new ≡ set starts r (w + 1) → length new ≡ length starts → sort ≡ getD sorts r 0 → (sort ≡ 0 → k ≡ 1) → (sort ≡ 1 → k ≡ 0) → Scanned cs q q′ v

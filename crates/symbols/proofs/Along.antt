@@ -1,15 +1,16 @@
 -- The code's way along a chain: from a node to the next, until a row passes the test, or the rows or the chain end.
 use mathlib.Core.Bool.{Bool, true, false, _&&_, _||_, not}
-use mathlib.Core.List.{List, [], _∷_}
+use mathlib.Core.List.{List}
 use mathlib.Core.Logic.{_⊎_, inl, inr}
 use mathlib.Core.Option.{Option, none, some}
 use mathlib.Core.Path.{_≡_, refl, sym, ap, _∙_}
 use Prim.Native.Nat.{ℕ, zero, suc, _+_, _-_, _*_, _/_, _%_, _≤_, _<_}
 use lib.Dec.{eqb, ltb}
-use borrow.Author.Tests.{eqb-true, lt-ltb, le-ltb}
+use borrow.Author.Tests.{lt-ltb, le-ltb}
 use native.Mathlib.Omega.{arith}
+use Rattle.base.proofs.Laws.{same-eq}
 use Rattle.base.specs.Bools.{never}
-use Rattle.base.specs.Common.{if_then_else_, same}
+use Rattle.base.specs.Common.{same}
 use Rattle.declarations.specs.Decls.{Decl, feeds}
 use Rattle.names.specs.Known.{isWord}
 use Rattle.symbols.proofs.Chains.{AtLeast, least-none, least-more, Following, chain-least, to-node, no-more, found-at, not-at}
@@ -124,22 +125,9 @@ module _ {X : Type 0} {F : ℕ → List Decl → X} {t : Decl → Bool} {h : ℕ
 
 -- a row that passes a test is in the chain of the word
 
-pub same-list : (w v : List ℕ) → same w v ≡ true → w ≡ v
-same-list [] [] e = refl
-same-list [] (y ∷ v) e = never e
-same-list (x ∷ w) [] e = never e
-same-list (x ∷ w) (y ∷ v) e = go (eqb x y) refl e (same-list w v)
-  where
-    go : (t : Bool) → eqb x y ≡ t → (if t then same w v else false) ≡ true → (same w v ≡ true → w ≡ v) → x ∷ w ≡ y ∷ v
-    go true p q r = both (eqb-true x y p) (r q)
-      where
-        both : {a b : ℕ} {l m : List ℕ} → a ≡ b → l ≡ m → a ∷ l ≡ b ∷ m
-        both i j = cc
-    go false p q r = never q
-
 module _ {text rows : List ℕ} {n : ℕ} (f : Indexed text rows n) (w : List ℕ) (j : ℕ) (l : j < n) where
   by-own-name : same w (declAt text rows j .name .text) ≡ true → Among j (f .chain (bucketOf w))
-  by-own-name e = rw (same-list w (declAt text rows j .name .text) e) (f .names j l)
+  by-own-name e = rw (same-eq w (declAt text rows j .name .text) e) (f .names j l)
 
   by-second : isWord w (declAt text rows j .second) ≡ true → Among j (f .chain (bucketOf w))
   unfolding isWord
@@ -147,7 +135,7 @@ module _ {text rows : List ℕ} {n : ℕ} (f : Indexed text rows n) (w : List �
     where
       go : (o : Option Word) → declAt text rows j .second ≡ o → isWord w o ≡ true → Among j (f .chain (bucketOf w))
       go none p q = never q
-      go (some v) p q = rw (same-list w (v .text) q) (f .seconds j v l p)
+      go (some v) p q = rw (same-eq w (v .text) q) (f .seconds j v l p)
 
   either : (a b : Bool) → (a ≡ true → Among j (f .chain (bucketOf w))) → (b ≡ true → Among j (f .chain (bucketOf w))) → (a || b) ≡ true → Among j (f .chain (bucketOf w))
   either true b g h e = g refl

@@ -2,9 +2,10 @@
 use mathlib.Core.Bool.{Bool, true, false}
 use mathlib.Core.List.{List, [], _∷_}
 use mathlib.Core.Logic.{_⊎_, inl, inr}
-use mathlib.Core.Path.{_≡_, refl, sym, ap, _∙_}
+use mathlib.Core.Path.{_≡_, sym, ap, _∙_}
 use Prim.Native.Nat.{ℕ, zero, suc, _+_, _-_, _*_, _/_, _≤_, _<_}
 use native.Mathlib.Omega.{arith}
+use Rattle.base.proofs.Laws.{is-false, lt-or-le}
 use Rattle.declarations.specs.Decls.{Decl}
 use Rattle.symbols.proofs.Searches.{Search, From, hit, miss, end}
 use Rattle.symbols.specs.Index.{Chain, chain-end, chain-node, Among, here, later, linkAt}
@@ -37,21 +38,11 @@ chain-least {rows} {p} lo (chain-node {k = k} e u q c) h = least-more (first h) 
     next (inr z) (inl y) = absurd (omega (arith, y, e))
     next (inr z) (inr y) = inr (omega (arith, z, y))
 
-below : (a b : ℕ) → (a < b) ⊎ (b ≤ a)
-below zero zero = inr (omega arith)
-below zero (suc b) = inl (omega arith)
-below (suc a) zero = inr (omega arith)
-below (suc a) (suc b) = lift (below a b)
-  where
-    lift : (a < b) ⊎ (b ≤ a) → (suc a < suc b) ⊎ (suc b ≤ suc a)
-    lift (inl x) = inl (omega arith)
-    lift (inr x) = inr (omega arith)
-
 module _ {X : Type 0} {F : ℕ → List Decl → X} {t : Decl → Bool} {h : ℕ → Decl → X} {z : X} (s : Search F t h z) (text rows : List ℕ) where
   -- rows that the test does not hold of are passed
   pub skips : (n lo d : ℕ) → ((j : ℕ) → lo ≤ j → j < lo + d → j < n → t (declAt text rows j) ≡ false) → From F text rows lo n ≡ From F text rows (lo + d) n
   skips n lo zero f = let e : lo ≡ lo + 0 = omega arith in ap (λ (k : ℕ). From F text rows k n) e
-  skips n lo (suc d) f = go (below lo n) (skips n (lo + 1) d (λ j l m x. f j (omega (arith, l)) (omega (arith, m)) x))
+  skips n lo (suc d) f = go (lt-or-le lo n) (skips n (lo + 1) d (λ j l m x. f j (omega (arith, l)) (omega (arith, m)) x))
     where
       go : (lo < n) ⊎ (n ≤ lo) → From F text rows (lo + 1) n ≡ From F text rows (lo + 1 + d) n → From F text rows lo n ≡ From F text rows (lo + suc d) n
       go (inl l) rest = let e : lo + 1 + d ≡ lo + suc d = omega arith in miss s text rows lo n l (f lo (omega arith) (omega arith) l) ∙ rest ∙ ap (λ (k : ℕ). From F text rows k n) e
@@ -62,14 +53,10 @@ module _ {X : Type 0} {F : ℕ → List Decl → X} {t : Decl → Bool} {h : ℕ
     pub sofar : F 0 (held text rows n) ≡ From F text rows lo n
     pub left : (j : ℕ) → lo ≤ j → j < n → t (declAt text rows j) ≡ true → Among j is
 
-  false-of : (b : Bool) → (b ≡ true → ⊥) → b ≡ false
-  false-of true f = absurd (f refl)
-  false-of false f = refl
-
   -- up to the next row of the chain
   pub to-node : {n lo i : ℕ} {is : List ℕ} → lo ≤ i → AtLeast i is → Following n lo is → Following n i is
   to-node {n} {lo} {i} {is} l a f = record {
-    sofar = f .sofar ∙ (skips n lo (i - lo) (λ j x y m. false-of (t (declAt text rows j)) (λ q. absurd (omega (arith, at-least a (f .left j x m q), y, l)))) ∙ ap (λ (k : ℕ). From F text rows k n) e);
+    sofar = f .sofar ∙ (skips n lo (i - lo) (λ j x y m. is-false (t (declAt text rows j)) (λ q. absurd (omega (arith, at-least a (f .left j x m q), y, l)))) ∙ ap (λ (k : ℕ). From F text rows k n) e);
     left = λ j x m q. f .left j (omega (arith, x, l)) m q;
   }
     where
@@ -78,7 +65,7 @@ module _ {X : Type 0} {F : ℕ → List Decl → X} {t : Decl → Bool} {h : ℕ
 
   -- the chain is done, or has left the rows
   pub no-more : {n lo : ℕ} {is : List ℕ} → AtLeast n is → Following n lo is → F 0 (held text rows n) ≡ z
-  no-more {n} {lo} {is} a f = f .sofar ∙ (skips n lo n (λ j x y m. false-of (t (declAt text rows j)) (λ q. absurd (omega (arith, at-least a (f .left j x m q), m)))) ∙ end s text rows (lo + n) n (omega arith))
+  no-more {n} {lo} {is} a f = f .sofar ∙ (skips n lo n (λ j x y m. is-false (t (declAt text rows j)) (λ q. absurd (omega (arith, at-least a (f .left j x m q), m)))) ∙ end s text rows (lo + n) n (omega arith))
 
   pub found-at : {n i : ℕ} {is : List ℕ} → i < n → Following n i is → t (declAt text rows i) ≡ true → F 0 (held text rows n) ≡ h i (declAt text rows i)
   found-at {n} {i} l f e = f .sofar ∙ hit s text rows i n l e

@@ -1,5 +1,5 @@
 -- From the outcome of the passes to the answer.
-use mathlib.Core.Bool.{Bool, true, false, false≢true, not}
+use mathlib.Core.Bool.{true, false, false≢true}
 use mathlib.Core.List.{List}
 use mathlib.Core.Path.{_≡_, refl, sym, ap, _∙_}
 use Prim.Native.Nat.{ℕ}
@@ -58,14 +58,6 @@ module _ (text : List ℕ) (p : Program) (ws : List Word) (e : parse text ≡ go
       }
 
 -- The figure of a text that is translated
-
-pub is-true : (b : Bool) → not b ≡ false → b ≡ true
-is-true true e = refl
-is-true false e = absurd (false≢true (sym e))
-
-pub is-false : (b : Bool) → not b ≡ true → b ≡ false
-is-false true e = absurd (false≢true e)
-is-false false e = refl
 
 module _ {text old new places : List ℕ} {r : Answer} {rules : ℕ} (t : Translates text old new places r rules) where
   -- a text whose answer is not "finishing" has none

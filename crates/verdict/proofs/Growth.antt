@@ -2,7 +2,7 @@
 use Prim.Native.Nat.{ℕ, zero, suc, _+_, _-_, _*_, _<_, _≤_}
 use mathlib.Core.Path.{_≡_, refl, sym, ap, _∙_}
 use mathlib.Core.Logic.{_⊎_, inl, inr}
-use mathlib.Core.Bool.{Bool, true, false, cond, not, _||_, _&&_}
+use mathlib.Core.Bool.{Bool, true, false, not, _||_, _&&_}
 use mathlib.Core.List.{List}
 use native.Mathlib.Omega.{arith}
 use native.Mathlib.Decide.{decLt}
@@ -12,7 +12,7 @@ use lib.Seq.{getD-set-same, getD-set-other}
 use borrow.Author.Tests.{eq-eqb, ne-eqb, eqb-true, not-false}
 use Rattle.base.specs.Bools.{never, and, both, split}
 use Rattle.finishing.specs.Test.{Known, some-below}
-use Rattle.finishing.proofs.Rounds.{last}
+use Rattle.finishing.proofs.Rounds.{last, one-more}
 use Rattle.finishing.proofs.Exact.{below-same, below-true, true-below}
 use Rattle.verdict.specs.Told.{member, someIn, knownIn, alike, Same, Apart, Grows, Widens, outside, Joined, NotedTold, Marked, NotesTold, sought, Asked, GatheredTold}
 use Rattle.verdict.specs.declared.Rules.{Rules}
@@ -68,22 +68,16 @@ known-same ps qs old new m k e d h = rw (e, d) (known-kept ps old new m h)
 
 -- Sets: one rule more
 module _ (f g : ℕ → Bool) (r : ℕ) where
-  or-less : (a b : Bool) → cond (a || b) 0 1 ≤ cond b 0 1
-  or-less true true = omega arith
-  or-less true false = omega arith
-  or-less false true = omega arith
-  or-less false false = omega arith
-
   outside-less : (n : ℕ) → ((k : ℕ) → k < n → g k ≡ (eqb r k || f k)) → outside n g ≤ outside n f
   unfolding outside
   outside-less zero h = omega arith
-  outside-less (suc n) h = rw (h n (omega arith)) (omega (arith, or-less (eqb r n) (f n), outside-less n (λ k l. h k (omega arith))))
+  outside-less (suc n) h = rw (h n (omega arith)) (omega (arith, one-more (eqb r n) (f n), outside-less n (λ k l. h k (omega arith))))
 
   pub outside-falls : (n : ℕ) → ((k : ℕ) → k < n → g k ≡ (eqb r k || f k)) → r < n → f r ≡ false → outside n g < outside n f
   unfolding outside
   outside-falls zero h l e = absurd (omega arith)
   outside-falls (suc n) h l e = elim (last n r l) [
-    | inl x ↦ rw (h n (omega arith)) (omega (arith, or-less (eqb r n) (f n), outside-falls n (λ k b. h k (omega arith)) x e))
+    | inl x ↦ rw (h n (omega arith)) (omega (arith, one-more (eqb r n) (f n), outside-falls n (λ k b. h k (omega arith)) x e))
     | inr x ↦
         let d : f n ≡ false = rw x at e in
         rw (h n (omega arith), d, eq-eqb r n x) (omega (arith, outside-less n (λ k b. h k (omega arith))))

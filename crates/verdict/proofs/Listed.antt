@@ -9,7 +9,7 @@ use lib.Dec.{eqb}
 use lib.ListN.{length, take, drop, getD, set, length-drop}
 use lib.Seq.{drop-cons, getD-drop, take-suc, take-suc-set}
 use borrow.Author.Tests.{eq-eqb, ne-eqb}
-use Rattle.base.specs.Bools.{never}
+use Rattle.base.proofs.Laws.{neither}
 use Rattle.base.specs.Common.{if_then_else_, member}
 use Rattle.finishing.specs.Test.{some-below}
 use Rattle.finishing.proofs.Rounds.{last}
@@ -94,10 +94,6 @@ open-end cells facts m r i to h =
     let e : to - i ≡ 0 = omega arith in
     rw e (none-of m (λ j. eqb (getD facts (2 * j) 0) r))
 
-nor : (a b : Bool) → (a || b) ≡ false → (a ≡ false) × (b ≡ false)
-nor true b e = never (sym e)
-nor false b e = (refl, e)
-
 -- one place more of which a property does not hold
 pub neither-one : (f : ℕ → Bool) (b : Bool) (j : ℕ) → (b ≡ false → (i : ℕ) → i < j → f i ≡ false) → (b || f j) ≡ false → (i : ℕ) → i < j + 1 → f i ≡ false
-neither-one f b j h e i l = elim (last j i (omega arith)) [ inl x ↦ h (nor b (f j) e .0) i x | inr x ↦ rw x (nor b (f j) e .1) ]
+neither-one f b j h e i l = elim (last j i (omega arith)) [ inl x ↦ h (neither b (f j) e .0) i x | inr x ↦ rw x (neither b (f j) e .1) ]

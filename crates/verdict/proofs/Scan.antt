@@ -9,6 +9,7 @@ use lib.Dec.{eqb, leb, ltb}
 use lib.ListN.{length, take, drop, getD, length-drop}
 use lib.Seq.{drop-cons, getD-drop, length-take-le}
 use borrow.Author.Tests.{lt-ltb, le-ltb, le-leb, ne-eqb, leb-true, leb-false, eqb-false}
+use Rattle.base.proofs.Laws.{neither}
 use Rattle.base.specs.Common.{if_then_else_, member as listed}
 use Rattle.base.specs.Tree.{plain, absent, otherwise}
 use Rattle.program.specs.Program.{Plain, match, any, emit, error, exit, call, back, give, update, updateWith, Act, Acts, Alts, Other}
@@ -278,11 +279,7 @@ module _ (vs : List ℕ) where
 
   -- neither a choice by the token nor one by an operation
   leaf-tests : (t : ℕ) → (eqb t 7 || leb 768 t) ≡ false → (t ≡ 7 → ⊥) × (t < 768)
-  leaf-tests t e = let o = go (eqb t 7) (leb 768 t) e in (eqb-false t 7 (o .0), leb-false 768 t (o .1))
-    where
-      go : (a b : Bool) → (a || b) ≡ false → (a ≡ false) × (b ≡ false)
-      go true b e = (e, cc)
-      go false b e = (refl, e)
+  leaf-tests t e = let o = neither (eqb t 7) (leb 768 t) e in (eqb-false t 7 (o .0), leb-false 768 t (o .1))
 
   pub leaf-act : (cells : List ℕ) (at : ℕ) (ps : Rules) (facts : List ℕ) (m : ℕ) (w : Ways) (t : ℕ) → at < length cells → t ≡ getD cells at 0 → (t ≡ 2 → ⊥) → (t ≡ 11 → ⊥) → (eqb t 7 || leb 768 t) ≡ false → LeafTold cells at ps vs w → ActTold cells at (knownIn ps facts m) vs w
   leaf-act cells at ps facts m w t h e n₂ n₁₁ b s = record {

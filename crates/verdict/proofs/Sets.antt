@@ -1,7 +1,7 @@
 -- Sets of rules in two words.
 use Prim.Native.Nat.{ℕ, zero, suc, _+_, _-_, _*_, _/_, _%_, _^_, _<_, _≤_}
 use mathlib.Core.Path.{_≡_, refl, sym, ap, _∙_}
-use mathlib.Core.Bool.{Bool, true, false, cond, _||_, _&&_, xor}
+use mathlib.Core.Bool.{Bool, true, false, cond, _||_, _&&_, xor, or-comm}
 use mathlib.Core.List.{List}
 use native.Mathlib.Omega.{arith}
 use native.Mathlib.Decide.{decLt}
@@ -73,16 +73,10 @@ member-union s t k = go (ltb k 64) (ltb k 128)
     go false true = bit-or (s .hi) (t .hi) (k - 64)
     go false false = refl
 
-or-swap : (a b : Bool) → (a || b) ≡ (b || a)
-or-swap true true = refl
-or-swap true false = refl
-or-swap false true = refl
-or-swap false false = refl
-
 pub member-low : (s : Rules) (r k : ℕ) → r < 64 → k < 128 → member (record { lo = bitOr (s .lo) (1 * 2 ^ r % 18446744073709551616); hi = s .hi }) k ≡ (eqb r k || member s k)
 unfolding member
 member-low s r k l h = elim (decLt k 64) [
-  | yes x ↦ rw (lt-ltb k 64 x) (bit-or (s .lo) (1 * 2 ^ r % 18446744073709551616) k ∙ (ap (λ (b : Bool). bit (s .lo) k || b) (bit-one r k l x) ∙ or-swap (bit (s .lo) k) (eqb r k)))
+  | yes x ↦ rw (lt-ltb k 64 x) (bit-or (s .lo) (1 * 2 ^ r % 18446744073709551616) k ∙ (ap (λ (b : Bool). bit (s .lo) k || b) (bit-one r k l x) ∙ or-comm (bit (s .lo) k) (eqb r k)))
   | no x ↦ rw (ne-eqb r k (λ e. omega arith), le-ltb k 64 (omega arith)) refl
 ]
 
@@ -95,7 +89,7 @@ member-high s r k g l h = elim (decLt k 64) [
       (λ d. eq-eqb r k (omega (arith, borrow.Author.Tests.eqb-true (r - 64) (k - 64) d)))
       (λ d. eq-eqb (r - 64) (k - 64) (omega (arith, borrow.Author.Tests.eqb-true r k d))) in
       rw (le-ltb k 64 (omega arith), lt-ltb k 128 h) (bit-or (s .hi) (1 * 2 ^ (r - 64) % 18446744073709551616) (k - 64)
-      ∙ (ap (λ (b : Bool). bit (s .hi) (k - 64) || b) (bit-one (r - 64) (k - 64) (omega arith) (omega arith) ∙ e) ∙ or-swap (bit (s .hi) (k - 64)) (eqb r k)))
+      ∙ (ap (λ (b : Bool). bit (s .hi) (k - 64) || b) (bit-one (r - 64) (k - 64) (omega arith) (omega arith) ∙ e) ∙ or-comm (bit (s .hi) (k - 64)) (eqb r k)))
 ]
 
 pub bit-zero : (k : ℕ) → bit 0 k ≡ false

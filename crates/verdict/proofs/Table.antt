@@ -115,8 +115,6 @@ neither true b = refl
 neither false b = refl
 
 -- what is known is so: no more and no less than the definition asks for
-some-true : (n : ℕ) (f : ℕ → Bool) → some-below n f ≡ true → (i : ℕ) × (i < n) × (f i ≡ true)
-some-true n f e = true-below n f e
 
 given-by : (prog : List Rule) (a b v : ℕ) → a ≡ b → Gives prog a v → Gives prog b v
 given-by prog a b v e g = rw e at g
@@ -126,7 +124,7 @@ unfolding knownIn someIn
 sound-known prog ps facts m t = record {
   of-passed = t .passes;
   of-values = λ r p e.
-      let x = some-true m (λ i. eqb (getD facts (2 * i) 0) r && p (getD facts (2 * i + 1) 0)) e in
+      let x = true-below m (λ i. eqb (getD facts (2 * i) 0) r && p (getD facts (2 * i + 1) 0)) e in
       let y = and (eqb (getD facts (2 * (x .0)) 0) r) (p (getD facts (2 * (x .0) + 1) 0)) (x .2) in
       let z : getD facts (2 * (x .0)) 0 ≡ r = eqb-true (getD facts (2 * (x .0)) 0) r (y .0) in
       record { value = getD facts (2 * (x .0) + 1) 0; quietly = given-by prog (getD facts (2 * (x .0)) 0) r (getD facts (2 * (x .0) + 1) 0) z (t .returns (x .0) (x .1)); has = y .1 };

@@ -62,9 +62,9 @@ string-now s h = go (eqb (getD s (run stringByteBefore s) 0) 39) refl h
     go false e h =
         absurd (unclosed (leb 1 (run stringByteBefore s)) (leb (run stringByteBefore s) 32) (eqb (getD s (run stringByteBefore s) 0) 39) (run stringByteBefore s) e h)
 
-quoted : (b : ℕ) (s : List ℕ) → b ≡ 39 → wordHere b s ≡ stringHere s
+pub word-string : (b : ℕ) (s : List ℕ) → b ≡ 39 → wordHere b s ≡ stringHere s
 unfolding Words.opened
-quoted b s e = rw e refl
+word-string b s e = rw e refl
 
 -- a word then is the same word now
 word-now : (b : ℕ) (s : List ℕ) → eqb (wordHereBefore b s .kind) bad ≡ false → wordHere b s ≡ wordHereBefore b s
@@ -73,7 +73,7 @@ word-now b s h = go (eqb b 39) refl h
   where
     go : (t : Bool) → eqb b 39 ≡ t → eqb ((if_then_else_ {A = Found} t (stringHereBefore s) (wordHere b s)) .kind) bad ≡ false
         → wordHere b s ≡ (if t then stringHereBefore s else wordHere b s)
-    go true e h = quoted b s (eqb-true b 39 e) ∙ string-now s h
+    go true e h = word-string b s (eqb-true b 39 e) ∙ string-now s h
     go false e h = refl
 
 -- No word that is found is the end of the text

@@ -1,5 +1,5 @@
 -- The answers of `write_file`.
-use mathlib.Core.Bool.{Bool, true, false, _&&_}
+use mathlib.Core.Bool.{Bool, true, false}
 use mathlib.Core.List.{List, _++_}
 use mathlib.Core.Path.{_≡_, refl, sym, ap, _∙_}
 use Prim.Native.Nat.{ℕ, zero, suc, _+_, _*_, _-_, _/_, _<_, _≤_}
@@ -7,11 +7,11 @@ use native.Mathlib.Omega.{arith}
 use lib.Dec.{leb}
 use lib.ListN.{length, drop, replicate}
 use lib.Seq.{take-all}
-use borrow.Author.Tests.{leb-true, le-leb, lt-leb}
-use Rattle.base.specs.Bools.{and}
+use borrow.Author.Tests.{le-leb, lt-leb}
 use Rattle.base.specs.Common.{if_then_else_}
 use Rattle.buffers.proofs.Zeros.{length-zeroed, over-zeroed}
 use Rattle.buffers.specs.Words.{zeroed}
+use Rattle.loader.proofs.Filing.{bounds}
 use Rattle.machine.proofs.Bytes.{length-wordsOf}
 use Rattle.machine.specs.Bytes.{count, wordsOf, tableOf, bytesOf, over}
 use Rattle.loading.specs.File.{fileWords, allowed, Answer, done, refused, store, lentWords, lentBytes, numbersOf}
@@ -33,13 +33,6 @@ pub is-allowed : (n v : ℕ) → (n ≡ 0 → ⊥) → n ≤ 4096 → leb v 1 �
 unfolding allowed
 is-allowed zero v a b = absurd (a refl)
 is-allowed (suc n) v a b = rw (le-leb 1 (suc n) (omega arith), le-leb (suc n) 4096 b)
-
-bounds : (n v : ℕ) → allowed n v ≡ true → (1 ≤ n) × (n ≤ 4096) × (v ≤ 1)
-unfolding allowed
-bounds n v e =
-    let a = and (leb 1 n && leb n 4096) (leb v 1) e in
-    let b = and (leb 1 n) (leb n 4096) (a .0) in
-    (leb-true 1 n (b .0), leb-true n 4096 (b .1), leb-true v 1 (a .1))
 
 -- Answers
 

@@ -7,6 +7,7 @@ use native.Mathlib.Omega.{arith}
 use lib.ListN.{length, take, drop, getD, length-append, length-drop, List·getD-append}
 use lib.Seq.{drop-at, length-take-le, getD-take, getD-drop, drop-drop}
 use borrow.Author.Tests.{le-leb, lt-leb}
+use Rattle.loading.proofs.Readings.{below}
 use Rattle.loading.specs.File.{tw, records, fileWords}
 use Rattle.writer.specs.Storing.{Sized, Fits, fileLength}
 
@@ -19,9 +20,6 @@ last-record k ws h = rw (le-leb (length ws) 256 h)
 full-record : (k : ℕ) (ws : List ℕ) → 256 < length ws → records (suc k) ws ≡ tw ∷ 256 ∷ (take 256 ws ++ records k (drop 256 ws))
 unfolding records
 full-record k ws h = rw (lt-leb (length ws) 256 h)
-
-below : (x y : ℕ) (ws : List ℕ) (i j : ℕ) → j ≡ suc (suc i) → getD (x ∷ y ∷ ws) j 0 ≡ getD ws i 0
-below x y ws i j e = rw e
 
 module _ (k : ℕ) (ws : List ℕ) where
   first-mark : getD (records (suc k) ws) 0 0 ≡ tw

@@ -4,7 +4,7 @@ use Prim.Native.Nat.{_-_, _≤_}
 use native.Mathlib.Omega.{arith}
 use lib.ListN.{drop}
 use Rattle.base.specs.Common.{same}
-use Rattle.machine.proofs.Form.{same-next, same-not, same-end}
+use Rattle.base.proofs.Laws.{same-next, same-not, same-end}
 use Rattle.figures.proofs.Bits.{getD-bits}
 use Rattle.figures.proofs.Form.{length-numbersAt, getD-numbersAt, length-bits}
 use Rattle.figures.specs.Figures.{bitsOf}

@@ -1,7 +1,8 @@
 -- `filter::fold` meets its contract: the checks in their order, then the tokens.
 use mathlib.Core.Path.{_≡_, refl, sym, ap, _∙_}
 use native.Mathlib.Omega.{arith}
-use Rattle.filter.proofs.Counting.{tally-start, zeros}
+use Rattle.base.proofs.Laws.{zeros-at}
+use Rattle.filter.proofs.Counting.{tally-start}
 use Rattle.filter.proofs.Writes.{told, too-many, at-crossed, at-doubled, at-missing, too-short, all-written}
 use Rattle.machine.specs.Bytes.{count}
 use borrow.Author.Needs.{needs}
@@ -30,7 +31,7 @@ slice-aggregate-tally-2 : tie.Need-slice-aggregate-tally-2
 slice-aggregate-tally-2 c = search needs
 
 tally-requires : tie.Need-tally-requires
-tally-requires c κs = (refl, c .before .before .before .before .if1 .left, tally-start _ _ _ refl refl (zeros 256))
+tally-requires c κs = (refl, c .before .before .before .before .if1 .left, tally-start _ _ _ refl refl (zeros-at 256))
 
 slice-aggregate-lowest-doubled : tie.Need-slice-aggregate-lowest-doubled
 slice-aggregate-lowest-doubled c = search needs

@@ -3,9 +3,10 @@ use mathlib.Core.Path.{sym, _∙_}
 use Prim.Native.Nat.{_+_}
 use lib.ListN.{getD, drop}
 use borrow.Author.Needs.{needs}
-use Rattle.scanner.proofs.WordLaws.{word-greater, word-name, word-number, word-string, word-symbol}
+use Rattle.scanner.proofs.WordLaws.{word-greater, word-name, word-number, word-symbol}
 use Rattle.scanner.proofs.word_here.Statement.{statement}
 use Rattle.scanner.proofs.word_here.Tie as tie
+use Rattle.words.proofs.Before.{word-string}
 
 shared-slice-read-b : tie.Need-shared-slice-read-b
 shared-slice-read-b c = search needs

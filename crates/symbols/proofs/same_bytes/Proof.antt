@@ -3,8 +3,9 @@ use mathlib.Core.Path.{_≡_, refl, sym, _∙_}
 use Prim.Native.Nat.{_-_, _≤_}
 use native.Mathlib.Omega.{arith}
 use lib.ListN.{drop}
+use Rattle.base.proofs.Laws.{same-next, same-not, same-end}
 use Rattle.base.specs.Common.{same}
-use Rattle.scanner.proofs.WordLaws.{same-go, same-stop, same-end, part-at}
+use Rattle.scanner.proofs.WordLaws.{part-at}
 use Rattle.symbols.specs.Search.{part}
 use Rattle.symbols.proofs.Parts.{part-whole}
 use Rattle.symbols.proofs.same_bytes.Statement.{statement}
@@ -32,7 +33,7 @@ shared-slice-read-if1-2 : tie.Need-shared-slice-read-if1-2 Inv-loop μ-loop
 shared-slice-read-if1-2 c = omega arith
 
 returns : tie.Need-returns Inv-loop μ-loop
-returns c = sym (same-stop (part (c .before .before .before .before .before .args .text .now) (c .before .before .before .before .before .args .a) (c .before .before .before .before .before .args .n)) (part (c .before .before .before .before .before .args .text .now) (c .before .before .before .before .before .args .b) (c .before .before .before .before .before .args .n)) (c .before .before .before .before .loop .i) (omega (arith, part-whole (c .before .before .before .before .before .args .text .now) (c .before .before .before .before .before .args .a) (c .before .before .before .before .before .args .n) (c .before .before .before .before .before .pre .0))) (omega (arith, part-whole (c .before .before .before .before .before .args .text .now) (c .before .before .before .before .before .args .b) (c .before .before .before .before .before .args .n) (c .before .before .before .before .before .pre .1))) (λ e. c .if1 .taken (sym (part-at (c .before .before .before .before .before .args .text .now) (c .before .before .before .before .before .args .a) (c .before .before .before .before .before .args .n) (c .before .before .before .before .loop .i) (c .before .before .before .loop-test .taken)) ∙ e ∙ part-at (c .before .before .before .before .before .args .text .now) (c .before .before .before .before .before .args .b) (c .before .before .before .before .before .args .n) (c .before .before .before .before .loop .i) (c .before .before .before .loop-test .taken)))) ∙ c .before .before .before .before .loop .inv .1
+returns c = sym (same-not (part (c .before .before .before .before .before .args .text .now) (c .before .before .before .before .before .args .a) (c .before .before .before .before .before .args .n)) (part (c .before .before .before .before .before .args .text .now) (c .before .before .before .before .before .args .b) (c .before .before .before .before .before .args .n)) (c .before .before .before .before .loop .i) (omega (arith, part-whole (c .before .before .before .before .before .args .text .now) (c .before .before .before .before .before .args .a) (c .before .before .before .before .before .args .n) (c .before .before .before .before .before .pre .0))) (omega (arith, part-whole (c .before .before .before .before .before .args .text .now) (c .before .before .before .before .before .args .b) (c .before .before .before .before .before .args .n) (c .before .before .before .before .before .pre .1))) (λ e. c .if1 .taken (sym (part-at (c .before .before .before .before .before .args .text .now) (c .before .before .before .before .before .args .a) (c .before .before .before .before .before .args .n) (c .before .before .before .before .loop .i) (c .before .before .before .loop-test .taken)) ∙ e ∙ part-at (c .before .before .before .before .before .args .text .now) (c .before .before .before .before .before .args .b) (c .before .before .before .before .before .args .n) (c .before .before .before .before .loop .i) (c .before .before .before .loop-test .taken)))) ∙ c .before .before .before .before .loop .inv .1
 
 add-i : tie.Need-add-i Inv-loop μ-loop
 add-i c = omega arith
@@ -41,7 +42,7 @@ loop-less : tie.Need-loop-less Inv-loop μ-loop
 loop-less c = omega arith
 
 loop-again : tie.Need-loop-again Inv-loop μ-loop
-loop-again c = (omega arith, sym (same-go (part (c .before .before .before .before .before .args .text .now) (c .before .before .before .before .before .args .a) (c .before .before .before .before .before .args .n)) (part (c .before .before .before .before .before .args .text .now) (c .before .before .before .before .before .args .b) (c .before .before .before .before .before .args .n)) (c .before .before .before .before .loop .i) (omega (arith, part-whole (c .before .before .before .before .before .args .text .now) (c .before .before .before .before .before .args .a) (c .before .before .before .before .before .args .n) (c .before .before .before .before .before .pre .0))) (omega (arith, part-whole (c .before .before .before .before .before .args .text .now) (c .before .before .before .before .before .args .b) (c .before .before .before .before .before .args .n) (c .before .before .before .before .before .pre .1))) (part-at (c .before .before .before .before .before .args .text .now) (c .before .before .before .before .before .args .a) (c .before .before .before .before .before .args .n) (c .before .before .before .before .loop .i) (c .before .before .before .loop-test .taken) ∙ c .if1 .left ∙ sym (part-at (c .before .before .before .before .before .args .text .now) (c .before .before .before .before .before .args .b) (c .before .before .before .before .before .args .n) (c .before .before .before .before .loop .i) (c .before .before .before .loop-test .taken)))) ∙ c .before .before .before .before .loop .inv .1)
+loop-again c = (omega arith, sym (same-next (part (c .before .before .before .before .before .args .text .now) (c .before .before .before .before .before .args .a) (c .before .before .before .before .before .args .n)) (part (c .before .before .before .before .before .args .text .now) (c .before .before .before .before .before .args .b) (c .before .before .before .before .before .args .n)) (c .before .before .before .before .loop .i) (omega (arith, part-whole (c .before .before .before .before .before .args .text .now) (c .before .before .before .before .before .args .a) (c .before .before .before .before .before .args .n) (c .before .before .before .before .before .pre .0))) (omega (arith, part-whole (c .before .before .before .before .before .args .text .now) (c .before .before .before .before .before .args .b) (c .before .before .before .before .before .args .n) (c .before .before .before .before .before .pre .1))) (part-at (c .before .before .before .before .before .args .text .now) (c .before .before .before .before .before .args .a) (c .before .before .before .before .before .args .n) (c .before .before .before .before .loop .i) (c .before .before .before .loop-test .taken) ∙ c .if1 .left ∙ sym (part-at (c .before .before .before .before .before .args .text .now) (c .before .before .before .before .before .args .b) (c .before .before .before .before .before .args .n) (c .before .before .before .before .loop .i) (c .before .before .before .loop-test .taken)))) ∙ c .before .before .before .before .loop .inv .1)
 
 returns-2 : tie.Need-returns-2 Inv-loop μ-loop
 returns-2 c = sym (same-end (part (c .before .before .args .text .now) (c .before .before .args .a) (c .before .before .args .n)) (part (c .before .before .args .text .now) (c .before .before .args .b) (c .before .before .args .n)) (c .before .loop .i) (omega (arith, part-whole (c .before .before .args .text .now) (c .before .before .args .a) (c .before .before .args .n) (c .before .before .pre .0))) (omega (arith, part-whole (c .before .before .args .text .now) (c .before .before .args .b) (c .before .before .args .n) (c .before .before .pre .1)))) ∙ c .before .loop .inv .1
