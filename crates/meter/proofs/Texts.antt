@@ -18,7 +18,6 @@ use Rattle.syntax.specs.Parse.{parse}
 use Rattle.syntax.specs.Reading.{Read, got, fault}
 use Rattle.syntax.specs.Sections.{namesInAll}
 use Rattle.syntax.specs.Written.{Program}
-use Rattle.words.specs.Words.{Word}
 use Rattle.meter.specs.Shaped.{Shaped}
 use Rattle.meter.specs.Starts.{startsIn}
 use Rattle.meter.proofs.Programs.{rules-shaped}

@@ -1,14 +1,15 @@
 -- The scan: what is left of a list of actions, by the open lists. Assumes nothing.
 use Prim.Native.Nat.{ℕ, zero, suc, _+_, _*_, _-_, _<_, _≤_}
 use mathlib.Core.Path.{_≡_, refl, sym, ap, _∙_, subst}
-use mathlib.Core.Bool.{Bool, true, false, cond}
+use mathlib.Core.Bool.{Bool, true, false, cond, _&&_}
 use mathlib.Core.Logic.{_⊎_, inl, inr}
 use mathlib.Core.List.{List, [], _∷_, _++_}
 use native.Mathlib.Omega.{arith}
 use lib.ListN.{length, getD, List·getD-eq-default}
-use lib.Dec.{eqb, ltb}
-use borrow.Author.Tests.{eq-eqb, ne-eqb, lt-ltb, le-ltb, ltb-true, ltb-false, eqb-true, eqb-false}
+use lib.Dec.{eqb, ltb, leb}
+use borrow.Author.Tests.{eq-eqb, ne-eqb, lt-ltb, le-ltb, ltb-true, ltb-false, eqb-true, eqb-false, leb-true}
 use Rattle.base.proofs.Laws.{lt-or-le}
+use Rattle.base.specs.Bools.{and}
 use Rattle.base.specs.Tree.{plain, cycle, choice, done, _▸_, nil, alternative, absent, otherwise}
 use Rattle.program.specs.Program.{Plain, match, any, emit, error, exit, call, back, give, update, updateWith, Selector, byToken, byRule, byOperation, byOperationWith, Act, Acts, Alts, Other, Rule}
 use Rattle.program.specs.Table.{sizePlain, sizeSelector, sizeAbsent, countLabels, size, sizes, sizeAlts, sizeOther, labelWords, tableWords, firstOf, firstLabel, absentWords, choiceNumber, selectorWords, plainWords, code, codes, codeAlts, codeOther, endWords, sizeRule, sizeRules, rulesWords, place, table}
@@ -206,55 +207,30 @@ by-any : (P : ℕ → Type 0) (x y : ℕ) (t : Bool) → P x → P y → P (cond
 by-any P x y true f g = f
 by-any P x y false f g = g
 
-table-cells : (k : ℕ) → k < 15 → (0 < getD cellsTable k 0) × (getD cellsTable k 0 ≤ 193)
-table-cells zero h = omega arith
-table-cells (suc zero) h = omega arith
-table-cells (suc (suc zero)) h = omega arith
-table-cells (suc (suc (suc zero))) h = omega arith
-table-cells (suc (suc (suc (suc zero)))) h = omega arith
-table-cells (suc (suc (suc (suc (suc zero))))) h = omega arith
-table-cells (suc (suc (suc (suc (suc (suc zero)))))) h = omega arith
-table-cells (suc (suc (suc (suc (suc (suc (suc zero))))))) h = omega arith
-table-cells (suc (suc (suc (suc (suc (suc (suc (suc zero)))))))) h = omega arith
-table-cells (suc (suc (suc (suc (suc (suc (suc (suc (suc zero))))))))) h = omega arith
-table-cells (suc (suc (suc (suc (suc (suc (suc (suc (suc (suc zero)))))))))) h = omega arith
-table-cells (suc (suc (suc (suc (suc (suc (suc (suc (suc (suc (suc zero))))))))))) h = omega arith
-table-cells (suc (suc (suc (suc (suc (suc (suc (suc (suc (suc (suc (suc zero)))))))))))) h = omega arith
-table-cells (suc (suc (suc (suc (suc (suc (suc (suc (suc (suc (suc (suc (suc zero))))))))))))) h = omega arith
-table-cells (suc (suc (suc (suc (suc (suc (suc (suc (suc (suc (suc (suc (suc (suc zero)))))))))))))) h = omega arith
-table-cells (suc (suc (suc (suc (suc (suc (suc (suc (suc (suc (suc (suc (suc (suc (suc k))))))))))))))) h = absurd (omega arith)
+-- the numbers of a list are from a to b
+unfoldable within : ℕ → ℕ → List ℕ → Bool
+within a b [] = true
+within a b (x ∷ xs) = (leb a x && leb x b) && within a b xs
 
-table-words : (k : ℕ) → k < 15 → getD wordsTable k 0 ≤ 384
-table-words zero h = omega arith
-table-words (suc zero) h = omega arith
-table-words (suc (suc zero)) h = omega arith
-table-words (suc (suc (suc zero))) h = omega arith
-table-words (suc (suc (suc (suc zero)))) h = omega arith
-table-words (suc (suc (suc (suc (suc zero))))) h = omega arith
-table-words (suc (suc (suc (suc (suc (suc zero)))))) h = omega arith
-table-words (suc (suc (suc (suc (suc (suc (suc zero))))))) h = omega arith
-table-words (suc (suc (suc (suc (suc (suc (suc (suc zero)))))))) h = omega arith
-table-words (suc (suc (suc (suc (suc (suc (suc (suc (suc zero))))))))) h = omega arith
-table-words (suc (suc (suc (suc (suc (suc (suc (suc (suc (suc zero)))))))))) h = omega arith
-table-words (suc (suc (suc (suc (suc (suc (suc (suc (suc (suc (suc zero))))))))))) h = omega arith
-table-words (suc (suc (suc (suc (suc (suc (suc (suc (suc (suc (suc (suc zero)))))))))))) h = omega arith
-table-words (suc (suc (suc (suc (suc (suc (suc (suc (suc (suc (suc (suc (suc zero))))))))))))) h = omega arith
-table-words (suc (suc (suc (suc (suc (suc (suc (suc (suc (suc (suc (suc (suc (suc zero)))))))))))))) h = omega arith
-table-words (suc (suc (suc (suc (suc (suc (suc (suc (suc (suc (suc (suc (suc (suc (suc k))))))))))))))) h = absurd (omega arith)
+within-at : (a b : ℕ) (xs : List ℕ) → within a b xs ≡ true → (k : ℕ) → k < length xs → (a ≤ getD xs k 0) × (getD xs k 0 ≤ b)
+unfolding within
+within-at a b [] e k h = absurd (omega arith)
+within-at a b (x ∷ xs) e zero h = let p = and (leb a x) (leb x b) (and (leb a x && leb x b) (within a b xs) e .0) in (leb-true a x (p .0), leb-true x b (p .1))
+within-at a b (x ∷ xs) e (suc k) h = within-at a b xs (and (leb a x && leb x b) (within a b xs) e .1) k (omega arith)
 
 pub head-cells : (k : ℕ) → (0 < cellsOf k) × (cellsOf k ≤ 193)
-unfolding cellsOf
+unfolding cellsOf within
 head-cells k =
     let P : ℕ → Type 0 = λ c. (0 < c) × (c ≤ 193) in
-    by-test P k 15 _ _ (ltb k 15) refl (table-cells k)
+    by-test P k 15 _ _ (ltb k 15) refl (within-at 1 193 cellsTable refl k)
     (λ h1. by-test P k 64 _ _ (ltb k 64) refl (λ i. omega arith) (λ h2. by-test P k 256 _ _ (ltb k 256) refl (λ i. omega arith)
     (λ h3. by-any P _ _ (ltb k 512) (omega arith) (by-any P _ _ (ltb k 768) (omega arith) (by-any P _ _ (ltb k 1024) (omega arith) (omega arith))))))
 
 pub head-words : (k : ℕ) → wordsOf k ≤ 384
-unfolding wordsOf
+unfolding wordsOf within
 head-words k =
     let P : ℕ → Type 0 = λ c. c ≤ 384 in
-    by-test P k 15 _ _ (ltb k 15) refl (table-words k)
+    by-test P k 15 _ _ (ltb k 15) refl (λ h. within-at 0 384 wordsTable refl k h .1)
     (λ h1. by-test P k 64 _ _ (ltb k 64) refl (λ i. omega arith) (λ h2. by-test P k 256 _ _ (ltb k 256) refl (λ i. omega arith)
     (λ h3. by-any P _ _ (ltb k 512) (omega arith) (by-any P _ _ (ltb k 768) (omega arith) (by-any P _ _ (ltb k 1024) (omega arith) (omega arith))))))
 
