@@ -17,8 +17,8 @@ use Rattle.machine.specs.Call as calls
 use Rattle.machine.specs.Call.{whole, further, ends, endsFor, callIn, callWalk}
 use Rattle.machine.specs.Form.{eventsWords}
 use Rattle.machine.specs.Walk as machine
-use Rattle.walker.proofs.Link.{Held, Keeps, step-keeps, go-run}
-use Rattle.walker.proofs.Link as link
+use Rattle.walker.proofs.Keeps.{Keeps, keeps}
+use Rattle.walker.proofs.Link.{Held, held-after, go-run}
 use Rattle.walker.proofs.LinkStep.{withEvents, inCall, turnOf, step-turn}
 use Rattle.walker.specs.Linked.{Bytes, Agrees}
 use Rattle.walker.specs.Shape.{freshAt, withDepth, stepOf}
@@ -38,8 +38,8 @@ module _ (t k a : List ℕ) (small-t : Bytes t) (small-k : Bytes k) (small-a : B
   Same n = (r : Registers) (rs : List ℕ) (room d : ℕ) (es : List events.Event) → length rs ≡ 64 → Held r
       → visitsOf t k a n r rs room ≡ visits (tableOf t) (wordsOf k) n (whole (wordsOf a)) room d (inCall es r rs)
 
-  module _ (n : ℕ) (ih : Same n) (r : Registers) (rs : List ℕ) (room d : ℕ) (es : List events.Event) (sized : length rs ≡ 64) where
-    next : (x : Next) → Keeps room x → _≡_ {A = List ℕ}
+  module _ (n : ℕ) (ih : Same n) (r : Registers) (rs : List ℕ) (room d : ℕ) (es : List events.Event) (sized : length rs ≡ 64) (held : Held r) where
+    next : (x : Next) → Keeps room r x → _≡_ {A = List ℕ}
         (elim x as (λ y. List ℕ) [
           | Full ↦ []
           | Next.Outside ↦ []
@@ -54,22 +54,22 @@ module _ (t k a : List ℕ) (small-t : Bytes t) (small-k : Bytes k) (small-a : B
           | further left v ↦ r .location ∷ visits (tableOf t) (wordsOf k) n (whole (wordsOf a)) left (d + 1) v
         ])
     unfolding turnOf endsFor ends
-    next Full link.full = none-here d (r .location)
-    next Next.Outside link.out = none-here d (r .location)
-    next (Stop y) link.stop = one-here d (r .location)
-    next (On v) (link.on h) = ap (λ (l : List ℕ). r .location ∷ l) (ih v rs room (d + 1) es sized h)
-    next (Tells v y) (link.tell h h₂) = ap (λ (l : List ℕ). r .location ∷ l) (ih v rs (room - 3) (d + 1) (es ++ (eventOf y ∷ [])) sized h)
-    next (Push v l) (link.push h h₂) =
+    next Full h = none-here d (r .location)
+    next Next.Outside h = none-here d (r .location)
+    next (Stop y) h = one-here d (r .location)
+    next (On v) h = ap (λ (l : List ℕ). r .location ∷ l) (ih v rs room (d + 1) es sized (held-after h held))
+    next (Tells v y) h = ap (λ (l : List ℕ). r .location ∷ l) (ih v rs (room - 3) (d + 1) (es ++ (eventOf y ∷ [])) sized (held-after (h .0) held))
+    next (Push v l) h =
         ap (λ (x : List ℕ). r .location ∷ x)
-        (ih (withDepth v (v .depth + 1)) (set rs (v .depth) l) room (d + 1) es (length-set rs (v .depth) l ∙ sized) (record { depth = omega arith; used = h .used }))
-    next (Waits v y) (link.wait h) = one-here d (r .location)
+        (ih (withDepth v (v .depth + 1)) (set rs (v .depth) l) room (d + 1) es (length-set rs (v .depth) l ∙ sized) (record { depth = omega (arith, h .1); used = held-after (h .0) held .used }))
+    next (Waits v y) h = one-here d (r .location)
 
   pub same-visits : (n : ℕ) → Same n
   unfolding visitsOf visits withEvents walkIn machine.withIo
   same-visits zero r rs room d es h held = refl
   same-visits (suc n) r rs room d es h held =
       rw (step-turn t k a room d false es r rs h (held .depth) (held .used) small-t small-k small-a, visits)
-      (next n (same-visits n) r rs room d es h (stepOf rs t k a room false r) (step-keeps room r held rs t k a false))
+      (next n (same-visits n) r rs room d es h held (stepOf rs t k a room false r) (keeps room r rs t k a false))
 
   pub book-visits : (budget allowance words : ℕ) → allowance < 65536
       → bookVisits t k a budget allowance words ≡ visited (tableOf t) (record { tokens = wordsOf k; answers = wordsOf a; budget = budget; allowance = allowance; room = words })

@@ -326,13 +326,13 @@ module _ (t k a : List ℕ) (budget allowance : ℕ) (writes : Bool) (o₀ cs₀
         ends-as (Phase.Stopped x) (numberOf x) (d + 1) cs′ (go.stops t k a false r rs b e d (budget - d) x (omega arith) (in-go (Next.Stop x) s))
         (counted-all _ _ _ _ refl (counted _ _ _ [] _ _ _ (stops t k a r rs room (budget - d) x (omega arith) s) (stop-here x s) (inv .all) p))
 
-    kept : (x : Next) → As x → Keeps room x
-    kept x s = subst (Keeps room) s (keeps room r (inv .deep) rs t k a false)
+    kept : (x : Next) → As x → Keeps room r x
+    kept x s = subst (Keeps room r) s (keeps room r rs t k a false)
 
     pub moved-on : (v : Registers) → As (Next.On v) → Moved t k a budget writes o₀ r rs b o e d room v rs o e room
     moved-on v s = record {
       buffer = b;
-      deep = kept (Next.On v) s;
+      deep = omega (arith, inv .deep, kept (Next.On v) s .depth);
       left = inv .left;
       as-long = refl;
       as-many = inv .as-many;
@@ -352,7 +352,7 @@ module _ (t k a : List ℕ) (budget allowance : ℕ) (writes : Bool) (o₀ cs₀
         let c : count o′ ≡ count o = as-counted o′ o q in
         record {
           buffer = putEvent b (3 * e) x;
-          deep = kept (Next.Tells v x) s .0;
+          deep = omega (arith, inv .deep, kept (Next.Tells v x) s .0 .depth);
           left = omega (arith, inv .left, c);
           as-long = q;
           as-many = count-putEvent b (3 * e) x ∙ inv .as-many ∙ sym c;
@@ -363,7 +363,7 @@ module _ (t k a : List ℕ) (budget allowance : ℕ) (writes : Bool) (o₀ cs₀
         }
 
     pub push-deep : (v : Registers) (l : ℕ) → As (Next.Push v l) → v .depth < 64
-    push-deep v l s = kept (Next.Push v l) s
+    push-deep v l s = kept (Next.Push v l) s .1
 
     pub moved-push : (v : Registers) (l : ℕ) → As (Next.Push v l) → Moved t k a budget writes o₀ r rs b o e d room (withDepth v (v .depth + 1)) (set rs (v .depth) l) o e room
     moved-push v l s =

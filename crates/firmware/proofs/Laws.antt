@@ -7,6 +7,7 @@ use native.Mathlib.Numerals.{add-one}
 use native.Mathlib.Omega.{arith}
 use lib.ListN.{length, take, drop, getD, set, replicate, length-append, length-take, length-reverse, length-replicate, drop-of-length-le, List·getD-append}
 use lib.Seq.{sets, length-sets, sets-eq, getD-take, getD-append-add}
+use Rattle.base.proofs.Laws.{zeros-at}
 use Rattle.machine.proofs.Bytes.{length-bytesOf, bytesOf-append}
 use Rattle.machine.specs.Bytes.{bytesOf}
 use Rattle.machine.specs.Form.{words64, returnWords}
@@ -73,13 +74,8 @@ return-held d rs i h l =
     let n : i < length (take d rs) = simp length-take (omega arith) in
     rw return-words (List·getD-append (take d rs) (replicate (64 - length (take d rs)) 0) 0 i n ∙ getD-take d rs i 0 h)
 
-zeros : (n i : ℕ) → _≡_ {A = ℕ} (getD (replicate n 0) i 0) 0
-zeros zero i = refl
-zeros (suc n) zero = refl
-zeros (suc n) (suc i) = zeros n i
-
 pub return-free : (d : ℕ) (rs : List ℕ) (i : ℕ) → d ≤ i → getD (returnWords (reverse (take d rs))) i 0 ≡ 0
 return-free d rs i h =
     let n : length (take d rs) ≤ i = simp length-take (omega arith) in
     let e : i ≡ length (take d rs) + (i - length (take d rs)) = omega arith in
-    rw (return-words, e) (getD-append-add (take d rs) (replicate (64 - length (take d rs)) 0) (i - length (take d rs)) 0 ∙ zeros (64 - length (take d rs)) (i - length (take d rs)))
+    rw (return-words, e) (getD-append-add (take d rs) (replicate (64 - length (take d rs)) 0) (i - length (take d rs)) 0 ∙ zeros-at (64 - length (take d rs)) (i - length (take d rs)))

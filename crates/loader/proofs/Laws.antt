@@ -11,7 +11,7 @@ use lib.Seq.{getD-take}
 use borrow.Author.Tests.{eqb-true, eqb-false, eq-eqb, ne-eqb, le-leb, lt-leb}
 use Rattle.base.specs.Bools.{never}
 use Rattle.base.specs.Common.{if_then_else_, member}
-use Rattle.machine.proofs.Bytes.{length-wordsOf}
+use Rattle.machine.proofs.Bytes.{length-wordsOf, elem-in}
 use Rattle.machine.specs.Bytes.{count, wordsOf, tableOf}
 use Rattle.machine.specs.Decode.{fetch}
 use Rattle.loading.specs.Taking.{backFrom, labelled}
@@ -23,18 +23,13 @@ pub table-length : (s : List ℕ) → length (tableOf s) ≡ min 4096 (count s)
 unfolding tableOf
 table-length s = length-take 4096 (wordsOf s) ∙ ap (min 4096) (length-wordsOf s)
 
-get-some : (l : List ℕ) (i : ℕ) → i < length l → getElem? l i ≡ some (getD l i 0)
-get-some [] i h = absurd (omega arith)
-get-some (x ∷ l) zero h = refl
-get-some (x ∷ l) (suc i) h = get-some l i (omega arith)
-
 pub table-fetch : (s : List ℕ) (l : ℕ) → 1 ≤ l → l ≤ length (tableOf s) → fetch (tableOf s) l ≡ some (getD (wordsOf s) (l - 1) 0)
 unfolding fetch tableOf
 table-fetch s zero a b = absurd (omega arith)
 table-fetch s (suc i) a b =
     let n = length-take 4096 (wordsOf s) in
     let e : suc i - 1 ≡ i = omega arith in
-    get-some (take 4096 (wordsOf s)) i (omega arith) ∙ ap some (getD-take 4096 (wordsOf s) i 0 (omega arith) ∙ ap (λ (j : ℕ). getD (wordsOf s) j 0) (sym e))
+    elem-in (take 4096 (wordsOf s)) i (omega arith) ∙ ap some (getD-take 4096 (wordsOf s) i 0 (omega arith) ∙ ap (λ (j : ℕ). getD (wordsOf s) j 0) (sym e))
 
 -- Flags
 

@@ -1,7 +1,7 @@
 -- Words and bytes: each is the other, and an odd last byte counts for nothing.
 use mathlib.Core.Path.{_≡_, refl, sym, ap, _∙_}
 use mathlib.Core.List.{List, [], _∷_, _++_, append-nil}
-use mathlib.Core.Option.{none}
+use mathlib.Core.Option.{none, some}
 use Prim.Native.Nat.{ℕ, zero, suc, _+_, _*_, _/_, _%_, _<_, _≤_}
 use native.Mathlib.Omega.{arith}
 use lib.ListN.{length, getD, getElem?, length-take, replicate}
@@ -64,6 +64,11 @@ bytesOf-wordsOf (h ∷ l ∷ s) b e =
 pub length-tableOf : (s : List ℕ) → length (tableOf s) ≤ 4096
 unfolding tableOf
 length-tableOf s = let e = length-take 4096 (wordsOf s) in omega arith
+
+pub elem-in : (l : List ℕ) (i : ℕ) → i < length l → getElem? l i ≡ some (getD l i 0)
+elem-in [] i h = absurd (omega arith)
+elem-in (x ∷ l) zero h = refl
+elem-in (x ∷ l) (suc i) h = elem-in l i (omega arith)
 
 pub past-end : (l : List ℕ) (i : ℕ) → length l ≤ i → getElem? l i ≡ none
 past-end [] i h = refl

@@ -7,7 +7,6 @@ use Prim.Native.Nat.{ℕ, _-_, _<_, _≤_}
 use native.Mathlib.Omega.{arith}
 use lib.ListN.{length, take, drop, getD, replicate, length-append, length-take, length-drop, length-reverse, length-replicate}
 use lib.Seq.{take-at, take-take}
-pub use Rattle.base.proofs.Laws.{same-next, same-not, same-end}
 use Rattle.base.proofs.Laws.{same-refl, same-eq}
 use Rattle.base.specs.Common.{same}
 use Rattle.base.specs.Bools.{never, split}

@@ -89,18 +89,18 @@ module _ {t k a : List ℕ} {paused : Bool} {budget : ℕ} {r₀ : Registers} {r
       let q : count o - 3 * e ≡ room = omega (arith, i .left) in
       ap (λ (n : ℕ). stepOf rs t k a n paused r) q ∙ s
 
-  pub kept : {x : Next} → stepOf rs t k a room paused r ≡ x → Keeps room x
-  kept s = subst (Keeps room) s (keeps room r (i .deep) rs t k a paused)
+  pub kept : {x : Next} → stepOf rs t k a room paused r ≡ x → Keeps room r x
+  kept s = subst (Keeps room r) s (keeps room r rs t k a paused)
 
   pub again-on : {v : Registers} → stepOf rs t k a room paused r ≡ Next.On v → Again v rs o e room
-  again-on {v} s = record { deep = kept s; left = i .left; as-long = i .as-long; within = omega (arith, more); same = sym (on t k a paused r rs o e d (budget - d) (budget - (d + 1)) v (omega (arith, more)) (told s)) ∙ i .same }
+  again-on {v} s = record { deep = omega (arith, i .deep, kept s .depth); left = i .left; as-long = i .as-long; within = omega (arith, more); same = sym (on t k a paused r rs o e d (budget - d) (budget - (d + 1)) v (omega (arith, more)) (told s)) ∙ i .same }
 
   pub again-tells : {v : Registers} {x : Event} {u : List ℕ} → stepOf rs t k a room paused r ≡ Next.Tells v x → u ≡ putEvent o (3 * e) x → length u ≡ length o → Again v rs u (e + 1) (room - 3)
   unfolding count
-  again-tells {v} {x} {u} s p q = record { deep = kept s .0; left = omega (arith, kept s .1, i .left, q); as-long = q ∙ i .as-long; within = omega (arith, more); same = ap (λ (y : List ℕ). goOf t k a paused (budget - (d + 1)) v rs y (e + 1) (d + 1)) p ∙ sym (tells t k a paused r rs o e d (budget - d) (budget - (d + 1)) v x (omega (arith, more)) (told s)) ∙ i .same }
+  again-tells {v} {x} {u} s p q = record { deep = omega (arith, i .deep, kept s .0 .depth); left = omega (arith, kept s .1, i .left, q); as-long = q ∙ i .as-long; within = omega (arith, more); same = ap (λ (y : List ℕ). goOf t k a paused (budget - (d + 1)) v rs y (e + 1) (d + 1)) p ∙ sym (tells t k a paused r rs o e d (budget - d) (budget - (d + 1)) v x (omega (arith, more)) (told s)) ∙ i .same }
 
   pub again-pushes : {v : Registers} {l : ℕ} → stepOf rs t k a room paused r ≡ Next.Push v l → Again (withDepth v (v .depth + 1)) (set rs (v .depth) l) o e room
-  again-pushes {v} {l} s = record { deep = omega (arith, kept s); left = i .left; as-long = i .as-long; within = omega (arith, more); same = sym (pushes t k a paused r rs o e d (budget - d) (budget - (d + 1)) v l (omega (arith, more)) (told s)) ∙ i .same }
+  again-pushes {v} {l} s = record { deep = omega (arith, kept s .1); left = i .left; as-long = i .as-long; within = omega (arith, more); same = sym (pushes t k a paused r rs o e d (budget - d) (budget - (d + 1)) v l (omega (arith, more)) (told s)) ∙ i .same }
 
   -- any other step, of the loop's last arm, ends the call
   pub others : (x : Next) → stepOf rs t k a room paused r ≡ x → OneOf (0 ∷ 1 ∷ 2 ∷ 6 ∷ []) (tagOf the-type x) → Ends (count o - 3 * e) x

@@ -2,6 +2,7 @@
 use mathlib.Core.Path.{_≡_, refl, sym, ap, _∙_}
 use mathlib.Core.Bool.{Bool, true, false}
 use mathlib.Core.List.{List, [], _∷_, _++_, reverse}
+use mathlib.Core.Logic.{⊎-elim}
 use mathlib.Core.Option.{Option, none, some}
 use Prim.Native.Nat.{ℕ, zero, suc, _+_, _*_, _-_, _%_, _<_, _≤_}
 use native.Mathlib.Omega.{arith}
@@ -33,152 +34,19 @@ use Rattle.walker.specs.View.{reasonOf, phaseOf, eventOf, walkIn, walkOf
 use Rattle.walker.specs.Linked.{Bytes, handed, Agrees}
 use Rattle.walker.specs.Shape.{size, operand, tableAt, choiceOf, defaultOf, takeInput, takeOther, moved, readOne, spentOne, withResult, withParameter, withDepth, answeredOne, poppedTo, forwardOf, backOf, mendOf, inputOf, anyOf, tellOf, inputChoiceOf, callOf, backTo, returnOf, askOf, answerOf, actOf, operateOf, fetchedOf, stepOf, putEvent, Outcome, ended, numberOf, goOf, first64, keptOf, refusedOf, wholeOf, pausedOf}
 use Rattle.walker.proofs.LinkWords.{length-returns, clip-returns, over-event, count-putEvent, one-more, one-more-fits}
+use Rattle.walker.proofs.Keeps.{After, Keeps, keeps as keeping}
 use Rattle.walker.proofs.LinkStep.{withEvents, inCall, turnOf, modeOf, step-turn}
 
--- What a step keeps: at most 64 return locations, answers used within their width, and room for an event that is told
-
--- registers that a call may hold
+-- registers that a call may hold: at most 64 return locations, and answers used within their width
 pub record Held (r : Registers) : Type 0 where
   pub depth : r .depth ≤ 64
   pub used : r .used < 18446744073709551616
 
-pub data Keeps (room : ℕ) : Next → Type 0 where
-  full : Keeps room Full
-  out : Keeps room Next.Outside
-  stop : {x : Reason} → Keeps room (Stop x)
-  on : {v : Registers} → Held v → Keeps room (On v)
-  tell : {v : Registers} {e : Event} → Held v → 3 ≤ room → Keeps room (Tells v e)
-  push : {v : Registers} {l : ℕ} → Held v → v .depth < 64 → Keeps room (Push v l)
-  wait : {v : Registers} {e : Event} → 3 ≤ room → Keeps room (Waits v e)
-
-either : {room : ℕ} (b : Bool) (x y : Next) → (b ≡ true → Keeps room x) → (b ≡ false → Keeps room y) → Keeps room (if b then x else y)
-either true x y f g = f refl
-either false x y f g = g refl
-
-module _ (room : ℕ) (r : Registers) (held : Held r) where
-  -- registers with the same depth, and as many answers used
-  alike : (v : Registers) → v .depth ≡ r .depth → v .used ≡ r .used → Held v
-  alike v e f = record { depth = rw e (held .depth); used = rw f (held .used) }
-
-  goes-on : (v : Registers) → v .depth ≡ r .depth → v .used ≡ r .used → Keeps room (On v)
-  goes-on v e f = on (alike v e f)
-
-  other-keeps : (g : Target) → Keeps room (takeOther r g)
-  unfolding takeOther
-  other-keeps (Label l) = goes-on (moved r l) refl refl
-  other-keeps (Otherwise l) = goes-on (moved r l) refl refl
-  other-keeps Target.Outside = out
-
-  taken-keeps : (x : ℕ) (g : Target) → Keeps room (takeInput r x g)
-  unfolding takeInput
-  taken-keeps x (Label l) = goes-on (readOne (moved (withResult r x) l)) refl refl
-  taken-keeps x (Otherwise l) = goes-on (moved (withResult r x) l) refl refl
-  taken-keeps x Target.Outside = out
-
-  tell-keeps : (l : ℕ) (e : Event) → Keeps room (tellOf room l e r)
-  unfolding tellOf
-  tell-keeps l e = either (leb 3 room) _ _ (λ y. tell {e = e} (alike (moved r l) refl refl) (leb-true 3 room y)) (λ y. full)
-
-  ask-keeps : (q : Bool) (a : List ℕ) (e : Event) → 3 ≤ room → Keeps room (askOf q a e r)
-  unfolding askOf
-  ask-keeps true a e h = wait h
-  ask-keeps false a e h =
-      let v = answeredOne (moved r (r .location + 1)) (wordAt a (r .used)) in
-      let kept : Held v = record { depth = held .depth; used = one-more-fits (r .used) (held .used) } in
-      either (ltb (r .used) (count a)) (Tells v e) (Stop Unanswered) (λ y. tell kept h) (λ y. stop)
-
-  answer-keeps : (q : Bool) (a : List ℕ) (e : Event) → Keeps room (answerOf room q a e r)
-  unfolding answerOf
-  answer-keeps q a e = either (leb 3 room) _ _ (λ y. ask-keeps q a e (leb-true 3 room y)) (λ y. full)
-
-  operate-keeps : (q : Bool) (a : List ℕ) (i : ℕ) → Keeps room (operateOf room q a i r)
-  unfolding operateOf
-  operate-keeps q a i =
-      either (ltb i 256) _ _ (λ y. out) (λ y.
-      either (ltb i 512) _ _ (λ y. tell-keeps (r .location + 1) (Plain i)) (λ y.
-      either (ltb i 768) _ _ (λ y. tell-keeps (r .location + 1) (With i (r .parameter % 65536))) (λ y.
-      either (ltb i 1024) _ _ (λ y. answer-keeps q a (Plain i)) (λ y.
-      either (ltb i 1280) _ _ (λ y. answer-keeps q a (With i (r .parameter % 65536))) (λ y. out)))))
-
-  module _ (rs t k : List ℕ) where
-    forward-keeps : Keeps room (forwardOf t r)
-    unfolding forwardOf
-    forward-keeps = either (leb (tableAt t (r .location)) (size t)) _ _ (λ y. goes-on (moved r (tableAt t (r .location))) refl refl) (λ y. out)
-
-    back-keeps : Keeps room (backOf t r)
-    unfolding backOf
-    back-keeps =
-        let x = operand t (r .location) in
-        either (leb x (r .location)) _ _ (λ y. goes-on (moved r (r .location + 1 - x)) refl refl) (λ y. out)
-
-    mend-keeps : Keeps room (mendOf t room r)
-    unfolding mendOf tellOf
-    mend-keeps =
-        either (ltb 0 (r .allowance % 65536)) _ _
-        (λ y. either (leb 3 room) _ _
-        (λ z. tell {e = Repair (operand t (r .location))} (alike (moved (spentOne r) (r .location + 2)) refl refl) (leb-true 3 room z)) (λ z. full))
-        (λ y. stop {x = Differs})
-
-    input-keeps : Keeps room (inputOf t k room r)
-    unfolding inputOf
-    input-keeps =
-        either (ltb (r .read) (count k)) _ _
-        (λ y. either (eqb (wordAt k (r .read)) (operand t (r .location))) _ _ (λ z. goes-on (readOne (moved r (r .location + 2))) refl refl) (λ z. mend-keeps))
-        (λ y. mend-keeps)
-
-    any-keeps : Keeps room (anyOf k r)
-    unfolding anyOf
-    any-keeps = either (ltb (r .read) (count k)) _ _ (λ y. goes-on (readOne (moved r (r .location + 1))) refl refl) (λ y. stop {x = Missing})
-
-    inputChoice-keeps : Keeps room (inputChoiceOf t k r)
-    unfolding inputChoiceOf
-    inputChoice-keeps =
-        let x = wordAt k (r .read) in
-        either (ltb (r .read) (count k)) _ _ (λ y. taken-keeps x (choiceOf t (r .location) x)) (λ y. other-keeps (defaultOf t (r .location)))
-
-    call-keeps : Keeps room (callOf t r)
-    unfolding callOf
-    call-keeps =
-        let x = operand t (r .location) in
-        either (eqb x 0) _ _ (λ y. out) (λ y.
-        either (leb x (size t)) _ _ (λ y. either (ltb (r .depth) 64) _ _ (λ z. push {l = r .location + 2} (alike (moved r x) refl refl) (ltb-true (r .depth) 64 z)) (λ z. stop {x = Deep})) (λ y. out))
-
-    return-keeps : Keeps room (returnOf rs t r)
-    unfolding returnOf backTo
-    return-keeps =
-        let l = getD rs (r .depth - 1) 0 in
-        let b = held .depth in
-        let kept : Held (poppedTo r l) = record { depth = omega arith; used = held .used } in
-        either (eqb (r .depth) 0) _ _ (λ y. stop {x = Finished}) (λ y.
-        either (eqb l 0) _ _ (λ y. out) (λ y.
-        either (leb l (size t)) _ _ (λ y. on kept) (λ y. out)))
-
-    act-keeps : (i : ℕ) → Keeps room (actOf rs t k room i r)
-    unfolding actOf
-    act-keeps i =
-        let l = r .location in
-        let x = operand t l in
-        either (eqb i 1) _ _ (λ y. forward-keeps) (λ y.
-        either (eqb i 2) _ _ (λ y. back-keeps) (λ y.
-        either (eqb i 3) _ _ (λ y. input-keeps) (λ y.
-        either (eqb i 4) _ _ (λ y. any-keeps) (λ y.
-        either (eqb i 5) _ _ (λ y. tell-keeps (l + 2) (Output x)) (λ y.
-        either (eqb i 6) _ _ (λ y. tell-keeps (l + 2) (Event.Error x)) (λ y.
-        either (eqb i 7) _ _ (λ y. inputChoice-keeps) (λ y.
-        either (eqb i 8) _ _ (λ y. call-keeps) (λ y.
-        either (eqb i 9) _ _ (λ y. return-keeps) (λ y.
-        either (eqb i 10) _ _ (λ y. goes-on (withResult (moved r (l + 2)) x) refl refl) (λ y.
-        either (eqb i 11) _ _ (λ y. other-keeps (choiceOf t l (r .result % 65536))) (λ y.
-        either (eqb i 12) _ _ (λ y. stop {x = Unlabelled}) (λ y.
-        either (eqb i 13) _ _ (λ y. goes-on (withParameter (moved r (l + 2)) x) refl refl) (λ y. out)))))))))))))
-
-    pub step-keeps : (a : List ℕ) (q : Bool) → Keeps room (stepOf rs t k a room q r)
-    unfolding stepOf fetchedOf
-    step-keeps a q =
-        let i = wordAt t (r .location - 1) in
-        either (eqb (r .location) 0) _ _ (λ y. out) (λ y.
-        either (leb (r .location) (size t)) _ _ (λ y.
-        either (ltb i 14) _ _ (λ z. either (leb (r .location + lengthOf i) (size t + 1)) _ _ (λ u. act-keeps i) (λ u. out)) (λ z. operate-keeps q a i)) (λ y. out))
+pub held-after : {r v : Registers} → After r v → Held r → Held v
+held-after {r} h held = record {
+  depth = omega (arith, h .depth, held .depth);
+  used = ⊎-elim (λ e. rw e (held .used)) (λ e. rw e (one-more-fits (r .used) (held .used))) (h .used);
+}
 
 pub number-reason : (x : Reason) → numberOf x ≡ reasonNumber (reasonOf x)
 unfolding numberOf reasonNumber reasonOf
@@ -226,7 +94,7 @@ module _ (t k a : List ℕ) (q : Bool) (s : List ℕ) (small-t : Bytes t) (small
   Goes n = (r : Registers) (rs o : List ℕ) (e d : ℕ) (es : List events.Event) → length rs ≡ 64 → Held r → length es ≡ e
       → o ≡ over (bytesOf (eventsWords es)) s → Runs n r rs o e d es
 
-  module _ (n : ℕ) (ih : Goes n) (r : Registers) (rs o : List ℕ) (e d : ℕ) (es : List events.Event) (sized : length rs ≡ 64) (length-es : length es ≡ e)
+  module _ (n : ℕ) (ih : Goes n) (r : Registers) (rs o : List ℕ) (e d : ℕ) (es : List events.Event) (sized : length rs ≡ 64) (held : Held r) (length-es : length es ≡ e)
       (b : o ≡ over (bytesOf (eventsWords es)) s) where
     -- one more event is written
     told : (x : Event) → 3 ≤ count o - 3 * e → putEvent o (3 * e) x ≡ over (bytesOf (eventsWords (es ++ (eventOf x ∷ [])))) s
@@ -237,7 +105,7 @@ module _ (t k a : List ℕ) (q : Bool) (s : List ℕ) (small-t : Bytes t) (small
     more : (x : Event) → length (es ++ (eventOf x ∷ [])) ≡ e + 1
     more x = length-append es (eventOf x ∷ []) ∙ omega arith
 
-    next : (x : Next) → Keeps (count o - 3 * e) x → Agrees s
+    next : (x : Next) → Keeps (count o - 3 * e) r x → Agrees s
         (elim x as (λ y. Outcome) [
           | Full ↦ ended Going r rs o e d 35
           | Next.Outside ↦ ended (Stopped Reason.Outside) r rs o e d 37
@@ -249,16 +117,16 @@ module _ (t k a : List ℕ) (q : Bool) (s : List ℕ) (small-t : Bytes t) (small
         ])
         (elim (turnOf (count o - 3 * e) d es r rs x) as (λ y. Called) [ calls.over c ↦ c | further left v ↦ run (tableOf t) (wordsOf k) n (modeOf q a) left (d + 1) v ])
     unfolding turnOf endsFor withEvents machine.inPhase machine.withIo walkIn phaseOf reasonOf reasonNumber
-    next Full full = ended-agrees s Going 35 d e es r rs o sized length-es b
-    next Next.Outside out = ended-agrees s (Stopped Reason.Outside) 37 d e es r rs o sized length-es b
-    next (Stop x) stop = rw (number-reason x) (ended-agrees s (Stopped x) (reasonNumber (reasonOf x)) (d + 1) e es r rs o sized length-es b)
-    next (On v) (on h) = ih v rs o e (d + 1) es sized h length-es b
-    next (Tells v x) (tell h h₂) =
+    next Full h = ended-agrees s Going 35 d e es r rs o sized length-es b
+    next Next.Outside h = ended-agrees s (Stopped Reason.Outside) 37 d e es r rs o sized length-es b
+    next (Stop x) h = rw (number-reason x) (ended-agrees s (Stopped x) (reasonNumber (reasonOf x)) (d + 1) e es r rs o sized length-es b)
+    next (On v) h = ih v rs o e (d + 1) es sized (held-after h held) length-es b
+    next (Tells v x) h =
         let f : count (putEvent o (3 * e) x) - 3 * (e + 1) ≡ count o - 3 * e - 3 = rw (count-putEvent o (3 * e) x) (omega arith) in
-        rw f at (ih v rs (putEvent o (3 * e) x) (e + 1) (d + 1) (es ++ (eventOf x ∷ [])) sized h (more x) (told x h₂))
-    next (Push v l) (push h h₂) =
-        ih (withDepth v (v .depth + 1)) (set rs (v .depth) l) o e (d + 1) es (length-set rs (v .depth) l ∙ sized) (record { depth = omega arith; used = h .used }) length-es b
-    next (Waits v x) (wait h) = ended-agrees s Waiting 22 (d + 1) (e + 1) (es ++ (eventOf x ∷ [])) v rs (putEvent o (3 * e) x) sized (more x) (told x h)
+        rw f at (ih v rs (putEvent o (3 * e) x) (e + 1) (d + 1) (es ++ (eventOf x ∷ [])) sized (held-after (h .0) held) (more x) (told x (h .1)))
+    next (Push v l) h =
+        ih (withDepth v (v .depth + 1)) (set rs (v .depth) l) o e (d + 1) es (length-set rs (v .depth) l ∙ sized) (record { depth = omega (arith, h .1); used = held-after (h .0) held .used }) length-es b
+    next (Waits v x) h = ended-agrees s Waiting 22 (d + 1) (e + 1) (es ++ (eventOf x ∷ [])) v rs (putEvent o (3 * e) x) sized (more x) (told x h)
 
   -- up to n steps are the machine's
   pub go-run : (n : ℕ) → Goes n
@@ -266,7 +134,7 @@ module _ (t k a : List ℕ) (q : Bool) (s : List ℕ) (small-t : Bytes t) (small
   go-run zero r rs o e d es h held l b = ended-agrees s Going 36 d e es r rs o h l b
   go-run (suc n) r rs o e d es h held l b =
       rw (step-turn t k a (count o - 3 * e) d q es r rs h (held .depth) (held .used) small-t small-k small-a, run)
-      (next n (go-run n) r rs o e d es h l b (stepOf rs t k a (count o - 3 * e) q r) (step-keeps (count o - 3 * e) r held rs t k a q))
+      (next n (go-run n) r rs o e d es h held l b (stepOf rs t k a (count o - 3 * e) q r) (keeping (count o - 3 * e) r rs t k a q))
 
 -- Calls over bytes: for every walk struct, whatever its depth, an array of 64 return locations and answers used within their width
 

@@ -12,7 +12,7 @@ use borrow.Author.Tests.{eq-eqb, ne-eqb, eqb-true, eqb-false, leb-true, leb-fals
 use Rattle.base.specs.Bools.{split}
 use Rattle.machine.specs.Bytes.{count, wordsOf, wordAt, tableOf, bytesOf, over}
 use Rattle.machine.specs.Decode.{fetch}
-use Rattle.machine.proofs.Bytes.{length-wordsOf, getD-wordsOf, length-bytesOf, bytesOf-append}
+use Rattle.machine.proofs.Bytes.{length-wordsOf, getD-wordsOf, length-bytesOf, bytesOf-append, elem-in, past-end}
 use Rattle.events.specs.Events as events
 use Rattle.events.specs.Events.{eventWords}
 use Rattle.machine.specs.Form.{eventsWords}
@@ -24,21 +24,11 @@ use Rattle.walker.specs.Shape.{size, setWord, putEvent, oneMore}
 
 -- Words of a buffer
 
-pub elem-in : (l : List ℕ) (i : ℕ) → i < length l → getElem? l i ≡ some (getD l i 0)
-elem-in [] i h = absurd (omega arith)
-elem-in (x ∷ l) zero h = refl
-elem-in (x ∷ l) (suc i) h = elem-in l i (omega arith)
-
-pub elem-out : (l : List ℕ) (i : ℕ) → length l ≤ i → getElem? l i ≡ none
-elem-out [] i h = refl
-elem-out (x ∷ l) zero h = absurd (omega arith)
-elem-out (x ∷ l) (suc i) h = elem-out l i (omega arith)
-
 pub word-in : (s : List ℕ) (i : ℕ) → i < count s → getElem? (wordsOf s) i ≡ some (wordAt s i)
 word-in s i h = elem-in (wordsOf s) i (rw (length-wordsOf s) h) ∙ ap some (getD-wordsOf s i h)
 
 pub word-out : (s : List ℕ) (i : ℕ) → count s ≤ i → getElem? (wordsOf s) i ≡ none
-word-out s i h = elem-out (wordsOf s) i (rw (length-wordsOf s) h)
+word-out s i h = past-end (wordsOf s) i (rw (length-wordsOf s) h)
 
 pub word-below : (s : List ℕ) → Bytes s → (i : ℕ) → wordAt s i < 65536
 unfolding wordAt
@@ -69,7 +59,7 @@ fetch-zero t = refl
 
 pub fetch-behind : (t : List ℕ) (l : ℕ) → size t ≤ l → fetch (tableOf t) (suc l) ≡ none
 unfolding fetch
-fetch-behind t l h = elem-out (tableOf t) l (rw (length-table t) h)
+fetch-behind t l h = past-end (tableOf t) l (rw (length-table t) h)
 
 pub fetch-out : (t : List ℕ) (l : ℕ) → size t < l → fetch (tableOf t) l ≡ none
 fetch-out t zero h = absurd (omega arith)

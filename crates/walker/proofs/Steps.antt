@@ -48,22 +48,22 @@ module _ (t k a : List ℕ) (paused : Bool) where
     one-more f x s =
         ap (λ (q : Registers). turnOf (stepsOf t k a paused n) (tookOf (going q rs) (stepOf rs t k a (count o - 3 * e) paused q)) o e d) f ∙ ap then-x s
 
-    by-step : (x : Next) → stepped t k a paused r rs o e d ≡ x → Keeps (count o - 3 * e) x → goOf t k a paused (suc n) r rs o e d ≡ then-x x
+    by-step : r .depth ≤ 64 → (x : Next) → stepped t k a paused r rs o e d ≡ x → Keeps (count o - 3 * e) r x → goOf t k a paused (suc n) r rs o e d ≡ then-x x
     unfolding then-x turnOf tookOf
-    by-step Next.Full s h = full t k a paused r rs o e d (suc n) (omega arith) s
-    by-step Next.Outside s h = outside t k a paused r rs o e d (suc n) (omega arith) s
-    by-step (Next.Stop x) s h = stops t k a paused r rs o e d (suc n) x (omega arith) s
-    by-step (Next.On v) s h = on t k a paused r rs o e d (suc n) n v (omega arith) s ∙ less v rs o e (d + 1) h
-    by-step (Next.Tells v x) s h = tells t k a paused r rs o e d (suc n) n v x (omega arith) s ∙ less v rs (putEvent o (3 * e) x) (e + 1) (d + 1) (h .0)
-    by-step (Next.Push v l) s h = pushes t k a paused r rs o e d (suc n) n v l (omega arith) s ∙ less (withDepth v (v .depth + 1)) (set rs (v .depth) l) o e (d + 1) (omega (arith, h))
-    by-step (Next.Waits v x) s h = waits t k a paused r rs o e d (suc n) v x (omega arith) s
+    by-step deep Next.Full s h = full t k a paused r rs o e d (suc n) (omega arith) s
+    by-step deep Next.Outside s h = outside t k a paused r rs o e d (suc n) (omega arith) s
+    by-step deep (Next.Stop x) s h = stops t k a paused r rs o e d (suc n) x (omega arith) s
+    by-step deep (Next.On v) s h = on t k a paused r rs o e d (suc n) n v (omega arith) s ∙ less v rs o e (d + 1) (omega (arith, deep, h .depth))
+    by-step deep (Next.Tells v x) s h = tells t k a paused r rs o e d (suc n) n v x (omega arith) s ∙ less v rs (putEvent o (3 * e) x) (e + 1) (d + 1) (omega (arith, deep, h .0 .depth))
+    by-step deep (Next.Push v l) s h = pushes t k a paused r rs o e d (suc n) n v l (omega arith) s ∙ less (withDepth v (v .depth + 1)) (set rs (v .depth) l) o e (d + 1) (omega (arith, h .1))
+    by-step deep (Next.Waits v x) s h = waits t k a paused r rs o e d (suc n) v x (omega arith) s
 
   pub steps-go : (n : ℕ) → Same n
   unfolding goOf stepsOf
   steps-go zero r rs o e d deep = refl
   steps-go (suc n) r rs o e d deep =
       let x = stepped t k a paused r rs o e d in
-      by-step n (steps-go n) r rs o e d x refl (keeps (count o - 3 * e) r deep rs t k a paused) ∙ sym (one-more n (steps-go n) r rs o e d (as-they-are r deep) x refl)
+      by-step n (steps-go n) r rs o e d deep x refl (keeps (count o - 3 * e) r rs t k a paused) ∙ sym (one-more n (steps-go n) r rs o e d (as-they-are r deep) x refl)
 
 read-64 : (d : ℕ) → min d 64 ≤ 64
 read-64 d = omega arith
@@ -105,17 +105,17 @@ module _ (t : List ℕ) where
         rw (f .0, f .1 .0, f .1 .1, here (leb-true (r .location) (size t) (f .1 .0)) refl) refl
 
 -- a step pushes only below 64
-holds : (room : ℕ) (x : Next) → Keeps room x → Holds x
-holds room Next.Full h = tt
-holds room Next.Outside h = tt
-holds room (Next.Stop x) h = tt
-holds room (Next.On v) h = tt
-holds room (Next.Tells v x) h = tt
-holds room (Next.Push v l) h = h
-holds room (Next.Waits v x) h = tt
+holds : (room : ℕ) (r : Registers) (x : Next) → Keeps room r x → Holds x
+holds room r Next.Full h = tt
+holds room r Next.Outside h = tt
+holds room r (Next.Stop x) h = tt
+holds room r (Next.On v) h = tt
+holds room r (Next.Tells v x) h = tt
+holds room r (Next.Push v l) h = h .1
+holds room r (Next.Waits v x) h = tt
 
-pub step-holds : (rs t k a : List ℕ) (room : ℕ) (q : Bool) (r : Registers) → r .depth ≤ 64 → Holds (stepOf rs t k a room q r)
-step-holds rs t k a room q r deep = holds room (stepOf rs t k a room q r) (keeps room r deep rs t k a q)
+pub step-holds : (rs t k a : List ℕ) (room : ℕ) (q : Bool) (r : Registers) → Holds (stepOf rs t k a room q r)
+step-holds rs t k a room q r = holds room r (stepOf rs t k a room q r) (keeps room r rs t k a q)
 
 -- The step that ends a call
 

@@ -5,7 +5,7 @@ use native.Mathlib.Omega.{arith}
 use lib.ListN.{length, drop}
 use borrow.Author.Needs.{needs}
 use Rattle.base.specs.Common as common
-use Rattle.machine.proofs.Form.{same-next, same-not, same-end}
+use Rattle.base.proofs.Laws.{same-next, same-not, same-end}
 use Rattle.firmware.proofs.same.Statement.{statement}
 use Rattle.firmware.proofs.same.Tie as tie
 

@@ -67,7 +67,7 @@ enum-known-x-3 : tie.Need-enum-known-x-3 Inv-loop μ-loop
 enum-known-x-3 c = search needs
 
 hold-requires : tie.Need-hold-requires Inv-loop μ-loop
-hold-requires c κs = let n = c .before .before .before .before in kept (inv n) (more n) (told n ∙ c .before .before .x3 .given .1)
+hold-requires c κs = let n = c .before .before .before .before in kept (inv n) (more n) (told n ∙ c .before .before .x3 .given .1) .1
 
 last-requires : tie.Need-last-requires Inv-loop μ-loop
 last-requires c κs = let n = c .before .before in (others (inv n) (more n) _ (told n) (c .before .match .keys4), omega (arith, more n, c .before .before .before .before .before .before .before .before .before .before .before .before .before .before .before .fits .budget))

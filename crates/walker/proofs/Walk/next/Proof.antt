@@ -37,7 +37,7 @@ next-requires c κs = (refl, c .before .before .before .before .before .before .
 took-requires : tie.Need-took-requires
 took-requires c κs =
     let a = c .before .before .before .before .before .before .before .before .before .before .before .args in
-    rw (c .next .ensures) (step-holds (a .self .returns) (a .t .now) (a .tokens .now) (a .answers .now) (a .room) (a .pause) (a .self .at) (c .before .before .before .before .before .before .before .before .before .before .before .pre))
+    rw (c .next .ensures) (step-holds (a .self .returns) (a .t .now) (a .tokens .now) (a .answers .now) (a .room) (a .pause) (a .self .at))
 
 returns : tie.Need-returns
 returns c =
