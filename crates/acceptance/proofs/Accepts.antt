@@ -6,13 +6,12 @@ use mathlib.Core.Option.{Option, none, some}
 use mathlib.Core.Path.{_≡_, refl, sym, ap, _∙_}
 use Prim.Native.Nat.{ℕ, zero, suc, _+_, _<_, _≤_}
 use lib.Dec.{leb}
-use lib.ListN.{length, getD, length-append}
+use lib.ListN.{length, length-append}
 use borrow.Author.Tests.{leb-true}
-use native.Mathlib.Nat.{zero-add}
 use native.Mathlib.Omega.{arith}
 use Rattle.acceptance.specs.Answers.{TableOf}
-use Rattle.acceptance.proofs.CheckLaws.{Yields, no-good, yields, next, passed, Any, any}
-use Rattle.acceptance.proofs.NamesOk.{MembersOk, NamesOk, Typed, typed, each-append, sections-ok}
+use Rattle.acceptance.proofs.CheckLaws.{Yields, yields, next, passed, Any, any}
+use Rattle.acceptance.proofs.NamesOk.{NamesOk, Typed, typed, each-append, sections-ok}
 use Rattle.acceptance.proofs.Parsed.{parse-ok}
 use Rattle.acceptance.proofs.Resolved.{acts-of}
 use Rattle.acceptance.proofs.Shape.{Each, ShapedAll, NotEmpty, WrittenOk}
@@ -21,11 +20,11 @@ use Rattle.base.specs.Bools.{never, and}
 use Rattle.base.specs.Common.{if_then_else_, same, given}
 use Rattle.finishing.specs.Test.{finishing}
 use Rattle.names.specs.Declare.{declareSections, knownRules}
-use Rattle.names.specs.Known.{Checked, good, wrong, _>>=_, faultIf, KnownRule, Names, findRule, optionalType}
+use Rattle.names.specs.Known.{Checked, good, wrong, KnownRule, Names, findRule, optionalType}
 use Rattle.names.specs.Resolve.{actsOf}
 use Rattle.names.specs.Uses.{Use, pairsOf, lowestOf, madeFor}
 use Rattle.names.specs.Understand.{nobody, taken, isFirst, ruleMeans, rulesMean, understand}
-use Rattle.processor.specs.Process.{Part, Understood, meaning, faulty, checked, readIn, understood, Answer, accepted, refused, answerFor, process, partOf}
+use Rattle.processor.specs.Process.{Part, Understood, meaning, faulty, checked, readIn, understood, accepted, refused, answerFor, process, partOf}
 use Rattle.program.proofs.AcceptedWords.{accepted-word}
 use Rattle.program.proofs.Lengths.{length-table}
 use Rattle.program.proofs.Places.{place-from, place-inside}

@@ -1,6 +1,6 @@
 -- What holds of whatever a check gives, one law for each way of putting checks together.
 use mathlib.Core.Bool.{Bool, true, false}
-use mathlib.Core.Path.{_≡_, refl, sym, ap, _∙_}
+use mathlib.Core.Path.{_≡_, refl}
 use Prim.Native.Nat.{ℕ}
 use native.Mathlib.Omega.{arith}
 use Rattle.names.specs.Known.{Checked, good, wrong, _>>=_, faultIf}

@@ -2,16 +2,16 @@
 use mathlib.Core.Bool.{Bool, true, false, _||_, not}
 use mathlib.Core.List.{List, [], _∷_, _++_}
 use mathlib.Core.Option.{Option, none, some}
-use mathlib.Core.Path.{_≡_, refl, sym, ap, _∙_}
+use mathlib.Core.Path.{_≡_, refl}
 use Prim.Native.Nat.{ℕ, zero, suc, _+_, _<_, _≤_}
 use native.Mathlib.Omega.{arith}
 use lib.Dec.{eqb}
-use borrow.Author.Tests.{eqb-false, eq-eqb}
-use Rattle.acceptance.proofs.CheckLaws.{Yields, no-good, yields, never, next, passed}
+use borrow.Author.Tests.{eqb-false}
+use Rattle.acceptance.proofs.CheckLaws.{Yields, no-good, yields, next, passed}
 use Rattle.acceptance.proofs.Shape.{Each, NotEmpty, InRange, OfKind, Ranked, SectionOk}
 use Rattle.base.specs.Common.{if_then_else_, same, given}
 use Rattle.names.specs.Declare.{knowns, repeats, clashes, declareAll, declareBoth, withOperations, declareOperations, allKnowns, inputsOf, outputsOf, otherSide, listed, operatorOf, operatorsOf, declareSection, declareSections}
-use Rattle.names.specs.Known.{Checked, good, wrong, _>>=_, faultIf, Known, KnownType, KnownOperation, KnownOperators, Names, find, findType, findOperation, findOperators, declared, elsewhere, lookup, isType, lookupType, optionalType}
+use Rattle.names.specs.Known.{Checked, good, wrong, Known, KnownType, KnownOperation, KnownOperators, Names, find, findType, findOperation, findOperators, declared, elsewhere, lookup, isType, lookupType, optionalType}
 use Rattle.program.specs.Made as made
 use Rattle.program.specs.Made.{Level, atLevel, levelAnd, levelsFrom, levelsOf}
 use Rattle.syntax.specs.Sections.{firstOf}

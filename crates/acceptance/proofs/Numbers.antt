@@ -1,24 +1,24 @@
 -- The number of a refusal is 1 to 9, 45 or 20, and so never 0: the laws follow the readers and the checks, one by one.
 use mathlib.Core.Bool.{Bool, true, false, _&&_, _||_, not}
 use mathlib.Core.List.{List, [], _∷_, _++_}
-use mathlib.Core.Logic.{_⊎_, inl, inr}
+use mathlib.Core.Logic.{inl, inr}
 use mathlib.Core.Option.{Option, none, some}
-use mathlib.Core.Path.{_≡_, refl, sym, ap, _∙_}
+use mathlib.Core.Path.{_≡_, refl, sym}
 use Prim.Native.Char.{code}
-use Prim.Native.Nat.{ℕ, zero, suc, _+_, _-_, _<_, _≤_, max, min}
+use Prim.Native.Nat.{ℕ, zero, suc, _+_, _-_, _<_, max, min}
 use lib.Dec.{eqb, leb, ltb}
 use lib.ListN.{length}
 use native.Mathlib.Omega.{arith}
 use Rattle.acceptance.specs.Answers.{Fault, RefusalNumber}
 use Rattle.base.specs.Common.{if_then_else_, bytes, given, member}
-use Rattle.base.specs.Tree.{Action, plain, cycle, choice, Actions, done, _▸_, Alternatives, nil, alternative, Otherwise, absent, otherwise}
+use Rattle.base.specs.Tree.{plain, cycle, choice, done, _▸_, nil, alternative, absent, otherwise}
 use Rattle.names.specs.Declare.{repeats, clashes, declareAll, declareBoth, declareOperations, inputsOf, outputsOf, otherSide, listed, operatorOf, operatorsOf, declareSection, declareSections, knownRules}
 use Rattle.names.specs.Known as known
 use Rattle.names.specs.Known.{Checked, good, wrong, faultIf, Known, KnownType, KnownOperation, KnownRule, Names, find, findType, findOperation, findOperators, findRule, declared, isType, elsewhere, lookup, lookupType, optionalType}
-use Rattle.names.specs.Resolve.{Place, Chooses, operationOf, ruleNamed, parameterOf, updateOf, matchOf, giveOf, rankedOf, plainOf, selectorOf, labelsOf, actOf, actsOf, altsOf, otherOf}
-use Rattle.names.specs.Uses.{Use, pairsOf, lowestOf, levelsUsed, madeFor}
+use Rattle.names.specs.Resolve.{Place, operationOf, ruleNamed, parameterOf, updateOf, matchOf, giveOf, rankedOf, plainOf, selectorOf, labelsOf, actOf, actsOf, altsOf, otherOf}
+use Rattle.names.specs.Uses.{Use, pairsOf, levelsUsed, madeFor}
 use Rattle.names.specs.Understand.{nobody, taken, isFirst, ruleMeans, rulesMean, understand}
-use Rattle.processor.specs.Process.{Part, partOf, Understood, meaning, faulty, checked, readIn, understood, Answer, accepted, refused, answerFor, process}
+use Rattle.processor.specs.Process.{Part, partOf, Understood, meaning, faulty, checked, readIn, understood, accepted, refused, answerFor, process}
 use Rattle.program.specs.Made as made
 use Rattle.program.specs.Made.{crowded}
 use Rattle.program.specs.Past.{pastAll}

@@ -7,20 +7,20 @@ use Prim.Native.Char.{code}
 use Prim.Native.Nat.{ℕ, zero, suc, _+_, _-_, _<_, _≤_, max, min}
 use lib.Dec.{eqb, ltb}
 use lib.ListN.{length}
-use borrow.Author.Tests.{ltb-false, ltb-true, eqb-false}
+use borrow.Author.Tests.{ltb-false, eqb-false}
 use native.Mathlib.Omega.{arith}
 use Rattle.acceptance.proofs.ReadLaws.{Gives, Any, any, no-got, bind, after, gives, refuses, either, on-kind, limited}
 use Rattle.acceptance.proofs.Shape.{Each, Defaulted, Shaped, ShapedAll, ShapedAlts, ShapedOther, ShapedChoices, NotEmpty, InRange, OfKind, Ranked, SectionOk, WrittenOk}
 use Rattle.base.proofs.Laws.{neither, above-zero}
 use Rattle.base.specs.Common.{if_then_else_, bytes, given}
-use Rattle.base.specs.Tree.{Action, plain, cycle, choice, Actions, done, _▸_, Alternatives, nil, alternative, Otherwise, absent, otherwise}
+use Rattle.base.specs.Tree.{plain, cycle, choice, done, _▸_, nil, alternative, absent, otherwise}
 use Rattle.syntax.proofs.Ahead.{kinds-read, room-left}
-use Rattle.syntax.specs.Actions.{aConstant, aPlain, aSelector, aLabel, someLabels, closes, aCycle, aChoice, anAction, anOtherwise, anAlternative, actions, alternatives}
+use Rattle.syntax.specs.Actions.{aPlain, aSelector, aLabel, someLabels, closes, aCycle, aChoice, anAction, anOtherwise, anAlternative, actions, alternatives}
 use Rattle.syntax.specs.Parse.{aRule, someRules, program, parse, endOf}
-use Rattle.syntax.specs.Reading.{Read, got, fault, Reader, onward, _>>=_, _>>_, pure, peek, pass, refuse, over, within, on_then_else_, expect, short, aName, oneName, small, aNumber, optional, nameOrString}
+use Rattle.syntax.specs.Reading.{Read, got, fault, Reader, onward, _>>=_, _>>_, pure, peek, pass, refuse, over, on_then_else_, expect, aName, oneName, small, aNumber, optional, nameOrString}
 use Rattle.syntax.specs.Sections.{aSpelling, aCount, anEntry, entries, firstOf, ofKind, kindAhead, isFull, aParameter, numbered, anOperation, someOperations, Sofar, nothing, after as afterSection, tokenSection, aSection, Sections, someSections, spells, ranking, aLevel, aSide, anOperator, someOperators, operatorSection, mechanismSection, otherSection}
-use Rattle.syntax.specs.Written.{Act, Acts, Alts, Other, Choices, Entry, Operation, Section, inputs, outputs, both, errors, values, operations, Rule, Program, Operator, operators}
-use Rattle.words.specs.Words.{Word, words, last, twice, name, number, string, input, output, error, type, mechanism, rules, end, value}
+use Rattle.syntax.specs.Written.{Acts, Alts, Other, Choices, Entry, Operation, Section, inputs, outputs, both, errors, values, operations, Rule, Program, Operator, operators}
+use Rattle.words.specs.Words.{Word, words, last, twice, name, number, input, output, error, type, mechanism, rules, end, value}
 
 -- Entries
 

@@ -2,20 +2,20 @@
 use mathlib.Core.Bool.{Bool, true, false, _||_}
 use mathlib.Core.List.{List, [], _∷_, _++_}
 use mathlib.Core.Option.{Option, none, some}
-use mathlib.Core.Path.{_≡_, refl, sym, ap, _∙_}
-use Prim.Native.Nat.{ℕ, zero, suc, _+_, _<_, _≤_}
+use mathlib.Core.Path.{_≡_, refl, ap, _∙_}
+use Prim.Native.Nat.{ℕ, _+_, _<_}
 use lib.ListN.{length}
 use native.Mathlib.Omega.{arith}
 use Rattle.acceptance.proofs.CheckLaws.{Yields, no-good, yields, never, next, passed}
-use Rattle.acceptance.proofs.NamesOk.{KnownOk, TypeOk, MembersOk, OperationOk, NamesOk, find-in, lookup-in, find-type-in, operation-in}
+use Rattle.acceptance.proofs.NamesOk.{KnownOk, MembersOk, OperationOk, NamesOk, find-in, lookup-in, find-type-in, operation-in}
 use Rattle.acceptance.proofs.Shape.{Each, Defaulted, Shaped, ShapedAll, ShapedAlts, ShapedOther}
 use Rattle.base.specs.Common.{if_then_else_, member, given}
-use Rattle.base.specs.Tree.{Action, plain, cycle, choice, Actions, done, _▸_, Alternatives, nil, alternative, Otherwise, absent, otherwise}
+use Rattle.base.specs.Tree.{plain, cycle, choice, done, _▸_, nil, alternative, absent, otherwise}
 use Rattle.names.specs.Known.{Checked, good, wrong, _>>=_, faultIf, Known, KnownOperation, KnownRule, Names, find, findType, findOperation, findOperators, findRule, elsewhere, lookup}
 use Rattle.names.specs.Resolve.{Place, within, Chooses, updating, choosing, operationOf, ruleNamed, parameterOf, updateOf, matchOf, giveOf, rankedOf, plainOf, membersOf, selectorOf, labelsOf, actOf, actsOf, altsOf, otherOf}
 use Rattle.names.specs.Uses.{Use, pairsOf, lowestOf}
 use Rattle.program.specs.Made.{Level}
-use Rattle.program.specs.Accepted.{Value, Values, Labelled, NeedsLabel, Calls, OkPlain, OkSelector, Ok, Oks, OkAlts, OkOther}
+use Rattle.program.specs.Accepted.{Values, Labelled, NeedsLabel, Calls, OkPlain, OkSelector, Ok, Oks, OkAlts, OkOther}
 use Rattle.program.specs.Program as means
 use Rattle.program.specs.Program.{Rule}
 use Rattle.syntax.specs.Sections.{firstOf}

@@ -1,13 +1,12 @@
 -- What the syntax pass leaves of a program as written: values and instruction numbers in range, labels where a default needs one.
-use mathlib.Core.Bool.{Bool, true, false}
+use mathlib.Core.Bool.{true}
 use mathlib.Core.List.{List, [], _∷_}
 use Prim.Native.Nat.{ℕ, _+_, _<_, _≤_}
 use lib.ListN.{length}
 use Rattle.base.specs.Common.{given}
-use Rattle.base.specs.Tree.{Action, plain, cycle, choice, Actions, done, _▸_, Alternatives, nil, alternative, Otherwise, absent, otherwise}
+use Rattle.base.specs.Tree.{plain, cycle, choice, done, _▸_, nil, alternative, absent, otherwise}
 use Rattle.syntax.specs.Sections.{firstOf}
-use Rattle.syntax.specs.Written.{Act, Acts, Alts, Other, Choices, Entry, Operation, Operator, Section, inputs, outputs, both, errors, values, operations, operators, Rule, Program}
-use Rattle.words.specs.Words.{Word}
+use Rattle.syntax.specs.Written.{Act, Acts, Alts, Other, Choices, Entry, Operation, Operator, Section, inputs, outputs, both, errors, values, operations, operators, Program}
 
 -- each of a list
 unfoldable pub Each : {A : Type 0} → (A → Type 0) → List A → Type 0

@@ -3,7 +3,7 @@ use mathlib.Core.Bool.{Bool, true, false, _&&_, _||_}
 use mathlib.Core.List.{List, [], _∷_, _++_}
 use mathlib.Core.Option.{Option, none, some}
 use mathlib.Core.Path.{_≡_, refl, ap, _∙_}
-use Prim.Native.Nat.{ℕ, zero, suc, _+_, _<_, _≤_}
+use Prim.Native.Nat.{ℕ, suc, _+_, _<_, _≤_}
 use lib.Dec.{ltb}
 use lib.ListN.{length, length-append}
 use borrow.Author.Tests.{ltb-false}
@@ -13,12 +13,12 @@ use Rattle.acceptance.proofs.NamesOk.{NamesOk, OperatorOk, LevelOk, eac
 use Rattle.acceptance.proofs.Shape.{Each, NotEmpty}
 use Rattle.base.proofs.Laws.{neither}
 use Rattle.base.specs.Common.{if_then_else_, given}
-use Rattle.base.specs.Tree.{Action, plain, cycle, choice, Actions, done, _▸_, Alternatives, nil, alternative, Otherwise, absent, otherwise}
+use Rattle.base.specs.Tree.{plain, cycle, choice, done, _▸_, nil, alternative, absent, otherwise}
 use Rattle.names.specs.Known.{Checked, good, wrong, _>>=_, faultIf, Known, KnownRule, Names, findOperation, findOperators, findRule, elsewhere, optionalType}
-use Rattle.names.specs.Resolve.{Place, within, Chooses, ruleNamed, rankedOf, plainOf, selectorOf, labelsOf, actOf, actsOf, altsOf, otherOf}
+use Rattle.names.specs.Resolve.{Place, within, ruleNamed, rankedOf, plainOf, selectorOf, labelsOf, actOf, actsOf, altsOf, otherOf}
 use Rattle.names.specs.Understand.{taken, isFirst, ruleMeans, rulesMean}
 use Rattle.names.specs.Uses.{Use, plainUses, actUses, actsUses, altsUses, otherUses, rulesUses, samePair, isUsed, firsts, pairsOf, levelsUsed, lowestOf, operandOf, madeFor}
-use Rattle.program.specs.Accepted.{Value, Values, Calls, OkPlain, OkSelector, Ok, Oks, OkAlts, OkOther, NeedsLabel}
+use Rattle.program.specs.Accepted.{Values, Calls, OkPlain, OkSelector, Ok, Oks, OkAlts, NeedsLabel}
 use Rattle.program.specs.Made.{Operator, Level, operatorAlts, levelBody, levelRule, higherOf, levelRules, crowded}
 use Rattle.program.specs.Past.{pastAll}
 use Rattle.program.specs.Program as means

@@ -1,22 +1,22 @@
 -- Which operation stands at a location, and the search for the lowest that is not granted.
 use mathlib.Core.Bool.{Bool, true, false, _&&_, _||_, not}
-use mathlib.Core.List.{List, [], _∷_}
+use mathlib.Core.List.{List, _∷_}
 use mathlib.Core.Option.{Option, none, some}
 use mathlib.Core.Path.{_≡_, refl, sym, ap, _∙_}
-use Prim.Native.Nat.{ℕ, zero, suc, _+_, _*_, _-_, _<_, _≤_, _/_, _%_, _^_}
+use Prim.Native.Nat.{ℕ, zero, suc, _+_, _-_, _<_, _≤_, _/_, _%_, _^_}
 use native.Mathlib.Decide.{decLe}
 use native.Mathlib.Nat.{zero-div}
 use native.Mathlib.Omega.{arith}
-use lib.Dec.{eqb, leb}
+use lib.Dec.{eqb}
 use lib.ListN.{length, getD, List·getD-eq-default}
-use borrow.Author.Tests.{eqb-false, eq-eqb, ne-eqb, leb-true, le-leb, lt-leb, not-false}
+use borrow.Author.Tests.{eq-eqb, ne-eqb, le-leb, not-false}
 use Rattle.base.specs.Bools.{never}
 use Rattle.base.specs.Common.{if_then_else_, member}
 use Rattle.machine.proofs.Decoded.{of-operation, of-two, of-word}
 use Rattle.machine.proofs.Lengths.{length-rule, length-none, length-operation, length-between, length-above}
 use Rattle.machine.specs.Decode.{fetch, inputAny, return, endChoice, decodeOperation, decodeTwo, decodeOne, decodeWord, decodeAt, decode}
-use Rattle.machine.specs.Lengths.{lengthRule, lengths, lengthOf}
-use Rattle.rights.specs.Rights.{bitOf, granted, operationOf, allows, right, lowest, denied, Admission, says, admit}
+use Rattle.machine.specs.Lengths.{lengthRule, lengthOf}
+use Rattle.rights.specs.Rights.{bitOf, granted, operationOf, allows, right, lowest, denied, says, admit}
 use Rattle.loading.specs.Taking.{reached, taken}
 use Rattle.admission.specs.Flags.{Flagged, AllFlagged, wrongAt}
 use Rattle.loader.proofs.Visits.{decode-none, decode-one}

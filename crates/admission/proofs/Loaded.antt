@@ -1,7 +1,7 @@
 -- A table that was loaded stands at the front of the lent one; what is told of it.
-use mathlib.Core.List.{List, _++_}
+use mathlib.Core.List.{List}
 use mathlib.Core.Path.{_≡_, refl, sym, ap, _∙_}
-use Prim.Native.Nat.{ℕ, _*_, _/_, _≤_}
+use Prim.Native.Nat.{ℕ, _*_, _≤_}
 use native.Mathlib.Omega.{arith}
 use lib.ListN.{length, take}
 use Rattle.buffers.proofs.Writes.{over-length}
@@ -14,7 +14,7 @@ use Rattle.loading.proofs.Files.{loads-exactly, loads-0}
 use Rattle.loading.specs.File as files
 use Rattle.loading.specs.File.{Answer, done, refused, load, lentWords, lentBytes}
 use Rattle.machine.specs.Bytes.{count, bytesOf, tableOf, over}
-use Rattle.rights.specs.Rights.{Admission, says, admit, admitLoaded, tells}
+use Rattle.rights.specs.Rights.{says, admit, admitLoaded, tells}
 
 -- what is known where loading answered 0
 pub record Front (file before after : List ℕ) (words verdict : ℕ) : Type 0 where

@@ -1,7 +1,7 @@
 -- "with budgets and buffers enough": two calls of one walk that end neither with 35 nor with 36 give the same, whatever their budgets and
 -- buffers; from it the agreement of a whole call with paused calls that each have a budget and a buffer of their own.
 use mathlib.Core.Bool.{Bool, true, false}
-use mathlib.Core.List.{List, [], _∷_, _++_}
+use mathlib.Core.List.{List, [], _∷_}
 use mathlib.Core.Option.{Option, none, some}
 use mathlib.Core.Path.{_≡_, refl, sym, ap, _∙_}
 use Prim.Native.Nat.{ℕ, zero, suc, _+_, _-_, _*_, _^_, _<_, _≤_}
@@ -10,8 +10,8 @@ use lib.Dec.{ltb}
 use lib.ListN.{length, drop}
 use borrow.Author.Tests.{ltb-false, le-ltb}
 use Rattle.base.specs.Common.{if_then_else_}
-use Rattle.events.specs.Events.{Event, Reason, unanswered, outside, answer}
-use Rattle.machine.specs.Call.{Mode, whole, paused, Called, ends, endsFor, writing, Turn, over, further, takes, handsOut, turn, run, callIn, callWalk}
+use Rattle.events.specs.Events.{Event, unanswered, answer}
+use Rattle.machine.specs.Call.{Mode, whole, paused, Called, ends, writing, Turn, over, further, takes, handsOut, turn, run, callIn, callWalk}
 use Rattle.machine.specs.Step.{Next, goesOutside, stops, goes, tells, asks, step}
 use Rattle.machine.specs.Walk.{Phase, going, waiting, stopped, Walk, withAnswer, atRest}
 use Rattle.agreement.specs.Pauses.{joined, Enough, Row, first, next, Agree, whileWaiting, answering, fed, inARow}

@@ -1,19 +1,19 @@
 -- One answer more changes nothing up to where the answers run out; there the walk goes on.
-use mathlib.Core.Bool.{Bool, true, false}
+use mathlib.Core.Bool.{true}
 use mathlib.Core.List.{List, [], _∷_, _++_}
 use mathlib.Core.Option.{Option, none, some}
 use mathlib.Core.Path.{_≡_, refl, sym, ap, _∙_}
 use Prim.Native.Nat.{ℕ, zero, suc, _+_, _<_, _≤_}
 use lib.ListN.{length, getElem?}
 use native.Mathlib.Omega.{arith}
-use Rattle.agreement.proofs.Lists.{Keeps, After, after-outside, after-stop, after-goes, after-tells, after-asks, step-after, choices-then, choices-asked, going-stopped, waiting-stopped, going-waiting, runs-suc, one-going}
+use Rattle.agreement.proofs.Lists.{Keeps, After, after-outside, after-stop, after-goes, after-tells, after-asks, step-after, choices-then, choices-asked, going-stopped, runs-suc, one-going}
 use Rattle.agreement.proofs.Single.{taking, done, oneIn, one, runs}
 use Rattle.events.specs.Events as events
-use Rattle.events.specs.Events.{Event, Reason, unanswered, outside, isChoice, choices, Io}
+use Rattle.events.specs.Events.{Event, unanswered, isChoice, choices}
 use Rattle.machine.specs.Call.{writing}
-use Rattle.machine.specs.Step.{Next, goesOutside, stops, goes, tells, asks, step}
+use Rattle.machine.specs.Step.{Next, step}
 use Rattle.machine.specs.Walk
-use Rattle.machine.specs.Walk.{Phase, going, waiting, stopped, Walk, fresh, inPhase, withAnswer}
+use Rattle.machine.specs.Walk.{Phase, going, waiting, stopped, Walk, fresh}
 
 -- what a list has at a place it keeps with more behind it
 kept-answer : (as′ : List ℕ) (x i y : ℕ) → getElem? as′ i ≡ some y → (getElem? (as′ ++ (x ∷ [])) i ≡ some y) × (i < length as′)

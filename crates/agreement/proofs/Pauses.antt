@@ -18,7 +18,7 @@ use Rattle.machine.specs.Walk.{Phase, going, waiting, stopped, Walk, moved, wit
 use Rattle.machine.specs.Step.{Next, asks, step}
 use Rattle.machine.specs.Call
 use Rattle.machine.specs.Call.{whole, paused, Called, ends, endsFor, keeps, writing, Turn, over, further, takes, handsOut, turn, run, callIn, callWalk}
-use Rattle.agreement.specs.Pauses.{joined, RunOut, Agree, same, runOut, whileWaiting, answering, fed, inARow}
+use Rattle.agreement.specs.Pauses.{joined, Agree, same, runOut, whileWaiting, answering, fed, inARow}
 use Rattle.agreement.proofs.Lists.{withEvents, withEarlier, earlier, step-earlier, Keeps, Own, After, after-outside, after-stop, after-goes, after-tells, after-asks, step-after, step-asked, resume, run-resume, writing-earlier, going-waiting, waiting-stopped, all64}
 
 -- an instruction that asks does so whatever events the walk holds

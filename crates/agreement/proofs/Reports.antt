@@ -1,6 +1,6 @@
 -- "Refusals apart, only 35 and 36 leave the walk going on": what each call's number says of its walk, for any table and any walk.
 use mathlib.Core.Bool.{Bool, true, false}
-use mathlib.Core.List.{List, [], _∷_}
+use mathlib.Core.List.{List, _∷_}
 use mathlib.Core.Option.{Option, none, some}
 use mathlib.Core.Path.{_≡_, refl, sym, ap, _∙_}
 use Prim.Native.Nat.{ℕ, zero, suc, _+_, _-_, _≤_}
@@ -11,9 +11,9 @@ use Rattle.events.specs.Events.{Event, Reason, finished, differs, missing, unla
 use Rattle.machine.proofs.Form.{reason-back}
 use Rattle.machine.specs.Call.{Mode, whole, paused, Called, ends, endsFor, writing, Turn, over, further, takes, handsOut, turn, run, callIn, callWalk}
 use Rattle.machine.specs.Form.{reasonOf}
-use Rattle.machine.specs.Step.{Next, step}
+use Rattle.machine.specs.Step.{Next}
 use Rattle.machine.specs.Walk
-use Rattle.machine.specs.Walk.{Phase, going, waiting, stopped, Walk, inPhase, withAnswer, atRest}
+use Rattle.machine.specs.Walk.{Phase, going, waiting, stopped, Walk, withAnswer, atRest}
 use Rattle.agreement.specs.Demand.{Listed, then-call}
 use Rattle.agreement.specs.Reports.{Reports, refused, full, spent, handed-out, ended}
 use Rattle.agreement.proofs.Lists.{After, after-outside, after-stop, after-goes, after-tells, after-asks, step-after, resume, run-resume}

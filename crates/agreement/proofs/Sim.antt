@@ -8,7 +8,7 @@ use mathlib.Core.List.{List, [], _∷_}
 use lib.Dec.{eqb, ltb}
 use lib.ListN.{length}
 use borrow.Author.Tests.{eqb-true, eq-eqb}
-use Rattle.base.specs.Bools.{never, or₁, or₂, both, same, split}
+use Rattle.base.specs.Bools.{or₁, or₂, both, same, split}
 use Rattle.base.specs.Common.{if_then_else_, member, given}
 use Rattle.base.specs.Tree.{plain, cycle, choice, done, _▸_, nil, alternative, absent, otherwise}
 use Rattle.events.specs.Events.{Event, operation, operationWith, repair, Reason, differs, missing, unlabelled, deep, Io, present, took, mends, spent, repaired, is}

@@ -1,9 +1,9 @@
 -- The walk over a table as single steps, with no budget, no buffer and no pause: what every list of calls comes to.
-use mathlib.Core.List.{List, [], _∷_}
+use mathlib.Core.List.{List, _∷_}
 use mathlib.Core.Option.{Option, none, some}
 use Prim.Native.Nat.{ℕ, zero, suc}
 use lib.ListN.{getElem?}
-use Rattle.events.specs.Events.{Event, Reason, unanswered, outside, choices, Io}
+use Rattle.events.specs.Events.{Event, unanswered, outside, choices}
 use Rattle.machine.specs.Call.{writing}
 use Rattle.machine.specs.Step.{Next, goesOutside, stops, goes, tells, asks, step}
 use Rattle.machine.specs.Walk.{Phase, going, waiting, stopped, Walk, inPhase, withAnswer}

@@ -1,29 +1,29 @@
 -- Demand 3: from the lists of calls, the single steps and the rules' own walk to the claim itself.
-use mathlib.Core.Bool.{Bool, true, false}
+use mathlib.Core.Bool.{Bool, true}
 use mathlib.Core.List.{List, [], _∷_, _++_, append-nil}
-use mathlib.Core.Logic.{_⊎_, inl, inr}
+use mathlib.Core.Logic.{inl, inr}
 use mathlib.Core.Option.{Option, none, some}
 use mathlib.Core.Path.{_≡_, refl, sym, ap, _∙_}
 use Prim.Native.Nat.{ℕ, zero, suc, _+_, _-_, _*_, _<_, _≤_}
-use lib.ListN.{length, getElem?, length-append}
+use lib.ListN.{length, getElem?}
 use native.Mathlib.Decide.{decLt}
 use native.Mathlib.Omega.{arith}
 use Rattle.acceptance.proofs.Accepts.{accepted-table}
 use Rattle.acceptance.specs.Answers.{TableOf}
-use Rattle.agreement.proofs.Agree.{Same, both-going, both-stopped, same-io, same-events, same-stopped, stopped-same, never-waiting, never-outside, agree, agree-stop}
+use Rattle.agreement.proofs.Agree.{Same, both-going, both-stopped, same-events, same-stopped, stopped-same, never-outside, agree, agree-stop}
 use Rattle.agreement.proofs.BoundWalk.{budget, finishes}
 use Rattle.agreement.proofs.Bound.{Over, over-stopped, over-nowhere}
 use Rattle.agreement.proofs.MoreAnswers.{one-more, alike}
-use Rattle.agreement.proofs.Lists.{withEvents, Keeps, step-asked, choices-then, choices-asked, going-waiting, going-stopped, waiting-stopped, runs-suc, one-going, Where, lives, left, waits, listed-where, number-37, asked-next}
+use Rattle.agreement.proofs.Lists.{withEvents, step-asked, going-stopped, waiting-stopped, runs-suc, one-going, Where, lives, left, waits, listed-where, number-37}
 use Rattle.agreement.proofs.Sim.{Running, running-on, running-choosing}
 use Rattle.agreement.proofs.Single.{taking, done, oneIn, one, runs}
-use Rattle.agreement.specs.Demand.{eventsOf, Begins, wanted, Listed, RulesStop, RulesWrite, WaitsPast, HasStopped, Suffices, Agrees, Finishes, Demand3}
+use Rattle.agreement.specs.Demand.{wanted, Listed, RulesStop, RulesWrite, HasStopped, Suffices, Agrees, Finishes, Demand3}
 use Rattle.events.specs.Events as io
 use Rattle.events.specs.Events.{Event, Reason, unanswered, outside, choices, Io}
 use Rattle.finishing.proofs.Exact.{finishing-sound, finishing-complete}
 use Rattle.finishing.specs.Finishing.{Finishing}
 use Rattle.machine.specs.Call.{writing}
-use Rattle.machine.specs.Step.{Next, goesOutside, stops, goes, tells, asks, step}
+use Rattle.machine.specs.Step.{Next, goesOutside, stops, step}
 use Rattle.machine.specs.Walk
 use Rattle.machine.specs.Walk.{Phase, going, waiting, stopped, Walk, fresh, withIo, inPhase, withAnswer}
 use Rattle.ownwalk.specs.OwnWalk as rules

@@ -1,5 +1,5 @@
 -- "Demand 3 is one claim about the list, not one a call." The statement; its proof is in proofs/.
-use mathlib.Core.Bool.{Bool, true, false}
+use mathlib.Core.Bool.{Bool, true}
 use mathlib.Core.List.{List, [], _∷_, _++_}
 use mathlib.Core.Logic.{_⊎_}
 use mathlib.Core.Option.{Option, none, some}
@@ -8,7 +8,7 @@ use Prim.Native.Nat.{ℕ, _+_, _-_, _^_, _<_}
 use lib.ListN.{length, getElem?}
 use Rattle.finishing.specs.Finishing.{Finishing}
 use Rattle.events.specs.Events.{Event, Reason, unanswered, choices, Io}
-use Rattle.machine.specs.Call.{Mode, whole, paused, Called, callWalk}
+use Rattle.machine.specs.Call.{Mode, whole, paused, callWalk}
 use Rattle.machine.specs.Walk.{Phase, going, waiting, stopped, Walk, fresh}
 use Rattle.ownwalk.specs.OwnWalk as rules
 use Rattle.ownwalk.specs.OwnWalk.{Own, owns, ownStart}

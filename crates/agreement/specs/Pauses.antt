@@ -1,11 +1,11 @@
 -- "Fed the same answers, with budgets and buffers enough, the two agree in events, counts and end until the answers run out: there the whole
 -- walk stops with 34, the paused one waits." The definitions of that claim; its proof is in proofs/.
 use mathlib.Core.List.{List, [], _∷_, _++_}
-use mathlib.Core.Option.{Option, none, some}
+use mathlib.Core.Option.{none, some}
 use mathlib.Core.Path.{_≡_}
 use Prim.Native.Nat.{ℕ, _+_, _-_, _*_}
 use lib.ListN.{length}
-use Rattle.events.specs.Events.{Event, Reason, unanswered, answer}
+use Rattle.events.specs.Events.{Event, unanswered, answer}
 use Rattle.machine.specs.Call.{paused, waits, Called, callWalk}
 use Rattle.machine.specs.Step.{asks, step}
 use Rattle.machine.specs.Walk.{Phase, going, waiting, stopped, Walk, moved, inPhase}

@@ -1,8 +1,8 @@
 -- The names of the rules before one, by the row of declarations.
-use mathlib.Core.Bool.{Bool, true, false, _&&_, _||_, or-assoc}
+use mathlib.Core.Bool.{Bool, true, false, _&&_, _||_}
 use mathlib.Core.List.{List, [], _∷_, _++_}
-use mathlib.Core.Option.{Option, none, some}
-use mathlib.Core.Path.{_≡_, refl, sym, ap, _∙_, subst}
+use mathlib.Core.Option.{none, some}
+use mathlib.Core.Path.{_≡_, refl, sym, ap, _∙_}
 use Prim.Native.Nat.{ℕ, zero, suc, _+_, _-_, _<_, _≤_}
 use lib.Dec.{eqb, ltb}
 use lib.ListN.{length, drop}
@@ -11,11 +11,10 @@ use native.Mathlib.Omega.{arith}
 use borrow.Author.Tests.{eq-eqb, ne-eqb, lt-ltb, le-ltb}
 use Rattle.base.specs.Common.{if_then_else_, same}
 use Rattle.builder.specs.Row.{Sofar}
-use Rattle.declarations.specs.Decls.{Decl, ofEntry, ofOperation, ofType, ofOperators, ofRule, indexOf, entryDecls, operationDecls, sectionDecls, sectionsDecls, ruleDecls, declsOf}
+use Rattle.declarations.specs.Decls.{Decl, ofOperation, ofType, ofOperators, ofRule, indexOf, entryDecls, operationDecls, sectionDecls, sectionsDecls, ruleDecls, declsOf}
 use Rattle.names.specs.Understand.{isOne, isFirst}
 use Rattle.symbols.specs.Rows.{numberOf}
 use Rattle.syntax.specs.Written.{Entry, Operation, Section, inputs, outputs, both, errors, values, operations, operators, Rule, Program}
-use Rattle.words.specs.Words.{Word}
 
 -- no rule is among them
 data Free : List Decl → Type 0 where

@@ -3,9 +3,9 @@ use mathlib.Core.List.{List, [], _∷_, _++_, append-assoc}
 use mathlib.Core.Path.{_≡_, refl, sym, ap, _∙_}
 use Prim.Native.Nat.{ℕ, _+_}
 use lib.ListN.{length}
-use Rattle.base.specs.Tree.{Action, plain, cycle, choice, Actions, done, _▸_, Alternatives, nil, alternative, Otherwise, absent, otherwise}
-use Rattle.cells.specs.Cells.{plainCells, selectorCells, absentCell, actCells, actsCells, altsCells, otherCells}
-use Rattle.program.specs.Program.{Plain, Selector, Act, Acts, Alts, Other}
+use Rattle.base.specs.Tree.{plain, cycle, choice, done, _▸_, nil, alternative, absent, otherwise}
+use Rattle.cells.specs.Cells.{selectorCells, absentCell, actCells, actsCells, altsCells, otherCells}
+use Rattle.program.specs.Program.{Selector, Act, Acts, Alts, Other}
 use Rattle.resolver.proofs.Appending.{plain-behind, selector-behind}
 
 -- one part, then another that has k behind it

@@ -1,9 +1,9 @@
 -- A rule's head: its name and its type, one law for each return.
 use mathlib.Core.Bool.{Bool, true, false, _&&_, _||_}
-use mathlib.Core.List.{List, [], _∷_, _++_}
+use mathlib.Core.List.{List, _∷_}
 use mathlib.Core.Option.{Option, none, some}
 use mathlib.Core.Path.{_≡_, refl, sym, ap, _∙_, subst}
-use Prim.Native.Nat.{ℕ, zero, suc, _+_, _-_, _<_, _≤_}
+use Prim.Native.Nat.{ℕ, _+_, _-_, _<_, _≤_}
 use lib.Dec.{eqb, ltb}
 use lib.ListN.{length, take, drop, length-take, length-drop}
 use native.Mathlib.Omega.{arith}
@@ -12,14 +12,13 @@ use Rattle.base.specs.Common.{if_then_else_, given}
 use Rattle.builder.specs.Heads.{takenBefore, headOf, HeadEnd, headed, misheaded, TypeDone, HeadDone}
 use Rattle.builder.specs.declared.Head.{Head}
 use Rattle.declarations.specs.Decls.{Decl, indexOf, elsewhereIn, typeIn, optionalIn}
-use Rattle.grammar.specs.Derived.{Took, Not, GivesIn, gives-none, gives-some}
+use Rattle.grammar.specs.Derived.{Took, GivesIn, gives-none, gives-some}
 use Rattle.names.specs.Known.{Checked, good, wrong, _>>=_, faultIf}
-use Rattle.places.proofs.Heres.{Same, kind-here, took-kind, took-here, not-here}
+use Rattle.places.proofs.Heres.{Same, took-kind, took-here, not-here}
 use Rattle.scanner.specs.Next.{Next, asWord}
 use Rattle.scanner.specs.declared.WordAt.{WordAt}
 use Rattle.symbols.specs.Rows.{held, numberOf, wordOf, Looks, found, missing}
 use Rattle.symbols.specs.Search.{Tells, there, nowhere}
-use Rattle.syntax.specs.Written.{Rule}
 use Rattle.words.specs.Words.{Word, wordsAt}
 
 pub word-length : {text : List ℕ} {at : ℕ} {w : WordAt} → Next text at w → at ≤ length text → length (asWord text w .text) ≡ w .len

@@ -1,38 +1,32 @@
 -- Alternatives: the labels that stand in the choice's array and are copied to the cells.
 use mathlib.Core.Bool.{Bool, true, false, _&&_, _||_}
 use mathlib.Core.List.{List, [], _∷_, _++_}
-use mathlib.Core.Logic.{_⊎_, inl, inr}
+use mathlib.Core.Logic.{inr}
 use mathlib.Core.Path.{_≡_, refl, sym, ap, _∙_, subst}
 use Prim.Native.Nat.{ℕ, zero, suc, _+_, _-_, _<_, _≤_}
 use lib.ListN.{length, take, drop, getD, length-drop}
 use lib.Seq.{drop-append-seam, getD-drop, length-take-le, take-nil, take-suc}
 use native.Mathlib.Omega.{arith}
-use Rattle.base.specs.Common.{if_then_else_, member}
-use Rattle.base.specs.Tree.{Action, plain, cycle, choice, Actions, done, _▸_, Alternatives, nil, alternative, Otherwise, absent, otherwise}
+use Rattle.base.specs.Common.{member}
+use Rattle.base.specs.Tree.{choice, done, otherwise}
 use Rattle.resolver.proofs.Appending.{appends-length, appends-none, appends-then}
-use Rattle.builder.proofs.Encoding.{more-cells, choice-cells, alternative-cells}
 use Rattle.builder.proofs.Laws.{Holds, ends-after, ends-map}
-use Rattle.builder.specs.Parts.{placeOf, labelledOf, choicesOf, Choices, choicesCells, Marks, labelCells, Kept, ActDone, ActsDone, CycleDone, ChoiceDone, AltsDone, OtherDone, LabelledDone}
+use Rattle.builder.specs.Parts.{placeOf, labelledOf, labelCells, ActsDone, LabelledDone}
 use Rattle.builder.specs.declared.Labelled.{Labelled}
-use Rattle.cells.specs.Cells.{plainCells, selectorCells, absentCell, actCells, actsCells, altsCells, otherCells}
-use Rattle.declarations.specs.Decls.{Agrees, knownsIn}
-use Rattle.grammar.specs.Derived.{Took, Not, Reference, PlainIn, named-in, any-in, emit-in, error-in, exit-in, call-in, give-in, SelectorIn, LabelsIn, last-label, more-labels, ActIn, plain-in, cycle-in, choice-in, ActsIn, none-in, more-in, AltsIn, other-in, last-in, next-in}
+use Rattle.cells.specs.Cells.{actsCells}
+use Rattle.declarations.specs.Decls.{knownsIn}
+use Rattle.grammar.specs.Derived.{Took, ActsIn}
 use Rattle.names.specs.Known.{Checked, good, wrong, _>>=_, faultIf, lookup, Known, KnownRule, Names}
-use Rattle.names.specs.Resolve.{Place, Chooses, within, plainOf, selectorOf, labelsOf, actOf, actsOf, altsOf, otherOf}
-use Rattle.places.proofs.Heres.{Same, kind-here, took-kind, took-here, not-here, reference-kind}
-use Rattle.program.specs.Past.{plainPast, isExit, past, pastAll, pastSome, pastOther, exits, exitsAll, exitsSome, exitsOther}
+use Rattle.names.specs.Resolve.{labelsOf, actsOf}
+use Rattle.places.proofs.Heres.{took-here}
+use Rattle.program.specs.Past.{past, pastAll, exits, exitsAll}
 use Rattle.program.specs.Program as means
-use Rattle.resolver.specs.Resolved.{Appends, Ends, ended, failed, Flags, PlainDone, SelectorDone, LabelsEnd, labelled, mislabelled, LabelsDone}
-use Rattle.resolver.specs.declared.Built.{Built}
+use Rattle.resolver.specs.Resolved.{Appends, Ends, failed, Flags, LabelsEnd, labelled, mislabelled, LabelsDone}
 use Rattle.resolver.specs.declared.Done.{Done}
 use Rattle.resolver.specs.declared.Labels.{Labels}
-use Rattle.resolver.specs.declared.Selected.{Selected}
 use Rattle.scanner.specs.Next.{Next}
 use Rattle.scanner.specs.declared.WordAt.{WordAt}
 use Rattle.symbols.specs.Rows.{held}
-use Rattle.syntax.specs.Actions.{closes}
-use Rattle.syntax.specs.Reading.{peek}
-use Rattle.syntax.specs.Written as written
 use Rattle.syntax.specs.Written.{Program}
 use Rattle.words.specs.Words.{Word, wordsAt}
 

@@ -1,11 +1,10 @@
 -- Outcomes put together: one law for each way in which the code goes on after a part.
 use mathlib.Core.Bool.{Bool, true, false, _||_, or-comm}
-use mathlib.Core.List.{List, [], _∷_, _++_, append-assoc, append-nil}
-use mathlib.Core.Path.{_≡_, refl, sym, ap, _∙_, subst}
-use Prim.Native.Nat.{ℕ, zero, suc, _+_, _-_, _<_, _≤_}
+use mathlib.Core.List.{List, [], _∷_, _++_}
+use mathlib.Core.Path.{_≡_, refl, sym, ap, _∙_}
+use Prim.Native.Nat.{ℕ, _+_, _-_, _<_}
 use lib.Dec.{eqb}
-use lib.ListN.{length, take, drop}
-use native.Mathlib.Omega.{arith}
+use lib.ListN.{length}
 use Rattle.base.specs.Common.{if_then_else_, member}
 use Rattle.resolver.proofs.Appending.{appends-then}
 use Rattle.names.specs.Known.{Checked, good, wrong, _>>=_}

@@ -1,37 +1,36 @@
 -- One rule: its head, its actions and its semicolon; and that it means what crate names says.
 use mathlib.Core.Bool.{Bool, true, false, _&&_, _||_}
-use mathlib.Core.List.{List, [], _∷_, _++_}
+use mathlib.Core.List.{List, [], _∷_}
 use mathlib.Core.Option.{Option, none, some}
 use mathlib.Core.Path.{_≡_, refl, sym, ap, _∙_, subst}
 use Prim.Native.Nat.{ℕ, zero, suc, _+_, _-_, _<_, _≤_}
 use lib.Dec.{eqb, ltb}
-use lib.ListN.{length, take, drop}
+use lib.ListN.{length}
 use native.Mathlib.Omega.{arith}
 use borrow.Author.Tests.{lt-ltb, ne-eqb}
 use Rattle.base.specs.Common.{if_then_else_, given}
-use Rattle.resolver.proofs.Appending.{appends-length}
 use Rattle.builder.proofs.Heading.{word-length}
 use Rattle.builder.proofs.Laws.{ends-fails}
 use Rattle.builder.specs.Heads.{takenBefore, headOf, HeadEnd, headed, misheaded, HeadDone}
-use Rattle.builder.specs.Parts.{placeOf, Kept, ActsDone}
+use Rattle.builder.specs.Parts.{placeOf, ActsDone}
 use Rattle.builder.specs.Row.{ruleBy, RuleDone}
 use Rattle.builder.specs.declared.Head.{Head}
 use Rattle.builder.specs.declared.Ruled.{Ruled}
 use Rattle.cells.specs.Cells.{actsCells}
 use Rattle.declarations.proofs.Rows.{given-mapped}
 use Rattle.declarations.specs.Decls.{Agrees, Decl, indexOf, declaredIn, elsewhereIn, typeIn, optionalIn, mapped, knownsIn}
-use Rattle.grammar.specs.Derived.{Took, GivesIn, ActsIn, RuleIn, a-rule}
+use Rattle.grammar.specs.Derived.{Took, ActsIn, RuleIn, a-rule}
 use Rattle.maker.specs.Pairs.{PairsAre}
-use Rattle.names.specs.Known.{Checked, good, wrong, _>>=_, faultIf, Known, KnownRule, Names, findOperation, findType, declared, isType, elsewhere, lookupType, optionalType}
-use Rattle.names.specs.Resolve.{Place, actsOf}
+use Rattle.names.specs.Known.{Checked, good, wrong, _>>=_, faultIf, Known, KnownRule, Names, findOperation, declared, isType, elsewhere, lookupType, optionalType}
+use Rattle.names.specs.Resolve.{actsOf}
 use Rattle.names.specs.Understand.{isOne, isFirst, taken, ruleMeans}
 use Rattle.places.proofs.Heres.{Same, took-here}
-use Rattle.program.specs.Past.{pastAll, exitsAll}
+use Rattle.program.specs.Past.{pastAll}
 use Rattle.program.specs.Program as means
-use Rattle.resolver.specs.Resolved.{Appends, Ends, ended, failed, Flags}
+use Rattle.resolver.specs.Resolved.{Appends, Ends, ended, failed}
 use Rattle.resolver.specs.declared.Built.{Built}
 use Rattle.resolver.specs.declared.Done.{Done}
-use Rattle.scanner.specs.Next.{Next, asWord}
+use Rattle.scanner.specs.Next.{Next}
 use Rattle.scanner.specs.declared.WordAt.{WordAt}
 use Rattle.symbols.specs.Rows.{held, givesOf, numberOf}
 use Rattle.syntax.specs.Written as written

@@ -1,11 +1,11 @@
 -- The rules one after the other, to the whole.
 use mathlib.Core.Bool.{Bool, true, false}
-use mathlib.Core.List.{List, [], _∷_, _++_}
+use mathlib.Core.List.{List, [], _∷_}
 use mathlib.Core.Path.{_≡_, refl, sym, ap, _∙_, subst}
-use Rattle.base.specs.Tree.{Actions, done}
-use Prim.Native.Nat.{ℕ, zero, suc, _+_, _-_, _%_, _<_, _≤_, min}
+use Rattle.base.specs.Tree.{done}
+use Prim.Native.Nat.{ℕ, zero, suc, _+_, _-_, _%_, _<_, _≤_}
 use lib.Dec.{eqb, ltb}
-use lib.ListN.{length, getD, set, drop}
+use lib.ListN.{length, getD, set}
 use lib.Seq.{getD-set-same, getD-set-other}
 use native.Mathlib.Omega.{arith}
 use native.Mathlib.Nat.{mod-eq-of-lt}
@@ -19,13 +19,13 @@ use Rattle.builder.specs.Rules.{sortOf, RulesEnd, built, faulty, RulesDo
 use Rattle.builder.specs.declared.Ruled.{Ruled}
 use Rattle.builder.specs.declared.Rules.{Rules}
 use Rattle.cells.specs.Cells.{actsCells, rulesCells, cellsStart}
-use Rattle.declarations.specs.Decls.{Agrees, Decl, declsOf, sectionsDecls}
-use Rattle.grammar.specs.Derived.{Not, RuleIn, RulesIn, last-rule, more-rules}
+use Rattle.declarations.specs.Decls.{Agrees}
+use Rattle.grammar.specs.Derived.{RulesIn, last-rule, more-rules}
 use Rattle.maker.specs.Pairs.{PairsAre}
 use Rattle.names.specs.Declare.{knownRules}
 use Rattle.names.specs.Known.{Checked, good, wrong, _>>=_, KnownRule, Names}
 use Rattle.names.specs.Understand.{ruleMeans, rulesMean}
-use Rattle.places.proofs.Heres.{kind-here, not-here}
+use Rattle.places.proofs.Heres.{kind-here}
 use Rattle.program.specs.Program as means
 use Rattle.program.specs.Program.{ruleOf}
 use Rattle.resolver.specs.Resolved.{Appends, Ends, ended, failed}

@@ -6,13 +6,13 @@ use mathlib.Core.Path.{_≡_}
 use Prim.Native.Nat.{ℕ, suc, _+_, _-_, _<_, _≤_}
 use lib.ListN.{length, take, drop}
 use Rattle.base.specs.Common.{member}
-use Rattle.base.specs.Tree.{Action, plain, cycle, choice, Otherwise, absent, otherwise}
+use Rattle.base.specs.Tree.{cycle, choice, otherwise}
 use Rattle.builder.specs.declared.Labelled.{Labelled}
 use Rattle.cells.specs.Cells.{actCells, actsCells, altsCells, otherCells}
 use Rattle.declarations.specs.Decls.{Agrees, Decl, knownsIn}
 use Rattle.grammar.specs.Derived.{Took, ActIn, ActsIn, AltsIn, LabelsIn, SelectorIn}
 use Rattle.maker.specs.Pairs.{PairsAre}
-use Rattle.names.specs.Known.{Checked, good, wrong, _>>=_, Known, KnownRule, Names}
+use Rattle.names.specs.Known.{Checked, good, _>>=_, Known, KnownRule, Names}
 use Rattle.names.specs.Resolve.{Place, actOf, actsOf, altsOf, otherOf, labelsOf}
 use Rattle.program.specs.Past.{past, pastAll, pastSome, pastOther, exits, exitsAll, exitsSome, exitsOther}
 use Rattle.program.specs.Program as means

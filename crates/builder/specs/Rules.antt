@@ -10,7 +10,7 @@ use Rattle.declarations.specs.Decls.{Agrees, declsOf, sectionsDecls}
 use Rattle.grammar.specs.Derived.{RulesIn}
 use Rattle.maker.specs.Pairs.{PairsAre}
 use Rattle.names.specs.Declare.{knownRules}
-use Rattle.names.specs.Known.{Checked, good, wrong, KnownRule, Names}
+use Rattle.names.specs.Known.{Checked, good, wrong, Names}
 use Rattle.names.specs.Understand.{rulesMean}
 use Rattle.program.specs.Program.{Rule, ruleOf}
 use Rattle.resolver.specs.Resolved.{Appends}

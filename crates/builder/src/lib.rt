@@ -3,7 +3,7 @@ ghost use mathlib.Core.Bool.{true, false, _&&_, _||_};
 ghost use mathlib.Core.List.{[], _∷_};
 ghost use mathlib.Core.Path.{_≡_};
 ghost use Prim.Native.Nat.{ℕ, _+_, _-_, _%_, _≤_, _<_};
-ghost use lib.ListN.{length, take, drop, getD, set};
+ghost use lib.ListN.{length, take, drop, set};
 ghost use Rattle.scanner.specs.Next.{Next};
 ghost use Rattle.resolver.specs.Resolved.{Appends};
 ghost use Rattle.symbols.specs.Index.{Kept};

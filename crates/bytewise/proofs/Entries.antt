@@ -1,33 +1,31 @@
 -- Demand 3 for the bytes that `sst_process` leaves in a lent buffer, and calls of `sst_whole` and `sst_paused` over them.
-use mathlib.Core.Bool.{Bool, true, false}
+use mathlib.Core.Bool.{Bool, true}
 use mathlib.Core.List.{List, [], _∷_, _++_, append-assoc}
 use mathlib.Core.Logic.{_⊎_, inl, inr}
 use mathlib.Core.Option.{Option, none, some}
-use mathlib.Core.Path.{_≡_, refl, sym, ap, _∙_}
-use Prim.Native.Nat.{ℕ, zero, suc, _+_, _*_, _-_, _/_, _%_, _<_, _≤_}
+use mathlib.Core.Path.{_≡_, sym, ap, _∙_}
+use Prim.Native.Nat.{ℕ, zero, suc, _+_, _*_, _-_, _<_, _≤_}
 use native.Mathlib.Omega.{arith}
-use lib.ListN.{length, take, drop, replicate, getD, getElem?}
+use lib.ListN.{length, take, drop, replicate, getD}
 use lib.Seq.{take-append-add}
 use Rattle.acceptance.proofs.Accepts.{accepted-table}
-use Rattle.acceptance.specs.Answers.{TableOf}
 use Rattle.agreement.proofs.Reports.{reports-last}
 use Rattle.agreement.proofs.Theorem.{agreement}
 use Rattle.agreement.specs.Reports.{Reports}
-use Rattle.agreement.specs.Demand.{eventsOf, Begins, wanted, Agrees, Suffices, HasStopped, WaitsPast, Finishes, Demand3, RulesStop, RulesWrite, Listed}
-use Rattle.events.specs.Events.{Event, Reason, Io}
+use Rattle.agreement.specs.Demand.{wanted, Agrees, Suffices, HasStopped, WaitsPast, RulesWrite}
+use Rattle.events.specs.Events.{Event, Reason}
 use Rattle.figure.specs.Told.{figureOf}
 use Rattle.firmware.proofs.Zero.{accepts-0}
 use Rattle.firmware.specs.Processing.{Numbers}
 use Rattle.machine.proofs.Bytes.{length-wordsOf, wordsOf-append}
 use Rattle.machine.specs.Bytes.{count, wordsOf, tableOf, bytesOf}
 use Rattle.machine.specs.Form.{walkOf, eventsWords}
-use Rattle.machine.specs.Walk.{Phase, going, waiting, stopped, Walk}
-use Rattle.ownwalk.specs.OwnWalk.{owns, ownStart}
-use Rattle.processor.specs.Process.{Answer, accepted, process, understood, meaning, lentWords, lentBytes}
+use Rattle.machine.specs.Walk.{stopped, Walk}
+use Rattle.processor.specs.Process.{Answer, accepted, process, lentWords, lentBytes}
 use Rattle.program.specs.Program.{Rule}
 use Rattle.bytewise.proofs.Joined.{eventsWords-then, choices-words, byte-calls}
 use Rattle.bytewise.specs.AtEntries.{RulesWriteWords, RulesStopWords, WaitsPastBytes, StoppedBytes, SufficesBytes, AgreesBytes, Leaves, AtEntries, Processed, Claimed}
-use Rattle.bytewise.specs.ByteCalls.{Slice, choicesIn, Waits, ByteCalls, Stands}
+use Rattle.bytewise.specs.ByteCalls.{Slice, choicesIn, ByteCalls, Stands}
 
 -- The lent bytes
 

@@ -1,6 +1,6 @@
 -- What the definitions say of single calls over bytes, computed.
 use mathlib.Core.Bool.{Bool, true, _&&_}
-use mathlib.Core.List.{List, [], _∷_, _++_}
+use mathlib.Core.List.{List, [], _∷_}
 use mathlib.Core.Option.{none, some}
 use mathlib.Core.Path.{refl}
 use Prim.Native.Nat.{ℕ}
@@ -16,7 +16,7 @@ use Rattle.machine.specs.Walk
 use Rattle.machine.specs.Step
 use Rattle.machine.specs.Call
 use Rattle.machine.specs.Form
-use Rattle.machine.specs.Call.{Mode, whole, paused}
+use Rattle.machine.specs.Call.{whole, paused}
 use Rattle.machine.specs.Form.{walkBytes, Outcome, callBytes}
 use Rattle.machine.specs.Walk.{fresh}
 use Rattle.screen.specs.Items

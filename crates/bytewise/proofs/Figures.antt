@@ -1,5 +1,5 @@
 -- The figure that `sst_process` tells is enough for every list of calls over the bytes that it left.
-use mathlib.Core.Bool.{Bool, true, false}
+use mathlib.Core.Bool.{true, false}
 use mathlib.Core.List.{List, _++_}
 use mathlib.Core.Option.{Option, none, some}
 use mathlib.Core.Path.{_≡_, refl, sym, ap, _∙_}
@@ -7,8 +7,6 @@ use Prim.Native.Nat.{ℕ, _+_, _*_, _<_}
 use native.Mathlib.Omega.{arith}
 use lib.ListN.{length}
 use Rattle.acceptance.proofs.Accepts.{accepted-table}
-use Rattle.acceptance.specs.Answers.{TableOf}
-use Rattle.agreement.specs.Demand.{Suffices}
 use Rattle.figure.proofs.Battery.{figure-enough}
 use Rattle.figure.specs.Count.{figure}
 use Rattle.figure.specs.Told.{Told, untold, told, toldIf, toldFor, figureOf}
@@ -20,8 +18,8 @@ use Rattle.processor.specs.Process.{Answer, accepted, refused, Understood, mean
 use Rattle.program.specs.Program.{Rule}
 use Rattle.program.specs.Table.{table}
 use Rattle.bytewise.proofs.Entries.{suffices-bytes, behind, begins, left-bytes}
-use Rattle.bytewise.specs.AtEntries.{Leaves, Processed}
-use Rattle.bytewise.specs.AtFigure.{EnoughSteps, FigureAtEntries}
+use Rattle.bytewise.specs.AtEntries.{Leaves}
+use Rattle.bytewise.specs.AtFigure.{FigureAtEntries}
 
 -- a figure is told of a text that is accepted with the verdict "finishing", and it is that of its rules
 record Measured (text : List ℕ) (room q : ℕ) : Type 0 where

@@ -1,6 +1,6 @@
 -- Rights over the operations as a caller from C meets them: for the very bytes that `sst_load_admitted` left in a lent buffer, and every list of calls of
 -- `sst_whole` and `sst_paused` over them.
-use mathlib.Core.Bool.{Bool, true, false, _&&_}
+use mathlib.Core.Bool.{Bool, true, _&&_}
 use mathlib.Core.List.{List, [], _∷_}
 use mathlib.Core.Path.{_≡_}
 use Prim.Native.Nat.{ℕ, _<_}

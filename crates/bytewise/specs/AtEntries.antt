@@ -1,10 +1,10 @@
 -- Demand 3 as a caller from C meets it: for the very bytes that `sst_process` left in a lent buffer, and every list of calls of `sst_whole` and
 -- `sst_paused` over them. The rules' own walk is compared with what the caller sees: the words in the event buffers, the numbers
 -- answered, and the parts of the walk that its bytes are (`walkOf`, which `sst_phase`, `sst_reason`, `sst_read`, `sst_used` and `sst_allowance` answer from).
-use mathlib.Core.Bool.{Bool, true, false}
+use mathlib.Core.Bool.{Bool, true}
 use mathlib.Core.List.{List, [], _∷_, _++_}
 use mathlib.Core.Logic.{_⊎_}
-use mathlib.Core.Option.{Option, none, some}
+use mathlib.Core.Option.{none, some}
 use mathlib.Core.Path.{_≡_}
 use Prim.Native.Nat.{ℕ, _-_, _<_}
 use lib.ListN.{length, getElem?}
@@ -16,7 +16,7 @@ use Rattle.finishing.specs.Finishing.{Finishing}
 use Rattle.firmware.specs.Processing.{Numbers, flagOf, numbersOf}
 use Rattle.machine.specs.Bytes.{count, wordsOf}
 use Rattle.machine.specs.Form.{walkOf, eventsWords}
-use Rattle.machine.specs.Walk.{waiting, stopped, Walk}
+use Rattle.machine.specs.Walk.{stopped, Walk}
 use Rattle.ownwalk.specs.OwnWalk.{owns, ownStart}
 use Rattle.processor.specs.Process.{accepted, process, understood, meaning, lentBytes}
 use Rattle.program.specs.Program.{Rule}

@@ -1,8 +1,8 @@
 -- "The firmware calls in from C with numbers and byte slices": a list of calls as `sst_whole` and `sst_paused` get them, over bytes alone,
 -- each getting the bytes of the walk that the last one gave back.
-use mathlib.Core.Bool.{Bool, true, false, _&&_}
+use mathlib.Core.Bool.{true, _&&_}
 use mathlib.Core.List.{List, [], _∷_, _++_}
-use mathlib.Core.Option.{Option, none, some}
+use mathlib.Core.Option.{none, some}
 use mathlib.Core.Path.{_≡_}
 use Prim.Native.Nat.{ℕ, _+_, _*_, _-_, _^_, _<_}
 use lib.Dec.{eqb, leb}

@@ -1,7 +1,7 @@
 -- Every text that was accepted while a percent sign cut a string is accepted with the same table and verdict.
 use mathlib.Core.Bool.{Bool, true, false}
 use mathlib.Core.List.{List}
-use mathlib.Core.Path.{_≡_, refl, sym, ap, _∙_}
+use mathlib.Core.Path.{_≡_, refl, ap, _∙_}
 use Prim.Native.Nat.{ℕ, _+_}
 use native.Mathlib.Omega.{arith}
 use lib.Dec.{ltb}
@@ -9,7 +9,7 @@ use lib.ListN.{length}
 use Rattle.base.specs.Common.{if_then_else_}
 use Rattle.cases.specs.Before.{parseBefore, processBefore}
 use Rattle.grammar.proofs.Spelt.{read-spelt}
-use Rattle.processor.specs.Process.{Answer, accepted, refused, readIn, understood, answerFor, process}
+use Rattle.processor.specs.Process.{accepted, readIn, understood, answerFor, process}
 use Rattle.syntax.specs.Parse.{program, endOf, parse}
 use Rattle.syntax.specs.Reading.{Read, got, fault}
 use Rattle.syntax.specs.Written.{Program}

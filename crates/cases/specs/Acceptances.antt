@@ -3,7 +3,7 @@ use mathlib.Core.Bool.{Bool, true, false, _&&_}
 use mathlib.Core.List.{List, [], _∷_}
 use Prim.Native.Nat.{ℕ}
 use Prim.Native.String.{String}
-use Rattle.base.specs.Common.{if_then_else_, bytes, same}
+use Rattle.base.specs.Common.{bytes, same}
 use Rattle.cases.specs.Cases.{_iff_}
 use Rattle.processor.specs.Process.{Answer, accepted, refused, process}
 

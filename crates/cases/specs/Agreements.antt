@@ -8,7 +8,7 @@ use Prim.Native.String.{String}
 use lib.Dec.{eqb}
 use lib.ListN.{length, take, replicate}
 use Rattle.base.specs.Common.{if_then_else_, bytes, same}
-use Rattle.events.specs.Events.{Event, reasonNumber}
+use Rattle.events.specs.Events.{reasonNumber}
 use Rattle.machine.specs.Bytes.{wordsOf, bytesOf}
 use Rattle.machine.specs.Call.{Mode, whole, paused, waits}
 use Rattle.machine.specs.Form.{Outcome, walkOf, walkBytes, callBytes, eventsWords}

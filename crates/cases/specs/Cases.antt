@@ -8,10 +8,10 @@ use Prim.Native.Nat.{ℕ, _*_, _-_}
 use Prim.Native.String.{String}
 use lib.Dec.{eqb}
 use lib.ListN.{length, replicate}
-use Rattle.base.specs.Common.{if_then_else_, bytes, same}
+use Rattle.base.specs.Common.{bytes, same}
 use Rattle.machine.specs.Bytes.{bytesOf}
 use Rattle.machine.specs.Call.{whole}
-use Rattle.machine.specs.Form.{Outcome, walkOf, walkBytes, callBytes}
+use Rattle.machine.specs.Form.{walkOf, walkBytes, callBytes}
 use Rattle.machine.specs.Walk.{Walk, fresh}
 use Rattle.processor.specs.Process.{Answer, accepted, refused, process, lentBytes}
 

@@ -1,10 +1,10 @@
 -- Two exits in a cycle, by computing: their chain while the cycle is open, and their distances afterwards.
 use Prim.Native.Nat.{ℕ, _-_}
 use mathlib.Core.Path.{_≡_, refl}
-use mathlib.Core.List.{List, [], _∷_}
+use mathlib.Core.List.{[], _∷_}
 use native.Mathlib.Omega.{arith}
 use Rattle.base.specs.Tree.{plain, cycle, done, _▸_}
-use Rattle.program.specs.Program.{exit, any, call, Act, Acts}
+use Rattle.program.specs.Program.{exit, any, call, Acts}
 use Rattle.program.specs.Table as tables
 use Rattle.chains.specs.Marks.{outside, rule, known, waiting, waits, number, filled, plainMarks, marks, marksAll, solved}
 use Rattle.chains.specs.Chain.{Chain, places, patched}

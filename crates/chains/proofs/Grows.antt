@@ -1,17 +1,16 @@
 -- How words grow, one part behind another, and how a target becomes known. Assumes nothing.
-use Prim.Native.Nat.{ℕ, zero, suc, _+_, _*_, _-_, _<_, _≤_}
+use Prim.Native.Nat.{ℕ, _+_, _-_, _<_, _≤_}
 use mathlib.Core.Path.{_≡_, refl, sym, ap, _∙_, subst}
 use mathlib.Core.Bool.{Bool, true, false, cond}
 use mathlib.Core.Logic.{_⊎_, inl, inr}
 use mathlib.Core.List.{List, [], _∷_, _++_, append-assoc, append-nil}
 use native.Mathlib.Omega.{arith}
-use lib.ListN.{length, getD, set, length-append, List·getD-append}
-use lib.Seq.{getD-append-add, getD-set-same, getD-set-other}
+use lib.ListN.{length, getD, length-append, List·getD-append}
+use lib.Seq.{getD-append-add}
 use lib.Dec.{eqb, ltb}
-use borrow.Author.Tests.{eqb-true, eqb-false, eq-eqb, ne-eqb, ltb-true, ltb-false}
-use Rattle.chains.specs.Marks.{Target, outside, end, head, table, rule, Mark, known, waiting, waits, number, knowns, filled, close, shut}
+use Rattle.chains.specs.Marks.{Target, outside, end, head, table, rule, Mark, known, waiting, waits, number, knowns, filled, close}
 use Rattle.chains.specs.Chain.{Chain, places, patched, At, at-here, at-there, newest, Waiting, Fixed, fixed-known, fixed-call, Grown, placed}
-use Rattle.chains.proofs.Lists.{waits-eq, waits-self, waits-ne, ne-waits, at-in, at-same, at-split, Behind, places-append, Same, chain-same, same-before, same-append, same-places, length-patched, patched-low, patched-at, patched-kept, length-filled, FilledAt, as-was, now-known, at-filled, places-filled, places-filled-other, length-knowns, places-knowns, at-knowns}
+use Rattle.chains.proofs.Lists.{waits-eq, waits-ne, ne-waits, at-in, at-split, Behind, places-append, chain-same, same-before, same-append, same-places, length-patched, patched-low, patched-at, patched-kept, length-filled, FilledAt, as-was, now-known, at-filled, places-filled, places-filled-other, length-knowns, places-knowns, at-knowns}
 
 fixed-on : {slots more : List ℕ} {m : Mark} {w : ℕ} → ((r : ℕ) → placed ≤ getD slots r 0 → getD more r 0 ≡ getD slots r 0) → Fixed slots m w → Fixed more m w
 fixed-on f fixed-known = fixed-known

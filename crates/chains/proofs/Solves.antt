@@ -1,18 +1,18 @@
 -- The marks of a program, solved, are its table. Assumes nothing.
-use Prim.Native.Nat.{ℕ, zero, suc, _+_, _*_, _-_, _<_, _≤_}
-use mathlib.Core.Path.{_≡_, refl, sym, ap, _∙_, subst}
-use mathlib.Core.Bool.{Bool, true, false, cond}
-use mathlib.Core.List.{List, [], _∷_, _++_, append-assoc, append-nil}
+use Prim.Native.Nat.{ℕ, suc, _+_, _*_, _-_, _<_}
+use mathlib.Core.Path.{_≡_, refl, ap, _∙_}
+use mathlib.Core.Bool.{Bool, true, cond}
+use mathlib.Core.List.{List, [], _∷_, _++_, append-assoc}
 use native.Mathlib.Omega.{arith}
 use lib.ListN.{length, getD, length-append}
 use borrow.Author.Tests.{ne-eqb}
 use Rattle.base.specs.Tree.{plain, cycle, choice, done, _▸_, nil, alternative, absent, otherwise}
 use Rattle.program.specs.Program.{Plain, match, any, emit, error, exit, call, back, give, update, updateWith, Selector, byToken, byRule, byOperation, byOperationWith, Act, Acts, Alts, Other, Rule}
-use Rattle.program.specs.Table.{sizePlain, sizeSelector, sizeAbsent, countLabels, size, sizes, sizeAlts, sizeOther, labelWords, tableWords, firstLabel, absentWords, choiceNumber, selectorWords, plainWords, code, codes, codeAlts, codeOther, endWords, sizeRule, sizeRules, rulesWords}
+use Rattle.program.specs.Table.{sizePlain, sizeSelector, sizeAbsent, countLabels, size, sizes, sizeAlts, sizeOther, tableWords, firstLabel, absentWords, choiceNumber, selectorWords, plainWords, code, codes, codeAlts, codeOther, endWords, sizeRule, sizeRules, rulesWords}
 use Rattle.program.proofs.Lengths.{length-tableWords, length-absent}
-use Rattle.chains.specs.Marks.{Target, outside, end, head, table, rule, Mark, known, waiting, waits, number, knowns, filled, close, shut, plainMarks, selectorMarks, marks, marksAll, marksAlts, marksOther, marksRule, marksRules, solved}
+use Rattle.chains.specs.Marks.{outside, end, head, table, rule, Mark, known, waiting, waits, number, knowns, filled, close, shut, plainMarks, selectorMarks, marks, marksAll, marksAlts, marksOther, marksRule, marksRules, solved}
 use Rattle.chains.specs.Chain.{At, at-here, at-there}
-use Rattle.chains.proofs.Lists.{waits-eq, length-filled, length-knowns, at-left, at-right, at-filled, FilledAt, as-was, now-known, at-split}
+use Rattle.chains.proofs.Lists.{length-filled, length-knowns}
 
 -- as many words as the sizes say
 pub length-plainMarks : (p : Plain) → length (plainMarks p) ≡ sizePlain p

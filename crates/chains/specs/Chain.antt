@@ -1,7 +1,7 @@
 -- "let the incomplete jump words hold the chain until the target is known: while the table fits, it runs through exactly a target's open jumps, and beside
 -- it only the newest is kept". Words are counted from 0; no jump's word is the table's first, so 0 ends a chain.
 use mathlib.Core.Path.{_≡_}
-use mathlib.Core.Bool.{Bool, true, false, cond}
+use mathlib.Core.Bool.{true, cond}
 use mathlib.Core.List.{List, [], _∷_, _++_}
 use Prim.Native.Nat.{ℕ, _+_, _-_, _<_, _≤_}
 use lib.Dec.{eqb}

@@ -7,7 +7,7 @@ use native.Mathlib.Numerals.{add-one}
 use native.Mathlib.Omega.{arith}
 use lib.ListN.{length, getD, set, length-set, length-append}
 use lib.Seq.{getD-set-same, getD-set-other}
-use Rattle.collector.specs.Collecting.{setTwo, setWords, setRow, declIn, Room, Appends, Puts}
+use Rattle.collector.specs.Collecting.{setTwo, setWords, setRow, declIn, Appends, Puts}
 use Rattle.collector.specs.declared.Row.{Row}
 use Rattle.declarations.specs.Decls.{Decl}
 use Rattle.symbols.specs.Rows.{declAt, held, heldFrom}

@@ -2,10 +2,10 @@
 use mathlib.Core.Bool.{Bool, true, false, not}
 use mathlib.Core.List.{List, [], _∷_, _++_}
 use mathlib.Core.Path.{_≡_, refl, sym, ap, subst, _∙_}
-use Prim.Native.Nat.{ℕ, suc, _+_, _≤_, max}
+use Prim.Native.Nat.{ℕ, _+_, _≤_, max}
 use native.Mathlib.Omega.{arith}
 use lib.Dec.{T, eqb}
-use lib.ListN.{length, length-append}
+use lib.ListN.{length}
 use Rattle.collector.proofs.Standing.{entries-at}
 use Rattle.collector.proofs.Laws.{appended, decl-is}
 use Rattle.collector.proofs.Rows.{appends-none, appends-then}
@@ -19,7 +19,7 @@ use Rattle.collector.specs.declared.Sectioned.{Sectioned}
 use Rattle.collector.specs.declared.Spot.{Spot}
 use Rattle.collector.specs.declared.State.{State}
 use Rattle.declarations.proofs.Whole.{length-section, length-sections}
-use Rattle.declarations.specs.Decls.{Decl, declsOf, entriesOf, entryDecls, ofOperators, ofType, placeOf, operationDecls, ruleDecls, sectionDecls, sectionsDecls}
+use Rattle.declarations.specs.Decls.{Decl, declsOf, entriesOf, ofOperators, ofType, placeOf, ruleDecls, sectionDecls, sectionsDecls}
 use Rattle.grammar.specs.Derived.{Took, ListedIn, OperationsIn, OperatorsIn, an-operator, last-operator, more-operators, SectionIn, inputs-in, both-in, outputs-in, errors-in, values-in, operations-in, operators-in, SectionsIn, no-section, more-sections, RulesIn, ProgramIn, a-program, namesIn, namesInAll}
 use Rattle.reader.proofs.Laws.{apart}
 use Rattle.reader.proofs.SectionLaws.{kinds-then, next-max}
@@ -27,7 +27,7 @@ use Rattle.reader.specs.Answers.{Here}
 use Rattle.scanner.specs.declared.WordAt.{WordAt}
 use Rattle.symbols.specs.Rows.{held, heldFrom, secondKind}
 use Rattle.syntax.specs.Sections.{Sofar, after, instructions, nothing, ofKind}
-use Rattle.syntax.specs.Written.{Entry, Operation, Operator, Section, inputs, outputs, both, errors, values, operations, operators, Rule, Program}
+use Rattle.syntax.specs.Written.{Entry, Operation, Operator, Section, inputs, outputs, both, errors, values, operations, operators, Program}
 use Rattle.words.specs.Words.{Word, wordsAt}
 
 -- Sections of entries

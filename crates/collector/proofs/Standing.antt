@@ -8,7 +8,6 @@ use lib.Dec.{eqb}
 use lib.ListN.{length}
 use borrow.Author.Tests.{eq-eqb, ne-eqb, eqb-true}
 use Rattle.base.specs.Bools.{never}
-use Rattle.base.specs.Common.{if_then_else_}
 use Rattle.collector.specs.Collecting.{AllStand, all-none, all-more, Stands}
 use Rattle.declarations.proofs.Whole.{length-section}
 use Rattle.declarations.specs.Decls.{Decl, declOf, entryDecls, operationDecls, ofOperators, ofType, sectionDecls, sectionsDecls, ruleDecls, entriesOr, entriesFrom, EntriesAt}

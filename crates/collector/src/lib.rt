@@ -1,11 +1,10 @@
 // The second pass over a text that the syntax pass has accepted: its declarations into rows of numbers. Nothing is checked here; on any other text
 // each function ends and keeps inside its buffers.
 ghost use mathlib.Core.Path.{_≡_};
-ghost use Prim.Native.Nat.{_+_, _-_, _*_, _≤_, _<_, max};
-ghost use lib.ListN.{length, take, drop};
+ghost use Prim.Native.Nat.{_+_, _-_, _≤_, _<_};
+ghost use lib.ListN.{length};
 ghost use Rattle.grammar.specs.Derived.{SpellingIn, GivesIn, TakesIn, EntriesIn, ListedIn, SectionIn};
-ghost use Rattle.reader.specs.Answers.{Here};
-ghost use Rattle.reader.specs.Counting.{NumberOf, countOf, oneMore};
+ghost use Rattle.reader.specs.Counting.{countOf, oneMore};
 ghost use Rattle.syntax.specs.Sections.{firstOf};
 ghost use Rattle.words.specs.Words.{wordsAt};
 ghost use Rattle.collector.specs.Collecting.{Small, setTwo, setWords, Puts, IsWord, IsNone, Reads, Counts, AHead, AnEntry, SomeEntries, AnOperation, SomeOperations, TokensIn, InputsIn, BothIn, OutputsIn, ErrorsIn, TypeIn, MechanismIn, OperatorsSectionIn, ASection, SomeSections, Skips, ARule, SomeRules, Collects};

@@ -3,7 +3,7 @@ use mathlib.Core.Bool.{Bool, true, false, _&&_, and-true}
 use mathlib.Core.List.{List, [], _∷_, _++_, append-nil}
 use mathlib.Core.Path.{_≡_, refl, sym, ap, _∙_}
 use Prim.Native.Nat.{ℕ, zero, suc, _+_, _*_, _-_, _/_, _%_, _^_, _<_, _≤_}
-use native.Mathlib.Nat.{pow-suc, add-zero}
+use native.Mathlib.Nat.{pow-suc}
 use native.Mathlib.Numerals.{add-one}
 use native.Mathlib.Omega.{arith}
 use lib.Count.{ones}
@@ -20,10 +20,10 @@ use Rattle.counting.specs.Counting.{numbersOf}
 use Rattle.figures.proofs.Bits.{getD-bits}
 use Rattle.figures.proofs.Form.{length-numberWords, length-bits}
 use Rattle.figures.specs.Figures.{Figures, sum, covered, flag, packed, bitsOf, sound}
-use Rattle.figures.specs.Form.{numberWords, numberAt}
+use Rattle.figures.specs.Form.{numberWords}
 use Rattle.machine.proofs.Bytes.{length-bytesOf}
-use Rattle.machine.specs.Bytes.{count, wordsOf, wordAt, bytesOf, over}
-use Rattle.machine.specs.Form.{words64, number64}
+use Rattle.machine.specs.Bytes.{bytesOf, over}
+use Rattle.machine.specs.Form.{words64}
 
 -- The bits of 64 counts, from the last
 

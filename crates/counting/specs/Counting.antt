@@ -1,11 +1,10 @@
 -- A book's call in the order of the code, over the walker's definitions: what it gives, and the locations of its steps.
 use mathlib.Core.Bool.{Bool, false}
 use mathlib.Core.List.{List, [], _∷_, _++_}
-use Prim.Native.Nat.{ℕ, zero, suc, _+_, _*_, _-_, _/_, _%_, _<_, _≤_}
+use Prim.Native.Nat.{ℕ, zero, suc, _+_, _*_, _-_, _<_, _≤_}
 use lib.Dec.{leb, ltb}
 use lib.ListN.{set, replicate}
 use Rattle.base.specs.Common.{if_then_else_}
-use Rattle.buffers.specs.Words.{putWord}
 use Rattle.figures.specs.Figures.{bitsOf}
 use Rattle.figures.specs.Form as form
 use Rattle.counting.specs.declared.Report.{Report}

@@ -17,7 +17,7 @@ use Rattle.declarations.proofs.Whole.{high, Apart, values-apart, Valued
 use Rattle.declarations.specs.Agreement.{Declares, declared-wrong, declared-good}
 use Rattle.declarations.specs.Decls.{Decl, ofEntry, ofType, ofOperation, ofOperators, ofRule, entryDecls, operationDecls, sectionDecls, sectionsDecls, ruleDecls, declsOf, entriesOr, entriesFrom, entriesOf, feeds, knownsOf, knownsIn, indexOf, declaredIn, declOf, typeClass, classNamed, membersOf, operationFrom, valueIn, operatorFrom, operatorsFrom, mapped, Agrees, repeatsIn, clashesIn, entryAgain, elsewhereIn, lookupIn, typeIn, optionalIn, operationFault, operatorIn, operatorsIn, operatorsFault, declFault, declFaults}
 use Rattle.names.specs.Declare.{knowns, repeats, clashes, declareAll, declareBoth, withOperations, declareOperations, inputsOf, outputsOf, otherSide, listed, operatorOf, operatorsOf, declareSection, declareSections, knownRules}
-use Rattle.names.specs.Known.{Checked, good, wrong, _>>=_, faultIf, Known, KnownOperation, Names, find, findType, findOperation, findOperators, declared, isType, lookup, lookupType, optionalType}
+use Rattle.names.specs.Known.{Checked, good, wrong, _>>=_, faultIf, Known, KnownOperation, Names, find, findType, findOperation, findOperators, declared, isType, lookupType, optionalType}
 use Rattle.names.specs.Understand.{nobody}
 use Rattle.program.specs.Made as made
 use Rattle.program.specs.Made.{levelsOf}

@@ -7,7 +7,7 @@ use Prim.Native.Nat.{ℕ, _+_}
 use Rattle.base.specs.Common.{given}
 use Rattle.declarations.proofs.Lookups.{found, found-names, found-row, looked-up}
 use Rattle.declarations.specs.Decls.{Decl, knownsIn, indexOf, declaredIn, typeClass, classNamed, mapped, Agrees, elsewhereIn, lookupIn, typeIn, optionalIn}
-use Rattle.names.specs.Known.{Checked, good, wrong, _>>=_, Known, KnownRule, Names, find, findType, declared, isType, elsewhere, lookup, lookupType, optionalType}
+use Rattle.names.specs.Known.{Checked, good, wrong, _>>=_, Known, KnownRule, Names, findType, declared, isType, elsewhere, lookup, lookupType, optionalType}
 use Rattle.names.specs.Resolve as resolve
 use Rattle.syntax.specs.Written.{Program}
 use Rattle.words.specs.Words.{Word}

@@ -1,5 +1,5 @@
 -- A program's row as a whole: what is declared in it, its types, its rules and its length; which classes a part of it does not feed.
-use mathlib.Core.Bool.{Bool, true, false, _&&_, _||_, not, or-false, and-false}
+use mathlib.Core.Bool.{Bool, true, false, _&&_, _||_, or-false, and-false}
 use mathlib.Core.List.{List, [], _∷_, _++_, append-nil, append-assoc}
 use mathlib.Core.Option.{Option, none, some}
 use mathlib.Core.Path.{_≡_, refl, sym, ap, _∙_}
@@ -11,7 +11,7 @@ use borrow.Author.Tests.{ne-eqb}
 use native.Mathlib.Nat.{zero-add}
 use native.Mathlib.Omega.{arith}
 use Rattle.base.specs.Common.{if_then_else_, same, given}
-use Rattle.declarations.proofs.Rows.{first, first-none, given-first, knowns-append, index-append, declared-append, decl-here}
+use Rattle.declarations.proofs.Rows.{first-none, given-first, knowns-append, index-append, declared-append, decl-here}
 use Rattle.declarations.specs.Decls.{Decl, ofEntry, ofType, ofOperation, ofOperators, ofRule, entryDecls, operationDecls, sectionDecls, sectionsDecls, ruleDecls, declsOf, feeds, knownsOf, knownsIn, indexOf, declaredIn, declOf, ruleFrom, mapped}
 use Rattle.grammar.specs.Derived.{namesIn, namesInAll, ProgramIn, a-program}
 use Rattle.names.specs.Declare.{knowns, allKnowns, inputsOf, outputsOf, knownRules}

@@ -10,7 +10,7 @@ use native.Mathlib.Omega.{arith}
 use lib.ListN.{length, getD}
 use borrow.Author.Tests.{ne-eqb, eq-eqb}
 use Rattle.base.specs.Common.{if_then_else_, given}
-use Rattle.declarations.specs.Decls.{Decl, declOf, EntriesAt, indexOf, elsewhereIn, typeIn, optionalIn, entryAgain, repeatsIn, operationFault, operatorsFault, declFault, declFaults}
+use Rattle.declarations.specs.Decls.{Decl, EntriesAt, indexOf, elsewhereIn, typeIn, optionalIn, entryAgain, repeatsIn, operationFault, operatorsFault, declFault, declFaults}
 use Rattle.declarer.specs.Faults.{Faults, clean, faulty, inputAgain, bothAgain, operationAgain, typesIn}
 use Rattle.grammar.specs.Derived.{OperatorsIn}
 use Rattle.names.specs.Known.{Checked, good, wrong, _>>=_, faultIf}

@@ -9,7 +9,7 @@ use lib.ListN.{length, take}
 use Rattle.declarations.specs.Decls.{Decl, knownsIn, declaredIn, lookupIn}
 use Rattle.grammar.specs.Derived.{OperatorsIn}
 use Rattle.names.specs.Declare.{differ}
-use Rattle.names.specs.Known.{Checked, good, wrong, _>>=_, faultIf, find}
+use Rattle.names.specs.Known.{Checked, good, _>>=_, faultIf, find}
 use Rattle.syntax.specs.Written.{Operator}
 use Rattle.words.specs.Words.{Word, wordsAt}
 

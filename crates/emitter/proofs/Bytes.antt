@@ -1,15 +1,15 @@
 -- The words of a buffer as bytes. Assumes nothing.
 use Prim.Native.Nat.{ℕ, zero, suc, _+_, _*_, _-_, _/_, _%_, _<_, _≤_}
-use mathlib.Core.Path.{_≡_, refl, sym, ap, _∙_, subst}
+use mathlib.Core.Path.{_≡_, refl, sym, ap, _∙_}
 use mathlib.Core.List.{List, [], _∷_, _++_, append-assoc}
 use native.Mathlib.Omega.{arith}
 use native.Mathlib.Numerals.{add-one}
-use lib.ListN.{length, getD, set, take, drop, replicate, length-replicate, length-append}
+use lib.ListN.{length, set, take, drop, replicate, length-replicate, length-append}
 use lib.Seq.{sets, sets-eq}
 use Rattle.machine.proofs.Bytes.{length-bytesOf}
 use Rattle.machine.specs.Bytes.{bytesOf}
 use Rattle.emitter.specs.Words.{words, setWord, puts}
-use Rattle.emitter.proofs.Laws.{puts-append, puts-then, set-in, length-setWord}
+use Rattle.emitter.proofs.Laws.{puts-append, set-in, length-setWord}
 
 pub puts-sets : (s : List ℕ) (i : ℕ) (ws : List ℕ) → i + length ws ≤ words s → puts s i ws ≡ sets s (2 * i) (bytesOf ws)
 unfolding puts bytesOf

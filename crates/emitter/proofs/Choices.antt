@@ -1,37 +1,37 @@
 -- Choices: alternatives, the choice table, otherwise. Assumes nothing.
-use Prim.Native.Nat.{ℕ, zero, suc, _+_, _*_, _-_, _<_, _≤_, min}
+use Prim.Native.Nat.{ℕ, zero, _+_, _*_, _-_, _<_, _≤_, min}
 use mathlib.Core.Path.{_≡_, refl, sym, ap, _∙_, subst}
-use mathlib.Core.Bool.{Bool, true, false, cond}
+use mathlib.Core.Bool.{Bool, true, cond}
 use mathlib.Core.List.{List, [], _∷_, _++_, append-assoc, append-nil}
 use native.Mathlib.Omega.{arith}
 use lib.ListN.{length, getD, length-append}
 use lib.Seq.{getD-append-add, getD-set-other}
 use lib.Dec.{eqb, ltb}
-use borrow.Author.Tests.{eq-eqb, ne-eqb, lt-ltb, le-ltb}
-use Rattle.base.specs.Tree.{plain, cycle, choice, done, _▸_, nil, alternative, absent, otherwise}
-use Rattle.program.specs.Program.{Plain, match, any, emit, error, exit, call, back, give, update, updateWith, Selector, byToken, byRule, byOperation, byOperationWith, Act, Acts, Alts, Other, Rule}
+use borrow.Author.Tests.{ne-eqb, lt-ltb, le-ltb}
+use Rattle.base.specs.Tree.{choice, absent, otherwise}
+use Rattle.program.specs.Program.{Plain, emit, exit, call, Selector, byToken, byRule, byOperation, byOperationWith, Act, Acts, Alts, Other}
 use Rattle.program.specs.Table.{sizeAbsent, countLabels, sizeAlts, tableWords, firstOf, firstLabel, absentWords, choiceNumber, selectorWords}
 use Rattle.program.specs.Accepted.{NeedsLabel, Labelled}
 use Rattle.program.proofs.Lengths.{length-tableWords, length-selector}
 use Rattle.cells.specs.Cells.{absentCell}
 use Rattle.chains.specs.Marks.{Target, outside, end, head, table, rule, Mark, known, waiting, waits, number, knowns, filled, close, shut, selectorMarks, marks, marksAll, marksAlts, marksOther}
-use Rattle.chains.specs.Chain.{Chain, places, patched, Waiting, Grown, placed, At, at-here, at-there}
-use Rattle.chains.proofs.Lists.{at-in, places-append, places-none, places-knowns, places-filled-other, filled-none, shut-append, shut-knowns, length-filled, length-knowns, length-patched, patched-low}
+use Rattle.chains.specs.Chain.{Chain, places, patched, Waiting, Grown, At}
+use Rattle.chains.proofs.Lists.{at-in, places-append, places-none, places-knowns, places-filled-other, filled-none, shut-append, length-filled, length-knowns, length-patched}
 use Rattle.chains.proofs.Grows.{grown-none, grown-join, grown-known, grown-loose, grown-fill, chain-fill, chain-grown, chain-append}
-use Rattle.chains.proofs.Solves.{length-selectorMarks, length-marksAlts, length-marksAll}
-use Rattle.emitter.specs.Words.{words, setWord, puts, cut}
+use Rattle.chains.proofs.Solves.{length-selectorMarks, length-marksAlts}
+use Rattle.emitter.specs.Words.{words, puts, cut}
 use Rattle.emitter.specs.Stands.{IsSel, sel-token, sel-rule, sel-op, sel-opWith, Labels, lab-none, lab-more, IsPlain, is-match, is-any, is-emit, is-error, is-exit, is-call, is-back, is-give, is-update, is-updateWith, Is, is-plain, is-cycle, is-choice, IsAlts, is-nil, is-alt, IsOther, is-stop, is-other, IsAll}
 use Rattle.emitter.specs.Heads.{labelsAt, chooses, insOf, selOf, firsts, wordsIn, startOf, selAt, calledAt, anchor, behind}
 use Rattle.emitter.specs.Ends.{Entry, entries, Ends, heads, ends, rowLength, rowWords}
-use Rattle.emitter.specs.Work.{ItemDone, PatchDone, Extended, Emitted, Done, ListDone, ActDone, TableDone, AltsExtended, AltsEmitted, Rowed, AltsDone, OtherDone, AbsentDone}
+use Rattle.emitter.specs.Work.{ItemDone, PatchDone, Extended, Emitted, Done, ListDone, ActDone, TableDone, AltsExtended, AltsEmitted, AltsDone, OtherDone, AbsentDone}
 use Rattle.emitter.specs.declared.Item.{Item}
 use Rattle.emitter.specs.declared.Row.{Row}
 use Rattle.emitter.proofs.Laws.{cut-small, few-sel, puts-then}
-use Rattle.emitter.proofs.Leave.{sel-in, alts-in, other-in, all-in, AltCons, alt-of, nil-of}
+use Rattle.emitter.proofs.Leave.{sel-in, other-in, alt-of, nil-of}
 use Rattle.emitter.proofs.Rows.{row-append}
 use Rattle.emitter.proofs.Tables.{ends-low, ends-chain, ends-below, row-length, row-table, heads-places, ends-places}
 use Rattle.emitter.proofs.Emits.{emitted-join, emitted-known, emitted-call, not-called, is-called}
-use Rattle.emitter.proofs.Waits.{Only, Allowed, for-exit, for-call, Within, for-end, for-head, for-more, alts-only, other-only, alts-closed, other-closed}
+use Rattle.emitter.proofs.Waits.{for-exit, for-call, Within, for-end, for-head, for-more, alts-only, alts-closed, other-closed}
 
 -- otherwise by its cell
 pub record OtherBody (cs : List ℕ) (n p e : ℕ) (o : Other) : Type 0 where

@@ -1,5 +1,5 @@
 -- Emission over the cells: what stands where, and how the words grow. Assumes nothing.
-use Prim.Native.Nat.{ℕ, zero, suc, _+_, _*_, _-_, _%_, _<_, _≤_, min}
+use Prim.Native.Nat.{ℕ, zero, _+_, _-_, _<_, _≤_, min}
 use mathlib.Core.Path.{_≡_, refl, sym, ap, _∙_, subst}
 use mathlib.Core.Bool.{Bool, true, false, cond}
 use mathlib.Core.List.{List, [], _∷_, _++_, append-assoc, append-nil}
@@ -8,22 +8,22 @@ use lib.ListN.{length, getD, set, length-set, length-append}
 use lib.Seq.{getD-set-same, getD-set-other}
 use lib.Dec.{eqb, ltb}
 use borrow.Author.Tests.{eq-eqb, ne-eqb, lt-ltb, le-ltb, ltb-true, ltb-false, eqb-true, eqb-false}
-use Rattle.base.specs.Tree.{plain, cycle, choice, done, _▸_, nil, alternative, absent, otherwise}
-use Rattle.program.specs.Program.{Plain, match, any, emit, error, exit, call, back, give, update, updateWith, Selector, byToken, byRule, byOperation, byOperationWith, Act, Acts, Alts, Other, Rule}
+use Rattle.base.specs.Tree.{plain, cycle, choice, done, _▸_, otherwise}
+use Rattle.program.specs.Program.{Plain, emit, exit, call, Selector, byToken, Act, Acts}
 use Rattle.program.specs.Table.{sizes, plainWords}
 use Rattle.program.proofs.Lengths.{length-plain}
-use Rattle.chains.specs.Marks.{Target, outside, end, head, table, rule, Mark, known, waiting, number, knowns, filled, close, plainMarks, marks, marksAll}
+use Rattle.chains.specs.Marks.{Target, outside, end, head, table, rule, Mark, known, waiting, knowns, close, plainMarks, marks, marksAll}
 use Rattle.chains.specs.Chain.{Chain, places, patched, newest, Waiting, Fixed, fixed-call, Grown, placed}
 use Rattle.chains.proofs.Lists.{length-knowns, length-filled, at-in}
 use Rattle.chains.proofs.Grows.{chain-low, grown-none, grown-join, grown-known, grown-open, grown-placed, grown-close}
 use Rattle.chains.proofs.Solves.{length-marksAll, length-plainMarks}
-use Rattle.emitter.specs.Words.{words, setWord, puts, cut}
+use Rattle.emitter.specs.Words.{words, puts, cut}
 use Rattle.emitter.specs.Stands.{IsSel, sel-token, sel-rule, sel-op, sel-opWith, IsPlain, is-match, is-any, is-emit, is-error, is-exit, is-call, is-back, is-give, is-update, is-updateWith, Is, is-plain, is-cycle, is-choice, IsAll, is-done, is-cons}
 use Rattle.emitter.specs.Heads.{chooses, plainOf, firsts, wordsIn, startOf, plainAt, called, calledAt, anchor}
-use Rattle.emitter.specs.Work.{ItemDone, PatchDone, Extended, Emitted, Done, ListDone, ActDone, CycleDone}
+use Rattle.emitter.specs.Work.{ItemDone, PatchDone, Emitted, Done, ListDone, ActDone, CycleDone}
 use Rattle.emitter.specs.declared.Item.{Item}
 use Rattle.emitter.proofs.Laws.{cut-small, few}
-use Rattle.emitter.proofs.Leave.{plain-in, is-in, all-in}
+use Rattle.emitter.proofs.Leave.{plain-in, all-in}
 use Rattle.emitter.proofs.Rows.{row-append}
 
 -- a choice by its first cell

@@ -1,16 +1,14 @@
 -- The choice table's entries of one alternative. Assumes nothing.
-use Prim.Native.Nat.{ℕ, zero, suc, _+_, _*_, _-_, _<_, _≤_}
-use mathlib.Core.Path.{_≡_, refl, sym, ap, _∙_, subst}
-use mathlib.Core.List.{List, [], _∷_, _++_}
+use Prim.Native.Nat.{ℕ, zero, _+_, _*_, _-_, _<_}
+use mathlib.Core.Path.{_≡_, refl, sym, ap, _∙_}
+use mathlib.Core.List.{List, [], _∷_}
 use native.Mathlib.Omega.{arith}
 use lib.ListN.{length, getD}
-use Rattle.base.specs.Tree.{nil, alternative}
-use Rattle.program.specs.Program.{Selector, Acts, Alts, Other}
-use Rattle.program.specs.Table.{sizes, sizeAlts, countLabels, labelWords, tableWords}
+use Rattle.program.specs.Table.{labelWords}
 use Rattle.emitter.specs.Words.{puts, cut}
-use Rattle.emitter.specs.Stands.{IsAll, IsAlts, IsOther, Labels, lab-none, lab-more}
+use Rattle.emitter.specs.Stands.{Labels, lab-none, lab-more}
 use Rattle.emitter.specs.Work.{LabelsDone}
-use Rattle.emitter.proofs.Laws.{puts-append, puts-then, cut-small}
+use Rattle.emitter.proofs.Laws.{puts-then, cut-small}
 
 pub record LabelsRest (cs : List ℕ) (d from : ℕ) (ls : List ℕ) (k : ℕ) (old : List ℕ) (at q l left : ℕ) (out : List ℕ) : Type 0 where
   pub rest : List ℕ

@@ -1,23 +1,19 @@
 -- Laws of the definitions of specs/. Assumes nothing.
 use Prim.Native.Nat.{ℕ, zero, suc, _+_, _*_, _-_, _/_, _%_, _<_, _≤_}
-use mathlib.Core.Path.{_≡_, refl, sym, ap, _∙_, subst}
+use mathlib.Core.Path.{_≡_, refl, sym, ap, _∙_}
 use mathlib.Core.Bool.{Bool, true, false, cond}
 use mathlib.Core.List.{List, [], _∷_, _++_}
 use native.Mathlib.Omega.{arith}
 use native.Mathlib.Nat.{add-zero, mod-eq-of-lt}
-use lib.ListN.{length, getD, set, length-set, length-append}
+use lib.ListN.{length, getD, set, length-set}
 use lib.Dec.{eqb, ltb}
 use borrow.Author.Tests.{eq-eqb, ne-eqb, lt-ltb, le-ltb}
-use Rattle.base.specs.Tree.{plain, cycle, choice, done, _▸_, nil, alternative, absent, otherwise}
-use Rattle.program.specs.Program.{Plain, match, any, emit, error, exit, call, back, give, update, updateWith, Selector, byToken, byRule, byOperation, byOperationWith, Act, Acts, Alts, Other, Rule}
-use Rattle.program.specs.Table.{sizePlain, sizeSelector, sizeAbsent, countLabels, size, sizes, sizeAlts, sizeOther, labelWords, tableWords, firstOf, firstLabel, absentWords, choiceNumber, selectorWords, plainWords, code, codes, codeAlts, codeOther, endWords, sizeRule, sizeRules, rulesWords, place, table}
-use Rattle.program.specs.Accepted.{NeedsLabel}
-use Rattle.program.proofs.Lengths.{length-labels, length-tableWords, length-absent, length-selector, length-plain, length-code, length-codes, length-alts, length-other, length-rules, length-table}
-use Rattle.cells.specs.Cells.{absentCell}
+use Rattle.base.specs.Tree.{choice, otherwise}
+use Rattle.program.specs.Program.{emit, exit, call, byToken}
+use Rattle.program.specs.Table.{place, table}
 use Rattle.chains.specs.Chain.{placed}
 use Rattle.emitter.specs.Words.{words, setWord, puts, cut}
-use Rattle.emitter.specs.Stands.{IsSel, sel-token, sel-rule, sel-op, sel-opWith, Labels, lab-none, lab-more, IsPlain, is-match, is-any, is-emit, is-error, is-exit, is-call, is-back, is-give, is-update, is-updateWith, Is, is-plain, is-cycle, is-choice, IsAlts, is-nil, is-alt, IsOther, is-stop, is-other, IsAll, is-done, is-cons}
-use Rattle.emitter.specs.Heads.{labelsIn, labelsAt, chooses, insOf, plainOf, selOf, firsts, wordsIn, startOf, plainAt, selAt, called, calledBy}
+use Rattle.emitter.specs.Heads.{labelsIn, labelsAt, plainOf, selOf, firsts, wordsIn, called, calledBy}
 use Rattle.emitter.specs.declared.Item.{Item}
 
 length-cond : (b : Bool) (s t : List ℕ) → length t ≡ length s → length (cond b t s) ≡ length s

@@ -1,23 +1,19 @@
 -- What stands in the cells, by its first cell. Assumes nothing.
-use Prim.Native.Nat.{ℕ, zero, suc, _+_, _*_, _-_, _<_, _≤_}
-use mathlib.Core.Path.{_≡_, refl, sym, ap, _∙_, subst}
+use Prim.Native.Nat.{ℕ, zero, _+_, _-_, _<_, _≤_}
+use mathlib.Core.Path.{_≡_, refl, ap, _∙_}
 use mathlib.Core.Bool.{Bool, true, false, cond}
-use mathlib.Core.Logic.{_⊎_, inl, inr}
-use mathlib.Core.List.{List, [], _∷_, _++_}
+use mathlib.Core.Logic.{inr}
+use mathlib.Core.List.{List, _∷_}
 use native.Mathlib.Omega.{arith}
-use lib.ListN.{length, getD, List·getD-eq-default}
+use lib.ListN.{length, getD}
 use lib.Dec.{eqb, ltb}
-use borrow.Author.Tests.{eq-eqb, ne-eqb, lt-ltb, le-ltb, ltb-true, ltb-false, eqb-true, eqb-false}
-use Rattle.base.specs.Tree.{plain, cycle, choice, done, _▸_, nil, alternative, absent, otherwise}
-use Rattle.program.specs.Program.{Plain, match, any, emit, error, exit, call, back, give, update, updateWith, Selector, byToken, byRule, byOperation, byOperationWith, Act, Acts, Alts, Other, Rule}
-use Rattle.program.specs.Table.{sizePlain, sizeSelector, sizeAbsent, countLabels, size, sizes, sizeAlts, sizeOther, labelWords, tableWords, firstOf, firstLabel, absentWords, choiceNumber, selectorWords, plainWords, code, codes, codeAlts, codeOther, endWords, sizeRule, sizeRules, rulesWords, place, table}
-use Rattle.program.specs.Accepted.{NeedsLabel}
-use Rattle.program.proofs.Lengths.{length-labels, length-tableWords, length-absent, length-selector, length-plain, length-code, length-codes, length-alts, length-other, length-rules, length-table}
+use borrow.Author.Tests.{lt-ltb, le-ltb}
+use Rattle.base.specs.Tree.{choice, nil, alternative, otherwise}
+use Rattle.program.specs.Program.{Plain, emit, exit, call, Selector, byToken, byRule, byOperation, byOperationWith, Act, Acts, Alts, Other}
+use Rattle.program.specs.Table.{table}
 use Rattle.cells.specs.Cells.{absentCell}
-use Rattle.emitter.specs.Words.{words, setWord, puts, cut}
-use Rattle.emitter.specs.Stands.{IsSel, sel-token, sel-rule, sel-op, sel-opWith, Labels, lab-none, lab-more, IsPlain, is-match, is-any, is-emit, is-error, is-exit, is-call, is-back, is-give, is-update, is-updateWith, Is, is-plain, is-cycle, is-choice, IsAlts, is-nil, is-alt, IsOther, is-stop, is-other, IsAll, is-done, is-cons}
+use Rattle.emitter.specs.Stands.{IsSel, sel-token, sel-rule, sel-op, sel-opWith, Labels, IsPlain, is-match, is-any, is-emit, is-error, is-exit, is-call, is-back, is-give, is-update, is-updateWith, Is, is-plain, is-cycle, is-choice, IsAlts, is-nil, is-alt, IsOther, is-stop, is-other, IsAll, is-done, is-cons}
 use Rattle.emitter.specs.Heads.{labelsIn, labelsAt}
-use Rattle.emitter.specs.declared.Item.{Item}
 use Rattle.emitter.proofs.Laws.{at-in}
 
 pub sel-in : {cs : List ℕ} {n p e : ℕ} {s : Selector} → IsSel cs n p e s → (p < e) × (e ≤ length cs)

@@ -1,10 +1,10 @@
 -- A buffer as the row of words that is written into it so far. Assumes nothing.
 use Prim.Native.Nat.{ℕ, zero, suc, _+_, _*_, _-_, _/_, _%_, _<_, _≤_}
-use mathlib.Core.Path.{_≡_, refl, sym, ap, _∙_, subst}
+use mathlib.Core.Path.{_≡_, refl, sym, ap, _∙_}
 use mathlib.Core.List.{List, [], _∷_, _++_}
 use native.Mathlib.Omega.{arith}
 use native.Mathlib.Nat.{add-zero}
-use lib.ListN.{length, getD, set, length-set, length-append}
+use lib.ListN.{length, getD, set, length-set}
 use lib.Seq.{set-set, set-comm, getD-set-same, getD-set-other}
 use Rattle.machine.specs.Bytes.{wordsOf, wordAt, count}
 use Rattle.machine.proofs.Bytes.{getD-wordsOf}

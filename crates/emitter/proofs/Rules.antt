@@ -1,7 +1,7 @@
 -- The rules one after the other: their locations and words, and the lent bytes. Assumes nothing.
 use Prim.Native.Nat.{ℕ, suc, _+_, _*_, _-_, _/_, _<_, _≤_, min}
 use mathlib.Core.Path.{_≡_, refl, sym, ap, _∙_, subst}
-use mathlib.Core.Bool.{Bool, true, false, cond, and-false}
+use mathlib.Core.Bool.{Bool, true, false, and-false}
 use mathlib.Core.List.{List, [], _∷_, _++_, append-assoc, append-nil}
 use mathlib.Core.Logic.{_⊎_, inl, inr}
 use native.Mathlib.Omega.{arith}
@@ -11,26 +11,26 @@ use lib.Seq.{getD-set-same, getD-set-other, ext-getD, drop-append-add, drop-drop
 use borrow.Author.Tests.{ltb-true, ltb-false, eqb-true, eqb-false, le-leb, lt-leb}
 use Rattle.base.proofs.Laws.{lt-or-le, zeros-at}
 use Rattle.base.specs.Common.{if_then_else_}
-use Rattle.program.specs.Program.{Acts, Rule}
-use Rattle.program.specs.Table.{endWords, sizes, sizeRule, sizeRules, rulesWords, place, table}
+use Rattle.program.specs.Program.{Rule}
+use Rattle.program.specs.Table.{endWords, sizeRule, sizeRules, place, table}
 use Rattle.program.proofs.Lengths.{length-table}
 use Rattle.program.proofs.Places.{place-first, place-fits}
 use Rattle.machine.specs.Bytes.{count, bytesOf}
-use Rattle.chains.specs.Marks.{Target, outside, end, head, rule, Mark, known, waiting, waits, number, knowns, filled, close, marksAll, marksRule, marksRules, solved}
-use Rattle.chains.specs.Chain.{Chain, places, patched, newest, Waiting, At, at-here, at-there, Fixed, fixed-known, fixed-call, Grown, placed}
-use Rattle.chains.proofs.Lists.{at-in, at-split, Behind, at-some, Marked, places-append, length-patched, patched-at, patched-kept, known-waits, waits-ne, length-filled, length-knowns}
+use Rattle.chains.specs.Marks.{Target, outside, rule, Mark, known, waiting, number, knowns, close, marksAll, marksRule, marksRules, solved}
+use Rattle.chains.specs.Chain.{Chain, places, patched, newest, Waiting, At, Fixed, fixed-known, fixed-call, placed}
+use Rattle.chains.proofs.Lists.{at-in, at-split, Behind, at-some, places-append, length-patched, patched-at, patched-kept, known-waits, waits-ne, length-filled, length-knowns}
 use Rattle.chains.proofs.Grows.{chain-fill}
-use Rattle.chains.proofs.Solves.{length-marksAll, length-marksRule, length-marksRules, length-solved, solved-known, solved-call, solved-rules}
+use Rattle.chains.proofs.Solves.{length-marksRule, length-marksRules, length-solved, solved-known, solved-call, solved-rules}
 use Rattle.emitter.specs.Words.{words, puts, cut}
 use Rattle.emitter.specs.Heads.{anchor}
 use Rattle.emitter.specs.Stands.{IsAll}
 use Rattle.emitter.specs.Work.{Done, Emitted, Extended, ListDone, PatchDone}
-use Rattle.emitter.specs.Emitted.{CellsOf, sortOf, fits, emittedWords, emittedBytes, faultOf, EmitDone, IsRules, rules-none, rules-more, RuleDone, PlaceDone, RulesDone}
-use Rattle.emitter.proofs.Laws.{puts-append, puts-then, cut-small, length-puts}
-use Rattle.emitter.proofs.Bytes.{puts-eq, whole, lengths}
+use Rattle.emitter.specs.Emitted.{CellsOf, sortOf, fits, emittedWords, emittedBytes, faultOf, EmitDone, IsRules, rules-more, RuleDone, PlaceDone, RulesDone}
+use Rattle.emitter.proofs.Laws.{cut-small, length-puts}
+use Rattle.emitter.proofs.Bytes.{puts-eq, whole}
 use Rattle.emitter.proofs.Link.{program-stands}
 use Rattle.emitter.proofs.Emits.{emitted-join, emitted-known, emitted-close}
-use Rattle.emitter.proofs.Waits.{Only, Calls, calls, rules-only}
+use Rattle.emitter.proofs.Waits.{Calls, calls, rules-only}
 
 -- One rule
 

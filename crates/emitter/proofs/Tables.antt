@@ -1,5 +1,5 @@
 -- The choice table, from its last entry back along the chain of ends. Assumes nothing.
-use Prim.Native.Nat.{ℕ, zero, suc, _+_, _*_, _-_, _<_, _≤_}
+use Prim.Native.Nat.{ℕ, zero, _+_, _*_, _-_, _<_, _≤_}
 use mathlib.Core.Path.{_≡_, refl, sym, ap, _∙_, subst}
 use mathlib.Core.Bool.{Bool, true, false, cond}
 use mathlib.Core.List.{List, [], _∷_, _++_, append-assoc, append-nil}
@@ -8,14 +8,14 @@ use lib.ListN.{length, getD, set, length-set, length-append}
 use lib.Seq.{getD-set-other}
 use lib.Dec.{eqb}
 use Rattle.base.specs.Tree.{nil, alternative}
-use Rattle.program.specs.Program.{Acts, Alts}
+use Rattle.program.specs.Program.{Alts}
 use Rattle.program.specs.Table.{sizes, sizeAlts, countLabels, labelWords, tableWords}
 use Rattle.program.proofs.Lengths.{length-labels}
 use Rattle.machine.specs.Bytes.{wordsOf}
-use Rattle.chains.specs.Marks.{Target, outside, end, head, table, rule, Mark, known, waiting, waits, number, marksAll, marksAlts}
+use Rattle.chains.specs.Marks.{end, head, table, waiting, waits, number, marksAll, marksAlts}
 use Rattle.chains.specs.Chain.{Chain, places, patched}
 use Rattle.chains.proofs.Lists.{places-append}
-use Rattle.chains.proofs.Solves.{length-marksAll, length-marksAlts}
+use Rattle.chains.proofs.Solves.{length-marksAll}
 use Rattle.emitter.specs.Words.{words, setWord, puts}
 use Rattle.emitter.specs.Stands.{Labels}
 use Rattle.emitter.specs.Heads.{labelsAt, linkAt, behind}

@@ -1,18 +1,18 @@
 -- What the words of a part can wait for: an exit, or a call of a rule. Assumes nothing.
-use Prim.Native.Nat.{ℕ, zero, suc, _+_, _*_, _-_, _<_, _≤_}
-use mathlib.Core.Path.{_≡_, refl, sym, ap, _∙_, subst}
-use mathlib.Core.Bool.{Bool, true, false, cond}
+use Prim.Native.Nat.{ℕ, zero, _+_, _*_, _-_, _<_}
+use mathlib.Core.Path.{_≡_, refl}
+use mathlib.Core.Bool.{true, false}
 use mathlib.Core.Logic.{_⊎_, inl, inr}
 use mathlib.Core.List.{List, [], _∷_, _++_}
 use native.Mathlib.Omega.{arith}
-use lib.ListN.{length, getD}
+use lib.ListN.{length}
 use borrow.Author.Tests.{ne-eqb}
-use Rattle.base.specs.Tree.{plain, cycle, choice, done, _▸_, nil, alternative, absent, otherwise}
-use Rattle.program.specs.Program.{Plain, match, any, emit, error, exit, call, back, give, update, updateWith, Selector, byToken, byRule, byOperation, byOperationWith, Act, Acts, Alts, Other, Rule}
-use Rattle.program.specs.Table.{sizes, sizeAlts, countLabels, tableWords, absentWords, firstLabel, choiceNumber, endWords}
+use Rattle.base.specs.Tree.{choice, otherwise}
+use Rattle.program.specs.Program.{Plain, emit, exit, call, Selector, byToken, Act, Acts, Alts, Other, Rule}
+use Rattle.program.specs.Table.{sizeAlts, countLabels, tableWords, absentWords, firstLabel, endWords}
 use Rattle.chains.specs.Marks.{Target, outside, end, head, table, rule, Mark, known, waiting, waits, number, knowns, filled, close, shut, plainMarks, selectorMarks, marks, marksAll, marksAlts, marksOther, marksRule, marksRules}
 use Rattle.chains.specs.Chain.{At, at-here, at-there, places}
-use Rattle.chains.proofs.Lists.{at-in, at-split, Behind, at-filled, FilledAt, as-was, now-known, at-knowns, places-none, ne-waits, waits-ne}
+use Rattle.chains.proofs.Lists.{at-in, at-split, Behind, at-filled, FilledAt, as-was, now-known, at-knowns, places-none, ne-waits}
 use Rattle.emitter.specs.Stands.{IsSel, sel-token, sel-rule, sel-op, sel-opWith, IsPlain, is-match, is-any, is-emit, is-error, is-exit, is-call, is-back, is-give, is-update, is-updateWith, Is, is-plain, is-cycle, is-choice, IsAlts, is-nil, is-alt, IsOther, is-stop, is-other, IsAll, is-done, is-cons}
 use Rattle.emitter.specs.Emitted.{IsRules, rules-none, rules-more}
 use Rattle.emitter.proofs.Tables.{Closed}

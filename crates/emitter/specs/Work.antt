@@ -1,12 +1,12 @@
 -- What each function of the emitter does: on any cells it keeps to its bounds, and whatever stands there is written, open jumps in their chains.
 use Prim.Native.Nat.{ℕ, _+_, _*_, _-_, _<_, _≤_}
 use mathlib.Core.Path.{_≡_}
-use mathlib.Core.List.{List, [], _∷_, _++_}
-use lib.ListN.{length, getD, set}
+use mathlib.Core.List.{List, _∷_, _++_}
+use lib.ListN.{length}
 use Rattle.base.specs.Tree.{cycle}
 use Rattle.program.specs.Program.{Selector, Act, Acts, Alts, Other}
 use Rattle.program.specs.Table.{countLabels, labelWords, absentWords}
-use Rattle.chains.specs.Marks.{Mark, knowns, marks, marksAll, marksAlts, marksOther}
+use Rattle.chains.specs.Marks.{Mark, marks, marksAll, marksAlts, marksOther}
 use Rattle.chains.specs.Chain.{Chain, patched, Grown}
 use Rattle.emitter.specs.Words.{words, puts}
 use Rattle.emitter.specs.Stands.{Labels, Is, IsAlts, IsOther, IsAll}

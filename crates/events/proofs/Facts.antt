@@ -4,7 +4,7 @@ use mathlib.Core.List.{List, [], _∷_, _++_}
 use mathlib.Core.Option.{Option, none, some}
 use Prim.Native.Nat.{ℕ}
 use lib.Dec.{T, eqb}
-use Rattle.base.specs.Common.{if_then_else_, same}
+use Rattle.base.specs.Common.{same}
 use Rattle.events.specs.Events
 use Rattle.events.specs.Events.{Event, output, signal, repair, operation, operationWith, eventWords, Reason, finished, differs, missing, unlabelled, deep, unanswered, outside, reasonNumber, isChoice, choices, Io, present, answer, took, wrote, answered, mends, spent, repaired, is}
 

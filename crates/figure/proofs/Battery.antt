@@ -1,28 +1,28 @@
 -- The figure of a program: it is the figure of the definition, and it suffices.
 use mathlib.Core.Bool.{Bool, true, false}
 use mathlib.Core.List.{List, [], _∷_, _++_, append-nil}
-use mathlib.Core.Logic.{_⊎_, inl, inr}
+use mathlib.Core.Logic.{inl, inr}
 use mathlib.Core.Option.{Option, none, some}
 use mathlib.Core.Path.{_≡_, refl, sym, ap, _∙_}
 use native.Mathlib.Decide.{decLt}
 use native.Mathlib.Omega.{arith}
-use Prim.Native.Nat.{ℕ, zero, suc, _+_, _*_, _≤_, _<_}
+use Prim.Native.Nat.{ℕ, zero, suc, _+_, _≤_, _<_}
 use lib.Dec.{eqb}
 use lib.ListN.{length}
 use borrow.Author.Tests.{eqb-true, eq-eqb}
 use Rattle.agreement.proofs.Lists.{going-stopped, going-waiting}
-use Rattle.agreement.specs.Demand.{begin, HasStopped, WaitsPast, Suffices}
+use Rattle.agreement.specs.Demand.{begin, Suffices}
 use Rattle.base.specs.Bools.{never}
 use Rattle.base.specs.Common.{if_then_else_, member}
 use Rattle.finishing.specs.Finishing.{Finishing}
 use Rattle.machine.specs.Decode.{callRule, decode}
-use Rattle.machine.specs.Walk.{going, stopped, waiting, fresh}
+use Rattle.machine.specs.Walk.{stopped, fresh}
 use Rattle.program.specs.Accepted.{Accepted}
 use Rattle.program.specs.Program.{Rule}
 use Rattle.program.specs.Table.{place, table}
 use Rattle.figure.specs.Figure.{Reached, Bounds, Figure, Long}
-use Rattle.figure.specs.Count.{startsOf, reachable, figureAt, mostFigure, figure}
-use Rattle.figure.specs.Promise.{RuleStart, rule-start, IsFigure, EnoughFor, FigureExact, FigureEnough, BoundEnough, FigureLong, Settles, FigureSettles}
+use Rattle.figure.specs.Count.{startsOf, mostFigure, figure}
+use Rattle.figure.specs.Promise.{RuleStart, rule-start, IsFigure, FigureExact, FigureEnough, BoundEnough, FigureLong, Settles, FigureSettles}
 use Rattle.figure.proofs.Counted.{Start, From, counted-bounds, counted-figure, counted-small, counted-long}
 use Rattle.figure.proofs.Enough.{enough}
 use Rattle.figure.proofs.Spots.{reached-rule}

@@ -10,9 +10,9 @@ use Prim.Native.Nat.{ℕ, zero, suc, _+_, _*_, _≤_, _<_, max}
 use lib.Dec.{eqb, ltb}
 use lib.ListN.{length}
 use borrow.Author.Tests.{eqb-true, eq-eqb, ltb-true, lt-ltb}
-use Rattle.base.specs.Bools.{never, or, and, or₁, or₂, both, split}
+use Rattle.base.specs.Bools.{never, or, and, or₁, or₂, both}
 use Rattle.base.specs.Common.{if_then_else_, member}
-use Rattle.events.specs.Events.{Event, is}
+use Rattle.events.specs.Events.{is}
 use Rattle.machine.specs.Decode.{fetch, Instruction, invalid, jump, input, inputAny, write, inputChoice, callRule, return, setResult, choice, endChoice, setParameter, update, updateWith, choose, chooseWith, decodeAt, decode}
 use Rattle.figure.specs.Figure.{labelAt, labelBy, wayAmong, wayOf, wayOut, Leads, leads-jump, leads-input, leads-any, leads-write, leads-token, leads-call, leads-result, leads-choice, leads-parameter, leads-update, leads-updateWith, leads-choose, leads-chooseWith, Reached, at-start, further, End, over, back, Quiet, quiet, Does, does-jump, does-input, does-any, does-write, does-token, does-default, does-call-over, does-call, does-call-stop, does-return, does-result, does-choice, does-end, does-parameter, does-update, does-updateWith, does-choose, does-chooseWith, does-choose-stop, does-chooseWith-stop, Goes, any-way, by-result, Bounds, Figure, Long}
 use Rattle.figure.specs.Count.{value, raises, grow, grown, most, somes, truth, each, filter, Key, at, sameOption, sameEnd, sameKey, more, joined, isOver, overIn, isBack, backs, withLabel, labelsFrom, labelsIf, labelsOf, waysOf, someWay, leadsTo, from, locations, reaches, reached, resultOf, results, waysBy, offerAt, offer, ends, keys, reachable, counts, below, greatest, figureAt}

@@ -1,6 +1,6 @@
 -- "Then no walk of n tokens and repair allowance r, its calls as in demand 3, needs more than 65 × Q × (n + r + 1) steps."
 use mathlib.Core.List.{List, [], _∷_, _++_, append-nil}
-use mathlib.Core.Path.{_≡_, refl, sym, ap, _∙_}
+use mathlib.Core.Path.{_≡_, refl, ap, _∙_}
 use native.Mathlib.Omega.{arith}
 use native.Mathlib.Nat.{mul-comm, mul-zero}
 use Prim.Native.Nat.{ℕ, zero, suc, _+_, _*_, _≤_, _<_}
@@ -13,7 +13,7 @@ use Rattle.agreement.proofs.Theorem.{over-stops, suffices}
 use Rattle.agreement.specs.Demand.{Suffices}
 use Rattle.events.specs.Events.{Reason, outside}
 use Rattle.finishing.specs.Finishing.{Finishing}
-use Rattle.machine.specs.Walk.{going, stopped, Walk, fresh}
+use Rattle.machine.specs.Walk.{stopped, Walk, fresh}
 use Rattle.program.specs.Accepted.{Accepted}
 use Rattle.program.specs.Program.{Rule}
 use Rattle.program.specs.Table.{table}
@@ -21,7 +21,7 @@ use Rattle.figure.specs.Figure.{Bounds}
 use Rattle.figure.specs.Promise.{RuleStart, EnoughFor}
 use Rattle.figure.proofs.Frames.{Called}
 use Rattle.figure.proofs.More.{same-run}
-use Rattle.figure.proofs.Needs.{Stops, needs}
+use Rattle.figure.proofs.Needs.{needs}
 use Rattle.figure.proofs.Spots.{called-rule}
 
 -- a walk takes a step before it stops

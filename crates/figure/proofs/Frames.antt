@@ -1,5 +1,5 @@
 -- A stretch of a walk between two reads or repairs is made of quiet paths, one for each rule that is in progress at its start.
-use mathlib.Core.Bool.{Bool, true, false}
+use mathlib.Core.Bool.{true, false}
 use mathlib.Core.List.{List, [], _∷_}
 use mathlib.Core.Logic.{_⊎_, inl, inr}
 use mathlib.Core.Option.{Option, none, some}
@@ -11,7 +11,7 @@ use Rattle.machine.specs.Decode.{Instruction, callRule, return, decode}
 use Rattle.machine.specs.Walk.{going, stopped, Walk}
 use Rattle.events.specs.Events.{Reason}
 use Rattle.figure.specs.Figure.{Leads, leads-call, Reached, at-start, further, End, over, back, Quiet, quiet, Does, does-call-over, does-call, does-return, Bounds}
-use Rattle.figure.proofs.Steps.{left, Knows, knows-none, knows, After, Last}
+use Rattle.figure.proofs.Steps.{left, Knows, knows-none, After, Last}
 
 -- the starts of the rules that are in progress: the first rule's, and every one called from an instruction reachable in such a rule
 pub data Called (T : List ℕ) : ℕ → Type 0 where

@@ -8,14 +8,14 @@ use Prim.Native.Nat.{ℕ, zero, suc, _+_, _-_, _*_, _≤_, _<_}
 use lib.Dec.{eqb, leb, ltb}
 use lib.ListN.{length, getElem?, length-append}
 use borrow.Author.Tests.{leb-true, le-leb}
-use Rattle.agreement.proofs.Lists.{going-stopped, one-going}
-use Rattle.agreement.proofs.Single.{taking, done, oneIn, one, runs}
+use Rattle.agreement.proofs.Lists.{one-going}
+use Rattle.agreement.proofs.Single.{done, oneIn, one, runs}
 use Rattle.agreement.proofs.Theorem.{stays}
 use Rattle.base.specs.Common.{if_then_else_, given}
-use Rattle.events.specs.Events.{Reason, deep, outside, Io, present, took, is}
+use Rattle.events.specs.Events.{Reason, deep, outside, present, took}
 use Rattle.machine.specs.Decode.{fetch, Instruction, invalid, jump, input, inputAny, write, inputChoice, callRule, return, setResult, choice, endChoice, setParameter, update, updateWith, choose, chooseWith, decodeOne, decodeTwo, decodeWord, decodeAt, decode}
 use Rattle.machine.specs.Lengths.{lengthOf}
-use Rattle.machine.specs.Step.{Next, goesOutside, stops, goes, tells, asks, goTo, seek, seekBy, landed, branched, inputChoosing, calling, returning, requiring, exec, step}
+use Rattle.machine.specs.Step.{Next, goesOutside, stops, goes, goTo, seek, seekBy, landed, branched, inputChoosing, calling, returning, requiring, exec, step}
 use Rattle.machine.specs.Walk.{Phase, going, waiting, stopped, Walk, moved, withReturns, withResult, withIo, inPhase}
 
 element-more : (T more : List ℕ) (i x : ℕ) → getElem? T i ≡ some x → getElem? (T ++ more) i ≡ some x

@@ -6,12 +6,12 @@ use native.Mathlib.Omega.{arith}
 use Prim.Native.Nat.{ℕ, zero, suc, _+_, _-_, _*_, _≤_, _<_}
 use lib.ListN.{length}
 use Rattle.agreement.proofs.Lists.{going-stopped, one-going}
-use Rattle.agreement.proofs.Single.{done, oneIn, one, runs}
+use Rattle.agreement.proofs.Single.{oneIn, one, runs}
 use Rattle.events.specs.Events.{Reason, outside}
 use Rattle.machine.specs.Decode.{decode}
 use Rattle.machine.specs.Step.{step}
 use Rattle.machine.specs.Walk.{Phase, going, stopped, Walk, fresh}
-use Rattle.figure.specs.Figure.{at-start, over, Quiet, quiet, Bounds}
+use Rattle.figure.specs.Figure.{at-start, over, quiet, Bounds}
 use Rattle.figure.proofs.Steps.{left, Sorted, goes-outside, stops-here, reads-here, goes-on, calls, returns, step-sort}
 use Rattle.figure.proofs.Frames.{Called, called-first, is-here, all-none, Placed, ending-stop, ending-read, Quietly, quietly-on, quietly-call, quietly-back, Until, until-last, until-more, Ended, ended-stop, ended-read, until-ended, stretch}
 

@@ -1,8 +1,7 @@
 -- In the table of an accepted program every location that is reachable from a rule's start, without entering calls, is a place of a rule;
 -- every call there goes to a rule's start.
 use Prim.Native.Nat.{ℕ, suc, _+_, _-_, _*_, _≤_, _<_}
-use native.Mathlib.Omega.{arith}
-use mathlib.Core.Path.{_≡_, refl, sym, ap, _∙_}
+use mathlib.Core.Path.{_≡_, refl, sym}
 use mathlib.Core.Bool.{Bool, true, false, _||_}
 use mathlib.Core.Option.{Option, none, some}
 use mathlib.Core.List.{List, [], _∷_, _++_, append-nil}
@@ -12,19 +11,18 @@ use borrow.Author.Tests.{eq-eqb, leb-true}
 use Rattle.agreement.proofs.Laid.{program-laid}
 use Rattle.agreement.proofs.Lay as lay
 use Rattle.agreement.proofs.Lay.{Entry, lookup, Table, LayPlain, lay-match, lay-any, lay-emit, lay-error, lay-exit, lay-call, lay-back, lay-give, lay-update, lay-updateWith, Lay, lay-plain, lay-cycle, lay-token, lay-rule, lay-operation, lay-operationWith, Lays, lays-done, lays-cons, lay-choice, LayAlts, LayOther, other-input, other-end, other-is, At, at-place, End, end-rule, end-cycle, end-alternative, end-otherwise, Out, out-cycle, out-alternative, out-otherwise, AtChoice, at-choice}
-use Rattle.agreement.proofs.Sim.{lookupBy, rest-at, exit-out, Found, found-none, found, alts-found, by-found, seek-leads}
+use Rattle.agreement.proofs.Sim.{rest-at, exit-out, Found, found, alts-found, by-found, seek-leads}
 use Rattle.base.specs.Bools.{or₁, or₂}
 use Rattle.base.specs.Common.{if_then_else_}
 use Rattle.base.specs.Tree.{plain, cycle, choice, done, _▸_}
 use Rattle.machine.specs.Decode.{fetch, Instruction, invalid, jump, input, inputAny, write, inputChoice, callRule, return, setResult, choice as byResult, endChoice, setParameter, update as updates, updateWith as updatesWith, choose, chooseWith, decode}
-use Rattle.machine.specs.Step.{seekBy}
 use Rattle.ownwalk.specs.OwnWalk.{Context, inCycle, inAlternative, inOtherwise, labelled}
 use Rattle.program.specs.Accepted.{Accepted, Calls}
 use Rattle.program.specs.Past.{plainPast, isExit, exits, exitsAll, exitsSome, exitsOther, past, pastAll, pastSome, pastOther}
 use Rattle.program.specs.Program.{Plain, match, any, emit, error, exit, call, update, updateWith, byToken, byRule, byOperation, byOperationWith, Act, Acts, Alts, Other, Rule, ruleOf, bodyOf}
 use Rattle.program.proofs.Places.{place-first}
 use Rattle.program.specs.Table.{place, table}
-use Rattle.figure.specs.Figure.{labelBy, backFrom, wayAmong, wayOf, wayOut, Leads, leads-jump, leads-input, leads-any, leads-write, leads-token, leads-call, leads-result, leads-choice, leads-parameter, leads-update, leads-updateWith, leads-choose, leads-chooseWith, Reached, at-start, further}
+use Rattle.figure.specs.Figure.{backFrom, wayAmong, wayOf, wayOut, Leads, leads-jump, leads-input, leads-any, leads-write, leads-token, leads-call, leads-result, leads-choice, leads-parameter, leads-update, leads-updateWith, leads-choose, leads-chooseWith, Reached, at-start, further}
 use Rattle.figure.specs.Promise.{RuleStart, rule-start}
 use Rattle.figure.proofs.Frames.{Called, called-first, called-from}
 use Rattle.figure.proofs.Steps.{labels-seek}

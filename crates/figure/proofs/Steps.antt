@@ -3,9 +3,9 @@ use mathlib.Core.Bool.{Bool, true, false}
 use mathlib.Core.List.{List, [], _∷_}
 use mathlib.Core.Logic.{_⊎_, inl, inr}
 use mathlib.Core.Option.{Option, none, some}
-use mathlib.Core.Path.{_≡_, refl, sym, ap, _∙_}
+use mathlib.Core.Path.{_≡_, refl, ap}
 use native.Mathlib.Omega.{arith}
-use Prim.Native.Nat.{ℕ, zero, suc, _+_, _-_, _*_, _≤_, _<_}
+use Prim.Native.Nat.{ℕ, zero, suc, _+_, _-_, _*_, _<_}
 use lib.Dec.{leb, ltb}
 use lib.ListN.{length, getElem?}
 use borrow.Author.Tests.{ltb-true}
@@ -14,10 +14,10 @@ use Rattle.agreement.proofs.Single.{taking, done}
 use Rattle.base.specs.Common.{if_then_else_, given}
 use Rattle.events.specs.Events.{Event, repair, operation, operationWith, Reason, finished, differs, missing, unlabelled, deep, unanswered, outside, choices, present, took, wrote, answered, mends, spent, is}
 use Rattle.machine.specs.Call.{writing}
-use Rattle.machine.specs.Decode.{fetch, Instruction, invalid, jump, input, inputAny, write, inputChoice, callRule, return, setResult, choice, endChoice, setParameter, update, updateWith, choose, chooseWith, decode}
+use Rattle.machine.specs.Decode.{fetch, Instruction, invalid, jump, input, inputAny, write, inputChoice, callRule, return, setResult, choice, endChoice, setParameter, update, updateWith, choose, chooseWith}
 use Rattle.machine.specs.Step.{Next, goesOutside, stops, goes, tells, asks, goTo, seek, seekBy, landed, branched, inputChoosing, calling, returning, requiring, exec}
 use Rattle.machine.specs.Walk
-use Rattle.machine.specs.Walk.{Phase, going, stopped, Walk, moved, withReturns, withResult, withParameter, withIo, inPhase, withAnswer}
+use Rattle.machine.specs.Walk.{going, stopped, Walk, moved, withReturns, withResult, withParameter, withIo, inPhase}
 use Rattle.figure.specs.Figure.{labelAt, labelBy, backFrom, wayAmong, wayOf, wayOut, Leads, leads-jump, leads-input, leads-any, leads-write, leads-token, leads-result, leads-choice, leads-parameter, leads-update, leads-updateWith, leads-choose, leads-chooseWith, End, over, back, Quiet, Does, does-jump, does-input, does-any, does-write, does-token, does-default, does-call-stop, does-return, does-result, does-choice, does-end, does-parameter, does-update, does-updateWith, does-choose, does-chooseWith, does-choose-stop, does-chooseWith-stop, Goes, any-way, by-result}
 
 -- what a path knows of the result is true

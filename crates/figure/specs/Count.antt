@@ -1,6 +1,6 @@
 -- The figure as a function that computes: numbers by keys, raised one at a time until nothing is left to be raised or one has come to the
 -- cap. `Counted` in proofs/ shows that it is the figure, or that some quiet path has as many instructions as the cap.
-use mathlib.Core.Bool.{Bool, true, false, _&&_, _||_, not}
+use mathlib.Core.Bool.{Bool, true, false, _&&_, _||_}
 use mathlib.Core.List.{List, [], _∷_, _++_}
 use mathlib.Core.Option.{Option, none, some}
 use Prim.Native.Nat.{ℕ, zero, suc, _+_, _*_, max}

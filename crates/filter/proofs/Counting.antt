@@ -1,18 +1,17 @@
 -- The tally of the entries: how many have each byte value, and the token of the first of these.
 use mathlib.Core.Bool.{Bool, true, false, _&&_}
-use mathlib.Core.List.{List, [], _∷_}
+use mathlib.Core.List.{List, _∷_}
 use mathlib.Core.Path.{_≡_, refl, sym, ap, _∙_}
 use Prim.Native.Nat.{ℕ, _+_, _*_, _/_, _<_, _≤_}
-use native.Mathlib.Decide.{decLe, decLt}
+use native.Mathlib.Decide.{decLt}
 use native.Mathlib.Omega.{arith}
 use lib.Dec.{eqb, leb}
-use lib.ListN.{length, getD, set, drop, length-set}
+use lib.ListN.{length, getD, set, length-set}
 use lib.Seq.{getD-set-same, getD-set-other}
 use borrow.Author.Tests.{eqb-true, eqb-false, le-leb, lt-leb}
 use Rattle.base.proofs.Laws.{above-zero}
 use Rattle.base.specs.Bools.{split}
-use Rattle.base.specs.Common.{if_then_else_}
-use Rattle.filtering.specs.Filter.{Entry, entries, has, holders, lowest, doubled, missing, tokenOf}
+use Rattle.filtering.specs.Filter.{entries, has, holders, doubled, missing, tokenOf}
 use Rattle.filter.specs.Working.{entryAt, turned, lowestDoubled, lowestMissing, Counts, Sofar, Tallied, Mapped}
 use Rattle.filter.proofs.Laws.{drop-entries, drop-none, low-same}
 

@@ -1,16 +1,15 @@
 -- Entries by place, and the searches over them.
 use mathlib.Core.Bool.{Bool, true, false, _&&_}
 use mathlib.Core.List.{List, [], _∷_}
-use mathlib.Core.Option.{Option, none, some}
-use mathlib.Core.Path.{_≡_, refl, sym, ap, _∙_}
+use mathlib.Core.Option.{none, some}
+use mathlib.Core.Path.{_≡_, refl, ap, _∙_}
 use Prim.Native.Nat.{ℕ, zero, suc, _+_, _*_, _-_, _/_, _<_, _≤_}
 use native.Mathlib.Numerals.{add-one}
 use native.Mathlib.Omega.{arith}
-use lib.Dec.{eqb, leb, ltb}
+use lib.Dec.{eqb, ltb}
 use lib.ListN.{length, getD, drop, drop-of-length-le}
 use borrow.Author.Tests.{lt-ltb, le-ltb}
-use Rattle.base.specs.Common.{if_then_else_}
-use Rattle.filtering.specs.Filter.{Entry, entries, crossed, lowest}
+use Rattle.filtering.specs.Filter.{entries, crossed, lowest}
 use Rattle.filter.specs.Working.{entryAt, orNone}
 
 pub length-entries : (s : List ℕ) → length (entries s) ≡ length s / 4

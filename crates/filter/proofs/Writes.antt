@@ -13,7 +13,7 @@ use Rattle.base.specs.Common.{if_then_else_}
 use Rattle.buffers.proofs.Writes.{upto-start, upto-put, upto-end}
 use Rattle.buffers.specs.Words.{putWord}
 use Rattle.filtering.proofs.Exact.{lowest-none}
-use Rattle.filtering.specs.Filter.{Entry, entries, holders, crossed, lowest, doubled, missing, tokenOf, tokensOf, Answer, folded, refused, unless, filter, bufferAfter, numbersOf, tells}
+use Rattle.filtering.specs.Filter.{Entry, entries, holders, crossed, lowest, doubled, missing, tokensOf, Answer, folded, refused, unless, filter, bufferAfter, numbersOf, tells}
 use Rattle.machine.specs.Bytes.{count, bytesOf, over}
 use Rattle.filter.specs.Working.{entryAt, turned, orNone, lowestDoubled, lowestMissing, Tallied, Mapped, mapTokens, putWords}
 use Rattle.filter.proofs.Laws.{length-entries}

@@ -1,12 +1,11 @@
 -- What the filter's functions compute, over bytes.
-use mathlib.Core.Bool.{Bool, true, false}
+use mathlib.Core.Bool.{true}
 use mathlib.Core.List.{List, [], _∷_}
 use mathlib.Core.Option.{Option, none, some}
 use mathlib.Core.Path.{_≡_}
 use Prim.Native.Nat.{ℕ, zero, suc, _+_, _*_, _/_, _%_, _<_, _≤_}
 use lib.Dec.{eqb, leb}
 use lib.ListN.{length, getD, set, drop}
-use Rattle.base.specs.Common.{if_then_else_}
 use Rattle.buffers.specs.Words.{putWord}
 use Rattle.filtering.specs.Filter.{Entry, entries, has, holders, lowest, tokenOf}
 

@@ -3,7 +3,7 @@
 use mathlib.Core.Bool.{Bool, true, false, _&&_}
 use mathlib.Core.List.{List, [], _∷_}
 use mathlib.Core.Option.{Option, none, some}
-use mathlib.Core.Path.{_≡_, refl, sym, ap, _∙_}
+use mathlib.Core.Path.{_≡_, refl, ap, _∙_}
 use Prim.Native.Nat.{ℕ, zero, suc, _+_, _<_, _≤_}
 use native.Mathlib.Decide.{decLe}
 use native.Mathlib.Omega.{arith}
@@ -12,7 +12,7 @@ use lib.ListN.{length, getD, getElem?}
 use borrow.Author.Tests.{eqb-true, eqb-false, leb-true, leb-false, ltb-false, le-leb, lt-leb, le-ltb, ne-eqb}
 use Rattle.base.specs.Bools.{split}
 use Rattle.base.specs.Common.{if_then_else_}
-use Rattle.filtering.specs.Accepted.{Among, Accepted, Folds}
+use Rattle.filtering.specs.Accepted.{Accepted, Folds}
 use Rattle.filtering.specs.Filter.{Entry, entries, has, holders, crossed, lowest, doubled, missing, tokenOf, tokensOf, Answer, folded, refused, unless, filter}
 
 -- Searches

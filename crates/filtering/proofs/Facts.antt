@@ -1,5 +1,5 @@
 -- Worked examples of the filter, computed.
-use mathlib.Core.Bool.{Bool, true, false, _&&_}
+use mathlib.Core.Bool.{Bool, true, _&&_}
 use mathlib.Core.List.{List, [], _∷_, _++_}
 use Prim.Native.Nat.{ℕ, zero, suc, _/_}
 use lib.Dec.{T, eqb}
@@ -7,7 +7,7 @@ use lib.ListN.{length, replicate}
 use Rattle.base.specs.Common.{same, bytes}
 use Rattle.machine.specs.Bytes
 use Rattle.filtering.specs.Filter
-use Rattle.filtering.specs.Filter.{Answer, filter, bufferAfter, numbersOf}
+use Rattle.filtering.specs.Filter.{filter, bufferAfter, numbersOf}
 
 -- filter, byte string, token buffer; number, what it names, the buffer afterwards
 pub data Case : Type 0 where

@@ -1,5 +1,5 @@
 -- What the filter promises its publishers: which filters are accepted, and what the tokens of a byte string are.
-use mathlib.Core.Bool.{Bool, true}
+use mathlib.Core.Bool.{true}
 use mathlib.Core.List.{List}
 use mathlib.Core.Option.{some}
 use mathlib.Core.Path.{_≡_}

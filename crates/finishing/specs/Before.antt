@@ -5,7 +5,7 @@ use Prim.Native.Nat.{ℕ, _<_}
 use lib.ListN.{length}
 use Rattle.base.specs.Tree.{plain, cycle, choice, done, _▸_, alternative, otherwise}
 use Rattle.finishing.specs.Finishing.{Way, toEnd, toExit, toBack, toGive, toCall, Away, Far, Returns, Finishing}
-use Rattle.program.specs.Program.{Plain, match, any, emit, error, exit, call, back, give, update, updateWith, Selector, byToken, byRule, byOperation, byOperationWith, Act, Acts, Alts, Other, Rule, bodyOf}
+use Rattle.program.specs.Program.{match, emit, error, exit, call, back, give, update, updateWith, Selector, byToken, byRule, byOperation, byOperationWith, Act, Acts, Alts, Other, Rule, bodyOf}
 
 module _ (prog : List Rule) where
   mutual

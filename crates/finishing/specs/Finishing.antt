@@ -22,8 +22,8 @@ use mathlib.Core.Path.{_≡_}
 use Prim.Native.Nat.{ℕ, _<_}
 use lib.ListN.{length}
 use Rattle.base.specs.Common.{member}
-use Rattle.base.specs.Tree.{Action, plain, cycle, choice, Actions, done, _▸_, Alternatives, nil, alternative, Otherwise, absent, otherwise}
-use Rattle.program.specs.Program.{Plain, match, any, emit, error, exit, call, back, give, update, updateWith, Selector, byToken, byRule, byOperation, byOperationWith, Act, Acts, Alts, Other, Rule, bodyOf}
+use Rattle.base.specs.Tree.{plain, cycle, choice, done, _▸_, nil, alternative, absent, otherwise}
+use Rattle.program.specs.Program.{match, emit, error, exit, call, back, give, update, updateWith, Selector, byToken, byRule, byOperation, byOperationWith, Act, Acts, Alts, Other, Rule, bodyOf}
 
 -- where a path comes to: the end of what it began in, an exit of the cycle around that, a return without a value, one with its
 -- value, a call of a rule

@@ -1,7 +1,7 @@
 -- Words written one after the other are the words of one list, and all the words of a buffer are the buffer.
 use mathlib.Core.List.{List, [], _∷_, _++_, append-nil, reverse, reverse-reverse}
 use mathlib.Core.Path.{_≡_, refl, ap, _∙_}
-use Prim.Native.Nat.{ℕ, zero, suc, _+_, _*_, _-_, _/_, _%_, _<_, _≤_}
+use Prim.Native.Nat.{ℕ, suc, _+_, _*_, _-_, _/_, _%_, _<_, _≤_}
 use native.Mathlib.Nat.{add-zero}
 use native.Mathlib.Numerals.{add-one}
 use native.Mathlib.Omega.{arith}

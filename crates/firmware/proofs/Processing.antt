@@ -1,8 +1,8 @@
 -- The processor's answer as numbers.
-use mathlib.Core.Path.{_≡_, refl, sym, ap, _∙_}
+use mathlib.Core.Path.{_≡_, refl}
 use Prim.Native.Nat.{ℕ}
 use Rattle.figure.specs.Told.{Told}
-use Rattle.firmware.specs.Processing.{Numbers, flagOf, numbersOf, tells}
+use Rattle.firmware.specs.Processing.{flagOf, numbersOf, tells}
 use Rattle.processor.specs.Process as means
 use Rattle.processor.specs.Process.{accepted, refused}
 use Rattle.translator.specs.Answered.{answered}

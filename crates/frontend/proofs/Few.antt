@@ -2,26 +2,26 @@
 use mathlib.Core.List.{List, [], _∷_, _++_}
 use mathlib.Core.Bool.{Bool, true, false, _&&_}
 use mathlib.Core.Path.{_≡_, refl}
-use Prim.Native.Nat.{ℕ, zero, suc, _+_, _<_, _≤_}
+use Prim.Native.Nat.{ℕ, suc, _+_, _<_, _≤_}
 use lib.ListN.{length}
 use native.Mathlib.Omega.{arith}
 use Rattle.acceptance.proofs.Accepts.{at-place}
-use Rattle.acceptance.proofs.CheckLaws.{Yields, yields, never, next, passed, Any, any}
+use Rattle.acceptance.proofs.CheckLaws.{Yields, yields, next, passed, Any, any}
 use Rattle.acceptance.proofs.NamesOk.{each-append}
 use Rattle.acceptance.proofs.Shape.{Each}
 use Rattle.acceptance.proofs.Used.{made-each}
 use Rattle.base.specs.Common.{given, member}
-use Rattle.base.specs.Tree.{Action, plain, cycle, choice, Actions, done, _▸_, Alternatives, nil, alternative, Otherwise, absent, otherwise}
+use Rattle.base.specs.Tree.{plain, cycle, choice, done, _▸_, nil, alternative, absent, otherwise}
 use Rattle.emitter.specs.Emitted.{FewLabels, FewLabelsAll, FewLabelsAlts, FewLabelsOther}
 use Rattle.grammar.specs.Labels.{labelled, Labelled, LabelledAll, LabelledAlts, LabelledOther, LabelledRules}
-use Rattle.names.specs.Known.{Checked, good, Known, KnownRule, Names, optionalType, lookup}
+use Rattle.names.specs.Known.{good, Known, KnownRule, Names, optionalType, lookup}
 use Rattle.names.specs.Resolve.{Place, within, plainOf, selectorOf, labelsOf, actOf, actsOf, altsOf, otherOf}
 use Rattle.names.specs.Understand.{taken, isFirst, ruleMeans, rulesMean}
 use Rattle.names.specs.Uses.{Use, madeFor}
 use Rattle.program.specs.Made.{Operator, Level, operatorAlts, levelBody, levelRule}
 use Rattle.program.specs.Past.{pastAll}
 use Rattle.program.specs.Program as means
-use Rattle.program.specs.Program.{Rule, ruleOf, bodyOf}
+use Rattle.program.specs.Program.{Rule, bodyOf}
 use Rattle.syntax.specs.Written as written
 use Rattle.verdict.specs.Lies as verdict
 use Rattle.verdict.specs.Lies.{Few, FewAll, FewSome, FewOther}

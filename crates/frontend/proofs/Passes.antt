@@ -19,7 +19,7 @@ use Rattle.syntax.specs.Parse.{parse}
 use Rattle.syntax.specs.Reading.{got}
 use Rattle.syntax.specs.Written.{Operator, Program}
 use Rattle.frontend.proofs.Steps.{understand-wrong, understand-good, rules-accepted}
-use Rattle.frontend.specs.Resolving.{rulesBy, Declared, Resolves, mistaken, ResolvesRules}
+use Rattle.frontend.specs.Resolving.{rulesBy, Resolves, mistaken, ResolvesRules}
 use Rattle.frontend.specs.declared.Resolved.{Resolved}
 use Rattle.words.specs.Words.{Word, words, wordsAt}
 

@@ -1,5 +1,5 @@
 -- "64 labels a choice": what a derivation tells of the labels of a tree.
-use mathlib.Core.List.{List, []}
+use mathlib.Core.List.{List}
 use Prim.Native.Nat.{ℕ, _+_, _<_, _≤_}
 use lib.ListN.{length}
 use native.Mathlib.Omega.{arith}

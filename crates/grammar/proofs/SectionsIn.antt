@@ -7,7 +7,7 @@ use Prim.Native.Char.{code}
 use Prim.Native.Nat.{ℕ, zero, suc, _+_, _-_, _<_, _≤_, max}
 use lib.Dec.{eqb, ltb}
 use lib.ListN.{length}
-use borrow.Author.Tests.{ltb-false, eq-eqb, ne-eqb, ltb-true, eqb-true, eqb-false}
+use borrow.Author.Tests.{ltb-false, eq-eqb, ne-eqb, eqb-true, eqb-false}
 use native.Mathlib.Omega.{arith}
 use Rattle.base.proofs.Laws.{neither, above-zero, same-eq}
 use Rattle.base.specs.Common.{if_then_else_, given, bytes, same}
@@ -17,7 +17,7 @@ use Rattle.syntax.proofs.Ahead.{kind-read, room-left}
 use Rattle.syntax.specs.Reading.{got, fault, onward, _>>=_, _>>_, pure, peek, pass, refuse, over, on_then_else_, expect, aName, oneName, small, aNumber, optional, nameOrString}
 use Rattle.syntax.specs.Sections.{aSpelling, aCount, anEntry, entries, firstOf, kindAhead, isFull, aParameter, numbered, anOperation, someOperations, Sofar, after, tokenSection, aSection, Sections, someSections, ofKind, spells, ranking, aLevel, aSide, anOperator, someOperators, operatorSection, mechanismSection, otherSection}
 use Rattle.syntax.specs.Written.{Entry, Operation, Section, inputs, outputs, both, errors, values, operations, Operator, operators}
-use Rattle.words.specs.Words.{Word, twice, number, string, input, output, error, type, mechanism, rules, value, name}
+use Rattle.words.specs.Words.{Word, twice, number, string, input, output, error, type, mechanism, rules, value}
 use Rattle.base.specs.Bools.{and}
 
 -- Entries

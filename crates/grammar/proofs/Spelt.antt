@@ -2,17 +2,15 @@
 use mathlib.Core.Bool.{Bool, true, false}
 use mathlib.Core.List.{List, [], _∷_}
 use mathlib.Core.Option.{Option, none, some}
-use mathlib.Core.Path.{_≡_, refl, sym, _∙_, ap}
+use mathlib.Core.Path.{_≡_, refl, _∙_, ap}
 use Prim.Native.Nat.{ℕ, min}
 use lib.Dec.{eqb}
-use borrow.Author.Tests.{eq-eqb}
-use Rattle.base.specs.Common.{if_then_else_}
 use Rattle.grammar.specs.Derived
 use Rattle.grammar.specs.Derived.{Took, Reference, by-name, by-string, ConstantIn, no-constant, a-constant, ValueIn, no-value, a-value, PlainIn, named-in, any-in, emit-in, error-in, exit-in, call-in, give-in, ranked-in, SelectorIn, token-in, rule-in, operation-in, LabelsIn, last-label, more-labels, ActIn, plain-in, cycle-in, choice-in, ActsIn, none-in, more-in, AltsIn, other-in, last-in, next-in}
 use Rattle.grammar.specs.Derived.{SpellingIn, no-strings, no-spelling, a-spelling, CountIn, a-number, counted, EntryIn, an-entry, EntriesIn, last-entry, more-entries, GivesIn, gives-none, gives-some, TakesIn, takes-none, takes-some, OperationIn, an-operation, OperationsIn, last-operation, more-operations, SideIn, left-in, right-in, OperatorIn, an-operator, OperatorsIn, last-operator, more-operators, ListedIn, listed-in, SectionIn, inputs-in, both-in, outputs-in, errors-in, values-in, operations-in, operators-in, SectionsIn, no-section, more-sections, RuleIn, a-rule, RulesIn, last-rule, more-rules}
 use Rattle.grammar.proofs.Laws.{From, bind, next, gives, expects, expects-kind}
-use Rattle.grammar.proofs.ProgramIn.{SomeRules, rules-from}
-use Rattle.grammar.proofs.SectionsIn.{AllSections, some-sections-in}
+use Rattle.grammar.proofs.ProgramIn.{rules-from}
+use Rattle.grammar.proofs.SectionsIn.{some-sections-in}
 use Rattle.syntax.specs.Parse.{someRules, program}
 use Rattle.syntax.specs.Reading.{peek, got, expect}
 use Rattle.syntax.specs.Sections.{Sofar, nothing, someSections}

@@ -4,13 +4,12 @@
 use mathlib.Core.Bool.{Bool, true, false}
 use mathlib.Core.List.{List, [], _∷_}
 use mathlib.Core.Option.{Option, none, some}
-use mathlib.Core.Logic.{_⊎_}
 use mathlib.Core.Path.{_≡_}
 use Prim.Native.Nat.{ℕ, _+_, _-_, _≤_, max}
 use lib.Dec.{eqb}
 use lib.ListN.{length}
 use Rattle.base.specs.Common.{bytes, given}
-use Rattle.base.specs.Tree.{Action, plain, cycle, choice, Actions, done, _▸_, Alternatives, nil, alternative, Otherwise, absent, otherwise}
+use Rattle.base.specs.Tree.{plain, cycle, choice, done, _▸_, nil, alternative, absent, otherwise}
 use Rattle.syntax.specs.Actions.{closes}
 use Rattle.syntax.specs.Reading.{peek}
 use Rattle.syntax.specs.Sections.{Sofar, nothing, after, firstOf, ofKind}

@@ -3,11 +3,11 @@ use mathlib.Core.Bool.{Bool, true, false}
 use mathlib.Core.List.{List, [], _∷_, _++_, append-assoc}
 use mathlib.Core.Path.{_≡_, refl, sym, ap, _∙_}
 use Prim.Native.Nat.{ℕ}
-use Rattle.base.specs.Tree.{plain, cycle, choice, done, _▸_, nil, alternative, absent, otherwise}
-use Rattle.cells.specs.Cells.{plainCells, selectorCells, absentCell, actCells, actsCells, altsCells, otherCells, rulesCells}
+use Rattle.base.specs.Tree.{choice, otherwise}
+use Rattle.cells.specs.Cells.{plainCells, selectorCells, actCells, actsCells, altsCells, rulesCells}
 use Rattle.levels.specs.LevelCells.{operatorCells, levelCells, openCells, closeCells, calledBy}
 use Rattle.program.specs.Made.{Operator, Level, operatorAlts, levelBody, levelRule}
-use Rattle.program.specs.Program.{byToken, exit, Rule}
+use Rattle.program.specs.Program.{byToken, Rule}
 
 alts-are : (c : ℕ) (os : List Operator) (k : List ℕ) → altsCells (operatorAlts c os) k ≡ operatorCells c os k
 unfolding operatorAlts operatorCells actCells plainCells

@@ -1,14 +1,14 @@
 -- Rules made one after the other: a rule and those behind it, the levels of a pair, the pairs.
 use mathlib.Core.Bool.{Bool, true, false, _||_}
 use mathlib.Core.List.{List, [], _∷_, _++_}
-use mathlib.Core.Option.{Option, none, some}
+use mathlib.Core.Option.{none, some}
 use mathlib.Core.Path.{_≡_, refl, sym, ap, _∙_}
 use Prim.Native.Nat.{ℕ, zero, suc, _+_, _*_, _-_, _%_, _<_, _≤_}
 use native.Mathlib.Nat.{add-zero, mod-eq-of-lt}
 use native.Mathlib.Omega.{arith}
 use borrow.Author.Tests.{ltb-true, ltb-false}
 use lib.Dec.{ltb}
-use lib.ListN.{length, getD, set, length-set}
+use lib.ListN.{length, getD, set}
 use lib.Seq.{getD-set-same, getD-set-other}
 use Rattle.base.proofs.Laws.{neither}
 use Rattle.cells.specs.Cells.{actsCells, rulesCells, cellsStart}
@@ -16,20 +16,19 @@ use Rattle.declarations.specs.Decls.{Agrees, Decl, EntriesAt, entriesOf, declOf
 use Rattle.grammar.specs.Derived.{OperatorsIn}
 use Rattle.levels.proofs.CellsAre.{level-are, rule-cells}
 use Rattle.levels.specs.LevelCells.{levelCells}
-use Rattle.levels.specs.Making.{LevelPut, MadeEnd, Before, SiteDone, SiteOf, MakeFrom, MakeDone}
+use Rattle.levels.specs.Making.{LevelPut, MadeEnd, SiteDone, SiteOf, MakeFrom, MakeDone}
 use Rattle.levels.specs.declared.Made.{Made}
-use Rattle.levels.specs.declared.Nested.{Nested}
 use Rattle.levels.specs.declared.Site.{Site}
 use Rattle.maker.proofs.Ranking.{RankIs, rank-is}
 use Rattle.maker.proofs.Taking.{row-at, row-less, levels-used}
 use Rattle.maker.specs.Pairing.{PlaceOf, passes}
-use Rattle.maker.specs.Pairs.{Pair, pairAt, pairsFrom, pairsHeld, sectionRow, operandRow, Ordered, AllOrdered, pairOf, pairsMean, PairsAre}
+use Rattle.maker.specs.Pairs.{Pair, pairAt, pairsFrom, pairsHeld, sectionRow, operandRow, Ordered, AllOrdered, pairOf, pairsMean}
 use Rattle.maker.specs.Ranks.{noRank, RankDone}
 use Rattle.maker.specs.declared.Rank.{Rank}
 use Rattle.names.specs.Declare.{knownRules}
-use Rattle.names.specs.Known.{Checked, good, wrong, _>>=_, faultIf, KnownRule, Names, findRule}
+use Rattle.names.specs.Known.{Checked, good, wrong, _>>=_, faultIf, KnownRule, Names}
 use Rattle.names.specs.Uses.{Use, pairsOf, levelsUsed, operandOf, madeFor}
-use Rattle.program.specs.Made.{Operator, Level, atLevel, levelsFrom, levelsOf, levelBody, levelRule, higherOf, levelRules, crowded}
+use Rattle.program.specs.Made.{Operator, Level, atLevel, levelsFrom, levelsOf, levelRule, higherOf, levelRules, crowded}
 use Rattle.program.specs.Program.{Rule}
 use Rattle.resolver.proofs.Appending.{appends-length, appends-none, appends-then}
 use Rattle.resolver.specs.Resolved.{Appends}

@@ -3,7 +3,7 @@ use mathlib.Core.Bool.{Bool, true, false}
 use mathlib.Core.List.{List, [], _∷_, _++_, append-nil}
 use mathlib.Core.Option.{Option, none, some}
 use mathlib.Core.Path.{_≡_, refl, sym, ap, _∙_}
-use Prim.Native.Nat.{ℕ, suc, _+_, _<_, _≤_}
+use Prim.Native.Nat.{ℕ, _+_, _<_, _≤_}
 use native.Mathlib.Omega.{arith}
 use borrow.Author.Tests.{eq-eqb, ne-eqb}
 use lib.Dec.{eqb}
@@ -11,9 +11,9 @@ use lib.ListN.{length}
 use Rattle.base.specs.Bools.{never}
 use Rattle.base.specs.Common.{if_then_else_}
 use Rattle.declarations.specs.Decls.{Decl, knownsIn, valueIn, operatorFrom, operatorsFrom}
-use Rattle.grammar.specs.Derived.{OperatorIn, OperatorsIn, last-operator, more-operators}
+use Rattle.grammar.specs.Derived.{OperatorsIn, last-operator, more-operators}
 use Rattle.levels.proofs.CellsAre.{level-parts}
-use Rattle.levels.specs.LevelCells.{operatorCells, levelCells, openCells, closeCells, calledBy}
+use Rattle.levels.specs.LevelCells.{operatorCells, openCells, closeCells, calledBy}
 use Rattle.levels.specs.Making.{entryCells, OperatorsPut, LevelPut}
 use Rattle.levels.specs.declared.Nested.{Nested}
 use Rattle.maker.proofs.Entering.{operators-at, took-at}

@@ -1,5 +1,4 @@
 -- What the functions that make the rules of operators promise: their cells behind those that stand there, where each begins, and that each is a procedure rule.
-use mathlib.Core.Bool.{Bool}
 use mathlib.Core.List.{List, [], _∷_, _++_}
 use mathlib.Core.Path.{_≡_}
 use Prim.Native.Nat.{ℕ, _+_, _*_, _<_, _≤_}
@@ -17,7 +16,7 @@ use Rattle.maker.specs.declared.Entry.{Entry}
 use Rattle.maker.specs.Pairing.{PlaceOf}
 use Rattle.maker.specs.Pairs.{AllOrdered, pairsFrom, pairsMean, PairsAre}
 use Rattle.names.specs.Declare.{knownRules}
-use Rattle.names.specs.Known.{Checked, good, KnownRule, Names}
+use Rattle.names.specs.Known.{good, KnownRule, Names}
 use Rattle.names.specs.Uses.{Use, pairsOf, madeFor}
 use Rattle.program.specs.Made.{atLevel, levelsOf, levelRules}
 use Rattle.program.specs.Program.{Rule}

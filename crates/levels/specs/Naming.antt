@@ -16,7 +16,7 @@ use Rattle.names.specs.Uses.{Use}
 use Rattle.scanner.specs.Next.{asWord}
 use Rattle.scanner.specs.declared.WordAt.{WordAt}
 use Rattle.symbols.specs.Rows.{held}
-use Rattle.words.specs.Words.{Word, wordsAt}
+use Rattle.words.specs.Words.{wordsAt}
 
 -- the use is of the pair of these declarations
 unfoldable pub isOf : List Decl → ℕ → ℕ → Use → Bool

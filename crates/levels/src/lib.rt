@@ -1,8 +1,8 @@
 // The rules made for operators, one for each level of each pair, as cells behind those of the rules written.
 ghost use mathlib.Core.Path.{_≡_};
-ghost use mathlib.Core.List.{List, [], _∷_};
-ghost use Prim.Native.Nat.{ℕ, _+_, _*_, _<_, _≤_, _%_};
-ghost use lib.ListN.{length, getD, set};
+ghost use mathlib.Core.List.{[], _∷_};
+ghost use Prim.Native.Nat.{ℕ, _+_, _<_, _≤_, _%_};
+ghost use lib.ListN.{length, set};
 ghost use Rattle.declarations.specs.Decls.{valueIn};
 ghost use Rattle.levels.specs.LevelCells.{openCells, closeCells, calledBy};
 ghost use Rattle.levels.specs.Making.{entryCells, OperatorsPut, LevelPut, SiteDone, SiteOf, MakeDone};

@@ -1,15 +1,15 @@
 -- The records of a file, one after the other.
-use mathlib.Core.Bool.{Bool, true, false, _&&_, not}
-use mathlib.Core.List.{List, [], _∷_}
+use mathlib.Core.Bool.{Bool, true, false, _&&_}
+use mathlib.Core.List.{List, _∷_}
 use mathlib.Core.Path.{_≡_, refl, sym, ap, _∙_}
 use Prim.Native.Nat.{ℕ, zero, suc, _+_, _*_, _-_, _/_, _%_, _<_, _≤_}
 use native.Mathlib.Omega.{arith}
 use lib.Dec.{eqb, leb}
 use lib.ListN.{length, drop, getD, length-drop}
 use lib.Seq.{getD-drop, drop-drop}
-use borrow.Author.Tests.{eqb-true, eqb-false, eq-eqb, ne-eqb, leb-true, le-leb, lt-leb}
+use borrow.Author.Tests.{eqb-true, eq-eqb, ne-eqb, leb-true, le-leb, lt-leb}
 use Rattle.base.proofs.Laws.{above-zero}
-use Rattle.base.specs.Bools.{never, and, both, split, same}
+use Rattle.base.specs.Bools.{never, and, both, same}
 use Rattle.base.specs.Common.{if_then_else_}
 use Rattle.machine.proofs.Bytes.{length-wordsOf}
 use Rattle.machine.specs.Bytes.{count, wordsOf}

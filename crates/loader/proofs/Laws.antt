@@ -1,21 +1,21 @@
 -- Laws of the marks, one for each way out of a function.
 use mathlib.Core.Bool.{Bool, true, false, _&&_}
 use mathlib.Core.List.{List, [], _∷_, _++_}
-use mathlib.Core.Option.{Option, none, some}
+use mathlib.Core.Option.{none, some}
 use mathlib.Core.Path.{_≡_, refl, sym, ap, _∙_}
 use Prim.Native.Nat.{ℕ, zero, suc, _+_, _*_, _-_, _<_, _≤_, min}
 use native.Mathlib.Omega.{arith}
 use lib.Dec.{eqb, leb}
-use lib.ListN.{length, getD, set, take, getElem?, length-set, length-take}
+use lib.ListN.{length, getD, set, take, length-set, length-take}
 use lib.Seq.{getD-take}
-use borrow.Author.Tests.{eqb-true, eqb-false, eq-eqb, ne-eqb, le-leb, lt-leb}
+use borrow.Author.Tests.{eq-eqb, ne-eqb, le-leb, lt-leb}
 use Rattle.base.specs.Bools.{never}
-use Rattle.base.specs.Common.{if_then_else_, member}
+use Rattle.base.specs.Common.{if_then_else_}
 use Rattle.machine.proofs.Bytes.{length-wordsOf, elem-in}
 use Rattle.machine.specs.Bytes.{count, wordsOf, tableOf}
 use Rattle.machine.specs.Decode.{fetch}
 use Rattle.loading.specs.Taking.{backFrom, labelled}
-use Rattle.loader.specs.Marking.{Work, work, markOf, marksOf, zeros, Kept, Marked, Lies}
+use Rattle.loader.specs.Marking.{Work, work, markOf, marksOf, zeros, Kept, Marked}
 
 -- The table
 

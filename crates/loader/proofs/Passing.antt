@@ -1,7 +1,7 @@
 -- Blocks of entries: what is marked stays marked, and marking it again changes nothing.
 use mathlib.Core.Bool.{Bool, true, false, _&&_}
 use mathlib.Core.List.{List, [], _∷_, _++_}
-use mathlib.Core.Logic.{_⊎_, inl, inr}
+use mathlib.Core.Logic.{inl, inr}
 use mathlib.Core.Path.{_≡_, refl, sym, ap, _∙_, subst}
 use Prim.Native.Nat.{ℕ, zero, suc, _+_, _*_, _-_, _/_, _%_, _<_, _≤_}
 use native.Mathlib.Omega.{arith}
@@ -11,7 +11,7 @@ use lib.Seq.{getD-set-same, getD-set-other}
 use borrow.Author.Tests.{eqb-true, eqb-false, leb-true, le-leb}
 use Rattle.base.proofs.Laws.{zeros-at}
 use Rattle.base.specs.Bools.{never, and, split}
-use Rattle.base.specs.Common.{if_then_else_, member}
+use Rattle.base.specs.Common.{if_then_else_}
 use Rattle.loading.proofs.Members.{member-head, member-tail, member-cons}
 use Rattle.loading.specs.Reach.{gives37}
 use Rattle.loading.specs.Taking.{ways, labelled, backFrom}

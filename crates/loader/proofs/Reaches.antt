@@ -2,19 +2,18 @@
 use mathlib.Core.Bool.{Bool, true, false, _&&_, not}
 use mathlib.Core.List.{List, [], _∷_}
 use mathlib.Core.Logic.{_⊎_, inl, inr}
-use mathlib.Core.Option.{Option, none, some}
+use mathlib.Core.Option.{none, some}
 use mathlib.Core.Path.{_≡_, refl, sym, ap, _∙_, subst}
 use Prim.Native.Nat.{ℕ, zero, suc, _+_, _*_, _-_, _<_, _≤_}
 use native.Mathlib.Decide.{decLt}
 use native.Mathlib.Omega.{arith}
 use lib.Dec.{eqb, leb}
-use lib.ListN.{length, getD, set, replicate, length-replicate, getD-replicate, length-set, List·getD-eq-default}
+use lib.ListN.{length, getD, set, replicate, length-replicate, getD-replicate, List·getD-eq-default}
 use lib.Seq.{getD-set-same, getD-set-other}
-use borrow.Author.Tests.{eqb-true, eqb-false, eq-eqb, ne-eqb, leb-true, leb-false, le-leb, lt-leb}
-use Rattle.base.specs.Bools.{never, and, split, same}
-use Rattle.base.specs.Common.{if_then_else_, member, given}
-use Rattle.machine.specs.Decode.{fetch, decode}
-use Rattle.loading.specs.Reach.{bad, gives37, Reachable, at-start, Taken}
+use borrow.Author.Tests.{eqb-true, eqb-false, leb-true, le-leb}
+use Rattle.base.specs.Bools.{never, and, split}
+use Rattle.base.specs.Common.{if_then_else_, member}
+use Rattle.loading.specs.Reach.{gives37, Reachable, at-start, Taken}
 use Rattle.loading.specs.Taking.{ways, reached, taken}
 use Rattle.loading.proofs.Exact.{reached-reach, reach-reached, taken-Taken, Taken-taken, good-there}
 use Rattle.loading.proofs.Members.{member-head, member-tail, member-cons, fetch-inside}

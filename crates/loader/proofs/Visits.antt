@@ -11,17 +11,17 @@ use lib.Dec.{eqb, leb}
 use lib.ListN.{length, getD, set, replicate, length-replicate, getD-replicate}
 use lib.Seq.{ext-getD, getD-set-same, getD-set-other}
 use native.Mathlib.Decide.{decLt}
-use borrow.Author.Tests.{eqb-true, eqb-false, eq-eqb, leb-true, le-leb, lt-leb}
+use borrow.Author.Tests.{eqb-true, eqb-false, leb-true, le-leb, lt-leb}
 use Rattle.base.specs.Bools.{never, split}
-use Rattle.base.specs.Common.{if_then_else_, given}
+use Rattle.base.specs.Common.{if_then_else_}
 use Rattle.machine.proofs.Decoded.{of-operation, of-one, of-two}
 use Rattle.machine.specs.Decode.{fetch, Instruction, invalid, jump, inputChoice, callRule, return, choice, endChoice, decodeTwo, decodeOne, decodeWord, decodeAt, decode}
 use Rattle.machine.specs.Bytes.{wordsOf, tableOf}
 use Rattle.machine.specs.Lengths.{lengths, lengthOf}
 use Rattle.loading.specs.Reach.{fits, bad, gives37}
-use Rattle.loading.specs.Taking.{backFrom, labelled, chosen, onward, ways}
-use Rattle.loading.proofs.Members.{fetch-inside, inside-fetch}
-use Rattle.loader.specs.Marking.{Work, work, markOf, marksOf, failed, visitOf, choiceOf, zeros, Kept, Marked, Lies, Ready, Holds, Takes}
+use Rattle.loading.specs.Taking.{labelled, chosen, onward, ways}
+use Rattle.loading.proofs.Members.{fetch-inside}
+use Rattle.loader.specs.Marking.{Work, work, markOf, marksOf, failed, visitOf, choiceOf, Kept, Marked, Ready, Holds, Takes}
 use Rattle.loader.proofs.Laws.{table-fetch, marks-one, marks-on, marks-stop, append-on, append-stop}
 
 -- no word past the table

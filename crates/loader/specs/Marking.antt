@@ -8,7 +8,7 @@ use lib.Dec.{eqb, leb}
 use lib.ListN.{length, getD, set}
 use Rattle.base.specs.Common.{if_then_else_, member}
 use Rattle.loading.specs.Reach.{gives37, fits}
-use Rattle.loading.specs.Taking.{labelled, chosen, ways, reached, taken}
+use Rattle.loading.specs.Taking.{chosen, ways, reached, taken}
 use Rattle.machine.specs.Decode.{fetch}
 use Rattle.machine.specs.Lengths.{lengthOf}
 

@@ -9,12 +9,12 @@ use lib.Dec.{eqb, leb}
 use lib.ListN.{length, length-append, getElem?}
 use borrow.Author.Tests.{leb-true, le-leb}
 use Rattle.base.specs.Bools.{never}
-use Rattle.base.specs.Common.{if_then_else_, member, given}
-use Rattle.machine.specs.Decode.{fetch, Instruction, invalid, jump, input, inputAny, write, inputChoice, callRule, return, setResult, choice, endChoice, setParameter, update, updateWith, choose, chooseWith, decodeOne, decodeTwo, decodeWord, decodeAt, decode}
+use Rattle.base.specs.Common.{if_then_else_, given}
+use Rattle.machine.specs.Decode.{fetch, Instruction, invalid, jump, input, inputAny, write, inputChoice, callRule, return, setResult, choice, endChoice, setParameter, update, updateWith, choose, chooseWith, decodeOne, decodeWord, decodeAt, decode}
 use Rattle.machine.specs.Lengths.{lengthOf}
 use Rattle.loading.specs.Reach.{fits, bad, gives37, Reachable, at-start, Taken}
 use Rattle.loading.specs.Taking.{backFrom, labelled, chosen, onward, ways}
-use Rattle.loading.proofs.Members.{fetch-inside, inside-fetch}
+use Rattle.loading.proofs.Members.{inside-fetch}
 use Rattle.loading.proofs.Ways.{ByWays, from-start, by-way, way, by-ways}
 
 module _ (T more : List ℕ) where

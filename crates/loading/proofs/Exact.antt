@@ -1,7 +1,7 @@
 -- `reached` and `taken` are `Reachable` and `Taken`.
 use mathlib.Core.Bool.{Bool, true, false, _&&_, not}
 use mathlib.Core.List.{List, [], _∷_}
-use mathlib.Core.Logic.{_⊎_, inl, inr}
+use mathlib.Core.Logic.{inl, inr}
 use mathlib.Core.Option.{Option, none, some}
 use mathlib.Core.Path.{_≡_, refl, sym, ap, _∙_}
 use Prim.Native.Nat.{ℕ, zero, suc, _+_, _<_, _≤_}
@@ -9,13 +9,13 @@ use native.Mathlib.Decide.{decLe}
 use native.Mathlib.Omega.{arith}
 use lib.Dec.{eqb}
 use lib.ListN.{length}
-use borrow.Author.Tests.{eqb-true, eqb-false, eq-eqb, ne-eqb, not-true}
-use Rattle.base.specs.Bools.{never, and, both, split, not-both, not-intro}
+use borrow.Author.Tests.{eqb-true, eqb-false, ne-eqb, not-true}
+use Rattle.base.specs.Bools.{never, and, both, split}
 use Rattle.base.specs.Common.{if_then_else_, member, given}
-use Rattle.machine.specs.Decode.{fetch, decode}
+use Rattle.machine.specs.Decode.{fetch}
 use Rattle.loading.specs.Reach.{bad, gives37, Reachable, at-start, Taken}
 use Rattle.loading.specs.Taking.{ways, unseen, nextFrom, grown, reached, inside, sound, allSound, taken}
-use Rattle.loading.proofs.Members.{member-head, member-tail, member-cons, fetch-inside, inside-fetch, outside-invalid}
+use Rattle.loading.proofs.Members.{member-head, member-tail, member-cons, fetch-inside, outside-invalid}
 use Rattle.loading.proofs.Ways.{ByWays, from-start, by-way, way, by-ways}
 
 -- How many of the locations 1 to k are not among the seen

@@ -1,5 +1,5 @@
 -- Worked examples, computed: which tables are taken, which locations are reached, and files.
-use mathlib.Core.Bool.{Bool, true, false, _&&_, not}
+use mathlib.Core.Bool.{Bool, true, _&&_, not}
 use mathlib.Core.List.{List, [], _∷_, _++_}
 use Prim.Native.Nat.{ℕ, zero, suc, _/_}
 use lib.Dec.{T, eqb}
@@ -9,7 +9,7 @@ use Rattle.machine.specs.Bytes
 use Rattle.machine.specs.Decode
 use Rattle.machine.specs.Lengths
 use Rattle.loading.specs.File
-use Rattle.loading.specs.File.{fileWords, fileBytes, Answer, done, refused, load, store, lentBytes}
+use Rattle.loading.specs.File.{fileBytes, Answer, done, refused, load, store, lentBytes}
 use Rattle.loading.specs.Reach
 use Rattle.loading.specs.Taking
 use Rattle.loading.specs.Taking.{reached, taken}

@@ -1,19 +1,19 @@
 -- "One table and verdict have one file": what is written is read back, and what is read is the table's own file.
 use mathlib.Core.Bool.{Bool, true, false, _&&_}
-use mathlib.Core.List.{List, [], _∷_, _++_, append-nil}
+use mathlib.Core.List.{List, [], _∷_, append-nil}
 use mathlib.Core.Path.{_≡_, refl, sym, ap, _∙_}
 use Prim.Native.Nat.{ℕ, zero, suc, _+_, _*_, _<_, _≤_}
 use native.Mathlib.Omega.{arith}
 use lib.Dec.{eqb, leb}
-use lib.ListN.{length, take, drop, getD, length-drop, length-take, take-append-drop, drop-of-length-le}
-use lib.Seq.{take-all, take-nil, drop-nil, take-at, drop-at, length-take-le}
-use borrow.Author.Tests.{eqb-true, eq-eqb, leb-true, leb-false, le-leb, lt-leb}
+use lib.ListN.{length, take, drop, length-drop, take-append-drop, drop-of-length-le}
+use lib.Seq.{take-all, take-at, drop-at, length-take-le}
+use borrow.Author.Tests.{leb-true, leb-false, le-leb}
 use Rattle.base.proofs.Laws.{same-refl, same-eq}
-use Rattle.base.specs.Bools.{never, and, both, split}
+use Rattle.base.specs.Bools.{and, both, split}
 use Rattle.base.specs.Common.{if_then_else_, same}
-use Rattle.machine.specs.Bytes.{wordsOf, bytesOf}
+use Rattle.machine.specs.Bytes.{bytesOf}
 use Rattle.machine.proofs.Bytes.{wordsOf-bytesOf}
-use Rattle.loading.specs.File.{hd, tw, records, fileWords, fileBytes, blocks, tableNamed, verdictNamed, allowed, isFile, Answer, done, refused, load, store, numbersOf}
+use Rattle.loading.specs.File.{records, fileWords, fileBytes, blocks, tableNamed, verdictNamed, allowed, isFile, done, refused, load, store, numbersOf}
 use Rattle.loading.specs.Promise.{Loadable, LoadsExactly}
 use Rattle.loading.specs.Taking.{taken}
 use Rattle.loading.proofs.Exact.{taken-Taken, Taken-taken}

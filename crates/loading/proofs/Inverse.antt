@@ -1,7 +1,7 @@
 -- Writing and loading are each other's inverse.
 use mathlib.Core.Bool.{Bool, true, false, _&&_}
 use mathlib.Core.List.{List}
-use mathlib.Core.Path.{_≡_, refl, sym, ap, _∙_}
+use mathlib.Core.Path.{_≡_, refl}
 use Prim.Native.Nat.{ℕ, _≤_}
 use native.Mathlib.Omega.{arith}
 use lib.Dec.{leb}
@@ -10,7 +10,7 @@ use borrow.Author.Tests.{le-leb}
 use Rattle.base.specs.Bools.{and}
 use Rattle.base.specs.Common.{if_then_else_, same}
 use Rattle.machine.specs.Bytes.{bytesOf}
-use Rattle.loading.specs.File.{fileWords, fileBytes, tableNamed, verdictNamed, allowed, isFile, Answer, done, refused, load, store}
+use Rattle.loading.specs.File.{fileWords, fileBytes, tableNamed, verdictNamed, allowed, isFile, done, refused, load, store}
 use Rattle.loading.specs.Inverse.{OneFile}
 use Rattle.loading.specs.Taking.{taken}
 use Rattle.loading.proofs.Files.{table-file, verdict-file, length-allowed, file-is, is-file, written-loads}

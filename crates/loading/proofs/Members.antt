@@ -3,15 +3,15 @@ use mathlib.Core.Bool.{Bool, true, false}
 use mathlib.Core.List.{List, [], _∷_, _++_}
 use mathlib.Core.Logic.{_⊎_, inl, inr}
 use mathlib.Core.Option.{Option, none, some}
-use mathlib.Core.Path.{_≡_, refl, sym, ap, _∙_}
+use mathlib.Core.Path.{_≡_, refl, sym}
 use Prim.Native.Nat.{ℕ, zero, suc, _+_, _<_, _≤_}
 use native.Mathlib.Omega.{arith}
 use lib.Dec.{eqb}
 use lib.ListN.{length, getElem?}
-use borrow.Author.Tests.{eqb-true, eq-eqb, ne-eqb}
-use Rattle.base.specs.Bools.{never, split}
+use borrow.Author.Tests.{eqb-true, eq-eqb}
+use Rattle.base.specs.Bools.{never}
 use Rattle.base.specs.Common.{if_then_else_, member, given}
-use Rattle.machine.specs.Decode.{fetch, Instruction, invalid, decode, decodeAt}
+use Rattle.machine.specs.Decode.{fetch, invalid, decode, decodeAt}
 
 pub member-head : (m : ℕ) (ms : List ℕ) → member m (m ∷ ms) ≡ true
 member-head m ms = rw (eq-eqb m m refl)

@@ -6,18 +6,18 @@ use Prim.Native.Nat.{ℕ, zero, suc, _+_, _*_, _-_, _/_, _%_, _<_, _≤_}
 use native.Mathlib.Decide.{decLt}
 use native.Mathlib.Omega.{arith}
 use lib.Dec.{eqb, leb}
-use lib.ListN.{length, take, drop, getD, length-append, length-drop, length-take, take-append-drop, drop-of-length-le, List·getD-append}
+use lib.ListN.{length, take, drop, getD, length-append, length-drop, take-append-drop, drop-of-length-le, List·getD-append}
 use lib.Seq.{take-all, take-at, drop-at, length-take-le, getD-take, getD-drop, getD-append-add}
 use borrow.Author.Tests.{eqb-true, eq-eqb, leb-true, leb-false, le-leb, lt-leb}
 use Rattle.base.proofs.Laws.{same-refl}
 use Rattle.base.specs.Bools.{never, and, both, split}
 use Rattle.base.specs.Common as common
 use Rattle.base.specs.Common.{if_then_else_}
-use Rattle.machine.specs.Bytes.{wordsOf, bytesOf}
+use Rattle.machine.specs.Bytes.{wordsOf}
 use Rattle.machine.proofs.Bytes.{wordsOf-bytesOf, bytesOf-wordsOf, length-bytesOf}
 use Rattle.loading.specs.File.{hd, tw, records, fileWords, fileBytes, blocks, tableNamed, verdictNamed, allowed, isFile}
 use Rattle.loading.specs.Reading.{formed, headed}
-use Rattle.loading.proofs.Files.{blocks-nil, table-file, verdict-file, is-file, length-allowed}
+use Rattle.loading.proofs.Files.{blocks-nil, is-file, length-allowed}
 
 -- what records that are formed hold
 pub record Forms (k left : ℕ) (ws : List ℕ) : Type 0 where

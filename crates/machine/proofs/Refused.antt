@@ -3,7 +3,7 @@
 use mathlib.Core.Bool.{Bool, true, false}
 use mathlib.Core.List.{List, [], _∷_}
 use mathlib.Core.Option.{Option, none, some}
-use mathlib.Core.Path.{_≡_, refl, sym, ap, _∙_}
+use mathlib.Core.Path.{_≡_, refl, ap, _∙_}
 use Prim.Native.Nat.{ℕ, zero, suc, _+_, _-_}
 use lib.Dec.{ltb}
 use native.Mathlib.Omega.{arith}
@@ -13,7 +13,7 @@ use Rattle.machine.proofs.Form.{walkBytes-walkOf}
 use Rattle.machine.specs.Bytes.{count, wordsOf, tableOf, bytesOf, over}
 use Rattle.machine.specs.Call as calls
 use Rattle.machine.specs.Call.{Mode, whole, paused, Called, ends, endsFor, writing, Turn, further, takes, handsOut, turn, run, callIn, callWalk}
-use Rattle.machine.specs.Form.{walkBytes, walkOf, eventsWords, Outcome, outcome, callBytes}
+use Rattle.machine.specs.Form.{walkBytes, walkOf, eventsWords, outcome, callBytes}
 use Rattle.machine.specs.Step.{Next, goesOutside, stops, goes, tells, asks, step}
 use Rattle.machine.specs.Unchanged.{Same, Unchanged}
 use Rattle.machine.specs.Walk.{Phase, going, waiting, stopped, Walk, atRest, withAnswer, inPhase}

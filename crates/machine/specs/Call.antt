@@ -1,11 +1,11 @@
 -- A call of a walk: whole, "given all answers beforehand", or paused, given an answer or none.
-use mathlib.Core.Bool.{Bool, true, false}
+use mathlib.Core.Bool.{true}
 use mathlib.Core.List.{List, [], _∷_}
 use mathlib.Core.Option.{Option, none, some}
 use Prim.Native.Nat.{ℕ, zero, suc, _+_, _-_}
 use lib.Dec.{ltb}
 use Rattle.base.specs.Common.{if_then_else_}
-use Rattle.events.specs.Events.{Event, Reason, reasonNumber, unanswered, outside, Io, answer, wrote}
+use Rattle.events.specs.Events.{Event, Reason, reasonNumber, unanswered, outside, answer, wrote}
 use Rattle.machine.specs.Walk.{Phase, going, waiting, stopped, Walk, withIo, inPhase, withAnswer, atRest}
 use Rattle.machine.specs.Step.{Next, goesOutside, stops, goes, tells, asks, step}
 

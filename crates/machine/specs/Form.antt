@@ -1,5 +1,5 @@
 -- The byte form of a walk (docs/LAYOUT.md), and a call over bytes alone.
-use mathlib.Core.Bool.{Bool, true, false}
+use mathlib.Core.Bool.{true}
 use mathlib.Core.List.{List, [], _∷_, _++_, reverse}
 use mathlib.Core.Option.{Option, none, some}
 use mathlib.Core.Path.{_≡_}
@@ -7,10 +7,10 @@ use Prim.Native.Nat.{ℕ, _+_, _*_, _-_, _/_, _%_, _<_, _≤_}
 use lib.Dec.{eqb}
 use lib.ListN.{length, take, drop, getD, replicate}
 use Rattle.base.specs.Common.{if_then_else_, same}
-use Rattle.events.specs.Events.{Event, eventWords, Reason, finished, differs, missing, unlabelled, deep, unanswered, outside, reasonNumber, Io}
+use Rattle.events.specs.Events.{Event, eventWords, Reason, finished, differs, missing, unlabelled, deep, unanswered, outside, reasonNumber}
 use Rattle.machine.specs.Bytes.{count, wordsOf, tableOf, bytesOf, over}
 use Rattle.machine.specs.Walk.{Phase, going, waiting, stopped, Walk}
-use Rattle.machine.specs.Call.{Mode, whole, paused, Called, callWalk}
+use Rattle.machine.specs.Call.{Mode, whole, Called, callWalk}
 
 -- the first two words: 0 0 going on, 1 0 waiting, 2 and the reason's number stopped
 unfoldable pub phaseWords : Phase → List ℕ

@@ -1,5 +1,5 @@
 -- "The length of each instruction is fixed by its number: two words, or one for 4, 9, 12 and the operations."
-use mathlib.Core.Bool.{Bool, true, false, _&&_, _||_}
+use mathlib.Core.Bool.{true, _&&_, _||_}
 use mathlib.Core.List.{List, [], _∷_}
 use Prim.Native.Nat.{ℕ, _-_}
 use lib.Dec.{eqb, leb}

@@ -1,6 +1,6 @@
 -- "Words of 16 bits": what a call is given on a device.
 use mathlib.Core.List.{List}
-use mathlib.Core.Option.{Option, none, some}
+use mathlib.Core.Option.{none, some}
 use Prim.Native.Nat.{ℕ, _<_}
 use lib.ListN.{getD}
 use Rattle.machine.specs.Call.{Mode, whole, paused}

@@ -1,12 +1,12 @@
 -- One instruction of a walk that goes on, over the table T and the tokens. 37 is found before all else that the instruction tests.
-use mathlib.Core.Bool.{Bool, true, false, _&&_, _||_}
+use mathlib.Core.Bool.{Bool, true, _&&_, _||_}
 use mathlib.Core.List.{List, [], _∷_}
 use mathlib.Core.Option.{Option, none, some}
 use Prim.Native.Nat.{ℕ, zero, suc, _+_, _*_, _-_}
 use lib.Dec.{leb, ltb}
 use lib.ListN.{length}
 use Rattle.base.specs.Common.{if_then_else_, given}
-use Rattle.events.specs.Events.{Event, repair, operation, operationWith, Reason, finished, differs, missing, unlabelled, deep, Io, present, took, mends, spent, is}
+use Rattle.events.specs.Events.{Event, repair, operation, operationWith, Reason, finished, differs, missing, unlabelled, deep, present, took, mends, spent, is}
 use Rattle.machine.specs.Decode.{fetch, Instruction, invalid, jump, input, inputAny, write, inputChoice, callRule, return, setResult, choice, endChoice, setParameter, update, updateWith, choose, chooseWith, decode}
 use Rattle.machine.specs.Walk.{Walk, moved, withReturns, withResult, withParameter, withIo}
 

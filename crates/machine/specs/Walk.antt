@@ -3,7 +3,7 @@
 use mathlib.Core.List.{List, [], _∷_}
 use Prim.Native.Nat.{ℕ, _-_}
 use lib.ListN.{length, drop}
-use Rattle.events.specs.Events.{Event, Reason, Io, answered, wrote}
+use Rattle.events.specs.Events.{Reason, Io, answered, wrote}
 
 pub data Phase : Type 0 where
   going waiting : Phase

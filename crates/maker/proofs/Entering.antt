@@ -10,14 +10,14 @@ use lib.Dec.{leb}
 use lib.ListN.{length, getD, take, drop}
 use Rattle.base.specs.Common.{bytes, same}
 use Rattle.declarations.specs.Decls.{Decl, operatorsFrom}
-use Rattle.grammar.specs.Derived.{Took, Not, Reference, by-name, by-string, SideIn, left-in, right-in, OperatorIn, an-operator, OperatorsIn, last-operator, more-operators}
+use Rattle.grammar.specs.Derived.{Took, Reference, by-name, by-string, SideIn, left-in, right-in, OperatorIn, an-operator, OperatorsIn, last-operator, more-operators}
 use Rattle.maker.specs.Pairing.{PlaceOf}
 use Rattle.maker.specs.Ranks.{EntryIs, AnEntry, rankStep, rankOf, RankDone}
 use Rattle.maker.specs.declared.Entry.{Entry}
 use Rattle.maker.specs.declared.Rank.{Rank}
-use Rattle.places.proofs.Heres.{Same, took-here, took-kind, not-here, reference-kind, reference-here}
+use Rattle.places.proofs.Heres.{took-here, took-kind, not-here, reference-kind, reference-here}
 use Rattle.reader.specs.Counting.{NumberOf}
-use Rattle.scanner.specs.Next.{Next, asWord}
+use Rattle.scanner.specs.Next.{Next}
 use Rattle.scanner.specs.declared.WordAt.{WordAt}
 use Rattle.syntax.specs.Reading.{peek}
 use Rattle.syntax.specs.Written.{Operator}

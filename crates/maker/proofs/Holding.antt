@@ -12,16 +12,14 @@ use lib.Dec.{eqb, ltb}
 use lib.ListN.{length, getD, set, length-set, take, drop}
 use lib.Seq.{getD-set-same, getD-set-other}
 use Rattle.base.specs.Common.{if_then_else_, given}
-use Rattle.declarations.specs.Decls.{Decl, indexOf}
+use Rattle.declarations.specs.Decls.{indexOf}
 use Rattle.maker.specs.Marks.{behind, useOf}
-use Rattle.maker.specs.Pairs.{Pair, pairAt, pairsFrom, pairsHeld, lookPair, lowestIn, sectionRow, operandRow, Ordered}
-use Rattle.maker.specs.Pairing.{setThree, Adds, Finds, UseRead}
-use Rattle.names.specs.Uses.{Use}
+use Rattle.maker.specs.Pairs.{Pair, pairAt, pairsFrom, pairsHeld, lookPair, lowestIn, sectionRow, operandRow}
+use Rattle.maker.specs.Pairing.{setThree, Adds, UseRead}
 use Rattle.places.proofs.Heres.{head-here}
 use Rattle.scanner.specs.Next.{Next, asWord}
 use Rattle.scanner.specs.declared.WordAt.{WordAt}
 use Rattle.symbols.proofs.Indexing.{index-after, index-set}
-use Rattle.symbols.specs.Index.{IndexKept}
 use Rattle.symbols.specs.Rows.{held, numberOf}
 use Rattle.symbols.specs.Search.{Tells, there, nowhere}
 use Rattle.syntax.specs.Reading.{peek}

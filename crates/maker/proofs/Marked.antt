@@ -1,15 +1,14 @@
 -- The loop over the words finds the uses of the tree, in its order.
-use mathlib.Core.Bool.{Bool, true, false}
+use mathlib.Core.Bool.{true, false}
 use mathlib.Core.List.{List, [], _∷_}
 use mathlib.Core.Option.{Option, none, some}
 use mathlib.Core.Path.{_≡_, refl, sym, ap, _∙_}
 use Prim.Native.Nat.{ℕ}
 use lib.Dec.{eqb}
-use borrow.Author.Tests.{eq-eqb}
 use Rattle.base.specs.Common.{if_then_else_}
-use Rattle.base.specs.Tree.{Action, plain, cycle, choice, Actions, done, _▸_, Alternatives, nil, alternative, Otherwise, absent, otherwise}
+use Rattle.base.specs.Tree.{choice, otherwise}
 use Rattle.grammar.proofs.SectionsIn.{peek-took}
-use Rattle.grammar.specs.Derived.{Took, Not, Reference, by-name, by-string, ConstantIn, no-constant, a-constant, ValueIn, no-value, a-value, PlainIn, named-in, any-in, emit-in, error-in, exit-in, call-in, give-in, ranked-in, SelectorIn, token-in, rule-in, operation-in, LabelsIn, last-label, more-labels, ActIn, plain-in, cycle-in, choice-in, ActsIn, none-in, more-in, AltsIn, other-in, last-in, next-in, GivesIn, gives-none, gives-some, RuleIn, a-rule, RulesIn, last-rule, more-rules}
+use Rattle.grammar.specs.Derived.{Took, Reference, by-name, by-string, ConstantIn, no-constant, a-constant, ValueIn, no-value, a-value, PlainIn, named-in, any-in, emit-in, error-in, exit-in, call-in, give-in, ranked-in, SelectorIn, token-in, rule-in, operation-in, LabelsIn, last-label, more-labels, ActIn, plain-in, cycle-in, choice-in, ActsIn, none-in, more-in, AltsIn, other-in, last-in, next-in, GivesIn, gives-none, gives-some, RuleIn, a-rule, RulesIn, last-rule, more-rules}
 use Rattle.maker.specs.Marks.{behind, useOf, marks}
 use Rattle.names.specs.Uses.{Use, plainUses, actUses, actsUses, altsUses, otherUses, rulesUses}
 use Rattle.syntax.specs.Reading.{peek}

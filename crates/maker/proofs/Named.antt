@@ -2,7 +2,7 @@
 use mathlib.Core.List.{List, [], _∷_}
 use mathlib.Core.Path.{_≡_}
 use Prim.Native.Nat.{ℕ}
-use Rattle.base.specs.Tree.{Action, plain, cycle, choice, Actions, done, _▸_, Alternatives, nil, alternative, Otherwise, absent, otherwise}
+use Rattle.base.specs.Tree.{choice, otherwise}
 use Rattle.grammar.specs.Derived.{PlainIn, named-in, any-in, emit-in, error-in, exit-in, call-in, give-in, ranked-in, ActIn, plain-in, cycle-in, choice-in, ActsIn, none-in, more-in, AltsIn, other-in, last-in, next-in, RuleIn, a-rule, RulesIn, last-rule, more-rules}
 use Rattle.maker.specs.Pairing.{AllNamed}
 use Rattle.names.specs.Uses.{Use, plainUses, actUses, actsUses, altsUses, otherUses, rulesUses}

@@ -7,14 +7,13 @@ use Prim.Native.Nat.{ℕ, zero, suc, _+_, _-_, _<_, _≤_}
 use native.Mathlib.Nat.{add-zero, zero-add}
 use native.Mathlib.Omega.{arith}
 use borrow.Author.Tests.{eq-eqb, ne-eqb, le-leb, lt-leb, lt-ltb, le-ltb}
-use lib.Dec.{eqb, leb, ltb}
+use lib.Dec.{eqb, ltb}
 use lib.ListN.{length, length-append}
 use Rattle.base.proofs.Laws.{lt-or-le}
 use Rattle.base.specs.Common.{if_then_else_}
 use Rattle.declarations.specs.Decls.{Decl, operatorsFrom}
-use Rattle.grammar.specs.Derived.{OperatorIn, an-operator, OperatorsIn, last-operator, more-operators}
+use Rattle.grammar.specs.Derived.{an-operator, OperatorsIn, last-operator, more-operators}
 use Rattle.maker.specs.Ranks.{noRank, rankStep, rankOf, RankDone, RankBound, LevelsDone}
-use Rattle.maker.specs.declared.Levels.{Levels}
 use Rattle.maker.specs.declared.Rank.{Rank}
 use Rattle.program.specs.Made.{Operator, Level, atLevel, levelAnd, levelsFrom, levelsOf, crowded}
 use Rattle.syntax.specs.Written as written

@@ -1,12 +1,12 @@
 -- Uses taken one after the other: the pairs that stand there are those of the uses seen, and the answer is that of the rules made for them.
 use mathlib.Core.Bool.{Bool, true, false, _&&_, _||_}
-use mathlib.Core.List.{List, [], _∷_, _++_, append-assoc, append-nil}
-use mathlib.Core.Logic.{_⊎_, inl, inr}
-use mathlib.Core.Option.{Option, none, some}
+use mathlib.Core.List.{List, [], _∷_, _++_}
+use mathlib.Core.Logic.{inr}
+use mathlib.Core.Option.{none, some}
 use mathlib.Core.Path.{_≡_, refl, sym, ap, _∙_}
-use Prim.Native.Nat.{ℕ, zero, suc, _+_, _*_, _-_, _<_, _≤_}
+use Prim.Native.Nat.{ℕ, suc, _+_, _*_, _-_, _<_, _≤_}
 use native.Mathlib.Omega.{arith}
-use borrow.Author.Tests.{eq-eqb, ne-eqb, eqb-true, ltb-true, le-ltb, ltb-false}
+use borrow.Author.Tests.{eqb-true, ltb-false}
 use lib.Dec.{eqb, ltb}
 use lib.ListN.{length, getD}
 use Rattle.base.proofs.Laws.{neither, above-zero}
@@ -16,27 +16,22 @@ use Rattle.declarations.specs.Decls.{Agrees, Decl, EntriesAt, entriesOf, declOf
 use Rattle.grammar.specs.Derived.{OperatorsIn}
 use Rattle.maker.proofs.Holding.{tells-given, tells-not}
 use Rattle.maker.proofs.Ranking.{levels-some}
-use Rattle.maker.specs.Marks.{behind, useOf, marks}
-use Rattle.maker.specs.Pairs.{Pair, pairsHeld, lookPair, lowestIn, sectionRow, operandRow, Ordered, AllOrdered, pairOf, pairsMean}
-use Rattle.maker.specs.Pairing.{Adds, PlaceOf, Finds, UseRead, passes, isThere, Takes, again, added, over, TakenBound, UseDone, WordDone, Stands, AllNamed, PairsEnd, paired, passed, PairsFrom}
+use Rattle.maker.specs.Marks.{behind}
+use Rattle.maker.specs.Pairs.{pairsHeld, lookPair, sectionRow, operandRow, Ordered, pairOf}
+use Rattle.maker.specs.Pairing.{Adds, PlaceOf, Finds, UseRead, passes, isThere, again, added, over, TakenBound, UseDone}
 use Rattle.maker.specs.Ranks.{LevelsDone}
 use Rattle.maker.specs.declared.Levels.{Levels}
-use Rattle.maker.specs.declared.Paired.{Paired}
 use Rattle.maker.specs.declared.Taken.{Taken}
 use Rattle.maker.specs.declared.Used.{Used}
-use Rattle.names.specs.Known.{Checked, good, wrong, _>>=_, faultIf, KnownRule, Names, findOperators}
-use Rattle.names.specs.Uses.{Use, samePair, isUsed, firsts, levelsUsed, lowestOf, operandOf, madeFor}
-use Rattle.program.specs.Made.{Level, levelsOf, levelRules, crowded}
-use Rattle.program.specs.Program as means
-use Rattle.scanner.specs.Next.{Next, asWord}
-use Rattle.scanner.specs.declared.WordAt.{WordAt}
-use Rattle.symbols.proofs.Indexing.{index-same, index-after, held-behind}
+use Rattle.names.specs.Known.{KnownRule, Names}
+use Rattle.names.specs.Uses.{Use, levelsUsed}
+use Rattle.program.specs.Made.{Level, levelsOf, crowded}
+use Rattle.symbols.proofs.Indexing.{index-same}
 use Rattle.symbols.proofs.Searches.{held-at, held-length}
-use Rattle.symbols.specs.Index.{IndexKept}
 use Rattle.symbols.specs.Rows.{declAt, heldFrom, held}
 use Rattle.symbols.specs.Search.{Tells}
-use Rattle.syntax.specs.Written.{Operator, Program}
-use Rattle.words.specs.Words.{Word, wordsAt}
+use Rattle.syntax.specs.Written.{Program}
+use Rattle.words.specs.Words.{wordsAt}
 
 -- Declarations
 

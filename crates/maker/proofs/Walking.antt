@@ -4,12 +4,12 @@ use mathlib.Core.List.{List, [], _∷_, _++_, append-assoc, append-nil}
 use mathlib.Core.Logic.{_⊎_, inl, inr}
 use mathlib.Core.Option.{Option, none, some}
 use mathlib.Core.Path.{_≡_, refl, sym, ap, _∙_}
-use Prim.Native.Nat.{ℕ, zero, suc, _+_, _*_, _-_, _<_, _≤_}
+use Prim.Native.Nat.{ℕ, _+_, _*_, _-_, _<_, _≤_}
 use native.Mathlib.Decide.{decLt}
 use native.Mathlib.Omega.{arith}
 use borrow.Author.Tests.{eq-eqb, ne-eqb, eqb-true}
 use lib.Dec.{eqb}
-use lib.ListN.{length, getD, set, take, drop, length-take, length-drop, length-set}
+use lib.ListN.{length, getD, set, take, drop, length-take, length-drop}
 use lib.Seq.{getD-set-same}
 use Rattle.base.proofs.Laws.{same-eq, same-refl}
 use Rattle.base.specs.Bools.{never}
@@ -21,19 +21,19 @@ use Rattle.maker.proofs.Named.{rules-named}
 use Rattle.maker.proofs.Taking.{row-at, row-less}
 use Rattle.maker.specs.Marks.{useOf, marks}
 use Rattle.maker.specs.Pairs.{Pair, pairsFrom, pairsHeld, lookPair, lowestIn, sectionRow, operandRow, Ordered, AllOrdered, pairOf, pairsMean, PairsAre}
-use Rattle.maker.specs.Pairing.{NoSection, isThere, passes, Takes, again, added, over, TakenBound, UseDone, WordDone, Stands, AllNamed, PairsEnd, paired, passed, PairsFrom, PairsDone}
+use Rattle.maker.specs.Pairing.{NoSection, isThere, passes, Takes, again, added, over, UseDone, WordDone, Stands, AllNamed, PairsEnd, paired, passed, PairsFrom, PairsDone}
 use Rattle.maker.specs.declared.Paired.{Paired}
 use Rattle.maker.specs.declared.Taken.{Taken}
 use Rattle.names.specs.Declare.{knownRules}
-use Rattle.names.specs.Known.{Checked, good, wrong, _>>=_, faultIf, KnownRule, Names}
+use Rattle.names.specs.Known.{Checked, good, wrong, _>>=_, KnownRule, Names}
 use Rattle.names.specs.Uses.{Use, rulesUses, samePair, isUsed, firsts, pairsOf, levelsUsed, lowestOf, operandOf, madeFor}
-use Rattle.program.specs.Made.{Level, levelRules, crowded}
+use Rattle.program.specs.Made.{levelRules}
 use Rattle.program.specs.Program as means
 use Rattle.scanner.specs.Next.{Next, asWord}
 use Rattle.scanner.specs.declared.WordAt.{WordAt}
-use Rattle.symbols.proofs.Indexing.{index-same, index-after, index-set, held-behind, kept-behind}
+use Rattle.symbols.proofs.Indexing.{index-same, index-after, index-set, held-behind}
 use Rattle.symbols.proofs.Searches.{held-at}
-use Rattle.symbols.specs.Index.{IndexKept, Kept}
+use Rattle.symbols.specs.Index.{IndexKept}
 use Rattle.symbols.specs.Rows.{held, declAt}
 use Rattle.syntax.specs.Reading.{peek}
 use Rattle.syntax.specs.Written.{Program}

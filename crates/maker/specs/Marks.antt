@@ -1,5 +1,4 @@
 -- The uses of operators as a plain loop over the words of the rules finds them: a `^`, the word behind it and the third behind it.
-use mathlib.Core.Bool.{Bool}
 use mathlib.Core.List.{List, [], _∷_}
 use Prim.Native.Nat.{ℕ}
 use lib.Dec.{eqb}

@@ -1,5 +1,5 @@
 -- The pairs of section and operand rule that a text uses, as they stand in the rows behind the index: 5632 their number, then three numbers a pair from 5633 on.
-use mathlib.Core.Bool.{Bool, true, false, _&&_}
+use mathlib.Core.Bool.{true, _&&_}
 use mathlib.Core.List.{List, [], _∷_}
 use mathlib.Core.Option.{Option, none, some}
 use mathlib.Core.Path.{_≡_}
@@ -9,7 +9,7 @@ use lib.ListN.{length, getD}
 use Rattle.base.specs.Common.{if_then_else_}
 use Rattle.declarations.specs.Decls.{Decl, indexOf}
 use Rattle.names.specs.Known.{Names}
-use Rattle.names.specs.Uses.{Use, levelsUsed, rulesUses, pairsOf}
+use Rattle.names.specs.Uses.{Use, levelsUsed, pairsOf}
 use Rattle.symbols.specs.Rows.{held, numberOf}
 use Rattle.syntax.specs.Written.{Program}
 

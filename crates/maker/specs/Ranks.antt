@@ -2,7 +2,7 @@
 use mathlib.Core.Bool.{Bool, true, false}
 use mathlib.Core.List.{List, [], _∷_}
 use mathlib.Core.Path.{_≡_}
-use Prim.Native.Nat.{ℕ, suc, _+_, _-_, _<_, _≤_}
+use Prim.Native.Nat.{ℕ, _+_, _-_, _<_, _≤_}
 use lib.Dec.{leb, ltb}
 use lib.ListN.{length}
 use Rattle.base.specs.Common.{if_then_else_}
@@ -12,7 +12,7 @@ use Rattle.maker.specs.declared.Entry.{Entry}
 use Rattle.maker.specs.declared.Levels.{Levels}
 use Rattle.maker.specs.declared.Rank.{Rank}
 use Rattle.program.specs.Made as made
-use Rattle.program.specs.Made.{Level, atLevel, levelsFrom, levelsOf, crowded}
+use Rattle.program.specs.Made.{levelsOf, crowded}
 use Rattle.scanner.specs.Next.{asWord}
 use Rattle.syntax.specs.Written.{Operator}
 use Rattle.words.specs.Words.{Word, wordsAt}

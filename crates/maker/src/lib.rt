@@ -1,7 +1,6 @@
 // The uses of operators in a text that the syntax pass has accepted: each pair of section and operand rule, in the order of first use, and the
 // place of the lowest rule that is made for it. They stand in the rows behind the index.
 ghost use mathlib.Core.Path.{_≡_};
-ghost use mathlib.Core.List.{List};
 ghost use Prim.Native.Nat.{ℕ, _+_, _-_, _*_, _<_, _≤_};
 ghost use lib.Dec.{eqb, ltb};
 ghost use lib.ListN.{length, getD};

@@ -18,7 +18,7 @@ use Rattle.maker.specs.Pairing.{AllNamed}
 use Rattle.maker.specs.Pairs.{AllOrdered, pairsFrom, pairsHeld, pairsMean}
 use Rattle.mapper.proofs.Laws.{held-map, inside, length-rows}
 use Rattle.mapper.proofs.Made.{rows-append, made-long}
-use Rattle.mapper.specs.Mapped.{Maps, Puts, Holds, Placed, MadePut, MapsHeld, heldRows}
+use Rattle.mapper.specs.Mapped.{Maps, Puts, Placed, MadePut, MapsHeld, heldRows}
 use Rattle.mapping.specs.Mapping as mapping
 use Rattle.mapping.proofs.Parting.{all-understood, own-length}
 use Rattle.mapping.specs.Mapping.{Row, rowsFrom, madeRows, rowsOf, rowsRead, ruleRows, Answer, mapped, refused, mapOf, mapRules, numbersOf, roomIn, rowsWords, lentRows}
@@ -35,12 +35,11 @@ use Rattle.reader.specs.declared.Out.{Out}
 use Rattle.symbols.specs.Rows.{held}
 use Rattle.syntax.specs.Parse.{parse}
 use Rattle.syntax.specs.Reading.{got, fault}
-use Rattle.syntax.specs.Written as written
 use Rattle.syntax.specs.Written.{Program}
 use Rattle.frontend.proofs.Buffers.{ready-cells, refused-20, accepts-it, too-long}
 use Rattle.frontend.proofs.Meant.{its-meaning}
 use Rattle.frontend.proofs.Steps.{decides-fault, process-fault, process-read, checked-wrong, checked-good}
-use Rattle.frontend.specs.Resolving.{Ready, Rowed, Resolves, meant, mistaken}
+use Rattle.frontend.specs.Resolving.{Rowed, Resolves, meant, mistaken}
 use Rattle.frontend.specs.declared.Resolved.{Resolved}
 use Rattle.words.specs.Words.{Word}
 

@@ -6,7 +6,7 @@ use native.Mathlib.Omega.{arith}
 use lib.ListN.{length, getD, length-append}
 use Rattle.declarations.specs.Decls.{Decl}
 use Rattle.frontend.specs.declared.Resolved.{Resolved}
-use mathlib.Core.Option.{Option, some}
+use mathlib.Core.Option.{some}
 use Rattle.levels.specs.Naming.{AllFirst, FirstDone, Names, firstUse}
 use Rattle.levels.specs.declared.Part.{Part}
 use Rattle.machine.specs.Bytes.{bytesOf, over}

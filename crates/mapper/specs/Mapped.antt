@@ -10,7 +10,7 @@ use Rattle.maker.specs.Marks.{marks}
 use Rattle.maker.specs.Pairing.{AllNamed}
 use Rattle.maker.specs.Pairs.{AllOrdered, pairsFrom, pairsMean}
 use Rattle.mapping.specs.Mapping.{Row, rowOf, rowsOf, madeRows, rowsWords, Answer, mapOf, numbersOf, tells, roomIn, lentRows}
-use Rattle.names.specs.Known.{Checked, good, Names}
+use Rattle.names.specs.Known.{good, Names}
 use Rattle.names.specs.Understand.{understand}
 use Rattle.names.specs.Uses.{Use}
 use Rattle.processor.specs.Process.{answerFor, meaning}

@@ -6,7 +6,6 @@ ghost use Rattle.machine.specs.Bytes.{bytesOf, over};
 ghost use Rattle.mapping.specs.Mapping.{rowWords, rowsWords, roomIn, mapRules};
 ghost use Rattle.frontend.specs.Resolving.{IsRead};
 ghost use Rattle.mapper.specs.Mapped.{Puts, heldRows, levelsHeld, EndOf, MadePut, Maps, Holds, Placed, MapsHeld};
-ghost use Rattle.symbols.specs.Index.{Kept};
 use frontend::Resolved;
 use levels::Part;
 use symbols::NAME_LEN;

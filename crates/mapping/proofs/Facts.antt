@@ -10,7 +10,7 @@ use Rattle.finishing.specs.Test
 use Rattle.machine.specs.Bytes
 use Rattle.machine.specs.Form
 use Rattle.mapping.specs.Mapping
-use Rattle.mapping.specs.Mapping.{Row, Answer, mapped, refused, mapRules, Numbers, numbersOf, lentRows, roomIn}
+use Rattle.mapping.specs.Mapping.{Row, Answer, mapped, refused, mapRules, numbersOf, lentRows, roomIn}
 use Rattle.names.specs.Declare
 use Rattle.names.specs.Known
 use Rattle.names.specs.Resolve

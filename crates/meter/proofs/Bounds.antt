@@ -1,9 +1,9 @@
 -- Numbers from which nothing can be raised bound every path.
 use mathlib.Core.Bool.{Bool, true, false}
 use mathlib.Core.List.{List, [], _∷_}
-use mathlib.Core.Logic.{_⊎_, inl, inr}
+use mathlib.Core.Logic.{inr}
 use mathlib.Core.Option.{Option, none, some}
-use mathlib.Core.Path.{_≡_, refl, sym, ap, _∙_}
+use mathlib.Core.Path.{_≡_, refl}
 use native.Mathlib.Omega.{arith}
 use Prim.Native.Nat.{ℕ, zero, suc, _+_, _≤_, _<_, min}
 use lib.Dec.{eqb}
@@ -11,9 +11,8 @@ use lib.ListN.{length, getD}
 use borrow.Author.Tests.{eqb-true}
 use Rattle.base.specs.Bools.{never}
 use Rattle.base.specs.Common.{if_then_else_}
-use Rattle.events.specs.Events.{Event}
 use Rattle.machine.specs.Decode.{Instruction, invalid, jump, input, inputAny, write, inputChoice, callRule, return, setResult, choice, endChoice, setParameter, update, updateWith, choose, chooseWith, decode}
-use Rattle.figure.specs.Figure.{wayOut, Leads, leads-jump, leads-input, leads-any, leads-write, leads-token, leads-call, leads-result, leads-choice, leads-parameter, leads-update, leads-updateWith, leads-choose, leads-chooseWith, Reached, at-start, further, End, over, back, Quiet, quiet, Does, does-jump, does-input, does-any, does-write, does-token, does-default, does-call-over, does-call, does-call-stop, does-return, does-result, does-choice, does-end, does-parameter, does-update, does-updateWith, does-choose, does-chooseWith, does-choose-stop, does-chooseWith-stop, Goes, any-way, by-result, Bounds}
+use Rattle.figure.specs.Figure.{wayOut, Leads, leads-jump, leads-input, leads-any, leads-write, leads-token, leads-call, leads-result, leads-choice, leads-parameter, leads-update, leads-updateWith, leads-choose, leads-chooseWith, Reached, at-start, further, End, over, back, Quiet, quiet, Does, does-jump, does-input, does-any, does-write, does-token, does-default, does-call-over, does-call, does-call-stop, does-return, does-result, does-choice, does-end, does-parameter, does-update, does-updateWith, does-choose, does-chooseWith, does-choose-stop, does-chooseWith-stop, any-way, by-result}
 use Rattle.meter.specs.Makes.{overAt, backAt, half, cap, Makes, makes-jump, makes-input, marks-input, makes-any, marks-any, makes-write, makes-token, makes-default, marks-label, makes-call-over, makes-call-back, makes-call-value, marks-call, makes-return, makes-result, makes-choice, makes-end, makes-parameter, makes-update, makes-updateWith, makes-choose, makes-choose-over, makes-chooseWith, makes-chooseWith-over, Closed}
 use Rattle.meter.specs.Shaped.{indexOf, startOf, InRule, isChoice, Given, given-none, given-some, Shaped}
 

@@ -1,23 +1,21 @@
 -- Choices by the present token, and values that a called rule sets.
 use mathlib.Core.Bool.{Bool, false, _||_}
-use mathlib.Core.List.{List, [], _∷_}
+use mathlib.Core.List.{List, _∷_}
 use mathlib.Core.Option.{Option, none, some}
 use mathlib.Core.Path.{_≡_, refl, sym, ap, _∙_}
-use native.Mathlib.Decide.{decLt}
 use native.Mathlib.Numerals.{add-one}
 use native.Mathlib.Omega.{arith}
-use Prim.Native.Nat.{ℕ, suc, _+_, _*_, _≤_, min}
-use lib.ListN.{length, getD}
+use Prim.Native.Nat.{ℕ, suc, _+_, _*_, _≤_}
+use lib.ListN.{length}
 use Rattle.base.proofs.Laws.{above-zero}
-use Rattle.events.specs.Events.{Event}
 use Rattle.loading.proofs.Members.{fetch-inside}
 use Rattle.machine.proofs.Decoded.{of-operation, of-one, of-two, of-decode}
 use Rattle.machine.specs.Decode.{fetch, Instruction, invalid, jump, input, inputAny, write, inputChoice, callRule, return, setResult, choice, endChoice, setParameter, update, updateWith, choose, chooseWith, decodeTwo, decodeOne, decodeWord, decodeAt, decode}
 use Rattle.machine.specs.Lengths.{lengths, lengthOf}
 use Rattle.figure.specs.Figure.{wayOut}
-use Rattle.meter.specs.Makes.{overAt, half, Makes, makes-token, makes-default, marks-label, makes-call-value}
-use Rattle.meter.specs.Shaped.{startOf, InRule}
-use Rattle.meter.specs.Steps.{flagOf, calledOf, Kept, Here, Steps, Only, only, Both, this, that, Raised, RaisedTwo, Ways, ways, WaysRaised, MakesAt, TokenVisited, CallsHere, ValueAt, value-at, ValueHere}
+use Rattle.meter.specs.Makes.{overAt, Makes, makes-token, makes-default, marks-label, makes-call-value}
+use Rattle.meter.specs.Shaped.{startOf}
+use Rattle.meter.specs.Steps.{flagOf, calledOf, Kept, Steps, Only, only, Both, this, that, Raised, RaisedTwo, Ways, ways, WaysRaised, TokenVisited, ValueAt, value-at, ValueHere}
 use Rattle.meter.proofs.Raising.{stays, seq, covers, may}
 use Rattle.meter.proofs.Words.{default-way}
 

@@ -1,15 +1,15 @@
 -- What the numbers that are kept, and the places that paths come to, give a caller.
 use mathlib.Core.Bool.{Bool, true, false, _||_}
 use mathlib.Core.List.{List}
-use mathlib.Core.Option.{Option, none, some}
+use mathlib.Core.Option.{none, some}
 use mathlib.Core.Path.{_≡_, sym, ap, _∙_}
 use native.Mathlib.Omega.{arith}
 use Prim.Native.Nat.{ℕ, _+_, _≤_, _<_}
 use lib.ListN.{length}
-use Rattle.machine.specs.Decode.{Instruction, inputChoice, callRule, choice, decodeTwo, decode}
-use Rattle.figure.specs.Figure.{Reached, at-start, leads-call}
-use Rattle.meter.specs.Makes.{overAt, backAt, half, Makes, makes-call-over, makes-call-back, makes-call-value, marks-call, Comes}
-use Rattle.meter.specs.Shaped.{indexOf, startOf, endOf, InRule, isChoice, Fits, HasTable, by-token, by-result, Shaped}
+use Rattle.machine.specs.Decode.{inputChoice, callRule, choice, decodeTwo, decode}
+use Rattle.figure.specs.Figure.{at-start, leads-call}
+use Rattle.meter.specs.Makes.{overAt, backAt, Makes, makes-call-over, makes-call-back, makes-call-value, marks-call}
+use Rattle.meter.specs.Shaped.{indexOf, startOf, endOf, isChoice, Fits, HasTable, by-token, by-result}
 use Rattle.meter.specs.Steps.{flagOf, calledOf, Kept, Here, Steps, Only, only, Both, this, that, Raised, RaisedTwo, MakesAt, CallsHere, ValueAt, value-at, ValueHere, Values, values, Behind, behind-back, behind-value, ChoiceAt}
 use Rattle.meter.proofs.Bounds.{index-start, next-to}
 use Rattle.meter.proofs.Raising.{stays, seq, covers, may}

@@ -2,8 +2,8 @@
 use mathlib.Core.Bool.{Bool, true, false, _||_}
 use mathlib.Core.List.{List, [], _∷_}
 use mathlib.Core.Logic.{_⊎_, inl, inr}
-use mathlib.Core.Option.{Option, none, some}
-use mathlib.Core.Path.{_≡_, refl, sym, ap, _∙_}
+use mathlib.Core.Option.{none, some}
+use mathlib.Core.Path.{_≡_, refl, sym, _∙_}
 use native.Mathlib.Decide.{decLt}
 use native.Mathlib.Omega.{arith}
 use Prim.Native.Nat.{ℕ, zero, suc, _-_, _≤_, _<_, min}
@@ -16,7 +16,6 @@ use Rattle.base.specs.Bools.{never}
 use Rattle.machine.specs.Decode.{Instruction, decode}
 use Rattle.figure.specs.Figure.{End}
 use Rattle.meter.specs.Makes.{Makes, half, cap, Ends, Sound, Stands, stands-place, stands-over, stands-back}
-use Rattle.meter.specs.Shaped.{startOf, InRule, Shaped}
 use Rattle.meter.proofs.Stands.{come, stands}
 use Rattle.meter.specs.Steps.{flagOf, rowOf, calledOf, left, Asked, Kept, Here, Steps, Only, only, Both, this, that, IsBelow, Raised, RaisedTwo}
 

@@ -4,7 +4,7 @@ use mathlib.Core.List.{List}
 use mathlib.Core.Option.{some}
 use mathlib.Core.Path.{_≡_, refl, sym, ap, _∙_}
 use native.Mathlib.Omega.{arith}
-use Prim.Native.Nat.{ℕ, zero, _-_, _≤_, _<_}
+use Prim.Native.Nat.{ℕ, _-_, _≤_, _<_}
 use lib.ListN.{length, getD}
 use Rattle.base.specs.Common.{given}
 use Rattle.loader.proofs.Laws.{table-fetch}
@@ -12,9 +12,9 @@ use Rattle.loader.proofs.Visits.{fetch-past}
 use Rattle.loading.proofs.Members.{outside-invalid}
 use Rattle.machine.specs.Bytes.{wordsOf, tableOf}
 use Rattle.machine.specs.Decode.{fetch, Instruction, invalid, decode}
-use Rattle.meter.specs.Makes.{Makes, Comes}
+use Rattle.meter.specs.Makes.{Comes}
 use Rattle.meter.specs.Shaped.{InRule}
-use Rattle.meter.specs.Steps.{flagOf, rowOf, calledOf, Kept, Here, Steps, MakesAt, Visited, AskedAt, asked-at}
+use Rattle.meter.specs.Steps.{flagOf, rowOf, Kept, Here, Steps, MakesAt, AskedAt, asked-at}
 use Rattle.meter.proofs.Laws.{not-nothing}
 use Rattle.meter.proofs.Raising.{stays, covers}
 use Rattle.meter.proofs.Stands.{comes-at}

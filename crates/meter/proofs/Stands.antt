@@ -1,20 +1,19 @@
 -- What is raised is the number of a path.
 use mathlib.Core.Bool.{Bool, true, false}
-use mathlib.Core.List.{List, [], _∷_}
-use mathlib.Core.Logic.{_⊎_, inl, inr}
+use mathlib.Core.List.{List, _∷_}
+use mathlib.Core.Logic.{inr}
 use mathlib.Core.Option.{Option, none, some}
-use mathlib.Core.Path.{_≡_, refl, sym, ap, _∙_}
+use mathlib.Core.Path.{_≡_, refl, sym, _∙_}
 use native.Mathlib.Decide.{decLt}
 use native.Mathlib.Omega.{arith}
-use Prim.Native.Nat.{ℕ, zero, suc, _+_, _≤_, _<_, min}
-use lib.ListN.{length, getD}
+use Prim.Native.Nat.{ℕ, suc, _+_, _≤_, _<_}
+use lib.ListN.{length}
 use Rattle.base.specs.Bools.{never}
 use Rattle.base.specs.Common.{given}
-use Rattle.events.specs.Events.{Event}
 use Rattle.loading.proofs.Members.{fetch-inside, outside-invalid}
-use Rattle.machine.specs.Decode.{fetch, Instruction, invalid, jump, input, inputAny, write, inputChoice, callRule, return, setResult, choice, endChoice, setParameter, update, updateWith, choose, chooseWith, decode}
-use Rattle.figure.specs.Figure.{wayOut, Leads, leads-jump, leads-input, leads-any, leads-write, leads-token, leads-call, leads-result, leads-choice, leads-parameter, leads-update, leads-updateWith, leads-choose, leads-chooseWith, Reached, at-start, further, End, over, back, Quiet, quiet, Does, does-jump, does-input, does-any, does-write, does-token, does-default, does-call-over, does-call, does-call-stop, does-return, does-result, does-choice, does-end, does-parameter, does-update, does-updateWith, does-choose, does-chooseWith, does-choose-stop, does-chooseWith-stop, Goes, any-way, by-result}
-use Rattle.meter.specs.Makes.{overAt, backAt, half, cap, Makes, makes-jump, makes-input, marks-input, makes-any, marks-any, makes-write, makes-token, makes-default, marks-label, makes-call-over, makes-call-back, makes-call-value, marks-call, makes-return, makes-result, makes-choice, makes-end, makes-parameter, makes-update, makes-updateWith, makes-choose, makes-choose-over, makes-chooseWith, makes-chooseWith-over, Alike, alike-over, alike-back, alike-given, Origin, the-start, any-place, Then, Prefix, Comes, Ends, IsOver, is-over, IsBack, is-back, Sound, Stands, stands-place, stands-over, stands-back}
+use Rattle.machine.specs.Decode.{fetch, Instruction, invalid, jump, callRule, return, setResult, choice, decode}
+use Rattle.figure.specs.Figure.{wayOut, Leads, leads-jump, leads-input, leads-any, leads-write, leads-token, leads-call, leads-result, leads-choice, leads-parameter, leads-update, leads-updateWith, leads-choose, leads-chooseWith, Reached, at-start, End, over, back, Quiet, quiet, Does, does-jump, does-input, does-any, does-write, does-token, does-default, does-call-over, does-call, does-call-stop, does-return, does-result, does-choice, does-end, does-parameter, does-update, does-updateWith, does-choose, does-chooseWith, does-choose-stop, does-chooseWith-stop, any-way, by-result}
+use Rattle.meter.specs.Makes.{overAt, backAt, Makes, makes-jump, makes-input, marks-input, makes-any, marks-any, makes-write, makes-token, makes-default, marks-label, makes-call-over, makes-call-back, makes-call-value, marks-call, makes-return, makes-result, makes-choice, makes-end, makes-parameter, makes-update, makes-updateWith, makes-choose, makes-choose-over, makes-chooseWith, makes-chooseWith-over, Alike, alike-over, alike-back, alike-given, Origin, the-start, any-place, Then, Prefix, Comes, Ends, IsOver, is-over, IsBack, is-back, Sound, Stands, stands-place, stands-over, stands-back}
 use Rattle.meter.specs.Shaped.{indexOf, startOf, InRule, isChoice, Given, given-none, given-some, Shaped}
 use Rattle.meter.proofs.Bounds.{index-start, next-to, return-path}
 

@@ -1,17 +1,17 @@
 -- Loops over the places of a rule, over the rules, and until nothing is raised.
 use mathlib.Core.Bool.{Bool, true, false, _||_}
 use mathlib.Core.List.{List}
-use mathlib.Core.Option.{Option, none, some}
-use mathlib.Core.Path.{_≡_, refl, sym, ap}
+use mathlib.Core.Option.{none, some}
+use mathlib.Core.Path.{_≡_, refl, sym}
 use native.Mathlib.Decide.{decLt}
 use native.Mathlib.Omega.{arith}
-use Prim.Native.Nat.{ℕ, zero, suc, _+_, _*_, _-_, _≤_, _<_, min}
+use Prim.Native.Nat.{ℕ, _+_, _*_, _-_, _≤_, _<_, min}
 use lib.ListN.{length, getD}
 use Rattle.base.specs.Bools.{never}
-use Rattle.machine.specs.Decode.{Instruction, choice, decode}
+use Rattle.machine.specs.Decode.{choice}
 use Rattle.meter.specs.Makes.{half, cap}
 use Rattle.meter.specs.Shaped.{startOf, endOf, InRule}
-use Rattle.meter.specs.Steps.{flagOf, rowOf, left, Kept, Here, Steps, Both, this, that, CallsHere, ValueAt, ValueHere, Values, values, AskedAt, AskedBelow, asked-below, AskedFrom, asked-from, Settled}
+use Rattle.meter.specs.Steps.{rowOf, left, Kept, Steps, Both, this, that, ValueAt, Values, values, AskedAt, AskedBelow, asked-below, AskedFrom, asked-from, Settled}
 use Rattle.meter.proofs.Raising.{stays, seq, covers}
 
 -- The values of a rule

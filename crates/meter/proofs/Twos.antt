@@ -1,13 +1,13 @@
 -- Instructions of two words, and what stands behind a call.
 use mathlib.Core.Bool.{Bool, false, _||_}
-use mathlib.Core.List.{List, [], _∷_}
-use mathlib.Core.Logic.{_⊎_, inl, inr}
+use mathlib.Core.List.{List, _∷_}
+use mathlib.Core.Logic.{inr}
 use mathlib.Core.Option.{some}
-use mathlib.Core.Path.{_≡_, refl, sym, ap, _∙_}
+use mathlib.Core.Path.{_≡_, refl, ap, _∙_}
 use native.Mathlib.Numerals.{add-one}
 use native.Mathlib.Omega.{arith}
-use Prim.Native.Nat.{ℕ, zero, suc, _+_, _*_, _-_, _≤_, _<_, min}
-use lib.ListN.{length, getD}
+use Prim.Native.Nat.{ℕ, suc, _+_, _-_, _<_}
+use lib.ListN.{length}
 use Rattle.events.specs.Events.{Event}
 use Rattle.loading.proofs.Members.{fetch-inside}
 use Rattle.machine.proofs.Decoded.{of-operation, of-one, of-two, of-decode}

@@ -1,22 +1,21 @@
 -- What a visit of an instruction does is what the instruction asks for.
 use mathlib.Core.Bool.{Bool, false, _||_, or-false}
-use mathlib.Core.List.{List, [], _∷_}
-use mathlib.Core.Logic.{_⊎_, inl, inr}
+use mathlib.Core.List.{List, _∷_}
+use mathlib.Core.Logic.{inr}
 use mathlib.Core.Option.{Option, none, some}
-use mathlib.Core.Path.{_≡_, refl, sym, ap, _∙_}
+use mathlib.Core.Path.{_≡_, refl, sym, _∙_}
 use native.Mathlib.Decide.{decLt}
 use native.Mathlib.Omega.{arith}
-use Prim.Native.Nat.{ℕ, zero, suc, _+_, _*_, _-_, _≤_, _<_, min}
+use Prim.Native.Nat.{ℕ, _+_, _*_, _-_, _≤_, _<_, min}
 use lib.Dec.{eqb, ltb}
-use lib.ListN.{length, getD}
+use lib.ListN.{length}
 use borrow.Author.Tests.{ne-eqb, lt-ltb, le-ltb}
-use Rattle.base.specs.Common.{if_then_else_}
-use Rattle.machine.specs.Decode.{fetch, Instruction, jump, input, inputAny, write, inputChoice, callRule, return, setResult, choice, endChoice, setParameter, update, updateWith, choose, chooseWith, decodeOperation, decodeTwo, decodeOne, decode}
+use Rattle.machine.specs.Decode.{fetch, jump, inputAny, return, choice, endChoice, update, updateWith, choose, chooseWith, decodeOperation, decodeOne}
 use Rattle.figure.specs.Figure.{wayOut}
 use Rattle.meter.specs.Shaped.{Fits}
 use Rattle.meter.proofs.Words.{one-count, Labelled, labelled, unlabelled, label-cases, FirstOr, is-first, repeats, label-way, default-way}
-use Rattle.meter.specs.Makes.{overAt, backAt, half, cap, Makes, makes-jump, makes-input, marks-input, makes-any, marks-any, makes-write, makes-token, makes-default, marks-label, makes-call-over, makes-call-back, makes-call-value, marks-call, makes-return, makes-result, makes-choice, makes-end, makes-parameter, makes-update, makes-updateWith, makes-choose, makes-choose-over, makes-chooseWith, makes-chooseWith-over, Stands}
-use Rattle.meter.specs.Steps.{flagOf, rowOf, calledOf, Asked, Kept, Here, Steps, Only, only, Both, this, that, IsBelow, Raised, RaisedTwo, LabelRaised, way-raised, has-enough, Ways, ways, WaysRaised, MakesAt, Visited}
+use Rattle.meter.specs.Makes.{overAt, backAt, half, cap, Makes, makes-any, marks-any, makes-return, makes-end, makes-update, makes-updateWith, makes-choose, makes-choose-over, makes-chooseWith, makes-chooseWith-over, Stands}
+use Rattle.meter.specs.Steps.{flagOf, rowOf, Kept, Steps, Only, only, Both, this, that, IsBelow, Raised, RaisedTwo, LabelRaised, way-raised, has-enough, Ways, ways, WaysRaised, Visited}
 use Rattle.meter.proofs.Raising.{stays, seq, covers, may}
 
 module _ {called : List ℕ} {r l k : ℕ} {rows after : List ℕ} {b : Bool} where

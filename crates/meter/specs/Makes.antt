@@ -1,16 +1,15 @@
 -- How the figure is found: numbers by location, raised until none can be raised. The number of a location is one more than the most instructions before it on a
 -- quiet path, 0 where none comes. Behind the locations stand the numbers of each rule: the most instructions of its paths that are over, and of those that are back.
-use mathlib.Core.Bool.{Bool, true, false}
+use mathlib.Core.Bool.{true, false}
 use mathlib.Core.List.{List}
-use mathlib.Core.Logic.{_⊎_}
 use mathlib.Core.Option.{Option, none, some}
 use mathlib.Core.Path.{_≡_}
-use Prim.Native.Nat.{ℕ, zero, suc, _+_, _-_, _≤_, _<_, min}
-use lib.ListN.{length, getD}
+use Prim.Native.Nat.{ℕ, suc, _+_, _-_, _≤_, _<_, min}
+use lib.ListN.{length}
 use Rattle.events.specs.Events.{Event}
 use Rattle.machine.specs.Decode.{Instruction, jump, input, inputAny, write, inputChoice, callRule, return, setResult, choice, endChoice, setParameter, update, updateWith, choose, chooseWith, decode}
 use Rattle.figure.specs.Count.{mostFigure}
-use Rattle.figure.specs.Figure.{wayOut, Reached, End, over, back, Quiet, Bounds, Figure, Long}
+use Rattle.figure.specs.Figure.{wayOut, Reached, End, over, back, Quiet}
 use Rattle.meter.specs.Shaped.{indexOf, startOf, InRule, isChoice}
 
 -- places in a half: the locations up to 4,096, then two numbers for each rule

@@ -2,12 +2,12 @@
 // a quiet path, 0 where none comes; behind the locations stand, for each rule, the most instructions of a path that is over, and of one that is back.
 // There are two halves of them: the first begins at the rules' starts and says what a call adds; the second begins at every instruction that can be reached.
 ghost use mathlib.Core.Path.{_≡_};
-ghost use mathlib.Core.Bool.{Bool, true, false, _||_};
+ghost use mathlib.Core.Bool.{true, _||_};
 ghost use mathlib.Core.Option.{none, some};
 ghost use Prim.Native.Nat.{_+_, _*_, _-_, _<_, _≤_, min};
 ghost use lib.ListN.{length, getD, set, replicate};
-ghost use Rattle.machine.specs.Bytes.{count, wordsOf, tableOf};
-ghost use Rattle.meter.specs.Steps.{flagOf, calledOf, Kept, Here, Steps, IsBelow, Raised, LabelRaised, Ways, MakesAt, RaisedTwo, WaysRaised, Visited, TokenVisited, ValueAt, ValueHere, CallsHere, Values, Behind, ChoiceAt, AskedAt, AskedBelow, AskedFrom, Greatest, Begun, Settled};
+ghost use Rattle.machine.specs.Bytes.{tableOf};
+ghost use Rattle.meter.specs.Steps.{flagOf, calledOf, Kept, Here, Steps, IsBelow, Raised, LabelRaised, MakesAt, RaisedTwo, WaysRaised, Visited, TokenVisited, ValueAt, ValueHere, CallsHere, Values, Behind, ChoiceAt, AskedAt, AskedBelow, AskedFrom, Greatest, Begun, Settled};
 ghost use Rattle.machine.specs.Decode.{callRule, choice, decodeOne, decodeTwo, decode};
 ghost use Rattle.meter.specs.Shaped.{Rising, Between, indexOf, endOf, InRule, Fits, Shaped};
 ghost use Rattle.meter.specs.Found.{Found};

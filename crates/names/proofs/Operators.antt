@@ -2,11 +2,11 @@
 use mathlib.Core.Bool.{Bool, true, false, _&&_}
 use mathlib.Core.List.{List, [], _∷_, _++_}
 use Prim.Native.Char.{code}
-use Prim.Native.Nat.{ℕ, zero, _+_}
+use Prim.Native.Nat.{ℕ, _+_}
 use Prim.Native.String.{String}
 use lib.Dec.{T}
 use Rattle.base.specs.Common.{bytes, same}
-use Rattle.names.proofs.Facts.{understanding, Outcome, means, stops, Line, isChecked, agrees, allAgree, fine}
+use Rattle.names.proofs.Facts.{understanding, means, stops, Line, isChecked, agrees, allAgree, fine}
 use Rattle.names.specs.Known.{Checked, good, wrong}
 use Rattle.names.specs.Understand.{understand}
 use Rattle.program.specs.Program.{Rule}

@@ -6,9 +6,9 @@ use mathlib.Core.Option.{Option, none, some}
 use Prim.Native.Nat.{ℕ}
 use lib.ListN.{length}
 use Rattle.base.specs.Common.{if_then_else_, member, given}
-use Rattle.base.specs.Tree.{Action, plain, cycle, choice, Actions, done, _▸_, Alternatives, nil, alternative, Otherwise, absent, otherwise}
+use Rattle.base.specs.Tree.{plain, cycle, choice, done, _▸_, nil, alternative, absent, otherwise}
 use Rattle.names.specs.Known.{Checked, good, wrong, _>>=_, faultIf, Known, KnownOperation, KnownRule, Names, find, findType, findOperation, findOperators, findRule, elsewhere, lookup}
-use Rattle.names.specs.Uses.{Use, lowestOf, pairsOf}
+use Rattle.names.specs.Uses.{lowestOf, pairsOf}
 use Rattle.program.specs.Program as means
 use Rattle.syntax.specs.Written as written
 use Rattle.syntax.specs.Written.{Constant, Program}

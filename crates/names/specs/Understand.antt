@@ -1,13 +1,13 @@
 -- The whole program: sections in order, then the rules in order, each by its name, its type, its actions and its semicolon.
 use mathlib.Core.Bool.{Bool, true, false, _&&_, _||_}
 use mathlib.Core.List.{List, [], _∷_, _++_}
-use mathlib.Core.Option.{Option, none, some}
+use mathlib.Core.Option.{none, some}
 use Prim.Native.Nat.{ℕ}
 use lib.ListN.{length}
 use Rattle.base.specs.Common.{if_then_else_, same, given}
 use Rattle.names.specs.Declare.{declareSections, knownRules}
-use Rattle.names.specs.Known.{Checked, good, wrong, _>>=_, faultIf, Known, KnownRule, Names, findOperation, optionalType}
-use Rattle.names.specs.Resolve.{Place, actsOf}
+use Rattle.names.specs.Known.{Checked, good, wrong, _>>=_, faultIf, KnownRule, Names, findOperation, optionalType}
+use Rattle.names.specs.Resolve.{actsOf}
 use Rattle.names.specs.Uses.{pairsOf, madeFor}
 use Rattle.program.specs.Past.{pastAll}
 use Rattle.program.specs.Program as means

@@ -1,12 +1,12 @@
 -- The uses of operators, "for each pair of section and operand rule in the order of first use", and the rules made for them.
 use mathlib.Core.Bool.{Bool, true, false, _&&_, _||_}
 use mathlib.Core.List.{List, [], _∷_, _++_}
-use mathlib.Core.Option.{Option, none, some}
+use mathlib.Core.Option.{none, some}
 use Prim.Native.Nat.{ℕ, _+_}
 use lib.Dec.{ltb}
 use lib.ListN.{length}
 use Rattle.base.specs.Common.{if_then_else_, same}
-use Rattle.base.specs.Tree.{Action, plain, cycle, choice, Actions, done, _▸_, Alternatives, nil, alternative, Otherwise, absent, otherwise}
+use Rattle.base.specs.Tree.{plain, cycle, choice, done, _▸_, nil, alternative, absent, otherwise}
 use Rattle.names.specs.Known.{Checked, good, wrong, _>>=_, faultIf, KnownRule, Names, findOperators, findRule}
 use Rattle.program.specs.Made.{Level, levelRules, crowded}
 use Rattle.program.specs.Program as means

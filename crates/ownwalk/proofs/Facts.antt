@@ -1,19 +1,19 @@
 -- Programs walked by their rules: the step after which each has stopped, and with what, worked out from document 01 by hand.
-use mathlib.Core.Bool.{Bool, true, false, _&&_, not}
+use mathlib.Core.Bool.{Bool, true, false, _&&_}
 use mathlib.Core.List.{List, [], _∷_, _++_}
 use mathlib.Core.Option.{some}
 use mathlib.Core.Path.{_≡_, refl}
-use Prim.Native.Nat.{ℕ, zero, suc, _+_, _-_}
+use Prim.Native.Nat.{ℕ, _+_, _-_}
 use lib.Dec.{T, eqb}
 use lib.ListN.{replicate}
 use Rattle.base.specs.Common.{if_then_else_, same}
-use Rattle.base.specs.Tree.{Action, plain, cycle, choice, Actions, done, _▸_, Alternatives, nil, alternative, Otherwise, absent, otherwise}
+use Rattle.base.specs.Tree.{plain, cycle, choice, done, _▸_, nil, alternative, absent, otherwise}
 use Rattle.events.specs.Events
-use Rattle.events.specs.Events.{Event, operation, eventWords, Reason, reasonNumber, Io}
+use Rattle.events.specs.Events.{Event, operation, eventWords, reasonNumber}
 use Rattle.ownwalk.specs.OwnWalk
 use Rattle.ownwalk.specs.OwnWalk.{Own, on, choosing, stopped, nowhere, nextAnswer, owns, ownStart}
 use Rattle.program.specs.Program
-use Rattle.program.specs.Program.{Plain, match, any, emit, error, exit, call, back, give, update, updateWith, Selector, byToken, byRule, byOperation, byOperationWith, Act, Acts, Alts, Other, Rule}
+use Rattle.program.specs.Program.{Plain, match, any, emit, error, exit, call, back, give, update, updateWith, Selector, byToken, byRule, byOperation, byOperationWith, Act, Acts, Rule}
 
 -- a program walked with tokens, answers and a repair allowance: after so many steps and not before it has stopped with this number, having written these
 -- event words, read so many tokens and used so many answers, with so much of the allowance left

@@ -1,14 +1,14 @@
 -- "The rules' own walk is fed the program, tokens and answers, no table. It holds its place, pending calls, tokens read, answers
 -- used (with the same greatest) and events, and begins at the first rule's start."; "the source meaning begins with the same allowance and
 -- repairs likewise"
-use mathlib.Core.Bool.{Bool, true, false}
+use mathlib.Core.Bool.{true}
 use mathlib.Core.List.{List, [], _∷_}
 use mathlib.Core.Option.{Option, none, some}
 use Prim.Native.Nat.{ℕ, zero, suc}
 use lib.Dec.{ltb}
 use lib.ListN.{length, getElem?}
 use Rattle.base.specs.Common.{if_then_else_, member, given}
-use Rattle.base.specs.Tree.{Action, plain, cycle, choice, Actions, done, _▸_, Alternatives, nil, alternative, Otherwise, absent, otherwise}
+use Rattle.base.specs.Tree.{plain, cycle, choice, done, _▸_, nil, alternative, absent, otherwise}
 use Rattle.events.specs.Events.{Event, output, signal, operation, operationWith, Reason, finished, differs, missing, unlabelled, deep, unanswered, Io, choices, present, took, wrote, answered, mends, repaired, is}
 use Rattle.program.specs.Program.{Plain, match, any, emit, error, exit, call, back, give, update, updateWith, Selector, byToken, byRule, byOperation, byOperationWith, Acts, Alts, Other, Rule, bodyOf}
 

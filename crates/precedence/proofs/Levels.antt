@@ -3,10 +3,10 @@ use mathlib.Core.Bool.{Bool, true, false, _||_, _&&_, not}
 use mathlib.Core.List.{List, [], _∷_, _++_}
 use mathlib.Core.Option.{Option, none, some}
 use mathlib.Core.Path.{_≡_, refl, sym, ap, _∙_}
-use Prim.Native.Nat.{ℕ, zero, suc, _+_, _<_, _≤_}
+use Prim.Native.Nat.{ℕ, zero, suc, _+_, _<_}
 use lib.Dec.{eqb}
 use native.Mathlib.Omega.{arith}
-use borrow.Author.Tests.{eqb-true, eqb-false, eq-eqb, ne-eqb}
+use borrow.Author.Tests.{eqb-true, eqb-false, ne-eqb}
 use Rattle.acceptance.proofs.CheckLaws.{Yields, no-good, yields, next, passed}
 use Rattle.acceptance.proofs.Shape.{Each}
 use Rattle.acceptance.proofs.NamesOk.{each-append, picked}
@@ -14,11 +14,11 @@ use Rattle.base.proofs.Laws.{neither}
 use Rattle.base.specs.Bools.{never}
 use Rattle.base.specs.Common.{if_then_else_, same, given}
 use Rattle.names.specs.Declare.{declareAll, declareBoth, declareOperations, withOperations, inputsOf, outputsOf, otherSide, listed, operatorOf, operatorsOf, declareSection, declareSections}
-use Rattle.names.specs.Known.{Checked, good, wrong, _>>=_, faultIf, Known, KnownOperation, KnownOperators, Names, find, findType, findOperation, findOperators, declared, elsewhere, lookup, optionalType}
+use Rattle.names.specs.Known.{Checked, good, Known, KnownOperators, Names, find, findType, findOperation, findOperators, declared, elsewhere, lookup, optionalType}
 use Rattle.precedence.specs.Sums.{emitsOf, operatorOf as operatorAt, Clear, Apart}
 use Rattle.program.specs.Made.{Operator, Level, atLevel, levelAnd, levelsFrom, levelsOf}
 use Rattle.syntax.specs.Written as written
-use Rattle.syntax.specs.Written.{Entry, Operation, Section, inputs, outputs, both, errors, values, operations, operators, Program}
+use Rattle.syntax.specs.Written.{Operation, Section, inputs, outputs, both, errors, values, operations, operators, Program}
 use Rattle.words.specs.Words.{Word}
 
 -- no token stands twice

@@ -11,13 +11,13 @@ use lib.ListN.{length, drop, getElem?, length-append}
 use lib.Seq.{drop-drop, drop-append-seam}
 use borrow.Author.Tests.{lt-ltb}
 use Rattle.base.specs.Bools.{never}
-use Rattle.base.specs.Common.{if_then_else_, member}
-use Rattle.base.specs.Tree.{Action, plain, cycle, choice, Actions, done, _▸_, Alternatives, nil, alternative, Otherwise, absent, otherwise}
+use Rattle.base.specs.Common.{if_then_else_}
+use Rattle.base.specs.Tree.{plain, cycle, choice, done, _▸_, otherwise}
 use Rattle.events.specs.Events.{Event, output, Io, present, took, wrote}
 use Rattle.ownwalk.specs.OwnWalk.{Context, inCycle, inAlternative, inOtherwise, Pending, before, Own, on, labelled, labelledBy, chosen, ended, left, entered, ownPlain, ownChoice, own, owns}
-use Rattle.precedence.specs.Sums.{Operand, emitsOf, Sum, operand, only, leftward, rightward, tokensOf, eventsOf, answersOf, depthOf, spent, after, first, operatorOf, Clear, Apart, Stand, lowest, Leads, stay, step, Passes, Reads, Operands, Postfix}
+use Rattle.precedence.specs.Sums.{emitsOf, Sum, operand, only, leftward, rightward, tokensOf, eventsOf, answersOf, depthOf, spent, after, first, operatorOf, Clear, Apart, Stand, lowest, Leads, stay, step, Passes, Operands, Postfix}
 use Rattle.program.specs.Made.{Operator, Level, operatorAlts, levelBody, higherOf}
-use Rattle.program.specs.Program.{call, emit, exit, byToken, Acts, Alts, Rule, bodyOf}
+use Rattle.program.specs.Program.{call, emit, exit, byToken, Acts, Rule, bodyOf}
 
 -- Reading and writing
 

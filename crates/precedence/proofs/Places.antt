@@ -4,25 +4,25 @@ use mathlib.Core.List.{List, [], _∷_, _++_, append-assoc, append-nil}
 use mathlib.Core.Logic.{_⊎_, inl, inr}
 use mathlib.Core.Option.{Option, none, some}
 use mathlib.Core.Path.{_≡_, refl, sym, ap, _∙_}
-use Prim.Native.Nat.{ℕ, zero, suc, _+_, _<_, _≤_}
+use Prim.Native.Nat.{ℕ, suc, _+_, _<_}
 use lib.Dec.{ltb}
 use lib.ListN.{length, length-append}
 use native.Mathlib.Omega.{arith}
-use Rattle.acceptance.proofs.CheckLaws.{Yields, no-good, yields, next, passed}
+use Rattle.acceptance.proofs.CheckLaws.{Yields, yields, next, passed}
 use Rattle.acceptance.proofs.Accepts.{rules-count}
 use Rattle.acceptance.proofs.Shape.{Each}
 use Rattle.acceptance.proofs.Used.{passes, level-rules-length}
 use Rattle.base.proofs.Laws.{same-refl, same-eq}
 use Rattle.base.specs.Bools.{never, or, and, or₁, or₂, both}
-use Rattle.base.specs.Common.{if_then_else_, same, given}
+use Rattle.base.specs.Common.{if_then_else_, same}
 use Rattle.names.specs.Declare.{declareSections, knownRules}
-use Rattle.names.specs.Known.{Checked, good, wrong, _>>=_, faultIf, KnownRule, Names, findOperators, findRule}
-use Rattle.names.specs.Understand.{nobody, ruleMeans, rulesMean, understand}
+use Rattle.names.specs.Known.{good, KnownRule, Names, findOperators}
+use Rattle.names.specs.Understand.{nobody, rulesMean, understand}
 use Rattle.names.specs.Uses.{Use, rulesUses, samePair, isUsed, firsts, pairsOf, levelsUsed, lowestOf, operandOf, madeFor}
 use Rattle.precedence.proofs.Levels.{AllApart, sections-apart, found-apart}
 use Rattle.precedence.specs.Sums.{Apart, Stand}
 use Rattle.precedence.specs.Text.{Stands}
-use Rattle.program.specs.Made.{Level, levelRule, higherOf, levelRules, crowded}
+use Rattle.program.specs.Made.{Level, levelRule, higherOf, levelRules}
 use Rattle.program.specs.Program.{Rule, ruleOf, bodyOf}
 use Rattle.syntax.specs.Sections.{namesInAll}
 use Rattle.syntax.specs.Written as written

@@ -1,6 +1,6 @@
 -- Sums under precedence, and what it means that rules read them: "reads operands by the rule and emits operators in postfix order, the higher
 -- level first".
-use mathlib.Core.Bool.{Bool, true, false}
+use mathlib.Core.Bool.{true, false}
 use mathlib.Core.List.{List, [], _∷_, _++_}
 use mathlib.Core.Option.{Option, none, some}
 use mathlib.Core.Path.{_≡_}
@@ -8,7 +8,7 @@ use Prim.Native.Nat.{ℕ, zero, suc, _+_, _-_, _^_, _≤_, min, max}
 use lib.Dec.{eqb}
 use lib.ListN.{length, drop}
 use Rattle.base.specs.Common.{if_then_else_}
-use Rattle.base.specs.Tree.{Action, plain, Actions, _▸_}
+use Rattle.base.specs.Tree.{plain, _▸_}
 use Rattle.events.specs.Events.{Event, output, Io}
 use Rattle.ownwalk.specs.OwnWalk.{Context, Pending, Own, on, own}
 use Rattle.program.specs.Made.{Operator, Level, levelBody, higherOf}

@@ -1,11 +1,11 @@
 -- Operators in an accepted text.
-use mathlib.Core.Bool.{Bool, true}
+use mathlib.Core.Bool.{true}
 use mathlib.Core.List.{List, [], _∷_, _++_}
 use mathlib.Core.Path.{_≡_}
 use Prim.Native.Nat.{ℕ}
 use lib.ListN.{length}
 use Rattle.names.specs.Known.{KnownRule, Names}
-use Rattle.names.specs.Uses.{Use, isUsed, rulesUses, pairsOf, lowestOf, levelsUsed, operandOf}
+use Rattle.names.specs.Uses.{Use, pairsOf, lowestOf, levelsUsed, operandOf}
 use Rattle.precedence.specs.Sums.{Apart, Stand}
 use Rattle.program.specs.Program.{Rule}
 use Rattle.syntax.specs.Written.{Program}

@@ -5,8 +5,8 @@ use Prim.Native.Nat.{ℕ, zero, suc, _+_}
 use Prim.Native.String.{String}
 use lib.Dec.{T, eqb}
 use lib.ListN.{length, replicate}
-use Rattle.base.specs.Common.{if_then_else_, bytes, same}
-use Rattle.base.specs.Tree.{Action, plain, Actions, done, _▸_}
+use Rattle.base.specs.Common.{bytes, same}
+use Rattle.base.specs.Tree.{plain, Actions, done, _▸_}
 use Rattle.finishing.specs.Test
 use Rattle.machine.specs.Bytes
 use Rattle.machine.specs.Bytes.{count}
@@ -17,10 +17,10 @@ use Rattle.names.specs.Understand
 use Rattle.names.specs.Uses
 use Rattle.program.specs.Made
 use Rattle.processor.specs.Process
-use Rattle.processor.specs.Process.{Part, Understood, meaning, faulty, Answer, accepted, refused, answerFor, process, lentBytes}
+use Rattle.processor.specs.Process.{Understood, meaning, Answer, accepted, refused, answerFor, process, lentBytes}
 use Rattle.program.specs.Past
 use Rattle.program.specs.Program
-use Rattle.program.specs.Program.{any, Acts, Rule}
+use Rattle.program.specs.Program.{any, Acts}
 use Rattle.program.specs.Table
 use Rattle.syntax.specs.Actions
 use Rattle.syntax.specs.Parse

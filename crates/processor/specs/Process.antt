@@ -1,6 +1,6 @@
 -- The processor: a text and a lent buffer give a table and a verdict, or a number and a part of the text.
-use mathlib.Core.Bool.{Bool, true, false, _&&_}
-use mathlib.Core.List.{List, [], _∷_, _++_}
+use mathlib.Core.Bool.{Bool, true, _&&_}
+use mathlib.Core.List.{List, _∷_, _++_}
 use Prim.Native.Nat.{ℕ, _*_, _-_}
 use lib.Dec.{leb}
 use lib.ListN.{length, drop, replicate}

@@ -4,7 +4,7 @@ use mathlib.Core.List.{List, [], _∷_, _++_}
 use Prim.Native.Nat.{ℕ}
 use lib.Dec.{T, eqb}
 use lib.ListN.{length}
-use Rattle.base.specs.Common.{if_then_else_, same}
+use Rattle.base.specs.Common.{same}
 use Rattle.base.specs.Tree.{plain, done, _▸_}
 use Rattle.program.specs.Made
 use Rattle.program.specs.Made.{Operator, Level, levelsOf, levelRules}

@@ -1,7 +1,7 @@
 -- "A choice rule may not reach its final semicolon": what goes past itself.
 use mathlib.Core.Bool.{Bool, true, false, _&&_, _||_}
 use Prim.Native.Nat.{ℕ}
-use Rattle.base.specs.Tree.{Action, plain, cycle, choice, Actions, done, _▸_, Alternatives, nil, alternative, Otherwise, absent, otherwise}
+use Rattle.base.specs.Tree.{plain, cycle, choice, done, _▸_, nil, alternative, absent, otherwise}
 use Rattle.program.specs.Program.{Plain, match, any, emit, error, exit, call, back, give, update, updateWith, Act, Acts, Alts, Other}
 
 -- "`>>` and `>` never go past themselves"

@@ -12,14 +12,14 @@ use lib.ListN.{length, getD, take, drop, drop-of-length-le}
 use lib.Seq.{drop-cons}
 use borrow.Author.Tests.{leb-false, ne-eqb, lt-leb, le-leb, lt-ltb, le-ltb, eq-eqb, leb-true, eqb-true}
 use Rattle.base.specs.Common.{if_then_else_, given, bytes, same}
-use Rattle.reader.proofs.Laws.{at-word, ends-as, ends-with, faults, faulty, goes-as, stops, gives-with, no, no-with, overs, passes-with, says-off, says-on, shorts, word-length, yes-with, one-or-two-not, refuses, any-value, gives, passes}
+use Rattle.reader.proofs.Laws.{at-word, ends-as, ends-with, faults, faulty, goes-as, stops, gives-with, no, no-with, overs, passes-with, says-off, says-on, shorts, word-length, yes-with, one-or-two-not, refuses, gives}
 use Rattle.reader.specs.Answers.{Brings, Faulty, Here, Holds, Tells, failed, held, told, void, went, refusal}
 use Rattle.reader.specs.Counting.{Adds, Decides, Kinds, countOf, toldKind, fullIn, listed, oneMore, wrong, Entered, Operated, Keeps, ending, fine, NumberOf}
 use Rattle.scanner.proofs.WordLaws.{part-at, part-length}
 use Rattle.scanner.specs.Next.{asWord}
 use Rattle.syntax.proofs.Ahead.{kind-read, kinds-read}
 use Rattle.syntax.specs.Parse.{parse, endOf, program, someRules}
-use Rattle.syntax.specs.Reading.{Read, Reader, aName, aNumber, expect, fault, got, onward, optional, pass, peek, short, small, within, on_then_else_, oneName, refuse, over}
+use Rattle.syntax.specs.Reading.{Read, Reader, aName, aNumber, expect, fault, got, onward, optional, pass, peek, short, small, within, on_then_else_, oneName}
 use Rattle.syntax.specs.Sections.{aCount, entries, firstOf, nextOf, kindAt, kindAhead, isFull, aParameter, numbered, ofKind, after, instructions, nothing, Sofar, someOperations, spells, ranking, aSide, operatorSection, mechanismSection, otherSection}
 use Rattle.syntax.specs.Written.{Entry, Section, both, Operation, errors, inputs, operations, outputs, values, Operator, operators}
 use Rattle.words.specs.Words.{Word, wordsAt, value, words}

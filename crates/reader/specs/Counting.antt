@@ -8,7 +8,7 @@ use Prim.Native.Nat.{ℕ, _+_, _-_, _≤_, _<_}
 use lib.Dec.{leb}
 use lib.ListN.{length}
 use Rattle.base.specs.Common.{if_then_else_}
-use Rattle.reader.specs.Answers.{Tells, Brings, Reads, Moves, Yields}
+use Rattle.reader.specs.Answers.{Brings, Reads, Moves, Yields}
 use Rattle.reader.specs.declared.Added.{Added}
 use Rattle.reader.specs.declared.Ahead.{Ahead}
 use Rattle.reader.specs.declared.Sectioned.{Sectioned}
@@ -16,11 +16,11 @@ use Rattle.reader.specs.declared.Out.{Out}
 use Rattle.reader.specs.declared.Seen.{Seen}
 use Rattle.reader.specs.declared.State.{State}
 use Rattle.reader.specs.declared.Valued.{Valued}
-use Rattle.syntax.specs.Parse.{aRule, parse}
-use Rattle.syntax.specs.Reading.{Read, got, fault, Reader, onward, _>>=_, _>>_, pure, peek, expect, aName, oneName, aNumber}
-use Rattle.syntax.specs.Sections.{aSpelling, anEntry, entries, ofKind, firstOf, anOperation, someOperations, Sofar, nextOf, instructions, after, Sections, someSections}
-use Rattle.syntax.specs.Written.{Entry, Operation, Section, outputs, errors, values, operations}
-use Rattle.words.specs.Words.{Word, wordsAt, value, mechanism, end, last}
+use Rattle.syntax.specs.Parse.{aRule}
+use Rattle.syntax.specs.Reading.{Read, got, fault, Reader, _>>=_, _>>_, pure, peek, expect, oneName, aNumber}
+use Rattle.syntax.specs.Sections.{anEntry, entries, ofKind, firstOf, anOperation, someOperations, Sofar, nextOf, instructions, after, Sections, someSections}
+use Rattle.syntax.specs.Written.{Entry, Operation, Section, outputs, errors, values}
+use Rattle.words.specs.Words.{Word, wordsAt, value, end, last}
 
 -- a name was read where one more may be declared
 pub record OneName (text : List ℕ) (at left : ℕ) (r : Out) : Type 0 where

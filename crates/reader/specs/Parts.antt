@@ -8,7 +8,7 @@ use lib.ListN.{length}
 use Rattle.reader.specs.Answers.{Tells, Reads}
 use Rattle.reader.specs.declared.Out.{Out}
 use Rattle.syntax.specs.Actions.{aConstant, aRanked, aLabel, someLabels, anAction, actions, alternatives}
-use Rattle.syntax.specs.Reading.{Read, got, Reader, onward, _>>=_, _>>_, pure, refuse, expect, aName}
+use Rattle.syntax.specs.Reading.{Reader, _>>=_, _>>_, pure, refuse, expect, aName}
 use Rattle.syntax.specs.Written.{Constant, Act, Acts}
 use Rattle.words.specs.Words.{Word, wordsAt}
 

@@ -5,7 +5,7 @@ use mathlib.Core.Option.{Option, none, some}
 use mathlib.Core.Path.{_≡_, refl, sym, ap, _∙_}
 use Prim.Native.Nat.{ℕ, _+_, _*_, _<_, _≤_}
 use native.Mathlib.Omega.{arith}
-use lib.ListN.{length, getD, take, drop}
+use lib.ListN.{length, getD}
 use Rattle.cells.specs.Cells.{selectorCells, absentCell}
 use Rattle.declarations.specs.Decls.{Agrees, knownsIn, classNamed, membersOf}
 use Rattle.grammar.specs.Derived.{Took, ConstantIn, SelectorIn, token-in, rule-in, operation-in}
@@ -21,12 +21,12 @@ use Rattle.resolver.proofs.Rests.{Fails, ends-by, fail-ends, fails-here
 use Rattle.resolver.specs.declared.Parameter.{Parameter}
 use Rattle.resolver.specs.declared.Selected.{Selected}
 use Rattle.resolver.specs.Parts.{Lies, NameIn, ifThere, operationCells, ParameterDone, Chose, Balked, SelectorEnds, ChoiceDone, byRuleOf, byOperationOf, choosesOf}
-use Rattle.resolver.specs.Resolved.{Appends, ended, failed, SelectorDone}
+use Rattle.resolver.specs.Resolved.{Appends, ended, SelectorDone}
 use Rattle.scanner.specs.Next.{Next, asWord}
 use Rattle.scanner.specs.declared.WordAt.{WordAt}
 use Rattle.symbols.specs.Rows.{held, wordOf, declAt, operationIn, ruleIn, Looks}
 use Rattle.syntax.specs.Written as written
-use Rattle.syntax.specs.Written.{Constant, Program}
+use Rattle.syntax.specs.Written.{Program}
 use Rattle.words.specs.Words.{Word, wordsAt}
 
 -- the check gives a selector of these cells, and labels of the class t

@@ -16,7 +16,7 @@ use Rattle.declarations.proofs.Uses.{uses-lookup}
 use Rattle.grammar.specs.Derived.{Took, Not, Reference, LabelsIn, last-label, more-labels}
 use Rattle.names.specs.Known.{Checked, good, wrong, _>>=_, faultIf, Known, KnownRule, Names}
 use Rattle.names.specs.Resolve.{labelsOf}
-use Rattle.places.proofs.Heres.{Same, took-here, took-kind, not-here, reference-kind, reference-here}
+use Rattle.places.proofs.Heres.{took-here, took-kind, not-here, reference-kind, reference-here}
 use Rattle.resolver.proofs.Looking.{looks-good, looks-wrong, lookup-about, after-good, after-wrong}
 use Rattle.resolver.proofs.Rests.{Fails, fails-here, fails-after, fails-by}
 use Rattle.resolver.specs.declared.Label.{Label}

@@ -1,22 +1,21 @@
 -- What the actions and selectors come to, by the answers of the lookups.
-use mathlib.Core.Bool.{Bool, true, false}
-use mathlib.Core.List.{List, [], _∷_}
+use mathlib.Core.Bool.{true}
+use mathlib.Core.List.{List, _∷_}
 use mathlib.Core.Option.{Option, none, some}
-use mathlib.Core.Path.{_≡_, refl, sym, ap, _∙_}
-use Prim.Native.Nat.{ℕ, zero, suc, _+_, _*_, _<_, _≤_}
-use native.Mathlib.Omega.{arith}
+use mathlib.Core.Path.{_≡_, sym, ap, _∙_}
+use Prim.Native.Nat.{ℕ, _+_, _*_, _<_}
 use lib.ListN.{length, getD}
-use Rattle.base.specs.Common.{if_then_else_, given}
-use Rattle.declarations.specs.Decls.{Decl, Agrees, knownsIn, declOf, classNamed, membersOf, operationFrom, ruleFrom, lookupIn}
+use Rattle.base.specs.Common.{given}
+use Rattle.declarations.specs.Decls.{Agrees, knownsIn, declOf, classNamed, membersOf, operationFrom, ruleFrom, lookupIn}
 use Rattle.declarations.proofs.Uses.{uses-lookup, uses-members}
-use Rattle.names.specs.Known.{Checked, good, wrong, _>>=_, faultIf, Known, KnownOperation, KnownRule, Names, find, lookup}
+use Rattle.names.specs.Known.{Checked, good, wrong, _>>=_, faultIf, Known, KnownRule, Names, find, lookup}
 use Rattle.names.specs.Resolve.{Place, Chooses, updating, choosing, operationOf, ruleNamed, parameterOf, updateOf, matchOf, giveOf, rankedOf, plainOf, selectorOf}
 use Rattle.names.specs.Resolve as resolve
-use Rattle.program.specs.Program.{Plain, match, any, emit, error, exit, call, back, give, Selector, byToken, byRule}
+use Rattle.program.specs.Program.{Plain, emit, error, call, give, byToken, byRule}
 use Rattle.resolver.proofs.Looking.{after-good, after-wrong, operation-is, rule-is, ranked-is, procedureOf, lowestFor, option-none, option-some}
 use Rattle.resolver.specs.Parts.{valued, namedOf, callOf, byRuleOf, byOperationOf, choosesOf}
 use Rattle.symbols.proofs.Searches.{held-at}
-use Rattle.symbols.specs.Rows.{wordOf, optionOf, secondKind, declAt, held, operationIn, operatorsRow, ruleIn}
+use Rattle.symbols.specs.Rows.{wordOf, secondKind, declAt, held, operationIn, operatorsRow, ruleIn}
 use Rattle.syntax.specs.Written as written
 use Rattle.syntax.specs.Written.{Constant, Program}
 use Rattle.words.specs.Words.{Word}

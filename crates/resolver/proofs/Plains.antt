@@ -10,7 +10,7 @@ use Rattle.cells.specs.Cells.{plainCells}
 use Rattle.declarations.specs.Decls.{Agrees, lookupIn}
 use Rattle.grammar.specs.Derived.{Took, Reference, ConstantIn, ValueIn, PlainIn, named-in, any-in, emit-in, error-in, exit-in, call-in, give-in, ranked-in}
 use Rattle.maker.specs.Pairs.{PairsAre}
-use Rattle.names.specs.Known.{Checked, KnownRule, Names}
+use Rattle.names.specs.Known.{KnownRule, Names}
 use Rattle.names.specs.Resolve.{plainOf, giveOf, rankedOf}
 use Rattle.places.proofs.Heres.{Same, took-here, took-kind, reference-kind, reference-here}
 use Rattle.program.specs.Past.{plainPast, isExit}

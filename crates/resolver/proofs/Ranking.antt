@@ -2,7 +2,7 @@
 use mathlib.Core.Bool.{true}
 use mathlib.Core.List.{List, [], _∷_}
 use mathlib.Core.Option.{some}
-use mathlib.Core.Path.{_≡_, refl, sym, ap, _∙_}
+use mathlib.Core.Path.{_≡_, sym, ap, _∙_}
 use Prim.Native.Nat.{ℕ, _+_, _*_, _<_, _≤_}
 use native.Mathlib.Omega.{arith}
 use lib.ListN.{length, getD}
@@ -11,13 +11,13 @@ use Rattle.declarations.specs.Decls.{indexOf}
 use Rattle.grammar.specs.Derived.{Took}
 use Rattle.maker.proofs.Walking.{lowest-is}
 use Rattle.maker.specs.Pairs.{PairsAre, pairsHeld, lowestIn, sectionRow, operandRow}
-use Rattle.names.specs.Known.{Checked, good, wrong, KnownRule, Names}
+use Rattle.names.specs.Known.{KnownRule, Names}
 use Rattle.names.specs.Resolve.{rankedOf}
 use Rattle.names.specs.Uses.{Use, lowestOf, pairsOf}
 use Rattle.places.proofs.Heres.{Same, took-here}
 use Rattle.program.specs.Past.{plainPast, isExit}
 use Rattle.resolver.proofs.Appending.{appends-length, appends-same}
-use Rattle.resolver.proofs.Looking.{looks-good, looks-wrong, row-about, row-index, rule-about, rule-index, lowestFor}
+use Rattle.resolver.proofs.Looking.{looks-good, looks-wrong, row-about, row-index, rule-about, rule-index}
 use Rattle.resolver.proofs.Outcomes.{ranked-nowhere, ranked-missing, ranked-valued, ranked-rule}
 use Rattle.resolver.proofs.Rests.{ends-by, fails-here, stops}
 use Rattle.resolver.specs.declared.Built.{Built}

@@ -4,21 +4,21 @@ use mathlib.Core.List.{List, [], _∷_}
 use mathlib.Core.Option.{Option, none, some}
 use mathlib.Core.Logic.{_⊎_, inl, inr}
 use mathlib.Core.Path.{_≡_, refl, sym, ap, _∙_}
-use Prim.Native.Nat.{ℕ, zero, suc, _+_, _*_, _<_, _≤_}
+use Prim.Native.Nat.{ℕ, _+_, _*_, _<_, _≤_}
 use native.Mathlib.Omega.{arith}
-use lib.ListN.{length, getD, take, drop, length-take, length-drop}
+use lib.ListN.{length, getD, take, drop, length-drop}
 use lib.Seq.{length-take-le}
 use Rattle.base.specs.Common.{if_then_else_}
 use Rattle.cells.specs.Cells.{plainCells}
 use Rattle.declarations.specs.Decls.{Agrees, knownsIn, classNamed, membersOf, lookupIn}
-use Rattle.grammar.specs.Derived.{Took, Not, Reference, by-name, by-string, ConstantIn, no-constant, a-constant, ValueIn, no-value, a-value}
+use Rattle.grammar.specs.Derived.{Took, Not, Reference, ConstantIn, no-constant, a-constant, ValueIn, no-value, a-value}
 use Rattle.maker.specs.Pairs.{PairsAre}
-use Rattle.names.specs.Known.{Checked, good, wrong, _>>=_, Known, KnownRule, Names, find}
-use Rattle.names.specs.Resolve.{updating, choosing, parameterOf, updateOf, matchOf, giveOf}
+use Rattle.names.specs.Known.{Checked, good, wrong, _>>=_, KnownRule, Names, find}
+use Rattle.names.specs.Resolve.{updating, parameterOf, updateOf, matchOf, giveOf}
 use Rattle.places.proofs.Heres.{Same, took-here, took-kind, not-here, reference-kind, reference-here}
 use Rattle.program.specs.Past.{plainPast, isExit}
-use Rattle.program.specs.Program.{Plain, match, any, emit, error, exit, call, back, give, update, updateWith}
-use Rattle.resolver.proofs.Looking.{About, looks-good, looks-wrong, after-good, after-wrong, lookup-about, row-about, rule-about, tells-there, tells-none, gives-none, gives-some}
+use Rattle.program.specs.Program.{Plain, match, any, exit, call, back, give}
+use Rattle.resolver.proofs.Looking.{looks-good, looks-wrong, after-good, after-wrong, lookup-about, row-about, rule-about, tells-there, tells-none, gives-none, gives-some}
 use Rattle.resolver.proofs.Outcomes.{give-is, parameter-is, named-token, named-other, update-missing, update-choice, update-rest, call-missing, call-valued, call-rule, second-none, second-some}
 use Rattle.resolver.proofs.Appending.{appends-length}
 use Rattle.resolver.specs.declared.Built.{Built}

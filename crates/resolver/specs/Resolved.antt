@@ -1,6 +1,6 @@
 -- What the functions that resolve a part of a rule promise: for every program whose declarations the rows hold, and every tree that stands at the
 -- place, the outcome is that of crate names, and the cells appended are the encoding of what it means.
-use mathlib.Core.Bool.{Bool, true, false}
+use mathlib.Core.Bool.{Bool, true}
 use mathlib.Core.List.{List, [], _∷_, _++_}
 use mathlib.Core.Path.{_≡_}
 use Prim.Native.Nat.{ℕ, suc, _+_, _<_, _≤_, min}
@@ -12,7 +12,7 @@ use Rattle.declarations.specs.Decls.{Agrees, knownsIn}
 use Rattle.grammar.specs.Derived.{PlainIn, SelectorIn, LabelsIn}
 use Rattle.maker.specs.Pairs.{PairsAre}
 use Rattle.names.specs.Known.{Checked, good, wrong, KnownRule, Names}
-use Rattle.names.specs.Resolve.{Place, Chooses, plainOf, selectorOf, labelsOf}
+use Rattle.names.specs.Resolve.{plainOf, selectorOf, labelsOf}
 use Rattle.program.specs.Past.{plainPast, isExit}
 use Rattle.resolver.specs.declared.Built.{Built}
 use Rattle.resolver.specs.declared.Done.{Done}

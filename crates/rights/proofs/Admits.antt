@@ -1,6 +1,6 @@
 -- `admit` answers 0 exactly for a table that is taken and whose reachable operations are all granted; 48 names the lowest location.
 use mathlib.Core.Bool.{Bool, true, false, _&&_, not}
-use mathlib.Core.List.{List, [], _∷_}
+use mathlib.Core.List.{List, _∷_}
 use mathlib.Core.Logic.{_⊎_, inl, inr}
 use mathlib.Core.Option.{Option, none, some}
 use mathlib.Core.Path.{_≡_, refl, sym, ap, _∙_}
@@ -12,12 +12,12 @@ use lib.ListN.{length}
 use borrow.Author.Tests.{eqb-true, eqb-false, not-true}
 use Rattle.base.proofs.Laws.{above-zero}
 use Rattle.base.specs.Bools.{never, and, both, split}
-use Rattle.base.specs.Common.{if_then_else_, member, given}
-use Rattle.machine.specs.Decode.{fetch, decode}
+use Rattle.base.specs.Common.{if_then_else_, member}
+use Rattle.machine.specs.Decode.{decode}
 use Rattle.loading.proofs.Files.{loads-exactly}
-use Rattle.loading.specs.Reach.{Reachable, Taken}
+use Rattle.loading.specs.Reach.{Taken}
 use Rattle.rights.specs.Promise.{AdmitsExactly, Denied, NamesLowest, LargerAdmits, LoadedAnswers}
-use Rattle.rights.specs.Rights.{granted, operationOf, allows, right, Admitted, lowest, denied, Admission, says, admit, admitLoaded}
+use Rattle.rights.specs.Rights.{operationOf, allows, right, Admitted, lowest, denied, Admission, says, admit, admitLoaded}
 use Rattle.loading.specs.Taking.{reached, taken}
 use Rattle.loading.proofs.Exact.{reached-reach, reach-reached, taken-Taken, Taken-taken, good-there}
 use Rattle.loading.proofs.Members.{fetch-inside}

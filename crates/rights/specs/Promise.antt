@@ -1,5 +1,5 @@
 -- What admission promises of tables. The proofs are in proofs/Admits.antt; what it promises of walks stands in crate safety.
-use mathlib.Core.Bool.{Bool, true, false}
+use mathlib.Core.Bool.{true, false}
 use mathlib.Core.List.{List}
 use mathlib.Core.Logic.{_⊎_}
 use mathlib.Core.Path.{_≡_}

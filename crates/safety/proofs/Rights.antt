@@ -1,16 +1,15 @@
 -- The promise of rights over the operations.
-use mathlib.Core.Bool.{Bool, true, false}
-use mathlib.Core.List.{List, [], _∷_, _++_}
-use mathlib.Core.Option.{Option, none, some}
-use mathlib.Core.Path.{_≡_, refl, sym, ap, _∙_}
+use mathlib.Core.Bool.{true}
+use mathlib.Core.List.{List, _∷_, _++_}
+use mathlib.Core.Option.{none, some}
+use mathlib.Core.Path.{_≡_, refl}
 use Prim.Native.Nat.{ℕ}
-use Rattle.events.specs.Events.{Event, output, signal, repair, operation, operationWith}
+use Rattle.events.specs.Events.{Event}
 use Rattle.loading.proofs.Behind.{reach-behind, Taken-behind, decode-alike}
-use Rattle.loading.specs.File.{done, load}
 use Rattle.loading.specs.Reach.{Reachable, Taken}
 use Rattle.machine.specs.Decode.{decode}
 use Rattle.rights.proofs.Admits.{admits-exactly}
-use Rattle.rights.specs.Rights.{granted, operationOf, allows, right, Admitted, admit, admitLoaded}
+use Rattle.rights.specs.Rights.{granted, operationOf, allows, right, Admitted, admitLoaded}
 use Rattle.safety.specs.Rights.{within, Within, within-nil, within-cons, AdmittedKeeps, LoadedKeeps}
 use Rattle.safety.proofs.Steps.{Source, of-output, of-signal, of-repair, of-operation, of-operationWith, Sources, no-events, and-event, led}
 

@@ -2,31 +2,31 @@
 -- stands at a reachable location.
 use mathlib.Core.Bool.{Bool, true, false, not}
 use mathlib.Core.List.{List, [], _∷_, _++_}
-use mathlib.Core.Logic.{_⊎_, inl, inr}
+use mathlib.Core.Logic.{inr}
 use mathlib.Core.Option.{Option, none, some}
 use mathlib.Core.Path.{_≡_, refl, sym, ap, _∙_}
 use Prim.Native.Nat.{ℕ, zero, suc, _+_, _*_, _-_}
 use native.Mathlib.Omega.{arith}
 use lib.Dec.{eqb, leb, ltb}
 use lib.ListN.{length, drop}
-use Rattle.base.specs.Bools.{never, split}
+use Rattle.base.specs.Bools.{never}
 use Rattle.base.specs.Common.{if_then_else_, member, given}
 use Rattle.events.specs.Events
-use Rattle.events.specs.Events.{Event, output, signal, repair, operation, operationWith, Reason, finished, differs, missing, unlabelled, deep, unanswered, outside, reasonNumber, Io, present, took, wrote, answer, answered, mends, spent, is}
+use Rattle.events.specs.Events.{Event, output, signal, repair, operation, operationWith, Reason, finished, differs, missing, unlabelled, deep, unanswered, outside, reasonNumber, present, took, wrote, answer, mends, spent, is}
 use Rattle.machine.proofs.Decoded as decoded
 use Rattle.machine.specs.Call
 use Rattle.machine.specs.Call.{Mode, whole, paused, Called, ends, endsFor, writing, Turn, over, further, takes, handsOut, turn, keeps, run, callIn, callWalk}
 use Rattle.machine.specs.Decode.{fetch, Instruction, invalid, jump, input, inputAny, write, inputChoice, callRule, return, setResult, choice, endChoice, setParameter, update, updateWith, choose, chooseWith, decode}
 use Rattle.machine.specs.Step.{Next, goesOutside, stops, goes, tells, asks, goTo, seek, seekBy, landed, branched, inputChoosing, calling, returning, requiring, exec, step}
 use Rattle.machine.specs.Walk
-use Rattle.machine.specs.Walk.{Phase, going, waiting, stopped, Walk, fresh, moved, withReturns, withResult, withParameter, withIo, inPhase, withAnswer, first64, atRest}
+use Rattle.machine.specs.Walk.{Phase, going, waiting, stopped, Walk, fresh, moved, withReturns, withIo, inPhase, withAnswer, atRest}
 use Rattle.loading.specs.Reach.{fits, bad, gives37, Reachable, at-start, Taken}
 use Rattle.loading.specs.Taking.{backFrom, labelled, chosen, onward, ways}
 use Rattle.rights.specs.Rights.{operationOf}
 use Rattle.loading.proofs.Members.{member-head, member-tail, member-left, member-right}
 use Rattle.loading.proofs.Exact.{good-there}
 use Rattle.loading.proofs.Ways.{way}
-use Rattle.agreement.specs.Demand.{Allowed, Listed, begin, then-call}
+use Rattle.agreement.specs.Demand.{Listed, begin, then-call}
 
 -- What an instruction writes of itself is no operation
 

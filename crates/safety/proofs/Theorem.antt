@@ -1,10 +1,9 @@
 -- The promises of loading.
 use mathlib.Core.Bool.{Bool, true, false}
-use mathlib.Core.List.{List, _++_}
+use mathlib.Core.List.{_++_}
 use mathlib.Core.Path.{_≡_, refl}
 use Prim.Native.Nat.{ℕ, _≤_}
 use native.Mathlib.Omega.{arith}
-use lib.Dec.{leb}
 use lib.ListN.{length}
 use borrow.Author.Tests.{le-leb}
 use Rattle.acceptance.proofs.Accepts.{accepted-table}
@@ -12,7 +11,6 @@ use Rattle.acceptance.specs.Answers.{TableOf}
 use Rattle.loading.proofs.Behind.{Taken-behind}
 use Rattle.loading.proofs.Files.{loads-exactly}
 use Rattle.loading.specs.File.{allowed}
-use Rattle.processor.specs.Process.{accepted, process}
 use Rattle.safety.specs.Promise.{TakenNever37, LoadedNever37, claimOf, AcceptedLoads}
 use Rattle.safety.proofs.Steps.{led, last-37}
 use Rattle.safety.proofs.Written.{written-taken}

@@ -2,30 +2,27 @@
 -- second instructions that belong to one.
 use mathlib.Core.Bool.{Bool, true, false, _||_, not}
 use mathlib.Core.List.{List, [], _∷_, _++_, append-nil}
-use mathlib.Core.Logic.{_⊎_, inl, inr}
-use mathlib.Core.Option.{Option, none, some}
-use mathlib.Core.Path.{_≡_, refl, sym, ap, _∙_, subst}
-use Prim.Native.Nat.{ℕ, zero, suc, _+_, _*_, _-_, _<_}
-use native.Mathlib.Omega.{arith}
-use lib.Dec.{leb}
+use mathlib.Core.Logic.{inl, inr}
+use mathlib.Core.Option.{none, some}
+use mathlib.Core.Path.{_≡_, refl, sym, subst}
+use Prim.Native.Nat.{ℕ, _+_, _*_, _-_, _<_}
 use lib.ListN.{length}
 use Rattle.acceptance.proofs.Accepts.{accepted-table}
 use Rattle.acceptance.specs.Answers.{TableOf}
 use Rattle.agreement.proofs.Laid.{program-laid}
-use Rattle.agreement.proofs.Lay.{Entry, entries, Entries, entries-nil, entries-cons, Table, LayPlain, lay-match, lay-any, lay-emit, lay-error, lay-exit, lay-call, lay-back, lay-give, lay-update, lay-updateWith, Lay, lay-plain, lay-cycle, lay-token, lay-rule, lay-operation, lay-operationWith, Lays, lays-done, lays-cons, LayChoice, lay-choice, LayAlts, alts-nil, alts-cons, LayOther, other-input, other-end, other-is, At, at-place, End, end-rule, end-cycle, end-alternative, end-otherwise, Out, out-cycle, out-alternative, out-otherwise, AtChoice, at-choice}
+use Rattle.agreement.proofs.Lay.{Entry, entries, Entries, entries-nil, entries-cons, Table, LayPlain, lay-match, lay-any, lay-emit, lay-error, lay-exit, lay-call, lay-back, lay-give, lay-update, lay-updateWith, Lay, lay-plain, lay-cycle, lay-token, lay-rule, lay-operation, lay-operationWith, Lays, lays-done, lays-cons, lay-choice, LayAlts, alts-nil, alts-cons, LayOther, other-input, other-end, other-is, At, at-place, End, end-rule, end-cycle, end-alternative, end-otherwise, Out, out-cycle, out-alternative, out-otherwise, AtChoice, at-choice}
 use Rattle.agreement.proofs.Sim.{rest-at, exit-out}
 use Rattle.base.specs.Bools.{never, or₁, or₂}
-use Rattle.base.specs.Common.{if_then_else_, member, given}
-use Rattle.base.specs.Tree.{plain, cycle, choice, done, _▸_, nil, alternative, absent, otherwise}
+use Rattle.base.specs.Common.{member}
+use Rattle.base.specs.Tree.{plain, cycle, choice, done, _▸_, otherwise}
 use Rattle.loading.proofs.Members.{member-cons, member-either}
 use Rattle.loading.proofs.Ways.{ByWays, from-start, by-way, by-ways}
 use Rattle.loading.specs.Reach.{fits, bad, gives37, Taken}
 use Rattle.loading.specs.Taking.{backFrom, labelled, chosen, onward, ways}
-use Rattle.machine.specs.Decode.{fetch, Instruction, invalid, jump, input, inputAny, write, inputChoice, callRule, return, setResult, choice as byResult, endChoice, setParameter, update as updates, updateWith as updatesWith, choose, chooseWith, decode}
+use Rattle.machine.specs.Decode.{fetch, Instruction, jump, input, inputAny, write, inputChoice, callRule, return, setResult, choice as byResult, endChoice, setParameter, update as updates, updateWith as updatesWith, choose, chooseWith, decode}
 use Rattle.ownwalk.specs.OwnWalk.{Context, inCycle, inAlternative, inOtherwise}
-use Rattle.processor.specs.Process.{accepted, process}
 use Rattle.program.proofs.Places.{place-first}
-use Rattle.program.specs.Accepted.{Calls, Accepted}
+use Rattle.program.specs.Accepted.{Accepted}
 use Rattle.program.specs.Past.{plainPast, isExit, exits, exitsAll, exitsSome, exitsOther, past, pastAll, pastSome, pastOther}
 use Rattle.program.specs.Program.{Plain, match, any, emit, error, exit, call, back, give, update, updateWith, byToken, byRule, byOperation, byOperationWith, Act, Acts, Alts, Other, Rule, ruleOf, bodyOf}
 use Rattle.program.specs.Table.{place, table}

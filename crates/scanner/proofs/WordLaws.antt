@@ -4,7 +4,7 @@ use mathlib.Core.Bool.{Bool, true, false, _&&_, not, false≢true}
 use mathlib.Core.List.{List, [], _∷_, _++_}
 use Prim.Native.Nat.{ℕ, zero, suc, _+_, _-_, _≤_, _<_}
 use native.Mathlib.Numerals.{add-one}
-use native.Mathlib.Nat.{add-zero, zero-add, add-suc, suc-add, add-assoc}
+use native.Mathlib.Nat.{add-zero}
 use native.Mathlib.Omega.{arith}
 use lib.Dec.{eqb, leb}
 use lib.ListN.{length, getD, take, drop, drop-of-length-le, length-drop, length-take, List·getD-eq-default}
@@ -14,7 +14,7 @@ use Rattle.base.specs.Common.{if_then_else_, same, member}
 use Rattle.scanner.specs.Next.{asWord, Next}
 use Rattle.scanner.specs.Scanning.{brackets, heads, others, found, nameHere, numberHere, greaterHere, symbolHere, Spelt, wordFound}
 use Rattle.scanner.specs.declared.WordAt.{WordAt}
-use Rattle.words.specs.Words.{Word, Found, run, blank, letter, digit, symbol, nameByte, stringByte, kindOf, Spelling, reserved, stringHere, wordHere, wordsFrom, wordsAt, bad, last, name}
+use Rattle.words.specs.Words.{Word, Found, run, blank, letter, digit, symbol, nameByte, stringByte, kindOf, Spelling, reserved, stringHere, wordHere, wordsFrom, wordsAt, last, name}
 
 pub run-go : (p : ℕ → Bool) (s : List ℕ) (i : ℕ) → i < length s → p (getD s i 0) ≡ true → run p (drop i s) ≡ run p (drop (i + 1) s) + 1
 unfolding run

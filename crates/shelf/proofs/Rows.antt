@@ -1,9 +1,9 @@
 -- `by-rows`: the totals by the rows of the rules are the rules' own, and make the grand total.
-use mathlib.Core.List.{List, [], _∷_}
+use mathlib.Core.List.{List, _∷_}
 use mathlib.Core.Path.{_≡_, refl, sym, ap, _∙_}
 use Prim.Native.Nat.{ℕ, _+_, _-_, _≤_}
 use native.Mathlib.Omega.{arith}
-use lib.ListN.{length, take, drop}
+use lib.ListN.{length, drop}
 use lib.Seq.{drop-drop}
 use Rattle.acceptance.proofs.Accepts.{accepted-table}
 use Rattle.figures.specs.ByRule.{ruleTotals}

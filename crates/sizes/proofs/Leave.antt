@@ -3,24 +3,21 @@ use Prim.Native.Nat.{ℕ, zero, suc, _+_, _*_, _-_, _<_, _≤_}
 use mathlib.Core.Path.{_≡_, refl, sym, ap, _∙_, subst}
 use mathlib.Core.Bool.{Bool, true, false, cond, _&&_}
 use mathlib.Core.Logic.{_⊎_, inl, inr}
-use mathlib.Core.List.{List, [], _∷_, _++_}
+use mathlib.Core.List.{List, [], _∷_}
 use native.Mathlib.Omega.{arith}
 use lib.ListN.{length, getD, List·getD-eq-default}
 use lib.Dec.{eqb, ltb, leb}
-use borrow.Author.Tests.{eq-eqb, ne-eqb, lt-ltb, le-ltb, ltb-true, ltb-false, eqb-true, eqb-false, leb-true}
+use borrow.Author.Tests.{ne-eqb, lt-ltb, le-ltb, ltb-true, ltb-false, leb-true}
 use Rattle.base.proofs.Laws.{lt-or-le}
 use Rattle.base.specs.Bools.{and}
-use Rattle.base.specs.Tree.{plain, cycle, choice, done, _▸_, nil, alternative, absent, otherwise}
-use Rattle.program.specs.Program.{Plain, match, any, emit, error, exit, call, back, give, update, updateWith, Selector, byToken, byRule, byOperation, byOperationWith, Act, Acts, Alts, Other, Rule}
-use Rattle.program.specs.Table.{sizePlain, sizeSelector, sizeAbsent, countLabels, size, sizes, sizeAlts, sizeOther, labelWords, tableWords, firstOf, firstLabel, absentWords, choiceNumber, selectorWords, plainWords, code, codes, codeAlts, codeOther, endWords, sizeRule, sizeRules, rulesWords, place, table}
-use Rattle.program.specs.Accepted.{NeedsLabel}
-use Rattle.program.proofs.Lengths.{length-labels, length-tableWords, length-absent, length-selector, length-plain, length-code, length-codes, length-alts, length-other, length-rules, length-table}
+use Rattle.base.specs.Tree.{choice, otherwise}
+use Rattle.program.specs.Program.{Selector, byToken, byRule, byOperation, byOperationWith, Acts, Alts, Other}
+use Rattle.program.specs.Table.{sizePlain, sizeSelector, sizeAbsent, countLabels, sizes, sizeAlts, sizeOther}
 use Rattle.cells.specs.Cells.{absentCell}
-use Rattle.emitter.specs.Words.{words, setWord, puts, cut}
-use Rattle.emitter.specs.Stands.{IsSel, sel-token, sel-rule, sel-op, sel-opWith, Labels, lab-none, lab-more, IsPlain, is-match, is-any, is-emit, is-error, is-exit, is-call, is-back, is-give, is-update, is-updateWith, Is, is-plain, is-cycle, is-choice, IsAlts, is-nil, is-alt, IsOther, is-stop, is-other, IsAll, is-done, is-cons}
+use Rattle.emitter.specs.Words.{words}
+use Rattle.emitter.specs.Stands.{sel-token, sel-rule, sel-op, sel-opWith, is-match, is-any, is-emit, is-error, is-exit, is-call, is-back, is-give, is-update, is-updateWith, is-plain, is-cycle, is-choice, IsAlts, is-nil, is-alt, IsOther, is-stop, is-other, IsAll, is-done, is-cons}
 use Rattle.sizes.specs.Heads.{cellsTable, wordsTable, cellsOf, wordsOf, openAfter}
-use Rattle.sizes.specs.Located.{Scanned, Moved}
-use Rattle.emitter.proofs.Leave.{sel-in, plain-in, is-in, all-in, alts-in, other-in}
+use Rattle.emitter.proofs.Leave.{all-in, alts-in, other-in}
 
 -- from p, with d lists open, m words are left up to e
 pub data Left (cs : List ℕ) (n e : ℕ) : ℕ → ℕ → ℕ → Type 0 where

@@ -1,5 +1,5 @@
 -- The rules one after the other: their locations. Assumes nothing.
-use Prim.Native.Nat.{ℕ, zero, suc, _+_, _*_, _-_, _<_, _≤_}
+use Prim.Native.Nat.{ℕ, suc, _+_, _-_, _<_, _≤_}
 use mathlib.Core.Path.{_≡_, refl, sym, ap, _∙_, subst}
 use mathlib.Core.Bool.{Bool, true, false}
 use mathlib.Core.List.{List, [], _∷_}
@@ -11,9 +11,9 @@ use Rattle.base.proofs.Laws.{lt-or-le}
 use Rattle.program.specs.Program.{Rule}
 use Rattle.program.specs.Table.{endWords, sizes, sizeRule, sizeRules, place}
 use Rattle.program.proofs.Places.{place-first}
-use Rattle.emitter.specs.Emitted.{sortOf, IsRules, rules-none, rules-more}
+use Rattle.emitter.specs.Emitted.{sortOf, IsRules, rules-more}
 use Rattle.emitter.proofs.Link.{program-stands}
-use Rattle.sizes.specs.Located.{Scanned, Located, Locates}
+use Rattle.sizes.specs.Located.{Scanned, Locates}
 
 pub record PlacesRest (cs sorts : List ℕ) (n rules : ℕ) (prog : List Rule) (starts : List ℕ) (q w r : ℕ) : Type 0 where
   pub rest : List Rule

@@ -1,7 +1,7 @@
 // Where each rule of a program stands in its table, from the program's cells, without the table.
 // Nothing is asked of the cells: on any cells each function ends and keeps to its bounds.
 ghost use mathlib.Core.Path.{_≡_};
-ghost use Prim.Native.Nat.{ℕ, _+_, _*_, _-_, _<_, _≤_};
+ghost use Prim.Native.Nat.{ℕ, _+_, _-_, _<_, _≤_};
 ghost use lib.ListN.{length, set};
 ghost use Rattle.sizes.specs.Heads.{cellsOf, wordsOf, openAfter};
 ghost use Rattle.sizes.specs.Located.{Room, Moved, Scanned, Locates};

@@ -13,10 +13,9 @@ use Rattle.base.specs.Bools.{never}
 use Rattle.base.specs.Common.{same}
 use Rattle.declarations.specs.Decls.{Decl, feeds}
 use Rattle.names.specs.Known.{isWord}
-use Rattle.symbols.proofs.Chains.{AtLeast, least-none, least-more, Following, chain-least, to-node, no-more, found-at, not-at}
-use Rattle.symbols.proofs.Parts.{bucket-low}
+use Rattle.symbols.proofs.Chains.{least-none, least-more, Following, chain-least, to-node, no-more, found-at, not-at}
 use Rattle.symbols.proofs.Searches.{Search, start}
-use Rattle.symbols.specs.Index.{Chain, chain-end, chain-node, Among, here, later, headAt, linkAt, nextOf, bucketOf, Indexed}
+use Rattle.symbols.specs.Index.{Chain, chain-end, chain-node, Among, headAt, linkAt, nextOf, bucketOf, Indexed}
 use Rattle.symbols.specs.Rows.{declAt, held}
 use Rattle.symbols.specs.Search.{knows, named, declares}
 use Rattle.words.specs.Words.{Word}

@@ -13,7 +13,7 @@ use native.Mathlib.Omega.{arith}
 use Rattle.base.specs.Common.{if_then_else_}
 use Rattle.declarations.specs.Decls.{Decl}
 use Rattle.symbols.proofs.Parts.{bucket-low}
-use Rattle.symbols.specs.Index.{Chain, chain-end, chain-node, Among, here, later, headAt, linkAt, pushRows, pushSecond, pushName, bucketOf, RowsKept, IndexKept, Indexed, Kept}
+use Rattle.symbols.specs.Index.{Chain, chain-end, chain-node, Among, here, later, headAt, linkAt, pushRows, pushSecond, pushName, bucketOf, RowsKept, IndexKept, Kept}
 use Rattle.symbols.specs.Rows.{declAt, optionOf, secondKind, wordOf, heldFrom, held}
 use Rattle.symbols.specs.Search.{part}
 use Rattle.words.specs.Words.{Word}

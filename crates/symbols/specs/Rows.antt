@@ -1,5 +1,5 @@
 -- The row of declarations as the code keeps it: eight 16-bit numbers a declaration. Words are places of the text, a length 0 stands for no word.
-use mathlib.Core.Bool.{Bool, true, false}
+use mathlib.Core.Bool.{true}
 use mathlib.Core.List.{List, [], _∷_}
 use mathlib.Core.Option.{Option, none, some}
 use mathlib.Core.Path.{_≡_}

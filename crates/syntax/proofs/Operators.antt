@@ -1,13 +1,13 @@
 -- Operators sections and `^`: texts that are read, and those where reading stops. `~` marks the start of the word at fault and is not in the
 -- text (`^` is a word here).
-use mathlib.Core.Bool.{Bool, true, false}
+use mathlib.Core.Bool.{true}
 use mathlib.Core.List.{List, [], _∷_}
 use Prim.Native.Char.{code}
 use Prim.Native.Nat.{ℕ}
 use Prim.Native.String.{String}
 use lib.Dec.{T}
 use Rattle.base.specs.Common.{bytes}
-use Rattle.syntax.proofs.Facts.{reading, Outcome, stops, Line, agrees, allAgree, fine}
+use Rattle.syntax.proofs.Facts.{reading, stops, Line, agrees, allAgree, fine}
 use Rattle.syntax.proofs.Marks.{markAt, unmarked}
 use Rattle.syntax.proofs.Trees.{Counted, counted, valuesOf, instructionsOf, rankingsOf, countsIn, counts, allCount, sectionsOf}
 

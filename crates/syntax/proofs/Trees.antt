@@ -6,7 +6,7 @@ use Prim.Native.Nat.{ℕ}
 use Prim.Native.String.{String}
 use lib.Dec.{T}
 use Rattle.base.specs.Common.{if_then_else_, bytes, same}
-use Rattle.base.specs.Tree.{Action, plain, cycle, choice, Actions, done, _▸_, Alternatives, nil, alternative, Otherwise, absent, otherwise}
+use Rattle.base.specs.Tree.{plain, cycle, choice, done, _▸_, nil, alternative, absent, otherwise}
 use Rattle.syntax.proofs.Facts.{reading}
 use Rattle.syntax.specs.Parse.{parse}
 use Rattle.syntax.specs.Reading.{Read, got, fault}

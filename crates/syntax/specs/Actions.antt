@@ -1,6 +1,6 @@
 -- Actions, cycles and choices. A reader that calls itself has its fuel first: the bytes of the text are enough, since each call has read
 -- a word. `left` is how many more cycles and choices may be entered.
-use mathlib.Core.Bool.{Bool, true, false, _||_}
+use mathlib.Core.Bool.{Bool, true, _||_}
 use mathlib.Core.List.{List, [], _∷_}
 use mathlib.Core.Option.{Option, none, some}
 use Prim.Native.Char.{code}
@@ -8,9 +8,9 @@ use Prim.Native.Nat.{ℕ, zero, suc, _-_}
 use lib.Dec.{eqb}
 use lib.ListN.{length}
 use Rattle.base.specs.Common.{if_then_else_}
-use Rattle.base.specs.Tree.{Action, plain, cycle, choice, Actions, done, _▸_, Alternatives, nil, alternative, Otherwise, absent, otherwise}
-use Rattle.syntax.specs.Reading.{Read, got, fault, Reader, onward, _>>=_, _>>_, pure, peek, pass, refuse, within, on_then_else_, expect, short, aName, nameOrString}
-use Rattle.syntax.specs.Written.{Constant, Plain, named, any, exit, emit, error, call, give, ranked, Selector, byToken, byRule, byOperation, Act, Acts, Alts, Other, Choices}
+use Rattle.base.specs.Tree.{plain, cycle, choice, done, _▸_, nil, alternative, absent, otherwise}
+use Rattle.syntax.specs.Reading.{fault, Reader, onward, _>>=_, _>>_, pure, peek, pass, refuse, within, on_then_else_, expect, short, aName, nameOrString}
+use Rattle.syntax.specs.Written.{Constant, Plain, named, any, exit, emit, error, call, give, ranked, Selector, byToken, byRule, byOperation, Act, Acts, Choices}
 use Rattle.words.specs.Words.{Word, twice, name, string}
 
 -- "with its constant in parentheses", where there is one

@@ -1,14 +1,14 @@
 -- "A program is sections, then `rules`, one rule or more, `end`, and no word after it."
-use mathlib.Core.Bool.{Bool, true, false}
+use mathlib.Core.Bool.{true}
 use mathlib.Core.List.{List, [], _∷_}
-use mathlib.Core.Option.{Option, none, some}
+use mathlib.Core.Option.{none, some}
 use Prim.Native.Char.{code}
 use Prim.Native.Nat.{ℕ, zero, suc, _+_, _-_, min}
 use lib.Dec.{eqb, ltb}
 use lib.ListN.{length}
 use Rattle.base.specs.Common.{if_then_else_}
 use Rattle.syntax.specs.Actions.{actions}
-use Rattle.syntax.specs.Reading.{Read, got, fault, Reader, onward, _>>=_, _>>_, pure, peek, pass, refuse, on_then_else_, expect, aName, oneName, optional}
+use Rattle.syntax.specs.Reading.{Read, fault, Reader, onward, _>>=_, _>>_, pure, peek, pass, refuse, on_then_else_, expect, aName, oneName, optional}
 use Rattle.syntax.specs.Sections.{nothing, someSections}
 use Rattle.syntax.specs.Written.{Rule, Program}
 use Rattle.words.specs.Words.{Word, words, last, twice, name, rules, end}

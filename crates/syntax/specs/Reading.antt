@@ -1,9 +1,8 @@
 -- Reading words one after the other: what is read, or the first fault 1, 2 or 9 at its word. "Then 1, 2, 9 by the first word in the
 -- text, the lower number where one word has two": a word's kind is tested before a limit that it passes.
-use mathlib.Core.Bool.{Bool, true, false, _&&_}
+use mathlib.Core.Bool.{true, _&&_}
 use mathlib.Core.List.{List, [], _∷_}
 use mathlib.Core.Option.{Option, none, some}
-use Prim.Native.Char.{code}
 use Prim.Native.Nat.{ℕ}
 use lib.Dec.{eqb, ltb}
 use lib.ListN.{length}

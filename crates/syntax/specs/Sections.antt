@@ -21,7 +21,7 @@ use Prim.Native.Nat.{ℕ, zero, suc, _+_, _-_, max}
 use lib.Dec.{eqb, leb, ltb}
 use lib.ListN.{length, drop}
 use Rattle.base.specs.Common.{if_then_else_, given, bytes, same}
-use Rattle.syntax.specs.Reading.{Read, got, fault, Reader, onward, _>>=_, _>>_, pure, peek, pass, refuse, on_then_else_, expect, aName, oneName, aNumber, optional, over, nameOrString}
+use Rattle.syntax.specs.Reading.{got, fault, Reader, onward, _>>=_, _>>_, pure, peek, pass, refuse, on_then_else_, expect, aName, oneName, aNumber, optional, over, nameOrString}
 use Rattle.syntax.specs.Written.{Entry, Operation, Section, inputs, outputs, both, errors, values, operations, Operator, operators}
 use Rattle.words.specs.Words.{Word, twice, name, string, input, output, error, type, mechanism, rules, number, value}
 

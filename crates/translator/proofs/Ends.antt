@@ -1,10 +1,10 @@
 -- The last step: from the buffers to the answer.
 use mathlib.Core.Bool.{Bool, true, false, false≢true}
-use mathlib.Core.List.{List, _++_}
+use mathlib.Core.List.{List}
 use mathlib.Core.Path.{_≡_, refl, sym, ap, _∙_}
 use Prim.Native.Nat.{ℕ, _*_, _-_, _<_, _≤_}
 use lib.Dec.{leb}
-use lib.ListN.{length, take, drop, replicate}
+use lib.ListN.{length, take}
 use borrow.Author.Tests.{leb-true}
 use native.Mathlib.Decide.{decLt}
 use native.Mathlib.Omega.{arith}

@@ -22,8 +22,8 @@ use Rattle.syntax.specs.Reading.{got}
 use Rattle.syntax.specs.Written.{Program}
 use Rattle.translator.proofs.Ends.{placed}
 use Rattle.translator.proofs.Steps.{at-word}
-use Rattle.translator.specs.Answered.{answered, Settles, Finishes, Placed, Translates}
-use Rattle.translator.specs.Measured.{asTold, FigureOf}
+use Rattle.translator.specs.Answered.{answered, Settles, Finishes, Translates}
+use Rattle.translator.specs.Measured.{asTold}
 use Rattle.translator.specs.declared.Answer.{Answer}
 use Rattle.translator.specs.declared.Figure.{Figure}
 use Rattle.words.specs.Words.{Word}

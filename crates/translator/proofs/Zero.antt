@@ -1,5 +1,5 @@
 -- Number 0 in the code's answer means that the text is accepted, and the answer has the table's words and the verdict.
-use mathlib.Core.Bool.{Bool, true, false}
+use mathlib.Core.Bool.{true}
 use mathlib.Core.List.{List}
 use mathlib.Core.Path.{_≡_, refl, sym, ap, _∙_}
 use Prim.Native.Nat.{ℕ}

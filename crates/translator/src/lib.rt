@@ -1,6 +1,5 @@
 // The processor: any text and a lent buffer to a table, a verdict and a figure, or to a number and a part of the text.
 ghost use mathlib.Core.Path.{_≡_};
-ghost use mathlib.Core.Bool.{false};
 ghost use Prim.Native.Nat.{ℕ, _+_, _≤_};
 ghost use lib.ListN.{length, take, drop};
 ghost use Rattle.figure.specs.Told.{untold, figureOf};

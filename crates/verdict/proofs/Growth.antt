@@ -11,10 +11,9 @@ use lib.ListN.{length, getD, set, length-set}
 use lib.Seq.{getD-set-same, getD-set-other}
 use borrow.Author.Tests.{eq-eqb, ne-eqb, eqb-true, not-false}
 use Rattle.base.specs.Bools.{never, and, both, split}
-use Rattle.finishing.specs.Test.{Known, some-below}
 use Rattle.finishing.proofs.Rounds.{last, one-more}
 use Rattle.finishing.proofs.Exact.{below-same, below-true, true-below}
-use Rattle.verdict.specs.Told.{member, someIn, knownIn, alike, Same, Apart, Grows, Widens, outside, Joined, NotedTold, Marked, NotesTold, sought, Asked, GatheredTold}
+use Rattle.verdict.specs.Told.{member, someIn, knownIn, alike, Same, Grows, Widens, outside, Joined, NotedTold, Marked, NotesTold, sought, Asked, GatheredTold}
 use Rattle.verdict.specs.declared.Rules.{Rules}
 use Rattle.verdict.specs.declared.Learnt.{Learnt}
 

@@ -1,7 +1,7 @@
 -- Laws of looks at a rule, of sweeps over the rules, and of sweeps until one brings nothing.
-use Prim.Native.Nat.{ℕ, zero, suc, _+_, _-_, _*_, _<_, _≤_}
+use Prim.Native.Nat.{ℕ, suc, _+_, _-_, _*_, _<_, _≤_}
 use mathlib.Core.Path.{_≡_, refl, sym, ap, _∙_}
-use mathlib.Core.Logic.{_⊎_, inl, inr}
+use mathlib.Core.Logic.{inl, inr}
 use mathlib.Core.Bool.{Bool, true, false, cond, not, _||_, _&&_}
 use mathlib.Core.List.{List}
 use native.Mathlib.Omega.{arith}
@@ -10,13 +10,13 @@ use lib.Dec.{eqb}
 use lib.ListN.{length, getD, drop, length-drop}
 use lib.Seq.{getD-drop}
 use borrow.Author.Tests.{eq-eqb, eqb-true, le-ltb, not-false}
-use Rattle.base.specs.Bools.{never, or, and, or₁, both, split}
+use Rattle.base.specs.Bools.{never, or, and, or₁, both}
 use Rattle.program.specs.Program.{Rule, bodyOf}
 use Rattle.finishing.specs.Finishing.{Gives, Passed}
 use Rattle.finishing.specs.Test.{Known, end, return, gives, quiets, loops, passes}
-use Rattle.finishing.proofs.Rounds.{last, values-in}
+use Rattle.finishing.proofs.Rounds.{values-in}
 use Rattle.finishing.proofs.Paths.{passes-sound, gives-sound}
-use Rattle.verdict.specs.Told.{member, someIn, knownIn, Tells, RuleTold, Laid, True, Exhausts, Apart, ClosedAt, alike, Same, GatheredTold, Grows, NotesTold, outside, Widens, Joined, Looks, TriedTold, LookedTold, SweepTold, LearntTold}
+use Rattle.verdict.specs.Told.{member, knownIn, Tells, RuleTold, Laid, True, Exhausts, Apart, ClosedAt, alike, Same, GatheredTold, NotesTold, outside, Widens, Joined, Looks, TriedTold, LookedTold, SweepTold, LearntTold}
 use Rattle.verdict.specs.declared.Rules.{Rules}
 use Rattle.verdict.specs.declared.Ways.{Ways}
 use Rattle.verdict.specs.declared.Learnt.{Learnt}

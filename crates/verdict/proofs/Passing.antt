@@ -1,14 +1,12 @@
 -- Laws of a rule's scan.
-use Prim.Native.Nat.{ℕ, _+_, _<_, _≤_}
-use mathlib.Core.Path.{_≡_, refl, sym, ap, _∙_}
-use mathlib.Core.Bool.{true, false, _&&_, not}
+use Prim.Native.Nat.{ℕ, _+_, _<_}
+use mathlib.Core.Path.{_≡_, ap, _∙_}
+use mathlib.Core.Bool.{true, false, _&&_}
 use mathlib.Core.List.{List}
 use lib.Dec.{eqb}
 use lib.ListN.{length, drop, getD}
-use Rattle.base.specs.Bools.{never}
 use Rattle.finishing.specs.Test.{Known}
 use Rattle.verdict.specs.Told.{ActsTold, RuleTold}
-use Rattle.verdict.specs.declared.Rules.{Rules}
 use Rattle.verdict.specs.declared.Ways.{Ways}
 
 pub rule-told : (cells starts : List ℕ) (r m a : ℕ) (kn : Known) (vs : List ℕ) (w : Ways) → a ≡ getD starts r 0 → drop m cells ≡ drop a (drop 0 cells) → ActsTold cells m kn vs w → RuleTold cells starts r kn vs w

@@ -14,7 +14,7 @@ use Rattle.verdict.specs.Told.{member, RuleTold, Laid, True, ClosedAt, s
 use Rattle.finishing.proofs.Rounds.{last}
 use Rattle.finishing.proofs.Exact.{tells, tells-sound, tells-complete, exact, below-same, below-true, true-below}
 use Rattle.finishing.specs.Finishing.{Gives}
-use Rattle.finishing.proofs.Paths.{Sound, Closed, Given}
+use Rattle.finishing.proofs.Paths.{Sound, Closed}
 use Rattle.base.specs.Bools.{and, both}
 use borrow.Author.Tests.{eqb-true}
 use lib.Dec.{eqb}

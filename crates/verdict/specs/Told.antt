@@ -18,7 +18,6 @@ use Rattle.verdict.specs.declared.Ways.{Ways}
 use Rattle.verdict.specs.declared.Learnt.{Learnt}
 use Rattle.verdict.specs.declared.Query.{Query}
 use Rattle.verdict.specs.declared.Look.{Look}
-use Rattle.base.specs.Common.{member as listed}
 
 unfoldable pub bit : ℕ → ℕ → Bool
 bit w k = eqb (bitAnd (w / 2 ^ k) 1) 1

@@ -3,23 +3,19 @@ use mathlib.Core.Path.{_≡_, refl, sym, ap, _∙_}
 use mathlib.Core.Bool.{Bool, true, false}
 use mathlib.Core.List.{List, [], _∷_, _++_, reverse}
 use mathlib.Core.Logic.{⊎-elim}
-use mathlib.Core.Option.{Option, none, some}
+use mathlib.Core.Option.{none, some}
 use Prim.Native.Nat.{ℕ, zero, suc, _+_, _*_, _-_, _%_, _<_, _≤_}
 use native.Mathlib.Omega.{arith}
-use lib.Dec.{eqb, leb, ltb}
-use lib.ListN.{length, take, getD, set, length-set, length-append}
-use borrow.Author.Tests.{leb-true, ltb-true}
-use Rattle.base.specs.Common.{if_then_else_}
+use lib.Dec.{eqb, ltb}
+use lib.ListN.{length, take, set, length-set, length-append}
 use Rattle.events.specs.Events as events
 use Rattle.events.specs.Events.{reasonNumber}
-use Rattle.machine.specs.Bytes.{count, wordsOf, wordAt, tableOf, bytesOf, over}
-use Rattle.machine.specs.Lengths.{lengthOf}
+use Rattle.machine.specs.Bytes.{count, wordsOf, tableOf, bytesOf, over}
 use Rattle.machine.specs.Walk as machine
 use Rattle.machine.specs.Call as calls
 use Rattle.machine.specs.Call.{whole, paused, Called, further, ends, endsFor, keeps, run, callIn, callWalk}
 use Rattle.machine.specs.Form.{eventsWords}
 use Rattle.walker.specs.declared.Event.{Event}
-use Rattle.walker.specs.declared.Event.the-variants.{Output, Repair, Plain, With}
 use Rattle.walker.specs.declared.Next.{Next}
 use Rattle.walker.specs.declared.Next.the-variants.{Full, Stop, On, Tells, Push, Waits}
 use Rattle.walker.specs.declared.Phase.{Phase}
@@ -27,12 +23,10 @@ use Rattle.walker.specs.declared.Phase.the-variants.{Going, Waiting, Sto
 use Rattle.walker.specs.declared.Reason.{Reason}
 use Rattle.walker.specs.declared.Reason.the-variants.{Finished, Differs, Missing, Unlabelled, Deep, Unanswered}
 use Rattle.walker.specs.declared.Registers.{Registers}
-use Rattle.walker.specs.declared.Target.{Target}
-use Rattle.walker.specs.declared.Target.the-variants.{Label, Otherwise}
 use Rattle.walker.specs.declared.Walk.{Walk}
 use Rattle.walker.specs.View.{reasonOf, phaseOf, eventOf, walkIn, walkOf}
 use Rattle.walker.specs.Linked.{Bytes, handed, Agrees}
-use Rattle.walker.specs.Shape.{size, operand, tableAt, choiceOf, defaultOf, takeInput, takeOther, moved, readOne, spentOne, withResult, withParameter, withDepth, answeredOne, poppedTo, forwardOf, backOf, mendOf, inputOf, anyOf, tellOf, inputChoiceOf, callOf, backTo, returnOf, askOf, answerOf, actOf, operateOf, fetchedOf, stepOf, putEvent, Outcome, ended, numberOf, goOf, first64, keptOf, refusedOf, wholeOf, pausedOf}
+use Rattle.walker.specs.Shape.{withDepth, answeredOne, stepOf, putEvent, Outcome, ended, numberOf, goOf, first64, keptOf, refusedOf, wholeOf, pausedOf}
 use Rattle.walker.proofs.LinkWords.{length-returns, clip-returns, over-event, count-putEvent, one-more, one-more-fits}
 use Rattle.walker.proofs.Keeps.{After, Keeps, keeps as keeping}
 use Rattle.walker.proofs.LinkStep.{withEvents, inCall, turnOf, modeOf, step-turn}

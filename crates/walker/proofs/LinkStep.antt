@@ -24,7 +24,7 @@ use Rattle.machine.specs.Step as stepping
 use Rattle.machine.specs.Step.{goesOutside, goes, tells, asks, goTo, seek, seekBy, landed, branched, inputChoosing, calling, returning, requiring, exec, step}
 use Rattle.machine.specs.Call.{Mode, whole, paused, waits, ends, endsFor, Turn, over, further, turn, writing, takes, handsOut}
 use Rattle.walker.specs.declared.Event.{Event}
-use Rattle.walker.specs.declared.Event.the-variants.{Output, Repair, Plain, With}
+use Rattle.walker.specs.declared.Event.the-variants.{Output, Plain, With}
 use Rattle.walker.specs.declared.Next.{Next}
 use Rattle.walker.specs.declared.Next.the-variants.{Full, Stop, On, Tells, Push, Waits}
 use Rattle.walker.specs.declared.Reason.the-variants.{Unlabelled}
@@ -33,7 +33,7 @@ use Rattle.walker.specs.declared.Target.{Target}
 use Rattle.walker.specs.declared.Target.the-variants.{Label, Otherwise}
 use Rattle.walker.specs.View.{reasonOf, eventOf, walkIn}
 use Rattle.walker.specs.Linked.{Bytes}
-use Rattle.walker.specs.Shape.{size, findFrom, operand, otherwiseOf, labelOf, labelledOf, tableAt, labelsAt, insideTable, choiceOf, defaultOf, takeInput, takeOther, moved, readOne, withResult, withParameter, withDepth, spentOne, forwardOf, backOf, mendOf, inputOf, anyOf, tellOf, inputChoiceOf, callOf, backTo, returnOf, askOf, answerOf, actOf, operateOf, fetchedOf, stepOf}
+use Rattle.walker.specs.Shape.{size, findFrom, operand, otherwiseOf, labelOf, labelledOf, tableAt, labelsAt, insideTable, choiceOf, defaultOf, takeInput, takeOther, moved, readOne, withResult, withParameter, withDepth, forwardOf, backOf, mendOf, inputOf, anyOf, tellOf, inputChoiceOf, callOf, backTo, returnOf, askOf, answerOf, actOf, operateOf, fetchedOf, stepOf}
 use Rattle.walker.proofs.LinkWords.{word-small, word-in, word-out, length-table, fetch-in, fetch-at, fetch-zero, fetch-behind, fetch-out, push-returns, pop-returns, length-returns, eqb-comm, one-more, one-less}
 
 -- the walk of the machine inside a call that has written the events es

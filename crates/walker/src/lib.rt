@@ -9,7 +9,7 @@ ghost use Rattle.walker.specs.Shape.{freshAt, moved, readOne, spentOne, 
 ghost use Rattle.walker.specs.Shape.{otherwiseOf, labelOf, labelledOf, choiceOf, defaultOf, takeOther};
 ghost use Rattle.walker.specs.Shape.{forwardOf, backOf, mendOf, inputOf, anyOf, tellOf, inputChoiceOf, callOf, backTo, returnOf, answerOf};
 ghost use Rattle.walker.specs.Shape.{inFull, operateOf, fetchedOf, stepOf, goOf, wholeOf, pausedOf, pushed};
-ghost use Rattle.walker.specs.Steps.{withAt, inPhase, tokenRead, returned, answered, asRead, says, Holds, tookOf, numberAt, nextOf, walkStepOf, outcome, called, Ends, lastOf};
+ghost use Rattle.walker.specs.Steps.{withAt, inPhase, tokenRead, returned, answered, says, Holds, tookOf, numberAt, nextOf, walkStepOf, outcome, called, Ends, lastOf};
 ghost use Rattle.walker.specs.declared.Phase.the-variants.{Stopped};
 use base::PENDING;
 use base::byte_word;

@@ -7,7 +7,7 @@ use Prim.Native.Nat.{ℕ, zero, suc, _+_, _-_}
 use native.Mathlib.Omega.{arith}
 use lib.Dec.{eqb, leb}
 use lib.ListN.{take, getD}
-use borrow.Author.Tests.{eqb-true, eq-eqb}
+use borrow.Author.Tests.{eqb-true}
 use Rattle.base.specs.Common.{if_then_else_, same}
 use Rattle.words.specs.Words.{Word, Spelling, reserved, kindOf, letter, digit, nameByte, symbol, bad, last, string, run, blank, stringByte, stringHere, Found, wordHere, wordsFrom, words}
 use Rattle.words.specs.Words

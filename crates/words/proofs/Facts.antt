@@ -6,7 +6,7 @@ use Prim.Native.Nat.{ℕ, zero, suc, _+_}
 use Prim.Native.String.{String}
 use lib.Dec.{T, eqb}
 use lib.ListN.{length, take, drop, replicate}
-use Rattle.base.specs.Common.{if_then_else_, bytes, same}
+use Rattle.base.specs.Common.{bytes, same}
 use Rattle.words.specs.Words
 use Rattle.words.specs.Words.{Word, bad, last, twice, name, number, string, input, output, error, type, mechanism, rules, end, words, wordsAt, value}
 

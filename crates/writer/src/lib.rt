@@ -1,7 +1,7 @@
 // The writer of table files: the one file of a table and a verdict, in a lent buffer.
 ghost use mathlib.Core.Path.{_≡_};
 ghost use mathlib.Core.List.{[], _∷_};
-ghost use Prim.Native.Nat.{_*_, _-_, _<_, _≤_, min};
+ghost use Prim.Native.Nat.{_-_, _<_, _≤_, min};
 ghost use lib.ListN.{length, getD};
 ghost use Rattle.machine.specs.Bytes.{count, wordsOf, bytesOf, over};
 ghost use Rattle.loading.specs.File.{records, fileWords, allowed, store};

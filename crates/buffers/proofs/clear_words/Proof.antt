@@ -1,8 +1,6 @@
 -- `buffers::clear_words` meets its contract.
-use mathlib.Core.Path.{_≡_, refl, sym, ap, _∙_}
+use mathlib.Core.Path.{_≡_, refl, ap, _∙_}
 use native.Mathlib.Omega.{arith}
-use borrow.Author.Needs.{needs}
-use borrow.Author.Tests.{not-true, not-false}
 use mathlib.Core.List.{_++_}
 use Prim.Native.Nat.{_-_, _*_, _/_, _≤_}
 use lib.ListN.{length, drop, replicate}

@@ -1,8 +1,6 @@
 -- `buffers::put_word` meets its contract.
-use mathlib.Core.Path.{_≡_, refl, sym, ap, _∙_}
-use native.Mathlib.Omega.{arith}
+use mathlib.Core.Path.{_≡_, refl}
 use borrow.Author.Needs.{needs}
-use borrow.Author.Tests.{not-true, not-false}
 use Rattle.buffers.specs.Words.{putWord}
 use Rattle.buffers.proofs.put_word.Statement.{statement}
 use Rattle.buffers.proofs.put_word.Tie as tie

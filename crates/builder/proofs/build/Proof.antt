@@ -1,5 +1,5 @@
 -- `builder::build` meets its contract.
-use mathlib.Core.Path.{_≡_, refl, sym, _∙_}
+use mathlib.Core.Path.{_≡_, refl, _∙_}
 use native.Mathlib.Omega.{arith}
 use mathlib.Core.List.{List}
 use Prim.Native.Nat.{ℕ, _-_, _≤_, _<_}
@@ -10,12 +10,6 @@ use Rattle.builder.specs.Row.{RowDone}
 use Rattle.builder.specs.declared.Rules.{Rules}
 use Rattle.builder.proofs.build.Statement.{statement}
 use Rattle.builder.proofs.build.Tie as tie
-use Rattle.builder.proofs.build.Reads as reads
-use Rattle.builder.proofs.build.Lts as lts
-use Rattle.builder.proofs.build_rule.Reads as build-rule-reads
-use Rattle.builder.proofs.look.Reads as look-reads
-use Rattle.builder.proofs.refused.Reads as refused-reads
-use Rattle.builder.proofs.store.Reads as store-reads
 
 abbrev Inv-loop : tie.InvT-loop
 Inv-loop text rows listed at cells₀ starts₀ sorts₀ i₀ c₀ k₀ cells starts sorts i c k =

@@ -1,18 +1,11 @@
 -- `builder::build_rule` meets its contract.
-use mathlib.Core.Path.{_≡_, refl, sym, _∙_}
+use mathlib.Core.Path.{_≡_, refl}
 use native.Mathlib.Omega.{arith}
 use Rattle.builder.proofs.Building.{apart}
 use Rattle.builder.proofs.Ruling.{rule-headless, rule-fail, rule-closed}
 use borrow.Author.Needs.{needs}
 use Rattle.builder.proofs.build_rule.Statement.{statement}
 use Rattle.builder.proofs.build_rule.Tie as tie
-use Rattle.builder.proofs.build_rule.Reads as reads
-use Rattle.builder.proofs.build_rule.Lts as lts
-use Rattle.builder.proofs.both.Reads as both-reads
-use Rattle.builder.proofs.build_actions.Reads as build-actions-reads
-use Rattle.builder.proofs.look.Reads as look-reads
-use Rattle.builder.proofs.read_head.Reads as read-head-reads
-use Rattle.builder.proofs.rejected.Reads as rejected-reads
 
 read-head-requires : tie.Need-read-head-requires
 read-head-requires c κs = search needs

@@ -5,8 +5,6 @@ use Rattle.symbols.specs.Rows.{held}
 use borrow.Author.Needs.{needs}
 use Rattle.builder.proofs.is_taken.Statement.{statement}
 use Rattle.builder.proofs.is_taken.Tie as tie
-use Rattle.builder.proofs.is_taken.Reads as reads
-use Rattle.builder.proofs.is_taken.Lts as lts
 
 find-row-requires : tie.Need-find-row-requires
 find-row-requires c κs = search needs

@@ -9,8 +9,6 @@ use Rattle.builder.proofs.Labelling.{labels-all, labels-none, labels-st
 use Rattle.resolver.specs.Resolved.{Appends}
 use Rattle.builder.proofs.put_labels.Statement.{statement}
 use Rattle.builder.proofs.put_labels.Tie as tie
-use Rattle.builder.proofs.put_labels.Reads as reads
-use Rattle.builder.proofs.put_labels.Lts as lts
 
 abbrev Inv-loop : tie.InvT-loop
 Inv-loop seen from to cells₀ count c₀ i₀ cells c i = (from ≤ i) × (i ≤ to) × (length cells ≡ length cells₀) × Appends cells₀ c₀ (take (i - from) (drop from seen)) cells c

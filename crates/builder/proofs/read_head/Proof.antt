@@ -1,16 +1,10 @@
 -- `builder::read_head` meets its contract.
-use mathlib.Core.Path.{_≡_, refl, sym, ap, _∙_, subst}
+use mathlib.Core.Path.{_≡_, refl, sym, _∙_}
 use native.Mathlib.Omega.{arith}
 use Rattle.builder.proofs.Heading.{head-taken, head-first, head-more}
 use borrow.Author.Needs.{needs}
 use Rattle.builder.proofs.read_head.Statement.{statement}
 use Rattle.builder.proofs.read_head.Tie as tie
-use Rattle.builder.proofs.read_head.Reads as reads
-use Rattle.builder.proofs.read_head.Lts as lts
-use Rattle.builder.proofs.both.Reads as both-reads
-use Rattle.builder.proofs.is_taken.Reads as is-taken-reads
-use Rattle.builder.proofs.look.Reads as look-reads
-use Rattle.builder.proofs.read_type.Reads as read-type-reads
 
 look-requires : tie.Need-look-requires
 look-requires c κs = search needs

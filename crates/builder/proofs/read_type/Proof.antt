@@ -1,13 +1,9 @@
 -- `builder::read_type` meets its contract.
-use mathlib.Core.Path.{_≡_, refl, sym, ap, _∙_, subst}
-use native.Mathlib.Omega.{arith}
+use mathlib.Core.Path.{_≡_, refl}
 use Rattle.builder.proofs.Heading.{type-none, type-fail, type-more}
 use borrow.Author.Needs.{needs}
 use Rattle.builder.proofs.read_type.Statement.{statement}
 use Rattle.builder.proofs.read_type.Tie as tie
-use Rattle.builder.proofs.read_type.Reads as reads
-use Rattle.builder.proofs.read_type.Lts as lts
-use Rattle.builder.proofs.look.Reads as look-reads
 
 look-requires : tie.Need-look-requires
 look-requires c κs = search needs

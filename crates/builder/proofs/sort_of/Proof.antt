@@ -1,11 +1,8 @@
 -- `builder::sort_of` meets its contract.
-use mathlib.Core.Path.{_≡_, refl, sym, ap, _∙_, subst}
-use native.Mathlib.Omega.{arith}
+use mathlib.Core.Path.{_≡_, sym, ap}
 use Rattle.builder.specs.Rules.{sortOf}
 use Rattle.builder.proofs.sort_of.Statement.{statement}
 use Rattle.builder.proofs.sort_of.Tie as tie
-use Rattle.builder.proofs.sort_of.Reads as reads
-use Rattle.builder.proofs.sort_of.Lts as lts
 
 returns : tie.Need-returns
 unfolding sortOf

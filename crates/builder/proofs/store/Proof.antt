@@ -1,13 +1,9 @@
 -- `builder::store` meets its contract.
-use mathlib.Core.Path.{_≡_, refl, sym, ap, _∙_, subst}
-use native.Mathlib.Omega.{arith}
+use mathlib.Core.Path.{_≡_, refl, ap}
 use lib.ListN.{set}
 use borrow.Author.Needs.{needs}
 use Rattle.builder.proofs.store.Statement.{statement}
 use Rattle.builder.proofs.store.Tie as tie
-use Rattle.builder.proofs.store.Reads as reads
-use Rattle.builder.proofs.store.Lts as lts
-use Rattle.builder.proofs.sort_of.Reads as sort-of-reads
 
 cast-starts : tie.Need-cast-starts
 cast-starts c = search needs

@@ -1,10 +1,6 @@
 use borrow.Author.Needs.{needs}
 use Rattle.collector.proofs.put_part.Statement.{statement}
 use Rattle.collector.proofs.put_part.Tie as tie
-use Rattle.collector.proofs.put_part.Reads as reads
-use Rattle.collector.proofs.put_part.Lts as lts
-use Rattle.collector.proofs.narrow.Reads as narrow-reads
-use Rattle.collector.proofs.put_two.Reads as put-two-reads
 
 -- src/lib.rt:128:22
 narrow-requires : tie.Need-narrow-requires

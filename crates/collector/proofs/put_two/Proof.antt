@@ -3,8 +3,6 @@ use lib.ListN.{length-set}
 use borrow.Author.Needs.{needs}
 use Rattle.collector.proofs.put_two.Statement.{statement}
 use Rattle.collector.proofs.put_two.Tie as tie
-use Rattle.collector.proofs.put_two.Reads as reads
-use Rattle.collector.proofs.put_two.Lts as lts
 
 -- src/lib.rt:120:5
 mul-rows : tie.Need-mul-rows

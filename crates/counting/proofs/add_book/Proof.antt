@@ -12,7 +12,7 @@ use Rattle.counting.specs.Counting.{bookVisits, bookOf, gives}
 use Rattle.counting.specs.declared.Told.{Told}
 use Rattle.figures.proofs.Form.{length-numbersAt}
 use Rattle.figures.specs.Figures.{sum, bumps, sound}
-use Rattle.figures.specs.Form.{figuresNamed, numbersAt}
+use Rattle.figures.specs.Form.{figuresNamed}
 use Rattle.machine.specs.Bytes.{count, wordsOf}
 use Rattle.walker.specs.Linked.{Bytes}
 use Rattle.walker.specs.Shape.{Outcome}

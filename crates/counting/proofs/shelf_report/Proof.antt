@@ -1,7 +1,6 @@
 -- `counting::shelf_report` meets its contract.
 use mathlib.Core.Path.{sym, _∙_}
 use borrow.Author.Tests.{not-true, not-false}
-use Rattle.base.specs.Common.{if_then_else_}
 use Rattle.counting.proofs.Adds.{no-figures, no-sound-figures, the-report}
 use borrow.Author.Needs.{needs}
 use Rattle.counting.proofs.shelf_report.Statement.{statement}

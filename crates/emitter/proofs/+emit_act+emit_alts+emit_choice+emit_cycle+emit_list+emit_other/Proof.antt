@@ -1,10 +1,10 @@
 use borrow.Author.Needs.{needs}
-use mathlib.Core.Path.{_≡_, refl, ap, sym, _∙_, subst}
+use mathlib.Core.Path.{_≡_, refl, ap, sym, _∙_}
 use native.Mathlib.Omega.{arith}
 use Prim.Native.Nat.{ℕ, _+_, _*_, _-_, _≤_, _<_}
-use lib.ListN.{length, getD, set}
+use lib.ListN.{length, getD}
 use mathlib.Core.List.{[], _∷_}
-use Rattle.emitter.specs.Words.{words, setWord, puts, cut}
+use Rattle.emitter.specs.Words.{puts}
 use Rattle.emitter.specs.Heads.{labelsAt, chooses, insOf}
 use Rattle.emitter.proofs.Laws.{cell-there}
 use Rattle.emitter.proofs.Emits.{exit-done, cycle-done, cycle-join, plain-done, Goes, goes-none, goes-more, goes-end}

@@ -1,12 +1,10 @@
-use mathlib.Core.Path.{_≡_, refl, ap, sym, _∙_, subst}
+use mathlib.Core.Path.{_≡_, ap, sym}
 use mathlib.Core.Bool.{Bool, cond}
-use Prim.Native.Nat.{ℕ, _+_, _*_, _-_, _≤_, _<_}
-use borrow.Author.Tests.{eq-eqb, ne-eqb, lt-ltb, le-ltb}
+use Prim.Native.Nat.{ℕ, _+_, _-_, _<_}
+use borrow.Author.Tests.{eq-eqb, ne-eqb}
 use Rattle.emitter.specs.Heads.{anchor}
 use Rattle.emitter.proofs.anchor.Statement.{statement}
 use Rattle.emitter.proofs.anchor.Tie as tie
-use Rattle.emitter.proofs.anchor.Reads as reads
-use Rattle.emitter.proofs.anchor.Lts as lts
 
 -- src/lib.rt:141:1
 returns : tie.Need-returns

@@ -1,13 +1,11 @@
-use mathlib.Core.Path.{_≡_, refl, ap, sym, _∙_, subst}
+use mathlib.Core.Path.{_≡_, ap, sym}
 use mathlib.Core.Bool.{Bool, cond}
-use Prim.Native.Nat.{ℕ, _+_, _*_, _-_, _≤_, _<_}
-use borrow.Author.Tests.{eq-eqb, ne-eqb, lt-ltb, le-ltb}
+use Prim.Native.Nat.{ℕ, _+_, _-_, _<_}
+use borrow.Author.Tests.{eq-eqb, ne-eqb}
 use Rattle.emitter.specs.Heads.{behind}
 use borrow.Author.Needs.{needs}
 use Rattle.emitter.proofs.behind.Statement.{statement}
 use Rattle.emitter.proofs.behind.Tie as tie
-use Rattle.emitter.proofs.behind.Reads as reads
-use Rattle.emitter.proofs.behind.Lts as lts
 
 -- src/lib.rt:388:35
 add-result : tie.Need-add-result

@@ -1,15 +1,10 @@
-use mathlib.Core.Path.{_≡_, refl, ap, sym, _∙_, subst}
+use mathlib.Core.Path.{_≡_, sym, _∙_}
 use Rattle.emitter.proofs.Laws.{by-call, not-by-call, called-open, called-placed}
-use Rattle.chains.specs.Chain.{placed}
 use native.Mathlib.Omega.{arith}
-use Prim.Native.Nat.{ℕ, _+_, _*_, _-_, _≤_, _<_}
+use Prim.Native.Nat.{ℕ, _+_, _-_, _<_}
 use borrow.Author.Needs.{needs}
 use Rattle.emitter.proofs.call_at.Statement.{statement}
 use Rattle.emitter.proofs.call_at.Tie as tie
-use Rattle.emitter.proofs.call_at.Reads as reads
-use Rattle.emitter.proofs.call_at.Lts as lts
-use Rattle.emitter.proofs.put_slot.Reads as put-slot-reads
-use Rattle.emitter.proofs.slot.Reads as slot-reads
 
 -- src/lib.rt:125:12
 slot-requires : tie.Need-slot-requires

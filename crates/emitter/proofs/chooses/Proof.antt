@@ -2,8 +2,6 @@ use borrow.Author.Tests.{lt-ltb, le-ltb, eq-eqb, ne-eqb}
 use Rattle.emitter.specs.Heads.{chooses}
 use Rattle.emitter.proofs.chooses.Statement.{statement}
 use Rattle.emitter.proofs.chooses.Tie as tie
-use Rattle.emitter.proofs.chooses.Reads as reads
-use Rattle.emitter.proofs.chooses.Lts as lts
 
 -- src/lib.rt:311:9
 returns : tie.Need-returns

@@ -1,8 +1,8 @@
 -- `emitter::emit` meets its contract: a refusal by its size, else by `accepted-part`.
-use mathlib.Core.Path.{_≡_, refl, ap, sym, _∙_, subst}
+use mathlib.Core.Path.{_≡_, refl, ap, sym, _∙_}
 use native.Mathlib.Omega.{arith}
-use Prim.Native.Nat.{ℕ, _+_, _*_, _-_, _≤_, _<_}
-use lib.ListN.{length, getD, set}
+use Prim.Native.Nat.{ℕ, _+_, _*_, _-_, _<_}
+use lib.ListN.{length}
 use lib.Seq.{length-take-le}
 use mathlib.Core.Logic.{inl, inr}
 use Rattle.emitter.specs.Emitted.{Emits}

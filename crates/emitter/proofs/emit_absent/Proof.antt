@@ -1,17 +1,12 @@
-use mathlib.Core.Path.{_≡_, refl, ap, sym, _∙_, subst}
+use mathlib.Core.Path.{_≡_, refl, sym, _∙_}
 use native.Mathlib.Omega.{arith}
-use Prim.Native.Nat.{ℕ, _+_, _*_, _-_, _≤_, _<_}
-use lib.ListN.{length, getD, set}
-use Rattle.emitter.specs.Words.{words, setWord, puts, cut}
+use Prim.Native.Nat.{ℕ, _+_, _-_, _<_}
+use lib.ListN.{length}
+use Rattle.emitter.specs.Words.{cut}
 use Rattle.emitter.proofs.Choices.{token-done, end-done}
 use borrow.Author.Needs.{needs}
 use Rattle.emitter.proofs.emit_absent.Statement.{statement}
 use Rattle.emitter.proofs.emit_absent.Tie as tie
-use Rattle.emitter.proofs.emit_absent.Reads as reads
-use Rattle.emitter.proofs.emit_absent.Lts as lts
-use Rattle.emitter.proofs.put_one.Reads as put-one-reads
-use Rattle.emitter.proofs.put_span.Reads as put-span-reads
-use Rattle.emitter.proofs.put_two.Reads as put-two-reads
 
 -- src/lib.rt:449:22
 add-least : tie.Need-add-least

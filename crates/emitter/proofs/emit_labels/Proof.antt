@@ -1,16 +1,13 @@
 use borrow.Author.Needs.{needs}
-use Prim.Native.Nat.{ℕ, _+_, _*_, _-_, _≤_, _<_}
-use mathlib.Core.Path.{_≡_, refl, ap, sym, _∙_}
+use Prim.Native.Nat.{ℕ, _+_, _*_, _-_, _<_}
+use mathlib.Core.Path.{_≡_, refl, ap, _∙_}
 use mathlib.Core.List.{_∷_, []}
 use native.Mathlib.Omega.{arith}
-use lib.ListN.{length, getD}
+use lib.ListN.{length}
 use Rattle.emitter.specs.Words.{puts, cut}
 use Rattle.emitter.proofs.Labels.{LabelsGo, labels-none, labels-more, labels-end}
 use Rattle.emitter.proofs.emit_labels.Statement.{statement}
 use Rattle.emitter.proofs.emit_labels.Tie as tie
-use Rattle.emitter.proofs.emit_labels.Reads as reads
-use Rattle.emitter.proofs.emit_labels.Lts as lts
-use Rattle.emitter.proofs.put_span.Reads as put-span-reads
 
 abbrev Inv-loop : tie.InvT-loop
 Inv-loop cells p j out₀ at from q₀ l₀ left₀ out q l left = (length out ≡ length out₀) × (q + left ≡ p + j) × (l + 2 * left ≡ at + 2 * j) × LabelsGo cells p j out₀ at from q l left out

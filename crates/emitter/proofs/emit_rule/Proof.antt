@@ -1,16 +1,11 @@
-use mathlib.Core.Path.{_≡_, refl, ap, sym, _∙_, subst}
+use mathlib.Core.Path.{_≡_}
 use native.Mathlib.Omega.{arith}
-use Prim.Native.Nat.{ℕ, _+_, _*_, _-_, _≤_, _<_}
-use lib.ListN.{length, getD, set}
+use Prim.Native.Nat.{ℕ, _+_, _-_, _<_}
+use lib.ListN.{length}
 use Rattle.emitter.proofs.Rules.{rule-return, rule-none}
 use borrow.Author.Needs.{needs}
 use Rattle.emitter.proofs.emit_rule.Statement.{statement}
 use Rattle.emitter.proofs.emit_rule.Tie as tie
-use Rattle.emitter.proofs.emit_rule.Reads as reads
-use Rattle.emitter.proofs.emit_rule.Lts as lts
-use Rattle.emitter.proofs.emit_list.Reads as emit-list-reads
-use Rattle.emitter.proofs.patch.Reads as patch-reads
-use Rattle.emitter.proofs.put_one.Reads as put-one-reads
 
 -- src/lib.rt:696:9
 emit-list-requires : tie.Need-emit-list-requires

@@ -1,15 +1,11 @@
 use borrow.Author.Needs.{needs}
-use mathlib.Core.Path.{_≡_, refl, ap, sym, _∙_, subst}
+use mathlib.Core.Path.{_≡_, refl, _∙_}
 use native.Mathlib.Omega.{arith}
 use Prim.Native.Nat.{ℕ, _+_, _*_, _-_, _≤_, _<_}
-use lib.ListN.{length, getD, set}
+use lib.ListN.{length}
 use Rattle.emitter.proofs.Rules.{RulesGo, rules-start, rules-go, rules-end}
 use Rattle.emitter.proofs.emit_rules.Statement.{statement}
 use Rattle.emitter.proofs.emit_rules.Tie as tie
-use Rattle.emitter.proofs.emit_rules.Reads as reads
-use Rattle.emitter.proofs.emit_rules.Lts as lts
-use Rattle.emitter.proofs.emit_rule.Reads as emit-rule-reads
-use Rattle.emitter.proofs.place_rule.Reads as place-rule-reads
 
 abbrev Inv-loop : tie.InvT-loop
 Inv-loop cells sorts rules slots₀ out₀ q₀ l₀ r₀ slots out q l r = (r ≤ rules) × (q ≤ length cells) × (l ≤ 400 * q + r) × (length out ≡ length out₀) × (length slots ≡ length slots₀) × RulesGo cells sorts rules slots₀ out₀ q l r out slots

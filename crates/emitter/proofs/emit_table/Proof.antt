@@ -1,22 +1,11 @@
 use borrow.Author.Needs.{needs}
-use mathlib.Core.Path.{_≡_, refl, ap, sym, _∙_, subst}
+use mathlib.Core.Path.{_≡_, refl, _∙_}
 use native.Mathlib.Omega.{arith}
-use Prim.Native.Nat.{ℕ, _+_, _*_, _-_, _≤_, _<_}
-use lib.ListN.{length, getD, set}
-use mathlib.Core.List.{List}
-use Rattle.emitter.specs.Words.{words, setWord, puts, cut}
+use Prim.Native.Nat.{ℕ, _+_, _-_, _≤_, _<_}
+use lib.ListN.{length}
 use Rattle.emitter.proofs.Tables.{TableGo, table-none, table-more, table-end}
 use Rattle.emitter.proofs.emit_table.Statement.{statement}
 use Rattle.emitter.proofs.emit_table.Tie as tie
-use Rattle.emitter.proofs.emit_table.Reads as reads
-use Rattle.emitter.proofs.emit_table.Lts as lts
-use Rattle.emitter.proofs.behind.Reads as behind-reads
-use Rattle.emitter.proofs.emit_labels.Reads as emit-labels-reads
-use Rattle.emitter.proofs.labels_at.Reads as labels-at-reads
-use Rattle.emitter.proofs.less.Reads as less-reads
-use Rattle.emitter.proofs.older_at.Reads as older-at-reads
-use Rattle.emitter.proofs.put_word.Reads as put-word-reads
-use Rattle.machine.proofs.word.Reads as word-reads
 
 abbrev Inv-loop : tie.InvT-loop
 Inv-loop cells out₀ newest from end j₀ l₀ out j l = (length out ≡ length out₀) × (j ≤ newest) × (l ≤ end) × TableGo cells out₀ newest from end out j l

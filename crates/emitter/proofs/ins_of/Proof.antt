@@ -1,9 +1,7 @@
-use borrow.Author.Tests.{lt-ltb, le-ltb, eq-eqb, ne-eqb}
+use borrow.Author.Tests.{eq-eqb, ne-eqb}
 use Rattle.emitter.specs.Heads.{insOf}
 use Rattle.emitter.proofs.ins_of.Statement.{statement}
 use Rattle.emitter.proofs.ins_of.Tie as tie
-use Rattle.emitter.proofs.ins_of.Reads as reads
-use Rattle.emitter.proofs.ins_of.Lts as lts
 
 -- src/lib.rt:319:1
 returns : tie.Need-returns

@@ -1,15 +1,12 @@
 use Prim.Native.Nat.{ℕ, _+_, _<_}
-use mathlib.Core.Path.{_≡_, refl, sym, ap, _∙_}
+use mathlib.Core.Path.{_≡_, sym, ap, _∙_}
 use native.Mathlib.Omega.{arith}
 use lib.ListN.{length, getD}
-use Rattle.emitter.specs.Heads.{labelsIn, labelsAt}
+use Rattle.emitter.specs.Heads.{labelsIn}
 use Rattle.emitter.proofs.Laws.{at-in, at-out}
 use borrow.Author.Needs.{needs}
 use Rattle.emitter.proofs.labels_at.Statement.{statement}
 use Rattle.emitter.proofs.labels_at.Tie as tie
-use Rattle.emitter.proofs.labels_at.Reads as reads
-use Rattle.emitter.proofs.labels_at.Lts as lts
-use Rattle.emitter.proofs.labels_in.Reads as labels-in-reads
 
 -- src/lib.rt:268:23
 cell-requires : tie.Need-cell-requires

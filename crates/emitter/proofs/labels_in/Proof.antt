@@ -1,13 +1,11 @@
 use Prim.Native.Nat.{ℕ, _-_}
-use mathlib.Core.Path.{_≡_, refl, ap, sym, _∙_}
+use mathlib.Core.Path.{_≡_}
 use native.Mathlib.Omega.{arith}
 use borrow.Author.Tests.{lt-ltb, le-ltb}
 use Rattle.emitter.specs.Heads.{labelsIn}
 use borrow.Author.Needs.{needs}
 use Rattle.emitter.proofs.labels_in.Statement.{statement}
 use Rattle.emitter.proofs.labels_in.Tie as tie
-use Rattle.emitter.proofs.labels_in.Reads as reads
-use Rattle.emitter.proofs.labels_in.Lts as lts
 
 -- src/lib.rt:210:9
 returns : tie.Need-returns

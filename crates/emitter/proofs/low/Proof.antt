@@ -2,8 +2,6 @@ use Rattle.emitter.specs.Words.{cut}
 use borrow.Author.Needs.{needs}
 use Rattle.emitter.proofs.low.Statement.{statement}
 use Rattle.emitter.proofs.low.Tie as tie
-use Rattle.emitter.proofs.low.Reads as reads
-use Rattle.emitter.proofs.low.Lts as lts
 
 -- src/lib.rt:28:5
 cast-result : tie.Need-cast-result

@@ -1,13 +1,10 @@
-use mathlib.Core.Path.{_≡_, refl, ap, sym, _∙_, subst}
+use mathlib.Core.Path.{_≡_, sym, _∙_}
 use native.Mathlib.Omega.{arith}
-use Prim.Native.Nat.{ℕ, _+_, _*_, _-_, _≤_, _<_}
+use Prim.Native.Nat.{ℕ, _+_, _-_, _<_}
 use Rattle.emitter.proofs.Patches.{link-is, link-none}
 use borrow.Author.Needs.{needs}
 use Rattle.emitter.proofs.older_at.Statement.{statement}
 use Rattle.emitter.proofs.older_at.Tie as tie
-use Rattle.emitter.proofs.older_at.Reads as reads
-use Rattle.emitter.proofs.older_at.Lts as lts
-use Rattle.machine.proofs.word.Reads as word-reads
 
 -- src/lib.rt:132:18
 word-requires : tie.Need-word-requires

@@ -1,20 +1,13 @@
 use borrow.Author.Needs.{needs}
-use mathlib.Core.Path.{_≡_, refl, ap, sym, _∙_, subst}
+use mathlib.Core.Path.{_≡_, refl, ap, _∙_}
 use native.Mathlib.Omega.{arith}
-use Prim.Native.Nat.{ℕ, _+_, _*_, _-_, _≤_, _<_}
-use lib.ListN.{length, getD, set}
-use mathlib.Core.List.{List}
-use Rattle.emitter.specs.Words.{words, setWord, puts, cut}
+use Prim.Native.Nat.{ℕ, _+_, _-_, _≤_, _<_}
+use lib.ListN.{length}
+use Rattle.emitter.specs.Words.{setWord, cut}
 use Rattle.emitter.proofs.Patches.{PatchGo, patch-none, patch-more, patch-end}
 use Rattle.emitter.specs.Heads.{anchor}
 use Rattle.emitter.proofs.patch.Statement.{statement}
 use Rattle.emitter.proofs.patch.Tie as tie
-use Rattle.emitter.proofs.patch.Reads as reads
-use Rattle.emitter.proofs.patch.Lts as lts
-use Rattle.emitter.proofs.anchor.Reads as anchor-reads
-use Rattle.emitter.proofs.older_at.Reads as older-at-reads
-use Rattle.emitter.proofs.put_word.Reads as put-word-reads
-use Rattle.emitter.proofs.span.Reads as span-reads
 
 abbrev Inv-loop : tie.InvT-loop
 Inv-loop out₀ newest to k j₀ out j = (length out ≡ length out₀) × (j ≤ newest) × PatchGo out₀ newest to k out j

@@ -1,14 +1,9 @@
-use mathlib.Core.Path.{_≡_, refl, ap, sym, _∙_, subst}
-use Prim.Native.Nat.{ℕ, _+_, _*_, _-_, _≤_, _<_}
+use mathlib.Core.Path.{_≡_}
+use Prim.Native.Nat.{ℕ, _+_, _-_, _<_}
 use Rattle.emitter.proofs.Rules.{place-done}
 use borrow.Author.Needs.{needs}
 use Rattle.emitter.proofs.place_rule.Statement.{statement}
 use Rattle.emitter.proofs.place_rule.Tie as tie
-use Rattle.emitter.proofs.place_rule.Reads as reads
-use Rattle.emitter.proofs.place_rule.Lts as lts
-use Rattle.emitter.proofs.patch.Reads as patch-reads
-use Rattle.emitter.proofs.put_slot.Reads as put-slot-reads
-use Rattle.emitter.proofs.slot.Reads as slot-reads
 
 -- src/lib.rt:714:16
 slot-requires : tie.Need-slot-requires

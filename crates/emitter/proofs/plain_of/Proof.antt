@@ -4,11 +4,6 @@ use borrow.Author.Needs.{needs}
 use Rattle.emitter.specs.Heads.{plainOf}
 use Rattle.emitter.proofs.plain_of.Statement.{statement}
 use Rattle.emitter.proofs.plain_of.Tie as tie
-use Rattle.emitter.proofs.plain_of.Reads as reads
-use Rattle.emitter.proofs.plain_of.Lts as lts
-use Rattle.emitter.proofs.one.Reads as one-reads
-use Rattle.emitter.proofs.three.Reads as three-reads
-use Rattle.emitter.proofs.two.Reads as two-reads
 
 one-requires : tie.Need-one-requires
 one-requires c κs = search needs

@@ -2,10 +2,6 @@ use Rattle.emitter.specs.Words.{puts}
 use borrow.Author.Needs.{needs}
 use Rattle.emitter.proofs.put_one.Statement.{statement}
 use Rattle.emitter.proofs.put_one.Tie as tie
-use Rattle.emitter.proofs.put_one.Reads as reads
-use Rattle.emitter.proofs.put_one.Lts as lts
-use Rattle.emitter.proofs.low.Reads as low-reads
-use Rattle.emitter.proofs.put_word.Reads as put-word-reads
 
 -- src/lib.rt:34:23
 low-requires : tie.Need-low-requires

@@ -1,11 +1,9 @@
-use mathlib.Core.Path.{_≡_, refl, ap, sym, _∙_, subst}
+use mathlib.Core.Path.{_≡_, sym}
 use native.Mathlib.Omega.{arith}
 use Rattle.emitter.proofs.Laws.{set-past}
 use borrow.Author.Needs.{needs}
 use Rattle.emitter.proofs.put_slot.Statement.{statement}
 use Rattle.emitter.proofs.put_slot.Tie as tie
-use Rattle.emitter.proofs.put_slot.Reads as reads
-use Rattle.emitter.proofs.put_slot.Lts as lts
 
 -- src/lib.rt:108:9
 mul-slots : tie.Need-mul-slots

@@ -5,11 +5,6 @@ use Rattle.emitter.proofs.Laws.{firsts-zero, firsts-one, firsts-two, fi
 use borrow.Author.Needs.{needs}
 use Rattle.emitter.proofs.put_some.Statement.{statement}
 use Rattle.emitter.proofs.put_some.Tie as tie
-use Rattle.emitter.proofs.put_some.Reads as reads
-use Rattle.emitter.proofs.put_some.Lts as lts
-use Rattle.emitter.proofs.put_three.Reads as put-three-reads
-use Rattle.emitter.proofs.put_two.Reads as put-two-reads
-use Rattle.emitter.proofs.put_word.Reads as put-word-reads
 
 -- src/lib.rt:142:9
 returns : tie.Need-returns

@@ -1,11 +1,6 @@
-use Rattle.emitter.specs.Words.{puts}
 use borrow.Author.Needs.{needs}
 use Rattle.emitter.proofs.put_span.Statement.{statement}
 use Rattle.emitter.proofs.put_span.Tie as tie
-use Rattle.emitter.proofs.put_span.Reads as reads
-use Rattle.emitter.proofs.put_span.Lts as lts
-use Rattle.emitter.proofs.put_two.Reads as put-two-reads
-use Rattle.emitter.proofs.span.Reads as span-reads
 
 -- src/lib.rt:67:25
 span-requires : tie.Need-span-requires

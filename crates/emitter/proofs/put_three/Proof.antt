@@ -2,9 +2,6 @@ use Rattle.emitter.specs.Words.{puts}
 use borrow.Author.Needs.{needs}
 use Rattle.emitter.proofs.put_three.Statement.{statement}
 use Rattle.emitter.proofs.put_three.Tie as tie
-use Rattle.emitter.proofs.put_three.Reads as reads
-use Rattle.emitter.proofs.put_three.Lts as lts
-use Rattle.emitter.proofs.put_word.Reads as put-word-reads
 
 -- src/lib.rt:49:5
 put-word-requires : tie.Need-put-word-requires

@@ -2,9 +2,6 @@ use Rattle.emitter.specs.Words.{puts}
 use borrow.Author.Needs.{needs}
 use Rattle.emitter.proofs.put_two.Statement.{statement}
 use Rattle.emitter.proofs.put_two.Tie as tie
-use Rattle.emitter.proofs.put_two.Reads as reads
-use Rattle.emitter.proofs.put_two.Lts as lts
-use Rattle.emitter.proofs.put_word.Reads as put-word-reads
 
 -- src/lib.rt:41:5
 put-word-requires : tie.Need-put-word-requires

@@ -5,8 +5,6 @@ use Rattle.emitter.proofs.Laws.{set-in, set-out}
 use borrow.Author.Needs.{needs}
 use Rattle.emitter.proofs.put_word.Statement.{statement}
 use Rattle.emitter.proofs.put_word.Tie as tie
-use Rattle.emitter.proofs.put_word.Reads as reads
-use Rattle.emitter.proofs.put_word.Lts as lts
 
 -- src/lib.rt:19:22
 cast-out : tie.Need-cast-out

@@ -4,11 +4,6 @@ use borrow.Author.Needs.{needs}
 use Rattle.emitter.specs.Heads.{selOf}
 use Rattle.emitter.proofs.sel_of.Statement.{statement}
 use Rattle.emitter.proofs.sel_of.Tie as tie
-use Rattle.emitter.proofs.sel_of.Reads as reads
-use Rattle.emitter.proofs.sel_of.Lts as lts
-use Rattle.emitter.proofs.one.Reads as one-reads
-use Rattle.emitter.proofs.three.Reads as three-reads
-use Rattle.emitter.proofs.two.Reads as two-reads
 
 returns : tie.Need-returns
 unfolding selOf

@@ -1,10 +1,8 @@
-use mathlib.Core.Path.{_≡_, refl, ap, sym, _∙_, subst}
+use mathlib.Core.Path.{_≡_, sym}
 use lib.ListN.{List·getD-eq-default}
 use borrow.Author.Needs.{needs}
 use Rattle.emitter.proofs.slot.Statement.{statement}
 use Rattle.emitter.proofs.slot.Tie as tie
-use Rattle.emitter.proofs.slot.Reads as reads
-use Rattle.emitter.proofs.slot.Lts as lts
 
 -- src/lib.rt:101:26
 mul-result : tie.Need-mul-result

@@ -5,9 +5,6 @@ use Rattle.emitter.specs.Words.{cut}
 use borrow.Author.Needs.{needs}
 use Rattle.emitter.proofs.span.Statement.{statement}
 use Rattle.emitter.proofs.span.Tie as tie
-use Rattle.emitter.proofs.span.Reads as reads
-use Rattle.emitter.proofs.span.Lts as lts
-use Rattle.emitter.proofs.low.Reads as low-reads
 
 -- src/lib.rt:59:24
 sub-low : tie.Need-sub-low

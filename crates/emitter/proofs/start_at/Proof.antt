@@ -1,13 +1,9 @@
-use mathlib.Core.Path.{_≡_, refl, ap, sym, _∙_, subst}
-use Rattle.emitter.specs.Words.{words, setWord, puts, cut}
+use mathlib.Core.Path.{_≡_, ap, _∙_}
+use Rattle.emitter.specs.Words.{cut}
 use Rattle.emitter.specs.Heads.{startOf}
 use borrow.Author.Needs.{needs}
 use Rattle.emitter.proofs.start_at.Statement.{statement}
 use Rattle.emitter.proofs.start_at.Tie as tie
-use Rattle.emitter.proofs.start_at.Reads as reads
-use Rattle.emitter.proofs.start_at.Lts as lts
-use Rattle.emitter.proofs.low.Reads as low-reads
-use Rattle.emitter.proofs.slot.Reads as slot-reads
 
 -- src/lib.rt:116:9
 slot-requires : tie.Need-slot-requires

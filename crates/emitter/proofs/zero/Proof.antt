@@ -4,9 +4,6 @@ use Rattle.emitter.specs.Emitted.{zeroedBytes}
 use Rattle.machine.specs.Bytes.{count}
 use Rattle.emitter.proofs.zero.Statement.{statement}
 use Rattle.emitter.proofs.zero.Tie as tie
-use Rattle.emitter.proofs.zero.Reads as reads
-use Rattle.emitter.proofs.zero.Lts as lts
-use Rattle.emitter.proofs.zero_from.Reads as zero-from-reads
 
 -- src/lib.rt:659:5
 zero-from-requires : tie.Need-zero-from-requires

@@ -1,5 +1,5 @@
 use borrow.Author.Needs.{needs}
-use Prim.Native.Nat.{ℕ, _+_, _*_, _-_, _≤_, _<_}
+use Prim.Native.Nat.{ℕ, _+_, _-_, _<_}
 use mathlib.Core.Path.{_≡_, refl, ap, sym, _∙_}
 use mathlib.Core.List.{List}
 use native.Mathlib.Omega.{arith}
@@ -8,9 +8,6 @@ use Rattle.emitter.specs.Words.{words, puts, setWord}
 use Rattle.emitter.proofs.Bytes.{zeros-more, zeros-none}
 use Rattle.emitter.proofs.zero_from.Statement.{statement}
 use Rattle.emitter.proofs.zero_from.Tie as tie
-use Rattle.emitter.proofs.zero_from.Reads as reads
-use Rattle.emitter.proofs.zero_from.Lts as lts
-use Rattle.emitter.proofs.put_word.Reads as put-word-reads
 
 abbrev Inv-loop : tie.InvT-loop
 Inv-loop out₀ at n i₀ out i = (length out ≡ length out₀) × (puts out i (replicate (n - i) 0) ≡ puts out₀ at (replicate (n - at) 0))

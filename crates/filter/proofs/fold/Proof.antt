@@ -1,5 +1,5 @@
 -- `filter::fold` meets its contract: the checks in their order, then the tokens.
-use mathlib.Core.Path.{_≡_, refl, sym, ap, _∙_}
+use mathlib.Core.Path.{_≡_, refl}
 use native.Mathlib.Omega.{arith}
 use Rattle.base.proofs.Laws.{zeros-at}
 use Rattle.filter.proofs.Counting.{tally-start}

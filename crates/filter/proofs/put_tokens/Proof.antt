@@ -1,5 +1,5 @@
 -- `filter::put_tokens` meets its contract.
-use mathlib.Core.Path.{refl, _∙_}
+use mathlib.Core.Path.{_∙_}
 use native.Mathlib.Omega.{arith}
 use Rattle.filter.specs.Working.{mapTokens}
 use Rattle.filter.proofs.Writes.{words-next, words-all, tokens-length, tokens-fit}

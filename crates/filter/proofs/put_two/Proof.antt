@@ -1,6 +1,5 @@
 -- `filter::put_two` meets its contract.
 use mathlib.Core.Path.{refl}
-use native.Mathlib.Omega.{arith}
 use Rattle.filter.specs.Working.{mapTokens}
 use Rattle.filter.proofs.Writes.{words-next}
 use borrow.Author.Needs.{needs}

@@ -1,5 +1,5 @@
 -- `filter::tally` meets its contract: entry after entry.
-use mathlib.Core.Path.{_≡_, sym, ap, _∙_}
+use mathlib.Core.Path.{_≡_, sym, _∙_}
 use Prim.Native.Nat.{_-_, _≤_}
 use native.Mathlib.Omega.{arith}
 use Rattle.filter.specs.Working.{Tallied}

@@ -1,11 +1,8 @@
 -- `firmware::flag` meets its contract.
-use mathlib.Core.Path.{_≡_, refl, sym, ap, _∙_, subst}
-use native.Mathlib.Omega.{arith}
+use mathlib.Core.Path.{_≡_, sym, ap}
 use Rattle.firmware.specs.Processing.{flagOf}
 use Rattle.firmware.proofs.flag.Statement.{statement}
 use Rattle.firmware.proofs.flag.Tie as tie
-use Rattle.firmware.proofs.flag.Reads as reads
-use Rattle.firmware.proofs.flag.Lts as lts
 
 returns : tie.Need-returns
 unfolding flagOf

@@ -3,10 +3,6 @@ use borrow.Author.Needs.{needs}
 use Rattle.firmware.proofs.Processing.{numbers-told}
 use Rattle.firmware.proofs.sst_process.Statement.{statement}
 use Rattle.firmware.proofs.sst_process.Tie as tie
-use Rattle.firmware.proofs.sst_process.Reads as reads
-use Rattle.firmware.proofs.sst_process.Lts as lts
-use Rattle.firmware.proofs.flag.Reads as flag-reads
-use Rattle.translator.proofs.process.Reads as process-reads
 
 process-requires : tie.Need-process-requires
 process-requires c κs = search needs

@@ -4,13 +4,6 @@ use Rattle.frontend.proofs.Passes.{declared-wrong, declared-good}
 use native.Mathlib.Omega.{arith}
 use Rattle.frontend.proofs.resolve.Statement.{statement}
 use Rattle.frontend.proofs.resolve.Tie as tie
-use Rattle.frontend.proofs.resolve.Reads as reads
-use Rattle.frontend.proofs.resolve.Lts as lts
-use Rattle.collector.proofs.collect.Reads as collect-reads
-use Rattle.declarer.proofs.check_declarations.Reads as check-declarations-reads
-use Rattle.frontend.proofs.mistake.Reads as mistake-reads
-use Rattle.frontend.proofs.resolve_rules.Reads as resolve-rules-reads
-use Rattle.symbols.proofs.index.Reads as index-reads
 
 -- src/lib.rt:125:9
 collect-requires : tie.Need-collect-requires

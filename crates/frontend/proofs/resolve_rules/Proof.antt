@@ -4,13 +4,6 @@ use Rattle.frontend.proofs.Rests.{rules-wrong, limit-passed, rules-made
 use native.Mathlib.Omega.{arith}
 use Rattle.frontend.proofs.resolve_rules.Statement.{statement}
 use Rattle.frontend.proofs.resolve_rules.Tie as tie
-use Rattle.frontend.proofs.resolve_rules.Reads as reads
-use Rattle.frontend.proofs.resolve_rules.Lts as lts
-use Rattle.builder.proofs.build.Reads as build-reads
-use Rattle.frontend.proofs.filled.Reads as filled-reads
-use Rattle.levels.proofs.make.Reads as make-reads
-use Rattle.frontend.proofs.mistake.Reads as mistake-reads
-use Rattle.maker.proofs.pairs.Reads as pairs-reads
 
 -- src/lib.rt:91:9
 pairs-requires : tie.Need-pairs-requires

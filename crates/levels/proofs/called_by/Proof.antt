@@ -2,8 +2,6 @@
 use Rattle.levels.proofs.Putting.{called-own, called-higher}
 use Rattle.levels.proofs.called_by.Statement.{statement}
 use Rattle.levels.proofs.called_by.Tie as tie
-use Rattle.levels.proofs.called_by.Reads as reads
-use Rattle.levels.proofs.called_by.Lts as lts
 
 -- src/lib.rt:169:9
 returns : tie.Need-returns

@@ -7,11 +7,6 @@ use Rattle.levels.specs.declared.Part.{Part}
 use Rattle.levels.proofs.Naming.{first-end, first-last, first-hit, first-next}
 use Rattle.levels.proofs.first_use.Statement.{statement}
 use Rattle.levels.proofs.first_use.Tie as tie
-use Rattle.levels.proofs.first_use.Reads as reads
-use Rattle.levels.proofs.first_use.Lts as lts
-use Rattle.levels.proofs.is_use_of.Reads as is-use-of-reads
-use Rattle.levels.proofs.name_of.Reads as name-of-reads
-use Rattle.scanner.proofs.next_word.Reads as next-word-reads
 
 abbrev Inv-loop : tie.InvT-loop
 Inv-loop text rows n at section operand i₀ i = (i ≤ length text) × ((r : Part) → FirstDone text rows n i section operand r → FirstDone text rows n at section operand r)

@@ -3,9 +3,6 @@ use Rattle.levels.proofs.Naming.{word-no, word-is, word-else}
 use borrow.Author.Needs.{needs}
 use Rattle.levels.proofs.is_use_of.Statement.{statement}
 use Rattle.levels.proofs.is_use_of.Tie as tie
-use Rattle.levels.proofs.is_use_of.Reads as reads
-use Rattle.levels.proofs.is_use_of.Lts as lts
-use Rattle.maker.proofs.read_use.Reads as read-use-reads
 
 -- src/lib.rt:329:9
 returns : tie.Need-returns

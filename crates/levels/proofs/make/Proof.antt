@@ -9,10 +9,6 @@ use Rattle.levels.specs.declared.Made.{Made}
 use Rattle.levels.proofs.Making.{make-first, make-step, make-end, make-whole}
 use Rattle.levels.proofs.make.Statement.{statement}
 use Rattle.levels.proofs.make.Tie as tie
-use Rattle.levels.proofs.make.Reads as reads
-use Rattle.levels.proofs.make.Lts as lts
-use Rattle.levels.proofs.make_levels.Reads as make-levels-reads
-use Rattle.levels.proofs.site_of.Reads as site-of-reads
 
 abbrev Inv-loop : tie.InvT-loop
 Inv-loop text rows n cells₀ starts₀ sorts₀ k j₀ made₀ cells starts sorts j made =

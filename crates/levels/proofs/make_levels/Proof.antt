@@ -6,12 +6,6 @@ use lib.ListN.{length}
 use Rattle.levels.proofs.Making.{RestIs, rest-is, Going, going-first, going-more, higher-low, site-made, site-full}
 use Rattle.levels.proofs.make_levels.Statement.{statement}
 use Rattle.levels.proofs.make_levels.Tie as tie
-use Rattle.levels.proofs.make_levels.Reads as reads
-use Rattle.levels.proofs.make_levels.Lts as lts
-use Rattle.levels.proofs.higher_of.Reads as higher-of-reads
-use Rattle.levels.proofs.put_level.Reads as put-level-reads
-use Rattle.levels.proofs.store.Reads as store-reads
-use Rattle.maker.proofs.next_level.Reads as next-level-reads
 
 abbrev Inv-loop : tie.InvT-loop
 Inv-loop text rows n q cells₀ starts₀ sorts₀ rules₀ count₀ l₀ cells starts sorts rules count l = (l .level ≤ 16) × (rules < 65536) × (count ≤ length cells + 1) × (length cells ≡ length cells₀) × (length starts ≡ 128) × (length sorts ≡ 128) × RestIs text (q .at) l × Going text rows n q cells₀ (q .count) starts₀ sorts₀ rules l cells count starts sorts

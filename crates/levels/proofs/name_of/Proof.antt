@@ -5,9 +5,6 @@ use Rattle.levels.proofs.Naming.{name-is}
 use borrow.Author.Needs.{needs}
 use Rattle.levels.proofs.name_of.Statement.{statement}
 use Rattle.levels.proofs.name_of.Tie as tie
-use Rattle.levels.proofs.name_of.Reads as reads
-use Rattle.levels.proofs.name_of.Lts as lts
-use Rattle.scanner.proofs.next_word.Reads as next-word-reads
 
 -- src/lib.rt:343:9
 next-word-requires : tie.Need-next-word-requires

@@ -3,10 +3,6 @@ use Rattle.levels.proofs.Putting.{open-right, open-left}
 use borrow.Author.Needs.{needs}
 use Rattle.levels.proofs.open_level.Statement.{statement}
 use Rattle.levels.proofs.open_level.Tie as tie
-use Rattle.levels.proofs.open_level.Reads as reads
-use Rattle.levels.proofs.open_level.Lts as lts
-use Rattle.resolver.proofs.put.Reads as put-reads
-use Rattle.resolver.proofs.put_two.Reads as put-two-reads
 
 -- src/lib.rt:145:9
 put-two-requires : tie.Need-put-two-requires

@@ -3,9 +3,6 @@ use Rattle.levels.proofs.Putting.{entry-put, entry-passed}
 use borrow.Author.Needs.{needs}
 use Rattle.levels.proofs.put_if.Statement.{statement}
 use Rattle.levels.proofs.put_if.Tie as tie
-use Rattle.levels.proofs.put_if.Reads as reads
-use Rattle.levels.proofs.put_if.Lts as lts
-use Rattle.levels.proofs.put_operator.Reads as put-operator-reads
 
 -- src/lib.rt:105:9
 put-operator-requires : tie.Need-put-operator-requires

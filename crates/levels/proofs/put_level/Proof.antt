@@ -5,12 +5,6 @@ use Rattle.resolver.proofs.Appending.{appends-length, appends-bound}
 use borrow.Author.Needs.{needs}
 use Rattle.levels.proofs.put_level.Statement.{statement}
 use Rattle.levels.proofs.put_level.Tie as tie
-use Rattle.levels.proofs.put_level.Reads as reads
-use Rattle.levels.proofs.put_level.Lts as lts
-use Rattle.levels.proofs.called_by.Reads as called-by-reads
-use Rattle.levels.proofs.close_level.Reads as close-level-reads
-use Rattle.levels.proofs.open_level.Reads as open-level-reads
-use Rattle.levels.proofs.put_operators.Reads as put-operators-reads
 
 -- src/lib.rt:185:9
 called-by-requires : tie.Need-called-by-requires

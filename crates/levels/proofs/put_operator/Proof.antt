@@ -3,11 +3,6 @@ use Rattle.levels.proofs.Putting.{operator-put}
 use borrow.Author.Needs.{needs}
 use Rattle.levels.proofs.put_operator.Statement.{statement}
 use Rattle.levels.proofs.put_operator.Tie as tie
-use Rattle.levels.proofs.put_operator.Reads as reads
-use Rattle.levels.proofs.put_operator.Lts as lts
-use Rattle.levels.proofs.value_in.Reads as value-in-reads
-use Rattle.resolver.proofs.put.Reads as put-reads
-use Rattle.resolver.proofs.put_two.Reads as put-two-reads
 
 -- src/lib.rt:82:9
 value-in-requires : tie.Need-value-in-requires

@@ -9,11 +9,6 @@ use Rattle.levels.proofs.Putting.{operators-last, operators-more, opera
 use Rattle.resolver.proofs.Appending.{appends-length, appends-bound}
 use Rattle.levels.proofs.put_operators.Statement.{statement}
 use Rattle.levels.proofs.put_operators.Tie as tie
-use Rattle.levels.proofs.put_operators.Reads as reads
-use Rattle.levels.proofs.put_operators.Lts as lts
-use Rattle.levels.proofs.put_if.Reads as put-if-reads
-use Rattle.maker.proofs.read_entry.Reads as read-entry-reads
-use Rattle.scanner.proofs.next_word.Reads as next-word-reads
 
 abbrev Inv-loop : tie.InvT-loop
 Inv-loop text rows n at aim cells₀ count i₀ c₀ cells i c = (i ≤ length text) × (c ≤ length cells + 1) × (length cells ≡ length cells₀) × ((cs′ : List ℕ) (r : ℕ) → OperatorsPut text rows n i (aim .level) (aim .called) cells c cs′ r → OperatorsPut text rows n at (aim .level) (aim .called) cells₀ count cs′ r)

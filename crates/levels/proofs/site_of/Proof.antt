@@ -3,9 +3,6 @@ use Rattle.levels.proofs.Making.{site-of}
 use borrow.Author.Needs.{needs}
 use Rattle.levels.proofs.site_of.Statement.{statement}
 use Rattle.levels.proofs.site_of.Tie as tie
-use Rattle.levels.proofs.site_of.Reads as reads
-use Rattle.levels.proofs.site_of.Lts as lts
-use Rattle.maker.proofs.entries_at.Reads as entries-at-reads
 
 -- src/lib.rt:262:48
 mul-number : tie.Need-mul-number

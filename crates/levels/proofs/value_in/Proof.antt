@@ -4,9 +4,6 @@ use Rattle.levels.proofs.Putting.{value-there, value-none}
 use borrow.Author.Needs.{needs}
 use Rattle.levels.proofs.value_in.Statement.{statement}
 use Rattle.levels.proofs.value_in.Tie as tie
-use Rattle.levels.proofs.value_in.Reads as reads
-use Rattle.levels.proofs.value_in.Lts as lts
-use Rattle.symbols.proofs.find_value.Reads as find-value-reads
 
 -- src/lib.rt:60:9
 find-value-requires : tie.Need-find-value-requires

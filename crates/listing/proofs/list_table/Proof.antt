@@ -6,11 +6,6 @@ use Rattle.listing.proofs.Laws.{puts-then, listed}
 use Rattle.listing.proofs.Lines.{listed-words, first-words}
 use Rattle.listing.proofs.list_table.Statement.{statement}
 use Rattle.listing.proofs.list_table.Tie as tie
-use Rattle.listing.proofs.list_table.Reads as reads
-use Rattle.listing.proofs.list_table.Lts as lts
-use Rattle.listing.proofs.put_figure.Reads as put-figure-reads
-use Rattle.listing.proofs.put_heading.Reads as put-heading-reads
-use Rattle.listing.proofs.put_words.Reads as put-words-reads
 
 -- src/lib.rt:166:26
 least-requires : tie.Need-least-requires

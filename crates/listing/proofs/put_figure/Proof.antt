@@ -4,10 +4,6 @@ use native.Mathlib.Omega.{arith}
 use Rattle.listing.proofs.Laws.{figure-none, figure-some}
 use Rattle.listing.proofs.put_figure.Statement.{statement}
 use Rattle.listing.proofs.put_figure.Tie as tie
-use Rattle.listing.proofs.put_figure.Reads as reads
-use Rattle.listing.proofs.put_figure.Lts as lts
-use Rattle.listing.proofs.put_byte.Reads as put-byte-reads
-use Rattle.listing.proofs.put_decimal.Reads as put-decimal-reads
 
 -- src/lib.rt:153:9
 returns : tie.Need-returns

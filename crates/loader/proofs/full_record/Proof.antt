@@ -1,8 +1,6 @@
 -- `loader::full_record` meets its contract.
-use mathlib.Core.Path.{_≡_, refl, sym, ap, _∙_}
+use mathlib.Core.Path.{_≡_, refl, _∙_}
 use native.Mathlib.Omega.{arith}
-use borrow.Author.Needs.{needs}
-use borrow.Author.Tests.{not-true, not-false}
 use Rattle.loader.proofs.Filing.{full-mark, full-count, full-there}
 use Rattle.loader.proofs.full_record.Statement.{statement}
 use Rattle.loader.proofs.full_record.Tie as tie

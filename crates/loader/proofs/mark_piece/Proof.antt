@@ -1,7 +1,7 @@
 use lib.ListN.{length-set}
 use mathlib.Core.Path.{_≡_, refl, sym, _∙_}
 use native.Mathlib.Omega.{arith}
-use borrow.Author.Tests.{not-true, not-false}
+use borrow.Author.Tests.{not-false}
 use Rattle.loader.proofs.Passing.{through-marks, piece-done, piece-new}
 use Rattle.loader.proofs.mark_piece.Statement.{statement}
 use Rattle.loader.proofs.mark_piece.Tie as tie

@@ -1,5 +1,5 @@
 use native.Mathlib.Omega.{arith}
-use mathlib.Core.Path.{_≡_, refl, sym, _∙_}
+use mathlib.Core.Path.{_≡_, sym, _∙_}
 use Rattle.loader.proofs.Visits.{same-work, forward-is, back-is, input-choice-is, choice-is, call-is, on-is}
 use Rattle.loader.proofs.Passing.{through-visit, same-through}
 use Rattle.loader.proofs.visit_two.Statement.{statement}

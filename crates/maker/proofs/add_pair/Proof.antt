@@ -4,9 +4,6 @@ use Rattle.maker.proofs.Holding.{pair-put}
 use borrow.Author.Needs.{needs}
 use Rattle.maker.proofs.add_pair.Statement.{statement}
 use Rattle.maker.proofs.add_pair.Tie as tie
-use Rattle.maker.proofs.add_pair.Reads as reads
-use Rattle.maker.proofs.add_pair.Lts as lts
-use Rattle.maker.proofs.put_three.Reads as put-three-reads
 
 -- src/lib.rt:239:16
 mul-put-three : tie.Need-mul-put-three

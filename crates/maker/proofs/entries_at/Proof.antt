@@ -4,8 +4,6 @@ use Rattle.maker.proofs.Entering.{place-same, place-past}
 use borrow.Author.Needs.{needs}
 use Rattle.maker.proofs.entries_at.Statement.{statement}
 use Rattle.maker.proofs.entries_at.Tie as tie
-use Rattle.maker.proofs.entries_at.Reads as reads
-use Rattle.maker.proofs.entries_at.Lts as lts
 
 -- src/lib.rt:181:36
 mul-number : tie.Need-mul-number

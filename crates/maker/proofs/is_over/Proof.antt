@@ -4,8 +4,6 @@ use borrow.Author.Tests.{lt-ltb, le-ltb}
 use borrow.Author.Needs.{needs}
 use Rattle.maker.proofs.is_over.Statement.{statement}
 use Rattle.maker.proofs.is_over.Tie as tie
-use Rattle.maker.proofs.is_over.Reads as reads
-use Rattle.maker.proofs.is_over.Lts as lts
 
 -- src/lib.rt:260:17
 add-rules : tie.Need-add-rules

@@ -3,8 +3,6 @@ use Rattle.maker.proofs.Holding.{pair-yes, pair-no}
 use borrow.Author.Needs.{needs}
 use Rattle.maker.proofs.is_pair.Statement.{statement}
 use Rattle.maker.proofs.is_pair.Tie as tie
-use Rattle.maker.proofs.is_pair.Reads as reads
-use Rattle.maker.proofs.is_pair.Lts as lts
 
 -- src/lib.rt:199:37
 mul-number : tie.Need-mul-number

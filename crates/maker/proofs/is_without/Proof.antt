@@ -6,8 +6,6 @@ use Rattle.maker.proofs.Walking.{more-without}
 use Rattle.maker.specs.Pairing.{NoSection}
 use Rattle.maker.proofs.is_without.Statement.{statement}
 use Rattle.maker.proofs.is_without.Tie as tie
-use Rattle.maker.proofs.is_without.Reads as reads
-use Rattle.maker.proofs.is_without.Lts as lts
 
 abbrev Inv-loop : tie.InvT-loop
 Inv-loop rows n i₀ i = (i ≤ n) × NoSection rows i

@@ -6,9 +6,6 @@ use Rattle.maker.specs.Pairs.{pairsFrom, pairsHeld, lookPair}
 use Rattle.maker.proofs.Holding.{look-first, look-hit, look-on, look-end}
 use Rattle.maker.proofs.look_pair.Statement.{statement}
 use Rattle.maker.proofs.look_pair.Tie as tie
-use Rattle.maker.proofs.look_pair.Reads as reads
-use Rattle.maker.proofs.look_pair.Lts as lts
-use Rattle.maker.proofs.is_pair.Reads as is-pair-reads
 
 abbrev Inv-loop : tie.InvT-loop
 Inv-loop rows section operand n j₀ j = (j ≤ n) × (n < 65536) × (lookPair section operand (pairsHeld rows) ≡ lookPair section operand (pairsFrom rows j (n - j)))

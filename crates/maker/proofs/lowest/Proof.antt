@@ -4,9 +4,6 @@ use Rattle.maker.proofs.Holding.{lowest-there, lowest-none}
 use borrow.Author.Needs.{needs}
 use Rattle.maker.proofs.lowest.Statement.{statement}
 use Rattle.maker.proofs.lowest.Tie as tie
-use Rattle.maker.proofs.lowest.Reads as reads
-use Rattle.maker.proofs.lowest.Lts as lts
-use Rattle.maker.proofs.look_pair.Reads as look-pair-reads
 
 -- src/lib.rt:212:9
 look-pair-requires : tie.Need-look-pair-requires

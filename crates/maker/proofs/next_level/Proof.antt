@@ -1,6 +1,6 @@
 -- `maker::next_level` meets its contract.
 use native.Mathlib.Omega.{arith}
-use mathlib.Core.Path.{_≡_, refl}
+use mathlib.Core.Path.{_≡_}
 use Prim.Native.Nat.{ℕ, _-_, _≤_}
 use lib.ListN.{length}
 use Rattle.maker.specs.Ranks.{noRank, RankBound, RankDone}
@@ -9,11 +9,6 @@ use Rattle.maker.proofs.Entering.{rank-last, rank-more, rank-stuck}
 use Rattle.maker.proofs.Ranking.{bound-step, count-step}
 use Rattle.maker.proofs.next_level.Statement.{statement}
 use Rattle.maker.proofs.next_level.Tie as tie
-use Rattle.maker.proofs.next_level.Reads as reads
-use Rattle.maker.proofs.next_level.Lts as lts
-use Rattle.maker.proofs.read_entry.Reads as read-entry-reads
-use Rattle.maker.proofs.with_entry.Reads as with-entry-reads
-use Rattle.scanner.proofs.next_word.Reads as next-word-reads
 
 abbrev Inv-loop : tie.InvT-loop
 Inv-loop text at above i₀ s₀ i s = (i ≤ length text) × (s .count ≤ i) × RankBound above s × ((r : Rank) → RankDone text i above s r → RankDone text at above noRank r)

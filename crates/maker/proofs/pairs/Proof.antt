@@ -9,11 +9,6 @@ use Rattle.symbols.proofs.Indexing.{index-set, kept-behind}
 use borrow.Author.Needs.{needs}
 use Rattle.maker.proofs.pairs.Statement.{statement}
 use Rattle.maker.proofs.pairs.Tie as tie
-use Rattle.maker.proofs.pairs.Reads as reads
-use Rattle.maker.proofs.pairs.Lts as lts
-use Rattle.maker.proofs.is_without.Reads as is-without-reads
-use Rattle.maker.proofs.none.Reads as none-reads
-use Rattle.maker.proofs.take_words.Reads as take-words-reads
 
 -- src/lib.rt:395:5
 slice-write-rows : tie.Need-slice-write-rows

@@ -4,8 +4,6 @@ use lib.ListN.{length-set}
 use borrow.Author.Needs.{needs}
 use Rattle.maker.proofs.put_three.Statement.{statement}
 use Rattle.maker.proofs.put_three.Tie as tie
-use Rattle.maker.proofs.put_three.Reads as reads
-use Rattle.maker.proofs.put_three.Lts as lts
 
 -- src/lib.rt:227:5
 mul-rows : tie.Need-mul-rows

@@ -3,11 +3,6 @@ use Rattle.maker.proofs.Entering.{entry-read}
 use borrow.Author.Needs.{needs}
 use Rattle.maker.proofs.read_entry.Statement.{statement}
 use Rattle.maker.proofs.read_entry.Tie as tie
-use Rattle.maker.proofs.read_entry.Reads as reads
-use Rattle.maker.proofs.read_entry.Lts as lts
-use Rattle.reader.proofs.number_of.Reads as number-of-reads
-use Rattle.scanner.proofs.next_word.Reads as next-word-reads
-use Rattle.scanner.proofs.spelt.Reads as spelt-reads
 
 -- src/lib.rt:92:9
 next-word-requires : tie.Need-next-word-requires

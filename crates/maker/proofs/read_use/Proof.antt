@@ -6,10 +6,6 @@ use Rattle.maker.proofs.Holding.{use-read}
 use borrow.Author.Needs.{needs}
 use Rattle.maker.proofs.read_use.Statement.{statement}
 use Rattle.maker.proofs.read_use.Tie as tie
-use Rattle.maker.proofs.read_use.Reads as reads
-use Rattle.maker.proofs.read_use.Lts as lts
-use Rattle.scanner.proofs.next_word.Reads as next-word-reads
-use Rattle.symbols.proofs.find_row.Reads as find-row-reads
 
 -- src/lib.rt:236:9
 next-word-requires : tie.Need-next-word-requires

@@ -1,15 +1,11 @@
 -- `maker::section_levels` meets its contract.
 use native.Mathlib.Omega.{arith}
-use mathlib.Core.Path.{_≡_, refl, sym}
+use mathlib.Core.Path.{_≡_}
 use Prim.Native.Nat.{ℕ, _-_, _<_, _≤_}
 use lib.ListN.{length}
 use Rattle.maker.proofs.Ranking.{CountedAt, levels-first, levels-more, levels-end}
 use Rattle.maker.proofs.section_levels.Statement.{statement}
 use Rattle.maker.proofs.section_levels.Tie as tie
-use Rattle.maker.proofs.section_levels.Reads as reads
-use Rattle.maker.proofs.section_levels.Lts as lts
-use Rattle.maker.proofs.either.Reads as either-reads
-use Rattle.maker.proofs.next_level.Reads as next-level-reads
 
 abbrev Inv-loop : tie.InvT-loop
 Inv-loop text at l₀ k₀ crowded₀ l k crowded = (k < l .level) × (l .level ≤ 16) × CountedAt text at l k crowded

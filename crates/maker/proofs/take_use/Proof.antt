@@ -5,14 +5,6 @@ use Rattle.maker.proofs.Taking.{use-missing, use-again, use-empty, use-
 use borrow.Author.Needs.{needs}
 use Rattle.maker.proofs.take_use.Statement.{statement}
 use Rattle.maker.proofs.take_use.Tie as tie
-use Rattle.maker.proofs.take_use.Reads as reads
-use Rattle.maker.proofs.take_use.Lts as lts
-use Rattle.maker.proofs.add_pair.Reads as add-pair-reads
-use Rattle.maker.proofs.entries_at.Reads as entries-at-reads
-use Rattle.maker.proofs.is_over.Reads as is-over-reads
-use Rattle.maker.proofs.look_pair.Reads as look-pair-reads
-use Rattle.maker.proofs.read_use.Reads as read-use-reads
-use Rattle.maker.proofs.section_levels.Reads as section-levels-reads
 
 -- src/lib.rt:282:9
 read-use-requires : tie.Need-read-use-requires

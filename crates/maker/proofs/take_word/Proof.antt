@@ -3,9 +3,6 @@ use Rattle.maker.proofs.Walking.{word-caret, word-other}
 use borrow.Author.Needs.{needs}
 use Rattle.maker.proofs.take_word.Statement.{statement}
 use Rattle.maker.proofs.take_word.Tie as tie
-use Rattle.maker.proofs.take_word.Reads as reads
-use Rattle.maker.proofs.take_word.Lts as lts
-use Rattle.maker.proofs.take_use.Reads as take-use-reads
 
 -- src/lib.rt:318:9
 take-use-requires : tie.Need-take-use-requires

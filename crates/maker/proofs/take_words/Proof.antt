@@ -1,7 +1,7 @@
 -- `maker::take_words` meets its contract.
 use native.Mathlib.Omega.{arith}
 use mathlib.Core.List.{List}
-use mathlib.Core.Path.{_≡_, refl, sym, _∙_}
+use mathlib.Core.Path.{_≡_, sym, _∙_}
 use Prim.Native.Nat.{ℕ, _-_, _≤_}
 use lib.ListN.{length, getD}
 use Rattle.maker.specs.Pairing.{PairsFrom}
@@ -11,11 +11,6 @@ use Rattle.symbols.proofs.Indexing.{kept-behind}
 use Rattle.symbols.specs.Index.{Kept}
 use Rattle.maker.proofs.take_words.Statement.{statement}
 use Rattle.maker.proofs.take_words.Tie as tie
-use Rattle.maker.proofs.take_words.Reads as reads
-use Rattle.maker.proofs.take_words.Lts as lts
-use Rattle.maker.proofs.none.Reads as none-reads
-use Rattle.maker.proofs.take_word.Reads as take-word-reads
-use Rattle.scanner.proofs.next_word.Reads as next-word-reads
 
 abbrev Inv-loop : tie.InvT-loop
 Inv-loop text rows₀ n others own at i₀ k₀ rows i k = (i ≤ length text) × (length rows ≡ 6017) × Kept text rows n × (k ≤ 128) × (getD rows 5632 0 ≤ k) × ((rows′ : List ℕ) (r : Paired) → PairsFrom text rows n others k i rows′ r → PairsFrom text rows₀ n others own at rows′ r)

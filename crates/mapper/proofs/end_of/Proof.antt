@@ -2,8 +2,6 @@ use borrow.Author.Needs.{needs}
 use Rattle.mapper.proofs.Made.{end-next, end-over}
 use Rattle.mapper.proofs.end_of.Statement.{statement}
 use Rattle.mapper.proofs.end_of.Tie as tie
-use Rattle.mapper.proofs.end_of.Reads as reads
-use Rattle.mapper.proofs.end_of.Lts as lts
 
 -- src/lib.rt:91:8
 add-if1 : tie.Need-add-if1

@@ -3,10 +3,6 @@ use native.Mathlib.Omega.{arith}
 use Rattle.mapper.proofs.Answers.{held-long, held-full, held-whole}
 use Rattle.mapper.proofs.map_held.Statement.{statement}
 use Rattle.mapper.proofs.map_held.Tie as tie
-use Rattle.mapper.proofs.map_held.Reads as reads
-use Rattle.mapper.proofs.map_held.Lts as lts
-use Rattle.sizes.proofs.locate.Reads as locate-reads
-use Rattle.mapper.proofs.put_rows.Reads as put-rows-reads
 
 slice-aggregate-locate : tie.Need-slice-aggregate-locate
 slice-aggregate-locate c = search needs

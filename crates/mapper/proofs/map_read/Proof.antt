@@ -4,10 +4,6 @@ use Rattle.grammar.proofs.ProgramIn.{parse-short}
 use Rattle.mapper.proofs.Answers.{its-place, read-wrong, read-long, read-held}
 use Rattle.mapper.proofs.map_read.Statement.{statement}
 use Rattle.mapper.proofs.map_read.Tie as tie
-use Rattle.mapper.proofs.map_read.Reads as reads
-use Rattle.mapper.proofs.map_read.Lts as lts
-use Rattle.mapper.proofs.map_held.Reads as map-held-reads
-use Rattle.frontend.proofs.resolve.Reads as resolve-reads
 
 -- src/lib.rt:129:39
 slice-aggregate-resolve : tie.Need-slice-aggregate-resolve

@@ -3,10 +3,6 @@ use Rattle.frontend.proofs.Meant.{text-read}
 use Rattle.mapper.proofs.Answers.{text-wrong}
 use Rattle.mapper.proofs.map_rules.Statement.{statement}
 use Rattle.mapper.proofs.map_rules.Tie as tie
-use Rattle.mapper.proofs.map_rules.Reads as reads
-use Rattle.mapper.proofs.map_rules.Lts as lts
-use Rattle.mapper.proofs.map_read.Reads as map-read-reads
-use Rattle.reader.proofs.check_syntax.Reads as check-syntax-reads
 
 -- src/lib.rt:149:9
 check-syntax-requires : tie.Need-check-syntax-requires

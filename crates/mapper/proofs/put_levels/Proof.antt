@@ -8,9 +8,6 @@ use Prim.Native.Nat.{_-_, _*_, _≤_}
 use mathlib.Core.Path.{_≡_, refl, _∙_}
 use Rattle.mapper.proofs.put_levels.Statement.{statement}
 use Rattle.mapper.proofs.put_levels.Tie as tie
-use Rattle.mapper.proofs.put_levels.Reads as reads
-use Rattle.mapper.proofs.put_levels.Lts as lts
-use Rattle.mapper.proofs.put_row.Reads as put-row-reads
 
 abbrev Inv-loop : tie.InvT-loop
 Inv-loop out₀ name places k end i₀ out i =

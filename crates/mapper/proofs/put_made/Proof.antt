@@ -8,11 +8,6 @@ use mathlib.Core.Path.{_≡_, refl, _∙_}
 use mathlib.Core.List.{List}
 use Rattle.mapper.proofs.put_made.Statement.{statement}
 use Rattle.mapper.proofs.put_made.Tie as tie
-use Rattle.mapper.proofs.put_made.Reads as reads
-use Rattle.mapper.proofs.put_made.Lts as lts
-use Rattle.levels.proofs.first_use.Reads as first-use-reads
-use Rattle.mapper.proofs.end_of.Reads as end-of-reads
-use Rattle.mapper.proofs.put_levels.Reads as put-levels-reads
 
 abbrev Inv-loop : tie.InvT-loop
 Inv-loop text rows b places out₀ pairs j₀ k₀ out j k =

@@ -6,9 +6,6 @@ use Rattle.mapping.specs.Mapping.{rowWords}
 use Rattle.mapper.proofs.Laws.{puts-number, puts-more}
 use Rattle.mapper.proofs.put_row.Statement.{statement}
 use Rattle.mapper.proofs.put_row.Tie as tie
-use Rattle.mapper.proofs.put_row.Reads as reads
-use Rattle.mapper.proofs.put_row.Lts as lts
-use Rattle.buffers.proofs.put_number.Reads as put-number-reads
 
 -- src/lib.rt:38:13
 mul-i : tie.Need-mul-i

@@ -8,10 +8,6 @@ use Rattle.mapper.specs.Mapped.{heldRows}
 use Rattle.mapping.specs.Mapping.{rowsWords}
 use Rattle.mapper.proofs.put_rows.Statement.{statement}
 use Rattle.mapper.proofs.put_rows.Tie as tie
-use Rattle.mapper.proofs.put_rows.Reads as reads
-use Rattle.mapper.proofs.put_rows.Lts as lts
-use Rattle.mapper.proofs.put_row.Reads as put-row-reads
-use Rattle.symbols.proofs.part_len.Reads as part-len-reads
 
 abbrev Inv-loop : tie.InvT-loop
 Inv-loop text rows first places rules out₀ k₀ out k = (k ≤ rules) × (out ≡ over (bytesOf (rowsWords (heldRows text rows places first 0 k))) out₀)

@@ -4,8 +4,6 @@ use Rattle.meter.specs.Store.{atCap}
 use borrow.Author.Needs.{needs}
 use Rattle.meter.proofs.at_cap.Statement.{statement}
 use Rattle.meter.proofs.at_cap.Tie as tie
-use Rattle.meter.proofs.at_cap.Reads as reads
-use Rattle.meter.proofs.at_cap.Lts as lts
 
 -- src/lib.rt:62:11
 add-result : tie.Need-add-result

@@ -5,12 +5,8 @@ use Rattle.machine.specs.Bytes.{tableOf}
 use borrow.Author.Needs.{needs}
 use lib.ListN.{length}
 use Prim.Native.Nat.{_-_}
-use native.Mathlib.Omega.{arith}
 use Rattle.meter.proofs.begin.Statement.{statement}
 use Rattle.meter.proofs.begin.Tie as tie
-use Rattle.meter.proofs.begin.Reads as reads
-use Rattle.meter.proofs.begin.Lts as lts
-use Rattle.meter.proofs.raise.Reads as raise-reads
 
 abbrev Inv-loop : tie.InvT-loop
 Inv-loop table starts called rows₀ r₀ rows r = (BegunUpto (tableOf table) starts (calledNumbers called) r (numbersOf rows)) × (length rows ≡ 4490)

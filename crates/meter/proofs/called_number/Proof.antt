@@ -3,9 +3,6 @@ use Rattle.meter.proofs.Store.{called-first, called-own}
 use borrow.Author.Needs.{needs}
 use Rattle.meter.proofs.called_number.Statement.{statement}
 use Rattle.meter.proofs.called_number.Tie as tie
-use Rattle.meter.proofs.called_number.Reads as reads
-use Rattle.meter.proofs.called_number.Lts as lts
-use Rattle.meter.proofs.number.Reads as number-reads
 
 number-requires : tie.Need-number-requires
 number-requires c κs = search needs

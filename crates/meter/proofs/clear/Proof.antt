@@ -5,8 +5,6 @@ use Prim.Native.Nat.{_-_}
 use native.Mathlib.Omega.{arith}
 use Rattle.meter.proofs.clear.Statement.{statement}
 use Rattle.meter.proofs.clear.Tie as tie
-use Rattle.meter.proofs.clear.Reads as reads
-use Rattle.meter.proofs.clear.Lts as lts
 
 abbrev Inv-loop : tie.InvT-loop
 Inv-loop rows₀ i₀ rows i = ClearedUpto 4490 rows₀ i rows

@@ -2,8 +2,6 @@ use Rattle.meter.proofs.Words.{end-next, end-last}
 use borrow.Author.Needs.{needs}
 use Rattle.meter.proofs.end_of.Statement.{statement}
 use Rattle.meter.proofs.end_of.Tie as tie
-use Rattle.meter.proofs.end_of.Reads as reads
-use Rattle.meter.proofs.end_of.Lts as lts
 
 -- src/lib.rt:101:8
 add-if1 : tie.Need-add-if1

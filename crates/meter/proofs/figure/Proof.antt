@@ -4,12 +4,6 @@ use native.Mathlib.Omega.{arith}
 use borrow.Author.Needs.{needs}
 use Rattle.meter.proofs.figure.Statement.{statement}
 use Rattle.meter.proofs.figure.Tie as tie
-use Rattle.meter.proofs.figure.Reads as reads
-use Rattle.meter.proofs.figure.Lts as lts
-use Rattle.meter.proofs.begin.Reads as begin-reads
-use Rattle.meter.proofs.clear.Reads as clear-reads
-use Rattle.meter.proofs.greatest.Reads as greatest-reads
-use Rattle.meter.proofs.settle.Reads as settle-reads
 
 clear-requires : tie.Need-clear-requires
 clear-requires c κs = search needs

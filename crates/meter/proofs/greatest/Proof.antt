@@ -7,9 +7,6 @@ use Prim.Native.Nat.{_-_}
 use native.Mathlib.Omega.{arith}
 use Rattle.meter.proofs.greatest.Statement.{statement}
 use Rattle.meter.proofs.greatest.Tie as tie
-use Rattle.meter.proofs.greatest.Reads as reads
-use Rattle.meter.proofs.greatest.Lts as lts
-use Rattle.meter.proofs.number.Reads as number-reads
 
 abbrev Inv-loop : tie.InvT-loop
 Inv-loop rows from most₀ i₀ most i = GreatestUpto (numbersOf rows) from i most

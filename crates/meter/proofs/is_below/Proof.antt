@@ -2,10 +2,6 @@ use borrow.Author.Needs.{needs}
 use Rattle.meter.proofs.Raising.{below-past, below-test}
 use Rattle.meter.proofs.is_below.Statement.{statement}
 use Rattle.meter.proofs.is_below.Tie as tie
-use Rattle.meter.proofs.is_below.Reads as reads
-use Rattle.meter.proofs.is_below.Lts as lts
-use Rattle.meter.proofs.capped.Reads as capped-reads
-use Rattle.meter.proofs.number.Reads as number-reads
 
 -- src/lib.rt:110:9
 returns : tie.Need-returns

@@ -1,8 +1,6 @@
 use Rattle.meter.proofs.Store.{mark-all, mark-none}
 use Rattle.meter.proofs.mark_of.Statement.{statement}
 use Rattle.meter.proofs.mark_of.Tie as tie
-use Rattle.meter.proofs.mark_of.Reads as reads
-use Rattle.meter.proofs.mark_of.Lts as lts
 
 returns : tie.Need-returns
 returns c = mark-all _ (c .if1 .taken)

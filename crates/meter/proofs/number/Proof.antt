@@ -4,9 +4,6 @@ use Rattle.meter.proofs.Store.{number-past, number-cap, number-word}
 use borrow.Author.Needs.{needs}
 use Rattle.meter.proofs.number.Statement.{statement}
 use Rattle.meter.proofs.number.Tie as tie
-use Rattle.meter.proofs.number.Reads as reads
-use Rattle.meter.proofs.number.Lts as lts
-use Rattle.meter.proofs.at_cap.Reads as at-cap-reads
 
 -- src/lib.rt:71:9
 returns : tie.Need-returns

@@ -2,8 +2,6 @@ use Rattle.meter.proofs.Store.{put-word, put-cap}
 use borrow.Author.Needs.{needs}
 use Rattle.meter.proofs.put.Statement.{statement}
 use Rattle.meter.proofs.put.Tie as tie
-use Rattle.meter.proofs.put.Reads as reads
-use Rattle.meter.proofs.put.Lts as lts
 
 -- src/lib.rt:85:19
 cast-rows : tie.Need-cast-rows

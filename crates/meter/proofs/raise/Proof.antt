@@ -3,11 +3,6 @@ use Rattle.meter.proofs.Raising.{enough, higher}
 use borrow.Author.Needs.{needs}
 use Rattle.meter.proofs.raise.Statement.{statement}
 use Rattle.meter.proofs.raise.Tie as tie
-use Rattle.meter.proofs.raise.Reads as reads
-use Rattle.meter.proofs.raise.Lts as lts
-use Rattle.meter.proofs.capped.Reads as capped-reads
-use Rattle.meter.proofs.is_below.Reads as is-below-reads
-use Rattle.meter.proofs.put.Reads as put-reads
 
 -- src/lib.rt:120:8
 is-below-requires : tie.Need-is-below-requires

@@ -4,12 +4,6 @@ use Rattle.machine.proofs.Bytes.{length-tableOf}
 use Rattle.meter.proofs.Visits.{label-raised, label-enough}
 use Rattle.meter.proofs.raise_label.Statement.{statement}
 use Rattle.meter.proofs.raise_label.Tie as tie
-use Rattle.meter.proofs.raise_label.Reads as reads
-use Rattle.meter.proofs.raise_label.Lts as lts
-use Rattle.loader.proofs.word_at.Reads as word-at-reads
-use Rattle.meter.proofs.is_below.Reads as is-below-reads
-use Rattle.meter.proofs.raise.Reads as raise-reads
-use Rattle.meter.proofs.way_out.Reads as way-out-reads
 
 -- src/lib.rt:227:13
 add-l : tie.Need-add-l

@@ -2,10 +2,6 @@ use Rattle.meter.proofs.Raising.{two}
 use borrow.Author.Needs.{needs}
 use Rattle.meter.proofs.raise_two.Statement.{statement}
 use Rattle.meter.proofs.raise_two.Tie as tie
-use Rattle.meter.proofs.raise_two.Reads as reads
-use Rattle.meter.proofs.raise_two.Lts as lts
-use Rattle.meter.proofs.either.Reads as either-reads
-use Rattle.meter.proofs.raise.Reads as raise-reads
 
 -- src/lib.rt:140:9
 raise-requires : tie.Need-raise-requires

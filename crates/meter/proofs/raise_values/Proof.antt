@@ -9,12 +9,6 @@ use Prim.Native.Nat.{_-_}
 use native.Mathlib.Omega.{arith}
 use Rattle.meter.proofs.raise_values.Statement.{statement}
 use Rattle.meter.proofs.raise_values.Tie as tie
-use Rattle.meter.proofs.raise_values.Reads as reads
-use Rattle.meter.proofs.raise_values.Lts as lts
-use Rattle.loader.proofs.size_of.Reads as size-of-reads
-use Rattle.meter.proofs.either.Reads as either-reads
-use Rattle.meter.proofs.end_of.Reads as end-of-reads
-use Rattle.meter.proofs.raise_value.Reads as raise-value-reads
 
 abbrev Inv-loop : tie.InvT-loop
 Inv-loop table starts q c called here rows₀ to changed₀ p₀ rows changed p = (ValuesUpto (tableOf table) starts (calledNumbers called) c (here .number) q to p (numbersOf rows₀) (numbersOf rows) changed) × (length rows ≡ 4490)

@@ -9,12 +9,6 @@ use Prim.Native.Nat.{_-_}
 use native.Mathlib.Omega.{arith}
 use Rattle.meter.proofs.raise_ways.Statement.{statement}
 use Rattle.meter.proofs.raise_ways.Tie as tie
-use Rattle.meter.proofs.raise_ways.Reads as reads
-use Rattle.meter.proofs.raise_ways.Lts as lts
-use Rattle.loader.proofs.word_at.Reads as word-at-reads
-use Rattle.meter.proofs.either.Reads as either-reads
-use Rattle.meter.proofs.raise.Reads as raise-reads
-use Rattle.meter.proofs.raise_label.Reads as raise-label-reads
 
 abbrev Inv-loop : tie.InvT-loop
 Inv-loop table c v rows₀ n changed₀ i₀ rows changed i = (WaysUpto (tableOf table) c v n i (numbersOf rows₀) (numbersOf rows) changed) × (length rows ≡ 4490)

@@ -2,9 +2,6 @@ use borrow.Author.Needs.{needs}
 use Rattle.meter.proofs.Words.{rule-found, rule-missing, rule-past}
 use Rattle.meter.proofs.rule_at.Statement.{statement}
 use Rattle.meter.proofs.rule_at.Tie as tie
-use Rattle.meter.proofs.rule_at.Reads as reads
-use Rattle.meter.proofs.rule_at.Lts as lts
-use Rattle.meter.proofs.starts_before.Reads as starts-before-reads
 
 -- src/lib.rt:164:9
 starts-before-requires : tie.Need-starts-before-requires

@@ -4,12 +4,8 @@ use lib.ListN.{length}
 use Rattle.meter.proofs.Sweeps.{Settling, todo, settling-first, settling-next, todo-less, settled}
 use Rattle.machine.specs.Bytes.{tableOf}
 use borrow.Author.Needs.{needs}
-use native.Mathlib.Omega.{arith}
 use Rattle.meter.proofs.settle.Statement.{statement}
 use Rattle.meter.proofs.settle.Tie as tie
-use Rattle.meter.proofs.settle.Reads as reads
-use Rattle.meter.proofs.settle.Lts as lts
-use Rattle.meter.proofs.sweep.Reads as sweep-reads
 
 abbrev Inv-loop : tie.InvT-loop
 Inv-loop table starts called rows₀ changed₀ up₀ rows changed up = (Settling (tableOf table) starts (calledNumbers called) (numbersOf rows₀) (numbersOf rows) changed) × (length rows ≡ 4490)

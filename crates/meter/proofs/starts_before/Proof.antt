@@ -5,8 +5,6 @@ use Rattle.meter.specs.Shaped.{Between}
 use Rattle.meter.proofs.Words.{between-all, between-low, between-high, between-met}
 use Rattle.meter.proofs.starts_before.Statement.{statement}
 use Rattle.meter.proofs.starts_before.Tie as tie
-use Rattle.meter.proofs.starts_before.Reads as reads
-use Rattle.meter.proofs.starts_before.Lts as lts
 
 abbrev Inv-loop : tie.InvT-loop
 Inv-loop starts s low₀ high₀ low high = Between starts s low high

@@ -7,10 +7,6 @@ use borrow.Author.Needs.{needs}
 use native.Mathlib.Omega.{arith}
 use Rattle.meter.proofs.sweep_down.Statement.{statement}
 use Rattle.meter.proofs.sweep_down.Tie as tie
-use Rattle.meter.proofs.sweep_down.Reads as reads
-use Rattle.meter.proofs.sweep_down.Lts as lts
-use Rattle.meter.proofs.either.Reads as either-reads
-use Rattle.meter.proofs.sweep_rule.Reads as sweep-rule-reads
 
 abbrev Inv-loop : tie.InvT-loop
 Inv-loop table starts called rows₀ changed₀ r₀ rows changed r = (RulesFrom (tableOf table) starts (calledNumbers called) r (numbersOf rows₀) (numbersOf rows) changed) × (length rows ≡ 4490)

@@ -9,12 +9,6 @@ use Prim.Native.Nat.{_-_}
 use native.Mathlib.Omega.{arith}
 use Rattle.meter.proofs.sweep_rule.Statement.{statement}
 use Rattle.meter.proofs.sweep_rule.Tie as tie
-use Rattle.meter.proofs.sweep_rule.Reads as reads
-use Rattle.meter.proofs.sweep_rule.Lts as lts
-use Rattle.loader.proofs.size_of.Reads as size-of-reads
-use Rattle.meter.proofs.either.Reads as either-reads
-use Rattle.meter.proofs.end_of.Reads as end-of-reads
-use Rattle.meter.proofs.visit.Reads as visit-reads
 
 abbrev Inv-loop : tie.InvT-loop
 Inv-loop table starts r called rows₀ to changed₀ l₀ rows changed l = (SweptUpto (tableOf table) starts (calledNumbers called) r to l (numbersOf rows₀) (numbersOf rows) changed) × (length rows ≡ 4490)

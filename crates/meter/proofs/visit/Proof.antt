@@ -1,7 +1,6 @@
 use Rattle.meter.proofs.Seen.{outside-low, outside-high, here-word, visit-invalid, visit-unreached, visit-made, visit-here}
 use Rattle.meter.proofs.Laws.{rule-small, not-nothing}
 use Rattle.machine.specs.Decode.{decodeOne, decodeTwo}
-use Rattle.machine.specs.Bytes.{tableOf}
 use Rattle.loader.proofs.Visits.{decode-none, decode-one, decode-both, decode-short, two-words}
 use mathlib.Core.Path.{sym, ap, _∙_}
 use native.Mathlib.Omega.{arith}

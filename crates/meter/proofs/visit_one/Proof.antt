@@ -2,11 +2,6 @@ use Rattle.meter.proofs.Visits.{one-return, one-end, one-any, one-updat
 use borrow.Author.Needs.{needs}
 use Rattle.meter.proofs.visit_one.Statement.{statement}
 use Rattle.meter.proofs.visit_one.Tie as tie
-use Rattle.meter.proofs.visit_one.Reads as reads
-use Rattle.meter.proofs.visit_one.Lts as lts
-use Rattle.meter.proofs.mark_of.Reads as mark-of-reads
-use Rattle.meter.proofs.raise.Reads as raise-reads
-use Rattle.meter.proofs.raise_two.Reads as raise-two-reads
 
 -- src/lib.rt:174:16
 add-next : tie.Need-add-next

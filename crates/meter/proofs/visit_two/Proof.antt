@@ -1,6 +1,5 @@
 use Rattle.meter.proofs.Twos.{two-forward, two-back, two-input, two-token, two-call, two-choice, two-plain}
 use Rattle.meter.proofs.Laws.{here-inside, rule-small, token-fits, result-fits, as-call}
-use Rattle.meter.specs.Shaped.{by-token, by-result}
 use native.Mathlib.Omega.{arith}
 use borrow.Author.Needs.{needs}
 use Rattle.meter.proofs.visit_two.Statement.{statement}

@@ -6,9 +6,6 @@ use Rattle.machine.specs.Bytes.{tableOf}
 use Rattle.meter.proofs.Words.{Seeking, seek-first, seek-found, seek-next, seek-none}
 use Rattle.meter.proofs.way_out.Statement.{statement}
 use Rattle.meter.proofs.way_out.Tie as tie
-use Rattle.meter.proofs.way_out.Reads as reads
-use Rattle.meter.proofs.way_out.Lts as lts
-use Rattle.loader.proofs.word_at.Reads as word-at-reads
 
 abbrev Inv-loop : tie.InvT-loop
 Inv-loop table c v n i₀ i = Seeking (tableOf table) c v n i

@@ -1,5 +1,4 @@
 -- `reader::read_operator` meets its contract.
-use mathlib.Core.Path.{refl, sym, _∙_}
 use native.Mathlib.Omega.{arith}
 use borrow.Author.Needs.{needs}
 use Rattle.reader.proofs.Laws.{ends, goes, stops}

@@ -1,5 +1,4 @@
 -- `reader::read_operator_section` meets its contract.
-use mathlib.Core.Path.{refl, sym, _∙_}
 use native.Mathlib.Omega.{arith}
 use borrow.Author.Needs.{needs}
 use Rattle.reader.proofs.Laws.{any-value, ends-with, faulty, goes, goes-with, stops}

@@ -1,7 +1,6 @@
 -- `reader::read_operators` meets its contract.
-use mathlib.Core.Path.{refl, sym, _∙_}
+use mathlib.Core.Path.{refl}
 use native.Mathlib.Omega.{arith}
-use borrow.Author.Needs.{needs}
 use Prim.Native.Nat.{ℕ, suc, _+_, _-_, _≤_}
 use lib.ListN.{length}
 use Rattle.reader.proofs.Laws.{ends, fueled, gives, goes, no, passes, stops, yes}

@@ -1,5 +1,5 @@
 -- `reader::read_other` meets its contract.
-use mathlib.Core.Path.{refl, sym, _∙_}
+use mathlib.Core.Path.{sym, _∙_}
 use native.Mathlib.Omega.{arith}
 use borrow.Author.Needs.{needs}
 use Rattle.reader.proofs.SectionLaws.{is-name, other-mechanism, other-operators}

@@ -1,6 +1,4 @@
 -- `resolver::put_operation` meets its contract.
-use mathlib.Core.Path.{sym}
-use Rattle.resolver.specs.Parts.{operationCells}
 use Rattle.resolver.proofs.Appending.{operation-alone, operation-with}
 use borrow.Author.Needs.{needs}
 use Rattle.resolver.proofs.put_operation.Statement.{statement}

@@ -1,5 +1,5 @@
 -- `resolver::resolve_call` meets its contract.
-use mathlib.Core.Path.{refl, sym, _∙_}
+use mathlib.Core.Path.{sym, _∙_}
 use native.Mathlib.Omega.{arith}
 use Rattle.resolver.proofs.Rests.{call-stops, call-chooses, call-goes}
 use Rattle.resolver.proofs.Appending.{appends-same}

@@ -1,5 +1,5 @@
 -- `resolver::resolve_update` meets its contract.
-use mathlib.Core.Path.{refl, sym, _∙_}
+use mathlib.Core.Path.{sym, _∙_}
 use native.Mathlib.Omega.{arith}
 use Rattle.resolver.proofs.Rests.{update-stops, update-chooses, update-misfits, update-goes}
 use borrow.Author.Needs.{needs}

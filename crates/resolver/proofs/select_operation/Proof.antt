@@ -1,5 +1,5 @@
 -- `resolver::select_operation` meets its contract.
-use mathlib.Core.Path.{refl, sym, _∙_}
+use mathlib.Core.Path.{sym, _∙_}
 use native.Mathlib.Omega.{arith}
 use Rattle.resolver.proofs.Choosing.{operation-balks, operation-update, operation-picks}
 use Rattle.resolver.proofs.Rests.{same-class}

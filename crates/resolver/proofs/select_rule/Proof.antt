@@ -1,5 +1,5 @@
 -- `resolver::select_rule` meets its contract.
-use mathlib.Core.Path.{refl, sym, _∙_}
+use mathlib.Core.Path.{sym, _∙_}
 use native.Mathlib.Omega.{arith}
 use Rattle.resolver.proofs.Appending.{appends-same}
 use Rattle.resolver.proofs.Choosing.{rule-balks, rule-procedure, rule-picks}

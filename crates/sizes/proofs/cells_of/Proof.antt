@@ -1,14 +1,11 @@
-use Prim.Native.Nat.{ℕ, _*_, _-_}
-use mathlib.Core.Path.{_≡_, refl, ap, sym, _∙_}
-use native.Mathlib.Omega.{arith}
+use Prim.Native.Nat.{ℕ, _-_}
+use mathlib.Core.Path.{_≡_, ap, _∙_}
 use lib.ListN.{getD}
 use borrow.Author.Tests.{lt-ltb, le-ltb}
 use Rattle.sizes.specs.Heads.{cellsOf, cellsTable}
 use borrow.Author.Needs.{needs}
 use Rattle.sizes.proofs.cells_of.Statement.{statement}
 use Rattle.sizes.proofs.cells_of.Tie as tie
-use Rattle.sizes.proofs.cells_of.Reads as reads
-use Rattle.sizes.proofs.cells_of.Lts as lts
 
 -- src/lib.rt:179:28
 wide-requires : tie.Need-wide-requires

@@ -1,17 +1,12 @@
 use borrow.Author.Needs.{needs}
 use Prim.Native.Nat.{ℕ, _+_, _*_, _-_, _≤_, _<_}
-use mathlib.Core.Path.{_≡_, refl, ap, sym, _∙_}
+use mathlib.Core.Path.{_≡_, refl, _∙_}
 use native.Mathlib.Omega.{arith}
 use lib.ListN.{length}
 use Rattle.sizes.specs.Located.{Locates}
 use Rattle.sizes.proofs.Places.{PlacesGo, places-start, places-go, places-end}
 use Rattle.sizes.proofs.locate.Statement.{statement}
 use Rattle.sizes.proofs.locate.Tie as tie
-use Rattle.sizes.proofs.locate.Reads as reads
-use Rattle.sizes.proofs.locate.Lts as lts
-use Rattle.sizes.proofs.end_size.Reads as end-size-reads
-use Rattle.sizes.proofs.put_start.Reads as put-start-reads
-use Rattle.sizes.proofs.scan.Reads as scan-reads
 
 abbrev Inv-loop : tie.InvT-loop
 Inv-loop cells sorts rules starts₀ q₀ w₀ r₀ starts q w r = (q ≤ length cells) × (w ≤ 400 * q + r) × (length starts ≡ length starts₀) × PlacesGo cells sorts rules starts q w r

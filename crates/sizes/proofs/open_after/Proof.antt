@@ -1,14 +1,10 @@
-use Prim.Native.Nat.{ℕ, _*_, _-_}
-use mathlib.Core.Path.{_≡_, refl, ap, sym, _∙_}
-use native.Mathlib.Omega.{arith}
-use lib.ListN.{getD}
+use Prim.Native.Nat.{ℕ, _-_}
+use mathlib.Core.Path.{_≡_}
 use borrow.Author.Tests.{lt-ltb, le-ltb, eq-eqb, ne-eqb}
-use Rattle.sizes.specs.Heads.{cellsOf, wordsOf, openAfter, cellsTable, wordsTable}
+use Rattle.sizes.specs.Heads.{openAfter}
 use borrow.Author.Needs.{needs}
 use Rattle.sizes.proofs.open_after.Statement.{statement}
 use Rattle.sizes.proofs.open_after.Tie as tie
-use Rattle.sizes.proofs.open_after.Reads as reads
-use Rattle.sizes.proofs.open_after.Lts as lts
 
 -- src/lib.rt:174:16
 sub-result : tie.Need-sub-result

@@ -4,8 +4,6 @@ use Rattle.emitter.proofs.Laws.{set-past}
 use borrow.Author.Needs.{needs}
 use Rattle.sizes.proofs.put_start.Statement.{statement}
 use Rattle.sizes.proofs.put_start.Tie as tie
-use Rattle.sizes.proofs.put_start.Reads as reads
-use Rattle.sizes.proofs.put_start.Lts as lts
 
 -- src/lib.rt:561:9
 mul-starts : tie.Need-mul-starts

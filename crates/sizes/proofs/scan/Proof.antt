@@ -1,19 +1,14 @@
 use borrow.Author.Needs.{needs}
 use Prim.Native.Nat.{ℕ, _+_, _*_, _-_, _≤_, _<_}
-use mathlib.Core.Path.{_≡_, refl, ap, sym, _∙_}
+use mathlib.Core.Path.{_≡_, ap, _∙_}
 use native.Mathlib.Omega.{arith}
 use lib.ListN.{length, getD}
 use Rattle.sizes.specs.Heads.{cellsOf, wordsOf, openAfter}
 use Rattle.sizes.specs.Located.{Scanned}
 use Rattle.emitter.proofs.Leave.{all-in}
-use Rattle.sizes.proofs.Leave.{Runs, runs-none, runs-more, runs-end, Turn, turn, head-cells, head-words}
+use Rattle.sizes.proofs.Leave.{Runs, runs-none, runs-more, runs-end, turn, head-cells, head-words}
 use Rattle.sizes.proofs.scan.Statement.{statement}
 use Rattle.sizes.proofs.scan.Tie as tie
-use Rattle.sizes.proofs.scan.Reads as reads
-use Rattle.sizes.proofs.scan.Lts as lts
-use Rattle.sizes.proofs.cells_of.Reads as cells-of-reads
-use Rattle.sizes.proofs.open_after.Reads as open-after-reads
-use Rattle.sizes.proofs.words_of.Reads as words-of-reads
 
 abbrev Inv-loop : tie.InvT-loop
 Inv-loop cells p q₀ w₀ d₀ q w d = (p ≤ q) × (d ≤ q + 1) × (q + d ≤ 2 * length cells + 300) × (w + 400 * p ≤ 400 * (length cells - (length cells - q))) × Runs cells p q w d

@@ -1,14 +1,11 @@
 use Prim.Native.Nat.{ℕ, _*_, _-_}
-use mathlib.Core.Path.{_≡_, refl, ap, sym, _∙_}
-use native.Mathlib.Omega.{arith}
+use mathlib.Core.Path.{_≡_, ap, _∙_}
 use lib.ListN.{getD}
 use borrow.Author.Tests.{lt-ltb, le-ltb}
 use Rattle.sizes.specs.Heads.{wordsOf, wordsTable}
 use borrow.Author.Needs.{needs}
 use Rattle.sizes.proofs.words_of.Statement.{statement}
 use Rattle.sizes.proofs.words_of.Tie as tie
-use Rattle.sizes.proofs.words_of.Reads as reads
-use Rattle.sizes.proofs.words_of.Lts as lts
 
 -- src/lib.rt:200:28
 wide-requires : tie.Need-wide-requires

@@ -2,7 +2,7 @@
 use mathlib.Core.Path.{_≡_}
 use Prim.Native.Nat.{ℕ, _+_, _-_, _≤_, _<_}
 use native.Mathlib.Omega.{arith}
-use lib.ListN.{length, length-set}
+use lib.ListN.{length}
 use Rattle.symbols.specs.Index.{headAt, RowsKept}
 use Rattle.symbols.proofs.Indexing.{rows-same, clear-more}
 use Rattle.symbols.proofs.clear_heads.Statement.{statement}

@@ -1,5 +1,5 @@
 -- `symbols::is_declared` meets its contract.
-use mathlib.Core.Path.{_≡_, refl, sym, _∙_}
+use mathlib.Core.Path.{_≡_, sym, _∙_}
 use Prim.Native.Nat.{_-_, _%_, _<_}
 use native.Mathlib.Omega.{arith}
 use Rattle.symbols.specs.Index.{bucketOf}

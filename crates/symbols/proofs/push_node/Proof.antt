@@ -3,8 +3,6 @@ use native.Mathlib.Omega.{arith}
 use lib.ListN.{length-set}
 use Rattle.symbols.proofs.push_node.Statement.{statement}
 use Rattle.symbols.proofs.push_node.Tie as tie
-use Rattle.symbols.proofs.push_node.Reads as reads
-use Rattle.symbols.proofs.push_node.Lts as lts
 
 -- src/lib.rt:394:22
 add-first : tie.Need-add-first

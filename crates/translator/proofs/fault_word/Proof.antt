@@ -2,9 +2,6 @@ use borrow.Author.Needs.{needs}
 use Rattle.translator.specs.Answered.{faultWord}
 use Rattle.translator.proofs.fault_word.Statement.{statement}
 use Rattle.translator.proofs.fault_word.Tie as tie
-use Rattle.translator.proofs.fault_word.Reads as reads
-use Rattle.translator.proofs.fault_word.Lts as lts
-use Rattle.translator.proofs.part.Reads as part-reads
 
 -- src/lib.rt:51:5
 part-requires : tie.Need-part-requires

@@ -3,9 +3,6 @@ use Rattle.translator.proofs.Measured.{figure-past, figure-is}
 use native.Mathlib.Omega.{arith}
 use Rattle.translator.proofs.figure_of.Statement.{statement}
 use Rattle.translator.proofs.figure_of.Tie as tie
-use Rattle.translator.proofs.figure_of.Reads as reads
-use Rattle.translator.proofs.figure_of.Lts as lts
-use Rattle.translator.proofs.measure.Reads as measure-reads
 
 -- src/lib.rt:105:9
 measure-requires : tie.Need-measure-requires

@@ -3,16 +3,8 @@ use Rattle.translator.proofs.Ends.{end-refused, end-20, end-good}
 use Rattle.frontend.proofs.Buffers.{ready-cells, ready-laid, too-long}
 use Rattle.emitter.specs.Emitted.{Emits}
 use native.Mathlib.Omega.{arith}
-use mathlib.Core.Path.{sym, _∙_}
 use Rattle.translator.proofs.finish.Statement.{statement}
 use Rattle.translator.proofs.finish.Tie as tie
-use Rattle.translator.proofs.finish.Reads as reads
-use Rattle.translator.proofs.finish.Lts as lts
-use Rattle.emitter.proofs.emit.Reads as emit-reads
-use Rattle.translator.proofs.acceptance.Reads as acceptance-reads
-use Rattle.translator.proofs.refusal.Reads as refusal-reads
-use Rattle.translator.proofs.refuse.Reads as refuse-reads
-use Rattle.verdict.proofs.verdict.Reads as verdict-reads
 
 -- src/lib.rt:132:9
 refuse-requires : tie.Need-refuse-requires

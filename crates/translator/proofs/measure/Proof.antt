@@ -2,9 +2,6 @@ use borrow.Author.Needs.{needs}
 use Rattle.translator.proofs.Measured.{shaped, measured}
 use Rattle.translator.proofs.measure.Statement.{statement}
 use Rattle.translator.proofs.measure.Tie as tie
-use Rattle.translator.proofs.measure.Reads as reads
-use Rattle.translator.proofs.measure.Lts as lts
-use Rattle.meter.proofs.figure.Reads as figure-reads
 
 -- src/lib.rt:97:34
 slice-aggregate-figure : tie.Need-slice-aggregate-figure

@@ -3,8 +3,6 @@ use native.Mathlib.Omega.{arith}
 use Rattle.translator.proofs.Parts.{part-none, part-rest, part-whole}
 use Rattle.translator.proofs.part.Statement.{statement}
 use Rattle.translator.proofs.part.Tie as tie
-use Rattle.translator.proofs.part.Reads as reads
-use Rattle.translator.proofs.part.Lts as lts
 
 -- src/lib.rt:39:16
 sub-result : tie.Need-sub-result

@@ -8,13 +8,6 @@ use lib.Seq.{length-take-le}
 use mathlib.Core.Path.{sym}
 use Rattle.translator.proofs.process.Statement.{statement}
 use Rattle.translator.proofs.process.Tie as tie
-use Rattle.translator.proofs.process.Reads as reads
-use Rattle.translator.proofs.process.Lts as lts
-use Rattle.reader.proofs.check_syntax.Reads as check-syntax-reads
-use Rattle.translator.proofs.figure_of.Reads as figure-of-reads
-use Rattle.translator.proofs.refuse.Reads as refuse-reads
-use Rattle.translator.proofs.translate.Reads as translate-reads
-use Rattle.translator.proofs.with_figure.Reads as with-figure-reads
 
 -- src/lib.rt:177:9
 check-syntax-requires : tie.Need-check-syntax-requires

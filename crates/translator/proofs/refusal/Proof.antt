@@ -3,8 +3,6 @@ use Rattle.figure.specs.Told.{untold}
 use Rattle.translator.specs.Answered.{answered}
 use Rattle.translator.proofs.refusal.Statement.{statement}
 use Rattle.translator.proofs.refusal.Tie as tie
-use Rattle.translator.proofs.refusal.Reads as reads
-use Rattle.translator.proofs.refusal.Lts as lts
 
 -- src/lib.rt:40:1
 returns : tie.Need-returns

@@ -3,10 +3,6 @@ use Rattle.emitter.specs.Emitted.{zeroedBytes}
 use Rattle.processor.specs.Process.{lentBytes, lentWords}
 use Rattle.translator.proofs.refuse.Statement.{statement}
 use Rattle.translator.proofs.refuse.Tie as tie
-use Rattle.translator.proofs.refuse.Reads as reads
-use Rattle.translator.proofs.refuse.Lts as lts
-use Rattle.emitter.proofs.zero.Reads as zero-reads
-use Rattle.translator.proofs.refusal.Reads as refusal-reads
 
 -- src/lib.rt:58:5
 zero-requires : tie.Need-zero-requires

@@ -4,12 +4,6 @@ use Rattle.grammar.proofs.ProgramIn.{parse-short}
 use mathlib.Core.Path.{refl, _∙_}
 use Rattle.translator.proofs.translate.Statement.{statement}
 use Rattle.translator.proofs.translate.Tie as tie
-use Rattle.translator.proofs.translate.Reads as reads
-use Rattle.translator.proofs.translate.Lts as lts
-use Rattle.frontend.proofs.resolve.Reads as resolve-reads
-use Rattle.sizes.proofs.locate.Reads as locate-reads
-use Rattle.translator.proofs.finish.Reads as finish-reads
-use Rattle.translator.proofs.refuse.Reads as refuse-reads
 
 -- src/lib.rt:157:37
 slice-aggregate-resolve : tie.Need-slice-aggregate-resolve

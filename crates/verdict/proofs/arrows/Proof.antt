@@ -3,7 +3,6 @@ use Prim.Native.Nat.{_≤_, _-_}
 use mathlib.Core.Path.{_≡_, refl}
 use native.Mathlib.Omega.{arith}
 use lib.ListN.{length}
-use borrow.Author.Needs.{needs}
 use Rattle.verdict.specs.Told.{knownIn}
 use Rattle.verdict.proofs.Table.{Filling, filling-start, filling-next, filling-done}
 use Rattle.verdict.proofs.arrows.Statement.{statement}

@@ -1,10 +1,10 @@
 -- `verdict::collected` meets its contract: one label more each time.
 use Prim.Native.Nat.{_≤_, _-_, _+_}
-use mathlib.Core.Path.{_≡_, refl, sym, ap, _∙_}
+use mathlib.Core.Path.{_≡_, refl, _∙_}
 use mathlib.Core.List.{_++_}
 use Rattle.verdict.proofs.Listed.{collect-next, collect-start, collect-done, collect-full}
 use native.Mathlib.Omega.{arith}
-use lib.ListN.{length, take, drop, getD, set, length-set}
+use lib.ListN.{length, take, drop, getD, length-set}
 use borrow.Author.Needs.{needs}
 use Rattle.verdict.proofs.collected.Statement.{statement}
 use Rattle.verdict.proofs.collected.Tie as tie

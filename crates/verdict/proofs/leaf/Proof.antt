@@ -1,7 +1,6 @@
 -- `verdict::leaf` meets its contract: a call, a value, or what the first cell says.
 use mathlib.Core.Path.{sym, _∙_}
 use native.Mathlib.Omega.{arith}
-use borrow.Author.Needs.{needs}
 use Rattle.verdict.proofs.Scan.{call-told, give-told, simple-told}
 use Rattle.verdict.proofs.leaf.Statement.{statement}
 use Rattle.verdict.proofs.leaf.Tie as tie

@@ -1,8 +1,7 @@
 -- `verdict::settled` meets its contract: sweeps, each of which leaves less to find.
-use mathlib.Core.Path.{_≡_, refl, sym, _∙_}
+use mathlib.Core.Path.{_≡_, refl}
 use native.Mathlib.Omega.{arith}
 use lib.ListN.{length}
-use borrow.Author.Needs.{needs}
 use Rattle.verdict.proofs.Looking.{Settling, settle-start, settle-next, settle-done, settle-less, unsettled}
 use Rattle.verdict.proofs.settled.Statement.{statement}
 use Rattle.verdict.proofs.settled.Tie as tie

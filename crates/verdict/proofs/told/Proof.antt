@@ -1,6 +1,6 @@
 -- `verdict::told` meets its contract: one fact more each time.
 use Prim.Native.Nat.{_≤_, _-_, _*_, _+_}
-use mathlib.Core.Path.{_≡_, refl, sym, _∙_}
+use mathlib.Core.Path.{_≡_, refl}
 use mathlib.Core.Bool.{_&&_}
 use native.Mathlib.Omega.{arith}
 use borrow.Author.Needs.{needs}

@@ -3,8 +3,6 @@ use borrow.Author.Needs.{needs}
 use Rattle.walker.specs.Shape.{numberOf}
 use Rattle.walker.proofs.number_of.Statement.{statement}
 use Rattle.walker.proofs.number_of.Tie as tie
-use Rattle.walker.proofs.number_of.Reads as reads
-use Rattle.walker.proofs.number_of.Lts as lts
 
 -- src/lib.rt:176:29
 enum-told : tie.Need-enum-told

@@ -1,5 +1,5 @@
 -- `Walk::last` meets its contract, by what the step does.
-use mathlib.Core.Path.{subst, _∙_}
+use mathlib.Core.Path.{subst}
 use Prim.Native.Nat.{_+_, _*_, _-_, _≤_}
 use native.Mathlib.Omega.{arith}
 use Rattle.machine.specs.Bytes.{count}
