@@ -43,6 +43,17 @@ uint16_t sst_shelf(const uint8_t *figures, size_t figures_len, uint64_t *books, 
  * number that it gives there; then 20 where rows has no room for all of them. Room for SST_RULES rules is never too little. */
 uint16_t sst_rules(const uint8_t *text, size_t text_len, uint8_t *rows, size_t rows_len, uint64_t *rules);
 
+/* The second way of a report, rule by rule. How often the words of one rule were executed: those from location `from` on, up to location `to` and without
+ * it, which are the locations of its row and of the next one (the location behind the table's last word, for the last rule). Read: figures, any bytes.
+ * `*total` becomes the sum of their counts. Answers 0; 21 for bytes that are no figures, and then `*total` is 0. */
+uint16_t sst_rule_total(const uint8_t *figures, size_t figures_len, uint64_t from, uint64_t to, uint64_t *total);
+
+/* All rules together: the sum of what sst_rule_total gives for each row. Read: figures, any bytes; rows, whole rows of SST_RULE_BYTES bytes as sst_rules writes
+ * them, for all rules and no more; `end`, the location behind the table's last word. For figures over the table of an accepted program and the rows of
+ * its text `*total` is the grand total that sst_shelf tells. Answers 0; 21 for bytes that are no figures; 46 for a sum past 64 bits, as of rows that
+ * overlap; then `*total` is 0. */
+uint16_t sst_rules_total(const uint8_t *figures, size_t figures_len, const uint8_t *rows, size_t rows_len, uint64_t end, uint64_t *total);
+
 /* The most rules of a program, and the bytes of a rule's row. */
 #define SST_RULES 128
 #define SST_RULE_BYTES 24

@@ -58,6 +58,7 @@ static uint8_t text[TEXT_BYTES];
 static uint8_t table[SST_TABLE_BYTES];
 static uint8_t figures[SST_FIGURES_BYTES];
 static struct rule rules[SST_RULES];
+static uint8_t rows[SST_RULES * SST_RULE_BYTES];
 static size_t rule_count, table_words;
 
 /* Whether an instruction begins at a location, from 1. */
@@ -241,7 +242,6 @@ static unsigned long line_of(uint64_t start)
 /* The rules of the text, each with the locations of its words. */
 static uint16_t find_rules(size_t text_len)
 {
-    static uint8_t rows[SST_RULES * SST_RULE_BYTES];
     uint64_t count;
     size_t i;
     uint16_t number = sst_rules(text, text_len, rows, sizeof rows, &count);
@@ -338,23 +338,18 @@ static void print_rule(const struct rule *r)
     printf(" line %lu", r->line);
 }
 
-/* The sum of the rules' executions. */
-static uint64_t print_rules(uint64_t total)
+static void print_rules(uint64_t total)
 {
-    uint64_t together = 0;
-    size_t i, l;
+    size_t i;
 
     for (i = 0; i < rule_count; i++) {
         const struct rule *r = &rules[i];
-        uint64_t sum = 0;
-        for (l = r->location; l < r->end; l++)
-            sum += count_at(l);
+        uint64_t sum;
+        sst_rule_total(figures, sizeof figures, r->location, r->end, &sum);
         print_rule(r);
         printf(" location %lu executions %" PRIu64 " ", (unsigned long)r->location, sum);
         print_share(sum, total);
-        together += sum;
     }
-    return together;
 }
 
 static void print_never(void)
@@ -378,7 +373,9 @@ static enum status report(void)
         return REFUSED;
     printf("books %" PRIu64 " steps %" PRIu64 " mean %" PRIu64 " remainder %" PRIu64 "\n", books, total, mean, rest);
     printf("locations executed %" PRIu64 " of %lu\n", covered, (unsigned long)find_instructions());
-    together = print_rules(total);
+    print_rules(total);
+    if (sst_rules_total(figures, sizeof figures, rows, rule_count * SST_RULE_BYTES, table_words + 1, &together) != 0)
+        return REFUSED;
     if (together == total)
         printf("rules together %" PRIu64 "\n", together);
     else

@@ -7,4 +7,7 @@ pub mod NamesOk
 pub mod Resolved
 pub mod Used
 pub mod Accepts
+pub mod WordsOf
+pub mod ReadShown
+pub mod Refusals
 pub mod Numbers

@@ -134,7 +134,7 @@ module _ (p : Program) (n : Names) (rules : List KnownRule) where
       next (λ _. Each (UseOk n rules) (rulesUses (r ∷ rs))) (λ _. Each (UseOk n rules) (rulesUses rs)) (rulesMean p n rules (r .rule .text ∷ seen) rs) _ (rules-used (r .rule .text ∷ seen) rs) (λ ms hs.
       λ _ _. h (rulesUses rs) hs))
 
-firsts-each : (P : Use → Type 0) (seen us : List Use) → Each P us → Each P (firsts seen us)
+pub firsts-each : (P : Use → Type 0) (seen us : List Use) → Each P us → Each P (firsts seen us)
 unfolding firsts Each
 firsts-each P seen [] h = tt
 firsts-each P seen (u ∷ us) h = go (isUsed u seen) (firsts-each P seen us (h .1)) (firsts-each P (u ∷ seen) us (h .1))

@@ -407,10 +407,30 @@ module _ (T tokens answers : List ℕ) (allowance : ℕ) where
   unfolding fresh choices
   kept-after n = kept-runs T tokens answers n (fresh allowance) (record { used = refl; returns = omega arith })
 
+  -- the single step before was one of a walk that went on
+  abbrev pub Moved : ℕ → Type 0
+  Moved n = (m : ℕ) → n ≡ suc m → after m .phase ≡ going
+
+  -- a walk that goes on went on before
+  went-on : (m : ℕ) → after (suc m) .phase ≡ going → after m .phase ≡ going
+  unfolding one oneIn
+  went-on m g = go (after m .phase) refl (ap (λ (w : Walk). w .phase) (sym (runs-suc T tokens answers m (fresh allowance))) ∙ g)
+    where
+      go : (p : Phase) → after m .phase ≡ p → oneIn T tokens answers p (after m) .phase ≡ going → p ≡ going
+      go going e h = refl
+      go waiting e h = sym e ∙ h
+      go (stopped r) e h = sym e ∙ h
+
+  still-going : (n : ℕ) → after n .phase ≡ going → Moved n
+  still-going n g m e = went-on m (rw e at g)
+
+  one-further : (n : ℕ) → after n .phase ≡ going → Moved (suc n)
+  one-further n g m e = let d : n ≡ m = omega arith in rw d at g
+
   -- where a list of calls has led: to this walk, with these events and so many steps in all
   pub data Where (w : Walk) (es : List Event) (n : ℕ) : Type 0 where
     -- it goes on or has stopped, as it is after so many single steps
-    lives : (w .phase ≡ waiting → ⊥) → withEvents es w ≡ after n → Where w es n
+    lives : (w .phase ≡ waiting → ⊥) → withEvents es w ≡ after n → Moved n → Where w es n
     -- it has stopped for 37, which counts no step
     left : w .phase ≡ stopped outside → after n .phase ≡ going → step T tokens (after n) ≡ goesOutside
         → withEvents es w ≡ inPhase (stopped outside) (after n) → Where w es n
@@ -446,9 +466,21 @@ module _ (T tokens answers : List ℕ) (allowance : ℕ) where
     unfolding withEarlier withEvents withIo
     within64 n w d = all64 (w .returns) (rw (← d) at (kept-after (k + n) .returns))
 
-    rested : (number n : ℕ) (w : Walk) → (w .phase ≡ waiting → ⊥) → Within n w → Ended (ends number n w)
+    rested : (number n : ℕ) (w : Walk) → (w .phase ≡ waiting → ⊥) → Within n w → Moved (k + n) → Ended (ends number n w)
     unfolding ends withEarlier withEvents Walk.opened
-    rested number n w p d = let r = within64 n w d in lives p ((λ i. withReturns (r i) (withEarlier es w)) ∙ d)
+    rested number n w p d mv = let r = within64 n w d in lives p ((λ i. withReturns (r i) (withEarlier es w)) ∙ d) mv
+
+    -- a walk that goes on within a call
+    goes-within : (n : ℕ) (w : Walk) → w .phase ≡ going → Within n w → after (k + n) .phase ≡ going
+    unfolding withEarlier withEvents withIo
+    goes-within n w g d = ap (λ (v : Walk). v .phase) (sym d) ∙ g
+
+    paused-at : (number n : ℕ) (w : Walk) → w .phase ≡ going → Within n w → Ended (ends number n w)
+    paused-at number n w g d = rested number n w (going-waiting g) d (still-going (k + n) (goes-within n w g d))
+
+    -- the step that stops it was one of a walk that went on
+    moved-on : (n : ℕ) (w : Walk) → w .phase ≡ going → Within n w → Moved (k + (n + 1))
+    moved-on n w g d = let e : k + (n + 1) ≡ suc (k + n) = omega arith in rw e (one-further (k + n) (goes-within n w g d))
 
     next-within : (n : ℕ) (w : Walk) (nx : Next) → w .phase ≡ going → Within n w → step T tokens w ≡ nx
         → after (k + (n + 1)) ≡ done T tokens answers (earlier es nx) (withEarlier es w)
@@ -477,11 +509,11 @@ module _ (T tokens answers : List ℕ) (allowance : ℕ) where
     abbrev Rest : ℕ → Mode → ℕ → Type 0
     Rest b m n = (room : ℕ) (v : Walk) → v .phase ≡ going → Within (n + 1) v → Ended (run T tokens b m room (n + 1) v)
 
-    takes-ended : (b : ℕ) (m : Mode) (n : ℕ) → Rest b m n → (o : Option ℕ) (room : ℕ) (w : Walk) (e : Event) (v : Walk)
+    takes-ended : (b : ℕ) (m : Mode) (n : ℕ) → Rest b m n → (o : Option ℕ) (room : ℕ) (w : Walk) (e : Event) (v : Walk) → Moved (k + (n + 1))
         → after (k + (n + 1)) ≡ taking o e (withEarlier es v) (withEarlier es w) → Ended (resume T tokens b m n (takes o room n w e v))
     unfolding takes taking resume endsFor withEarlier withEvents Walk.opened Events.answered
-    takes-ended b m n rest none room w e v d = rested _ (n + 1) (inPhase (stopped unanswered) w) (λ p. waiting-stopped p refl) (sym d)
-    takes-ended b m n rest (some x) room w e v d =
+    takes-ended b m n rest none room w e v mv d = rested _ (n + 1) (inPhase (stopped unanswered) w) (λ p. waiting-stopped p refl) (sym d) mv
+    takes-ended b m n rest (some x) room w e v mv d =
         rest (room - 3) (withAnswer x (writing e v)) refl (ap (withAnswer x) (writing-earlier es e v) ∙ sym d)
 
     -- a whole call takes the answer after as many as there are choice operations in all events
@@ -496,7 +528,7 @@ module _ (T tokens answers : List ℕ) (allowance : ℕ) where
         → w .phase ≡ going → Within n w → Keeps w v → step T tokens w ≡ asks e v → Ended (resume T tokens b m n (handsOut m room n w e v))
     unfolding handsOut done earlier resume withEarlier withEvents Walk.opened
     handsOut-ended b (whole given) n rest gm room w e v g d keeps s =
-        takes-ended b (whole given) n rest (answer given (w .io)) room w e v
+        takes-ended b (whole given) n rest (answer given (w .io)) room w e v (moved-on n w g d)
         (next-within n w (asks e v) g d s ∙ ap (λ o. taking o e (withEarlier es v) (withEarlier es w)) (sym (takes-next given gm n w d)))
     handsOut-ended b (paused x) n rest gm room w e v g d keeps s = waited n Call.waits w v e g d keeps s
 
@@ -508,18 +540,18 @@ module _ (T tokens answers : List ℕ) (allowance : ℕ) where
         left refl (ap (λ x. x .phase) (sym d) ∙ g) (ap (step T tokens) (sym d) ∙ step-earlier es T tokens w ∙ ap (earlier es) s)
         ((λ i. withReturns (r i) (inPhase (stopped outside) (withEarlier es w))) ∙ ap (inPhase (stopped outside)) d)
     turn-ended b m n rest gm room w (after-stop r o) g d s =
-        rested (reasonNumber r) (n + 1) (inPhase (stopped r) w) (λ p. waiting-stopped p refl) (sym (next-within n w (stops r) g d s))
+        rested (reasonNumber r) (n + 1) (inPhase (stopped r) w) (λ p. waiting-stopped p refl) (sym (next-within n w (stops r) g d s)) (moved-on n w g d)
     turn-ended b m n rest gm room w (after-goes v keeps) g d s = rest room v (keeps .phase ∙ g) (sym (next-within n w (goes v) g d s))
     turn-ended b m n rest gm room w (after-tells e v c keeps) g d s =
-        if-ended b m n (ltb room 3) (over (ends 35 n w)) (further (room - 3) (writing e v)) (rested 35 n w (going-waiting g) d)
+        if-ended b m n (ltb room 3) (over (ends 35 n w)) (further (room - 3) (writing e v)) (paused-at 35 n w g d)
         (rest (room - 3) (writing e v) (keeps .phase ∙ g) (writing-earlier es e v ∙ sym (next-within n w (tells e v) g d s)))
     turn-ended b m n rest gm room w (after-asks e v c past keeps) g d s =
-        if-ended b m n (ltb room 3) (over (ends 35 n w)) (handsOut m room n w e v) (rested 35 n w (going-waiting g) d)
+        if-ended b m n (ltb room 3) (over (ends 35 n w)) (handsOut m room n w e v) (paused-at 35 n w g d)
         (handsOut-ended b m n rest gm room w e v g d keeps s)
 
     run-ended : (b : ℕ) (m : Mode) → Given m → (room n : ℕ) (w : Walk) → w .phase ≡ going → Within n w → Ended (run T tokens b m room n w)
     unfolding run
-    run-ended zero m gm room n w g d = rested 36 n w (going-waiting g) d
+    run-ended zero m gm room n w g d = paused-at 36 n w g d
     run-ended (suc b) m gm room n w g d =
         rw (run-resume T tokens b m room n w)
         (turn-ended b m n (λ room v. run-ended b m gm room (n + 1) v) gm room w (step-after T tokens w) g d refl)
@@ -543,7 +575,7 @@ module _ (T tokens answers : List ℕ) (allowance : ℕ) where
   goes-on : (budget : ℕ) (m : Mode) → Given m → (room : ℕ) (w : Walk) (es : List Event) (n : ℕ) → w .phase ≡ going → Where w es n
       → Ended es n (run T tokens budget m room 0 (atRest w))
   unfolding Walk.opened
-  goes-on budget m gm room w es n g (lives p d) = run-ended es n budget m gm room 0 (atRest w) g (begun w es n d)
+  goes-on budget m gm room w es n g (lives p d mv) = run-ended es n budget m gm room 0 (atRest w) g (begun w es n d)
   goes-on budget m gm room w es n g (left p q s d) = absurd (going-stopped g p)
   goes-on budget m gm room w es n g (waits k v v′ e a p s x y d) = absurd (going-waiting g (ap (λ u. u .phase) d))
 
@@ -555,7 +587,7 @@ module _ (T tokens answers : List ℕ) (allowance : ℕ) where
   answers-it : (budget room : ℕ) (w : Walk) (es : List Event) (n x : ℕ) → w .phase ≡ waiting → wanted answers es ≡ some x → Where w es n
       → Ended es n (run T tokens budget (paused none) room 0 (withAnswer x (atRest w)))
   unfolding withEarlier withEvents Given taking writing Walk.opened Events.wrote Events.answered
-  answers-it budget room w es n x g o (lives p d) = absurd (p g)
+  answers-it budget room w es n x g o (lives p d mv) = absurd (p g)
   answers-it budget room w es n x g o (left p q s d) = absurd (waiting-stopped g p)
   answers-it budget room w es n x g o (waits k v v′ e a p s q y d) =
       let keeps = step-asked T tokens v v′ e s .keeps in
@@ -582,7 +614,7 @@ module _ (T tokens answers : List ℕ) (allowance : ℕ) where
 
   pub listed-where : {w : Walk} {es : List Event} {n : ℕ} {ns : List ℕ} → Listed T tokens answers allowance w es n ns → Where w es n
   unfolding callWalk fresh runs withEvents withIo
-  listed-where begin = lives (going-waiting refl) refl
+  listed-where begin = lives (going-waiting refl) refl (λ m e. absurd (omega arith))
   listed-where (then-call {w = w} {es = es} {n = n} l m budget room a) = in-phase (w .phase) m budget room w es n refl a (listed-where l)
 
   -- 37

@@ -17,7 +17,7 @@ use Rattle.agreement.proofs.MoreAnswers.{one-more, alike}
 use Rattle.agreement.proofs.Lists.{withEvents, step-asked, going-stopped, waiting-stopped, runs-suc, one-going, Where, lives, left, waits, listed-where, number-37}
 use Rattle.agreement.proofs.Sim.{Running, running-on, running-choosing}
 use Rattle.agreement.proofs.Single.{taking, done, oneIn, one, runs}
-use Rattle.agreement.specs.Demand.{wanted, Listed, RulesStop, RulesWrite, HasStopped, Suffices, Agrees, Finishes, Demand3}
+use Rattle.agreement.specs.Demand.{wanted, Listed, RulesStop, RulesWrite, HasStopped, Suffices, StepsBelow, Agrees, Finishes, Demand3}
 use Rattle.events.specs.Events as io
 use Rattle.events.specs.Events.{Event, Reason, unanswered, outside, choices, Io}
 use Rattle.finishing.proofs.Exact.{finishing-sound, finishing-complete}
@@ -82,7 +82,7 @@ module _ (prog : List Rule) (more tokens answers : List ℕ) (allowance : ℕ) (
   events {w} {es} {n} l h = go (listed-where Table tokens answers allowance l)
     where
       go : Where Table tokens answers allowance w es n → RulesWrite prog tokens answers allowance es
-      go (lives p e) = events-of w es n e
+      go (lives p e mv) = events-of w es n e
       go (left p g s e) = no-way-out n g s
       go (waits k v v′ e d g s q m e₁) = absurd (h (ap (λ (u : Walk). u .phase) e₁ ∙ unfold inPhase in refl))
 
@@ -90,7 +90,7 @@ module _ (prog : List Rule) (more tokens answers : List ℕ) (allowance : ℕ) (
   never-37 {w} {es} {n} l e = go (listed-where Table tokens answers allowance l) (number-37 Table tokens answers allowance l e)
     where
       go : Where Table tokens answers allowance w es n → w .phase ≡ stopped outside → ⊥
-      go (lives p e₁) h = never-outside (agree prog more tokens answers allowance a n .1) (in-phase w es n (stopped outside) e₁ h)
+      go (lives p e₁ mv) h = never-outside (agree prog more tokens answers allowance a n .1) (in-phase w es n (stopped outside) e₁ h)
       go (left p g s e₁) h = no-way-out n g s
       go (waits k v v′ e d g s q m e₁) h = waiting-stopped (ap (λ (u : Walk). u .phase) e₁ ∙ unfold inPhase in refl) h
 
@@ -100,7 +100,7 @@ module _ (prog : List Rule) (more tokens answers : List ℕ) (allowance : ℕ) (
   stops-alike {w} {es} {n} {ns} {r} l h = go (listed-where Table tokens answers allowance l)
     where
       go : Where Table tokens answers allowance w es n → RulesStop prog tokens answers allowance r (record { read = w .io .read; used = w .io .used; allowance = w .io .allowance; events = es })
-      go (lives p e) =
+      go (lives p e mv) =
           let x = agree prog more tokens answers allowance a n in
           record { steps = x .0; stop = same-stopped (x .1) (in-phase w es n (stopped r) e h) ∙ ap (λ (v : Walk). rules.stopped r (v .io)) (sym e) }
       go (left p g s e) = no-way-out n g s
@@ -112,9 +112,22 @@ module _ (prog : List Rule) (more tokens answers : List ℕ) (allowance : ℕ) (
   suffices k b r h e w es n ns l = elim (decLt n b) [ yes x ↦ inr (inl x) | no x ↦ inl (go (listed-where Table tokens answers allowance l) (omega arith)) ]
     where
       go : Where Table tokens answers allowance w es n → k < n → HasStopped w
-      go (lives p e₁) m = record { reason = r; stop = ap (λ (v : Walk). v .phase) e₁ ∙ later Table tokens answers k n (fresh allowance) r (omega arith) e }
+      go (lives p e₁ mv) m = record { reason = r; stop = ap (λ (v : Walk). v .phase) e₁ ∙ later Table tokens answers k n (fresh allowance) r (omega arith) e }
       go (left p g s e₁) m = record { reason = outside; stop = p }
       go (waits i v v′ e₂ d g s q m₁ e₁) m = absurd (going-stopped g (ap (λ (u : Walk). u .phase) (sym d) ∙ later Table tokens answers k i (fresh allowance) r (omega arith) e))
+
+  -- and no list does more steps than that, whether its walk goes on, waits or has stopped
+  pub steps-below : (k b : ℕ) (r : Reason) → k < b → Step k .phase ≡ stopped r → StepsBelow Table tokens answers allowance b
+  steps-below k b r h e w es n ns l = elim (decLt k n) [ yes x ↦ absurd (go (listed-where Table tokens answers allowance l) x) | no x ↦ omega arith ]
+    where
+      -- a step of a walk that went on came before
+      too-late : (m : ℕ) → Step m .phase ≡ going → k ≤ m → ⊥
+      too-late m g x = going-stopped g (later Table tokens answers k m (fresh allowance) r x e)
+
+      go : Where Table tokens answers allowance w es n → k < n → ⊥
+      go (lives p e₁ mv) x = let q : n ≡ suc (n - 1) = omega arith in too-late (n - 1) (mv (n - 1) q) (omega arith)
+      go (left p g s e₁) x = too-late n g (omega arith)
+      go (waits i v v′ e₂ d g s q m e₁) x = too-late i (ap (λ (u : Walk). u .phase) d ∙ g) (omega arith)
 
   pub stops-within : (j : ℕ) {r : Reason} {io : Io} → owns prog tokens answers j (ownStart prog allowance) ≡ rules.stopped r io → (b : ℕ) → 3 * j < b → Suffices prog Table tokens answers allowance b
   stops-within j {r} e b h =
@@ -128,7 +141,7 @@ module _ (prog : List Rule) (more tokens answers : List ℕ) (allowance : ℕ) (
   events-waiting {w} {es} {n} l h x = go (listed-where Table tokens answers allowance l)
     where
       go : Where Table tokens answers allowance w es n → RulesWrite prog tokens (answers ++ (x ∷ [])) allowance es
-      go (lives p e) = absurd (p h)
+      go (lives p e mv) = absurd (p h)
       go (left p g s e) = no-way-out n g s
       go (waits k v v′ e d g s q m e₁) =
           let g₁ : Step k .phase ≡ going = ap (λ (u : Walk). u .phase) d ∙ g in

@@ -76,6 +76,10 @@ Suffices prog T tokens answers allowance b =
     (w : Walk) (es : List Event) (n : ℕ) (ns : List ℕ) → Listed T tokens answers allowance w es n ns
     → HasStopped w ⊎ ((n < b) ⊎ WaitsPast prog tokens answers allowance w es)
 
+-- every such list does fewer steps in all, whether its walk goes on, waits or has stopped
+abbrev pub StepsBelow : List ℕ → List ℕ → List ℕ → ℕ → ℕ → Type 0
+StepsBelow T tokens answers allowance b = (w : Walk) (es : List Event) (n : ℕ) (ns : List ℕ) → Listed T tokens answers allowance w es n ns → n < b
+
 -- what is claimed of every list of calls over the table T, with these tokens and answers
 pub record Agrees (prog : List Rule) (T tokens answers : List ℕ) (allowance : ℕ) : Type 0 where
   -- the events are a beginning of the rules' own

@@ -16,7 +16,7 @@ use Rattle.bytewise.proofs.Joined.{byte-calls}
 use Rattle.bytewise.proofs.Loaded.{left-by}
 use Rattle.bytewise.specs.AtAdmission.{Admits, withinWords, KeepsBytes}
 
-within-words : (set : List ℕ) {es : List Event} → Within set es → withinWords set (eventsWords es) ≡ true
+pub within-words : (set : List ℕ) {es : List Event} → Within set es → withinWords set (eventsWords es) ≡ true
 unfolding withinWords eventsWords eventWords within
 within-words set within-nil = refl
 within-words set (within-cons {e = output t} h r) = within-words set r

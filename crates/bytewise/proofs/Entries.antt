@@ -12,7 +12,7 @@ use Rattle.acceptance.proofs.Accepts.{accepted-table}
 use Rattle.agreement.proofs.Reports.{reports-last}
 use Rattle.agreement.proofs.Theorem.{agreement}
 use Rattle.agreement.specs.Reports.{Reports}
-use Rattle.agreement.specs.Demand.{wanted, Agrees, Suffices, HasStopped, WaitsPast, RulesWrite}
+use Rattle.agreement.specs.Demand.{wanted, Agrees, Suffices, StepsBelow, HasStopped, WaitsPast, RulesWrite}
 use Rattle.events.specs.Events.{Event, Reason}
 use Rattle.figure.specs.Told.{figureOf}
 use Rattle.firmware.proofs.Zero.{accepts-0}
@@ -24,7 +24,7 @@ use Rattle.machine.specs.Walk.{stopped, Walk}
 use Rattle.processor.specs.Process.{Answer, accepted, process, lentWords, lentBytes}
 use Rattle.program.specs.Program.{Rule}
 use Rattle.bytewise.proofs.Joined.{eventsWords-then, choices-words, byte-calls}
-use Rattle.bytewise.specs.AtEntries.{RulesWriteWords, RulesStopWords, WaitsPastBytes, StoppedBytes, SufficesBytes, AgreesBytes, Leaves, AtEntries, Processed, Claimed}
+use Rattle.bytewise.specs.AtEntries.{RulesWriteWords, RulesStopWords, WaitsPastBytes, StoppedBytes, SufficesBytes, StepsBelowBytes, AgreesBytes, Leaves, AtEntries, Processed, Claimed}
 use Rattle.bytewise.specs.ByteCalls.{Slice, choicesIn, ByteCalls, Stands}
 
 -- The lent bytes
@@ -108,6 +108,9 @@ module _ (prog : List Rule) (table tokens answers : List ℕ) (bt : Below 256 ta
         io = x .io;
         rules-stop = x .rules-stop;
       })
+
+  pub steps-bytes : (b : ℕ) → StepsBelow (tableOf table) (wordsOf tokens) (wordsOf answers) allowance b → StepsBelowBytes table tokens answers allowance b
+  steps-bytes b h s ws n ns l = let st = byte-calls table tokens answers bt bk ba allowance small l in h (st .walk) (st .events) n ns (st .listed)
 
   pub agrees-bytes : Agrees prog (tableOf table) (wordsOf tokens) (wordsOf answers) allowance → AgreesBytes prog table tokens answers allowance
   agrees-bytes a =

@@ -7,7 +7,7 @@ use Prim.Native.Nat.{ℕ, _+_, _*_, _<_}
 use native.Mathlib.Omega.{arith}
 use lib.ListN.{length}
 use Rattle.acceptance.proofs.Accepts.{accepted-table}
-use Rattle.figure.proofs.Battery.{figure-enough}
+use Rattle.figure.proofs.Battery.{figure-enough, figure-steps}
 use Rattle.figure.specs.Count.{figure}
 use Rattle.figure.specs.Told.{Told, untold, told, toldIf, toldFor, figureOf}
 use Rattle.finishing.proofs.Exact.{finishing-sound}
@@ -17,19 +17,19 @@ use Rattle.machine.specs.Bytes.{count, wordsOf, tableOf}
 use Rattle.processor.specs.Process.{Answer, accepted, refused, Understood, meaning, faulty, understood, process}
 use Rattle.program.specs.Program.{Rule}
 use Rattle.program.specs.Table.{table}
-use Rattle.bytewise.proofs.Entries.{suffices-bytes, behind, begins, left-bytes}
+use Rattle.bytewise.proofs.Entries.{suffices-bytes, steps-bytes, behind, begins, left-bytes}
 use Rattle.bytewise.specs.AtEntries.{Leaves}
 use Rattle.bytewise.specs.AtFigure.{FigureAtEntries}
 
 -- a figure is told of a text that is accepted with the verdict "finishing", and it is that of its rules
-record Measured (text : List ℕ) (room q : ℕ) : Type 0 where
-  words : List ℕ
-  answer : process text room ≡ accepted words true
-  prog : List Rule
-  means : understood text ≡ meaning prog
-  is : figure prog ≡ some q
+pub record Measured (text : List ℕ) (room q : ℕ) : Type 0 where
+  pub words : List ℕ
+  pub answer : process text room ≡ accepted words true
+  pub prog : List Rule
+  pub means : understood text ≡ meaning prog
+  pub is : figure prog ≡ some q
 
-measured : (text : List ℕ) (room : ℕ) → 0 < figureOf text room .figure → Measured text room (figureOf text room .figure)
+pub measured : (text : List ℕ) (room : ℕ) → 0 < figureOf text room .figure → Measured text room (figureOf text room .figure)
 unfolding figureOf toldFor toldIf told untold
 measured text room h = go (process text room) (understood text) refl refl h
   where
@@ -43,7 +43,7 @@ measured text room h = go (process text room) (understood text) refl refl h
     go (refused number at) (meaning prog) e m h = absurd (omega arith)
     go a (faulty n w) e m h = absurd (omega arith)
 
-same-meaning : {p q : List Rule} {u : Understood} → u ≡ meaning p → u ≡ meaning q → p ≡ q
+pub same-meaning : {p q : List Rule} {u : Understood} → u ≡ meaning p → u ≡ meaning q → p ≡ q
 same-meaning {p} {q} e f = let x : meaning p ≡ meaning q = sym e ∙ f in cc
 
 told-figure : (a : Answer) (f : Told) → numbersOf a f .figure ≡ f .figure
@@ -74,4 +74,7 @@ figure-at-entries text lent bytes x p h =
       suffices = λ tokens answers bk ba allowance small.
           suffices-bytes (t .prog) bytes tokens answers (left-bytes text (count lent) (m .words) true (m .answer) l) bk ba allowance small (65 * x .figure * (count tokens + allowance + 1))
           (rw (s, ← length-wordsOf tokens) (figure-enough (t .prog) (t .accepts) (finishing-sound (t .prog) (sym (t .verdict-is))) (x .figure) i more (wordsOf tokens) (wordsOf answers) allowance));
+      steps = λ tokens answers bk ba allowance small.
+          steps-bytes (t .prog) bytes tokens answers (left-bytes text (count lent) (m .words) true (m .answer) l) bk ba allowance small (65 * x .figure * (count tokens + allowance + 1))
+          (rw (s, ← length-wordsOf tokens) (figure-steps (t .prog) (t .accepts) (finishing-sound (t .prog) (sym (t .verdict-is))) (x .figure) i more (wordsOf tokens) (wordsOf answers) allowance));
     }

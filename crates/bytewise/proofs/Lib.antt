@@ -2,7 +2,10 @@
 pub mod Facts
 pub mod Joined
 pub mod Entries
+pub mod Refused
 pub mod Figures
 pub mod Loaded
+pub mod Behind
 pub mod Admitted
 pub mod Screens
+pub mod Tables

@@ -84,7 +84,7 @@ module _ (table : List ℕ) (b : ℕ) (h : b < 2) (tokens answers : List ℕ) (a
       → Follows prog table tokens answers allowance (walkIn b (after table items r)) (heard table b items r)
   followed prog w r g items a =
       let l = projected r g items a in
-      record { calls = l; events = w .events l; events-waiting = w .events-waiting l; never-37 = never prog w r g items a; stops = λ d e. w .stops l d e }
+      record { calls = l; events = w .events l; events-waiting = w .events-waiting l; never-37 = never prog w r g items a; stops = λ d e. w .stops l d e; budget = λ k h. h _ _ _ _ l; steps = λ k h. h _ _ _ _ l }
 
 -- for the bytes that `sst_process` left
 pub on-screen : (text lent table : List ℕ) (x : Numbers) → Processed text lent table x → x .number ≡ 0 → OnScreen text table
@@ -95,6 +95,8 @@ on-screen text lent table x p z =
       means = c .claim .means;
       follows = λ b h tokens answers bk ba allowance small r g items a.
           followed table b h tokens answers allowance (c .claim .prog) (c .claim .agrees lent table (c .left) tokens answers bk ba allowance small) r g items a;
+      finishes = λ f number allowance small.
+          (let e = c .claim .finishes (c .claim .complete f) number allowance small in (e .0, λ tokens answers bk ba k. e .1 lent table (c .left) tokens answers bk ba k));
     }
 
 -- and for any bytes that begin with the table's words

@@ -55,6 +55,10 @@ SufficesBytes prog table tokens answers allowance b =
     (s ws : List ℕ) (n : ℕ) (ns : List ℕ) → ByteCalls table tokens answers allowance s ws n ns
     → StoppedBytes s ⊎ ((n < b) ⊎ WaitsPastBytes prog (wordsOf tokens) (wordsOf answers) allowance s ws)
 
+-- every such list does fewer steps in all, whether its walk goes on, waits or has stopped
+abbrev pub StepsBelowBytes : List ℕ → List ℕ → List ℕ → ℕ → ℕ → Type 0
+StepsBelowBytes table tokens answers allowance b = (s ws : List ℕ) (n : ℕ) (ns : List ℕ) → ByteCalls table tokens answers allowance s ws n ns → n < b
+
 -- what is claimed of every list of calls over the bytes `table`, with the bytes of these tokens and answers, from a fresh walk with this allowance
 pub record AgreesBytes (prog : List Rule) (table tokens answers : List ℕ) (allowance : ℕ) : Type 0 where
   -- every call gives back the bytes of a walk: none is refused for its bytes

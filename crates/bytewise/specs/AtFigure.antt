@@ -7,7 +7,7 @@ use Rattle.firmware.specs.Processing.{Numbers}
 use Rattle.machine.specs.Bytes.{count}
 use Rattle.processor.specs.Process.{understood, meaning}
 use Rattle.program.specs.Program.{Rule}
-use Rattle.bytewise.specs.AtEntries.{SufficesBytes, Processed}
+use Rattle.bytewise.specs.AtEntries.{SufficesBytes, StepsBelowBytes, Processed}
 use Rattle.bytewise.specs.ByteCalls.{Slice}
 
 -- what a caller has whom it tells a figure: the text was accepted with the verdict "finishing", and that budget suffices, whatever the tokens and the answers are
@@ -18,6 +18,9 @@ pub record EnoughSteps (text table : List ℕ) (x : Numbers) : Type 0 where
   pub means : understood text ≡ meaning prog
   pub suffices : (tokens answers : List ℕ) → Slice tokens → Slice answers → (allowance : ℕ) → allowance < 65536
       → SufficesBytes prog table tokens answers allowance (65 * x .figure * (count tokens + allowance + 1))
+  -- as a bound: no list of calls does so many steps in all
+  pub steps : (tokens answers : List ℕ) → Slice tokens → Slice answers → (allowance : ℕ) → allowance < 65536
+      → StepsBelowBytes table tokens answers allowance (65 * x .figure * (count tokens + allowance + 1))
 
 -- where `*figure` is not 0
 abbrev pub FigureAtEntries : Type 0

@@ -2,20 +2,22 @@
 -- `sst_turn_paused` and `sst_refill` treat them, the last first.
 use mathlib.Core.Bool.{false}
 use mathlib.Core.List.{List, [], _∷_, _++_}
+use mathlib.Core.Logic.{_⊎_}
 use mathlib.Core.Option.{some}
 use mathlib.Core.Path.{_≡_}
 use Prim.Native.Nat.{ℕ, _+_, _<_}
 use lib.ListN.{length}
 use Rattle.base.specs.Common.{member}
 use Rattle.events.specs.Events.{Reason}
-use Rattle.machine.specs.Bytes.{wordsOf}
+use Rattle.finishing.specs.Finishing.{Finishing}
+use Rattle.machine.specs.Bytes.{count, wordsOf}
 use Rattle.machine.specs.Form.{walkBytes, walkOf, Outcome}
 use Rattle.machine.specs.Walk.{stopped, Walk, fresh}
 use Rattle.processor.specs.Process.{understood, meaning}
 use Rattle.program.specs.Program.{Rule}
 use Rattle.screen.specs.Items.{Item, turn, refill, after, heard}
 use Rattle.screen.specs.Screen.{screenSize, walkIn, freshBytes}
-use Rattle.bytewise.specs.AtEntries.{RulesWriteWords, RulesStopWords}
+use Rattle.bytewise.specs.AtEntries.{RulesWriteWords, RulesStopWords, WaitsPastBytes, StoppedBytes, SufficesBytes, StepsBelowBytes}
 use Rattle.bytewise.specs.ByteCalls.{Slice, writtenWords, Waits, Hands, ByteCalls}
 
 -- what the turns of a book gave, the last first: the words of their events in order, their steps in all, their numbers
@@ -56,6 +58,11 @@ pub record Follows (prog : List Rule) (table tokens answers : List ℕ) (allowan
   -- where it has stopped it has stopped as the rules do
   pub stops : {w : Walk} {r : Reason} → walkOf s ≡ some w → w .phase ≡ stopped r
       → RulesStopWords prog (wordsOf tokens) (wordsOf answers) allowance r (w .io .read) (w .io .used) (w .io .allowance) (wordsIn os)
+  -- a budget that suffices for the calls of this book alone suffices for its turns: it has stopped, has done fewer steps in all of them, or waits for an answer past the last
+  pub budget : (b : ℕ) → SufficesBytes prog table tokens answers allowance b
+      → StoppedBytes s ⊎ ((stepsIn os < b) ⊎ WaitsPastBytes prog (wordsOf tokens) (wordsOf answers) allowance s (wordsIn os))
+  -- and one that bounds the steps of those bounds the steps of its turns
+  pub steps : (b : ℕ) → StepsBelowBytes table tokens answers allowance b → stepsIn os < b
 
 -- "under every order of turns", of either book, whatever the other one does
 abbrev pub InEveryOrder : List Rule → List ℕ → Type 0
@@ -69,6 +76,9 @@ pub record OnScreen (text table : List ℕ) : Type 0 where
   pub prog : List Rule
   pub means : understood text ≡ meaning prog
   pub follows : InEveryOrder prog table
+  -- of a finishing program one budget, fixed by the program, the number of tokens and the allowance, suffices for each book under every order of turns
+  pub finishes : Finishing prog → (number allowance : ℕ) → allowance < 65536
+      → (b : ℕ) × ((tokens answers : List ℕ) → Slice tokens → Slice answers → count tokens ≡ number → SufficesBytes prog table tokens answers allowance b)
 
 -- both books begin on the screen that `sst_screen_fresh` leaves
 abbrev pub FreshBegins : Type 0

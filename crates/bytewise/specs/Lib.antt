@@ -1,6 +1,9 @@
 pub mod ByteCalls
 pub mod AtEntries
+pub mod AtRefusal
 pub mod AtLoading
+pub mod AtBehind
 pub mod AtAdmission
 pub mod AtScreen
 pub mod AtFigure
+pub mod AtTable

@@ -7,8 +7,10 @@ use lib.ListN.{set, replicate}
 use Rattle.base.specs.Common.{if_then_else_}
 use Rattle.figures.specs.Figures.{bitsOf}
 use Rattle.figures.specs.Form as form
+use Rattle.figures.specs.Spans as spans
 use Rattle.counting.specs.declared.Report.{Report}
 use Rattle.counting.specs.declared.Told.{Told}
+use Rattle.counting.specs.declared.Total.{Total}
 use Rattle.walker.specs.Shape.{freshAt, withDepth, stepOf, goOf, Outcome}
 use Rattle.walker.specs.declared.Next.{Next}
 use Rattle.walker.specs.declared.Next.the-variants.{Full, Stop, On, Tells, Push, Waits}
@@ -57,3 +59,6 @@ gives r figures buffer = record { number = r .number; figures = figures; buffer 
 
 abbrev pub reports : Report → form.Report
 reports r = record { number = r .number; books = r .books; total = r .total; covered = r .covered; mean = r .mean; rest = r .rest }
+
+abbrev pub totals : Total → spans.Total
+totals r = record { number = r .number; total = r .total }

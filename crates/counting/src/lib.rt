@@ -3,16 +3,17 @@
 ghost use mathlib.Core.Bool.{true};
 ghost use mathlib.Core.Option.{none};
 ghost use mathlib.Core.Path.{_≡_};
-ghost use Prim.Native.Nat.{_+_, _*_, _-_, _/_, _%_, _<_, _≤_, _^_};
-ghost use lib.Dec.{eqb};
+ghost use Prim.Native.Nat.{_+_, _*_, _-_, _/_, _%_, _<_, _≤_, _^_, min};
+ghost use lib.Dec.{eqb, ltb};
 ghost use lib.ListN.{length, take, drop, getD};
 ghost use Rattle.base.specs.Common.{if_then_else_, same};
 ghost use Rattle.machine.specs.Bytes.{count, wordsOf, bytesOf};
 ghost use Rattle.figures.specs.Figures as sums;
 ghost use Rattle.figures.specs.Figures.{sum, bumps, bitsOf, packed};
+ghost use Rattle.figures.specs.Spans as spans;
 ghost use Rattle.figures.specs.Form as form;
 ghost use Rattle.figures.specs.Form.{numberAt, numbersAt, figuresNamed};
-ghost use Rattle.counting.specs.Counting.{bookVisits, bookOf, Inside, toldOf, numbersOf, pastOf, gives, reports};
+ghost use Rattle.counting.specs.Counting.{bookVisits, bookOf, Inside, toldOf, numbersOf, pastOf, gives, reports, totals};
 ghost use Rattle.walker.specs.Shape.{putEvent, numberOf};
 use machine::EVENT_WORDS;
 use walker::Event;
@@ -36,6 +37,9 @@ const TOTAL_NUMBER: usize = BOOKS_NUMBER + 1;
 const NUMBERS: usize = TOTAL_NUMBER + 1;
 
 const FIGURES_BYTES: usize = 2 * buffers::NUMBER_WORDS * NUMBERS;
+
+// A rule's row, as the map of a text's rules has it: three numbers.
+const ROW_BYTES: usize = 24;
 
 const GREATEST: u64 = 18446744073709551615;
 
@@ -412,4 +416,125 @@ pub fn shelf_report(figures: &[u8]) -> Report
         mean: mean_of(total, books),
         rest: rest_of(total, books),
     }
+}
+
+// Rule by rule
+
+// A number, and a total of executions.
+pub struct Total {
+    pub number: u16,
+    pub total: u64,
+}
+
+fn totalled(number: u16, total: u64) -> Total
+    ensures { λ r. ⌜ (r .number ≡ number) × (r .total ≡ total) ⌝ }
+{
+    Total { number, total }
+}
+
+// The index of the first count of a span, at most the number of counts.
+fn span_start(from: u64) -> usize
+    ensures { λ r. ⌜ r ≡ min (from - 1) 4096 ⌝ }
+{
+    if from == 0 {
+        return 0;
+    }
+    let i = from - 1;
+    if i < LOCATIONS as u64 {
+        i as usize
+    } else {
+        LOCATIONS
+    }
+}
+
+// How many counts it has.
+fn span_size(from: u64, to: u64, start: usize) -> usize
+    requires { ⌜ start ≤ 4096 ⌝ }
+    ensures { λ r. ⌜ r ≡ min (to - from) (4096 - start) ⌝ }
+{
+    if to <= from {
+        return 0;
+    }
+    let n = to - from;
+    let left = LOCATIONS - start;
+    if n < left as u64 { n as usize } else { left }
+}
+
+// The executions of the locations from `from` on, up to `to` and without it: no more than all of them.
+fn span(counts: &[u64], total: u64, from: u64, to: u64) -> u64
+    requires { ⌜ (length (now counts) ≡ 4096) × (sum (now counts) ≡ total) ⌝ }
+    ensures { λ r. ⌜ r ≡ spans.spanTotal from to (now (counts .entry)) ⌝ }
+{
+    let start = span_start(from);
+    let size = span_size(from, to, start);
+    let mut n: u64 = 0;
+    let mut k: usize = 0;
+    while k < size {
+        let c = counts[start + k];
+        n += c;
+        k += 1;
+    }
+    n
+}
+
+// The executions of one rule: its words begin at `from`, those of the next at `to`.
+pub fn rule_total(figures: &[u8], from: u64, to: u64) -> Total
+    ensures { λ r. ⌜ totals r ≡ spans.spanBytes (now (figures .entry)) from to ⌝ }
+{
+    if figures.len() != FIGURES_BYTES {
+        return totalled(base::REFUSED, 0);
+    }
+    let counts = counts_of(figures);
+    if !is_sound(figures, &counts) {
+        return totalled(base::REFUSED, 0);
+    }
+    let total = number_at(figures, TOTAL_NUMBER);
+    totalled(0, span(&counts, total, from, to))
+}
+
+// The location of row i of `rows`, of n in all; `end` behind the last.
+fn location(rows: &[u8], n: usize, i: usize, end: u64) -> u64
+    requires { ⌜ (24 * n ≤ length (now rows)) × (i ≤ n) ⌝ }
+    ensures { λ r. ⌜ r ≡ (if ltb i n then spans.locationAt (wordsOf (now (rows .entry))) i else end) ⌝ }
+{
+    if i < n {
+        number_at(rows, 3 * i + 2)
+    } else {
+        end
+    }
+}
+
+// The executions of n rules together, or 46.
+fn together(counts: &[u64], total: u64, rows: &[u8], n: usize, end: u64) -> Total
+    requires { ⌜ (length (now counts) ≡ 4096) × ((sum (now counts) ≡ total) × (24 * n ≤ length (now rows))) ⌝ }
+    ensures { λ r. ⌜ totals r ≡ spans.bounded (sum (spans.spanTotals (spans.locationsAt (wordsOf (now (rows .entry))) 0 n) end (now (counts .entry)))) ⌝ }
+{
+    let mut all: u64 = 0;
+    let mut i: usize = 0;
+    while i < n {
+        let from = location(rows, n, i, end);
+        let to = location(rows, n, i + 1, end);
+        let t = span(counts, total, from, to);
+        if GREATEST - all < t {
+            return totalled(base::PAST, 0);
+        }
+        all += t;
+        i += 1;
+    }
+    totalled(0, all)
+}
+
+// The executions of all rules together, by their rows; the last one's words end before `end`.
+pub fn rules_total(figures: &[u8], rows: &[u8], end: u64) -> Total
+    ensures { λ r. ⌜ totals r ≡ spans.togetherBytes (now (figures .entry)) (now (rows .entry)) end ⌝ }
+{
+    if figures.len() != FIGURES_BYTES {
+        return totalled(base::REFUSED, 0);
+    }
+    let counts = counts_of(figures);
+    if !is_sound(figures, &counts) {
+        return totalled(base::REFUSED, 0);
+    }
+    let total = number_at(figures, TOTAL_NUMBER);
+    together(&counts, total, rows, rows.len() / ROW_BYTES, end)
 }

@@ -3,6 +3,7 @@
 ghost use mathlib.Core.Path.{_≡_};
 ghost use Rattle.mapping.specs.Mapping as mapping;
 ghost use Rattle.figures.specs.Form as figuring;
+ghost use Rattle.figures.specs.Spans as spans;
 ghost use Rattle.desk.specs.Leaves.{adds, reports};
 
 // The map of a text's rules, on bytes and numbers alone.
@@ -55,5 +56,25 @@ pub extern "C" fn sst_shelf(
     *covered = r.covered;
     *mean = r.mean;
     *rest = r.rest;
+    r.number
+}
+
+// The executions of one rule, whose words begin at location `from` and those of the next at `to`.
+#[no_mangle]
+pub extern "C" fn sst_rule_total(figures: &[u8], from: u64, to: u64, total: &mut u64) -> u16
+    ensures { λ r. ⌜ spans.tells r (now (total .exit)) ≡ spans.spanBytes (now (figures .entry)) from to ⌝ }
+{
+    let r = counting::rule_total(figures, from, to);
+    *total = r.total;
+    r.number
+}
+
+// The executions of all rules together, by the rows of sst_rules; `end` is the location behind the table's last word.
+#[no_mangle]
+pub extern "C" fn sst_rules_total(figures: &[u8], rows: &[u8], end: u64, total: &mut u64) -> u16
+    ensures { λ r. ⌜ spans.tells r (now (total .exit)) ≡ spans.togetherBytes (now (figures .entry)) (now (rows .entry)) end ⌝ }
+{
+    let r = counting::rules_total(figures, rows, end);
+    *total = r.total;
     r.number
 }

@@ -22,9 +22,9 @@ use Rattle.program.specs.Program.{Rule}
 use Rattle.program.specs.Table.{place, table}
 use Rattle.figure.specs.Figure.{Reached, Bounds, Figure, Long}
 use Rattle.figure.specs.Count.{startsOf, mostFigure, figure}
-use Rattle.figure.specs.Promise.{RuleStart, rule-start, IsFigure, FigureExact, FigureEnough, BoundEnough, FigureLong, Settles, FigureSettles}
+use Rattle.figure.specs.Promise.{RuleStart, rule-start, IsFigure, FigureExact, FigureEnough, FigureSteps, BoundEnough, FigureLong, Settles, FigureSettles}
 use Rattle.figure.proofs.Counted.{Start, From, counted-bounds, counted-figure, counted-small, counted-long}
-use Rattle.figure.proofs.Enough.{enough}
+use Rattle.figure.proofs.Enough.{enough, steps}
 use Rattle.figure.proofs.Spots.{reached-rule}
 
 -- one figure at most
@@ -132,6 +132,9 @@ bound-enough prog a f q b = enough prog a f q b
 
 pub figure-enough : FigureEnough
 figure-enough prog a f q e = enough prog a f q (bounds-of prog a q e)
+
+pub figure-steps : FigureSteps
+figure-steps prog a f q e = steps prog a f q (bounds-of prog a q e)
 
 pub figure-long : FigureLong
 figure-long prog a e = is-long prog a e

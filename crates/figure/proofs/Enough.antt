@@ -9,8 +9,7 @@ use Rattle.agreement.proofs.Agree.{agree-stop, never-outside}
 use Rattle.agreement.proofs.BoundWalk.{finishes}
 use Rattle.agreement.proofs.Lists.{going-stopped}
 use Rattle.agreement.proofs.Single.{runs}
-use Rattle.agreement.proofs.Theorem.{over-stops, suffices}
-use Rattle.agreement.specs.Demand.{Suffices}
+use Rattle.agreement.proofs.Theorem.{over-stops, suffices, steps-below}
 use Rattle.events.specs.Events.{Reason, outside}
 use Rattle.finishing.specs.Finishing.{Finishing}
 use Rattle.machine.specs.Walk.{stopped, Walk, fresh}
@@ -18,7 +17,7 @@ use Rattle.program.specs.Accepted.{Accepted}
 use Rattle.program.specs.Program.{Rule}
 use Rattle.program.specs.Table.{table}
 use Rattle.figure.specs.Figure.{Bounds}
-use Rattle.figure.specs.Promise.{RuleStart, EnoughFor}
+use Rattle.figure.specs.Promise.{RuleStart, EnoughFor, StepsFor}
 use Rattle.figure.proofs.Frames.{Called}
 use Rattle.figure.proofs.More.{same-run}
 use Rattle.figure.proofs.Needs.{needs}
@@ -38,21 +37,41 @@ module _ (prog : List Rule) (a : Accepted prog) where
   called : {s : ℕ} → Called (table prog) s → RuleStart prog s
   called {s} c = called-rule prog [] a (rw (append-nil (table prog)) c)
 
+  -- single steps stop, fewer than b of them
+  record InTime (more tokens answers : List ℕ) (allowance b : ℕ) : Type 0 where
+    steps : ℕ
+    reason : Reason
+    few : steps < b
+    stop : runs (table prog ++ more) tokens answers steps (fresh allowance) .phase ≡ stopped reason
+
   -- a walk that stops, and not with 37, stops in time
   from-stop : (q : ℕ) → Bounds (table prog) (RuleStart prog) q → (more tokens answers : List ℕ) (allowance k : ℕ) (r : Reason) → (r ≡ outside → ⊥)
       → runs (table prog ++ []) tokens answers k (fresh allowance) .phase ≡ stopped r
-      → Suffices prog (table prog ++ more) tokens answers allowance (65 * q * (length tokens + allowance + 1))
+      → InTime more tokens answers allowance (65 * q * (length tokens + allowance + 1))
   from-stop q b more tokens answers allowance k r inside e =
       let z : runs (table prog) tokens answers k (fresh allowance) .phase ≡ stopped r = rw (append-nil (table prog)) at e in
       let n = needs (table prog) tokens answers q (record { most = λ c. b .most (called c) }) allowance k r z inside in
-      let s : runs (table prog ++ more) tokens answers (n .steps) (fresh allowance) .phase ≡ stopped r =
-      ap (λ (w : Walk). w .phase) (same-run (table prog) more tokens answers (n .steps) (fresh allowance) r (n .stop) inside) ∙ n .stop in
-      suffices prog more tokens answers allowance a (n .steps) (65 * q * (length tokens + allowance + 1)) r
-      (less (n .steps) q (length tokens + allowance) (some-step (table prog) tokens answers allowance (n .steps) r (n .stop)) (n .few)) s
+      record {
+        steps = n .steps;
+        reason = r;
+        few = less (n .steps) q (length tokens + allowance) (some-step (table prog) tokens answers allowance (n .steps) r (n .stop)) (n .few);
+        stop = ap (λ (w : Walk). w .phase) (same-run (table prog) more tokens answers (n .steps) (fresh allowance) r (n .stop) inside) ∙ n .stop;
+      }
 
-  pub enough : Finishing prog → (q : ℕ) → Bounds (table prog) (RuleStart prog) q → EnoughFor prog q
-  enough f q b more tokens answers allowance =
+  in-time : Finishing prog → (q : ℕ) → Bounds (table prog) (RuleStart prog) q → (more tokens answers : List ℕ) (allowance : ℕ)
+      → InTime more tokens answers allowance (65 * q * (length tokens + allowance + 1))
+  in-time f q b more tokens answers allowance =
       let o = finishes prog tokens answers allowance a f in
       let x = agree-stop prog [] tokens answers allowance a (o .0) in
       let y = over-stops (o .2) (x .2) in
       from-stop q b more tokens answers allowance (x .0) (y .0) (λ e. never-outside (x .2) (y .1 ∙ ap stopped e)) (y .1)
+
+  pub enough : Finishing prog → (q : ℕ) → Bounds (table prog) (RuleStart prog) q → EnoughFor prog q
+  enough f q b more tokens answers allowance =
+      let t = in-time f q b more tokens answers allowance in
+      suffices prog more tokens answers allowance a (t .steps) (65 * q * (length tokens + allowance + 1)) (t .reason) (t .few) (t .stop)
+
+  pub steps : Finishing prog → (q : ℕ) → Bounds (table prog) (RuleStart prog) q → StepsFor prog q
+  steps f q b more tokens answers allowance =
+      let t = in-time f q b more tokens answers allowance in
+      steps-below prog more tokens answers allowance a (t .steps) (65 * q * (length tokens + allowance + 1)) (t .reason) (t .few) (t .stop)

@@ -39,7 +39,7 @@ fetch-within T more zero h = refl
 fetch-within T more (suc i) h = element-within T more i (omega arith)
 
 -- out of the shorter table, or the same
-data Alike : Next → Next → Type 0 where
+pub data Alike : Next → Next → Type 0 where
   alike-out : {n : Next} → Alike goesOutside n
   alike : {n : Next} → Alike n n
 
@@ -164,7 +164,7 @@ module _ (T more : List ℕ) where
     by-decode i j w alike-none = alike-out
     by-decode i j w alike-at = exec-alike i w
 
-    step-alike : (w : Walk) → Alike (step T tokens w) (step (T ++ more) tokens w)
+    pub step-alike : (w : Walk) → Alike (step T tokens w) (step (T ++ more) tokens w)
     unfolding step
     step-alike w = by-decode (decode T (w .location)) (decode (T ++ more) (w .location)) w (decode-alike (w .location))
 

@@ -4,7 +4,7 @@ use mathlib.Core.Option.{none, some}
 use mathlib.Core.Path.{_≡_}
 use Prim.Native.Nat.{ℕ, suc, _+_, _*_, _≤_, _<_}
 use lib.ListN.{length}
-use Rattle.agreement.specs.Demand.{Suffices}
+use Rattle.agreement.specs.Demand.{Suffices, StepsBelow}
 use Rattle.finishing.specs.Finishing.{Finishing}
 use Rattle.program.specs.Accepted.{Accepted}
 use Rattle.program.specs.Program.{Rule}
@@ -34,6 +34,15 @@ EnoughFor prog q =
 
 abbrev pub FigureEnough : Type 0
 FigureEnough = (prog : List Rule) → Accepted prog → Finishing prog → (q : ℕ) → figure prog ≡ some q → EnoughFor prog q
+
+-- the same as a bound: no list of calls does so many steps in all, whether its walk goes on, waits or has stopped
+abbrev pub StepsFor : List Rule → ℕ → Type 0
+StepsFor prog q =
+    (more tokens answers : List ℕ) (allowance : ℕ)
+    → StepsBelow (table prog ++ more) tokens answers allowance (65 * q * (length tokens + allowance + 1))
+
+abbrev pub FigureSteps : Type 0
+FigureSteps = (prog : List Rule) → Accepted prog → Finishing prog → (q : ℕ) → figure prog ≡ some q → StepsFor prog q
 
 -- so of every number that bounds the quiet paths
 abbrev pub BoundEnough : Type 0

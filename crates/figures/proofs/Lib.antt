@@ -4,3 +4,4 @@ pub mod Bits
 pub mod Shelves
 pub mod Form
 pub mod Facts
+pub mod Spans

@@ -3,3 +3,4 @@ pub mod Figures
 pub mod ByRule
 pub mod Shelf
 pub mod Form
+pub mod Spans

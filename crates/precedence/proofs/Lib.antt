@@ -2,3 +2,4 @@
 pub mod Nested
 pub mod Levels
 pub mod Places
+pub mod Facts

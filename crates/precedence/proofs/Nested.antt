@@ -102,7 +102,7 @@ labelled-by none c os = refl
 labelled-by (some t) c os = labelled-is t c os
 
 module _ (prog : List Rule) (tokens answers : List ℕ) where
-  abbrev Led : Own → Own → Type 0
+  abbrev pub Led : Own → Own → Type 0
   Led s s′ = Leads prog tokens answers s s′
 
   then-leads : {s s′ s″ : Own} → Led s s′ → Led s′ s″ → Led s s″
@@ -111,7 +111,7 @@ module _ (prog : List Rule) (tokens answers : List ℕ) where
 
   -- Single steps
 
-  calls : (r : ℕ) (q : Acts) (k : List Context) (ps : List Pending) (io : Io) (s : Own) → length ps < 64 → Led (on (bodyOf prog r) [] (before q k ∷ ps) io) s → Led (on (plain (call r) ▸ q) k ps io) s
+  pub calls : (r : ℕ) (q : Acts) (k : List Context) (ps : List Pending) (io : Io) (s : Own) → length ps < 64 → Led (on (bodyOf prog r) [] (before q k ∷ ps) io) s → Led (on (plain (call r) ▸ q) k ps io) s
   unfolding own ownPlain entered
   calls r q k ps io s l h = let y : Led (own prog tokens answers (on (plain (call r) ▸ q) k ps io)) s = rw (lt-ltb (length ps) 64 l) h in step y
 
@@ -227,50 +227,50 @@ module _ (prog : List Rule) (tokens answers : List ℕ) where
   mutual
     unfolding tokensOf told depthOf Operands Stand Apart Clear lowest first wrote Leftmost ClearAbove Reached
 
-    passes-sum : {ls : List Level} (x r d : ℕ) → Stand prog x r ls → Apart ls → (e : Sum ls) → Operands prog tokens answers d r e → (io : Io) (rest : List ℕ)
+    passes-sum : {ls : List Level} (x r d : ℕ) → Stand prog x r ls → Apart ls → (e : Sum ls) (io : Io) → Operands prog tokens answers d r e io → (rest : List ℕ)
         → drop (io .read) tokens ≡ tokensOf e ++ rest → Clear ls (first rest) → Passed (depthOf d e) (lowest x r ls) io (told e io)
-    passes-sum x r d st pt (operand y) op io rest a c = op .passes io rest a
-    passes-sum x r d st pt (only {l} {ls} e) op io rest a c =
+    passes-sum x r d st pt (operand y) io op rest a c = op .passes
+    passes-sum x r d st pt (only {l} {ls} e) io op rest a c =
         only-passes (l .right) l x (higherOf x r ls) (depthOf d e) io (told e io) rest refl (st .0)
-        (rw (higher-is x r ls) at (passes-sum (suc x) r d (st .1) (pt .1) e op io rest a (c .1))) (told-past e io tokens rest a) (c .0)
-    passes-sum x r d st pt (leftward {l} {ls} t v s e f g) op io rest a c =
+        (rw (higher-is x r ls) at (passes-sum (suc x) r d (st .1) (pt .1) e io op rest a (c .1))) (told-past e io tokens rest a) (c .0)
+    passes-sum x r d st pt (leftward {l} {ls} t v s e f g) io op rest a c =
         let a₁ : drop (io .read) tokens ≡ tokensOf f ++ (t ∷ (tokensOf g ++ rest)) = a ∙ append-assoc (tokensOf f) (t ∷ tokensOf g) rest in
         let a₂ = told-past f io tokens (t ∷ (tokensOf g ++ rest)) a₁ in
         let a₃ = took-past (told f io) tokens t (tokensOf g ++ rest) a₂ in
-        let p = rw (higher-is x r ls) at (passes-sum (suc x) r d (st .1) (pt .1) g (op .1) (took (told f io)) rest a₃ (c .1)) in
+        let p = rw (higher-is x r ls) at (passes-sum (suc x) r d (st .1) (pt .1) g (took (told f io)) (rw (told-is f io) (op .1)) rest a₃ (c .1)) in
         left-passes x (higherOf x r ls) (l .operators) (max (depthOf d f) (suc (depthOf d g))) io (wrote (output v) (told g (took (told f io)))) rest (rw s at (st .0)) (omega arith)
         (λ P k. reach-left x (higherOf x r ls) (l .operators) (depthOf d g) t v io (told f io) (told g (took (told f io))) (tokensOf g ++ rest) P
-        (reach-sum x r d s st pt f (op .0) io (t ∷ (tokensOf g ++ rest)) a₁ (pt .0 t v e) P (omega arith)) a₂ e p (omega arith))
+        (reach-sum x r d s st pt f io (op .0) (t ∷ (tokensOf g ++ rest)) a₁ (pt .0 t v e) P (omega arith)) a₂ e p (omega arith))
         (told-past g (took (told f io)) tokens rest a₃) (c .0)
-    passes-sum x r d st pt (rightward {l} {ls} t v s e f g) op io rest a c =
+    passes-sum x r d st pt (rightward {l} {ls} t v s e f g) io op rest a c =
         let a₁ : drop (io .read) tokens ≡ tokensOf f ++ (t ∷ (tokensOf g ++ rest)) = a ∙ append-assoc (tokensOf f) (t ∷ tokensOf g) rest in
         let a₂ = told-past f io tokens (t ∷ (tokensOf g ++ rest)) a₁ in
         let a₃ = took-past (told f io) tokens t (tokensOf g ++ rest) a₂ in
         right-takes x (higherOf x r ls) (l .operators) (depthOf d f) (depthOf d g) t v io (told f io) (told g (took (told f io))) (tokensOf g ++ rest) (rw s at (st .0))
-        (rw (higher-is x r ls) at (passes-sum (suc x) r d (st .1) (pt .1) f (op .0) io (t ∷ (tokensOf g ++ rest)) a₁ (pt .0 t v e))) a₂ e
-        (passes-sum x r d st pt g (op .1) (took (told f io)) rest a₃ c)
+        (rw (higher-is x r ls) at (passes-sum (suc x) r d (st .1) (pt .1) f io (op .0) (t ∷ (tokensOf g ++ rest)) a₁ (pt .0 t v e))) a₂ e
+        (passes-sum x r d st pt g (took (told f io)) (rw (told-is f io) (op .1)) rest a₃ c)
 
     -- a left level's rule comes to its cycle behind a sum of its own level
-    reach-sum : {ms : List Level} (x r d : ℕ) → Leftmost ms → Stand prog x r ms → Apart ms → (e : Sum ms) → Operands prog tokens answers d r e
-        → (io : Io) (rest : List ℕ) → drop (io .read) tokens ≡ tokensOf e ++ rest → ClearAbove ms (first rest) → (P : List Pending) → length P + depthOf d e ≤ 65
+    reach-sum : {ms : List Level} (x r d : ℕ) → Leftmost ms → Stand prog x r ms → Apart ms → (e : Sum ms) (io : Io) → Operands prog tokens answers d r e io
+        → (rest : List ℕ) → drop (io .read) tokens ≡ tokensOf e ++ rest → ClearAbove ms (first rest) → (P : List Pending) → length P + depthOf d e ≤ 65
         → Reached x r ms P io (told e io)
-    reach-sum x r d b st pt (operand y) op io rest a c P k = tt
-    reach-sum x r d b st pt (only {l} {ls} f) op io rest a c P k =
+    reach-sum x r d b st pt (operand y) io op rest a c P k = tt
+    reach-sum x r d b st pt (only {l} {ls} f) io op rest a c P k =
         reach-only x (higherOf x r ls) (l .operators) (depthOf d f) io (told f io)
-        (rw (higher-is x r ls) at (passes-sum (suc x) r d (st .1) (pt .1) f op io rest a c)) P (omega arith)
-    reach-sum x r d b st pt (leftward {l} {ls} t v s e f g) op io rest a c P k =
+        (rw (higher-is x r ls) at (passes-sum (suc x) r d (st .1) (pt .1) f io op rest a c)) P (omega arith)
+    reach-sum x r d b st pt (leftward {l} {ls} t v s e f g) io op rest a c P k =
         let a₁ : drop (io .read) tokens ≡ tokensOf f ++ (t ∷ (tokensOf g ++ rest)) = a ∙ append-assoc (tokensOf f) (t ∷ tokensOf g) rest in
         let a₂ = told-past f io tokens (t ∷ (tokensOf g ++ rest)) a₁ in
         let a₃ = took-past (told f io) tokens t (tokensOf g ++ rest) a₂ in
-        let p = rw (higher-is x r ls) at (passes-sum (suc x) r d (st .1) (pt .1) g (op .1) (took (told f io)) rest a₃ c) in
+        let p = rw (higher-is x r ls) at (passes-sum (suc x) r d (st .1) (pt .1) g (took (told f io)) (rw (told-is f io) (op .1)) rest a₃ c) in
         reach-left x (higherOf x r ls) (l .operators) (depthOf d g) t v io (told f io) (told g (took (told f io))) (tokensOf g ++ rest) P
-        (reach-sum x r d b st pt f (op .0) io (t ∷ (tokensOf g ++ rest)) a₁ (pt .0 t v e) P (omega arith)) a₂ e p (omega arith)
-    reach-sum x r d b st pt (rightward {l} {ls} t v s e f g) op io rest a c P k = no-side (l .right) b s
+        (reach-sum x r d b st pt f io (op .0) (t ∷ (tokensOf g ++ rest)) a₁ (pt .0 t v e) P (omega arith)) a₂ e p (omega arith)
+    reach-sum x r d b st pt (rightward {l} {ls} t v s e f g) io op rest a c P k = no-side (l .right) b s
 
   -- "It holds for any number of levels by one argument."
   pub postfix : (ls : List Level) → Postfix prog tokens answers ls
   unfolding Postfix
-  postfix ls x r d st pt e op io rest a c = rw (told-is e io) at (passes-sum x r d st pt e op io rest a c)
+  postfix ls x r d st pt e io op rest a c = rw (told-is e io) at (passes-sum x r d st pt e io op rest a c)
 
   -- as a number of steps
   pub leads-owns : {s s′ : Own} → Led s s′ → (n : ℕ) × (owns prog tokens answers n s ≡ s′)

@@ -9,7 +9,7 @@ use lib.Dec.{eqb}
 use lib.ListN.{length, drop}
 use Rattle.base.specs.Common.{if_then_else_}
 use Rattle.base.specs.Tree.{plain, _▸_}
-use Rattle.events.specs.Events.{Event, output, Io}
+use Rattle.events.specs.Events.{Event, output, Io, took}
 use Rattle.ownwalk.specs.OwnWalk.{Context, Pending, Own, on, own}
 use Rattle.program.specs.Made.{Operator, Level, levelBody, higherOf}
 use Rattle.program.specs.Program.{call, Acts, Rule, bodyOf}
@@ -108,20 +108,22 @@ module _ (prog : List Rule) (tokens answers : List ℕ) where
   pub record Passes (d r : ℕ) (io io′ : Io) : Type 0 where
     pub leads : (q : Acts) (k : List Context) (ps : List Pending) → length ps + d ≤ 64 → Leads (on (plain (call r) ▸ q) k ps io) (on q k ps io′)
 
-  -- rule r reads this operand wherever it stands
-  pub record Reads (d r : ℕ) (x : Operand) : Type 0 where
-    pub passes : (io : Io) (rest : List ℕ) → drop (io .read) tokens ≡ x .tokens ++ rest → Passes d r io (after (x .tokens) (x .events) (x .answers) io)
+  -- rule r, called where so much is read and written, reads this operand. The tokens behind it and the answers still to come are given with io, so an
+  -- operand may use answers and may end where the next token ends it
+  pub record Reads (d r : ℕ) (x : Operand) (io : Io) : Type 0 where
+    pub passes : Passes d r io (after (x .tokens) (x .events) (x .answers) io)
 
-  unfoldable pub Operands : {ls : List Level} → ℕ → ℕ → Sum ls → Type 0
-  Operands d r (operand x) = Reads d r x
-  Operands d r (only a) = Operands d r a
-  Operands d r (leftward t v s e a b) = Operands d r a × Operands d r b
-  Operands d r (rightward t v s e a b) = Operands d r a × Operands d r b
+  -- each operand of a sum is read where it stands: the first where the sum begins, one behind an operator past that token
+  unfoldable pub Operands : {ls : List Level} → ℕ → ℕ → Sum ls → Io → Type 0
+  Operands d r (operand x) io = Reads d r x io
+  Operands d r (only a) io = Operands d r a io
+  Operands d r (leftward t v s e a b) io = Operands d r a io × Operands d r b (took (after (tokensOf a) (eventsOf a) (answersOf a) io))
+  Operands d r (rightward t v s e a b) io = Operands d r a io × Operands d r b (took (after (tokensOf a) (eventsOf a) (answersOf a) io))
 
   -- The claim, for any number of levels: where the rules of a pair stand, a sum followed by no operator of these levels is read whole, and what is
   -- written is its postfix form.
   unfoldable pub Postfix : List Level → Type 0
   Postfix ls =
-      (own r d : ℕ) → Stand prog own r ls → Apart ls → (e : Sum ls) → Operands d r e
-      → (io : Io) (rest : List ℕ) → drop (io .read) tokens ≡ tokensOf e ++ rest → Clear ls (first rest)
+      (own r d : ℕ) → Stand prog own r ls → Apart ls → (e : Sum ls) (io : Io) → Operands d r e io
+      → (rest : List ℕ) → drop (io .read) tokens ≡ tokensOf e ++ rest → Clear ls (first rest)
       → Passes (depthOf d e) (lowest own r ls) io (after (tokensOf e) (eventsOf e) (answersOf e) io)

@@ -4,16 +4,18 @@ use mathlib.Core.List.{List, _∷_}
 use mathlib.Core.Logic.{_⊎_, inl, inr}
 use mathlib.Core.Option.{Option, none, some}
 use mathlib.Core.Path.{_≡_, refl, sym, ap, _∙_}
-use Prim.Native.Nat.{ℕ, zero, suc, _+_, _<_, _≤_}
+use Prim.Native.Nat.{ℕ, zero, suc, _+_, _-_, _<_, _≤_}
 use native.Mathlib.Decide.{decLe}
 use native.Mathlib.Omega.{arith}
-use lib.Dec.{eqb}
-use lib.ListN.{length}
-use borrow.Author.Tests.{eqb-true, eqb-false, not-true}
+use lib.Dec.{eqb, leb}
+use lib.ListN.{length, getD}
+use borrow.Author.Tests.{eqb-true, eqb-false, leb-true, not-true}
 use Rattle.base.proofs.Laws.{above-zero}
 use Rattle.base.specs.Bools.{never, and, both, split}
 use Rattle.base.specs.Common.{if_then_else_, member}
-use Rattle.machine.specs.Decode.{decode}
+use Rattle.machine.proofs.Decoded.{of-operation, of-one, of-two, of-word}
+use Rattle.machine.specs.Decode.{fetch, Instruction, decodeTwo, decodeOne, decodeAt, decode}
+use Rattle.machine.specs.Lengths.{lengths, lengthOf}
 use Rattle.loading.proofs.Files.{loads-exactly}
 use Rattle.loading.specs.Reach.{Taken}
 use Rattle.rights.specs.Promise.{AdmitsExactly, Denied, NamesLowest, LargerAdmits, LoadedAnswers}
@@ -112,16 +114,53 @@ module _ (T set : List ℕ) where
 pub admits-exactly : (T set : List ℕ) → AdmitsExactly T set
 admits-exactly T set = record { only-these = admit-Admitted T set; all-these = Admitted-admit T set }
 
+-- "above 1,279": no operation has a greater number
+one-word : (i : ℕ) → lengthOf i ≡ 1 → i < 1280
+unfolding lengthOf
+one-word i e = go (leb 1 i && leb i 13) (leb 256 i && leb i 1279) refl refl e
+  where
+    go : (a b : Bool) → (leb 1 i && leb i 13) ≡ a → (leb 256 i && leb i 1279) ≡ b → (if a then getD lengths (i - 1) 0 else if b then 1 else 0) ≡ 1 → i < 1280
+    go true b x y d = omega (arith, leb-true i 13 (and (leb 1 i) (leb i 13) x .1))
+    go false true x y d = omega (arith, leb-true i 1279 (and (leb 256 i) (leb i 1279) y .1))
+    go false false x y d = absurd (omega arith)
+
+Small : Instruction → Type 0
+Small x = (op : ℕ) → operationOf x ≡ some op → op < 1280
+
+no-operation {ℓ} : {A : Type ℓ} {op : ℕ} → none ≡ some op → A
+no-operation e = let z : _≡_ {A = ℕ} 0 1 = cc in absurd (omega arith)
+
+this-operation : {i : ℕ} → i < 1280 → (op : ℕ) → some i ≡ some op → op < 1280
+this-operation {i} h op e = let d : i ≡ op = cc in omega arith
+
+small-decoded : (T : List ℕ) (l : ℕ) → Small (decode T l)
+unfolding decode decodeAt Small operationOf
+small-decoded T l = go (fetch T l)
+  where
+    one : (i : ℕ) → i < 1280 → Small (decodeOne i)
+    one i h =
+        of-one Small i (λ _ op e. no-operation e) (λ _ op e. no-operation e) (λ _ op e. no-operation e)
+        (of-operation Small i (λ _. this-operation h) (λ _. this-operation h) (λ _. this-operation h) (λ _. this-operation h))
+
+    two : (i x : ℕ) → Small (decodeTwo l i x)
+    two i x =
+        of-two Small l i x (λ _ m op e. no-operation e) (λ _ m op e. no-operation e) (λ _ op e. no-operation e) (λ _ op e. no-operation e) (λ _ op e. no-operation e)
+        (λ _ c _ op e. no-operation e) (λ _ op e. no-operation e) (λ _ op e. no-operation e) (λ _ c _ op e. no-operation e) (λ op e. no-operation e)
+
+    go : (o : Option ℕ) → Small (decodeAt l o (fetch T (suc l)))
+    go none = λ op e. no-operation e
+    go (some i) = of-word Small l i (fetch T (suc l)) (λ op e. no-operation e) (λ e. one i (one-word i e)) (λ x _. two i x)
+
 -- "Enlarging a set never turns away a table that was admitted."
 pub larger-admits : LargerAdmits
-unfolding right allows
+unfolding right allows Small
 larger-admits T set larger f e =
     let h = admit-Admitted T set e in
-    ap (λ (v : Admission). v .number) (Admitted-admit T larger (h .0) (λ l r. go (operationOf (decode T l)) (h .1 l r)))
+    ap (λ (v : Admission). v .number) (Admitted-admit T larger (h .0) (λ l r. go (operationOf (decode T l)) (small-decoded T l) (h .1 l r)))
   where
-    go : (o : Option ℕ) → allows set o ≡ true → allows larger o ≡ true
-    go none d = d
-    go (some op) d = f op d
+    go : (o : Option ℕ) → ((op : ℕ) → o ≡ some op → op < 1280) → allows set o ≡ true → allows larger o ≡ true
+    go none s d = d
+    go (some op) s d = f op (s op refl) d
 
 -- "naming the lowest such location"
 pub names-lowest : NamesLowest

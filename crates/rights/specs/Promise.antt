@@ -3,7 +3,7 @@ use mathlib.Core.Bool.{true, false}
 use mathlib.Core.List.{List}
 use mathlib.Core.Logic.{_⊎_}
 use mathlib.Core.Path.{_≡_}
-use Prim.Native.Nat.{ℕ, _≤_}
+use Prim.Native.Nat.{ℕ, _<_, _≤_}
 use Rattle.loading.specs.File.{done, load}
 use Rattle.loading.specs.Reach.{Reachable, Taken}
 use Rattle.rights.specs.Rights.{granted, right, Admitted, says, admit, admitLoaded}
@@ -23,9 +23,9 @@ pub record Denied (T set : List ℕ) (l : ℕ) : Type 0 where
 abbrev pub NamesLowest : Type 0
 NamesLowest = (T set : List ℕ) (l : ℕ) → admit T set ≡ says 48 l → Denied T set l
 
--- every operation of the one set is in the other, whatever their bytes
+-- every operation of the one set is in the other, whatever bits their bytes have for numbers past 1,279, which no operation has
 abbrev pub Larger : List ℕ → List ℕ → Type 0
-Larger set larger = (op : ℕ) → granted set op ≡ true → granted larger op ≡ true
+Larger set larger = (op : ℕ) → op < 1280 → granted set op ≡ true → granted larger op ≡ true
 
 -- "Enlarging a set never turns away a table that was admitted."
 abbrev pub LargerAdmits : Type 0

@@ -107,7 +107,7 @@ pub record Stands (T : List ℕ) (w : Walk) : Type 0 where
 
 module _ (T tokens : List ℕ) (good : Taken T) where
   -- what a step may give
-  unfoldable Fine : Next → Type 0
+  unfoldable pub Fine : Next → Type 0
   Fine goesOutside = ⊥
   Fine (stops r) = r ≡ outside → ⊥
   Fine (goes v) = Stands T v
@@ -219,23 +219,23 @@ module _ (T tokens : List ℕ) (good : Taken T) where
   exec-fine (choose op) w s b wr f o = (record { at = f (w .location + 1) (member-head (w .location + 1) []); back = s .back; events = s .events; live = s .live }, of-operation (s .at) (o op refl))
   exec-fine (chooseWith op) w s b wr f o = (record { at = f (w .location + 1) (member-head (w .location + 1) []); back = s .back; events = s .events; live = s .live }, of-operationWith (s .at) (o op refl))
 
-  step-fine : (w : Walk) → Stands T w → Fine (step T tokens w)
+  pub step-fine : (w : Walk) → Stands T w → Fine (step T tokens w)
   unfolding step gives37 ways
   step-fine w s =
       exec-fine (decode T (w .location)) w s (good (w .location) (s .at)) (writes T (w .location)) (λ m h. way T (s .at) h) (λ op e. e)
 
   -- Calls
 
-  record Right (c : Called) : Type 0 where
-    number : c .number ≡ 37 → ⊥
-    walk : Stands T (c .walk)
-    events : Sources T (c .events)
+  pub record Right (c : Called) : Type 0 where
+    pub number : c .number ≡ 37 → ⊥
+    pub walk : Stands T (c .walk)
+    pub events : Sources T (c .events)
 
-  unfoldable Turned : Turn → Type 0
+  unfoldable pub Turned : Turn → Type 0
   Turned (over c) = Right c
   Turned (further room v) = Stands T v
 
-  rests : {w : Walk} → Stands T w → Stands T (atRest w)
+  pub rests : {w : Walk} → Stands T w → Stands T (atRest w)
   unfolding Walk.opened
   rests {w} s = record { at = s .at; back = back-drop (length (w .returns) - 64) (s .back); events = no-events; live = s .live }
 
@@ -246,7 +246,7 @@ module _ (T tokens : List ℕ) (good : Taken T) where
   not-outside : {p : Phase} → going ≡ p → p ≡ stopped outside → ⊥
   not-outside e q = let z : _≡_ {A = ℕ} 0 1 = cc in omega arith
 
-  takes-answer : {v : Walk} (x : ℕ) → Stands T v → Stands T (withAnswer x v)
+  pub takes-answer : {v : Walk} (x : ℕ) → Stands T v → Stands T (withAnswer x v)
   unfolding Walk.opened Events.opened
   takes-answer x s = record { at = s .at; back = s .back; events = s .events; live = not-outside refl }
 
@@ -279,7 +279,7 @@ module _ (T tokens : List ℕ) (good : Taken T) where
       ends-right 22 n (inPhase waiting w) (λ e. omega arith)
       (record { at = s .at; back = s .back; events = s .events; live = λ e. let z : _≡_ {A = ℕ} 0 1 = cc in omega arith })
 
-  turn-right : (m : Mode) (room n : ℕ) (w : Walk) (x : Next) → Stands T w → Fine x → Turned (turn m room n w x)
+  pub turn-right : (m : Mode) (room n : ℕ) (w : Walk) (x : Next) → Stands T w → Fine x → Turned (turn m room n w x)
   unfolding turn Turned Fine handsOut takes
   turn-right m room n w goesOutside s f = absurd f
   turn-right m room n w (stops r) s f = endsFor-right r (n + 1) w f s

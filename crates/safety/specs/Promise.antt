@@ -27,6 +27,14 @@ abbrev pub LoadedNever37 : Type 0
 LoadedNever37 =
     (file : List ℕ) (room : ℕ) (ws : List ℕ) (verdict : ℕ) (more : List ℕ) → load file room ≡ done ws verdict → Never37 (ws ++ more)
 
+-- what stands behind a taken table, in the lent buffer, changes nothing: a list of calls leads to the same walk, events, steps and numbers with it and without it
+pub record SameBehind (T more tokens answers : List ℕ) (allowance : ℕ) : Type 0 where
+  pub with-more : {w : Walk} {es : List Event} {n : ℕ} {ns : List ℕ} → Listed T tokens answers allowance w es n ns → Listed (T ++ more) tokens answers allowance w es n ns
+  pub without : {w : Walk} {es : List Event} {n : ℕ} {ns : List ℕ} → Listed (T ++ more) tokens answers allowance w es n ns → Listed T tokens answers allowance w es n ns
+
+abbrev pub BehindNothing : Type 0
+BehindNothing = (T more : List ℕ) → Taken T → (tokens answers : List ℕ) (allowance : ℕ) → SameBehind T more tokens answers allowance
+
 -- "What the processor writes for an accepted program is taken"
 abbrev pub WrittenTaken : Type 0
 WrittenTaken = (text : List ℕ) (room : ℕ) (words : List ℕ) (verdict : Bool) → process text room ≡ accepted words verdict → Taken words

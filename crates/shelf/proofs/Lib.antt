@@ -1,3 +1,4 @@
 pub mod Theorem
 pub mod Books
 pub mod Rows
+pub mod TwoWays

@@ -1,3 +1,4 @@
 pub mod ByText
 pub mod Books
 pub mod ByRows
+pub mod TwoWays

@@ -4,3 +4,4 @@ pub mod Ends
 pub mod Steps
 pub mod Passes
 pub mod Zero
+pub mod Shown

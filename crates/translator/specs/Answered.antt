@@ -4,11 +4,12 @@ use mathlib.Core.List.{List}
 use mathlib.Core.Path.{_≡_}
 use Prim.Native.Nat.{ℕ, _*_, _≤_}
 use lib.ListN.{length, take, drop}
+use Rattle.acceptance.specs.Shown.{Shows}
 use Rattle.figure.specs.Told.{Told, untold}
 use Rattle.frontend.specs.Resolving.{Ready}
 use Rattle.machine.specs.Bytes.{count}
 use Rattle.processor.specs.Process as means
-use Rattle.processor.specs.Process.{accepted, refused, meaning, understood, answerFor, lentBytes}
+use Rattle.processor.specs.Process.{Part, accepted, refused, meaning, understood, answerFor, lentBytes}
 use Rattle.program.specs.Program.{Rule}
 use Rattle.translator.specs.Measured.{Tabled}
 use Rattle.translator.specs.declared.Answer.{Answer}
@@ -45,6 +46,12 @@ pub record Translates (text old new places : List ℕ) (r : Answer) (rules : ℕ
 -- "The word at fault is handed back as a part of the author's text"
 unfoldable pub faultWord : List ℕ → Answer → List ℕ
 faultWord text r = take (r .len) (drop (r .start) text)
+
+-- of the code's answer for a text that is refused it is a word of the text, the one that the number shows; or nothing, for over-long text and 20
+abbrev pub FaultShown : Type 0
+FaultShown =
+    (text : List ℕ) (room number : ℕ) (at : Part) (f : Told) → means.process text room ≡ refused number at
+    → Shows text number (faultWord text (answered (refused number at) f))
 
 -- all of this file computes where this is unfolded
 unfoldable pub opened : Unit {0}
