@@ -8,15 +8,16 @@ use Prim.Native.Nat.{ℕ, _^_, _<_}
 use lib.ListN.{length}
 use Rattle.agreement.specs.Demand
 use Rattle.agreement.specs.Demand.{Listed, begin, then-call}
+use Rattle.agreement.specs.Pauses.{Row, first, next, joined}
 use Rattle.events.specs.Events
 use Rattle.events.specs.Events.{Event, output, operation, finished}
 use Rattle.machine.specs.Call
-use Rattle.machine.specs.Call.{whole, paused}
+use Rattle.machine.specs.Call.{whole, paused, Called, callWalk}
 use Rattle.machine.specs.Decode
 use Rattle.machine.specs.Lengths
 use Rattle.machine.specs.Step
 use Rattle.machine.specs.Walk
-use Rattle.machine.specs.Walk.{Walk, waiting, stopped}
+use Rattle.machine.specs.Walk.{Walk, waiting, stopped, fresh}
 
 calling : Unit {0}
 unfolding Events.opened Lengths.opened Decode.opened Walk.opened Step.opened Call.opened Demand.Allowed Demand.opened
@@ -32,6 +33,17 @@ ended = record { phase = stopped finished; location = 12; returns = []; result =
 
 abbrev written : List Event
 written = operation 768 ∷ output 0 ∷ []
+
+-- the same in a row, with budgets and buffers enough: it waits (22), and ends with its answer (0)
+abbrev asks : Called
+asks = callWalk table [] (paused none) 9 9 (fresh 0)
+
+abbrev ends : Called
+ends = callWalk table [] (paused (some 0)) 9 9 (asks .walk)
+
+pub in-a-row : Row table [] (fresh 0) (0 ∷ []) [] (joined asks ends)
+unfolding calling
+in-a-row = next (first 9 9 ((λ e. omega (arith, e)), λ e. omega (arith, e))) refl 9 9 ((λ e. omega (arith, e)), λ e. omega (arith, e))
 
 few : length {A = ℕ} (0 ∷ []) < 2 ^ 64
 few = omega arith

@@ -1,6 +1,7 @@
 -- "Refusals apart, only 35 and 36 leave the walk going on": what each call's number says of its walk, for any table and any walk.
 use mathlib.Core.Bool.{Bool, true, false}
 use mathlib.Core.List.{List, _∷_}
+use mathlib.Core.Logic.{_⊎_, inl, inr}
 use mathlib.Core.Option.{Option, none, some}
 use mathlib.Core.Path.{_≡_, refl, sym, ap, _∙_}
 use Prim.Native.Nat.{ℕ, zero, suc, _+_, _-_, _≤_}
@@ -17,6 +18,33 @@ use Rattle.machine.specs.Walk.{Phase, going, waiting, stopped, Walk, withAnswer
 use Rattle.agreement.specs.Demand.{Listed, then-call}
 use Rattle.agreement.specs.Reports.{Reports, refused, full, spent, handed-out, ended}
 use Rattle.agreement.proofs.Lists.{After, after-outside, after-stop, after-goes, after-tells, after-asks, step-after, resume, run-resume}
+
+-- 35 and 36 are told of a walk that goes on, and of no other
+never : (k : ℕ) → (k ≡ 35) ⊎ (k ≡ 36) → (r : Reason) → reasonNumber r ≡ k → ⊥
+unfolding reasonNumber
+never k (inl d) finished e = omega (arith, d, e)
+never k (inl d) differs e = omega (arith, d, e)
+never k (inl d) missing e = omega (arith, d, e)
+never k (inl d) unlabelled e = omega (arith, d, e)
+never k (inl d) deep e = omega (arith, d, e)
+never k (inl d) unanswered e = omega (arith, d, e)
+never k (inl d) outside e = omega (arith, d, e)
+never k (inr d) finished e = omega (arith, d, e)
+never k (inr d) differs e = omega (arith, d, e)
+never k (inr d) missing e = omega (arith, d, e)
+never k (inr d) unlabelled e = omega (arith, d, e)
+never k (inr d) deep e = omega (arith, d, e)
+never k (inr d) unanswered e = omega (arith, d, e)
+never k (inr d) outside e = omega (arith, d, e)
+
+pub goes-on : {k : ℕ} {p : Phase} → Reports k p → (k ≡ 35) ⊎ (k ≡ 36) → p ≡ going
+goes-on refused (inl e) = absurd (omega (arith, e))
+goes-on refused (inr e) = absurd (omega (arith, e))
+goes-on full d = refl
+goes-on spent d = refl
+goes-on handed-out (inl e) = absurd (omega (arith, e))
+goes-on handed-out (inr e) = absurd (omega (arith, e))
+goes-on (ended r) d = absurd (never (reasonNumber r) d r refl)
 
 in-this : {k : ℕ} {p q : Phase} → p ≡ q → Reports k q → Reports k p
 in-this e h = rw e h

@@ -2,6 +2,7 @@
 use mathlib.Core.Bool.{Bool, true, not, _&&_}
 use mathlib.Core.List.{List, [], _∷_, _++_}
 use mathlib.Core.Option.{none, some}
+use mathlib.Core.Path.{_≡_, refl}
 use Prim.Native.Nat.{ℕ}
 use lib.Dec.{T}
 use lib.ListN.{replicate}
@@ -10,7 +11,7 @@ use Rattle.events.specs.Events
 use Rattle.figures.specs.Figures
 use Rattle.figures.specs.Figures.{Figures, bumps, marks, plus, meanWhole, meanRest, within64, sound}
 use Rattle.figures.specs.Form
-use Rattle.figures.specs.Form.{Outcome, added}
+use Rattle.figures.specs.Form.{Outcome, added, figuresBytes, givenOf, Report, reportOf}
 use Rattle.figures.specs.Visits
 use Rattle.figures.specs.Visits.{Given, visited}
 use Rattle.machine.specs.Bytes
@@ -106,3 +107,23 @@ pub adding : T (same (row (added (5 ∷ 7 ∷ 9 ∷ []) two (some (shelf 1 5)) (
     && same (row (added (5 ∷ 7 ∷ 9 ∷ []) two none (3 ∷ 3 ∷ []) nines)) (21 ∷ 0 ∷ 0 ∷ (nines ++ (3 ∷ 3 ∷ []))))
 unfolding row Rattle.events.specs.Events.opened Rattle.figures.specs.Figures.opened Rattle.figures.specs.Form.opened Rattle.figures.specs.Visits.opened Rattle.machine.specs.Bytes.opened Rattle.machine.specs.Call.opened Rattle.machine.specs.Decode.opened form.opened Rattle.machine.specs.Lengths.opened Rattle.machine.specs.Step.opened Rattle.machine.specs.Walk.opened
 adding = tt
+
+-- the order of the numbers: counts, bits, books, total, each in eight bytes, high byte first
+pub ordered : T (same (figuresBytes (record { counts = 1 ∷ 258 ∷ []; bits = 3 ∷ []; books = 4; total = 5 }))
+    (replicate 7 0 ++ (1 ∷ (replicate 6 0 ++ (1 ∷ 2 ∷ (replicate 7 0 ++ (3 ∷ (replicate 7 0 ++ (4 ∷ (replicate 7 0 ++ (5 ∷ [])))))))))))
+unfolding Rattle.figures.specs.Form.opened Rattle.machine.specs.Bytes.opened form.opened
+ordered = tt
+
+-- what is said of the whole shelf: 17 steps of 3 books, three locations executed; bytes that are no figures
+unfoldable pub said : Report → List ℕ
+said r = r .number ∷ r .books ∷ r .total ∷ r .covered ∷ r .mean ∷ r .rest ∷ []
+
+pub reporting : T (same (said (reportOf (some (record { counts = []; bits = 5 ∷ 1 ∷ []; books = 3; total = 17 })))) (0 ∷ 3 ∷ 17 ∷ 3 ∷ 5 ∷ 2 ∷ [])
+    && same (said (reportOf none)) (21 ∷ 0 ∷ 0 ∷ 0 ∷ 0 ∷ 0 ∷ []))
+unfolding said Rattle.figures.specs.Figures.opened Rattle.figures.specs.Form.opened lib.Count.ones
+reporting = tt
+
+-- a book over bytes: tokens and answers by whole words, seven bytes are room for three
+pub as-given : givenOf (0 ∷ 7 ∷ 9 ∷ []) (0 ∷ 1 ∷ []) 10 3 nines ≡ record { tokens = 7 ∷ []; answers = 1 ∷ []; budget = 10; allowance = 3; room = 3 }
+unfolding Rattle.figures.specs.Form.opened Rattle.machine.specs.Bytes.opened
+as-given = refl

@@ -4,7 +4,7 @@ use mathlib.Core.List.{List, [], _∷_, _++_}
 use Prim.Native.Nat.{ℕ, zero, suc, _/_}
 use lib.Dec.{T, eqb}
 use lib.ListN.{length, replicate}
-use Rattle.base.specs.Common.{same, bytes}
+use Rattle.base.specs.Common.{if_then_else_, same, bytes}
 use Rattle.machine.specs.Bytes
 use Rattle.filtering.specs.Filter
 use Rattle.filtering.specs.Filter.{filter, bufferAfter, numbersOf}
@@ -17,7 +17,7 @@ unfoldable pub holds : Case → Bool
 holds (gives s text buffer number at after) =
     let a = filter s text (length buffer / 2) in
     let n = numbersOf a in
-    eqb (n .number) number && eqb (n .at) at && same (bufferAfter a buffer) after
+    eqb (n .number) number && eqb (n .at) at && eqb (n .written) (if eqb number 0 then length text else 0) && same (bufferAfter a buffer) after
 
 unfoldable pub all : List Case → Bool
 all [] = true

@@ -5,3 +5,4 @@ pub mod Exact
 pub mod Bridge
 pub mod Wider
 pub mod Facts
+pub mod Were

@@ -9,7 +9,7 @@ use Rattle.machine.specs.Bytes
 use Rattle.machine.specs.Decode
 use Rattle.machine.specs.Lengths
 use Rattle.loading.specs.File
-use Rattle.loading.specs.File.{fileBytes, Answer, done, refused, load, store, lentBytes}
+use Rattle.loading.specs.File.{fileBytes, Answer, done, refused, load, store, lentBytes, Numbers, numbersOf}
 use Rattle.loading.specs.Reach
 use Rattle.loading.specs.Taking
 use Rattle.loading.specs.Taking.{reached, taken}
@@ -85,6 +85,8 @@ cases =
     ∷ takes (9 ∷ 0 ∷ 14 ∷ []) ∷ takes (1 ∷ 2 ∷ 0 ∷ 9 ∷ []) ∷ leaves (1 ∷ 1 ∷ 0 ∷ [])
     -- the operation is the last word; with a return behind it
     ∷ leaves (256 ∷ []) ∷ takes (256 ∷ 9 ∷ []) ∷ takes (1279 ∷ 9 ∷ [])
+    -- what stands behind each instruction that goes on: nothing, a return
+    ∷ leaves (4 ∷ []) ∷ takes (4 ∷ 9 ∷ []) ∷ leaves (3 ∷ 0 ∷ []) ∷ leaves (5 ∷ 0 ∷ []) ∷ leaves (10 ∷ 0 ∷ []) ∷ leaves (13 ∷ 0 ∷ []) ∷ leaves (512 ∷ []) ∷ leaves (768 ∷ []) ∷ leaves (1024 ∷ [])
     -- the place after a call counts though the call of itself never returns; a call of location 0
     ∷ leaves (8 ∷ 1 ∷ []) ∷ leaves (8 ∷ 0 ∷ 9 ∷ [])
     -- a choice table cut off by one word; its default just past the table; a default that is there
@@ -120,3 +122,11 @@ cases =
 all-hold : T (all cases)
 unfolding all holds cases nines answers p2 p6 f9 f9wrong f256 f257 Bytes.opened Decode.opened Lengths.opened File.opened Reach.opened Taking.opened
 all-hold = tt
+
+-- what the C caller reads: the words handed over and the verdict word, 0 with a refusal
+unfoldable pub told : Numbers → List ℕ
+told n = n .number ∷ n .words ∷ n .verdict ∷ []
+
+numbers-told : T (same (told (numbersOf (done (9 ∷ 9 ∷ []) 1))) (0 ∷ 2 ∷ 1 ∷ []) && same (told (numbersOf (refused 41))) (41 ∷ 0 ∷ 0 ∷ []))
+unfolding told File.opened
+numbers-told = tt

@@ -99,6 +99,7 @@ eight n = replicate 7 0 ++ (n ∷ [])
 pub buffers : List Lent
 buffers =
     lends "rules M: ; N: ; end" 50 0 2 (eight 6 ++ (eight 1 ++ (eight 1 ++ (eight 11 ++ (eight 1 ++ (eight 2 ++ (7 ∷ 7 ∷ [])))))))
+    ∷ lends "rules M: ; N: ; end" 48 0 2 (eight 6 ++ (eight 1 ++ (eight 1 ++ (eight 11 ++ (eight 1 ++ eight 2)))))
     ∷ lends "rules M: ; N: ; end" 47 20 0 (replicate 47 7)
     ∷ lends "rules M: > ; end" 23 7 0 (replicate 23 7)
     ∷ lends "" 0 2 0 []

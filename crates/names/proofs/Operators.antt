@@ -62,6 +62,15 @@ pub written-out :
 unfolding understanding tableOf wordsOf someWords
 written-out = tt
 
+-- uses in text order: labelled alternatives one after the other, then otherwise, inside a cycle
+pub in-order :
+    let head : String = "input: a p q r; output: x y z; operators E: p 3 left x r 7 right z q 3 left x; operators F: q 15 right y; rules " in
+    let with : List ℕ = wordsOf (parse (bytes head ++ bytes "M: {[ | a: ^F @M > | p: ^E @P | *: ^E @M ]}; P: a; end")) in
+    let without : List ℕ = wordsOf (parse (bytes head ++ bytes "M: {[ | a: @A > | p: @B | *: @D ]}; P: a; A: @M [ | q: @A .y | *: ]; B: @C {[ | p: @C .x | q: @C .x | *: > ]}; C: @P [ | r: @C .z | *: ]; D: @F {[ | p: @F .x | q: @F .x | *: > ]}; F: @M [ | r: @F .z | *: ]; end")) in
+    T (someWords with && same with without)
+unfolding understanding tableOf wordsOf someWords
+in-order = tt
+
 -- 3, 4, 45, 5 in the section and at the action; "a class of their own"
 pub faults : List Line
 faults =
@@ -74,6 +83,11 @@ faults =
     ∷ at "input: p q; output: x; operators E: p 1 left x ~p 2 right y; rules M: ; end" 45 1
     ∷ at "input: p q; output: x; operators E: p 1 left x ~q 01 right y; rules M: ; end" 45 1
     ∷ at "input: p 'p'; output: x; operators E: p 1 left x ~'p' 3 left x; rules M: ; end" 45 3
+    -- the same of an entry that is not the first
+    ∷ at "input: p q; output: x; operators E: p 1 left x q 2 left x ~q 3 left x; rules M: ; end" 45 1
+    ∷ at "input: p q r; output: x; operators E: p 1 left x q 2 left x ~r 2 right x; rules M: ; end" 45 1
+    -- the token before the output
+    ∷ at "input: p; output: x; operators E: ~x 1 left p; rules M: ; end" 5 1
     ∷ at "input: p q; output: x; operators E: p 1 left x ~r 1 right x; rules M: ; end" 3 1
     ∷ at "input: p q; output: x; operators E: p 1 left x ~x 1 right x; rules M: ; end" 45 1
     ∷ at "input: p q; output: x; operators E: p 1 left x ~x 1 left x; rules M: ; end" 5 1

@@ -1,13 +1,13 @@
 -- The rules of operators, by computation: levels from a section's entries, and the words of a program that has them behind its own.
-use mathlib.Core.Bool.{Bool, true, false, _&&_}
+use mathlib.Core.Bool.{Bool, true, false, not, _&&_}
 use mathlib.Core.List.{List, [], _∷_, _++_}
 use Prim.Native.Nat.{ℕ}
 use lib.Dec.{T, eqb}
-use lib.ListN.{length}
+use lib.ListN.{length, replicate}
 use Rattle.base.specs.Common.{same}
 use Rattle.base.specs.Tree.{plain, done, _▸_}
 use Rattle.program.specs.Made
-use Rattle.program.specs.Made.{Operator, Level, levelsOf, levelRules}
+use Rattle.program.specs.Made.{Operator, Level, levelsOf, levelRules, crowded}
 use Rattle.program.specs.Program.{match, call, Rule}
 use Rattle.program.specs.Table
 use Rattle.program.specs.Table.{table}
@@ -39,3 +39,11 @@ pub words-are : T (same (table prog)
     ∷ 8 ∷ 4 ∷ 7 ∷ 7 ∷ 8 ∷ 51 ∷ 5 ∷ 12 ∷ 1 ∷ 4 ∷ 1 ∷ 3 ∷ 8 ∷ 9 ∷ []))
 unfolding entries prog Made.opened Table.opened
 words-are = tt
+
+-- "64 labels a choice": 64 operators of a level are not too many; 65 are, at any level
+abbrev pub level : ℕ → Level
+level n = record { right = false; operators = replicate n (entry 1 1 false 10) }
+
+pub crowds : T (not (crowded (level 1 ∷ level 64 ∷ [])) && crowded (level 65 ∷ []) && crowded (level 1 ∷ level 65 ∷ []))
+unfolding Made.opened
+crowds = tt

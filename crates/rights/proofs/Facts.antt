@@ -60,7 +60,7 @@ cases : List Case
 unfolding footnote four without256 without512 without768 without1024
 cases =
     -- bit 7 of byte 0 is 256, bit 0 of byte 127 is 1,279; missing bytes; numbers below 256 are never granted
-    grants (128 ∷ []) 256 ∷ denies (127 ∷ []) 256 ∷ grants (1 ∷ []) 263 ∷ denies (254 ∷ []) 263 ∷ denies (255 ∷ []) 264 ∷ grants (0 ∷ 128 ∷ []) 264
+    grants (128 ∷ []) 256 ∷ grants (64 ∷ []) 257 ∷ grants (32 ∷ []) 258 ∷ grants (16 ∷ []) 259 ∷ grants (8 ∷ []) 260 ∷ grants (4 ∷ []) 261 ∷ grants (2 ∷ []) 262 ∷ denies (127 ∷ []) 256 ∷ grants (1 ∷ []) 263 ∷ denies (254 ∷ []) 263 ∷ denies (255 ∷ []) 264 ∷ grants (0 ∷ 128 ∷ []) 264
     ∷ grants (replicate 127 0 ++ (1 ∷ [])) 1279 ∷ denies (replicate 127 255) 1279 ∷ denies [] 256 ∷ denies (255 ∷ []) 255
     -- the footnote style: with both operations, without 256 (at location 10), without 512 (at 5), without either (the lowest)
     ∷ admits footnote (128 ∷ (replicate 31 0 ++ (128 ∷ []))) 0 0 ∷ admits footnote (replicate 32 0 ++ (128 ∷ [])) 48 10 ∷ admits footnote (128 ∷ []) 48 5

@@ -20,7 +20,7 @@ use Rattle.machine.specs.Walk.{fresh}
 use Rattle.screen.specs.Items
 use Rattle.screen.specs.Items.{Item, turn, refill, heard, lefts, spent, granted}
 use Rattle.screen.specs.Screen
-use Rattle.screen.specs.Screen.{turnBytes, refillNumber, refillBytes, freshBytes}
+use Rattle.screen.specs.Screen.{turnBytes, refillNumber, refillBytes, screenNumber, freshBytes}
 
 -- the table: { ? .9 768 }: read a token, emit 9, a choice operation, and back
 abbrev table : List ℕ
@@ -104,3 +104,10 @@ cases =
 pub all-hold : T (all cases)
 unfolding all holds told cases Events.opened Bytes.opened Lengths.opened Decode.opened Walk.opened Step.opened Call.opened Form.opened Screen.opened Items.opened
 all-hold = tt
+
+-- both books begin, each with its own allowance and no steps left; another length is refused and kept
+pub begins : T (eqb (screenNumber (replicate 332 9)) 0 && eqb (screenNumber (replicate 331 9)) 21 && eqb (screenNumber (replicate 333 9)) 21
+    && same (freshBytes 1 258 (replicate 332 9)) (walkBytes (fresh 1) ++ (replicate 8 0 ++ (walkBytes (fresh 258) ++ replicate 8 0)))
+    && same (freshBytes 1 258 (replicate 331 9)) (replicate 331 9))
+unfolding Events.opened Bytes.opened Walk.opened Form.opened Screen.opened
+begins = tt

@@ -426,6 +426,8 @@ many =
     ∷ atOf (bytes "type t:v;mechanism m:f;mechanism n:g;input:a'x'" ++ (times 506 "a " ++ bytes ";rules M:;^N:;end")) 9 1
     ∷ fineOf (bytes "output:a;error:a;input output:a;input:" ++ (times 508 "a " ++ bytes ";rules M:;end"))
     ∷ atOf (bytes "output:a;error:a;input output:a;input:" ++ (times 508 "a " ++ bytes ";rules M:;^N:;end")) 9 1
+    ∷ atOf (bytes "operators E:a 1 left a;input:" ++ (times 510 "a " ++ bytes ";rules M:;^N:;end")) 9 1
+    ∷ atOf (bytes "input:" ++ (times 512 "a " ++ bytes ";operators ^E $")) 9 1
     ∷ atOf (bytes "input:" ++ (times 512 "a " ++ bytes ";type ^t $")) 9 1
     ∷ atOf (bytes "input:" ++ (times 511 "a " ++ bytes ";type t:^v;")) 9 1
     ∷ atOf (bytes "input:" ++ (times 512 "a " ++ bytes ";mechanism m:^f")) 9 1

@@ -1,3 +1,4 @@
 -- Facts by computation.
 pub mod Facts
+pub mod Were
 pub mod Before
