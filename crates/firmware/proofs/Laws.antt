@@ -1,13 +1,18 @@
 -- Words written one after the other are the words of one list, and all the words of a buffer are the buffer.
+use mathlib.Core.Bool.{Bool, true, false, _&&_, and-false}
 use mathlib.Core.List.{List, [], _∷_, _++_, append-nil, reverse, reverse-reverse}
-use mathlib.Core.Path.{_≡_, refl, ap, _∙_}
+use mathlib.Core.Path.{_≡_, refl, sym, ap, _∙_}
 use Prim.Native.Nat.{ℕ, suc, _+_, _*_, _-_, _/_, _%_, _<_, _≤_}
 use native.Mathlib.Nat.{add-zero}
 use native.Mathlib.Numerals.{add-one}
 use native.Mathlib.Omega.{arith}
 use lib.ListN.{length, take, drop, getD, set, replicate, length-append, length-take, length-reverse, length-replicate, drop-of-length-le, List·getD-append}
 use lib.Seq.{sets, length-sets, sets-eq, getD-take, getD-append-add}
-use Rattle.base.proofs.Laws.{zeros-at}
+use lib.Dec.{eqb}
+use borrow.Author.Tests.{eqb-true, eq-eqb}
+use Rattle.base.specs.Bools.{never, split}
+use Rattle.base.specs.Common.{same}
+use Rattle.base.proofs.Laws.{zeros-at, same-next, same-not}
 use Rattle.machine.proofs.Bytes.{length-bytesOf, bytesOf-append}
 use Rattle.machine.specs.Bytes.{bytesOf}
 use Rattle.machine.specs.Form.{words64, returnWords}
@@ -79,3 +84,15 @@ return-free d rs i h =
     let n : length (take d rs) ≤ i = simp length-take (omega arith) in
     let e : i ≡ length (take d rs) + (i - length (take d rs)) = omega arith in
     rw (return-words, e) (getD-append-add (take d rs) (replicate (64 - length (take d rs)) 0) (i - length (take d rs)) 0 ∙ zeros-at (64 - length (take d rs)) (i - length (take d rs)))
+
+-- Comparing
+
+-- one byte more is compared: r is what held so far, if the two bytes are the same, and else false
+pub agreed : (all r : Bool) (a b : List ℕ) (i : ℕ) → i < length a → i < length b → (getD a i 0 ≡ getD b i 0 → r ≡ all) → ((getD a i 0 ≡ getD b i 0 → ⊥) → r ≡ false)
+    → (all && same (drop i a) (drop i b)) ≡ (r && same (drop (i + 1) a) (drop (i + 1) b))
+agreed all r a b i h k s o =
+    split (eqb (getD a i 0) (getD b i 0))
+    (λ t. let e = eqb-true (getD a i 0) (getD b i 0) t in
+    ap (λ (x : Bool). all && x) (same-next a b i h k e) ∙ ap (λ (x : Bool). x && same (drop (i + 1) a) (drop (i + 1) b)) (sym (s e)))
+    (λ f. let n : getD a i 0 ≡ getD b i 0 → ⊥ = λ e. never (sym f ∙ eq-eqb (getD a i 0) (getD b i 0) e) in
+    ap (λ (x : Bool). all && x) (same-not a b i h k n) ∙ and-false all ∙ ap (λ (x : Bool). x && same (drop (i + 1) a) (drop (i + 1) b)) (sym (o n)))

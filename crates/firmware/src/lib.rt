@@ -1,5 +1,6 @@
 // The C entries (include/sst.h): numbers and byte slices, the walk as its 158 bytes (docs/LAYOUT.md).
 ghost use mathlib.Core.List.{[], _∷_, reverse};
+ghost use mathlib.Core.Bool.{false};
 ghost use mathlib.Core.Path.{_≡_};
 ghost use Prim.Native.Nat.{_+_, _*_, _<_, _≤_, min};
 ghost use lib.ListN.{length, take, drop, getD};
@@ -145,22 +146,19 @@ fn put_registers(out: &mut [u8], r: Registers)
     put_64(out, USED_WORD, r.used);
 }
 
-// The word of the return location at index i: 0 if it is not held.
-fn return_at(returns: &[u16], depth: usize, i: usize) -> u16
-    requires { ⌜ (length (now returns) ≡ 64) × (i < 64) ⌝ }
-    ensures { λ r. ⌜ r ≡ getD (form.returnWords (reverse (take depth (now (returns .entry))))) i 0 ⌝ }
-{
-    if i < depth { returns[i] } else { 0 }
-}
-
 // Words 15 to 78.
 fn put_returns(out: &mut [u8], returns: &[u16], depth: usize)
     requires { ⌜ (158 ≤ length (now out)) × (length (now returns) ≡ 64) ⌝ }
     ensures { λ _. ⌜ now (out .exit) ≡ puts (now (out .entry)) 15 (form.returnWords (reverse (take depth (now (returns .entry))))) ⌝ }
 {
+    let held = held_of(depth) as usize;
     let mut i = 0;
+    while i < held {
+        put_word(out, RETURNS_WORD + i, returns[i]);
+        i += 1;
+    }
     while i < PENDING {
-        put_word(out, RETURNS_WORD + i, return_at(returns, depth, i));
+        put_word(out, RETURNS_WORD + i, 0);
         i += 1;
     }
 }
@@ -244,19 +242,26 @@ fn named(s: &[u8]) -> Walk
     Walk { phase, at, returns }
 }
 
+// What held so far, and the two bytes are the same. Without an early way out many are compared at once.
+fn agrees(all: bool, x: u8, y: u8) -> bool
+    ensures same { λ r. ⌜ (x ≡ y → r ≡ all) ⌝ }
+    ensures other { λ r. ⌜ ((x ≡ y → ⊥) → r ≡ false) ⌝ }
+{
+    if x == y { all } else { false }
+}
+
 // Whether a and b have the same bytes.
 fn same(a: &[u8], b: &[u8]) -> bool
     requires { ⌜ length (now a) ≡ length (now b) ⌝ }
     ensures { λ r. ⌜ r ≡ sameBytes (now (a .entry)) (now (b .entry)) ⌝ }
 {
+    let mut all = true;
     let mut i = 0;
     while i < a.len() {
-        if a[i] != b[i] {
-            return false;
-        }
+        all = agrees(all, a[i], b[i]);
         i += 1;
     }
-    true
+    all
 }
 
 fn fresh_walk(allowance: u16) -> Walk
