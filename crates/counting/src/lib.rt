@@ -432,14 +432,14 @@ fn totalled(number: u16, total: u64) -> Total
     Total { number, total }
 }
 
-// The index of the first count of a span, at most the number of counts.
-fn span_start(from: u64) -> usize
-    ensures { λ r. ⌜ r ≡ min (from - 1) 4096 ⌝ }
+// The index of a location's count, at most the number of counts; location 0 has none.
+fn count_index(location: u64) -> usize
+    ensures { λ r. ⌜ r ≡ min (location - 1) 4096 ⌝ }
 {
-    if from == 0 {
+    if location == 0 {
         return 0;
     }
-    let i = from - 1;
+    let i = location - 1;
     if i < LOCATIONS as u64 {
         i as usize
     } else {
@@ -447,30 +447,17 @@ fn span_start(from: u64) -> usize
     }
 }
 
-// How many counts it has.
-fn span_size(from: u64, to: u64, start: usize) -> usize
-    requires { ⌜ start ≤ 4096 ⌝ }
-    ensures { λ r. ⌜ r ≡ min (to - from) (4096 - start) ⌝ }
-{
-    if to <= from {
-        return 0;
-    }
-    let n = to - from;
-    let left = LOCATIONS - start;
-    if n < left as u64 { n as usize } else { left }
-}
-
 // The executions of the locations from `from` on, up to `to` and without it: no more than all of them.
 fn span(counts: &[u64], total: u64, from: u64, to: u64) -> u64
     requires { ⌜ (length (now counts) ≡ 4096) × (sum (now counts) ≡ total) ⌝ }
     ensures { λ r. ⌜ r ≡ spans.spanTotal from to (now (counts .entry)) ⌝ }
 {
-    let start = span_start(from);
-    let size = span_size(from, to, start);
+    let start = count_index(from);
+    let end = count_index(to);
     let mut n: u64 = 0;
-    let mut k: usize = 0;
-    while k < size {
-        let c = counts[start + k];
+    let mut k: usize = start;
+    while k < end {
+        let c = counts[k];
         n += c;
         k += 1;
     }

@@ -12,6 +12,8 @@ use Rattle.figures.specs.Figures
 use Rattle.figures.specs.Figures.{Figures, bumps, marks, plus, meanWhole, meanRest, within64, sound}
 use Rattle.figures.specs.Form
 use Rattle.figures.specs.Form.{Outcome, added, figuresBytes, givenOf, Report, reportOf}
+use Rattle.figures.specs.Spans
+use Rattle.figures.specs.Spans.{Total, tells, spanTotal, spanTotals, locationsIn, spanOf, togetherOf}
 use Rattle.figures.specs.Visits
 use Rattle.figures.specs.Visits.{Given, visited}
 use Rattle.machine.specs.Bytes
@@ -127,3 +129,35 @@ reporting = tt
 pub as-given : givenOf (0 ∷ 7 ∷ 9 ∷ []) (0 ∷ 1 ∷ []) 10 3 nines ≡ record { tokens = 7 ∷ []; answers = 1 ∷ []; budget = 10; allowance = 3; room = 3 }
 unfolding Rattle.figures.specs.Form.opened Rattle.machine.specs.Bytes.opened
 as-given = refl
+
+-- a count at each of four locations; a row, whose third number is its location
+abbrev eights : List ℕ
+eights = 1 ∷ 2 ∷ 4 ∷ 8 ∷ []
+
+abbrev counted : Figures
+counted = record { counts = eights; bits = []; books = 1; total = 15 }
+
+abbrev rowAt : ℕ → List ℕ
+rowAt l = replicate 16 7 ++ (replicate 7 0 ++ (l ∷ []))
+
+-- Rule by rule. One span: a rule in the middle, the last one, an empty one, one that goes back, from location 0 (which has no count), past the last count
+pub spans : T (same (spanTotal 2 4 eights ∷ spanTotal 4 5 eights ∷ spanTotal 3 3 eights ∷ spanTotal 3 2 eights ∷ spanTotal 0 3 eights ∷ spanTotal 1 3 eights ∷ spanTotal 3 99 eights ∷ spanTotal 6 9 eights ∷ [])
+    (6 ∷ 8 ∷ 0 ∷ 0 ∷ 3 ∷ 3 ∷ 12 ∷ 0 ∷ []))
+unfolding Spans.opened Rattle.figures.specs.Figures.opened
+spans = tt
+
+-- rows at locations 1, 2 and 4, the table's end behind location 4: each up to the next, the last up to the end
+pub by-rows : T (same (locationsIn (rowAt 1 ++ (rowAt 2 ++ (rowAt 4 ++ (9 ∷ []))))) (1 ∷ 2 ∷ 4 ∷ []) && same (spanTotals (1 ∷ 2 ∷ 4 ∷ []) 5 eights) (1 ∷ 6 ∷ 8 ∷ []))
+unfolding Spans.opened Rattle.figures.specs.Figures.opened Rattle.figures.specs.Form.opened Rattle.machine.specs.Bytes.opened form.opened
+by-rows = tt
+
+-- what is told: a rule's total and all rules' together; 21 for bytes that are no figures; 46 where rows overlap past 64 bits
+unfoldable pub totalled : Total → List ℕ
+totalled t = t .number ∷ t .total ∷ []
+
+pub totalling : T (same (totalled (spanOf (some counted) 2 4)) (0 ∷ 6 ∷ []) && same (totalled (spanOf none 2 4)) (21 ∷ 0 ∷ [])
+    && same (totalled (togetherOf (some counted) (1 ∷ 2 ∷ 4 ∷ []) 5)) (0 ∷ 15 ∷ []) && same (totalled (togetherOf none [] 5)) (21 ∷ 0 ∷ [])
+    && same (totalled (togetherOf (some (lone 18446744073709551615 1 1 18446744073709551615)) (1 ∷ []) 2)) (0 ∷ 18446744073709551615 ∷ [])
+    && same (totalled (togetherOf (some (lone 18446744073709551615 1 1 18446744073709551615)) (1 ∷ 2 ∷ 1 ∷ []) 2)) (46 ∷ 0 ∷ []) && same (totalled (tells 46 7)) (46 ∷ 7 ∷ []))
+unfolding totalled Spans.opened Rattle.figures.specs.Figures.opened
+totalling = tt

@@ -4,7 +4,7 @@ use mathlib.Core.Path.{_≡_, refl, sym, ap, _∙_}
 use Prim.Native.Nat.{ℕ, zero, suc, _+_, _-_, _<_, _≤_, min}
 use native.Mathlib.Decide.{decLe}
 use native.Mathlib.Omega.{arith}
-use lib.ListN.{length, take, drop, getD, length-drop, drop-of-length-le}
+use lib.ListN.{length, take, drop, getD, length-take, drop-of-length-le}
 use lib.Seq.{take-all, take-nil}
 use Rattle.figures.specs.Figures.{sum}
 use Rattle.figures.specs.Spans.{spanTotal, nextAt, spanTotals, locationAt, locationsAt}
@@ -17,16 +17,24 @@ take-min n m l e = elim (decLe n m) [
 ]
 
 -- the span inside the counts
-pub span-within : (from to start size : ℕ) (counts : List ℕ) → start ≡ min (from - 1) (length counts) → size ≡ min (to - from) (length counts - start)
-    → sum (take size (drop start counts)) ≡ spanTotal from to counts
+pub span-within : (from to start end : ℕ) (counts : List ℕ) → start ≡ min (from - 1) (length counts) → end ≡ min (to - 1) (length counts)
+    → sum (drop start (take end counts)) ≡ spanTotal from to counts
 unfolding spanTotal
-span-within from to start size counts e f = elim (decLe (from - 1) (length counts)) [
-  | yes h ↦ (let s : start ≡ from - 1 = omega arith in
-      rw f (ap sum (take-min (to - from) (length counts - start) (drop start counts) (length-drop start counts)) ∙ ap (λ (k : ℕ). sum (take (to - from) (drop k counts))) s))
-  | no h ↦ (let a : drop start counts ≡ [] = drop-of-length-le counts {i = start} (omega arith) in
-      let b : drop (from - 1) counts ≡ [] = drop-of-length-le counts {i = from - 1} (omega arith) in
-      rw (a, b) (ap sum (take-nil size ∙ sym (take-nil (to - from)))))
-]
+span-within from to start end counts e f =
+    ap (λ (l : List ℕ). sum (drop start l)) (ap (λ (k : ℕ). take k counts) f ∙ take-min (to - 1) (length counts) counts refl) ∙ ap sum (dropped (take (to - 1) counts) (length-take (to - 1) counts))
+  where
+    dropped : (l : List ℕ) → length l ≡ min (to - 1) (length counts) → drop start l ≡ drop (from - 1) l
+    dropped l n = elim (decLe (from - 1) (length counts)) [
+      | yes h ↦ (let s : start ≡ from - 1 = omega arith in ap (λ (k : ℕ). drop k l) s)
+      | no h ↦ drop-of-length-le l {i = start} (omega arith) ∙ sym (drop-of-length-le l {i = from - 1} (omega arith))
+    ]
+
+-- what is left of a beginning
+pub drop-take : (i j : ℕ) (l : List ℕ) → drop i (take j l) ≡ take (j - i) (drop i l)
+drop-take zero j l = let z : j - 0 ≡ j = omega arith in rw z refl
+drop-take (suc i) zero l = let z : 0 - suc i ≡ 0 = omega arith in rw z refl
+drop-take (suc i) (suc j) [] = sym (take-nil (suc j - suc i))
+drop-take (suc i) (suc j) (c ∷ l) = let z : suc j - suc i ≡ j - i = omega arith in rw z (drop-take i j l)
 
 pub sum-drop : (l : List ℕ) (i : ℕ) → sum (drop i l) ≤ sum l
 unfolding sum

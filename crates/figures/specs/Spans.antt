@@ -8,9 +8,9 @@ use Rattle.figures.specs.Figures.{sum, Figures, below64}
 use Rattle.figures.specs.Form.{numberAt, figuresOf}
 use Rattle.machine.specs.Bytes.{wordsOf}
 
--- the counts from location `from` on, up to location `to` and without it; the count of location l stands at index l - 1
+-- the counts up to location `to` and without it, from location `from` on; the count of location l stands at index l - 1, and location 0 has none
 unfoldable pub spanTotal : ℕ → ℕ → List ℕ → ℕ
-spanTotal from to counts = sum (take (to - from) (drop (from - 1) counts))
+spanTotal from to counts = sum (drop (from - 1) (take (to - 1) counts))
 
 -- where the next span begins; e behind the last
 unfoldable pub nextAt : List ℕ → ℕ → ℕ

@@ -1,13 +1,14 @@
 -- Worked examples of the filter, computed.
 use mathlib.Core.Bool.{Bool, true, _&&_}
 use mathlib.Core.List.{List, [], _∷_, _++_}
+use mathlib.Core.Path.{_≡_, refl}
 use Prim.Native.Nat.{ℕ, zero, suc, _/_}
 use lib.Dec.{T, eqb}
 use lib.ListN.{length, replicate}
 use Rattle.base.specs.Common.{if_then_else_, same, bytes}
 use Rattle.machine.specs.Bytes
 use Rattle.filtering.specs.Filter
-use Rattle.filtering.specs.Filter.{filter, bufferAfter, numbersOf}
+use Rattle.filtering.specs.Filter.{filter, folded, refused, bufferAfter, numbersOf, tells}
 
 -- filter, byte string, token buffer; number, what it names, the buffer afterwards
 pub data Case : Type 0 where
@@ -68,3 +69,8 @@ cases =
 all-hold : T (all cases)
 unfolding all holds cases classes turned fours Bytes.opened Filter.opened
 all-hold = tt
+
+-- what the C caller reads: the number, what it names, the tokens written
+told : numbersOf (folded (5 ∷ 6 ∷ [])) ∷ numbersOf (refused 43 65) ∷ [] ≡ tells 0 0 2 ∷ tells 43 65 0 ∷ []
+unfolding Filter.opened
+told = refl

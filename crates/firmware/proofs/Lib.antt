@@ -5,3 +5,4 @@ pub mod Calls
 pub mod Processing
 pub mod Zero
 pub mod Screens
+pub mod Facts

@@ -1,6 +1,7 @@
 -- Maps of texts, worked out by hand.
 use mathlib.Core.Bool.{Bool, true, false, _&&_}
 use mathlib.Core.List.{List, [], _∷_, _++_}
+use mathlib.Core.Path.{_≡_, refl}
 use Prim.Native.Nat.{ℕ}
 use Prim.Native.String.{String}
 use lib.Dec.{T, eqb}
@@ -10,7 +11,7 @@ use Rattle.finishing.specs.Test
 use Rattle.machine.specs.Bytes
 use Rattle.machine.specs.Form
 use Rattle.mapping.specs.Mapping
-use Rattle.mapping.specs.Mapping.{Row, Answer, mapped, refused, mapRules, numbersOf, lentRows, roomIn}
+use Rattle.mapping.specs.Mapping.{Row, Answer, mapped, refused, mapRules, Numbers, numbersOf, lentRows, roomIn, tells}
 use Rattle.names.specs.Declare
 use Rattle.names.specs.Known
 use Rattle.names.specs.Resolve
@@ -108,3 +109,16 @@ buffers =
 pub buffers-hold : T (allHold buffers)
 unfolding mapping holds allHold buffers
 buffers-hold = tt
+
+-- "as with a lent table of 4,096 words": a program of just so many, `?` over and over and the return, and of one more
+pub long : ℕ → List ℕ
+long n = bytes "rules M: " ++ (replicate n 63 ++ bytes "; end")
+
+pub longest : T (isMap (6 ∷ 1 ∷ 1 ∷ []) (mapRules (long 4095) 1) && eqb (numbersOf (mapRules (long 4096) 1) .number) 20)
+unfolding mapping numbersIn isMap long
+longest = tt
+
+-- what the C caller reads: the number, then how many rules there are
+pub told : numbersOf (mapRules (bytes "rules M: ; N: ; end") 2) ∷ numbersOf (mapRules (bytes "rules M: > ; end") 2) ∷ [] ≡ tells 0 2 ∷ tells 7 0 ∷ []
+unfolding mapping
+told = refl

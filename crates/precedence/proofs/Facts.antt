@@ -1,7 +1,9 @@
--- Sums whose operands are not met by a token each, worked out by hand: an operand that goes by an operation's answer, and one that may have a second token.
-use mathlib.Core.Bool.{false}
+-- Sums whose operands are not met by a token each, worked out by hand: an operand that goes by an operation's answer, one that may have a second token, and
+-- one that writes, under a right level.
+use mathlib.Core.Bool.{true, false}
 use mathlib.Core.List.{List, [], _∷_}
 use mathlib.Core.Path.{_≡_, refl}
+use Prim.Native.Nat.{ℕ}
 use native.Mathlib.Omega.{arith}
 use Rattle.base.specs.Common.{bytes}
 use Rattle.base.specs.Tree.{plain, cycle, choice, done, _▸_, nil, alternative, absent, otherwise}
@@ -15,7 +17,7 @@ use Rattle.names.specs.Uses
 use Rattle.ownwalk.specs.OwnWalk
 use Rattle.ownwalk.specs.OwnWalk.{stopped, owns, ownStart}
 use Rattle.precedence.proofs.Nested.{calls, postfix}
-use Rattle.precedence.specs.Sums.{Operand, emitsOf, Sum, operand, only, leftward, tokensOf, eventsOf, answersOf, depthOf, spent, after, first, operatorOf, Clear, Apart, Stand, lowest, stay, step, Passes, Operands, Postfix}
+use Rattle.precedence.specs.Sums.{Operand, emitsOf, Sum, operand, only, leftward, rightward, tokensOf, eventsOf, answersOf, depthOf, spent, after, first, operatorOf, Clear, Apart, Stand, lowest, stay, step, Passes, Operands, Postfix}
 use Rattle.processor.specs.Process
 use Rattle.processor.specs.Process.{meaning, understood}
 use Rattle.program.specs.Made
@@ -115,8 +117,52 @@ trailing-sum : Passes trailing (0 ∷ 1 ∷ 2 ∷ 0 ∷ []) [] 2 2 begun (record
 unfolding walking after spent tokensOf eventsOf answersOf depthOf lowest Stand Apart Clear first operatorOf emitsOf sumOf Postfix
 trailing-sum = postfix trailing (0 ∷ 1 ∷ 2 ∷ 0 ∷ []) [] (sums ∷ []) 2 1 1 (refl, tt) (λ t v e. tt, tt) (sumOf long short) begun trailing-reads [] refl (refl, tt)
 
+-- A right level, and operands that write: `a pow b pow a` is `a pow (b pow a)`
+
+abbrev powers : Level
+powers = record { right = true; operators = record { token = 2; level = 1; right = true; emits = 0 } ∷ [] }
+
+abbrev raising : List Rule
+raising =
+    record { valued = false; body = plain (call 2) ▸ done }
+    ∷ record { valued = false; body = choice byToken (alternative (0 ∷ []) (plain (emit 1) ▸ done) (alternative (1 ∷ []) (plain (emit 2) ▸ done) nil)) absent ▸ done }
+    ∷ record { valued = false; body = plain (call 1) ▸ choice byToken (alternative (2 ∷ []) (plain (call 2) ▸ plain (emit 0) ▸ done) nil) (otherwise done) ▸ done } ∷ []
+
+raising-means : understood (bytes "input: a b pow; output: power x y; operators E: pow 1 right power; rules P: ^E @T; T: [ | a: .x | b: .y ]; end") ≡ meaning raising
+unfolding understanding
+raising-means = refl
+
+abbrev tower : List ℕ
+tower = 0 ∷ 2 ∷ 1 ∷ 2 ∷ 0 ∷ []
+
+abbrev base : Operand
+base = record { tokens = 0 ∷ []; events = output 1 ∷ []; answers = 0 }
+
+abbrev exponent : Operand
+exponent = record { tokens = 1 ∷ []; events = output 2 ∷ []; answers = 0 }
+
+abbrev raised : Sum (powers ∷ [])
+unfolding emitsOf
+raised = rightward 2 0 refl refl (operand base) (rightward 2 0 refl refl (operand exponent) (only (operand base)))
+
+raising-reads : Operands raising tower [] 1 1 raised begun
+unfolding Operands walking after spent tokensOf eventsOf answersOf raised
+raising-reads = (
+  record { passes = record { leads = λ q k ps l. calls raising tower [] 1 q k ps _ _ (omega arith) (step (step (step (step stay)))) } },
+  (
+    record { passes = record { leads = λ q k ps l. calls raising tower [] 1 q k ps _ _ (omega arith) (step (step (step (step stay)))) } },
+    record { passes = record { leads = λ q k ps l. calls raising tower [] 1 q k ps _ _ (omega arith) (step (step (step (step stay)))) } },
+  ),
+)
+
+-- both powers come behind all three operands; under a left level the first would come behind the second of them
+raising-sum : Passes raising tower [] 4 2 begun (record { read = 5; used = 0; allowance = 0; events = output 1 ∷ output 2 ∷ output 1 ∷ output 0 ∷ output 0 ∷ [] })
+unfolding walking after spent tokensOf eventsOf answersOf depthOf lowest Stand Apart Clear first operatorOf emitsOf raised Postfix
+raising-sum = postfix raising tower [] (powers ∷ []) 2 1 1 (refl, tt) (λ t v e. tt, tt) raised begun raising-reads [] refl (refl, tt)
+
 -- the walks themselves, to their ends
 walked : (owns answering (0 ∷ 2 ∷ 1 ∷ []) (0 ∷ 1 ∷ []) 23 (ownStart answering 0) ≡ stopped finished (record { read = 3; used = 2; allowance = 0; events = operation 768 ∷ operation 768 ∷ output 0 ∷ [] }))
     × (owns trailing (0 ∷ 1 ∷ 2 ∷ 0 ∷ []) [] 23 (ownStart trailing 0) ≡ stopped finished (record { read = 4; used = 0; allowance = 0; events = output 0 ∷ [] }))
+    × (owns raising tower [] 40 (ownStart raising 0) ≡ stopped finished (record { read = 5; used = 0; allowance = 0; events = output 1 ∷ output 2 ∷ output 1 ∷ output 0 ∷ output 0 ∷ [] }))
 unfolding walking
-walked = (refl, refl)
+walked = (refl, refl, refl)

@@ -1,19 +1,20 @@
 -- Worked examples of rights over operations, computed.
 use mathlib.Core.Bool.{Bool, true, _&&_, not}
 use mathlib.Core.List.{List, [], _∷_, _++_}
+use mathlib.Core.Path.{_≡_, refl}
 use Prim.Native.Nat.{ℕ}
 use lib.Dec.{T, eqb}
 use lib.ListN.{replicate}
 use Rattle.base.specs.Common.{if_then_else_}
 use Rattle.loading.specs.File
-use Rattle.loading.specs.File.{fileBytes, load}
+use Rattle.loading.specs.File.{fileBytes, done, load}
 use Rattle.loading.specs.Reach
 use Rattle.loading.specs.Taking
 use Rattle.machine.specs.Bytes
 use Rattle.machine.specs.Decode
 use Rattle.machine.specs.Lengths
 use Rattle.rights.specs.Rights
-use Rattle.rights.specs.Rights.{granted, admit, admitLoaded}
+use Rattle.rights.specs.Rights.{granted, says, admit, admitLoaded, tells}
 
 pub data Case : Type 0 where
   -- granted set, instruction number
@@ -77,3 +78,8 @@ cases =
 all-hold : T (all cases)
 unfolding all holds cases footnote four without256 without512 without768 without1024 Bytes.opened Decode.opened Lengths.opened File.opened Reach.opened Rights.opened Taking.opened
 all-hold = tt
+
+-- what the C caller reads: the number and the location that it names; behind a loaded table the number, its words, the verdict word and that location
+told : (admit (256 ∷ 9 ∷ []) [] ≡ says 48 1) × (admitLoaded [] (done (9 ∷ 9 ∷ 256 ∷ []) 1) ≡ tells 0 3 1 0) × (admitLoaded [] (done (4 ∷ 256 ∷ 9 ∷ []) 1) ≡ tells 48 3 1 2)
+unfolding Bytes.opened Decode.opened Lengths.opened File.opened Reach.opened Rights.opened Taking.opened
+told = (refl, refl, refl)

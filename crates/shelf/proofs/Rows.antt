@@ -39,7 +39,7 @@ totals {l} counts h (one-more {e = e} {r = r} {rs = rs} {b = b} {bs = bs} q p) =
     further : drop (l + sizeRule b - 1) counts ≡ drop (sizeRule b) (drop (l - 1) counts)
     further = let a : l + sizeRule b - 1 ≡ l - 1 + sizeRule b = omega arith in ap (λ (k : ℕ). drop k counts) a ∙ sym (drop-drop (sizeRule b) (l - 1) counts)
 
-whole : (text words : List ℕ) (prog : List Rule) → understood text ≡ meaning prog → words ≡ table prog → Parts 1 (ruleRows text) prog (1 + length words)
+pub whole : (text words : List ℕ) (prog : List Rule) → understood text ≡ meaning prog → words ≡ table prog → Parts 1 (ruleRows text) prog (1 + length words)
 whole text words prog m e = rw e (parts-table text prog m)
 
 pub by-rows : ByRows

@@ -2,15 +2,17 @@
 use mathlib.Core.Bool.{Bool, true, false, _&&_}
 use mathlib.Core.List.{List, [], _∷_, _++_}
 use mathlib.Core.Path.{_≡_, refl, sym, ap, _∙_}
-use Prim.Native.Nat.{ℕ, zero, suc, _+_, _*_, _-_, _/_, _<_}
+use Prim.Native.Nat.{ℕ, zero, suc, _+_, _*_, _-_, _/_, _<_, _≤_}
 use native.Mathlib.Omega.{arith}
 use lib.Dec.{leb}
 use lib.ListN.{length, take, drop, length-append}
 use lib.Seq.{take-at, drop-append-add}
 use borrow.Author.Tests.{ltb-true, lt-ltb}
+use Rattle.acceptance.proofs.Accepts.{accepted-table}
 use Rattle.base.specs.Bools.{and}
 use Rattle.base.specs.Common.{if_then_else_}
 use Rattle.figures.proofs.Shelves.{shelf-sums}
+use Rattle.figures.proofs.Spans.{drop-take}
 use Rattle.figures.specs.Figures.{sum, Figures, empty, plus, below64, allBelow64, within64}
 use Rattle.figures.specs.Form.{numberAt, reportOf, shelfBytes}
 use Rattle.figures.specs.Shelf.{Shelf, no-book, and-book}
@@ -21,10 +23,12 @@ use Rattle.machine.proofs.Words.{number64-words64}
 use Rattle.machine.specs.Bytes.{count, bytesOf, over}
 use Rattle.machine.specs.Form.{words64, number64}
 use Rattle.mapping.specs.Mapping.{Row, ruleRows, Answer, mapped, refused, mapOf, mapRules, rowWords, rowsWords, roomIn, lentRows}
+use Rattle.mapping.specs.Parts.{Parts, none-left, one-more}
 use Rattle.processor.specs.Process as processor
 use Rattle.processor.specs.Process.{process, accepted, lentBytes}
+use Rattle.program.specs.Program.{Rule}
 use Rattle.shelf.proofs.Books.{from-calls}
-use Rattle.shelf.proofs.Rows.{by-rows}
+use Rattle.shelf.proofs.Rows.{whole, by-rows}
 use Rattle.shelf.specs.ByRows.{nextIn, rowTotals}
 use Rattle.shelf.specs.ByText.{tableLeft}
 use Rattle.shelf.specs.TwoWays.{TwoWays}
@@ -84,10 +88,13 @@ unfolding nextAt nextIn locations
 next-same [] e = refl
 next-same (r ∷ rs) e = refl
 
-totals-same : (rows : List Row) (e : ℕ) (counts : List ℕ) → spanTotals (locations rows) e counts ≡ rowTotals rows e counts
+-- a row's location is 1 or more, so that the counts from it on up to the next row's are those before the next one's but for those before it
+totals-same : {l e : ℕ} {rows : List Row} {bs : List Rule} (counts : List ℕ) → 1 ≤ l → Parts l rows bs e → spanTotals (locations rows) e counts ≡ rowTotals rows e counts
 unfolding spanTotals rowTotals locations spanTotal
-totals-same [] e counts = refl
-totals-same (r ∷ rs) e counts = both (ap (λ (k : ℕ). sum (take (k - r .location) (drop (r .location - 1) counts))) (next-same rs e)) (totals-same rs e counts)
+totals-same counts h (none-left q) = refl
+totals-same counts h (one-more {e = e} {r = r} {rs = rs} q p) =
+    let n : nextIn rs e - 1 - (r .location - 1) ≡ nextIn rs e - r .location = omega (arith, q) in
+    both (rw (next-same rs e) (ap sum (drop-take (r .location - 1) (nextIn rs e - 1) counts ∙ ap (λ (k : ℕ). take k (drop (r .location - 1) counts)) n))) (totals-same counts (omega arith) p)
   where
     both : {x y : ℕ} {xs ys : List ℕ} → x ≡ y → xs ≡ ys → x ∷ xs ≡ y ∷ ys
     both p q = cc
@@ -120,12 +127,14 @@ two-ways text lent words verdict e figures gs calls lentForRows rows m =
     let f = k .sums in
     let b = by-rows text lent words verdict e f gs (k .shelf) in
     let r : ruleRows text ≡ rows = mapped-rows text (roomIn lentForRows) rows m in
+    let a = accepted-table text (count lent) words verdict e in
+    let w = whole text words (a .prog) (a .means) (a .words-are) in
     let B = bytesOf (rowsWords rows) in
     let n : length B ≡ 24 * length rows = omega (arith, length-bytesOf (rowsWords rows), rows-length rows) in
     let t : take (24 * length rows) (B ++ drop (length B) lentForRows) ≡ B = take-at B (drop (length B) lentForRows) (24 * length rows) n in
     let l : locationsIn (take (24 * length rows) (B ++ drop (length B) lentForRows)) ≡ locations rows = ap locationsIn t ∙ bytes-locations rows in
     let s : sum (spanTotals (locations rows) (1 + length words) (f .counts)) ≡ f .total =
-    ap sum (totals-same rows (1 + length words) (f .counts)) ∙ ap (λ (x : List Row). sum (rowTotals x (1 + length words) (f .counts))) (sym r) ∙ b .together in
+    ap sum (totals-same (f .counts) (omega arith) (rw r at w)) ∙ ap (λ (x : List Row). sum (rowTotals x (1 + length words) (f .counts))) (sym r) ∙ b .together in
     let g : togetherBytes figures (take (24 * length rows) (B ++ drop (length B) lentForRows)) (1 + length words) ≡ tells 0 (f .total) =
     rw (k .taken, l, s, lt-ltb (f .total) 18446744073709551616 (total-small (k .shelf))) refl in
     record {

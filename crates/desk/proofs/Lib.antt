@@ -1,0 +1,2 @@
+-- Facts by computation.
+pub mod Facts
