@@ -98,7 +98,7 @@ fn main() {
 
 /// The libraries, each with its entries in the alphabet's order.
 const LIBRARIES: [(&str, &[&str]); 2] = [("sst", DEVICE), ("sst-desk", DESK)];
-const DESK: &[&str] = &["add_book", "rules", "shelf"];
+const DESK: &[&str] = &["add_book", "rule_total", "rules", "rules_total", "shelf"];
 const DEVICE: &[&str] = &[
     "admit", //
     "allowance",

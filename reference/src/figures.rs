@@ -32,12 +32,14 @@ pub struct Shelf {
     pub rest: u64,
 }
 
-/// The entries for figures, and the rows of a text's rules: their number and how many they are.
+/// The entries for figures, the rows of a text's rules with their number and how many they are, and sums over such rows: a number and the sum.
 pub trait Figures {
     fn name(&self) -> &'static str;
     fn add_book(&self, inputs: Inputs, budget: u64, allowance: u16, figures: &mut [u8], events: &mut [u8]) -> Done;
     fn shelf(&self, figures: &[u8]) -> Shelf;
     fn rules(&self, text: &[u8], rows: &mut [u8]) -> (u16, u64);
+    fn rule_total(&self, figures: &[u8], from: u64, to: u64) -> (u16, u64);
+    fn rules_total(&self, figures: &[u8], rows: &[u8], end: u64) -> (u16, u64);
 }
 
 /// A whole call from a fresh walk, made step by step, and the location of each instruction that was done.
@@ -67,6 +69,27 @@ fn number(figures: &[u8], index: usize) -> u64 {
     figures[8 * index..][..8].iter().fold(0, |sum, byte| sum << 8 | u64::from(*byte))
 }
 
+/// Where a row has its rule's location, in numbers.
+const ROW_LOCATION: usize = 2;
+
+/// The first location of each rule and the one behind its last, by the whole rows: a rule ends where the next row's begins, the last one at `end`.
+fn spans(rows: &[u8], end: u64) -> Vec<(u64, u64)> {
+    let (rows, _part) = rows.as_chunks::<ROW_BYTES>();
+    let mut to = end;
+    let mut spans = Vec::new();
+    for row in rows.iter().rev() {
+        let from = number(row, ROW_LOCATION);
+        spans.push((from, to));
+        to = from;
+    }
+    spans
+}
+
+/// A sum, or that it passes 64 bits.
+fn told(sum: u128) -> (u16, u64) {
+    u64::try_from(sum).map_or((PASSES, 0), |sum| (0, sum))
+}
+
 impl Sums {
     /// The sums of all books of a shelf, each as the locations that it visited.
     pub fn of(shelf: &[Vec<u16>]) -> Sums {
@@ -84,6 +107,13 @@ impl Sums {
 
     fn total(&self) -> u128 {
         self.counts.values().sum()
+    }
+
+    /// The sum over rules, each from its first location up to the one behind its last. A location counts once for each rule that it is in, so that
+    /// nothing is asked of how the rules stand to each other.
+    fn of_rules(&self, rules: &[(u64, u64)]) -> u128 {
+        let times = |location: u16| rules.iter().filter(|(from, to)| (*from..*to).contains(&u64::from(location))).count() as u128;
+        self.counts.iter().map(|(location, count)| times(*location) * count).sum()
     }
 
     /// Whether each number is one of 64 bits.
@@ -163,6 +193,14 @@ impl Figures for Reference {
             None => return (SHORT, 0),
         }
         (0, places.len() as u64)
+    }
+
+    fn rule_total(&self, figures: &[u8], from: u64, to: u64) -> (u16, u64) {
+        Sums::decode(figures).map_or((REFUSED, 0), |sums| told(sums.of_rules(&[(from, to)])))
+    }
+
+    fn rules_total(&self, figures: &[u8], rows: &[u8], end: u64) -> (u16, u64) {
+        Sums::decode(figures).map_or((REFUSED, 0), |sums| told(sums.of_rules(&spans(rows, end))))
     }
 }
 
@@ -277,5 +315,56 @@ mod tests {
         let wanted: Vec<u8> = [6u64, 1, 1, 13, 1, 4].iter().flat_map(|number| number.to_be_bytes()).chain([9]).collect();
         assert_eq!(rows[..], wanted);
         assert_eq!(Reference.rules(b"rules M: N; end", &mut []), (3, 0));
+    }
+
+    /// Rows with these locations; what else they hold does not count.
+    fn rows_at(locations: &[u64]) -> Vec<u8> {
+        locations.iter().flat_map(|location| [77, u64::MAX, *location]).flat_map(u64::to_be_bytes).collect()
+    }
+
+    #[test]
+    fn a_rule() {
+        let figures = Sums::made_up(&[(1, 2), (2, 30), (64, 400), (4_096, 5_000)], 3).encode();
+        let total = |from, to| Reference.rule_total(&figures, from, to);
+        for (from, to, sum) in [(1, 2, 2), (1, 3, 32), (2, 64, 30), (2, 65, 430), (4_096, 4_097, 5_000), (4_095, 4_096, 0)] {
+            assert_eq!(total(from, to), (0, sum), "{from} {to}");
+        }
+        // No location is 0 or past 4,096, and none is from one on up to an earlier one.
+        for (from, to, sum) in [(0, 2, 2), (0, u64::MAX, 5_432), (4_097, u64::MAX, 0), (65, 64, 0), (64, 64, 0), (u64::MAX, 1, 0)]
+        {
+            assert_eq!(total(from, to), (0, sum), "{from} {to}");
+        }
+        assert_eq!(Reference.rule_total(&figures[1..], 1, 2), (21, 0));
+        let full = Sums::made_up(&[(7, u64::MAX)], 1).encode();
+        assert_eq!(Reference.rule_total(&full, 1, 8), (0, u64::MAX));
+    }
+
+    #[test]
+    fn all_rules() {
+        let figures = Sums::made_up(&[(1, 2), (2, 30), (64, 400), (4_096, 5_000)], 3).encode();
+        let total = |locations: &[u64], end| Reference.rules_total(&figures, &rows_at(locations), end);
+        assert_eq!(total(&[1, 2, 64], 4_097), (0, 5_432));
+        assert_eq!(total(&[2, 64], 4_096), (0, 430));
+        assert_eq!(total(&[], 4_097), (0, 0));
+        // 1 to 64, none, 1 to 3.
+        assert_eq!(total(&[1, 65, 1], 4), (0, 464));
+        assert_eq!(total(&[64, 2, 2], 1), (0, 0));
+        // Whole rows.
+        let rows = rows_at(&[1, 3]);
+        for (len, sum) in [(48, 432), (47, 432), (25, 432), (24, 432), (23, 0), (1, 0)] {
+            assert_eq!(Reference.rules_total(&figures, &rows[..len], 65), (0, sum), "{len}");
+        }
+        assert_eq!(Reference.rules_total(&figures[..8], &rows, 65), (21, 0));
+    }
+
+    #[test]
+    fn a_sum_past_64_bits() {
+        let half = 1 << 63;
+        for (count, other, answer) in [(half - 1, 1, (0, u64::MAX)), (half - 1, 2, (46, 0)), (half, 0, (46, 0))] {
+            let figures = Sums::made_up(&[(5, count), (9, other)], 1).encode();
+            assert_eq!(Reference.rules_total(&figures, &rows_at(&[1, 6, 5, 6]), 10), answer);
+        }
+        // 21 comes first.
+        assert_eq!(Reference.rules_total(&[], &rows_at(&[1, 6, 5, 6]), 10), (21, 0));
     }
 }

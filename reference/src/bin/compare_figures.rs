@@ -1,4 +1,4 @@
-//! Compares the library's figures over a shelf of books with those of this crate, book by book, and their sums with the rules' places.
+//! Compares the library's figures over a shelf of books with those of this crate, book by book and rule by rule, and their sums with the rules' places.
 //!
 //! compare_figures [--exact] [--trace] [seeds [first seed]]
 //!
@@ -15,6 +15,7 @@ use reference::figures::{self, FIGURES_BYTES, Figures, PASSES, ROW_BYTES, SHORT,
 use reference::files::words;
 use reference::harness::{self, Compares, Group, Lent, Tally};
 use reference::limits;
+use reference::precedence;
 use reference::processor::{MAX_TABLE, places};
 use reference::programs;
 use reference::random::{self, Rng};
@@ -120,6 +121,31 @@ impl Harness {
         let row = |row: &[u8; ROW_BYTES]| [&row[..8], &row[8..16], &row[16..]].map(number);
         (done.0, rows.bytes().as_chunks().0.iter().take(done.1 as usize).map(row).collect())
     }
+
+    /// Compares the sum of one rule's words.
+    fn rule_total(&mut self, rng: &mut Rng, figures: &[u8], (from, to): (u64, u64)) -> (u16, u64) {
+        let read = Lent::new(rng, figures, self.exact);
+        let done = Reference.rule_total(figures, from, to);
+        let theirs = self.other.rule_total(read.bytes(), from, to);
+        self.tally.expect(done == theirs && read.kept(), || {
+            format!("{}  from {from} to {to}\n  rust:  {done:?}\n  other: {theirs:?}", counted(figures))
+        });
+        self.tally.met(format!("rule total {}", done.0));
+        done
+    }
+
+    /// Compares the sum over all rules.
+    fn rules_total(&mut self, rng: &mut Rng, figures: &[u8], rows: &[u8], end: u64) -> (u16, u64) {
+        let read = [figures, rows].map(|bytes| Lent::new(rng, bytes, self.exact));
+        let done = Reference.rules_total(figures, rows, end);
+        let theirs = self.other.rules_total(read[0].bytes(), read[1].bytes(), end);
+        self.tally.expect(done == theirs && read.iter().all(Lent::kept), || {
+            let rows = counted(rows);
+            format!("{}  rows, {rows}  end {end}\n  rust:  {done:?}\n  other: {theirs:?}", counted(figures))
+        });
+        self.tally.met(format!("rules total {}", done.0));
+        done
+    }
 }
 
 /// What a book was handed.
@@ -135,7 +161,7 @@ fn shown(book: &Book) -> String {
 fn counted(bytes: &[u8]) -> String {
     let numbers = bytes.as_chunks::<8>().0.iter().map(|number| u64::from_be_bytes(*number)).enumerate();
     let some: Vec<(usize, u64)> = numbers.filter(|(_, number)| *number > 0).take(60).collect();
-    format!("  figures of {} bytes, from 0: {some:?}\n", bytes.len())
+    format!("  numbers of {} bytes, from 0: {some:?}\n", bytes.len())
 }
 
 /// A text, escaped so that it can be read, cut where it is long.
@@ -311,9 +337,11 @@ fn damaged(h: &mut Harness, rng: &mut Rng) {
             continue;
         }
         let shelf = h.shelf(rng, &figures);
+        let totals = any_totals(h, rng, &figures);
         let done = h.add(rng, &book, &mut figures);
         if !["books", "any byte"].contains(name) {
             h.tally.expect(shelf.number == REFUSED && done == REFUSAL, || format!("  {name}: {done:?}, {shelf:?}"));
+            h.tally.expect(totals == [(REFUSED, 0); 2], || format!("  {name}: rule by rule {totals:?}"));
             h.tally.met(format!("damaged: {name}"));
             if passes {
                 h.tally.met("21 before 46");
@@ -366,8 +394,11 @@ fn lengths(h: &mut Harness, rng: &mut Rng) {
         let mut figures = made_up(rng);
         figures.resize(size, 0);
         let shelf = h.shelf(rng, &figures);
+        let totals = any_totals(h, rng, &figures);
         let done = h.add(rng, &book, &mut figures);
         let right = size == FIGURES_BYTES;
+        h.tally
+            .expect(totals.iter().all(|(number, _)| (*number != REFUSED) == right), || format!("  {totals:?} for {size} bytes"));
         h.tally
             .expect((shelf.number == 0) == right && (done.number != REFUSED) == right, || format!("  {done:?} for {size} bytes"));
         h.tally.met(format!("length {right}"));
@@ -382,6 +413,11 @@ fn good(rng: &mut Rng) -> Vec<u8> {
         1 => {
             let bytes = seed.within(1_024, 4_000);
             programs::typical(&mut seed, bytes).text
+        }
+        2 | 3 => {
+            let size = 3 + seed.below(40);
+            let words = precedence::good(&mut seed, size);
+            texts::join(&mut seed, &words)
         }
         _ => {
             let size = 6 + seed.below(80);
@@ -411,24 +447,199 @@ fn by_rule(h: &mut Harness, rng: &mut Rng) {
         h.add(rng, &book, &mut figures);
         all.push(book.visits().1);
     }
-    let locations = all.concat();
     let size = ROW_BYTES * 128 + rng.below(9);
     let (number, rows) = h.rules(rng, &text, size);
     h.tally.expect(number == 0, || format!("  the rules of an accepted text: {number}"));
-    let ends = rows.iter().skip(1).map(|row| row[2]).chain([words as u64 + 1]);
-    let mut total = 0;
-    for ((row, end), place) in rows.iter().zip(ends).zip(places(&text).unwrap_or_default()) {
-        let sum: u64 = (row[2]..end).map(|location| get(&figures, location as usize - 1)).sum();
-        let own = locations.iter().filter(|location| (place.location as u64..end).contains(&u64::from(**location))).count();
-        h.tally.expect(sum == own as u64, || format!("  the rule at {}: {sum}, not {own}\n  \"{}\"", place.location, cut(&text)));
-        total += sum;
-    }
     let shelf = h.shelf(rng, &figures);
-    let same = total == shelf.total && total == locations.len() as u64;
+    let total = sums_by_rule(h, rng, &text, &figures, &rows, &all.concat());
+    let same = total == shelf.total && total == all.concat().len() as u64;
     h.tally.expect(same, || format!("  rule by rule {total}, book by book {shelf:?}\n  \"{}\"", cut(&text)));
+    let together = h.rules_total(rng, &figures, &row_bytes(&rows), words as u64 + 1);
+    h.tally.expect(together == (0, shelf.total), || format!("  rules together {together:?}, {shelf:?}\n  \"{}\"", cut(&text)));
     h.tally.met(format!("rules of a program: {}", rows.len().min(4)));
+    let made = rows.iter().any(|row| text[row[0] as usize] == b'^');
     if total > 0 {
-        h.tally.met("sums by rule");
+        h.tally.met(format!("sums by rule, made for operators {made}"));
+    }
+}
+
+/// The sum of each rule of a text by itself, which must be that of the locations that were visited; all of them together.
+fn sums_by_rule(h: &mut Harness, rng: &mut Rng, text: &[u8], figures: &[u8], rows: &[[u64; 3]], visited: &[u16]) -> u64 {
+    let words = h.processor.process(text, &mut vec![0; 2 * MAX_TABLE]).words;
+    let ends = rows.iter().skip(1).map(|row| row[2]).chain([words + 1]);
+    let mut total = 0;
+    for ((row, end), place) in rows.iter().zip(ends).zip(places(text).unwrap_or_default()) {
+        let done = h.rule_total(rng, figures, (row[2], end));
+        let own = visited.iter().filter(|location| (place.location as u64..end).contains(&u64::from(**location))).count() as u64;
+        h.tally
+            .expect(done == (0, own), || format!("  the rule at {}: {done:?}, not {own}\n  \"{}\"", place.location, cut(text)));
+        total += done.1;
+    }
+    total
+}
+
+fn row_bytes(rows: &[[u64; 3]]) -> Vec<u8> {
+    rows.iter().flatten().flat_map(|number| number.to_be_bytes()).collect()
+}
+
+/// Rows with these locations; what else stands in them may be anything.
+fn rows_at(rng: &mut Rng, locations: &[u64]) -> Vec<u8> {
+    let rows: Vec<[u64; 3]> = locations.iter().map(|location| [rng.draw(), rng.draw(), *location]).collect();
+    row_bytes(&rows)
+}
+
+/// Where a rule may begin or end: in the table, at its ends, and where no table goes, also where only the low bits would be a location.
+const FAR: [u64; 12] = [
+    0,
+    4_095,
+    4_097,
+    4_098,
+    1 << 13,
+    (1 << 16) + 2,
+    (1 << 32) + 2,
+    (1 << 63) - 1,
+    1 << 63,
+    (1 << 63) + 2,
+    u64::MAX - 1,
+    u64::MAX,
+];
+
+fn any_location(rng: &mut Rng) -> u64 {
+    match rng.below(4) {
+        0 => rng.pick(&FAR),
+        1 => u64::from(rng.pick(&LOCATIONS)),
+        _ => rng.below(MAX_TABLE + 40) as u64,
+    }
+}
+
+/// The locations with a count.
+fn counts(figures: &[u8]) -> Vec<(u64, u64)> {
+    (0..MAX_TABLE).map(|index| (index as u64 + 1, get(figures, index))).filter(|(_, count)| *count > 0).collect()
+}
+
+/// The counts from one location on, up to another and without it.
+fn between(counts: &[(u64, u64)], from: u64, to: u64) -> u128 {
+    counts.iter().filter(|(location, _)| from <= *location && *location < to).map(|(_, count)| u128::from(*count)).sum()
+}
+
+/// A rule and rows of any sort, asked of any figures.
+fn any_totals(h: &mut Harness, rng: &mut Rng, figures: &[u8]) -> [(u16, u64); 2] {
+    let ends = (any_location(rng), any_location(rng));
+    let sort = rng.below(ROWS.len());
+    let locations = any_rows(rng, sort);
+    let rows = rows_at(rng, &locations);
+    [h.rule_total(rng, figures, ends), h.rules_total(rng, figures, &rows, ends.1)]
+}
+
+/// The first location behind all.
+const BEHIND: u64 = MAX_TABLE as u64 + 1;
+/// Names of where a rule begins and ends.
+const ENDS: [(&str, fn(u64, u64) -> bool); 10] = [
+    ("from 0", |from, to| from == 0 && to > 1),
+    ("to 0", |from, to| from > 0 && to == 0),
+    ("from is to", |from, to| from == to),
+    ("from behind to", |from, to| from > to),
+    ("to past the last", |from, to| from < BEHIND && to > BEHIND),
+    ("from past the last", |from, to| from >= BEHIND && to > from),
+    ("from past 2^63", |from, to| from >> 63 == 1 && to >= 1),
+    ("to past 2^63", |from, to| from < BEHIND && to >> 63 == 1),
+    ("from 2^64 - 1", |from, _| from == u64::MAX),
+    ("to 2^64 - 1", |from, to| from < BEHIND && to == u64::MAX),
+];
+
+/// One rule with any ends.
+fn any_rule(h: &mut Harness, rng: &mut Rng) {
+    let figures = made_up(rng);
+    let counts = counts(&figures);
+    for _ in 0..4 {
+        let (from, to) = (any_location(rng), any_location(rng));
+        let wanted = between(&counts, from, to);
+        let done = h.rule_total(rng, &figures, (from, to));
+        h.tally.expect((done.0, u128::from(done.1)) == (0, wanted), || format!("  {done:?}, not {wanted}, from {from} to {to}"));
+        for (name, is) in ENDS {
+            if is(from, to) {
+                h.tally.met(format!("rule {name}"));
+            }
+        }
+        if done.1 > 0 {
+            h.tally.met("rule with a sum");
+        }
+    }
+}
+
+/// The sorts of rows: as a program has them, the last one first, each twice, all of them several times over, and any.
+const ROWS: [&str; 5] = ["in order", "backwards", "repeated", "over again", "any"];
+
+fn any_rows(rng: &mut Rng, sort: usize) -> Vec<u64> {
+    let mut locations: Vec<u64> = (0..rng.below(9)).map(|_| any_location(rng)).collect();
+    match ROWS[sort] {
+        "in order" => locations.sort_unstable(),
+        "backwards" => locations.sort_unstable_by(|a, b| b.cmp(a)),
+        "repeated" => locations = locations.iter().flat_map(|location| [*location; 2]).collect(),
+        "over again" => {
+            locations.sort_unstable();
+            locations = locations.repeat(rng.within(2, 30));
+        }
+        _ => {}
+    }
+    locations
+}
+
+/// Rows of all sorts, whole and cut at any byte.
+fn any_rules(h: &mut Harness, rng: &mut Rng) {
+    let figures = made_up(rng);
+    let counts = counts(&figures);
+    for (sort, name) in ROWS.iter().enumerate() {
+        let locations = any_rows(rng, sort);
+        let (rows, end) = (rows_at(rng, &locations), any_location(rng));
+        // At every byte now and then.
+        let first = if rng.once_in(20) { rows.len().saturating_sub(3 * ROW_BYTES) } else { rows.len() };
+        for len in (first..=rows.len()).chain([rng.below(rows.len() + 1)]) {
+            let whole = &locations[..len / ROW_BYTES];
+            let ends = whole.iter().skip(1).copied().chain([end]);
+            let wanted: u128 = whole.iter().zip(ends).map(|(from, to)| between(&counts, *from, to)).sum();
+            let wanted = u64::try_from(wanted).map_or((PASSES, 0), |wanted| (0, wanted));
+            let done = h.rules_total(rng, &figures, &rows[..len], end);
+            h.tally.expect(done == wanted, || format!("  {done:?}, not {wanted:?}, rows at {whole:?} to {end} in {len} bytes"));
+            if !len.is_multiple_of(ROW_BYTES) {
+                h.tally.met(format!("part of a row: {} bytes", len % ROW_BYTES));
+            }
+            if done.1 > 0 {
+                h.tally.met(format!("rows {name}, {} rules with a sum", if whole.len() > 1 { "more" } else { "one" }));
+            }
+        }
+        h.tally.met(format!("rows {name}"));
+        if locations.is_empty() {
+            h.tally.met("rows of no bytes");
+        }
+    }
+}
+
+/// Rows that count a location several times, so that the sum just fits 64 bits or just not.
+fn edges_by_rule(h: &mut Harness, rng: &mut Rng) {
+    let times = rng.within(2, 6);
+    // With two locations, of which the other makes the sum up to what it is to be.
+    let count = 2 + (rng.draw() >> rng.below(60)) % (u64::MAX / times as u64 - 2);
+    let (one, other) = (rng.within(1, 2_000) as u16, rng.within(2_001, MAX_TABLE) as u16);
+    let mut visits = vec![one; times];
+    visits.insert(rng.below(times + 1), other);
+    let locations: Vec<u64> = visits.iter().flat_map(|location| [u64::from(*location), u64::from(*location) + 1]).collect();
+    let (rows, end) = (rows_at(rng, &locations), locations[locations.len() - 1]);
+    for more in -2..=2 {
+        let rest = (u64::MAX - times as u64 * count).wrapping_add_signed(more);
+        let mut figures = Sums::made_up(&[(one, count), (other, rest)], rng.draw() | 1).encode();
+        let wanted = if more > 0 { (PASSES, 0) } else { (0, u64::MAX.wrapping_add_signed(more)) };
+        let done = h.rules_total(rng, &figures, &rows, end);
+        h.tally.expect(done == wanted, || format!("  {done:?}, not {wanted:?}: {times} times {count} and {rest}"));
+        h.tally.met(format!("sum of rules {more:+}"));
+        // 21 comes before it.
+        let total = get(&figures, figures::TOTAL);
+        put(&mut figures, figures::TOTAL, total ^ 1 << rng.below(64));
+        let done = h.rules_total(rng, &figures, &rows, end);
+        h.tally.expect(done == (REFUSED, 0), || format!("  {done:?} for damaged figures"));
+        if more > 0 {
+            h.tally.met("21 before 46 by rule");
+        }
     }
 }
 
@@ -489,6 +700,9 @@ impl Compares for Harness {
         ("other lengths", lengths, 4),
         ("rule by rule", by_rule, 6),
         ("rows of rules", texts_of_all_sorts, 2),
+        ("a rule with any ends", any_rule, 6),
+        ("rules with any rows", any_rules, 2),
+        ("near 2^64 by rules", edges_by_rule, 4),
     ];
 
     fn tally(&mut self) -> &mut Tally {
@@ -506,9 +720,27 @@ impl Compares for Harness {
         self.tally.demand(least, both.map(|(total, books)| format!("past by total {total}, by books {books}")));
         self.tally.demand_numbers(least, "46 before", &[0, 30, 31, 32, 33, 34, 35, 36, 37]);
         self.tally.demand(least, ["just fits", "the last book", "21 before 46", "a remainder"]);
-        self.tally.demand(least, ["length true", "length false", "sums by rule", "20 by the table"]);
+        self.tally.demand(least, ["length true", "length false", "20 by the table"]);
         self.tally.demand_numbers(least, "rules of a program:", &[1, 2, 3, 4]);
         self.tally.demand(least, [1, 2, 127, 128].map(|rules| format!("{rules} rules")));
+        self.report_by_rule(least);
+    }
+}
+
+impl Harness {
+    /// What the sums of rules are to have met.
+    fn report_by_rule(&mut self, least: u64) {
+        self.tally.demand_numbers(least, "rule total", &[0, 21]);
+        self.tally.demand_numbers(least, "rules total", &[0, 21, 46]);
+        self.tally.demand(least, [true, false].map(|made| format!("sums by rule, made for operators {made}")));
+        self.tally.demand(least, ENDS.map(|(name, _)| format!("rule {name}")));
+        self.tally.demand(least, ["rule with a sum", "rows of no bytes", "21 before 46 by rule"]);
+        self.tally.demand(least, ROWS.map(|name| format!("rows {name}")));
+        // Rows that go backwards have but the last rule.
+        let summed = ["in order, more", "in order, one", "backwards, more", "repeated, more", "over again, more", "any, more"];
+        self.tally.demand(least, summed.map(|name| format!("rows {name} rules with a sum")));
+        self.tally.demand(least, (1..ROW_BYTES).map(|bytes| format!("part of a row: {bytes} bytes")));
+        self.tally.demand(least, (-2..=2).map(|more| format!("sum of rules {more:+}")));
     }
 }
 
