@@ -1,5 +1,6 @@
 //! Good programs with one fault planted in them, so that number and word are known beforehand.
 
+pub mod entries;
 pub mod operators;
 
 use crate::processor::{Answer, MAX_TABLE, process};
@@ -234,6 +235,11 @@ fn insert(seed: &mut Seed, words: &mut Words, place: Place, part: &str) -> Optio
         Place::Sections => words.iter().position(|word| word == b"rules")?,
         _ => words.len() - 1,
     };
+    insert_at(seed, words, at, &part)
+}
+
+/// Puts a part in before that word; the index of the marked word, if one is marked.
+fn insert_at(seed: &mut Seed, words: &mut Words, at: usize, part: &str) -> Option<usize> {
     let mut marked = None;
     for (i, word) in part.split_whitespace().enumerate() {
         let bare = word.strip_prefix(MARK).unwrap_or(word);
@@ -346,5 +352,11 @@ mod tests {
     #[test]
     fn faults_of_operators_are_where_they_are_planted() {
         found(operators::SORTS, operators::plant, &operators::PARTS, 6);
+    }
+
+    #[test]
+    fn faults_of_entries_are_where_they_are_planted() {
+        let plant = |seed: &mut Seed, sort: usize| entries::plant(seed, &entries::Sort::all()[sort]);
+        found(entries::Sort::all().len(), plant, &[], 6);
     }
 }

@@ -140,8 +140,9 @@ impl Harness {
         let done = Reference.rules_total(figures, rows, end);
         let theirs = self.other.rules_total(read[0].bytes(), read[1].bytes(), end);
         self.tally.expect(done == theirs && read.iter().all(Lent::kept), || {
-            let rows = counted(rows);
-            format!("{}  rows, {rows}  end {end}\n  rust:  {done:?}\n  other: {theirs:?}", counted(figures))
+            let locations: Vec<u64> = rows.as_chunks::<ROW_BYTES>().0.iter().map(|row| get(row, 2)).collect();
+            let shown = format!("  rows of {} bytes, at {locations:?}, end {end}\n", rows.len());
+            format!("{}{shown}  rust:  {done:?}\n  other: {theirs:?}", counted(figures))
         });
         self.tally.met(format!("rules total {}", done.0));
         done
@@ -161,7 +162,7 @@ fn shown(book: &Book) -> String {
 fn counted(bytes: &[u8]) -> String {
     let numbers = bytes.as_chunks::<8>().0.iter().map(|number| u64::from_be_bytes(*number)).enumerate();
     let some: Vec<(usize, u64)> = numbers.filter(|(_, number)| *number > 0).take(60).collect();
-    format!("  numbers of {} bytes, from 0: {some:?}\n", bytes.len())
+    format!("  figures of {} bytes, from 0: {some:?}\n", bytes.len())
 }
 
 /// A text, escaped so that it can be read, cut where it is long.

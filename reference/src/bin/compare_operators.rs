@@ -7,7 +7,7 @@
 
 use std::process::ExitCode;
 
-use reference::faults::{Fault, operators as faults};
+use reference::faults::{Fault, entries, operators as faults};
 use reference::ffi;
 use reference::figures::{Figures, ROW_BYTES, SHORT};
 use reference::harness::{self, Compares, Group, Lent, Tally};
@@ -125,6 +125,19 @@ fn planted(h: &mut Harness, rng: &mut Rng) {
         let Fault { number, text, start, len } = faults::plant(&mut seed, sort);
         h.answers(rng, &text, number, start, len);
         h.tally.met(format!("planted {number}"));
+    }
+}
+
+/// Entries with the input token, the output token or both at fault, one of each sort in two seeds: the token is shown wherever it is at fault.
+fn faulty_entries(h: &mut Harness, rng: &mut Rng) {
+    let mut seed = Seed::new(rng.draw());
+    let first = h.tally.seed() as usize % 2;
+    for sort in entries::Sort::all().into_iter().skip(first).step_by(2) {
+        let Fault { number, text, start, len } = entries::plant(&mut seed, &sort);
+        h.answers(rng, &text, number, start, len);
+        let [input, output] = sort.numbers();
+        h.tally.met(format!("token {input} output {output}"));
+        h.tally.met(sort);
     }
 }
 
@@ -279,6 +292,7 @@ impl Compares for Harness {
         ("lent sizes", lent_sizes, 1),
         ("rows of rules", rows, 2),
         ("sums in postfix order", sums, 3),
+        ("entries with a word at fault", faulty_entries, 1),
     ];
 
     fn tally(&mut self) -> &mut Tally {
@@ -299,6 +313,27 @@ impl Compares for Harness {
         let levels = (1..=HIGHEST).flat_map(|level| ["left", "right"].map(|side| format!("level {level} {side}")));
         self.tally.demand(least, levels);
         self.tally.demand_numbers(least, "sum", &[0, 30, 33]);
+        self.report_entries(least);
+    }
+}
+
+/// How many times as often as other things each sort of entry is to be met: in every other seed.
+const OFTEN: u64 = 15;
+
+impl Harness {
+    /// What the entries with a word at fault are to have met: each sort of them often.
+    fn report_entries(&mut self, least: u64) {
+        let both = [[3, 3], [3, 5], [5, 3], [5, 5]];
+        let one = [[3, 0], [5, 0], [0, 3], [0, 5]];
+        self.tally
+            .demand(OFTEN * least, [both, one].concat().iter().map(|[token, output]| format!("token {token} output {output}")));
+        let sorts = entries::Sort::all();
+        let fewest = sorts.iter().map(|sort| self.tally.times(&sort.to_string())).min().unwrap_or(0);
+        println!("met: each of {} sorts of entries with a word at fault {fewest} times or more", sorts.len());
+        for sort in sorts {
+            let times = self.tally.times(&sort.to_string());
+            self.tally.expect(times >= OFTEN * least, || format!("met {times} times, not {}: {sort}", OFTEN * least));
+        }
     }
 }
 

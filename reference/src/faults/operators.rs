@@ -5,8 +5,8 @@ use crate::precedence;
 use crate::texts::{Seed, Words};
 
 /// What the planted parts refer to beside all else.
-const TOKENS: &str = "input : qp 'qq' = 50000 ; output : qr = 50000 ;";
-const SECTION: &str = "operators qE : qi 1 left qo 'qq' 15 right qr ;";
+pub(super) const TOKENS: &str = "input : qp 'qq' = 50000 ; output : qr = 50000 ;";
+pub(super) const SECTION: &str = "operators qE : qi 1 left qo 'qq' 15 right qr ;";
 
 pub(super) const PARTS: [Part; 137] = [
     (2, Place::Sections, "operators ~: qi 1 left qo ;"),
