@@ -69,8 +69,10 @@ extern "C" {
 /* Translates a program. Read: text, any bytes. Lent: table, every whole word of which is written: the table's words and then zeros, or zeros
  * alone on a refusal. `*start` and `*len` become the part of the text at fault (0 and 0 on acceptance; the empty part at the end for 20
  * and for a text over 32,768 bytes), `*words` the number of the table's words, `*finishing` 1 where the verdict is "finishing" (both 0 on a
- * refusal). For a finishing program `*figure` becomes its figure Q, which is at least 1, and `*figure_number` 0: no walk of n tokens and
- * allowance r from sst_fresh, its calls as in demand 3, needs more than 65 * figure * (n + r + 1) steps. Where Q is above 4,294,967,295
+ * refusal). For a finishing program `*figure` becomes its figure Q, which is at least 1, and `*figure_number` 0: every walk of n tokens and
+ * allowance r from sst_fresh, its calls as in demand 3, does fewer than 65 * figure * (n + r + 1) steps in all its calls together. That product
+ * can pass 64 bits, with the greatest figure from some 66 million tokens on; a budget is for one call, so a walk with more steps to do is
+ * called again while it answers 36. Where Q is above 4,294,967,295
  * `*figure_number` becomes 47 and `*figure` 0; that is no refusal: the answer is 0, and table and verdict are as without it. Both are 0 for a
  * program that is not finishing and on a refusal. Answers any number of the second list above. */
 uint16_t sst_process(const uint8_t *text, size_t text_len, uint8_t *table, size_t table_len, uint64_t *start, uint64_t *len,
