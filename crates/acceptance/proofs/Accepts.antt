@@ -13,7 +13,7 @@ use Rattle.acceptance.specs.Answers.{TableOf}
 use Rattle.acceptance.proofs.CheckLaws.{Yields, yields, next, passed, Any, any}
 use Rattle.acceptance.proofs.NamesOk.{NamesOk, Typed, typed, each-append, sections-ok}
 use Rattle.acceptance.proofs.Parsed.{parse-ok}
-use Rattle.acceptance.proofs.Resolved.{acts-of}
+use Rattle.acceptance.proofs.Resolved.{acts-using, each-any, acts-of}
 use Rattle.acceptance.proofs.Shape.{Each, ShapedAll, NotEmpty, WrittenOk}
 use Rattle.acceptance.proofs.Used.{UseOk, pairs-used, total, Procedure, MadeAre, made-are, made-good, lowest-calls, Within, MadeFew, made-few}
 use Rattle.base.specs.Bools.{never, and}
@@ -22,7 +22,7 @@ use Rattle.finishing.specs.Test.{finishing}
 use Rattle.names.specs.Declare.{declareSections, knownRules}
 use Rattle.names.specs.Known.{Checked, good, wrong, KnownRule, Names, findRule, optionalType}
 use Rattle.names.specs.Resolve.{actsOf}
-use Rattle.names.specs.Uses.{Use, pairsOf, lowestOf, madeFor}
+use Rattle.names.specs.Uses.{Use, actsUses, pairsOf, lowestOf, madeFor}
 use Rattle.names.specs.Understand.{nobody, taken, isFirst, ruleMeans, rulesMean, understand}
 use Rattle.processor.specs.Process.{Part, Understood, meaning, faulty, checked, readIn, understood, accepted, refused, answerFor, process, partOf}
 use Rattle.program.proofs.AcceptedWords.{accepted-word}
@@ -66,7 +66,7 @@ rule-is p n ks seen r ok =
     yields (RuleIs r (isFirst seen)) (record { valued = given g; body = b })
     (record { valued = hg .same-given; procedure = λ d. hg .same-given ∙ not-and (isFirst seen) (given (r .gives)) f d; no-end = not-and (given g) (pastAll b) e }))))))
 
-abbrev NoEnd : Rule → Type 0
+abbrev pub NoEnd : Rule → Type 0
 NoEnd m = m .valued ≡ true → pastAll (m .body) ≡ false
 
 unfoldable FirstOk : List Rule → Type 0
@@ -128,7 +128,7 @@ rules-oks p n ks prog ok known low seen (r ∷ rs) h =
     passed (RuleOks prog) (isFirst seen && given (r .gives)) 5 (r .rule) _ (λ _.
     next (RuleOks prog) (Typed (r .gives)) (optionalType p (n .types) (r .gives)) _ (typed p (n .types) (r .gives) (ok .types)) (λ g hg.
     next (RuleOks prog) (λ b. Oks prog b (given g) false) (actsOf p n ks (r .body) (record { inside = false; gives = g })) _
-    (acts-of p n ks prog ok known low (r .body) (record { inside = false; gives = g }) (h .0) (hg .members)) (λ b hb.
+    (acts-of p n ks prog ok known (λ _. Unit {0}) (λ u _. low u) (r .body) (record { inside = false; gives = g }) (acts-using (λ _. Unit {0}) (r .body) [] (each-any (actsUses (r .body) [])) .0) (h .0) (hg .members)) (λ b hb.
     passed (RuleOks prog) (given g && pastAll b) 8 (r .closing) _ (λ _.
     yields (RuleOks prog) (record { valued = given g; body = b }) hb))))))
     (λ m hm. next (Each (RuleOks prog)) (Each (RuleOks prog)) (rulesMean p n ks (r .rule .text ∷ seen) rs) _ (rules-oks p n ks prog ok known low (r .rule .text ∷ seen) rs (h .1))
@@ -152,7 +152,7 @@ unfolding NotEmpty
 matched-some matched-nil h = absurd h
 matched-some (matched-cons v x) h = omega arith
 
-nobody-ok : NamesOk nobody
+pub nobody-ok : NamesOk nobody
 unfolding nobody Each
 nobody-ok = record { inputs = tt; outputs = tt; errors = tt; types = tt; operations = tt; operators = tt }
 
@@ -174,10 +174,10 @@ later-procedures [] ys h r b l = at-place Procedure ys h r l
 later-procedures (x ∷ xs) ys h zero b l = absurd (omega arith)
 later-procedures (x ∷ xs) ys h (suc r) b l = later-procedures xs ys h r (omega arith) (omega arith)
 
-calls-more : (xs ys : List Rule) (r : ℕ) (v : Bool) → Calls xs r v → Calls (xs ++ ys) r v
+pub calls-more : (xs ys : List Rule) (r : ℕ) (v : Bool) → Calls xs r v → Calls (xs ++ ys) r v
 calls-more xs ys r v c = record { there = let n = length-append xs ys in let l = c .there in omega arith; sort = ap (λ (m : Rule). m .valued) (rule-before xs ys r (c .there)) ∙ c .sort }
 
-procedures-end : (ms : List Rule) → Each Procedure ms → Each NoEnd ms
+pub procedures-end : (ms : List Rule) → Each Procedure ms → Each NoEnd ms
 unfolding Each
 procedures-end [] h = tt
 procedures-end (m ∷ ms) h = ((λ e. never (sym (h .0) ∙ e)), procedures-end ms (h .1))
@@ -211,7 +211,7 @@ accepts p n own made w ok e f =
       no-end = at-place NoEnd prog (each-append NoEnd own made (a .no-end) (procedures-end made (m .1)));
     }
 
-understand-accepts : (p : Program) → WrittenOk p → Yields Accepted (understand p)
+pub understand-accepts : (p : Program) → WrittenOk p → Yields Accepted (understand p)
 unfolding understand
 understand-accepts p w =
     next Accepted NamesOk (declareSections p (p .sections) nobody) _ (sections-ok p (p .sections) nobody (w .sections) (w .sections) nobody-ok) (λ n ok.

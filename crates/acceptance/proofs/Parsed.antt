@@ -193,10 +193,10 @@ section-ok k s =
     (on-kind SectionOk type _ _ (after SectionOk pass _ (bind SectionOk Any (oneName (s .left)) _ (any (oneName (s .left))) (λ w _. section-of k (s .left - 1) false 0 (values w) (λ es h. h))))
     (λ ws a rest e. either SectionOk (spells (bytes "operators") ws) (_>>_ pass (operatorSection k s)) (mechanismSection k s) (after SectionOk pass _ (operators-section k s)) (mechanism-section k s) ws a rest e))))
 
-abbrev AllOk : Sections → Type 0
+abbrev pub AllOk : Sections → Type 0
 AllOk x = Each SectionOk (x .sections)
 
-sections-ok : (k : ℕ) (s : Sofar) → Gives AllOk (someSections k s)
+pub sections-ok : (k : ℕ) (s : Sofar) → Gives AllOk (someSections k s)
 unfolding someSections Each
 sections-ok zero s = refuses AllOk
 sections-ok (suc k) s =
@@ -285,7 +285,7 @@ mutual
 
 -- Rules
 
-abbrev RuleOk : Rule → Type 0
+abbrev pub RuleOk : Rule → Type 0
 RuleOk r = ShapedAll (r .body)
 
 rule-ok : (k left : ℕ) → Gives RuleOk (aRule k left)
@@ -298,10 +298,10 @@ rule-ok k left =
     bind RuleOk Any (expect (code ";")) _ (any (expect (code ";"))) (λ e _.
     gives RuleOk (record { rule = w; gives = g; body = b; closing = e }) h)))))
 
-abbrev RulesOk : List Rule → Type 0
+abbrev pub RulesOk : List Rule → Type 0
 RulesOk rs = Each RuleOk rs × NotEmpty rs
 
-rules-ok : (k left : ℕ) → Gives RulesOk (someRules k left)
+pub rules-ok : (k left : ℕ) → Gives RulesOk (someRules k left)
 unfolding someRules Each NotEmpty
 rules-ok zero left = refuses RulesOk
 rules-ok (suc k) left =

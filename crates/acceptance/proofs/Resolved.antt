@@ -13,7 +13,7 @@ use Rattle.base.specs.Common.{if_then_else_, member, given}
 use Rattle.base.specs.Tree.{plain, cycle, choice, done, _▸_, nil, alternative, absent, otherwise}
 use Rattle.names.specs.Known.{Checked, good, wrong, _>>=_, faultIf, Known, KnownOperation, KnownRule, Names, find, findType, findOperation, findOperators, findRule, elsewhere, lookup}
 use Rattle.names.specs.Resolve.{Place, within, Chooses, updating, choosing, operationOf, ruleNamed, parameterOf, updateOf, matchOf, giveOf, rankedOf, plainOf, membersOf, selectorOf, labelsOf, actOf, actsOf, altsOf, otherOf}
-use Rattle.names.specs.Uses.{Use, pairsOf, lowestOf}
+use Rattle.names.specs.Uses.{Use, plainUses, actUses, actsUses, altsUses, otherUses, pairsOf, lowestOf}
 use Rattle.program.specs.Made.{Level}
 use Rattle.program.specs.Accepted.{Values, Labelled, NeedsLabel, Calls, OkPlain, OkSelector, Ok, Oks, OkAlts, OkOther}
 use Rattle.program.specs.Program as means
@@ -33,9 +33,76 @@ pub data SameOther : written.Other → means.Other → Type 0 where
   same-absent : SameOther absent absent
   same-otherwise : {b : written.Acts} {d : means.Acts} → SameOther (otherwise b) (otherwise d)
 
+-- every use of operators has Q
+module _ (Q : Use → Type 0) where
+  unfoldable pub PlainUsing : written.Plain → Type 0
+  PlainUsing (written.named w c) = Unit {0}
+  PlainUsing (written.any w) = Unit {0}
+  PlainUsing (written.exit w) = Unit {0}
+  PlainUsing (written.emit w) = Unit {0}
+  PlainUsing (written.error w) = Unit {0}
+  PlainUsing (written.call w) = Unit {0}
+  PlainUsing (written.give w v) = Unit {0}
+  PlainUsing (written.ranked s w o) = Q (record { sign = s; section = w; operand = o })
+
+  unfoldable mutual
+    pub Using : written.Act → Type 0
+    Using (plain a) = PlainUsing a
+    Using (cycle b) = UsingAll b
+    Using (choice s q o) = UsingSome q × UsingOther o
+
+    pub UsingAll : written.Acts → Type 0
+    UsingAll done = Unit {0}
+    UsingAll (a ▸ q) = Using a × UsingAll q
+
+    pub UsingSome : written.Alts → Type 0
+    UsingSome nil = Unit {0}
+    UsingSome (alternative ls b q) = UsingAll b × UsingSome q
+
+    pub UsingOther : written.Other → Type 0
+    UsingOther absent = Unit {0}
+    UsingOther (otherwise b) = UsingAll b
+
+  plain-using : (a : written.Plain) (k : List Use) → Each Q (plainUses a k) → PlainUsing a × Each Q k
+  unfolding plainUses PlainUsing Each
+  plain-using (written.named w c) k h = (tt, h)
+  plain-using (written.any w) k h = (tt, h)
+  plain-using (written.exit w) k h = (tt, h)
+  plain-using (written.emit w) k h = (tt, h)
+  plain-using (written.error w) k h = (tt, h)
+  plain-using (written.call w) k h = (tt, h)
+  plain-using (written.give w v) k h = (tt, h)
+  plain-using (written.ranked s w o) k h = (h .0, h .1)
+
+  mutual
+    unfolding actUses Using
+
+    act-using : (a : written.Act) (k : List Use) → Each Q (actUses a k) → Using a × Each Q k
+    act-using (plain a) k h = plain-using a k h
+    act-using (cycle b) k h = acts-using b k h
+    act-using (choice s q o) k h = let x = alts-using q (otherUses o k) h in let y = other-using o k (x .1) in ((x .0, y .0), y .1)
+
+    pub acts-using : (q : written.Acts) (k : List Use) → Each Q (actsUses q k) → UsingAll q × Each Q k
+    acts-using done k h = (tt, h)
+    acts-using (a ▸ q) k h = let x = act-using a (actsUses q k) h in let y = acts-using q k (x .1) in ((x .0, y .0), y .1)
+
+    alts-using : (q : written.Alts) (k : List Use) → Each Q (altsUses q k) → UsingSome q × Each Q k
+    alts-using nil k h = (tt, h)
+    alts-using (alternative ls b q) k h = let x = acts-using b (altsUses q k) h in let y = alts-using q k (x .1) in ((x .0, y .0), y .1)
+
+    other-using : (o : written.Other) (k : List Use) → Each Q (otherUses o k) → UsingOther o × Each Q k
+    other-using absent k h = (tt, h)
+    other-using (otherwise b) k h = acts-using b k h
+
+-- nothing is asked of a use
+pub each-any : (us : List Use) → Each {A = Use} (λ _. Unit {0}) us
+unfolding Each
+each-any [] = tt
+each-any (u ∷ us) = (tt, each-any us)
+
 module _ (p : Program) (n : Names) (rules : List KnownRule) (prog : List Rule) (ok : NamesOk n)
     (known : (w : List ℕ) (k : KnownRule) → findRule w rules ≡ some k → Calls prog (k .place) (given (k .gives)))
-    (lowest : (u : Use) → Calls prog (lowestOf n u (length (p .rules)) (pairsOf (p .rules))) false) where
+    (Q : Use → Type 0) (lowest : (u : Use) → Q u → Calls prog (lowestOf n u (length (p .rules)) (pairsOf (p .rules))) false) where
   operation-of : (w : Word) → Yields OperationOk (operationOf p n rules w)
   unfolding operationOf elsewhere
   operation-of w o e = go (findOperation (w .text) (n .operations)) refl e
@@ -128,9 +195,9 @@ module _ (p : Program) (n : Names) (rules : List KnownRule) (prog : List Rule) (
   exit-of w true i = yields (λ a. OkPlain prog a i true) means.exit refl
   exit-of w false i = never (λ a. OkPlain prog a i false) 7 w
 
-  ranked-of : (s w o : Word) (i c : Bool) → Yields (λ a. OkPlain prog a i c) (rankedOf p n rules s w o)
+  ranked-of : (s w o : Word) (i c : Bool) → Q (record { sign = s; section = w; operand = o }) → Yields (λ a. OkPlain prog a i c) (rankedOf p n rules s w o)
   unfolding rankedOf OkPlain elsewhere
-  ranked-of s w o i c = go (findOperators (w .text) (n .operators))
+  ranked-of s w o i c used = go (findOperators (w .text) (n .operators))
     where
       go : (x : Option (List Level)) → Yields (λ a. OkPlain prog a i c) (elim x as (λ _. Checked means.Plain) [
         | none ↦ elsewhere p w
@@ -140,25 +207,25 @@ module _ (p : Program) (n : Names) (rules : List KnownRule) (prog : List Rule) (
       go (some ls) =
           next (λ a. OkPlain prog a i c) (λ _. Unit {0}) (ruleNamed p n rules o) _ (λ _ _. tt) (λ r _.
           passed (λ a. OkPlain prog a i c) (given (r .gives)) 5 o _ (λ _.
-          yields (λ a. OkPlain prog a i c) (means.call (lowestOf n (record { sign = s; section = w; operand = o }) (length (p .rules)) (pairsOf (p .rules)))) (lowest (record { sign = s; section = w; operand = o }))))
+          yields (λ a. OkPlain prog a i c) (means.call (lowestOf n (record { sign = s; section = w; operand = o }) (length (p .rules)) (pairsOf (p .rules)))) (lowest (record { sign = s; section = w; operand = o }) used)))
 
-  plain-of : (at : Place) (a : written.Plain) → MembersOk (at .gives) → Yields (λ d. OkPlain prog d (given (at .gives)) (at .inside)) (plainOf p n rules at a)
-  unfolding plainOf OkPlain
-  plain-of at (written.named w k) h = named-of w k (given (at .gives)) (at .inside) (find (w .text) (n .inputs)) refl
-  plain-of at (written.any w) h = yields (λ d. OkPlain prog d (given (at .gives)) (at .inside)) means.any tt
-  plain-of at (written.exit w) h = exit-of w (at .inside) (given (at .gives))
-  plain-of at (written.emit w) h =
+  plain-of : (at : Place) (a : written.Plain) → PlainUsing Q a → MembersOk (at .gives) → Yields (λ d. OkPlain prog d (given (at .gives)) (at .inside)) (plainOf p n rules at a)
+  unfolding plainOf OkPlain PlainUsing
+  plain-of at (written.named w k) u h = named-of w k (given (at .gives)) (at .inside) (find (w .text) (n .inputs)) refl
+  plain-of at (written.any w) u h = yields (λ d. OkPlain prog d (given (at .gives)) (at .inside)) means.any tt
+  plain-of at (written.exit w) u h = exit-of w (at .inside) (given (at .gives))
+  plain-of at (written.emit w) u h =
       next (λ d. OkPlain prog d (given (at .gives)) (at .inside)) (λ v. v < 65536) (lookup p (n .outputs) w) _ (lookup-in p (n .outputs) w (ok .outputs)) (λ v hv.
       yields (λ d. OkPlain prog d (given (at .gives)) (at .inside)) (means.emit v) hv)
-  plain-of at (written.error w) h =
+  plain-of at (written.error w) u h =
       next (λ d. OkPlain prog d (given (at .gives)) (at .inside)) (λ v. v < 65536) (lookup p (n .errors) w) _ (lookup-in p (n .errors) w (ok .errors)) (λ v hv.
       yields (λ d. OkPlain prog d (given (at .gives)) (at .inside)) (means.error v) hv)
-  plain-of at (written.call w) h =
+  plain-of at (written.call w) u h =
       next (λ d. OkPlain prog d (given (at .gives)) (at .inside)) RuleOk (ruleNamed p n rules w) _ (rule-named w) (λ r hr.
       passed (λ d. OkPlain prog d (given (at .gives)) (at .inside)) (given (r .gives)) 5 w _ (λ g.
       yields (λ d. OkPlain prog d (given (at .gives)) (at .inside)) (means.call (r .place)) (record { there = hr .there; sort = hr .sort ∙ g })))
-  plain-of at (written.give w v) h = give-of (at .gives) w v (at .inside) h
-  plain-of at (written.ranked s w o) h = ranked-of s w o (given (at .gives)) (at .inside)
+  plain-of at (written.give w v) u h = give-of (at .gives) w v (at .inside) h
+  plain-of at (written.ranked s w o) u h = ranked-of s w o (given (at .gives)) (at .inside) u
 
   -- Choices
 
@@ -248,39 +315,39 @@ module _ (p : Program) (n : Names) (rules : List KnownRule) (prog : List Rule) (
   OtherIs at o m = OkOther prog m (given (at .gives)) (at .inside) × SameOther o m
 
   mutual
-    unfolding actOf within Ok Shaped
+    unfolding actOf within Ok Shaped Using
 
-    act-of : (a : written.Act) (at : Place) → Shaped a → MembersOk (at .gives) → Yields (λ m. Ok prog m (given (at .gives)) (at .inside)) (actOf p n rules a at)
-    act-of (plain a) at s h =
-        next (λ m. Ok prog m (given (at .gives)) (at .inside)) (λ d. OkPlain prog d (given (at .gives)) (at .inside)) (plainOf p n rules at a) _ (plain-of at a h) (λ d hd.
+    act-of : (a : written.Act) (at : Place) → Using Q a → Shaped a → MembersOk (at .gives) → Yields (λ m. Ok prog m (given (at .gives)) (at .inside)) (actOf p n rules a at)
+    act-of (plain a) at u s h =
+        next (λ m. Ok prog m (given (at .gives)) (at .inside)) (λ d. OkPlain prog d (given (at .gives)) (at .inside)) (plainOf p n rules at a) _ (plain-of at a u h) (λ d hd.
         yields (λ m. Ok prog m (given (at .gives)) (at .inside)) (plain d) hd)
-    act-of (cycle b) at s h =
-        next (λ m. Ok prog m (given (at .gives)) (at .inside)) (λ m. Oks prog m (given (at .gives)) true) (actsOf p n rules b (within at)) _ (acts-of b (within at) s h) (λ d hd.
+    act-of (cycle b) at u s h =
+        next (λ m. Ok prog m (given (at .gives)) (at .inside)) (λ m. Oks prog m (given (at .gives)) true) (actsOf p n rules b (within at)) _ (acts-of b (within at) u s h) (λ d hd.
         yields (λ m. Ok prog m (given (at .gives)) (at .inside)) (cycle d) hd)
-    act-of (choice s q o) at sh h =
+    act-of (choice s q o) at u sh h =
         next (λ m. Ok prog m (given (at .gives)) (at .inside)) ChoosesOk (selectorOf p n rules s) _ (selector-of s) (λ c hc.
-        next (λ m. Ok prog m (given (at .gives)) (at .inside)) (AltsAre at q) (altsOf p n rules q at (c .labels) []) _ (alts-of q at (c .labels) [] (sh .0) h (hc .labels)) (λ alts ha.
-        next (λ m. Ok prog m (given (at .gives)) (at .inside)) (OtherIs at o) (otherOf p n rules o at) _ (other-of o at (sh .1) h) (λ other ho.
+        next (λ m. Ok prog m (given (at .gives)) (at .inside)) (AltsAre at q) (altsOf p n rules q at (c .labels) []) _ (alts-of q at (c .labels) [] (u .0) (sh .0) h (hc .labels)) (λ alts ha.
+        next (λ m. Ok prog m (given (at .gives)) (at .inside)) (OtherIs at o) (otherOf p n rules o at) _ (other-of o at (u .1) (sh .1) h) (λ other ho.
         yields (λ m. Ok prog m (given (at .gives)) (at .inside)) (choice (c .by) alts other)
         (hc .by, ha .0, ho .0, needs-label (c .by) q alts (ho .1) (sh .2) (ha .1)))))
 
-    pub acts-of : (q : written.Acts) (at : Place) → ShapedAll q → MembersOk (at .gives) → Yields (λ m. Oks prog m (given (at .gives)) (at .inside)) (actsOf p n rules q at)
-    acts-of done at s h = yields (λ m. Oks prog m (given (at .gives)) (at .inside)) done tt
-    acts-of (a ▸ q) at s h =
-        next (λ m. Oks prog m (given (at .gives)) (at .inside)) (λ m. Ok prog m (given (at .gives)) (at .inside)) (actOf p n rules a at) _ (act-of a at (s .0) h) (λ x hx.
-        next (λ m. Oks prog m (given (at .gives)) (at .inside)) (λ m. Oks prog m (given (at .gives)) (at .inside)) (actsOf p n rules q at) _ (acts-of q at (s .1) h) (λ y hy.
+    pub acts-of : (q : written.Acts) (at : Place) → UsingAll Q q → ShapedAll q → MembersOk (at .gives) → Yields (λ m. Oks prog m (given (at .gives)) (at .inside)) (actsOf p n rules q at)
+    acts-of done at u s h = yields (λ m. Oks prog m (given (at .gives)) (at .inside)) done tt
+    acts-of (a ▸ q) at u s h =
+        next (λ m. Oks prog m (given (at .gives)) (at .inside)) (λ m. Ok prog m (given (at .gives)) (at .inside)) (actOf p n rules a at) _ (act-of a at (u .0) (s .0) h) (λ x hx.
+        next (λ m. Oks prog m (given (at .gives)) (at .inside)) (λ m. Oks prog m (given (at .gives)) (at .inside)) (actsOf p n rules q at) _ (acts-of q at (u .1) (s .1) h) (λ y hy.
         yields (λ m. Oks prog m (given (at .gives)) (at .inside)) (x ▸ y) (hx, hy)))
 
-    alts-of : (q : written.Alts) (at : Place) (ks : List Known) (seen : List ℕ) → ShapedAlts q → MembersOk (at .gives) → Each KnownOk ks → Yields (AltsAre at q) (altsOf p n rules q at ks seen)
-    alts-of nil at ks seen s h hk = yields (AltsAre at nil) nil (tt, no-default)
-    alts-of (alternative ls b q) at ks seen s h hk =
+    alts-of : (q : written.Alts) (at : Place) (ks : List Known) (seen : List ℕ) → UsingSome Q q → ShapedAlts q → MembersOk (at .gives) → Each KnownOk ks → Yields (AltsAre at q) (altsOf p n rules q at ks seen)
+    alts-of nil at ks seen u s h hk = yields (AltsAre at nil) nil (tt, no-default)
+    alts-of (alternative ls b q) at ks seen u s h hk =
         next (AltsAre at (alternative ls b q)) (LabelsAre ls) (labelsOf p n rules ls ks seen) _ (labels-of ls ks seen hk) (λ vs hv.
-        next (AltsAre at (alternative ls b q)) (λ m. Oks prog m (given (at .gives)) (at .inside)) (actsOf p n rules b at) _ (acts-of b at (s .0) h) (λ d hd.
-        next (AltsAre at (alternative ls b q)) (AltsAre at q) (altsOf p n rules q at ks (vs ++ seen)) _ (alts-of q at ks (vs ++ seen) (s .1) h hk) (λ r hr.
+        next (AltsAre at (alternative ls b q)) (λ m. Oks prog m (given (at .gives)) (at .inside)) (actsOf p n rules b at) _ (acts-of b at (u .0) (s .0) h) (λ d hd.
+        next (AltsAre at (alternative ls b q)) (AltsAre at q) (altsOf p n rules q at ks (vs ++ seen)) _ (alts-of q at ks (vs ++ seen) (u .1) (s .1) h hk) (λ r hr.
         yields (AltsAre at (alternative ls b q)) (alternative vs d r) ((hv .0, hd, hr .0), first-label ls vs b q d r (hv .1)))))
 
-    other-of : (o : written.Other) (at : Place) → ShapedOther o → MembersOk (at .gives) → Yields (OtherIs at o) (otherOf p n rules o at)
-    other-of absent at s h = yields (OtherIs at absent) absent (tt, same-absent)
-    other-of (otherwise b) at s h =
-        next (OtherIs at (otherwise b)) (λ m. Oks prog m (given (at .gives)) (at .inside)) (actsOf p n rules b at) _ (acts-of b at s h) (λ d hd.
+    other-of : (o : written.Other) (at : Place) → UsingOther Q o → ShapedOther o → MembersOk (at .gives) → Yields (OtherIs at o) (otherOf p n rules o at)
+    other-of absent at u s h = yields (OtherIs at absent) absent (tt, same-absent)
+    other-of (otherwise b) at u s h =
+        next (OtherIs at (otherwise b)) (λ m. Oks prog m (given (at .gives)) (at .inside)) (actsOf p n rules b at) _ (acts-of b at u s h) (λ d hd.
         yields (OtherIs at (otherwise b)) (otherwise d) (hd, same-otherwise))

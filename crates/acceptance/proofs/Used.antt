@@ -36,10 +36,10 @@ pub record UseOk (n : Names) (rules : List KnownRule) (u : Use) : Type 0 where
   pub procedure : given (rule .gives) ≡ false
 
 module _ (p : Program) (n : Names) (rules : List KnownRule) where
-  abbrev Found : Word → KnownRule → Type 0
+  abbrev pub Found : Word → KnownRule → Type 0
   Found w r = findRule (w .text) rules ≡ some r
 
-  found-of : (w : Word) → Yields (Found w) (ruleNamed p n rules w)
+  pub found-of : (w : Word) → Yields (Found w) (ruleNamed p n rules w)
   unfolding ruleNamed elsewhere
   found-of w r e = outer (given (findOperation (w .text) (n .operations))) e
     where

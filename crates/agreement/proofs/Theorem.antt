@@ -158,7 +158,7 @@ module _ (prog : List Rule) (more tokens answers : List ℕ) (allowance : ℕ) (
 
 -- The claim
 
-agrees : (prog : List Rule) (more tokens answers : List ℕ) (allowance : ℕ) → Accepted prog → Agrees prog (table prog ++ more) tokens answers allowance
+pub agrees : (prog : List Rule) (more tokens answers : List ℕ) (allowance : ℕ) → Accepted prog → Agrees prog (table prog ++ more) tokens answers allowance
 agrees prog more tokens answers allowance a = record {
   events = events prog more tokens answers allowance a;
   events-waiting = events-waiting prog more tokens answers allowance a;
@@ -182,7 +182,7 @@ pub over-stops : {s : Own} {w : Walk} → Over s → Same s w → (r : Reason) �
 over-stops (over-stopped {r = r}) h = (r, stopped-same h refl)
 over-stops over-nowhere h = absurd (not-nowhere h)
 
-finishes-with : (prog : List Rule) → Accepted prog → Finishing prog → Finishes prog (table prog)
+pub finishes-with : (prog : List Rule) → Accepted prog → Finishing prog → Finishes prog (table prog)
 finishes-with prog a f count allowance = (
   3 * budget prog (count + allowance) + 1,
   λ more tokens answers e.

@@ -30,7 +30,7 @@ use Rattle.syntax.specs.Written.{Program}
 
 -- Texts of words
 
-pair-refl : (u : Use) → samePair u u ≡ true
+pub pair-refl : (u : Use) → samePair u u ≡ true
 unfolding samePair
 pair-refl u = both (same (u .section .text) (u .section .text)) (same (u .operand .text) (u .operand .text)) (same-refl (u .section .text)) (same-refl (u .operand .text))
 
@@ -39,13 +39,13 @@ pub record Alike (u v : Use) : Type 0 where
   pub section : u .section .text ≡ v .section .text
   pub operand : u .operand .text ≡ v .operand .text
 
-alike : (u v : Use) → samePair u v ≡ true → Alike u v
+pub alike : (u v : Use) → samePair u v ≡ true → Alike u v
 unfolding samePair
 alike u v e =
     let x = and (same (u .section .text) (v .section .text)) (same (u .operand .text) (v .operand .text)) e in
     record { section = same-eq (u .section .text) (v .section .text) (x .0); operand = same-eq (u .operand .text) (v .operand .text) (x .1) }
 
-used-alike : (u v : Use) (xs : List Use) → Alike u v → isUsed v xs ≡ true → isUsed u xs ≡ true
+pub used-alike : (u v : Use) (xs : List Use) → Alike u v → isUsed v xs ≡ true → isUsed u xs ≡ true
 unfolding isUsed samePair
 used-alike u v [] h e = e
 used-alike u v (x ∷ xs) h e = go (or (samePair v x) (isUsed v xs) e) (used-alike u v xs h)
@@ -78,7 +78,7 @@ covered-from u seen (v ∷ us) e = go (isUsed v seen) refl (or (samePair u v) (i
     go false d (inl s) f g = inr (or₁ (samePair u v) (isUsed u (firsts (v ∷ seen) us)) s)
     go false d (inr s) f g = seen-or (g s)
 
-covered : (u : Use) (rs : List written.Rule) → isUsed u (rulesUses rs) ≡ true → isUsed u (pairsOf rs) ≡ true
+pub covered : (u : Use) (rs : List written.Rule) → isUsed u (rulesUses rs) ≡ true → isUsed u (pairsOf rs) ≡ true
 unfolding pairsOf isUsed
 covered u rs e = go (covered-from u [] (rulesUses rs) e)
   where

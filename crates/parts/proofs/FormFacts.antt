@@ -1,0 +1,63 @@
+-- Objects as words, worked out by hand.
+use mathlib.Core.Bool.{Bool, false, _&&_}
+use mathlib.Core.List.{List, [], _∷_}
+use Prim.Native.Nat.{ℕ}
+use lib.Dec.{T, eqb}
+use Rattle.base.specs.Common.{bytes, same}
+use Rattle.names.specs.Declare
+use Rattle.names.specs.Known
+use Rattle.names.specs.Resolve
+use Rattle.names.specs.Understand
+use Rattle.names.specs.Uses
+use Rattle.parts.specs.Form
+use Rattle.parts.specs.Form.{Made, made, unmade, makeObject}
+use Rattle.parts.specs.Link
+use Rattle.parts.specs.Objects
+use Rattle.parts.specs.Texts
+use Rattle.processor.specs.Process
+use Rattle.program.specs.Made
+use Rattle.program.specs.Past
+use Rattle.program.specs.Program
+use Rattle.syntax.specs.Actions
+use Rattle.syntax.specs.Parse
+use Rattle.syntax.specs.Reading
+use Rattle.syntax.specs.Sections
+use Rattle.words.specs.Words
+
+making : Unit {0}
+unfolding Words.opened Reading.opened Actions.opened Sections.opened Parse.opened Known.opened Declare.opened Resolve.opened Understand.opened Uses.opened Made.opened Program.opened Past.opened Process.opened Texts.opened Objects.opened Link.opened Form.opened
+making = tt
+
+are : Form.Made → List ℕ → Bool
+are (made ws) us = same ws us
+are (unmade n i p) us = false
+
+is-not : Form.Made → ℕ → ℕ → ℕ → Bool
+is-not (made ws) n i s = false
+is-not (unmade m j p) n i s = eqb m n && eqb j i && eqb (p .start) s
+
+-- `PO`, 18 words behind; 9 and 16 bytes, one rule, no pair; "rules end"; M at 6, no type; a call of N at 10, the end
+one-call : T (are (makeObject (bytes "rules end") (bytes "rules M: @N; end") 21)
+    (20559 ∷ 0 ∷ 18 ∷ 9 ∷ 16 ∷ 1 ∷ 0 ∷ 29301 ∷ 27749 ∷ 29472 ∷ 25966 ∷ 25600 ∷ 6 ∷ 1 ∷ 77 ∷ 0 ∷ 8 ∷ 10 ∷ 1 ∷ 78 ∷ 0 ∷ []))
+unfolding making are
+one-call = tt
+
+-- a word less is 20 at the end of the part
+too-short : T (is-not (makeObject (bytes "rules end") (bytes "rules M: @N; end") 20) 20 1 16)
+unfolding making is-not
+too-short = tt
+
+-- a part's fault is its own
+faulty : T (is-not (makeObject (bytes "rules end") (bytes "rules M: > ; end") 100) 7 1 9)
+unfolding making is-not
+faulty = tt
+
+-- a choice by a listed rule, and a use of operators: the pair, its `^` at 25, the operand rule X at 28
+sums : T (are (makeObject (bytes "input: p; output: o; type t: y; operators E: p 1 left o; rules R >> t; end") (bytes "rules M: [@R | y: ? | *: ^E @X ]; end") 100)
+    (20559 ∷ 0 ∷ 69 ∷ 74 ∷ 37 ∷ 1 ∷ 1
+    ∷ 26990 ∷ 28789 ∷ 29754 ∷ 8304 ∷ 15136 ∷ 28533 ∷ 29808 ∷ 30068 ∷ 14880 ∷ 28475 ∷ 8308 ∷ 31088 ∷ 25888 ∷ 29754 ∷ 8313 ∷ 15136 ∷ 28528 ∷ 25970 ∷ 24948 ∷ 28530 ∷ 29472 ∷ 17722 ∷ 8304
+    ∷ 8241 ∷ 8300 ∷ 25958 ∷ 29728 ∷ 28475 ∷ 8306 ∷ 30060 ∷ 25971 ∷ 8274 ∷ 8254 ∷ 15904 ∷ 29755 ∷ 8293 ∷ 28260
+    ∷ 25 ∷ 1 ∷ 26 ∷ 1 ∷ 69 ∷ 29 ∷ 1 ∷ 88
+    ∷ 6 ∷ 1 ∷ 77 ∷ 0 ∷ 11 ∷ 11 ∷ 1 ∷ 82 ∷ 65 ∷ 0 ∷ 4 ∷ 0 ∷ 13 ∷ 15 ∷ 0 ∷ 29 ∷ 1 ∷ 88 ∷ 0 ∷ 0 ∷ []))
+unfolding making are
+sums = tt

@@ -1,0 +1,16 @@
+pub mod Facts
+pub mod Alike
+pub mod Sections
+pub mod Numbers
+pub mod Pairs
+pub mod Rules
+pub mod Whole
+pub mod Checks
+pub mod Linking
+pub mod Accepted
+pub mod Sound
+pub mod Blank
+pub mod AsText
+pub mod Written
+pub mod FormFacts
+pub mod FromTexts

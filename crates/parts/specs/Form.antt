@@ -1,0 +1,192 @@
+-- An object as words: what `sst_part` writes and `sst_link` reads. A call is its name, so nothing of the part's text is in it but the names of its rules and
+-- of those that it calls; and the common part that it was made with stands in front, so that parts of two common parts are never linked.
+use mathlib.Core.List.{List, [], _∷_, _++_}
+use mathlib.Core.Option.{Option, none, some}
+use mathlib.Core.Path.{_≡_}
+use Prim.Native.Nat.{ℕ, _+_, _*_, _/_, _%_, _-_}
+use lib.Dec.{leb}
+use lib.ListN.{length, getD, replicate}
+use Rattle.acceptance.proofs.Shape.{Each}
+use Rattle.base.specs.Common.{if_then_else_}
+use Rattle.base.specs.Tree.{plain, cycle, choice, done, _▸_, nil, alternative, absent, otherwise}
+use Rattle.names.specs.Known.{good, Names}
+use Rattle.names.specs.Uses.{Use}
+use Rattle.processor.specs.Process.{Part, partOf}
+use Rattle.program.specs.Program.{Plain, match, any, emit, error, exit, call, back, give, update, updateWith, Selector, byToken, byRule, byOperation, byOperationWith, Act, Acts, Alts, Other}
+use Rattle.syntax.specs.Parse.{endOf}
+use Rattle.syntax.specs.Reading.{Read, got, fault}
+use Rattle.words.specs.Words.{Word}
+use Rattle.parts.specs.Link.{Linked, refused, link}
+use Rattle.parts.specs.Objects.{Aim, named, ranked, OpenRule, Object, Translated, object, inCommon, inPart, translate, commonMeans}
+use Rattle.parts.specs.Sound.{Sound}
+use Rattle.parts.specs.Texts.{Common, readCommon}
+
+-- bytes two a word, high byte first, an odd one with 0 behind it
+unfoldable pub packed : List ℕ → List ℕ
+packed [] = []
+packed (a ∷ []) = (256 * a) ∷ []
+packed (a ∷ b ∷ s) = (256 * a + b) ∷ packed s
+
+-- a name: where it stands, its length, its bytes, a word each
+unfoldable pub nameWords : Word → List ℕ
+nameWords w = w .start ∷ length (w .text) ∷ w .text
+
+-- 0, or 1 and the name of the type
+unfoldable pub typeWords : Option Word → List ℕ
+typeWords none = 0 ∷ []
+typeWords (some w) = 1 ∷ nameWords w
+
+-- Actions: the cells of crate cells, but a call is 8 or 11 and the name, a use of operators 15, the number of its pair and the operand's name. The names come from
+-- the rule's calls in text order, each action taking its own; k are the words behind, given the calls that are left
+
+abbrev Behind : Type 0
+Behind = List Word → List ℕ
+
+unfoldable pub nobodyCalled : Word
+nobodyCalled = record { kind = 0; start = 0; text = [] }
+
+-- the next call's name
+unfoldable pub taking : (Word → List ℕ) → List Word → Behind → List ℕ
+taking f [] k = f nobodyCalled ++ k []
+taking f (w ∷ ws) k = f w ++ k ws
+
+-- a call of the rules of a pair, which has this place among the pairs, or of the rule of the name
+unfoldable pub callWords : List Aim → ℕ → ℕ → Word → List ℕ
+callWords aims first i w = go (getD aims i (named []))
+  where
+    go : Aim → List ℕ
+    go (named v) = 8 ∷ nameWords w
+    go (ranked u) = 15 ∷ (i - first) ∷ nameWords w
+
+-- no otherwise
+unfoldable pub absentWord : Selector → ℕ
+absentWord byToken = 14
+absentWord (byRule r) = 12
+absentWord (byOperation op) = 12
+absentWord (byOperationWith op v) = 12
+
+module _ (aims : List Aim) (first : ℕ) where
+  unfoldable pub plainWords : Plain → List Word → Behind → List ℕ
+  plainWords (match t) ws k = 3 ∷ t ∷ k ws
+  plainWords any ws k = 4 ∷ k ws
+  plainWords (emit t) ws k = 5 ∷ t ∷ k ws
+  plainWords (error t) ws k = 6 ∷ t ∷ k ws
+  plainWords exit ws k = 1 ∷ k ws
+  plainWords (call r) ws k = taking (callWords aims first r) ws k
+  plainWords back ws k = 9 ∷ k ws
+  plainWords (give v) ws k = 10 ∷ v ∷ k ws
+  plainWords (update op) ws k = op ∷ k ws
+  plainWords (updateWith op v) ws k = op ∷ v ∷ k ws
+
+  unfoldable pub selectorWords : Selector → List Word → Behind → List ℕ
+  selectorWords byToken ws k = 7 ∷ k ws
+  selectorWords (byRule r) ws k = taking (λ w. 11 ∷ nameWords w) ws k
+  selectorWords (byOperation op) ws k = op ∷ k ws
+  selectorWords (byOperationWith op v) ws k = op ∷ v ∷ k ws
+
+  unfoldable mutual
+    pub actWords : Act → List Word → Behind → List ℕ
+    actWords (plain p) ws k = plainWords p ws k
+    actWords (cycle b) ws k = 2 ∷ actsWords b ws k
+    actWords (choice s q o) ws k = selectorWords s ws (λ ws₁. altsWords q ws₁ (λ ws₂. otherWords o (absentWord s) ws₂ k))
+
+    pub actsWords : Acts → List Word → Behind → List ℕ
+    actsWords done ws k = 0 ∷ k ws
+    actsWords (a ▸ q) ws k = actWords a ws (λ ws₁. actsWords q ws₁ k)
+
+    pub altsWords : Alts → List Word → Behind → List ℕ
+    altsWords nil ws k = k ws
+    altsWords (alternative ls b q) ws k = (64 + length ls) ∷ (ls ++ actsWords b ws (λ ws₁. altsWords q ws₁ k))
+
+    pub otherWords : Other → ℕ → List Word → Behind → List ℕ
+    otherWords absent c ws k = c ∷ k ws
+    otherWords (otherwise b) c ws k = 13 ∷ actsWords b ws k
+
+  unfoldable pub ruleWords : OpenRule → List ℕ
+  ruleWords r = nameWords (r .name) ++ (typeWords (r .gives) ++ actsWords (r .means .body) (r .calls) (λ _. []))
+
+  unfoldable pub rulesWords : List OpenRule → List ℕ
+  rulesWords [] = []
+  rulesWords (r ∷ rs) = ruleWords r ++ rulesWords rs
+
+-- the first use of each pair: where its `^` stands and its length, its section, its operand rule
+unfoldable pub usesWords : List Use → List ℕ
+usesWords [] = []
+usesWords (u ∷ us) = u .sign .start ∷ length (u .sign .text) ∷ (nameWords (u .section) ++ (nameWords (u .operand) ++ usesWords us))
+
+-- `PO`, the number of words behind these three (32 bits), the bytes of the common part and of the part, rules, pairs; the common part; pairs; rules
+unfoldable pub bodyOf : List ℕ → ℕ → ℕ → Object → List ℕ
+bodyOf common partLength listed o =
+    length common ∷ partLength ∷ length (o .rules) ∷ length (o .uses)
+    ∷ (packed common ++ (usesWords (o .uses) ++ rulesWords (o .aims) (listed + length (o .rules)) (o .rules)))
+
+unfoldable pub objectWords : List ℕ → ℕ → ℕ → Object → List ℕ
+objectWords common partLength listed o =
+    let b = bodyOf common partLength listed o in
+    20559 ∷ (length b / 65536) ∷ (length b % 65536) ∷ b
+
+-- What `sst_part` answers: the object's words, or a number, the text (0 the common part, 1 the part) and its part at fault; "20" where they pass the lent words
+
+pub data Made : Type 0 where
+  made : List ℕ → Made
+  unmade : ℕ → ℕ → Part → Made
+
+unfoldable pub listedIn : Read Common → ℕ
+listedIn (got c ws) = length (c .listed)
+listedIn (fault n w) = 0
+
+unfoldable pub ifFits : List ℕ → ℕ → List ℕ → Made
+ifFits part room ws = if leb (length ws) room then made ws else unmade 20 1 (partOf (endOf part))
+
+unfoldable pub asMade : List ℕ → List ℕ → ℕ → Translated → Made
+asMade common part room (object o) = ifFits part room (objectWords common (length part) (listedIn (readCommon common)) o)
+asMade common part room (inCommon n p) = unmade n 0 p
+asMade common part room (inPart n p) = unmade n 1 p
+
+unfoldable pub makeObject : List ℕ → List ℕ → ℕ → Made
+makeObject common part room = asMade common part room (translate common part)
+
+-- "what is lent is zeroed": the object and zero words, or zero words alone
+unfoldable pub lentObject : Made → ℕ → List ℕ
+lentObject (made ws) n = ws ++ replicate (n - length ws) 0
+lentObject (unmade number text at) n = replicate n 0
+
+-- What `sst_link` answers for words that are objects of the common part, one behind the other; and 40 for any others
+
+unfoldable pub allWords : List ℕ → ℕ → List ℕ → List Object → List ℕ
+allWords common listed [] os = []
+allWords common listed (n ∷ ns) [] = []
+allWords common listed (n ∷ ns) (o ∷ os) = objectWords common n listed o ++ allWords common listed ns os
+
+-- the objects that the words are, and the lengths of their parts
+pub record AreObjects (common : List ℕ) (c : Common) (n : Names) (words : List ℕ) : Type 0 where
+  pub lengths : List ℕ
+  pub objects : List Object
+  pub as-many : length lengths ≡ length objects
+  pub sound : Each (Sound (c .listed) n) objects
+  pub are : words ≡ allWords common (length (c .listed)) lengths objects
+
+-- what is made of the parts of a common part, one behind the other, are its objects: linking never answers 40 for it
+pub data Makes (common : List ℕ) : List (List ℕ) → List ℕ → Type 0 where
+  makes-none : Makes common [] []
+  makes-more : {t : List ℕ} {ts : List (List ℕ)} {ws more : List ℕ} (room : ℕ) → makeObject common t room ≡ made ws → Makes common ts more → Makes common (t ∷ ts) (ws ++ more)
+
+abbrev pub MadeAreObjects : Type 0
+MadeAreObjects =
+    (common : List ℕ) (c : Common) (rest : List Word) → readCommon common ≡ got c rest → (n : Names) → commonMeans c [] ≡ good n → (ts : List (List ℕ)) (words : List ℕ)
+    → Makes common ts words → AreObjects common c n words
+
+-- any text of the length: only its end is shown
+unfoldable pub lastLength : List ℕ → ℕ
+lastLength [] = 0
+lastLength (n ∷ []) = n
+lastLength (n ∷ m ∷ ns) = lastLength (m ∷ ns)
+
+pub record LinksWords (common : List ℕ) (c : Common) (n : Names) (words : List ℕ) (room : ℕ) (answer : Linked) : Type 0 where
+  pub linked-so : (h : AreObjects common c n words) → answer ≡ link common c n (replicate (lastLength (h .lengths)) 0) (h .objects) room
+  pub not-objects : (AreObjects common c n words → ⊥) → (text : ℕ) × (answer ≡ refused 40 text (record { start = 0; size = 0 }))
+
+-- all of this file computes where this is unfolded
+unfoldable pub opened : Unit {0}
+unfolding packed nameWords typeWords nobodyCalled taking callWords absentWord plainWords selectorWords actWords ruleWords rulesWords usesWords bodyOf objectWords listedIn ifFits asMade makeObject lentObject allWords lastLength
+opened = tt

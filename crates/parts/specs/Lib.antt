@@ -1,0 +1,7 @@
+pub mod Texts
+pub mod Objects
+pub mod Link
+pub mod Blank
+pub mod Promise
+pub mod Sound
+pub mod Form

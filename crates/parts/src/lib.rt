@@ -1,0 +1,1 @@
+// Parts translated separately and linked: definitions and theorems; this crate has no code.
