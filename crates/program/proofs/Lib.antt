@@ -5,3 +5,4 @@ pub mod Bounds
 pub mod Facts
 pub mod AcceptedWords
 pub mod MadeFacts
+pub mod LabelFacts

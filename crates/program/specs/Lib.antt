@@ -3,3 +3,4 @@ pub mod Past
 pub mod Table
 pub mod Accepted
 pub mod Made
+pub mod Labels
