@@ -1,6 +1,6 @@
 -- Laws of the shared tests, and of numbers.
 use mathlib.Core.Bool.{Bool, true, false, _||_}
-use mathlib.Core.List.{List, [], _∷_}
+use mathlib.Core.List.{List, [], _∷_, _++_}
 use mathlib.Core.Logic.{_⊎_, inl, inr}
 use mathlib.Core.Path.{_≡_, refl, sym}
 use Prim.Native.Nat.{ℕ, zero, suc, _+_, _<_, _≤_}
@@ -11,7 +11,7 @@ use lib.ListN.{length, getD, drop, replicate, drop-of-length-le}
 use lib.Seq.{drop-cons}
 use borrow.Author.Tests.{eqb-true, eq-eqb, ne-eqb, ltb-true, ltb-false}
 use Rattle.base.specs.Bools.{never, split}
-use Rattle.base.specs.Common.{same}
+use Rattle.base.specs.Common.{if_then_else_, same, member}
 
 pub neither : (a b : Bool) → (a || b) ≡ false → (a ≡ false) × (b ≡ false)
 neither true b e = never (sym e)
@@ -32,6 +32,14 @@ pub zeros-at : (n i : ℕ) → _≡_ {A = ℕ} (getD (replicate n 0) i 0) 0
 zeros-at zero i = refl
 zeros-at (suc n) zero = refl
 zeros-at (suc n) (suc i) = zeros-at n i
+
+pub member-append : (v : ℕ) (xs ys : List ℕ) → member v (xs ++ ys) ≡ (member v xs || member v ys)
+member-append v [] ys = refl
+member-append v (x ∷ xs) ys = go (eqb v x) (member-append v xs ys)
+  where
+    go : (b : Bool) → member v (xs ++ ys) ≡ (member v xs || member v ys) → (if b then true else member v (xs ++ ys)) ≡ ((if b then true else member v xs) || member v ys)
+    go true e = refl
+    go false e = e
 
 -- The test of two lists
 

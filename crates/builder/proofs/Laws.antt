@@ -1,11 +1,11 @@
 -- Outcomes put together: one law for each way in which the code goes on after a part.
-use mathlib.Core.Bool.{Bool, true, false, _||_, or-comm}
-use mathlib.Core.List.{List, [], _∷_, _++_}
-use mathlib.Core.Path.{_≡_, refl, sym, ap, _∙_}
+use mathlib.Core.Bool.{_||_, or-comm}
+use mathlib.Core.List.{List, _++_}
+use mathlib.Core.Path.{_≡_, sym, ap, _∙_}
 use Prim.Native.Nat.{ℕ, _+_, _-_, _<_}
-use lib.Dec.{eqb}
 use lib.ListN.{length}
-use Rattle.base.specs.Common.{if_then_else_, member}
+use Rattle.base.proofs.Laws.{member-append}
+use Rattle.base.specs.Common.{member}
 use Rattle.resolver.proofs.Appending.{appends-then}
 use Rattle.names.specs.Known.{Checked, good, wrong, _>>=_}
 use Rattle.resolver.specs.Resolved.{Appends, Ends, ended, failed}
@@ -79,14 +79,6 @@ ends-then {E} {A} {B} {C} {text} {ws₁} {cs} {c} {cs₁} {f} {P} {r₁} {ws} {c
 ends-then g Q h R v (wrong n w) k (failed e nz at len) z next joins = absurd (nz (sym e ∙ z))
 
 -- Labels
-
-pub member-append : (v : ℕ) (xs ys : List ℕ) → member v (xs ++ ys) ≡ (member v xs || member v ys)
-member-append v [] ys = refl
-member-append v (x ∷ xs) ys = go (eqb v x) (member-append v xs ys)
-  where
-    go : (b : Bool) → member v (xs ++ ys) ≡ (member v xs || member v ys) → (if b then true else member v (xs ++ ys)) ≡ ((if b then true else member v xs) || member v ys)
-    go true e = refl
-    go false e = e
 
 -- the labels so far, whatever their order
 pub member-more : (old vs seen : List ℕ) → ((v : ℕ) → member v old ≡ member v seen) → (v : ℕ) → member v (vs ++ old) ≡ member v (seen ++ vs)
