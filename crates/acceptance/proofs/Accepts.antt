@@ -250,21 +250,25 @@ understand-few p w =
 
 -- The theorem
 
--- whatever a text means is an accepted program
-pub understood-accepted : (text : List ℕ) (prog : List Rule) → understood text ≡ meaning prog → Accepted prog
+-- what every program has that is understood, whatever a text means has
+pub understood-has : (P : List Rule → Type 0) → ((p : Program) → WrittenOk p → Yields P (understand p)) → (text : List ℕ) (prog : List Rule) → understood text ≡ meaning prog → P prog
 unfolding understood readIn checked
-understood-accepted text prog e = go (parse text) refl e
+understood-has P h text prog e = go (parse text) refl e
   where
-    no-meaning : {n : ℕ} {at : Part} → faulty n at ≡ meaning prog → Accepted prog
+    no-meaning : {n : ℕ} {at : Part} → faulty n at ≡ meaning prog → P prog
     no-meaning d = let z : _≡_ {A = ℕ} 0 1 = cc in absurd (omega arith)
 
-    inner : (p : Program) → WrittenOk p → (c : Checked (List Rule)) → understand p ≡ c → checked c ≡ meaning prog → Accepted prog
-    inner p w (good x) d d₁ = let y : x ≡ prog = cc in rw y at (understand-accepts p w x d)
+    inner : (p : Program) → WrittenOk p → (c : Checked (List Rule)) → understand p ≡ c → checked c ≡ meaning prog → P prog
+    inner p w (good x) d d₁ = let y : x ≡ prog = cc in rw y at (h p w x d)
     inner p w (wrong n v) d d₁ = no-meaning d₁
 
-    go : (r : Read Program) → parse text ≡ r → readIn r ≡ meaning prog → Accepted prog
+    go : (r : Read Program) → parse text ≡ r → readIn r ≡ meaning prog → P prog
     go (got p rest) d d₁ = inner p (parse-ok text p rest d) (understand p) refl d₁
     go (fault n w) d d₁ = no-meaning d₁
+
+-- whatever a text means is an accepted program
+pub understood-accepted : (text : List ℕ) (prog : List Rule) → understood text ≡ meaning prog → Accepted prog
+understood-accepted text prog e = understood-has Accepted understand-accepts text prog e
 
 pub accepted-table : (text : List ℕ) (room : ℕ) (words : List ℕ) (verdict : Bool) → process text room ≡ accepted words verdict → TableOf text room words verdict
 unfolding process answerFor

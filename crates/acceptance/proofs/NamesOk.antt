@@ -74,7 +74,7 @@ pub picked : {A : Type 0} (P : A → Type 0) (t : Bool) (a v : A) (later : Optio
 picked P true a v later h k e = let x : a ≡ v = cc in rw x at h
 picked P false a v later h k e = k e
 
-none-some {ℓ} : {A : Type 0} {B : Type ℓ} {a : A} → none ≡ some a → B
+pub none-some {ℓ} : {A : Type 0} {B : Type ℓ} {a : A} → none ≡ some a → B
 none-some e = let z : _≡_ {A = ℕ} 0 1 = cc in absurd (omega arith)
 
 pub find-in : (w : List ℕ) (ks : List Known) (v : ℕ) → Each KnownOk ks → find w ks ≡ some v → v < 65536
@@ -257,15 +257,21 @@ at-level-ok l (o ∷ os) h = go (eqb (o .level) l) (at-level-ok l os (h .1))
     go true k = (h .0, k)
     go false k = k
 
-level-and-ok : (os : List made.Operator) (ls : List Level) → Each OperatorOk os → Each LevelOk ls → Each LevelOk (levelAnd os ls)
-unfolding levelAnd Each
-level-and-ok [] ls h k = k
-level-and-ok (o ∷ os) ls h k = (h, k)
+-- what the operators of every level have, each level used has
+module _ (P : List made.Operator → Type 0) where
+  level-and : (os : List made.Operator) (ls : List Level) → P os → Each (λ l. P (l .operators)) ls → Each (λ l. P (l .operators)) (levelAnd os ls)
+  unfolding levelAnd Each
+  level-and [] ls h k = k
+  level-and (o ∷ os) ls h k = (h, k)
 
-levels-ok : (n l : ℕ) (os : List made.Operator) → Each OperatorOk os → Each LevelOk (levelsFrom n l os)
-unfolding levelsFrom Each
-levels-ok zero l os h = tt
-levels-ok (suc n) l os h = level-and-ok (atLevel l os) (levelsFrom n (suc l) os) (at-level-ok l os h) (levels-ok n (suc l) os h)
+  levels-from : (n l : ℕ) (os : List made.Operator) → ((m : ℕ) → P (atLevel m os)) → Each (λ l. P (l .operators)) (levelsFrom n l os)
+  unfolding levelsFrom Each
+  levels-from zero l os h = tt
+  levels-from (suc n) l os h = level-and (atLevel l os) (levelsFrom n (suc l) os) (h l) (levels-from n (suc l) os h)
+
+  pub levels-have : (os : List made.Operator) → ((m : ℕ) → P (atLevel m os)) → Each (λ l. P (l .operators)) (levelsOf os)
+  unfolding levelsOf
+  levels-have os h = levels-from 15 1 os h
 
 and-some : (os : List made.Operator) (ls : List Level) → NotEmpty ls → NotEmpty (levelAnd os ls)
 unfolding levelAnd NotEmpty
@@ -291,10 +297,6 @@ unfolding levelsOf Each NotEmpty
 levels-of-some [] h k = absurd h
 levels-of-some (o ∷ os) h k = levels-some 15 1 o os (k .0 .low) (let x = k .0 .high in omega arith)
 
-levels-of-ok : (os : List made.Operator) → Each OperatorOk os → Each LevelOk (levelsOf os)
-unfolding levelsOf
-levels-of-ok os h = levels-ok 15 1 os h
-
 operators-ok : (p : Program) (w : Word) (es : List Operator) (n : Names) → Each SectionOk (p .sections) → NotEmpty es × Each Ranked es → NamesOk n → Yields NamesOk (declareSection p (operators w es) n)
 unfolding declareSection Each
 operators-ok p w es n ss h k =
@@ -306,7 +308,7 @@ operators-ok p w es n ss h k =
       errors = k .errors;
       types = k .types;
       operations = k .operations;
-      operators = one-more OperatorsOk (n .operators) _ (k .operators) (record { some-level = levels-of-some os (ho .0) (ho .1); levels = levels-of-ok os (ho .1) });
+      operators = one-more OperatorsOk (n .operators) _ (k .operators) (record { some-level = levels-of-some os (ho .0) (ho .1); levels = levels-have (Each OperatorOk) os (λ m. at-level-ok m os (ho .1)) });
     })))
 
 section-ok : (p : Program) (s : Section) (n : Names) → Each SectionOk (p .sections) → SectionOk s → NamesOk n → Yields NamesOk (declareSection p s n)

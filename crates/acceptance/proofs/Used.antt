@@ -213,24 +213,31 @@ made-few n rules others own (u ∷ us) h =
     (made-few n rules others (own + length (levelsUsed n u)) us (omega (arith, x .0 .0), omega (arith, x .0 .1))) (λ ms k.
     λ _ _. ((omega (arith, k .0 .0), omega (arith, k .0 .1)), (x .1, k .1))))
 
--- what the rule of every level with at most 64 operators has, each rule made has
-levels-each : (P : Rule → Type 0) → ((l : Level) (own higher : ℕ) → length (l .operators) ≤ 64 → P (levelRule l own higher)) → (own r : ℕ) (ls : List Level) → crowded ls ≡ false
-    → Each P (levelRules own r ls)
-unfolding levelRules crowded Each
-levels-each P h own r [] e = tt
-levels-each P h own r (l ∷ ls) e =
-    let x = neither (ltb 64 (length (l .operators))) (crowded ls) e in
-    (h l own (higherOf own r ls) (ltb-false 64 (length (l .operators)) (x .0)), levels-each P h (suc own) r ls (x .1))
+-- what the rule of every level with Q has, each rule made has, where the levels used have Q
+module _ (P : Rule → Type 0) (Q : Level → Type 0) (h : (l : Level) (own higher : ℕ) → Q l → P (levelRule l own higher)) where
+  levels-each : (own r : ℕ) (ls : List Level) → Each Q ls → Each P (levelRules own r ls)
+  unfolding levelRules Each
+  levels-each own r [] k = tt
+  levels-each own r (l ∷ ls) k = (h l own (higherOf own r ls) (k .0), levels-each (suc own) r ls (k .1))
 
+  pub made-have : (n : Names) → ((u : Use) → crowded (levelsUsed n u) ≡ false → Each Q (levelsUsed n u)) → (rules : List KnownRule) (others own : ℕ) (us : List Use) → Yields (Each P) (madeFor n rules others own us)
+  unfolding madeFor Each
+  made-have n q rules others own [] = yields (Each P) [] tt
+  made-have n q rules others own (u ∷ us) =
+      passed (Each P) (passes others own (levelsUsed n u)) 9 (u .sign) _ (λ e.
+      next (Each P) (Each P) (madeFor n rules others (own + length (levelsUsed n u)) us) _ (made-have n q rules others (own + length (levelsUsed n u)) us) (λ ms k.
+      yields (Each P) (levelRules own (operandOf rules u) (levelsUsed n u) ++ ms)
+      (each-append P (levelRules own (operandOf rules u) (levelsUsed n u)) ms (levels-each own (operandOf rules u) (levelsUsed n u) (q u (not-passed others own (levelsUsed n u) e .1))) k)))
+
+few-each : (ls : List Level) → crowded ls ≡ false → Each (λ l. length (l .operators) ≤ 64) ls
+unfolding crowded Each
+few-each [] e = tt
+few-each (l ∷ ls) e = let x = neither (ltb 64 (length (l .operators))) (crowded ls) e in (ltb-false 64 (length (l .operators)) (x .0), few-each ls (x .1))
+
+-- what the rule of every level with at most 64 operators has, each rule made has
 pub made-each : (P : Rule → Type 0) → ((l : Level) (own higher : ℕ) → length (l .operators) ≤ 64 → P (levelRule l own higher)) → (n : Names) (rules : List KnownRule) (others own : ℕ) (us : List Use)
     → Yields (Each P) (madeFor n rules others own us)
-unfolding madeFor Each
-made-each P h n rules others own [] = yields (Each P) [] tt
-made-each P h n rules others own (u ∷ us) =
-    passed (Each P) (passes others own (levelsUsed n u)) 9 (u .sign) _ (λ e.
-    next (Each P) (Each P) (madeFor n rules others (own + length (levelsUsed n u)) us) _ (made-each P h n rules others (own + length (levelsUsed n u)) us) (λ ms k.
-    yields (Each P) (levelRules own (operandOf rules u) (levelsUsed n u) ++ ms)
-    (each-append P (levelRules own (operandOf rules u) (levelsUsed n u)) ms (levels-each P h own (operandOf rules u) (levelsUsed n u) (not-passed others own (levelsUsed n u) e .1)) k)))
+made-each P h n rules others own us = made-have P (λ l. length (l .operators) ≤ 64) h n (λ u e. few-each (levelsUsed n u) e) rules others own us
 
 levels-are : (n : Names) (u : Use) (ls : List Level) → findOperators (u .section .text) (n .operators) ≡ some ls → levelsUsed n u ≡ ls
 unfolding levelsUsed

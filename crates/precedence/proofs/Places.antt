@@ -2,7 +2,6 @@
 use mathlib.Core.Bool.{Bool, true, false, _||_, _&&_}
 use mathlib.Core.List.{List, [], _∷_, _++_, append-assoc, append-nil}
 use mathlib.Core.Logic.{_⊎_, inl, inr}
-use mathlib.Core.Option.{Option, none, some}
 use mathlib.Core.Path.{_≡_, refl, sym, ap, _∙_}
 use Prim.Native.Nat.{ℕ, suc, _+_, _<_}
 use lib.Dec.{ltb}
@@ -10,16 +9,17 @@ use lib.ListN.{length, length-append}
 use native.Mathlib.Omega.{arith}
 use Rattle.acceptance.proofs.CheckLaws.{Yields, yields, next, passed}
 use Rattle.acceptance.proofs.Accepts.{rules-count}
+use Rattle.acceptance.proofs.Listed.{used-have}
 use Rattle.acceptance.proofs.Shape.{Each}
 use Rattle.acceptance.proofs.Used.{passes, level-rules-length}
 use Rattle.base.proofs.Laws.{same-refl, same-eq}
 use Rattle.base.specs.Bools.{never, or, and, or₁, or₂, both}
 use Rattle.base.specs.Common.{if_then_else_, same}
 use Rattle.names.specs.Declare.{declareSections, knownRules}
-use Rattle.names.specs.Known.{good, KnownRule, Names, findOperators}
+use Rattle.names.specs.Known.{good, KnownRule, Names}
 use Rattle.names.specs.Understand.{nobody, rulesMean, understand}
 use Rattle.names.specs.Uses.{Use, rulesUses, samePair, isUsed, firsts, pairsOf, levelsUsed, lowestOf, operandOf, madeFor}
-use Rattle.precedence.proofs.Levels.{AllApart, sections-apart, found-apart}
+use Rattle.precedence.proofs.Levels.{sections-apart}
 use Rattle.precedence.specs.Sums.{Apart, Stand}
 use Rattle.precedence.specs.Text.{Stands}
 use Rattle.program.specs.Made.{Level, levelRule, higherOf, levelRules}
@@ -144,14 +144,6 @@ placed n rules u others own (v ∷ us) h =
 
 -- The program
 
-used-apart : (n : Names) (u : Use) → AllApart n → Apart (levelsUsed n u)
-unfolding levelsUsed Apart
-used-apart n u h = go (findOperators (u .section .text) (n .operators)) refl
-  where
-    go : (x : Option (List Level)) → findOperators (u .section .text) (n .operators) ≡ x → Apart (elim x as (λ _. List Level) [ some ls ↦ ls | none ↦ [] ])
-    go none e = tt
-    go (some ls) e = found-apart (u .section .text) (n .operators) ls h e
-
 -- the names of a program, and each use at its place
 pub record Ranked (p : Program) (prog : List Rule) : Type 0 where
   pub names : Names
@@ -160,7 +152,7 @@ pub record Ranked (p : Program) (prog : List Rule) : Type 0 where
 
 -- whatever a text means: each `^NAME @rule` of it is a call of rules that `Postfix` is about
 pub ranked : (p : Program) → Yields (Ranked p) (understand p)
-unfolding understand nobody Each
+unfolding understand nobody Each Apart
 ranked p =
     next (Ranked p) (λ n. declareSections p (p .sections) nobody ≡ good n) (declareSections p (p .sections) nobody) _ (λ n e. e) (λ n e.
     next (Ranked p) (λ own. length own ≡ length (p .rules)) (rulesMean p n (knownRules 0 (p .rules)) [] (p .rules)) _ (rules-count p n (knownRules 0 (p .rules)) [] (p .rules)) (λ own h.
@@ -170,6 +162,6 @@ ranked p =
       declared = e;
       stands = λ u d. record {
         stand = rw (append-nil made) at (placed n (knownRules 0 (p .rules)) u (namesInAll (p .sections)) (length (p .rules)) (pairsOf (p .rules)) (covered u (p .rules) d) made f own [] h);
-        apart = used-apart n u (sections-apart p (p .sections) nobody tt n e);
+        apart = used-have Apart n u tt (sections-apart p (p .sections) nobody tt n e);
       };
     }))))
