@@ -141,7 +141,7 @@ module _ (T : List ℕ) where
   entries-all [] ps c d p l e s h = entries-at h (omega arith)
   entries-all (v ∷ ls) ps c d p l e (seg-cons f (seg-cons g s)) h =
       let g₁ : fetch T (c + p + 1) ≡ some (d + (p + 1)) = rw (add-one (c + p)) g in
-      entries-cons {y = l} g₁ (omega arith)
+      entries-cons {y = l} f g₁ (omega arith)
       (entries-at (entries-all ls ps c d (p + 2) l e (seg-at s (omega arith)) (entries-at h (omega arith))) (omega arith))
 
   pairs-all : (q : Alts) (c p l : ℕ) → l + sizeAlts q ≡ c → Seg T (c + p) (tableWords p q) → Entries T (c + p) (pairs l q)

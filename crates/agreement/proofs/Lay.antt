@@ -38,10 +38,10 @@ pub data Leads (T : List ℕ) : Option ℕ → Option ℕ → Type 0 where
   leads-none : Leads T none none
   leads : {l x y : ℕ} → fetch T l ≡ some x → l - x ≡ y → Leads T (some l) (some y)
 
--- the distances behind the labels from l on lead to the entries' locations, one after the other
+-- from l on the entries' labels, one after the other; the distance behind each leads to its location
 pub data Entries (T : List ℕ) : ℕ → List Entry → Type 0 where
   entries-nil : {l : ℕ} → Entries T l []
-  entries-cons : {l v x y : ℕ} {ps : List Entry} → fetch T (l + 1) ≡ some x → l + 1 - x ≡ y → Entries T (l + 2) ps → Entries T l ((v, y) ∷ ps)
+  entries-cons : {l v x y : ℕ} {ps : List Entry} → fetch T l ≡ some v → fetch T (l + 1) ≡ some x → l + 1 - x ≡ y → Entries T (l + 2) ps → Entries T l ((v, y) ∷ ps)
 
 -- the choice table of these entries stands at c
 pub record Table (T : List ℕ) (c : ℕ) (ps : List Entry) : Type 0 where
