@@ -254,7 +254,7 @@ module _ (T : List ℕ) (start : ℕ → ℕ) (prog : List Rule) where
 
 -- the rules of a program, in its table
 
-as-rule : {prog : List Rule} {T : List ℕ} {s : ℕ} → IsStart T (place 1 prog) prog s → RuleStart prog s
+pub as-rule : {prog : List Rule} {T : List ℕ} {s : ℕ} → IsStart T (place 1 prog) prog s → RuleStart prog s
 as-rule (is-start r l e) = rule-start r l e
 
 pub called-rule : (prog : List Rule) (more : List ℕ) → Accepted prog → {s : ℕ} → Called (table prog ++ more) s → RuleStart prog s

@@ -15,6 +15,7 @@ use Rattle.agreement.proofs.Sim.{rest-at, exit-out}
 use Rattle.base.specs.Bools.{never, or₁, or₂}
 use Rattle.base.specs.Common.{member}
 use Rattle.base.specs.Tree.{plain, cycle, choice, done, _▸_, alternative, otherwise}
+use Rattle.figure.proofs.Spots.{IsStart, is-start}
 use Rattle.loading.proofs.Members.{member-cons, member-either}
 use Rattle.loading.proofs.Ways.{ByWays, from-start, by-way, by-ways}
 use Rattle.loading.specs.Reach.{fits, Reachable, bad, gives37, Taken}
@@ -31,7 +32,7 @@ use Rattle.safety.specs.Promise.{WrittenTaken}
 -- the actions of a rule, or of a part of them, from the first or a later one on; and the alternatives of a choice, likewise
 mutual
   pub data Has (prog : List Rule) : Acts → Type 0 where
-    has-rule : (r : ℕ) → r < length prog → Has prog (bodyOf prog r)
+    has-rule : (r : ℕ) {q : Acts} → r < length prog → q ≡ bodyOf prog r → Has prog q
     has-rest : {a : Act} {q : Acts} → Has prog (a ▸ q) → Has prog q
     has-cycle : {b q : Acts} → Has prog (cycle b ▸ q) → Has prog b
     has-alternative : {ls : List ℕ} {b : Acts} {q : Alts} → HasAlts prog (alternative ls b q) → Has prog b
@@ -66,10 +67,6 @@ module _ (T : List ℕ) (start : ℕ → ℕ) (prog : List Rule) where
     table-at : {v : Bool} {s : Selector} {q : Alts} {o : Other} {r : Acts} {x y l : ℕ} {ps : List Entry} → Has prog (choice s q o ▸ r) → Table T c ps
         → LayAlts T start prog v q x y l ps → TableAt c
 
-  -- a rule starts at m
-  pub data StartsAt (m : ℕ) : Type 0 where
-    starts-at : (r : ℕ) → r < length prog → m ≡ start r → StartsAt m
-
   -- what an instruction refers to is the program's
   unfoldable pub Refers : Instruction → Type 0
   Refers invalid = Unit {0}
@@ -78,7 +75,7 @@ module _ (T : List ℕ) (start : ℕ → ℕ) (prog : List Rule) where
   Refers inputAny = Unit {0}
   Refers (write e) = Unit {0}
   Refers (inputChoice c) = TableAt c
-  Refers (callRule m) = StartsAt m
+  Refers (callRule m) = IsStart T start prog m
   Refers return = Unit {0}
   Refers (setResult v) = Unit {0}
   Refers (byResult c) = TableAt c
@@ -131,7 +128,7 @@ module _ (T : List ℕ) (start : ℕ → ℕ) (prog : List Rule) where
   unfolding bad onward Refers
   set-sound {t = t} d p = by (setParameter t) d refl tt (only p)
 
-  call-sound : {l y : ℕ} → decode T l ≡ callRule y → StartsAt y → Place y → Place (l + 2) → Sound l
+  call-sound : {l y : ℕ} → decode T l ≡ callRule y → IsStart T start prog y → Place y → Place (l + 2) → Sound l
   unfolding bad onward Refers
   call-sound {y = y} d h p r = by (callRule y) d refl h (two p r)
 
@@ -217,7 +214,7 @@ module _ (T : List ℕ) (start : ℕ → ℕ) (prog : List Rule) where
     plain-sound (emit t) z hk (lay-emit d) hs hg hh = by (write _) d refl tt (only (p-at (has-rest z) hk (rest-at T start prog (plain (emit t)) hs hg hh refl)))
     plain-sound (error t) z hk (lay-error d) hs hg hh = by (write _) d refl tt (only (p-at (has-rest z) hk (rest-at T start prog (plain (error t)) hs hg hh refl)))
     plain-sound exit {q = q} z hk (lay-exit d) hs hg hh = jump-sound d (out-place hk (exit-out T start prog (plain exit) q hh refl))
-    plain-sound (call r) z hk (lay-call d c) hs hg hh = call-sound d (starts-at r (c .there) refl) (p-at (has-rule r (c .there)) around-nothing (laid r (c .there))) (p-at (has-rest z) hk (rest-at T start prog (plain (call r)) hs hg hh refl))
+    plain-sound (call r) z hk (lay-call d c) hs hg hh = call-sound d (is-start r (c .there) refl) (p-at (has-rule r (c .there) refl) around-nothing (laid r (c .there))) (p-at (has-rest z) hk (rest-at T start prog (plain (call r)) hs hg hh refl))
     plain-sound back z hk (lay-back g d) hs hg hh = return-sound d
     plain-sound (give u) z hk (lay-give g d d₁) hs hg hh = by (setResult u) d refl tt (only (p-return d₁))
     plain-sound (update op) z hk (lay-update d) hs hg hh = by (updates op) d refl tt (only (p-at (has-rest z) hk (rest-at T start prog (plain (update op)) hs hg hh refl)))
@@ -238,7 +235,7 @@ module _ (T : List ℕ) (start : ℕ → ℕ) (prog : List Rule) where
           by (inputChoice c) d (table-fits t) (table-at z t a)
           (choice-leads z hk t a b (λ x. rest-at T start prog (choice byToken al o) hs hg hh x) (λ x. exit-out T start prog (choice byToken al o) q hh x))
       lay-sound (choice (byRule r) al o) {q = q} z hk (lay-rule d c a) hs hg hh =
-          call-sound d (starts-at r (c .there) refl) (p-at (has-rule r (c .there)) around-nothing (laid r (c .there)))
+          call-sound d (is-start r (c .there) refl) (p-at (has-rule r (c .there) refl) around-nothing (laid r (c .there)))
           (p-choice z hk (at-choice a (λ x. rest-at T start prog (choice (byRule r) al o) hs hg hh x) (λ x. exit-out T start prog (choice (byRule r) al o) q hh x)))
       lay-sound (choice (byOperation op) al o) {q = q} z hk (lay-operation d a) hs hg hh =
           by (choose op) d refl tt (only
@@ -282,7 +279,7 @@ program-sound : (prog : List Rule) (more : List ℕ) → Accepted prog → {l : 
 program-sound prog more a =
     let laid = program-laid prog more a in
     let first = rw (place-first 1 prog) at (laid 0 (a .some-rule)) in
-    reach-sound (table prog ++ more) (place 1 prog) prog laid (p-at (has-rule 0 (a .some-rule)) around-nothing first)
+    reach-sound (table prog ++ more) (place 1 prog) prog laid (p-at (has-rule 0 (a .some-rule) refl) around-nothing first)
 
 pub program-taken : (prog : List Rule) (more : List ℕ) → Accepted prog → Taken (table prog ++ more)
 unfolding gives37
