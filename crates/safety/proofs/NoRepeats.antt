@@ -114,13 +114,10 @@ module _ (prog : List Rule) (more : List ℕ) (a : Accepted prog) where
   table-once : (c n i j : ℕ) → distinctLabels prog ≡ true → TableAt Words (place 1 prog) prog c → fetch Words c ≡ some n → i < j → j < n
       → fetch Words (c + 2 * i + 1) ≡ fetch Words (c + 2 * j + 1) → ⊥
   table-once c n i j dl (table-at {s = s} {q = q} {o = o} {r = r} {ps = ps} z t la) e h k f =
-      let len : n ≡ length ps = some-inj (sym e ∙ t .count) in
+      let len : n ≡ length ps = cc (t .count) in
       let x : c + 2 * i + 1 ≡ c + 1 + 2 * i = omega arith in
       let y : c + 2 * j + 1 ≡ c + 1 + 2 * j = omega arith in
       entries-once Words (t .all) (rw (labels-are Words la) (choice-distinct s q o r (has-distinct prog dl z) .labels)) i j h (rw len at k) (rw (x, y) at f)
-    where
-      some-inj : {x y : ℕ} → some x ≡ some y → x ≡ y
-      some-inj p = cc
 
   program-once : distinctLabels prog ≡ true → NoRepeats Words
   unfolding Refers
