@@ -4,6 +4,8 @@ use mathlib.Core.List.{List, [], _∷_}
 use Prim.Native.Nat.{ℕ}
 use lib.Dec.{T, eqb}
 use Rattle.base.specs.Common.{bytes, same}
+use Rattle.calls.specs.Renumber
+use Rattle.cells.specs.Cells
 use Rattle.names.specs.Declare
 use Rattle.names.specs.Known
 use Rattle.names.specs.Resolve
@@ -25,7 +27,7 @@ use Rattle.syntax.specs.Sections
 use Rattle.words.specs.Words
 
 making : Unit {0}
-unfolding Words.opened Reading.opened Actions.opened Sections.opened Parse.opened Known.opened Declare.opened Resolve.opened Understand.opened Uses.opened Made.opened Program.opened Past.opened Process.opened Texts.opened Objects.opened Link.opened Form.opened
+unfolding Words.opened Reading.opened Actions.opened Sections.opened Parse.opened Known.opened Declare.opened Resolve.opened Understand.opened Uses.opened Made.opened Program.opened Past.opened Process.opened Texts.opened Objects.opened Link.opened Renumber.opened Cells.opened Form.opened
 making = tt
 
 are : Form.Made → List ℕ → Bool
@@ -36,14 +38,14 @@ is-not : Form.Made → ℕ → ℕ → ℕ → Bool
 is-not (made ws) n i s = false
 is-not (unmade m j p) n i s = eqb m n && eqb j i && eqb (p .start) s
 
--- `PO`, 18 words behind; 9 and 16 bytes, one rule, no pair; "rules end"; M at 6, no type; a call of N at 10, the end
-one-call : T (are (makeObject (bytes "rules end") (bytes "rules M: @N; end") 21)
-    (20559 ∷ 0 ∷ 18 ∷ 9 ∷ 16 ∷ 1 ∷ 0 ∷ 29301 ∷ 27749 ∷ 29472 ∷ 25966 ∷ 25600 ∷ 6 ∷ 1 ∷ 77 ∷ 0 ∷ 8 ∷ 10 ∷ 1 ∷ 78 ∷ 0 ∷ []))
+-- `PO`, 21 words behind; 9 and 16 bytes, one rule, no pair; "rules end"; M at 6, no type; one call, N at 10; three cells: a call of a name, the end
+one-call : T (are (makeObject (bytes "rules end") (bytes "rules M: @N; end") 24)
+    (20559 ∷ 0 ∷ 21 ∷ 9 ∷ 16 ∷ 1 ∷ 0 ∷ 29301 ∷ 27749 ∷ 29472 ∷ 25966 ∷ 25600 ∷ 6 ∷ 1 ∷ 77 ∷ 0 ∷ 1 ∷ 10 ∷ 1 ∷ 78 ∷ 3 ∷ 8 ∷ 0 ∷ 0 ∷ []))
 unfolding making are
 one-call = tt
 
 -- a word less is 20 at the end of the part
-too-short : T (is-not (makeObject (bytes "rules end") (bytes "rules M: @N; end") 20) 20 1 16)
+too-short : T (is-not (makeObject (bytes "rules end") (bytes "rules M: @N; end") 23) 20 1 16)
 unfolding making is-not
 too-short = tt
 
@@ -52,12 +54,12 @@ faulty : T (is-not (makeObject (bytes "rules end") (bytes "rules M: > ; end") 10
 unfolding making is-not
 faulty = tt
 
--- a choice by a listed rule, and a use of operators: the pair, its `^` at 25, the operand rule X at 28
+-- a choice by a listed rule, and a use of operators: the pair, its `^` at 25, the operand rule X at 29; in the cells 0 for the rule of a name, 1 for the first pair
 sums : T (are (makeObject (bytes "input: p; output: o; type t: y; operators E: p 1 left o; rules R >> t; end") (bytes "rules M: [@R | y: ? | *: ^E @X ]; end") 100)
-    (20559 ∷ 0 ∷ 69 ∷ 74 ∷ 37 ∷ 1 ∷ 1
+    (20559 ∷ 0 ∷ 72 ∷ 74 ∷ 37 ∷ 1 ∷ 1
     ∷ 26990 ∷ 28789 ∷ 29754 ∷ 8304 ∷ 15136 ∷ 28533 ∷ 29808 ∷ 30068 ∷ 14880 ∷ 28475 ∷ 8308 ∷ 31088 ∷ 25888 ∷ 29754 ∷ 8313 ∷ 15136 ∷ 28528 ∷ 25970 ∷ 24948 ∷ 28530 ∷ 29472 ∷ 17722 ∷ 8304
     ∷ 8241 ∷ 8300 ∷ 25958 ∷ 29728 ∷ 28475 ∷ 8306 ∷ 30060 ∷ 25971 ∷ 8274 ∷ 8254 ∷ 15904 ∷ 29755 ∷ 8293 ∷ 28260
     ∷ 25 ∷ 1 ∷ 26 ∷ 1 ∷ 69 ∷ 29 ∷ 1 ∷ 88
-    ∷ 6 ∷ 1 ∷ 77 ∷ 0 ∷ 11 ∷ 11 ∷ 1 ∷ 82 ∷ 65 ∷ 0 ∷ 4 ∷ 0 ∷ 13 ∷ 15 ∷ 0 ∷ 29 ∷ 1 ∷ 88 ∷ 0 ∷ 0 ∷ []))
+    ∷ 6 ∷ 1 ∷ 77 ∷ 0 ∷ 2 ∷ 11 ∷ 1 ∷ 82 ∷ 29 ∷ 1 ∷ 88 ∷ 11 ∷ 11 ∷ 0 ∷ 65 ∷ 0 ∷ 4 ∷ 0 ∷ 13 ∷ 8 ∷ 1 ∷ 0 ∷ 0 ∷ []))
 unfolding making are
 sums = tt

@@ -1,5 +1,5 @@
--- An object as words: what `sst_part` writes and `sst_link` reads. A call is its name, so nothing of the part's text is in it but the names of its rules and
--- of those that it calls; and the common part that it was made with stands in front, so that parts of two common parts are never linked.
+-- An object as words: what `sst_part` writes and `sst_link` reads. Nothing of the part's text is in it but the names of its rules and of those that they
+-- call, each with its place; and the common part that it was made with stands in front, so that parts of two common parts are never linked.
 use mathlib.Core.List.{List, [], _∷_, _++_}
 use mathlib.Core.Option.{Option, none, some}
 use mathlib.Core.Path.{_≡_}
@@ -8,11 +8,12 @@ use lib.Dec.{leb}
 use lib.ListN.{length, getD, replicate}
 use Rattle.acceptance.proofs.Shape.{Each}
 use Rattle.base.specs.Common.{if_then_else_}
-use Rattle.base.specs.Tree.{plain, cycle, choice, done, _▸_, nil, alternative, absent, otherwise}
+use Rattle.calls.specs.Renumber.{renumbers}
+use Rattle.cells.specs.Cells.{actsCells}
 use Rattle.names.specs.Known.{good, Names}
 use Rattle.names.specs.Uses.{Use}
 use Rattle.processor.specs.Process.{Part, partOf}
-use Rattle.program.specs.Program.{Plain, match, any, emit, error, exit, call, back, give, update, updateWith, Selector, byToken, byRule, byOperation, byOperationWith, Act, Acts, Alts, Other}
+use Rattle.program.specs.Program.{Acts}
 use Rattle.syntax.specs.Parse.{endOf}
 use Rattle.syntax.specs.Reading.{Read, got, fault}
 use Rattle.words.specs.Words.{Word}
@@ -36,74 +37,29 @@ unfoldable pub typeWords : Option Word → List ℕ
 typeWords none = 0 ∷ []
 typeWords (some w) = 1 ∷ nameWords w
 
--- Actions: the cells of crate cells, but a call is 8 or 11 and the name, a use of operators 15, the number of its pair and the operand's name. The names come from
--- the rule's calls in text order, each action taking its own; k are the words behind, given the calls that are left
-
-abbrev Behind : Type 0
-Behind = List Word → List ℕ
-
-unfoldable pub nobodyCalled : Word
-nobodyCalled = record { kind = 0; start = 0; text = [] }
-
--- the next call's name
-unfoldable pub taking : (Word → List ℕ) → List Word → Behind → List ℕ
-taking f [] k = f nobodyCalled ++ k []
-taking f (w ∷ ws) k = f w ++ k ws
-
--- a call of the rules of a pair, which has this place among the pairs, or of the rule of the name
-unfoldable pub callWords : List Aim → ℕ → ℕ → Word → List ℕ
-callWords aims first i w = go (getD aims i (named []))
-  where
-    go : Aim → List ℕ
-    go (named v) = 8 ∷ nameWords w
-    go (ranked u) = 15 ∷ (i - first) ∷ nameWords w
-
--- no otherwise
-unfoldable pub absentWord : Selector → ℕ
-absentWord byToken = 14
-absentWord (byRule r) = 12
-absentWord (byOperation op) = 12
-absentWord (byOperationWith op v) = 12
+-- names one behind the other
+unfoldable pub namesWords : List Word → List ℕ
+namesWords [] = []
+namesWords (w ∷ ws) = nameWords w ++ namesWords ws
 
 module _ (aims : List Aim) (first : ℕ) where
-  unfoldable pub plainWords : Plain → List Word → Behind → List ℕ
-  plainWords (match t) ws k = 3 ∷ t ∷ k ws
-  plainWords any ws k = 4 ∷ k ws
-  plainWords (emit t) ws k = 5 ∷ t ∷ k ws
-  plainWords (error t) ws k = 6 ∷ t ∷ k ws
-  plainWords exit ws k = 1 ∷ k ws
-  plainWords (call r) ws k = taking (callWords aims first r) ws k
-  plainWords back ws k = 9 ∷ k ws
-  plainWords (give v) ws k = 10 ∷ v ∷ k ws
-  plainWords (update op) ws k = op ∷ k ws
-  plainWords (updateWith op v) ws k = op ∷ v ∷ k ws
+  -- what stands in an object for the number of a call: 0 for the rule of a name, 1 and the pair's place among the pairs for the rules of a pair
+  unfoldable pub markOf : ℕ → ℕ
+  markOf i = go (getD aims i (named []))
+    where
+      go : Aim → ℕ
+      go (named v) = 0
+      go (ranked u) = 1 + (i - first)
 
-  unfoldable pub selectorWords : Selector → List Word → Behind → List ℕ
-  selectorWords byToken ws k = 7 ∷ k ws
-  selectorWords (byRule r) ws k = taking (λ w. 11 ∷ nameWords w) ws k
-  selectorWords (byOperation op) ws k = op ∷ k ws
-  selectorWords (byOperationWith op v) ws k = op ∷ v ∷ k ws
+  -- the cells of a rule's actions, as crate cells has them
+  unfoldable pub bodyCells : Acts → List ℕ
+  bodyCells b = actsCells (renumbers markOf b) []
 
-  unfoldable mutual
-    pub actWords : Act → List Word → Behind → List ℕ
-    actWords (plain p) ws k = plainWords p ws k
-    actWords (cycle b) ws k = 2 ∷ actsWords b ws k
-    actWords (choice s q o) ws k = selectorWords s ws (λ ws₁. altsWords q ws₁ (λ ws₂. otherWords o (absentWord s) ws₂ k))
-
-    pub actsWords : Acts → List Word → Behind → List ℕ
-    actsWords done ws k = 0 ∷ k ws
-    actsWords (a ▸ q) ws k = actWords a ws (λ ws₁. actsWords q ws₁ k)
-
-    pub altsWords : Alts → List Word → Behind → List ℕ
-    altsWords nil ws k = k ws
-    altsWords (alternative ls b q) ws k = (64 + length ls) ∷ (ls ++ actsWords b ws (λ ws₁. altsWords q ws₁ k))
-
-    pub otherWords : Other → ℕ → List Word → Behind → List ℕ
-    otherWords absent c ws k = c ∷ k ws
-    otherWords (otherwise b) c ws k = 13 ∷ actsWords b ws k
-
+  -- its name, its type; how many calls it has and the name of each, in text order; how many cells, and the cells
   unfoldable pub ruleWords : OpenRule → List ℕ
-  ruleWords r = nameWords (r .name) ++ (typeWords (r .gives) ++ actsWords (r .means .body) (r .calls) (λ _. []))
+  ruleWords r =
+      let cells = bodyCells (r .means .body) in
+      nameWords (r .name) ++ (typeWords (r .gives) ++ (length (r .calls) ∷ (namesWords (r .calls) ++ (length cells ∷ cells))))
 
   unfoldable pub rulesWords : List OpenRule → List ℕ
   rulesWords [] = []
@@ -188,5 +144,5 @@ pub record LinksWords (common : List ℕ) (c : Common) (n : Names) (words : List
 
 -- all of this file computes where this is unfolded
 unfoldable pub opened : Unit {0}
-unfolding packed nameWords typeWords nobodyCalled taking callWords absentWord plainWords selectorWords actWords ruleWords rulesWords usesWords bodyOf objectWords listedIn ifFits asMade makeObject lentObject allWords lastLength
+unfolding packed nameWords typeWords namesWords markOf bodyCells ruleWords rulesWords usesWords bodyOf objectWords listedIn ifFits asMade makeObject lentObject allWords lastLength
 opened = tt
