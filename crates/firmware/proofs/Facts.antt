@@ -2,25 +2,27 @@
 -- definition that read it so, would not meet these.
 use mathlib.Core.Bool.{true}
 use mathlib.Core.List.{List, [], _∷_, _++_}
+use mathlib.Core.Option.{Option, none, some}
 use mathlib.Core.Path.{_≡_, refl}
 use Prim.Native.Nat.{ℕ}
 use lib.ListN.{replicate}
 use Rattle.events.specs.Events
-use Rattle.firmware.specs.Entries.{gives}
+use Rattle.events.specs.Events.{unlabelled}
+use Rattle.firmware.specs.Entries.{phaseIn, reasonIn, phaseNumber, reasonOrNone, locationOr0, readOr0, usedOr0, allowanceOr0, freshNumber, freshIn, handing, gives}
 use Rattle.firmware.specs.Filing.{hands}
 use Rattle.firmware.specs.Processing.{flagOf, Numbers, numbersOf, tells}
 use Rattle.firmware.specs.Turning.{leaves}
 use Rattle.loading.specs.File as files
 use Rattle.machine.specs.Bytes
 use Rattle.machine.specs.Call
-use Rattle.machine.specs.Call.{whole}
+use Rattle.machine.specs.Call.{Mode, whole, paused}
 use Rattle.machine.specs.Decode
 use Rattle.machine.specs.Form
 use Rattle.machine.specs.Form.{walkBytes, callBytes}
 use Rattle.machine.specs.Lengths
 use Rattle.machine.specs.Step
 use Rattle.machine.specs.Walk
-use Rattle.machine.specs.Walk.{Walk, going, fresh}
+use Rattle.machine.specs.Walk.{Walk, waiting, stopped, fresh}
 use Rattle.processor.specs.Process.{accepted, refused}
 use Rattle.screen.specs.Screen
 use Rattle.screen.specs.Screen.{turnBytes}
@@ -58,3 +60,25 @@ seat allowance left = walkBytes (fresh allowance) ++ (replicate 7 0 ++ (left ∷
 turned : turnBytes table [] (whole []) 1 (seat 4 8 ++ seat 6 9) buffer ≡ leaves 35 (seat 4 8 ++ seat 6 7) (0 ∷ 1 ∷ 0 ∷ 7 ∷ 0 ∷ 0 ∷ 9 ∷ []) 1 2
 unfolding Events.opened Bytes.opened Lengths.opened Decode.opened Walk.opened Step.opened Call.opened Form.opened Screen.opened
 turned = refl
+
+-- The parts of a walk, in the header's order: phase, reason, location, tokens read, answers used, repairs left
+unfoldable read : Option Walk → List ℕ
+read w = phaseNumber w ∷ reasonOrNone w ∷ locationOr0 w ∷ readOr0 w ∷ usedOr0 w ∷ allowanceOr0 w ∷ []
+
+-- stopped with 32, waiting, going on, and bytes that are no walk
+parts : read (some (record { phase = stopped unlabelled; location = 7; returns = []; result = 8; parameter = 9; io = record { read = 3; used = 2; allowance = 5; events = [] } })) ++ read (some (record { phase = waiting; location = 7; returns = []; result = 8; parameter = 9; io = record { read = 3; used = 2; allowance = 5; events = [] } }))
+    ++ (read (some (fresh 6)) ++ read none)
+    ≡ 2 ∷ 32 ∷ 7 ∷ 3 ∷ 2 ∷ 5 ∷ 1 ∷ 65535 ∷ 7 ∷ 3 ∷ 2 ∷ 5 ∷ 0 ∷ 65535 ∷ 1 ∷ 0 ∷ 0 ∷ 6 ∷ 3 ∷ 65535 ∷ 0 ∷ 0 ∷ 0 ∷ 0 ∷ []
+unfolding read phaseIn reasonIn phaseNumber reasonOrNone locationOr0 readOr0 usedOr0 allowanceOr0 Events.opened Walk.opened
+parts = refl
+
+-- A fresh walk is 158 bytes; another length is refused and kept
+begun : (freshNumber (replicate 158 9) ∷ freshNumber (replicate 157 9) ∷ freshNumber (replicate 159 9) ∷ [] ≡ 0 ∷ 21 ∷ 21 ∷ [])
+    × (freshIn 6 (replicate 158 9) ≡ walkBytes (fresh 6)) × (freshIn 6 (replicate 157 9) ≡ replicate 157 9)
+unfolding freshNumber freshIn
+begun = (refl, refl, refl)
+
+-- `given` 0 is no answer, whatever stands beside it; any other is one
+handed : handing 0 7 ∷ handing 1 7 ∷ handing 2 7 ∷ [] ≡ paused none ∷ paused (some 7) ∷ paused (some 7) ∷ []
+unfolding handing
+handed = refl
