@@ -78,7 +78,7 @@ pub fn words(bytes: &[u8]) -> Vec<u16> {
 }
 
 /// Writes the words and zeros behind them; an odd last byte is kept.
-fn fill(lent: &mut [u8], words: &[u16]) {
+pub fn fill(lent: &mut [u8], words: &[u16]) {
     let places = lent.as_chunks_mut().0;
     let (written, behind) = places.split_at_mut(words.len());
     written.iter_mut().zip(words).for_each(|(place, word)| *place = word.to_be_bytes());

@@ -24,6 +24,7 @@ pub mod figures;
 pub mod files;
 pub mod limits;
 pub mod pairs;
+pub mod parts;
 pub mod precedence;
 pub mod programs;
 pub mod rights;

@@ -8,6 +8,7 @@
 //! 6. `verdict::finishing` searches the program's quiet paths
 
 mod operators;
+pub mod parts;
 
 use crate::quiet::{Figure, figure};
 use crate::verdict::finishing;
@@ -39,13 +40,23 @@ pub fn process(text: &[u8], room_words: usize) -> Answer {
 
 /// The same with the locations of the first words of an accepted program's rules.
 pub fn process_with_starts(text: &[u8], room_words: usize) -> (Answer, Vec<usize>) {
+    answer(resolve(text), text.len(), room_words)
+}
+
+/// The same for a text of any length.
+pub fn process_long(text: &[u8], room_words: usize) -> (Answer, Vec<usize>) {
+    answer(resolve_any(text), text.len(), room_words)
+}
+
+/// The answer to a text of so many bytes that was resolved.
+fn answer(resolved: Result<Program, (u16, usize, usize)>, text_len: usize, room_words: usize) -> (Answer, Vec<usize>) {
     let refused = |(number, start, len)| (Answer::Refused { number, start, len }, Vec::new());
-    match resolve(text) {
+    match resolved {
         Err(fault) => refused(fault),
         Ok(program) => {
             let (words, starts) = assemble(&program);
             if words.len() > room_words || words.len() > MAX_TABLE {
-                return refused((20, text.len(), 0));
+                return refused((20, text_len, 0));
             }
             (Answer::Accepted { table: narrow(&words), finishing: finishing(&program) }, starts)
         }
@@ -332,6 +343,8 @@ struct Alternative {
 struct Tree {
     sections: Vec<Section>,
     operators: Vec<Operators>,
+    /// Of a common part: the names of its choice rules, and their types.
+    list: Vec<(At, At)>,
     bodies: Vec<Body>,
 }
 
@@ -422,12 +435,20 @@ impl<'a> Parser<'a> {
         while !self.takes("rules") {
             self.section()?;
         }
+        self.rules()
+    }
+
+    /// One rule or more, `end`, and no word behind it.
+    fn rules(&mut self) -> Read<()> {
         loop {
             self.rule()?;
             if self.takes("end") {
-                break;
+                return self.ends();
             }
         }
+    }
+
+    fn ends(&mut self) -> Read<()> {
         if self.sort() == Sort::End { Ok(()) } else { self.stop() }
     }
 
@@ -522,12 +543,18 @@ impl<'a> Parser<'a> {
         Ok(())
     }
 
-    fn rule(&mut self) -> Read<()> {
+    /// A name that declares a rule.
+    fn rule_name(&mut self) -> Read<At> {
         let name = self.declared()?;
         self.rules += 1;
         if self.rules > MAX_RULES {
             self.over.push(name);
         }
+        Ok(name)
+    }
+
+    fn rule(&mut self) -> Read<()> {
+        let name = self.rule_name()?;
         let of = if self.takes(">>") { Some(self.name()?) } else { None };
         self.must(":")?;
         let nodes = self.actions(0)?;
@@ -758,10 +785,31 @@ struct Names<'a> {
     doers: HashMap<&'a [u8], Doer<'a>>,
     /// Names of sections of operators.
     operators: HashSet<&'a [u8]>,
+    /// Where calls go by a list, the types of the choice rules on it; every other rule is then a procedure rule, wherever it stands.
+    list: Option<HashMap<&'a [u8], &'a [u8]>>,
     faults: Vec<(At, u16)>,
 }
 
+/// The number of a rule that may stand in another text.
+const OPEN: usize = 0;
+
 impl<'a> Names<'a> {
+    fn new(text: &'a [u8], words: &'a [Word]) -> Names<'a> {
+        Names {
+            text,
+            words,
+            known: HashSet::new(),
+            input: HashMap::new(),
+            output: HashMap::new(),
+            errors: HashMap::new(),
+            types: HashMap::new(),
+            doers: HashMap::new(),
+            operators: HashSet::new(),
+            list: None,
+            faults: Vec::new(),
+        }
+    }
+
     fn spelling(&self, at: At) -> &'a [u8] {
         let word = self.words[at];
         &self.text[word.start..word.start + word.len]
@@ -802,8 +850,8 @@ impl<'a> Names<'a> {
         for section in &tree.operators {
             self.known.insert(self.spelling(section.name));
         }
-        for body in &tree.bodies {
-            self.known.insert(self.spelling(body.name));
+        for name in tree.bodies.iter().map(|body| body.name).chain(tree.list.iter().map(|(name, _)| *name)) {
+            self.known.insert(self.spelling(name));
         }
         // Numbers taken, and places of the operations' names, for those input tokens that follow.
         let mut taken: [HashSet<u16>; 3] = Default::default();
@@ -855,6 +903,7 @@ impl<'a> Names<'a> {
                 self.types.entry(self.spelling(name)).or_insert(own);
             }
         }
+        tree.list.iter().for_each(|line| self.listed(*line));
         for (index, body) in tree.bodies.iter().enumerate() {
             let name = self.spelling(body.name);
             let of = body.of.map(|of| self.spelling(of));
@@ -862,16 +911,34 @@ impl<'a> Names<'a> {
                 self.fault(body.name, 4);
             }
             self.doers.entry(name).or_insert(Doer::Rule { index, of });
-            if index == 0 && of.is_some() {
+            // Which part is the first is not known where it is translated.
+            if index == 0 && of.is_some() && self.list.is_none() {
                 self.fault(body.name, 5);
             }
-            if let Some(of) = body.of
-                && !self.types.contains_key(self.spelling(of))
-            {
-                self.missing(of);
-            }
+            self.is_type(body.of);
         }
         tree.operators.iter().for_each(|section| self.section_of_operators(section));
+    }
+
+    /// A type, where there is one, must be declared.
+    fn is_type(&mut self, of: Option<At>) {
+        if let Some(of) = of
+            && !self.types.contains_key(self.spelling(of))
+        {
+            self.missing(of);
+        }
+    }
+
+    /// A line of the list. The rule itself is declared elsewhere.
+    fn listed(&mut self, (name, of): (At, At)) {
+        let (rule, of_type) = (self.spelling(name), self.spelling(of));
+        let list = self.list.get_or_insert_default();
+        let twice = list.contains_key(rule);
+        list.entry(rule).or_insert(of_type);
+        if twice || self.doers.contains_key(rule) {
+            self.fault(name, 4);
+        }
+        self.is_type(Some(of));
     }
 
     /// Its tokens are looked up in the whole classes: they may be declared behind it.
@@ -1008,12 +1075,22 @@ impl<'a> Names<'a> {
     }
 
     fn call(&mut self, word: At) -> Act {
-        match self.doers.get(self.spelling(word)) {
-            Some(Doer::Rule { index, of: None }) => Act::Call(*index),
+        match self.rule_called(word) {
+            Some((index, None)) => Act::Call(index),
             _ => {
                 self.missing(word);
                 Act::Any
             }
+        }
+    }
+
+    /// The rule that a name after `@` stands for, with its type. By a list there is always one, but for an operation's name.
+    fn rule_called(&self, word: At) -> Option<(usize, Option<&'a [u8]>)> {
+        let name = self.spelling(word);
+        match (self.doers.get(name).copied(), &self.list) {
+            (Some(Doer::Operation { .. }), _) | (None, None) => None,
+            (_, Some(list)) => Some((OPEN, list.get(name).copied())),
+            (Some(Doer::Rule { index, of }), None) => Some((index, of)),
         }
     }
 
@@ -1060,9 +1137,14 @@ impl<'a> Names<'a> {
     fn selector(&mut self, by: &Selector) -> (By, Option<&'a [u8]>) {
         match by {
             Selector::Token => (By::Token, None),
-            Selector::Rule(word) => match self.doers.get(self.spelling(*word)).copied() {
-                Some(Doer::Rule { index, of: Some(of) }) => (By::Rule(index), Some(of)),
-                _ => {
+            Selector::Rule(word) => match self.rule_called(*word) {
+                Some((index, Some(of))) => (By::Rule(index), Some(of)),
+                // A procedure rule, if only by the list.
+                Some((_, None)) => {
+                    self.fault(*word, 5);
+                    (By::Token, None)
+                }
+                None => {
                     self.missing(*word);
                     (By::Token, None)
                 }
@@ -1112,6 +1194,16 @@ fn rank(number: u16) -> u16 {
     if number == 45 { 2 * 4 + 1 } else { 2 * number }
 }
 
+/// The first of the numbers 1, 2 and 9: of the words past a limit and the one at which reading stopped.
+fn first_early(over: &[At], stop: Option<Stop>) -> Option<(At, u16)> {
+    over.iter().map(|at| (*at, 9)).chain(stop.map(|Stop(number, at)| (at, number))).min()
+}
+
+/// The first of the numbers 3 to 8 and 45.
+fn first_late(faults: &[(At, u16)]) -> Option<(At, u16)> {
+    faults.iter().copied().min_by_key(|(at, number)| (*at, rank(*number)))
+}
+
 /// The same for a text of any length.
 fn resolve_any(text: &[u8]) -> Result<Program, (u16, usize, usize)> {
     let words = words(text);
@@ -1120,25 +1212,13 @@ fn resolve_any(text: &[u8]) -> Result<Program, (u16, usize, usize)> {
     let stop = parser.program().err();
     let Parser { tree, mut over, names: declared, .. } = parser;
     let values = values(text, &words, &tree.sections, &mut over);
-    let early = over.iter().map(|at| (*at, 9)).chain(stop.map(|Stop(number, at)| (at, number)));
-    if let Some(fault) = early.min() {
+    if let Some(fault) = first_early(&over, stop) {
         return Err(show(fault));
     }
-    let mut names = Names {
-        text,
-        words: &words,
-        known: HashSet::new(),
-        input: HashMap::new(),
-        output: HashMap::new(),
-        errors: HashMap::new(),
-        types: HashMap::new(),
-        doers: HashMap::new(),
-        operators: HashSet::new(),
-        faults: Vec::new(),
-    };
+    let mut names = Names::new(text, &words);
     names.declare(&tree, &values);
     let program = names.bodies(&tree);
-    if let Some(fault) = names.faults.iter().copied().min_by_key(|(at, number)| (*at, rank(*number))) {
+    if let Some(fault) = first_late(&names.faults) {
         return Err(show(fault));
     }
     if tree.operators.is_empty() {

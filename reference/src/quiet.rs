@@ -220,17 +220,22 @@ impl Measurer for Reference {
     fn measure(&self, text: &[u8], table: &mut [u8]) -> Measured {
         let (answer, starts) = processor::process_with_starts(text, table.len() / 2);
         processor::lent(&answer, table);
-        let found = match &answer {
-            Answer::Accepted { table, finishing: true } => figure_over(table, &starts),
-            _ => Figure::Neither,
-        };
-        let (figure, figure_number) = match found {
-            Figure::Neither => (0, 0),
-            Figure::Most(most) => (most, 0),
-            Figure::TooLong => (0, TOO_LONG),
-        };
-        Measured { processed: Processed::of(&answer), figure, figure_number }
+        measured(&answer, &starts)
     }
+}
+
+/// An answer with the figure of its program, whose rules begin at these locations.
+pub fn measured(answer: &Answer, starts: &[usize]) -> Measured {
+    let found = match answer {
+        Answer::Accepted { table, finishing: true } => figure_over(table, starts),
+        _ => Figure::Neither,
+    };
+    let (figure, figure_number) = match found {
+        Figure::Neither => (0, 0),
+        Figure::Most(most) => (most, 0),
+        Figure::TooLong => (0, TOO_LONG),
+    };
+    Measured { processed: Processed::of(answer), figure, figure_number }
 }
 
 #[cfg(test)]

@@ -1,0 +1,403 @@
+//! Worked examples of the readings. `~` marks the word that is shown and is taken out.
+
+use super::*;
+use crate::processor::process;
+
+/// The texts without the mark, and the text and place where it stood.
+fn marked(texts: &[&str]) -> (Vec<Vec<u8>>, usize, usize) {
+    let (text, start) = texts.iter().enumerate().find_map(|(i, text)| Some((i, text.find('~')?))).expect("a mark");
+    (plain(texts), text, start)
+}
+
+fn plain(texts: &[&str]) -> Vec<Vec<u8>> {
+    texts.iter().map(|text| text.replacen('~', "", 1).into_bytes()).collect()
+}
+
+fn slices(texts: &[Vec<u8>]) -> Vec<&[u8]> {
+    texts.iter().map(Vec::as_slice).collect()
+}
+
+/// A part is refused at the mark, in the common part or in the part.
+#[track_caller]
+fn refused(number: u16, common: &str, part_text: &str, len: usize) {
+    let (texts, text, start) = marked(&[common, part_text]);
+    let fault = Fault { number, text, start, len };
+    assert_eq!(part(&texts[0], &texts[1]).map(|_| ()), Err(fault), "{common}\n{part_text}");
+}
+
+#[track_caller]
+fn taken(common: &str, part_text: &str) {
+    assert_eq!(part(common.as_bytes(), part_text.as_bytes()).map(|_| ()), Ok(()), "{common}\n{part_text}");
+}
+
+/// Linking is refused at the mark; the first text is the common part.
+#[track_caller]
+fn unlinked(number: u16, texts: &[&str], len: usize) {
+    let (plain, text, start) = marked(texts);
+    let all = slices(&plain);
+    let fault = Fault { number, text, start, len };
+    assert_eq!(link(all[0], &all[1..], 4_096).map(|_| ()), Err(fault), "{texts:?}");
+}
+
+/// Linking gives what the one text is processed to.
+#[track_caller]
+fn linked(texts: &[&str], one: &str) {
+    let plain = plain(texts);
+    let all = slices(&plain);
+    let (table, told) = link(all[0], &all[1..], 4_096).unwrap_or_else(|fault| panic!("{fault:?}: {texts:?}"));
+    let answer = process(one.as_bytes(), 4_096);
+    let finishing = told.processed.finishing == 1;
+    assert_eq!(answer, Answer::Accepted { table, finishing }, "{texts:?}");
+}
+
+/// Tokens, a type, an operation of each kind, and two choice rules.
+const COMMON_TEXT: &str = "input: a b; output: o; error: e; type t: y n; type u: z; mechanism m: f g(t) c>>t;
+    operators E: a 1 left o b 2 right o; rules R >> t; S >> u; end";
+
+/// Such a part's rules.
+#[track_caller]
+fn refused_rules(number: u16, rules: &str, len: usize) {
+    refused(number, COMMON_TEXT, &format!("rules {rules} end"), len);
+}
+
+#[track_caller]
+fn taken_rules(rules: &str) {
+    taken(COMMON_TEXT, &format!("rules {rules} end"));
+}
+
+#[test]
+fn the_common_part() {
+    taken("rules end", "rules M: ; end");
+    taken("type t: y; rules end", "rules M: ; end");
+    refused(2, "rules M ~: ; end", "rules M: ; end", 1);
+    refused(2, "type t: y; rules R >> t ~: >> y; end", "rules M: ; end", 1);
+    refused(2, "type t: y; rules R >> ~'t'; end", "rules M: ; end", 3);
+    refused(2, "type t: y; rules R ~; end", "rules M: ; end", 1);
+    refused(2, "type t: y; rules R >> t ~end", "rules M: ; end", 3);
+    refused(2, "rules ~'R' >> t; end", "rules M: ; end", 3);
+    refused(2, "rules end ~end", "rules M: ; end", 3);
+    refused(2, "rules~", "rules M: ; end", 0);
+    refused(2, "~end", "rules M: ; end", 3);
+    refused(1, "rules ~$ end", "rules M: ; end", 1);
+}
+
+#[test]
+fn a_part() {
+    refused(2, "rules end", "rules ~end", 3);
+    refused(2, "rules end", "~input: a; rules M: ; end", 5);
+    refused(2, "rules end", "~operators E: a 1 left o; rules M: ; end", 9);
+    refused(2, "rules end", "rules M: ; end ~M", 1);
+    refused(2, "rules end", "~", 0);
+    refused(2, "rules end", "rules M: ;~", 0);
+    refused(1, "rules end", "rules M: ~''; end", 1);
+    // Each text has its own end: nothing goes on from the common part to the part.
+    refused(2, "rules end %", "~end rules M: ; end", 3);
+    refused(1, "rules end ~'", "' rules M: ; end", 1);
+}
+
+#[test]
+fn the_order_of_both_texts() {
+    // 1, 2 and 9 of both before 3 to 8 of either.
+    refused(2, "input: a a; rules end", "rules ~end", 3);
+    refused(9, "input: a a; rules end", "rules M: @~n23456789012345678901234567890123; end", 33);
+    refused(4, "input: a ~a; rules end", "rules M: >; end", 1);
+    refused(2, "rules ~;", "$", 1);
+    refused(2, "input: a = 65535 ~, b; rules end", "$", 1);
+    refused(4, "type t: y; rules R >> t; ~R >> t; end", "rules M: >; end", 1);
+    // Over-long texts before all else, the common part first.
+    let long = |bytes: usize| format!("{}~", "$".repeat(bytes));
+    refused(9, &long(32_769), "$", 0);
+    refused(9, "$", &long(32_769), 0);
+    refused(9, &long(32_769), &"$".repeat(32_769), 0);
+    refused(1, "~$", &"$".repeat(32_768), 1);
+}
+
+#[test]
+fn the_list() {
+    let good = "rules M: ; end";
+    refused(4, "type t: y; rules R >> t; S >> t; ~R >> t; end", good, 1);
+    refused(4, "type t: y; mechanism m: f; rules ~f >> t; end", good, 1);
+    refused(3, "rules R >> ~t; end", good, 1);
+    refused(5, "input: t; rules R >> ~t; end", good, 1);
+    // Declared in either text.
+    refused(5, "rules R >> ~M; end", good, 1);
+    refused(5, "rules R >> ~R; end", good, 1);
+    refused(5, "mechanism m: f(~M); rules end", good, 1);
+    refused(3, "mechanism m: f(~N); rules end", "rules M: @N; end", 1);
+    // A token's name may be a rule's.
+    taken("input: R; type t: y; rules R >> t; end", "rules M: R [@R | y: ]; end");
+    // 4 comes before 5 where a name has both faults, and the name before its type.
+    refused(4, "mechanism m: f; rules ~f >> zz; end", good, 1);
+}
+
+#[test]
+fn calls_go_by_the_list() {
+    taken_rules("M: @N [@R | y: | n: ] [@S | z: ] ^E @N;");
+    refused_rules(5, "M: @~R;", 1);
+    refused_rules(5, "M: ^E @~R;", 1);
+    refused_rules(5, "M: [@~N | *: ];", 1);
+    refused_rules(5, "M: [@R | ~z: ];", 1);
+    refused_rules(5, "M: @~f;", 1);
+    refused_rules(5, "M: [@~f | *: ];", 1);
+    refused_rules(5, "M: ^E @~c;", 1);
+    // Also where the part itself says otherwise.
+    refused_rules(5, "M: [@~N | y: ]; N >> t: >> y;", 1);
+    refused_rules(5, "M: @~R; R: ;", 1);
+    taken_rules("M: @N; N >> t: >> y;");
+    taken_rules("M: [@R | y: ]; R: ;");
+    taken_rules("M: [@R | y: ]; R >> u: >> z;");
+    refused_rules(5, "M: [@R | ~z: ]; R >> u: >> z;", 1);
+    // Inside a rule its own head counts.
+    refused_rules(5, "R >> u: >> ~y;", 1);
+    refused_rules(8, "R: >> ~y;", 1);
+    refused_rules(8, "N >> t: ~;", 1);
+    // A name of another class may be a rule's.
+    taken_rules("M: @a @o @e @t @y @E @m;");
+    // A rule may be called by the name that it has, here or elsewhere; what is only called is not declared.
+    refused_rules(3, "M: .~N @N;", 1);
+    refused_rules(5, "M: .~N @N; N: ;", 1);
+    refused_rules(5, "M: .~R;", 1);
+    refused_rules(3, "M: @N ^~N @N;", 1);
+    refused_rules(5, "M: ^~R @N;", 1);
+}
+
+#[test]
+fn a_parts_own_names() {
+    taken_rules("R >> t: >> y;");
+    taken_rules("N >> t: >> y; M: ;");
+    refused_rules(4, "M: ; N: ; ~M: ;", 1);
+    refused_rules(4, "~f: ;", 1);
+    refused_rules(4, "R >> t: >> y; ~R >> t: >> y;", 1);
+    refused_rules(3, "M >> ~zz: >> y;", 2);
+    refused_rules(5, "M >> ~a: >> y;", 1);
+    refused_rules(3, "M: ~zz;", 2);
+    refused_rules(6, "M: [ | a: | ~a: ];", 1);
+    refused_rules(7, "M: ~>;", 1);
+    // A use of operators makes no rules in a part, and passes no limit there.
+    let entries: String = (0..65).map(|i| format!("k{i} 3 left o ")).collect();
+    let tokens: String = (0..65).map(|i| format!("k{i} ")).collect();
+    taken(&format!("input: {tokens}; output: o; operators E: {entries}; rules end"), "rules M: ^E @M; end");
+    refused(45, "input: p q; output: o; operators E: p 1 left o ~q 1 right o; rules end", "rules M: ; end", 1);
+}
+
+fn list(count: usize, item: impl Fn(usize) -> String) -> String {
+    (0..count).map(item).collect()
+}
+
+#[test]
+fn limits_of_a_part() {
+    let lines = |count: usize| list(count, |i| format!("R{i} >> t; "));
+    let rules = |count: usize| format!("rules {} end", list(count, |i| format!("r{i}: ; ")));
+    let tokens = |count: usize| format!("input: {};", list(count, |i| format!("k{i} ")));
+    let common = |count: usize, more: &str| format!("type t: y; rules {}{more} end", lines(count));
+    taken(&common(128, ""), "rules M: ; end");
+    refused(9, &common(128, "~X >> t; Y >> t;"), "rules M: ; end", 1);
+    taken("rules end", &rules(128));
+    refused(9, "rules end", &rules(128).replace(" end", "~X: ; end"), 1);
+    // The list's names are no more names in the part.
+    taken(&common(128, ""), &rules(128));
+    // 512 names: type, value, tokens, and the list or the part's rules.
+    let wide = |count: usize, more: &str| format!("{} {}", tokens(count), common(100, more));
+    taken(&wide(410, ""), &rules(100));
+    refused(9, &wide(410, "~X >> t;"), &rules(1), 1);
+    refused(9, &wide(410, ""), &rules(100).replace(" end", "~X: ; end"), 1);
+    refused(9, &format!("{} rules end", tokens(512)), "rules ~M: ; end", 1);
+    refused(9, "type t: y; rules ~n23456789012345678901234567890123 >> t; end", "$", 33);
+    refused(9, "type t: y; rules R >> ~n23456789012345678901234567890123; end", "$", 33);
+}
+
+#[test]
+fn one_text() {
+    let common = "type t: y n; rules R >> t; end";
+    linked(&["rules end", "rules M: ; end"], "rules M: ; end");
+    linked(
+        &[common, "rules M: [@R | y: @N | n: ]; end", "rules R >> t: >> y; end", "rules N: ?; end"],
+        "type t: y n; rules M: [@R | y: @N | n: ]; R >> t: >> y; N: ?; end",
+    );
+    // The order of the parts is that of the rules; a rule with a type may be the first of any but the first.
+    linked(
+        &[common, "rules N: ?; M: [@R | y: @N | n: ]; end", "rules R >> t: >> y; end"],
+        "type t: y n; rules N: ?; M: [@R | y: @N | n: ]; R >> t: >> y; end",
+    );
+    // A listed rule in no part that nothing calls; the verdict of the whole.
+    linked(&[common, "rules M: @N; end", "rules N: @M; end"], "rules M: @N; N: @M; end");
+    linked(&["rules end % '", "rules M: @N;% end\nend", "rules % M:\nN: ; end"], "rules M: @N; N: ; end");
+    // Rules made for operators stand behind the last part, each pair once, in the order of first use.
+    let common = "input: p q; output: o; operators E: p 1 left o; operators F: q 2 right o; rules end";
+    linked(
+        &[common, "rules M: ^F @N; end", "rules L: ^E @N ^F @N; end", "rules N: ^E @N ^E @M ?; end"],
+        "input: p q; output: o; operators E: p 1 left o; operators F: q 2 right o;
+         rules M: ^F @N; L: ^E @N ^F @N; N: ^E @N ^E @M ?; end",
+    );
+}
+
+#[test]
+fn numbers_of_linking() {
+    let common = "type t: y n; type u: z; rules R >> t; end";
+    let list_only = b"rules end";
+    let count = |count: usize| link(list_only, &vec![&b"rules M: ; end"[..]; count], 9).map(|_| ());
+    let counted = Fault { number: 9, text: 0, start: list_only.len(), len: 0 };
+    assert_eq!(count(0), Err(counted));
+    assert_eq!(count(17), Err(counted));
+    assert_eq!(count(16), Err(Fault { number: 50, text: 2, start: 6, len: 1 }));
+    unlinked(5, &[common, "rules ~R >> t: >> y; M: @N; end", "rules R: ; end"], 1);
+    // 49: a called rule in no part, by a call, a choice, operators.
+    unlinked(49, &[common, "rules M: @~N; end"], 1);
+    unlinked(49, &[common, "rules M: ; end", "rules N: [@~R | y: ]; end"], 1);
+    unlinked(49, &["input: p; output: o; operators E: p 1 left o; rules end", "rules M: ^E @~N; end"], 1);
+    // Of another sort or type.
+    unlinked(49, &[common, "rules M: [@R | y: ]; end", "rules ~R: ; end"], 1);
+    unlinked(49, &[common, "rules M: ; ~R: ; end"], 1);
+    unlinked(49, &[common, "rules M: ; end", "rules ~R >> u: >> z; end"], 1);
+    unlinked(49, &[common, "rules M: @N; end", "rules ~N >> t: >> y; end"], 1);
+    // In one pass, a rule's name before what it calls.
+    unlinked(49, &[common, "rules M: @~N; R: ; end"], 1);
+    unlinked(49, &[common, "rules M: @M; ~R: @N; end"], 1);
+    unlinked(49, &[common, "rules M: ; end", "rules L: @~N; end", "rules R: ; end"], 1);
+    // 50, at the later part; 49 comes before it.
+    unlinked(50, &[common, "rules M: ; end", "rules N: ; ~M: ; end"], 1);
+    unlinked(50, &[common, "rules M: ; N: ; end", "rules ~N: ; M: ; end"], 1);
+    unlinked(50, &[common, "rules M: ; end", "rules N: ; end", "rules ~N: ; M: ; end"], 1);
+    unlinked(49, &[common, "rules M: ; end", "rules N: ; M: ; end", "rules L: @~K; end"], 1);
+    // Faults of the common part by itself.
+    unlinked(4, &["input: a ~a; rules end"], 1);
+    unlinked(3, &["mechanism m: f(~M); rules end", "rules M: ; end"], 1);
+}
+
+/// So many rules of one name stem, as a part.
+fn many(stem: &str, count: usize, more: &str) -> String {
+    format!("rules {}{more} end", list(count, |i| format!("{stem}{i}: ; ")))
+}
+
+#[test]
+fn limits_of_the_whole() {
+    let all = |last: &str| -> Vec<String> { vec!["rules end".into(), many("a", 64, ""), many("b", 63, ""), many("c", 0, last)] };
+    let texts = all("X: ;");
+    let texts: Vec<&str> = texts.iter().map(String::as_str).collect();
+    assert!(link(texts[0].as_bytes(), &[texts[1].as_bytes(), texts[2].as_bytes(), texts[3].as_bytes()], 4_096).is_ok());
+    let texts = all("X: ; ~Y: ; Z: ;");
+    unlinked(9, &texts.iter().map(String::as_str).collect::<Vec<_>>(), 1);
+    // What the sections leave of 512; the list does not count again.
+    let common = format!("input: {}; type t: y; rules R >> t; end", list(500, |i| format!("k{i} ")));
+    let (first, last) = (many("a", 5, ""), many("b", 3, "R >> t: >> y; X: ;"));
+    assert!(link(common.as_bytes(), &[first.as_bytes(), last.as_bytes()], 4_096).is_ok());
+    unlinked(9, &[&common, &many("a", 5, ""), &many("b", 3, "R >> t: >> y; X: ; ~Y: ;")], 1);
+    // 49 and 50 come before it.
+    unlinked(50, &["rules end", &many("a", 100, ""), &many("b", 100, "~a7: ;")], 2);
+}
+
+#[test]
+fn limits_of_rules_made() {
+    let levels = list(15, |i| format!("p{i} {} left o ", i + 1));
+    let tokens = list(15, |i| format!("p{i} "));
+    let common = format!("input: {tokens}; output: o; operators E: {levels}; operators F: p0 7 right o; rules end");
+    // 112 rules and 16 made.
+    let parts = |last: &str| -> Vec<String> {
+        vec![common.clone(), "rules M: ^E @N; end".into(), many("a", 109, "N: ;"), format!("rules L: {last}; end")]
+    };
+    let good = parts("^E @N ^F @N");
+    assert!(link(good[0].as_bytes(), &[good[1].as_bytes(), good[2].as_bytes(), good[3].as_bytes()], 4_096).is_ok());
+    let texts = parts("^E @N ^F @N ? ~^F @M");
+    unlinked(9, &texts.iter().map(String::as_str).collect::<Vec<_>>(), 1);
+    // At the first use of the pair, in the first text that has it.
+    let texts = [&common[..], "rules M: ? ~^E @N ^E @N; end", &many("a", 125, "N: ^E @N;"), "rules L: ^F @N; end"];
+    unlinked(9, &texts, 1);
+    // The 9 of names comes before, 20 behind.
+    unlinked(9, &[&common, "rules M: ^E @N; end", &many("a", 126, "N: ; ~X: ;")], 1);
+    let (first, last) = ("rules M: ^E @N; end", many("a", 125, &format!("N: {};", "?".repeat(5_000))));
+    let fault = link(common.as_bytes(), &[first.as_bytes(), last.as_bytes()], 4_096).map(|_| ());
+    assert_eq!(fault, Err(Fault { number: 9, text: 1, start: 9, len: 1 }));
+}
+
+#[test]
+fn the_table_passes() {
+    let (first, last) = ("rules M: ? ?; end", " rules N: ? ; end % ");
+    let texts = [first.as_bytes(), last.as_bytes()];
+    let passed = Err(Fault { number: 20, text: 2, start: last.len(), len: 0 });
+    assert_eq!(link(b"rules end", &texts, 4).map(|_| ()), passed);
+    assert_eq!(link(b"rules end", &texts, 5).map(|(table, _)| table), Ok(vec![4, 4, 9, 4, 9]));
+    // Longer than a text may be: the byte limit counts for each part.
+    let long = |name: &str, bytes: usize| format!("rules {name}: {}; end{}", "?".repeat(2_047), " ".repeat(bytes));
+    let (first, last) = (long("M", 30_000), long("N", 30_000));
+    let texts = [first.as_bytes(), last.as_bytes()];
+    assert_eq!(link(b"rules end", &texts, 9_999).map(|(table, _)| table.len()), Ok(4_096));
+    let more = long("N", 1).replace('?', "??");
+    let passed = Err(Fault { number: 20, text: 2, start: more.len(), len: 0 });
+    assert_eq!(link(b"rules end", &[first.as_bytes(), more.as_bytes()], 9_999).map(|_| ()), passed);
+}
+
+#[test]
+fn words_of_an_object() {
+    let (common, text) = (b"type t: y; rules R >> t; end ", b"rules M: @N [@R | y: ]; R >> t: >> y; end");
+    let object = part(common, text).expect("a good part");
+    let packed: Vec<u16> = common.chunks(2).map(|two| u16::from(two[0]) << 8 | u16::from(*two.get(1).unwrap_or(&0))).collect();
+    assert_eq!((common.len(), packed.len(), packed[14]), (29, 15, 0x2000));
+    let rules = [6, 1, 77, 0, 8, 10, 1, 78, 11, 14, 1, 82, 24, 1, 82, 1, 29, 1, 116];
+    let behind = [vec![29, 41, 2, 0], packed.clone(), rules.to_vec()].concat();
+    let words = [vec![20_559, 0, behind.len() as u16], behind].concat();
+    assert_eq!(object.with_cells(&[]), words);
+    assert!(object.fits(&words));
+    // Cells of any sort between what is known, but not before the first rule, and none left out or changed.
+    let with = |at: usize, cells: &[u16]| {
+        let mut more = [&words[..at], cells, &words[at..]].concat();
+        more[2] += cells.len() as u16;
+        more
+    };
+    let first_rule = 7 + packed.len();
+    for at in [first_rule + 4, first_rule + 8, first_rule + 12, words.len()] {
+        assert!(object.fits(&with(at, &[3, 0])), "{at}");
+    }
+    for at in [4, 7, first_rule, first_rule + 1, first_rule + 5] {
+        assert!(!object.fits(&with(at, &[3, 0])), "{at}");
+    }
+    for at in 0..words.len() {
+        let mut other = words.clone();
+        other[at] ^= 1;
+        assert!(!object.fits(&other), "{at}");
+    }
+    let pairs = b"input: p; output: o; operators E: p 1 left o; rules end";
+    let object = part(pairs, b"rules M: ^E @M ^E @NN ^ E @M; end").expect("a good part");
+    let words = object.with_cells(&[]);
+    let head = 7 + pairs.len().div_ceil(2);
+    assert_eq!(words[..7], [20_559, 0, words.len() as u16 - 3, pairs.len() as u16, 33, 1, 2]);
+    let wanted = [
+        vec![9, 1, 10, 1, 69, 13, 1, 77],
+        vec![15, 1, 16, 1, 69, 19, 2, 78, 78],
+        vec![6, 1, 77, 0],
+        vec![15, 0, 13, 1, 77],
+        vec![15, 1, 19, 2, 78, 78],
+        vec![15, 0, 27, 1, 77],
+    ];
+    assert_eq!(words[head..], wanted.concat());
+}
+
+#[test]
+fn own_objects() {
+    let (common, texts) = (b"rules end", [&b"rules M: @N; end"[..], b"rules N: ; end "]);
+    let object = |common: &[u8], text: &[u8]| {
+        let mut lent = vec![7; 2_001];
+        let done = Reference.part(common, text, &mut lent);
+        assert_eq!((done.number, done.start, done.len), (0, 0, 0));
+        assert!(lent[2 * done.words as usize..2_000].iter().all(|byte| *byte == 0) && lent[2_000] == 7);
+        lent.truncate(2 * done.words as usize);
+        lent
+    };
+    let objects = texts.map(|text| object(common, text)).concat();
+    let mut table = [7; 11];
+    let done = Reference.link(common, &objects, &mut table);
+    assert_eq!(done, Linked { words: 4, finishing: 1, figure: 3, ..Linked::default() });
+    assert_eq!(table, [0, 8, 0, 4, 0, 9, 0, 9, 0, 0, 7]);
+    let refused = |objects: &[u8], number, text| {
+        let mut table = [7; 5];
+        let wanted = Linked { number, text, ..Linked::default() };
+        assert_eq!(Reference.link(common, objects, &mut table), wanted);
+        assert_eq!(table, [0, 0, 0, 0, 7]);
+    };
+    refused(&[&objects[..], &[0]].concat(), 40, 3);
+    refused(&objects[..objects.len() - 2], 40, 2);
+    refused(&[object(common, texts[0]), object(b"rules end ", texts[1])].concat(), 40, 2);
+    let mut lent = [7; 21];
+    let done = Reference.part(common, texts[1], &mut lent);
+    assert_eq!(done, Translated { number: 20, text: 1, start: 15, len: 0, words: 0 });
+    assert_eq!((&lent[..20], lent[20]), (&[0; 20][..], 7));
+}

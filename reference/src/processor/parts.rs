@@ -1,0 +1,240 @@
+//! Parts translated separately (A.13): the words of a part are read behind those of the common part, as if both were one text, and its calls go by
+//! the common part's list.
+
+use super::{At, MAX_TEXT, Names, Node, Parser, Read, Selector, Sort, Tree, Word, first_early, first_late, values, words};
+use std::collections::HashMap;
+use std::ops::Range;
+
+/// The number of a common part among the texts; the parts count from 1.
+pub const COMMON: usize = 0;
+/// The number of a part where it is translated by itself.
+const PART: usize = 1;
+
+/// A word at fault in one of several texts.
+#[derive(Clone, Copy, PartialEq, Eq, Debug)]
+pub struct Fault {
+    pub number: u16,
+    pub text: usize,
+    pub start: usize,
+    pub len: usize,
+}
+
+/// A name, and where it stands in its text.
+#[derive(Clone, PartialEq, Eq, Debug)]
+pub struct Name {
+    pub start: usize,
+    pub spelling: Vec<u8>,
+}
+
+/// A use of a rule, with its name.
+#[derive(Clone, PartialEq, Eq, Debug)]
+pub enum Called {
+    Call(Name),
+    Selector(Name),
+    /// As operand of a section of operators: the number of the pair.
+    Operand(usize, Name),
+}
+
+impl Called {
+    pub fn rule(&self) -> &Name {
+        match self {
+            Called::Call(name) | Called::Selector(name) | Called::Operand(_, name) => name,
+        }
+    }
+}
+
+/// A section of operators and an operand rule, as they are first used together, with the place of the `^`.
+#[derive(Clone, PartialEq, Eq, Debug)]
+pub struct Pair {
+    pub sign: usize,
+    pub section: Name,
+    pub operand: Name,
+}
+
+/// A rule of a part, and the rules that it uses in text order.
+#[derive(Clone, PartialEq, Eq, Debug)]
+pub struct PartRule {
+    pub name: Name,
+    pub of: Option<Name>,
+    pub called: Vec<Called>,
+    /// From behind the rule before it to behind its semicolon.
+    pub text: Range<usize>,
+}
+
+/// What a part has for linking.
+#[derive(Clone, PartialEq, Eq, Debug, Default)]
+pub struct Part {
+    pub rules: Vec<PartRule>,
+    pub pairs: Vec<Pair>,
+}
+
+/// What a common part has for linking: where its sections end, and the choice rules with their types.
+#[derive(Clone, PartialEq, Eq, Debug)]
+pub struct Common {
+    pub sections: usize,
+    pub list: HashMap<Vec<u8>, Vec<u8>>,
+}
+
+/// A common part by itself.
+pub fn common(text: &[u8]) -> Result<Common, Fault> {
+    let texts = Texts::new(&[text])?;
+    let tree = texts.tree()?;
+    let list = tree.list.iter().map(|(name, of)| (texts.name(*name).spelling, texts.name(*of).spelling)).collect();
+    Ok(Common { sections: texts.words[texts.rules()].start, list })
+}
+
+/// A part with its common part.
+pub fn translate(common: &[u8], part: &[u8]) -> Result<Part, Fault> {
+    let texts = Texts::new(&[common, part])?;
+    let tree = texts.tree()?;
+    Ok(texts.part(&tree))
+}
+
+/// A text that can be read to its end, cut into its sections and its rules; what is wrong with names and limits does not matter.
+pub fn cut(text: &[u8]) -> Option<(Vec<u8>, Part)> {
+    let texts = Texts::new(&[text]).ok()?;
+    let mut parser = Parser::new(&texts.bytes, &texts.words);
+    parser.program().ok()?;
+    let sections = text[..texts.words[texts.rules()].start].to_vec();
+    Some((sections, texts.part(&parser.tree)))
+}
+
+/// Texts one behind the other, an end word behind the words of each.
+struct Texts {
+    bytes: Vec<u8>,
+    words: Vec<Word>,
+    /// The first word of each, and the place where it begins.
+    starts: Vec<(At, usize)>,
+}
+
+impl Texts {
+    /// Each at most so long; that comes before all else.
+    fn new(texts: &[&[u8]]) -> Result<Texts, Fault> {
+        let mut all = Texts { bytes: Vec::new(), words: Vec::new(), starts: Vec::new() };
+        for (number, text) in texts.iter().enumerate() {
+            if text.len() > MAX_TEXT {
+                return Err(Fault { number: 9, text: number, start: text.len(), len: 0 });
+            }
+            let from = all.bytes.len();
+            all.starts.push((all.words.len(), from));
+            all.words.extend(words(text).into_iter().map(|word| Word { start: from + word.start, ..word }));
+            // A line feed ends a comment, and nothing goes on behind it.
+            all.bytes.extend([text, &b"\n"[..]].concat());
+        }
+        Ok(all)
+    }
+
+    /// The last text, and the place where it begins.
+    fn last(&self) -> (At, usize) {
+        self.starts[self.starts.len() - 1]
+    }
+
+    /// The first `rules` of the last text.
+    fn rules(&self) -> At {
+        let (first, _) = self.last();
+        let found = self.words[first..].iter().position(|word| word.sort == Sort::Sign("rules"));
+        first + found.expect("a text that was read")
+    }
+
+    fn show(&self, (at, number): (At, u16)) -> Fault {
+        let text = self.starts.iter().rposition(|(first, _)| *first <= at).unwrap_or(COMMON);
+        let Word { start, len, .. } = self.words[at];
+        Fault { number, text, start: start - self.starts[text].1, len }
+    }
+
+    /// The tree of a common part, and of a part behind it if there is one, if they have no fault.
+    fn tree(&self) -> Result<Tree, Fault> {
+        let mut parser = Parser::new(&self.bytes, &self.words);
+        let mut read = parser.common();
+        if self.starts.len() > PART {
+            read = read.and_then(|()| parser.part());
+        }
+        let Parser { tree, mut over, .. } = parser;
+        let values = values(&self.bytes, &self.words, &tree.sections, &mut over);
+        if let Some(fault) = first_early(&over, read.err()) {
+            return Err(self.show(fault));
+        }
+        let mut names = Names::new(&self.bytes, &self.words);
+        names.list = Some(HashMap::new());
+        names.declare(&tree, &values);
+        names.bodies(&tree);
+        first_late(&names.faults).map_or(Ok(tree), |fault| Err(self.show(fault)))
+    }
+
+    /// A name, and its place in the last text.
+    fn name(&self, at: At) -> Name {
+        let Word { start, len, .. } = self.words[at];
+        Name { start: start - self.last().1, spelling: self.bytes[start..start + len].to_vec() }
+    }
+
+    /// The rules of the last text.
+    fn part(&self, tree: &Tree) -> Part {
+        let end = |at: At| self.words[at].start + self.words[at].len - self.last().1;
+        let mut part = Part::default();
+        let mut from = end(self.rules());
+        for body in &tree.bodies {
+            let mut called = Vec::new();
+            self.called(&body.nodes, &mut part.pairs, &mut called);
+            let text = from..end(body.end);
+            from = text.end;
+            part.rules.push(PartRule { name: self.name(body.name), of: body.of.map(|of| self.name(of)), called, text });
+        }
+        part
+    }
+
+    /// The rules that actions use, and the pairs that they are the first to use.
+    fn called(&self, nodes: &[Node], pairs: &mut Vec<Pair>, out: &mut Vec<Called>) {
+        for node in nodes {
+            match node {
+                Node::Call(rule) => out.push(Called::Call(self.name(*rule))),
+                Node::Operators(used) => {
+                    let (section, operand) = (self.name(used.section), self.name(used.rule));
+                    let same =
+                        |pair: &Pair| (&pair.section.spelling, &pair.operand.spelling) == (&section.spelling, &operand.spelling);
+                    let number = pairs.iter().position(same).unwrap_or_else(|| {
+                        let sign = self.name(used.sign).start;
+                        pairs.push(Pair { sign, section: section.clone(), operand: operand.clone() });
+                        pairs.len() - 1
+                    });
+                    out.push(Called::Operand(number, operand));
+                }
+                Node::Cycle(nodes) => self.called(nodes, pairs, out),
+                Node::Choice { by, alternatives } => {
+                    if let Selector::Rule(rule) = by {
+                        out.push(Called::Selector(self.name(*rule)));
+                    }
+                    alternatives.iter().for_each(|alternative| self.called(&alternative.nodes, pairs, out));
+                }
+                _ => {}
+            }
+        }
+    }
+}
+
+impl Parser<'_> {
+    /// Sections, `rules`, a line for each choice rule, `end`; then the words of the next text.
+    fn common(&mut self) -> Read<()> {
+        while !self.takes("rules") {
+            self.section()?;
+        }
+        let names = self.names;
+        while !self.takes("end") {
+            let name = self.rule_name()?;
+            self.must(">>")?;
+            let of = self.name()?;
+            self.must(";")?;
+            self.tree.list.push((name, of));
+        }
+        // They are the names of rules in parts, which count there.
+        (self.names, self.rules) = (names, 0);
+        self.ends()?;
+        self.take();
+        Ok(())
+    }
+
+    /// `rules`, one rule or more, `end`.
+    fn part(&mut self) -> Read<()> {
+        self.must("rules")?;
+        self.rules()
+    }
+}
