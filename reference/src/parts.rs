@@ -4,6 +4,7 @@
 //! processor says of the one text, with the place of its word looked up in the text that it came from.
 
 pub mod object;
+pub mod split;
 #[cfg(test)]
 mod tests;
 

@@ -90,13 +90,10 @@ pub fn translate(common: &[u8], part: &[u8]) -> Result<Part, Fault> {
     Ok(texts.part(&tree))
 }
 
-/// A text that can be read to its end, cut into its sections and its rules; what is wrong with names and limits does not matter.
-pub fn cut(text: &[u8]) -> Option<(Vec<u8>, Part)> {
-    let texts = Texts::new(&[text]).ok()?;
-    let mut parser = Parser::new(&texts.bytes, &texts.words);
-    parser.program().ok()?;
-    let sections = text[..texts.words[texts.rules()].start].to_vec();
-    Some((sections, texts.part(&parser.tree)))
+/// The words of a text as they are spelt, also those that are no words.
+pub fn spellings(text: &[u8]) -> Vec<Vec<u8>> {
+    let spelt = words(text).into_iter().filter(|word| word.sort != Sort::End);
+    spelt.map(|word| text[word.start..word.start + word.len].to_vec()).collect()
 }
 
 /// Texts one behind the other, an end word behind the words of each.
