@@ -83,12 +83,13 @@ fn main() {
             fail("set SST_LIB_DIR to the folder of libsst.a and libsst-desk.a, or build with --no-default-features")
         };
         for (name, entries) in LIBRARIES {
+            let parts: &[&str] = if name == PARTS_IN && env::var_os("CARGO_FEATURE_PARTS").is_some() { PARTS } else { &[] };
             let library = Path::new(&dir).join(format!("lib{name}.a"));
             let Ok(library) = library.canonicalize() else {
                 fail(&format!("{}: not found; or build with --no-default-features", library.display()))
             };
             println!("cargo::rerun-if-changed={}", library.display());
-            entries_only(&library, entries, name, &out);
+            entries_only(&library, &[entries, parts].concat(), name, &out);
             println!("cargo::rustc-link-lib=static={name}-entries");
         }
         println!("cargo::rustc-link-lib=dylib=m");
@@ -99,6 +100,9 @@ fn main() {
 /// The libraries, each with its entries in the alphabet's order.
 const LIBRARIES: [(&str, &[&str]); 2] = [("sst", DEVICE), ("sst-desk", DESK)];
 const DESK: &[&str] = &["add_book", "rule_total", "rules", "rules_total", "shelf"];
+/// The entries of the feature `parts`, and the library that they are in.
+const PARTS: &[&str] = &["link", "part"];
+const PARTS_IN: &str = "sst-desk";
 const DEVICE: &[&str] = &[
     "admit", //
     "allowance",

@@ -3,6 +3,7 @@
 
 use crate::figures::Figures;
 use crate::files::Files;
+use crate::parts::Parts;
 use crate::quiet::Measurer;
 use crate::rights::Rights;
 use crate::screen::Screens;
@@ -156,6 +157,8 @@ mod figures;
 mod files;
 #[cfg(feature = "lib")]
 mod filter;
+#[cfg(all(feature = "lib", feature = "parts"))]
+mod parts;
 #[cfg(feature = "lib")]
 mod quiet;
 #[cfg(feature = "lib")]
@@ -195,6 +198,14 @@ linked! {
     screens: Screens;
     /// The library's figures over a shelf, where they are linked.
     figures: Figures;
+}
+
+/// The library's translation of parts and its linker, where they are linked.
+pub fn parts() -> Option<&'static (dyn Parts + Sync)> {
+    #[cfg(all(feature = "lib", feature = "parts"))]
+    return Some(&Library);
+    #[cfg(not(all(feature = "lib", feature = "parts")))]
+    return None;
 }
 
 unsafe extern "C" {

@@ -7,6 +7,7 @@ pub mod object;
 pub mod split;
 #[cfg(test)]
 mod tests;
+pub mod worked;
 
 use crate::files;
 use crate::processor::parts::{COMMON, Common, Fault, Name, Part, common as read_common, translate};

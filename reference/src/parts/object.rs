@@ -76,6 +76,11 @@ impl Object {
         Object { head, rules: part.rules.iter().map(rule).collect() }
     }
 
+    /// The number of words before the first rule.
+    pub fn before_rules(&self) -> usize {
+        BEFORE + self.head.len()
+    }
+
     /// Words that it fits, with these as the last rule's last cells.
     pub fn with_cells(&self, cells: &[u16]) -> Vec<u16> {
         let mut behind = self.head.clone();

@@ -165,8 +165,15 @@ impl Drawn<'_> {
     }
 }
 
-/// Many small rules in parts: around 128 of them, around 512 names, or both.
-pub fn crowded(seed: &mut Seed) -> Split {
+/// Many small rules in parts, and how many they and the names are.
+pub struct Crowd {
+    pub split: Split,
+    pub rules: usize,
+    pub names: usize,
+}
+
+/// Around 128 rules, around 512 names, or both.
+pub fn crowded(seed: &mut Seed) -> Crowd {
     let rules = if seed.one_in(2) { seed.within(126, 131) } else { seed.within(2, 60) };
     // Beside the tokens and the rules: a type with its value.
     let tokens = if seed.one_in(2) { 1 } else { seed.within(509, 514) - rules - 2 };
@@ -177,12 +184,12 @@ pub fn crowded(seed: &mut Seed) -> Split {
         all.push(if *typed { format!("r{i} >> t: >> v; ") } else { format!("r{i}: {actions}; ") });
     }
     let lines: String = (0..).zip(&typed).filter(|(_, typed)| **typed).map(|(i, _)| format!("r{i} >> t; ")).collect();
-    let tokens: String = (0..tokens).map(|i| format!("k{i} ")).collect();
+    let tokens_text: String = (0..tokens).map(|i| format!("k{i} ")).collect();
     let pieces = seed.within(2, MAX_PARTS);
     let parts = partition(seed, &all, pieces);
     let text = |rules: &Vec<String>| format!("rules {}end", rules.concat()).into_bytes();
-    let common = format!("input: {tokens}; type t: v; rules {lines}end").into_bytes();
-    Split { common, parts: parts.iter().map(text).collect() }
+    let common = format!("input: {tokens_text}; type t: v; rules {lines}end").into_bytes();
+    Crowd { split: Split { common, parts: parts.iter().map(text).collect() }, rules, names: tokens + 2 + rules }
 }
 
 #[cfg(test)]
@@ -235,7 +242,7 @@ mod tests {
     fn crowds_are_around_the_limits() {
         let mut met: BTreeMap<u16, usize> = BTreeMap::new();
         for n in 0..40 {
-            let split = crowded(&mut Seed::new(n));
+            let Crowd { split, .. } = crowded(&mut Seed::new(n));
             let number = if split.parts.iter().all(|text| part(&split.common, text).is_ok()) { number(&split, n) } else { 99 };
             *met.entry(number).or_default() += 1;
         }

@@ -1,48 +1,32 @@
-//! Worked examples of the readings. `~` marks the word that is shown and is taken out.
+//! Tests of the second translation of parts and linker. `~` marks the word that is shown and is taken out.
 
+use super::worked::{COMMON as COMMON_TEXT, LINKS, PARTS, RULES, example};
 use super::*;
 use crate::processor::process;
-
-/// The texts without the mark, and the text and place where it stood.
-fn marked(texts: &[&str]) -> (Vec<Vec<u8>>, usize, usize) {
-    let (text, start) = texts.iter().enumerate().find_map(|(i, text)| Some((i, text.find('~')?))).expect("a mark");
-    (plain(texts), text, start)
-}
-
-fn plain(texts: &[&str]) -> Vec<Vec<u8>> {
-    texts.iter().map(|text| text.replacen('~', "", 1).into_bytes()).collect()
-}
 
 fn slices(texts: &[Vec<u8>]) -> Vec<&[u8]> {
     texts.iter().map(Vec::as_slice).collect()
 }
 
-/// A part is refused at the mark, in the common part or in the part.
+/// A part is refused at the mark, in the common part or in the part, or taken where there is none.
 #[track_caller]
-fn refused(number: u16, common: &str, part_text: &str, len: usize) {
-    let (texts, text, start) = marked(&[common, part_text]);
-    let fault = Fault { number, text, start, len };
-    assert_eq!(part(&texts[0], &texts[1]).map(|_| ()), Err(fault), "{common}\n{part_text}");
+fn translated(number: u16, common: &str, part_text: &str) {
+    let (texts, fault) = example(number, &[common, part_text], b"");
+    assert_eq!(part(&texts[0], &texts[1]).err(), fault, "{common}\n{part_text}");
 }
 
+/// Linking is refused at the mark, or not where there is none; the first text is the common part.
 #[track_caller]
-fn taken(common: &str, part_text: &str) {
-    assert_eq!(part(common.as_bytes(), part_text.as_bytes()).map(|_| ()), Ok(()), "{common}\n{part_text}");
-}
-
-/// Linking is refused at the mark; the first text is the common part.
-#[track_caller]
-fn unlinked(number: u16, texts: &[&str], len: usize) {
-    let (plain, text, start) = marked(texts);
+fn links(number: u16, texts: &[&str]) {
+    let (plain, fault) = example(number, texts, b"");
     let all = slices(&plain);
-    let fault = Fault { number, text, start, len };
-    assert_eq!(link(all[0], &all[1..], 4_096).map(|_| ()), Err(fault), "{texts:?}");
+    assert_eq!(link(all[0], &all[1..], 4_096).err(), fault, "{texts:?}");
 }
 
 /// Linking gives what the one text is processed to.
 #[track_caller]
 fn linked(texts: &[&str], one: &str) {
-    let plain = plain(texts);
+    let plain: Vec<Vec<u8>> = texts.iter().map(|text| text.as_bytes().to_vec()).collect();
     let all = slices(&plain);
     let (table, told) = link(all[0], &all[1..], 4_096).unwrap_or_else(|fault| panic!("{fault:?}: {texts:?}"));
     let answer = process(one.as_bytes(), 4_096);
@@ -50,134 +34,37 @@ fn linked(texts: &[&str], one: &str) {
     assert_eq!(answer, Answer::Accepted { table, finishing }, "{texts:?}");
 }
 
-/// Tokens, a type, an operation of each kind, and two choice rules.
-const COMMON_TEXT: &str = "input: a b; output: o; error: e; type t: y n; type u: z; mechanism m: f g(t) c>>t;
-    operators E: a 1 left o b 2 right o; rules R >> t; S >> u; end";
-
-/// Such a part's rules.
-#[track_caller]
-fn refused_rules(number: u16, rules: &str, len: usize) {
-    refused(number, COMMON_TEXT, &format!("rules {rules} end"), len);
-}
-
-#[track_caller]
-fn taken_rules(rules: &str) {
-    taken(COMMON_TEXT, &format!("rules {rules} end"));
+#[test]
+fn worked_examples() {
+    PARTS.iter().for_each(|(number, common, part)| translated(*number, common, part));
+    RULES.iter().for_each(|(number, rules)| translated(*number, COMMON_TEXT, &format!("rules {rules} end")));
+    LINKS.iter().for_each(|(number, texts)| links(*number, texts));
+    // The common part by itself, where a part is not at hand.
+    links(3, &["mechanism m: f(~M); rules end", "rules M: ; end"]);
 }
 
 #[test]
-fn the_common_part() {
-    taken("rules end", "rules M: ; end");
-    taken("type t: y; rules end", "rules M: ; end");
-    refused(2, "rules M ~: ; end", "rules M: ; end", 1);
-    refused(2, "type t: y; rules R >> t ~: >> y; end", "rules M: ; end", 1);
-    refused(2, "type t: y; rules R >> ~'t'; end", "rules M: ; end", 3);
-    refused(2, "type t: y; rules R ~; end", "rules M: ; end", 1);
-    refused(2, "type t: y; rules R >> t ~end", "rules M: ; end", 3);
-    refused(2, "rules ~'R' >> t; end", "rules M: ; end", 3);
-    refused(2, "rules end ~end", "rules M: ; end", 3);
-    refused(2, "rules~", "rules M: ; end", 0);
-    refused(2, "~end", "rules M: ; end", 3);
-    refused(1, "rules ~$ end", "rules M: ; end", 1);
+fn over_long_texts() {
+    // Before all else, the common part first.
+    let refused = |common: usize, text: usize, fault: (u16, usize, usize)| {
+        let (number, text_at, start) = fault;
+        let found = part("$".repeat(common).as_bytes(), "$".repeat(text).as_bytes()).err();
+        assert_eq!(found, Some(Fault { number, text: text_at, start, len: usize::from(number == 1) }));
+    };
+    refused(32_769, 1, (9, 0, 32_769));
+    refused(1, 32_769, (9, 1, 32_769));
+    refused(32_769, 32_770, (9, 0, 32_769));
+    refused(32_768, 32_768, (1, 0, 0));
 }
 
 #[test]
-fn a_part() {
-    refused(2, "rules end", "rules ~end", 3);
-    refused(2, "rules end", "~input: a; rules M: ; end", 5);
-    refused(2, "rules end", "~operators E: a 1 left o; rules M: ; end", 9);
-    refused(2, "rules end", "rules M: ; end ~M", 1);
-    refused(2, "rules end", "~", 0);
-    refused(2, "rules end", "rules M: ;~", 0);
-    refused(1, "rules end", "rules M: ~''; end", 1);
-    // Each text has its own end: nothing goes on from the common part to the part.
-    refused(2, "rules end %", "~end rules M: ; end", 3);
-    refused(1, "rules end ~'", "' rules M: ; end", 1);
-}
-
-#[test]
-fn the_order_of_both_texts() {
-    // 1, 2 and 9 of both before 3 to 8 of either.
-    refused(2, "input: a a; rules end", "rules ~end", 3);
-    refused(9, "input: a a; rules end", "rules M: @~n23456789012345678901234567890123; end", 33);
-    refused(4, "input: a ~a; rules end", "rules M: >; end", 1);
-    refused(2, "rules ~;", "$", 1);
-    refused(2, "input: a = 65535 ~, b; rules end", "$", 1);
-    refused(4, "type t: y; rules R >> t; ~R >> t; end", "rules M: >; end", 1);
-    // Over-long texts before all else, the common part first.
-    let long = |bytes: usize| format!("{}~", "$".repeat(bytes));
-    refused(9, &long(32_769), "$", 0);
-    refused(9, "$", &long(32_769), 0);
-    refused(9, &long(32_769), &"$".repeat(32_769), 0);
-    refused(1, "~$", &"$".repeat(32_768), 1);
-}
-
-#[test]
-fn the_list() {
-    let good = "rules M: ; end";
-    refused(4, "type t: y; rules R >> t; S >> t; ~R >> t; end", good, 1);
-    refused(4, "type t: y; mechanism m: f; rules ~f >> t; end", good, 1);
-    refused(3, "rules R >> ~t; end", good, 1);
-    refused(5, "input: t; rules R >> ~t; end", good, 1);
-    // Declared in either text.
-    refused(5, "rules R >> ~M; end", good, 1);
-    refused(5, "rules R >> ~R; end", good, 1);
-    refused(5, "mechanism m: f(~M); rules end", good, 1);
-    refused(3, "mechanism m: f(~N); rules end", "rules M: @N; end", 1);
-    // A token's name may be a rule's.
-    taken("input: R; type t: y; rules R >> t; end", "rules M: R [@R | y: ]; end");
-    // 4 comes before 5 where a name has both faults, and the name before its type.
-    refused(4, "mechanism m: f; rules ~f >> zz; end", good, 1);
-}
-
-#[test]
-fn calls_go_by_the_list() {
-    taken_rules("M: @N [@R | y: | n: ] [@S | z: ] ^E @N;");
-    refused_rules(5, "M: @~R;", 1);
-    refused_rules(5, "M: ^E @~R;", 1);
-    refused_rules(5, "M: [@~N | *: ];", 1);
-    refused_rules(5, "M: [@R | ~z: ];", 1);
-    refused_rules(5, "M: @~f;", 1);
-    refused_rules(5, "M: [@~f | *: ];", 1);
-    refused_rules(5, "M: ^E @~c;", 1);
-    // Also where the part itself says otherwise.
-    refused_rules(5, "M: [@~N | y: ]; N >> t: >> y;", 1);
-    refused_rules(5, "M: @~R; R: ;", 1);
-    taken_rules("M: @N; N >> t: >> y;");
-    taken_rules("M: [@R | y: ]; R: ;");
-    taken_rules("M: [@R | y: ]; R >> u: >> z;");
-    refused_rules(5, "M: [@R | ~z: ]; R >> u: >> z;", 1);
-    // Inside a rule its own head counts.
-    refused_rules(5, "R >> u: >> ~y;", 1);
-    refused_rules(8, "R: >> ~y;", 1);
-    refused_rules(8, "N >> t: ~;", 1);
-    // A name of another class may be a rule's.
-    taken_rules("M: @a @o @e @t @y @E @m;");
-    // A rule may be called by the name that it has, here or elsewhere; what is only called is not declared.
-    refused_rules(3, "M: .~N @N;", 1);
-    refused_rules(5, "M: .~N @N; N: ;", 1);
-    refused_rules(5, "M: .~R;", 1);
-    refused_rules(3, "M: @N ^~N @N;", 1);
-    refused_rules(5, "M: ^~R @N;", 1);
-}
-
-#[test]
-fn a_parts_own_names() {
-    taken_rules("R >> t: >> y;");
-    taken_rules("N >> t: >> y; M: ;");
-    refused_rules(4, "M: ; N: ; ~M: ;", 1);
-    refused_rules(4, "~f: ;", 1);
-    refused_rules(4, "R >> t: >> y; ~R >> t: >> y;", 1);
-    refused_rules(3, "M >> ~zz: >> y;", 2);
-    refused_rules(5, "M >> ~a: >> y;", 1);
-    refused_rules(3, "M: ~zz;", 2);
-    refused_rules(6, "M: [ | a: | ~a: ];", 1);
-    refused_rules(7, "M: ~>;", 1);
+fn operators_in_a_part() {
     // A use of operators makes no rules in a part, and passes no limit there.
     let entries: String = (0..65).map(|i| format!("k{i} 3 left o ")).collect();
     let tokens: String = (0..65).map(|i| format!("k{i} ")).collect();
-    taken(&format!("input: {tokens}; output: o; operators E: {entries}; rules end"), "rules M: ^E @M; end");
-    refused(45, "input: p q; output: o; operators E: p 1 left o ~q 1 right o; rules end", "rules M: ; end", 1);
+    let common = format!("input: {tokens}; output: o; operators E: {entries}; rules end");
+    translated(0, &common, "rules M: ^E @M; end");
+    links(9, &[&common, "rules M: ~^E @M; end"]);
 }
 
 fn list(count: usize, item: impl Fn(usize) -> String) -> String {
@@ -190,20 +77,20 @@ fn limits_of_a_part() {
     let rules = |count: usize| format!("rules {} end", list(count, |i| format!("r{i}: ; ")));
     let tokens = |count: usize| format!("input: {};", list(count, |i| format!("k{i} ")));
     let common = |count: usize, more: &str| format!("type t: y; rules {}{more} end", lines(count));
-    taken(&common(128, ""), "rules M: ; end");
-    refused(9, &common(128, "~X >> t; Y >> t;"), "rules M: ; end", 1);
-    taken("rules end", &rules(128));
-    refused(9, "rules end", &rules(128).replace(" end", "~X: ; end"), 1);
+    translated(0, &common(128, ""), "rules M: ; end");
+    translated(9, &common(128, "~X >> t; Y >> t;"), "rules M: ; end");
+    translated(0, "rules end", &rules(128));
+    translated(9, "rules end", &rules(128).replace(" end", "~X: ; end"));
     // The list's names are no more names in the part.
-    taken(&common(128, ""), &rules(128));
+    translated(0, &common(128, ""), &rules(128));
     // 512 names: type, value, tokens, and the list or the part's rules.
     let wide = |count: usize, more: &str| format!("{} {}", tokens(count), common(100, more));
-    taken(&wide(410, ""), &rules(100));
-    refused(9, &wide(410, "~X >> t;"), &rules(1), 1);
-    refused(9, &wide(410, ""), &rules(100).replace(" end", "~X: ; end"), 1);
-    refused(9, &format!("{} rules end", tokens(512)), "rules ~M: ; end", 1);
-    refused(9, "type t: y; rules ~n23456789012345678901234567890123 >> t; end", "$", 33);
-    refused(9, "type t: y; rules R >> ~n23456789012345678901234567890123; end", "$", 33);
+    translated(0, &wide(410, ""), &rules(100));
+    translated(9, &wide(410, "~X >> t;"), &rules(1));
+    translated(9, &wide(410, ""), &rules(100).replace(" end", "~X: ; end"));
+    translated(9, &format!("{} rules end", tokens(512)), "rules ~M: ; end");
+    translated(9, "type t: y; rules ~n23456789012345678901234567890123 >> t; end", "$");
+    translated(9, "type t: y; rules R >> ~n23456789012345678901234567890123; end", "$");
 }
 
 #[test]
@@ -232,36 +119,13 @@ fn one_text() {
 }
 
 #[test]
-fn numbers_of_linking() {
-    let common = "type t: y n; type u: z; rules R >> t; end";
+fn numbers_of_parts() {
     let list_only = b"rules end";
     let count = |count: usize| link(list_only, &vec![&b"rules M: ; end"[..]; count], 9).map(|_| ());
     let counted = Fault { number: 9, text: 0, start: list_only.len(), len: 0 };
     assert_eq!(count(0), Err(counted));
     assert_eq!(count(17), Err(counted));
     assert_eq!(count(16), Err(Fault { number: 50, text: 2, start: 6, len: 1 }));
-    unlinked(5, &[common, "rules ~R >> t: >> y; M: @N; end", "rules R: ; end"], 1);
-    // 49: a called rule in no part, by a call, a choice, operators.
-    unlinked(49, &[common, "rules M: @~N; end"], 1);
-    unlinked(49, &[common, "rules M: ; end", "rules N: [@~R | y: ]; end"], 1);
-    unlinked(49, &["input: p; output: o; operators E: p 1 left o; rules end", "rules M: ^E @~N; end"], 1);
-    // Of another sort or type.
-    unlinked(49, &[common, "rules M: [@R | y: ]; end", "rules ~R: ; end"], 1);
-    unlinked(49, &[common, "rules M: ; ~R: ; end"], 1);
-    unlinked(49, &[common, "rules M: ; end", "rules ~R >> u: >> z; end"], 1);
-    unlinked(49, &[common, "rules M: @N; end", "rules ~N >> t: >> y; end"], 1);
-    // In one pass, a rule's name before what it calls.
-    unlinked(49, &[common, "rules M: @~N; R: ; end"], 1);
-    unlinked(49, &[common, "rules M: @M; ~R: @N; end"], 1);
-    unlinked(49, &[common, "rules M: ; end", "rules L: @~N; end", "rules R: ; end"], 1);
-    // 50, at the later part; 49 comes before it.
-    unlinked(50, &[common, "rules M: ; end", "rules N: ; ~M: ; end"], 1);
-    unlinked(50, &[common, "rules M: ; N: ; end", "rules ~N: ; M: ; end"], 1);
-    unlinked(50, &[common, "rules M: ; end", "rules N: ; end", "rules ~N: ; M: ; end"], 1);
-    unlinked(49, &[common, "rules M: ; end", "rules N: ; M: ; end", "rules L: @~K; end"], 1);
-    // Faults of the common part by itself.
-    unlinked(4, &["input: a ~a; rules end"], 1);
-    unlinked(3, &["mechanism m: f(~M); rules end", "rules M: ; end"], 1);
 }
 
 /// So many rules of one name stem, as a part.
@@ -276,14 +140,14 @@ fn limits_of_the_whole() {
     let texts: Vec<&str> = texts.iter().map(String::as_str).collect();
     assert!(link(texts[0].as_bytes(), &[texts[1].as_bytes(), texts[2].as_bytes(), texts[3].as_bytes()], 4_096).is_ok());
     let texts = all("X: ; ~Y: ; Z: ;");
-    unlinked(9, &texts.iter().map(String::as_str).collect::<Vec<_>>(), 1);
+    links(9, &texts.iter().map(String::as_str).collect::<Vec<_>>());
     // What the sections leave of 512; the list does not count again.
     let common = format!("input: {}; type t: y; rules R >> t; end", list(500, |i| format!("k{i} ")));
     let (first, last) = (many("a", 5, ""), many("b", 3, "R >> t: >> y; X: ;"));
     assert!(link(common.as_bytes(), &[first.as_bytes(), last.as_bytes()], 4_096).is_ok());
-    unlinked(9, &[&common, &many("a", 5, ""), &many("b", 3, "R >> t: >> y; X: ; ~Y: ;")], 1);
+    links(9, &[&common, &many("a", 5, ""), &many("b", 3, "R >> t: >> y; X: ; ~Y: ;")]);
     // 49 and 50 come before it.
-    unlinked(50, &["rules end", &many("a", 100, ""), &many("b", 100, "~a7: ;")], 2);
+    links(50, &["rules end", &many("a", 100, ""), &many("b", 100, "~a7: ;")]);
 }
 
 #[test]
@@ -298,12 +162,12 @@ fn limits_of_rules_made() {
     let good = parts("^E @N ^F @N");
     assert!(link(good[0].as_bytes(), &[good[1].as_bytes(), good[2].as_bytes(), good[3].as_bytes()], 4_096).is_ok());
     let texts = parts("^E @N ^F @N ? ~^F @M");
-    unlinked(9, &texts.iter().map(String::as_str).collect::<Vec<_>>(), 1);
+    links(9, &texts.iter().map(String::as_str).collect::<Vec<_>>());
     // At the first use of the pair, in the first text that has it.
     let texts = [&common[..], "rules M: ? ~^E @N ^E @N; end", &many("a", 125, "N: ^E @N;"), "rules L: ^F @N; end"];
-    unlinked(9, &texts, 1);
+    links(9, &texts);
     // The 9 of names comes before, 20 behind.
-    unlinked(9, &[&common, "rules M: ^E @N; end", &many("a", 126, "N: ; ~X: ;")], 1);
+    links(9, &[&common, "rules M: ^E @N; end", &many("a", 126, "N: ; ~X: ;")]);
     let (first, last) = ("rules M: ^E @N; end", many("a", 125, &format!("N: {};", "?".repeat(5_000))));
     let fault = link(common.as_bytes(), &[first.as_bytes(), last.as_bytes()], 4_096).map(|_| ());
     assert_eq!(fault, Err(Fault { number: 9, text: 1, start: 9, len: 1 }));
