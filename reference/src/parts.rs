@@ -1,7 +1,8 @@
-//! Parts translated separately (A.13): a second translator of parts, and a second linker, which puts the texts together and processes them as one.
+//! Parts translated separately (A.13): a second translator of parts, and a second linker, which puts the texts together and
+//! processes them as one.
 //!
-//! Linking looks at the parts' names for 5, 49 and 50; everything else, 9 at a rule or at a `^`, 20, the table, the verdict and the figure, is what the
-//! processor says of the one text, with the place of its word looked up in the text that it came from.
+//! Linking looks at the parts' names for 5, 49 and 50; everything else, 9 at a rule or at a `^`, 20, the table, the verdict and the
+//! figure, is what the processor says of the one text, with the place of its word looked up in the text that it came from.
 
 pub mod object;
 pub mod split;
@@ -240,7 +241,8 @@ fn own_words(object: &Object, text: &[u8]) -> Vec<u16> {
     object.with_cells(&cells)
 }
 
-/// The texts of this crate's own objects, or 40 with the number of the first that is none: what is read must be written as these very words.
+/// The texts of this crate's own objects, or 40 with the number of the first that is none: what is read must be written as these
+/// very words.
 fn texts_of(common: &[u8], objects: &[u8]) -> Result<Vec<Vec<u8>>, Fault> {
     let mut texts = Vec::new();
     let mut rest = objects;

@@ -1,4 +1,5 @@
-//! Compares the library's figures over a shelf of books with those of this crate, book by book and rule by rule, and their sums with the rules' places.
+//! Compares the library's figures over a shelf of books with those of this crate, book by book and rule by rule, and their sums with
+//! the rules' places.
 //!
 //! compare_figures [--exact] [--trace] [seeds [first seed]]
 //!
@@ -489,7 +490,8 @@ fn rows_at(rng: &mut Rng, locations: &[u64]) -> Vec<u8> {
     row_bytes(&rows)
 }
 
-/// Where a rule may begin or end: in the table, at its ends, and where no table goes, also where only the low bits would be a location.
+/// Where a rule may begin or end: in the table, at its ends, and where no table goes, also where only the low bits would be a
+/// location.
 const FAR: [u64; 12] = [
     0,
     4_095,

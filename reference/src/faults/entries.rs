@@ -1,5 +1,6 @@
-//! Entries of operators whose input token, output token or both are at fault. The input token stands before the output token in the text, so it is
-//! the word shown wherever it is at fault. Only where both are can that be told from a processor that looks the output token up first.
+//! Entries of operators whose input token, output token or both are at fault. The input token stands before the output token in the
+//! text, so it is the word shown wherever it is at fault. Only where both are can that be told from a processor that looks the output
+//! token up first.
 
 use super::operators::{SECTION, TOKENS};
 use super::{Fault, MARK, Place, base, insert, insert_at, shown};
@@ -70,7 +71,7 @@ impl Word {
         }
     }
 
-    /// The spellings of what is a token of neither class: a mechanism's name declares nothing, and no string has a name's letters.
+    /// The spellings of what is a token of neither class: a mechanism's name declares nothing, and a name in quotes is a string.
     fn no_token(self) -> &'static [&'static str] {
         match (self.declared, self.string) {
             (Declared::Nowhere, false) => &["zz", "qm", "left", "right", "operators"],

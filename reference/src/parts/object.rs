@@ -1,7 +1,7 @@
 //! Objects: the words that a part is written as where it is translated by itself.
 //!
-//! The actions of a rule are cells, whose form no paper tells; of them only those that name a rule are known. So an object is a description here, and
-//! words are asked whether it fits them.
+//! The actions of a rule are cells, whose form no paper tells; of them only those that name a rule are known. So an object is a
+//! description here, and words are asked whether it fits them.
 
 use crate::processor::parts::{Called, Name, Pair, Part, PartRule};
 
@@ -90,7 +90,8 @@ impl Object {
         [MARK, (count >> 16) as u16, count as u16].into_iter().chain(behind).collect()
     }
 
-    /// Whether words are those of the object as far as they are known: all up to the first rule's type, then everything in its order, with cells between.
+    /// Whether words are those of the object as far as they are known: all up to the first rule's type, then everything in its order,
+    /// with cells between.
     pub fn fits(&self, words: &[u16]) -> bool {
         let Some((before, behind)) = words.split_at_checked(BEFORE) else { return false };
         let count = u32::from(before[1]) << 16 | u32::from(before[2]);

@@ -19,7 +19,8 @@ pub struct SplitWords {
 }
 
 impl SplitWords {
-    /// A text, with or without faults, split at its rules into at most so many parts. What stands behind the last semicolon stays behind it.
+    /// A text, with or without faults, split at its rules into at most so many parts. What stands behind the last semicolon stays
+    /// behind it.
     pub fn of(seed: &mut Seed, text: &[u8], most: usize) -> SplitWords {
         let mut common = spellings(text);
         let at = common.iter().position(|word| word == b"rules").unwrap_or(common.len());
@@ -96,8 +97,8 @@ struct Drawn<'a> {
     odd: usize,
 }
 
-/// Small parts, each of which can be translated. Once in so many times a rule is in no part, in two, or of another sort or type than the list says. There
-/// are up to 17 parts.
+/// Small parts, up to 17, each of which can be translated. Once in so many times a rule is in no part, in two, or of another sort or
+/// type than the list says.
 pub fn drawn(seed: &mut Seed, odd: usize) -> Split {
     let many = seed.one_in(4);
     let count = if many { seed.within(MAX_PARTS, MAX_PARTS + 4) } else { seed.within(1, 12) };

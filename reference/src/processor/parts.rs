@@ -1,5 +1,5 @@
-//! Parts translated separately (A.13): the words of a part are read behind those of the common part, as if both were one text, and its calls go by
-//! the common part's list.
+//! Parts translated separately (A.13): the words of a part are read behind those of the common part, as if both were one text, and
+//! its calls go by the common part's list.
 
 use super::{At, MAX_TEXT, Names, Node, Parser, Read, Selector, Sort, Tree, Word, first_early, first_late, values, words};
 use std::collections::HashMap;
