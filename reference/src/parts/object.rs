@@ -1,9 +1,10 @@
 //! Objects: the words that a part is written as where it is translated by itself.
 //!
-//! The actions of a rule are cells, whose form no paper tells; of them only those that name a rule are known. So an object is a
-//! description here, and words are asked whether it fits them.
+//! What the papers tell of them is the mark, the counts, the common part, the first use of each pair, and of each rule its name, its
+//! type and the names of its calls in text order (docs/DECISIONS.md, A.13 L9); the cells of its actions, and what else may stand
+//! between, they do not. So an object is a description here, and words are asked whether it fits them.
 
-use crate::processor::parts::{Called, Name, Pair, Part, PartRule};
+use crate::processor::parts::{Name, Pair, Part, PartRule};
 
 /// `PO`.
 const MARK: u16 = 20_559;
@@ -12,16 +13,11 @@ const BEFORE: usize = 3;
 /// The word, behind those, with the bytes of the part.
 const PART_BYTES: usize = BEFORE + 1;
 
-/// The first cells of what names a rule.
-const CALL: u16 = 8;
-const SELECTOR: u16 = 11;
-const OPERATORS: u16 = 15;
-
 /// A rule has no type, or one that follows.
 const PROCEDURE: u16 = 0;
 const CHOICE: u16 = 1;
 
-/// The words of a rule that are known: its name and type, then each use of a rule.
+/// The words of a rule that are known: its name and type, then the name of each rule that it uses.
 type Known = Vec<Vec<u16>>;
 
 /// What is known of an object.
@@ -53,18 +49,10 @@ fn pair(pair: &Pair) -> Vec<u16> {
     [vec![word(pair.sign), word("^".len())], name(&pair.section), name(&pair.operand)].concat()
 }
 
-fn called(called: &Called) -> Vec<u16> {
-    match called {
-        Called::Call(rule) => [vec![CALL], name(rule)].concat(),
-        Called::Selector(rule) => [vec![SELECTOR], name(rule)].concat(),
-        Called::Operand(number, rule) => [vec![OPERATORS, word(*number)], name(rule)].concat(),
-    }
-}
-
 fn rule(rule: &PartRule) -> Known {
     let of = rule.of.as_ref().map_or(vec![PROCEDURE], |of| [vec![CHOICE], name(of)].concat());
     let head = [name(&rule.name), of].concat();
-    [head].into_iter().chain(rule.called.iter().map(called)).collect()
+    [head].into_iter().chain(rule.called.iter().map(|called| name(called.rule()))).collect()
 }
 
 impl Object {
@@ -91,7 +79,7 @@ impl Object {
     }
 
     /// Whether words are those of the object as far as they are known: all up to the first rule's type, then everything in its order,
-    /// with cells between.
+    /// with other words between.
     pub fn fits(&self, words: &[u16]) -> bool {
         let Some((before, behind)) = words.split_at_checked(BEFORE) else { return false };
         let count = u32::from(before[1]) << 16 | u32::from(before[2]);

@@ -196,19 +196,19 @@ fn words_of_an_object() {
     let object = part(common, text).expect("a good part");
     let packed: Vec<u16> = common.chunks(2).map(|two| u16::from(two[0]) << 8 | u16::from(*two.get(1).unwrap_or(&0))).collect();
     assert_eq!((common.len(), packed.len(), packed[14]), (29, 15, 0x2000));
-    let rules = [6, 1, 77, 0, 8, 10, 1, 78, 11, 14, 1, 82, 24, 1, 82, 1, 29, 1, 116];
+    let rules = [6, 1, 77, 0, 10, 1, 78, 14, 1, 82, 24, 1, 82, 1, 29, 1, 116];
     let behind = [vec![29, 41, 2, 0], packed.clone(), rules.to_vec()].concat();
     let words = [vec![20_559, 0, behind.len() as u16], behind].concat();
     assert_eq!(object.with_cells(&[]), words);
     assert!(object.fits(&words));
-    // Cells of any sort between what is known, but not before the first rule, and none left out or changed.
+    // Other words between what is known, but not before the first rule, and none left out or changed.
     let with = |at: usize, cells: &[u16]| {
         let mut more = [&words[..at], cells, &words[at..]].concat();
         more[2] += cells.len() as u16;
         more
     };
     let first_rule = 7 + packed.len();
-    for at in [first_rule + 4, first_rule + 8, first_rule + 12, words.len()] {
+    for at in [first_rule + 4, first_rule + 7, first_rule + 10, words.len()] {
         assert!(object.fits(&with(at, &[3, 0])), "{at}");
     }
     for at in [4, 7, first_rule, first_rule + 1, first_rule + 5] {
@@ -228,9 +228,9 @@ fn words_of_an_object() {
         vec![9, 1, 10, 1, 69, 13, 1, 77],
         vec![15, 1, 16, 1, 69, 19, 2, 78, 78],
         vec![6, 1, 77, 0],
-        vec![15, 0, 13, 1, 77],
-        vec![15, 1, 19, 2, 78, 78],
-        vec![15, 0, 27, 1, 77],
+        vec![13, 1, 77],
+        vec![19, 2, 78, 78],
+        vec![27, 1, 77],
     ];
     assert_eq!(words[head..], wanted.concat());
 }

@@ -31,14 +31,14 @@ pub struct Name {
 pub enum Called {
     Call(Name),
     Selector(Name),
-    /// As operand of a section of operators: the number of the pair.
-    Operand(usize, Name),
+    /// As operand of a section of operators.
+    Operand(Name),
 }
 
 impl Called {
     pub fn rule(&self) -> &Name {
         match self {
-            Called::Call(name) | Called::Selector(name) | Called::Operand(_, name) => name,
+            Called::Call(name) | Called::Selector(name) | Called::Operand(name) => name,
         }
     }
 }
@@ -188,12 +188,10 @@ impl Texts {
                     let (section, operand) = (self.name(used.section), self.name(used.rule));
                     let same =
                         |pair: &Pair| (&pair.section.spelling, &pair.operand.spelling) == (&section.spelling, &operand.spelling);
-                    let number = pairs.iter().position(same).unwrap_or_else(|| {
-                        let sign = self.name(used.sign).start;
-                        pairs.push(Pair { sign, section: section.clone(), operand: operand.clone() });
-                        pairs.len() - 1
-                    });
-                    out.push(Called::Operand(number, operand));
+                    out.push(Called::Operand(operand.clone()));
+                    if !pairs.iter().any(same) {
+                        pairs.push(Pair { sign: self.name(used.sign).start, section, operand });
+                    }
                 }
                 Node::Cycle(nodes) => self.called(nodes, pairs, out),
                 Node::Choice { by, alternatives } => {
