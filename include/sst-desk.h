@@ -49,7 +49,7 @@ uint16_t sst_rules(const uint8_t *text, size_t text_len, uint8_t *rows, size_t r
 uint16_t sst_rule_total(const uint8_t *figures, size_t figures_len, uint64_t from, uint64_t to, uint64_t *total);
 
 /* All rules together: the sum of what sst_rule_total gives for each row. Read: figures, any bytes; rows, whole rows of SST_RULE_BYTES bytes as sst_rules writes
- * them, for all rules and no more; `end`, the location behind the table's last word. For figures over the table of an accepted program and the rows of
+ * them, for all rules and no more (a part of a row at the end counts for nothing); `end`, the location behind the table's last word. For figures over the table of an accepted program and the rows of
  * its text `*total` is the grand total that sst_shelf tells. Answers 0; 21 for bytes that are no figures; 46 for a sum past 64 bits, as of rows that
  * overlap; then `*total` is 0. */
 uint16_t sst_rules_total(const uint8_t *figures, size_t figures_len, const uint8_t *rows, size_t rows_len, uint64_t end, uint64_t *total);
