@@ -16,7 +16,6 @@ use Rattle.figure.specs.Told.{Told}
 use Rattle.finishing.specs.Test.{finishing}
 use Rattle.finishing.proofs.Exact.{finishing-sound, finishing-complete}
 use Rattle.parts.specs.Promise.{Works, joined, oneText, Whole, ReadFrom, read-nil, read-cons, LinkedWorks}
-use Rattle.parts.specs.Texts.{Common, someHeads, aCommon, aPart, readCommon, readPart}
 use Rattle.program.specs.Accepted.{Accepted}
 use Rattle.program.specs.Program as means
 use Rattle.program.specs.Table.{table}
@@ -24,6 +23,7 @@ use Rattle.safety.proofs.Written.{program-taken}
 use Rattle.syntax.specs.Parse.{someRules}
 use Rattle.syntax.specs.Reading.{got, expect}
 use Rattle.syntax.specs.Sections.{nothing, someSections}
+use Rattle.syntax.specs.Texts.{Common, someHeads, aCommon, aPart, readCommon, readPart}
 use Rattle.syntax.specs.Written.{Rule}
 use Rattle.words.specs.Words.{Word, words, last, rules, end}
 

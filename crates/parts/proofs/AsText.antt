@@ -16,12 +16,12 @@ use Rattle.parts.proofs.Blank.{same-meaning}
 use Rattle.parts.proofs.Linking.{very-words, one-text-links}
 use Rattle.parts.specs.Link.{linked, inText, asOne}
 use Rattle.parts.specs.Promise.{oneText, ReadsAs, VeryText, TextLinks}
-use Rattle.parts.specs.Texts.{Common}
 use Rattle.processor.specs.Process.{partOf, Understood, meaning, faulty, checked, readIn, understood, Answer, accepted, refused, answerFor, process}
 use Rattle.program.proofs.Lengths.{length-table}
 use Rattle.program.specs.Program as means
 use Rattle.program.specs.Table.{sizeRules, table}
 use Rattle.syntax.specs.Parse.{endOf}
+use Rattle.syntax.specs.Texts.{Common}
 use Rattle.syntax.specs.Written.{Rule}
 
 text-means : (text : List ℕ) (c : Common) (rss : List (List Rule)) (r : ReadsAs text c rss) (prog : List means.Rule) → understand (oneText c rss) ≡ good prog → understood text ≡ meaning prog

@@ -22,9 +22,9 @@ use Rattle.parts.proofs.Whole.{Translates, no-more, translates, head-te
 use Rattle.parts.specs.Link.{Found, or_else_, foundIf, rulesOf, isNamed, firstTyped, listedType, agrees, openCall, unlike, unlikeIn, twice, twiceIn, pastLimit, pastLimitIn, passes, pastMade, textUsing, textOf, knownOf}
 use Rattle.parts.specs.Objects.{callsAll, callsIn, openRules, OpenRule, Object, together}
 use Rattle.parts.specs.Promise.{joined, AsListed}
-use Rattle.parts.specs.Texts.{Head, Common}
 use Rattle.program.specs.Made.{levelRules}
 use Rattle.program.specs.Program as means
+use Rattle.syntax.specs.Texts.{Head, Common}
 use Rattle.syntax.specs.Written as written
 use Rattle.words.specs.Words.{Word}
 

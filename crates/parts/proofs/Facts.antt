@@ -17,7 +17,6 @@ use Rattle.names.specs.Uses
 use Rattle.parts.specs.Link
 use Rattle.parts.specs.Link.{Linked, linked, refused, linkTexts}
 use Rattle.parts.specs.Objects
-use Rattle.parts.specs.Texts
 use Rattle.processor.specs.Process
 use Rattle.processor.specs.Process.{Answer, accepted, process}
 use Rattle.program.specs.Made
@@ -28,6 +27,7 @@ use Rattle.syntax.specs.Actions
 use Rattle.syntax.specs.Parse
 use Rattle.syntax.specs.Reading
 use Rattle.syntax.specs.Sections
+use Rattle.syntax.specs.Texts
 use Rattle.words.specs.Words
 
 linking : Unit {0}

@@ -15,7 +15,6 @@ use Rattle.parts.specs.Form
 use Rattle.parts.specs.Form.{Made, made, unmade, makeObject}
 use Rattle.parts.specs.Link
 use Rattle.parts.specs.Objects
-use Rattle.parts.specs.Texts
 use Rattle.processor.specs.Process
 use Rattle.program.specs.Made
 use Rattle.program.specs.Past
@@ -24,6 +23,7 @@ use Rattle.syntax.specs.Actions
 use Rattle.syntax.specs.Parse
 use Rattle.syntax.specs.Reading
 use Rattle.syntax.specs.Sections
+use Rattle.syntax.specs.Texts
 use Rattle.words.specs.Words
 
 making : Unit {0}

@@ -18,10 +18,10 @@ use Rattle.parts.specs.Form.{objectWords, made, unmade, listedIn, ifFits
 use Rattle.parts.specs.Link.{Linked, linked, refused, atPart, collect, lastOf, withNames, withCommon, link, linkTexts}
 use Rattle.parts.specs.Objects.{Object, Translated, object, inCommon, inPart, commonMeans, meaning, readOn, readBoth, translate}
 use Rattle.parts.specs.Promise.{Parts, parts-nil, parts-cons, ReadFrom, read-nil, read-cons, TextsLinked}
-use Rattle.parts.specs.Texts.{Common, tooLong, readCommon, readPart}
 use Rattle.processor.specs.Process.{Part, partOf}
 use Rattle.syntax.specs.Parse.{endOf}
 use Rattle.syntax.specs.Reading.{Read, got, fault}
+use Rattle.syntax.specs.Texts.{Common, tooLong, readCommon, readPart}
 use Rattle.syntax.specs.Written.{Rule}
 use Rattle.words.specs.Words.{Word}
 

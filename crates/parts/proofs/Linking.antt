@@ -27,7 +27,6 @@ use Rattle.parts.proofs.Whole.{Translates, no-more, translates, opened-
 use Rattle.parts.specs.Link.{Linked, linked, refused, Found, rulesOf, firstTyped, unlikeIn, twiceIn, pastLimitIn, pairsIn, pastMade, knownOf, closedIn, orNone, program, refusedAt, inText, asOne, link, asAnswer, lentBytes}
 use Rattle.parts.specs.Objects.{aimsOf, openRules, OpenRule, Object, asRules, together, listMeans, openAll, object, inCommon, inPart, ofCommon, ofPart, commonMeans, meaning}
 use Rattle.parts.specs.Promise.{LentZero, joined, oneText, Parts, parts-nil, parts-cons, VeryWords, InOrder, OneTextLinks}
-use Rattle.parts.specs.Texts.{Head, Common}
 use Rattle.processor.specs.Process as one
 use Rattle.processor.specs.Process.{Part, partOf, accepted, answerFor}
 use Rattle.program.proofs.Lengths.{length-table}
@@ -35,6 +34,7 @@ use Rattle.program.specs.Program.{Rule}
 use Rattle.program.specs.Table.{sizeRules, table}
 use Rattle.syntax.specs.Parse.{endOf}
 use Rattle.syntax.specs.Sections.{namesInAll}
+use Rattle.syntax.specs.Texts.{Head, Common}
 use Rattle.syntax.specs.Written as written
 use Rattle.syntax.specs.Written.{Program}
 

@@ -19,9 +19,9 @@ use Rattle.names.specs.Uses.{Use, samePair, isUsed, pairsOf, levelsUsed, lowest
 use Rattle.parts.proofs.Alike.{OneEach, nowhere, there, one-each}
 use Rattle.parts.specs.Link.{listedType}
 use Rattle.parts.specs.Objects.{callsIn, Aim, named, ranked, headAims, ruleAims, useAims, callAims, fresh, namesOf, elsewhere, aimsOf, byList, byRules, byCalls, openRules, openNames}
-use Rattle.parts.specs.Texts.{Head}
 use Rattle.precedence.proofs.Places as pair
 use Rattle.program.specs.Made.{Level}
+use Rattle.syntax.specs.Texts.{Head}
 use Rattle.syntax.specs.Written as written
 use Rattle.words.specs.Words.{Word}
 

@@ -13,8 +13,8 @@ use Rattle.base.specs.Tree.{plain, cycle, choice, done, _▸_, nil, alternative
 use Rattle.names.specs.Uses.{Use, plainUses, actUses, actsUses, altsUses, otherUses, rulesUses, samePair, isUsed, firsts, pairsOf}
 use Rattle.parts.proofs.Numbers.{each-map}
 use Rattle.parts.specs.Objects.{asRules}
-use Rattle.parts.specs.Texts.{Head}
 use Rattle.precedence.proofs.Places as pair
+use Rattle.syntax.specs.Texts.{Head}
 use Rattle.syntax.specs.Written as written
 
 -- Uses one after the other

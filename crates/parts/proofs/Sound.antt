@@ -30,7 +30,6 @@ use Rattle.parts.proofs.Numbers.{some-inj, none-some, found-each, each-
 use Rattle.parts.specs.Link.{foundIf, rulesOf, isNamed, firstTyped, listedType, agrees, openCall, unlike, unlikeIn, usesOf, pairsIn, textOf, knownOf, placeFor, closing, closed, closedIn, twiceIn, pastLimitIn, pastMade, orNone, program, link}
 use Rattle.parts.specs.Objects.{Aim, named, ranked, OpenRule, Object, together}
 use Rattle.parts.specs.Sound.{SoundUse, textsOf, callWords, numberOf, selectorNumber, numbers, numbersAll, numbersSome, numbersOther, Few, FewAll, FewSome, FewOther, sortOf, frame, StandsFor, Aligned, SoundRule, Sound, AnyObjects}
-use Rattle.parts.specs.Texts.{Head, readCommon}
 use Rattle.program.specs.Accepted.{Accepted, Calls, OkPlain, OkSelector, Ok, Oks, OkAlts, OkOther, NeedsLabel, Labelled}
 use Rattle.program.specs.Made.{Operator, Level, operatorAlts, levelBody, levelRule}
 use Rattle.program.specs.Table.{countLabels}
@@ -38,6 +37,7 @@ use Rattle.program.specs.Program.{Plain, match, any, emit, error, exit, call, b
 use Rattle.processor.specs.Process.{partOf}
 use Rattle.syntax.specs.Parse.{endOf}
 use Rattle.syntax.specs.Sections.{namesInAll}
+use Rattle.syntax.specs.Texts.{Head, readCommon}
 use Rattle.words.specs.Words as word
 use Rattle.words.specs.Words.{Word}
 

@@ -21,8 +21,8 @@ use Rattle.parts.proofs.Rules.{Unseen, NotTyped, rules-clear, all-used,
 use Rattle.parts.specs.Link.{rulesOf, isNamed, listedType, usesOf, pairsIn, textOf, knownOf, placeFor, closing, closed, closedIn}
 use Rattle.parts.specs.Objects.{callsAll, callsIn, named, aimsOf, openRules, openNames, OpenRule, Object, together, openAll}
 use Rattle.parts.specs.Promise.{joined}
-use Rattle.parts.specs.Texts.{Head, Common}
 use Rattle.program.specs.Program as means
+use Rattle.syntax.specs.Texts.{Head, Common}
 use Rattle.syntax.specs.Written as written
 use Rattle.syntax.specs.Written.{Program}
 use Rattle.words.specs.Words.{Word}

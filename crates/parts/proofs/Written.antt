@@ -35,7 +35,6 @@ use Rattle.parts.proofs.Sound.{frame-at}
 use Rattle.parts.specs.Objects
 use Rattle.parts.specs.Objects.{callOf, selects, calls, callsAll, callsSome, callsOther, callsIn, Aim, named, ranked, ruleAims, aimsOf, openRules, oneEach, openNames, OpenRule, together, openRule, openAll}
 use Rattle.parts.specs.Sound.{Few, FewAll, FewSome, FewOther, numberOf, selectorNumber, numbers, numbersAll, numbersSome, numbersOther, sortOf, frame, textsOf, StandsFor, Aligned, openAims, SoundRule, callWords, SoundUse, Sound, TranslatedSound}
-use Rattle.parts.specs.Texts.{Head, Common, aPart, readCommon, readPart}
 use Rattle.precedence.proofs.Places as pair
 use Rattle.program.specs.Accepted.{Calls, Oks}
 use Rattle.program.specs.Made.{Level}
@@ -44,6 +43,7 @@ use Rattle.program.specs.Program as means
 use Rattle.program.specs.Table.{countLabels}
 use Rattle.syntax.specs.Parse.{someRules}
 use Rattle.syntax.specs.Reading.{got, expect}
+use Rattle.syntax.specs.Texts.{Head, Common, aPart, readCommon, readPart}
 use Rattle.syntax.specs.Written as written
 use Rattle.syntax.specs.Written.{Constant, Program}
 use Rattle.words.specs.Words as word

@@ -16,11 +16,11 @@ use Rattle.processor.specs.Process.{Part, partOf}
 use Rattle.program.specs.Program.{Acts}
 use Rattle.syntax.specs.Parse.{endOf}
 use Rattle.syntax.specs.Reading.{Read, got, fault}
+use Rattle.syntax.specs.Texts.{Common, readCommon}
 use Rattle.words.specs.Words.{Word}
 use Rattle.parts.specs.Link.{Linked, refused, link}
 use Rattle.parts.specs.Objects.{Aim, named, ranked, OpenRule, Object, Translated, object, inCommon, inPart, translate, commonMeans}
 use Rattle.parts.specs.Sound.{Sound}
-use Rattle.parts.specs.Texts.{Common, readCommon}
 
 -- bytes two a word, high byte first, an odd one with 0 behind it
 unfoldable pub packed : List ℕ → List ℕ

@@ -1,4 +1,3 @@
-pub mod Texts
 pub mod Objects
 pub mod Link
 pub mod Blank

@@ -18,9 +18,9 @@ use Rattle.program.specs.Program.{Rule}
 use Rattle.syntax.specs.Parse.{endOf}
 use Rattle.syntax.specs.Reading.{Read, got, fault}
 use Rattle.syntax.specs.Sections.{namesInAll}
+use Rattle.syntax.specs.Texts.{Head, Common, readCommon}
 use Rattle.words.specs.Words.{Word}
 use Rattle.parts.specs.Objects.{Aim, named, ranked, OpenRule, Object, Translated, object, inCommon, inPart, commonMeans, translate}
-use Rattle.parts.specs.Texts.{Head, Common, readCommon}
 
 -- what linking answers: the table, the verdict and the figure; or a number, the text that shows it (0 the common part, then the parts from 1)
 -- and the part of that text

@@ -18,10 +18,10 @@ use Rattle.program.specs.Past.{pastAll}
 use Rattle.program.specs.Program as means
 use Rattle.syntax.specs.Parse.{endOf}
 use Rattle.syntax.specs.Reading.{Read, got, fault}
+use Rattle.syntax.specs.Texts.{Head, Common, tooLong, readCommon, readPart}
 use Rattle.syntax.specs.Written as written
 use Rattle.syntax.specs.Written.{Program}
 use Rattle.words.specs.Words.{Word}
-use Rattle.parts.specs.Texts.{Head, Common, tooLong, readCommon, readPart}
 
 -- The words after `@`, in text order
 

@@ -23,12 +23,12 @@ use Rattle.program.specs.Program as means
 use Rattle.program.specs.Table.{table}
 use Rattle.syntax.specs.Parse.{parse}
 use Rattle.syntax.specs.Reading.{got}
+use Rattle.syntax.specs.Texts.{Head, Common, readCommon, readPart}
 use Rattle.syntax.specs.Written.{Rule, Program}
 use Rattle.words.specs.Words.{Word}
 use Rattle.parts.specs.Blank.{blankProgram}
 use Rattle.parts.specs.Link.{linked, refused, lentBytes, listedType, agrees, asOne, link, linkTexts}
 use Rattle.parts.specs.Objects.{Object, object, commonMeans, meaning}
-use Rattle.parts.specs.Texts.{Head, Common, readCommon, readPart}
 
 -- "translating their rules as one text": the sections of the common part, and the rules of all parts in order
 unfoldable pub joined : List (List Rule) → List Rule

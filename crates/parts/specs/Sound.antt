@@ -21,12 +21,12 @@ use Rattle.program.specs.Past.{pastAll}
 use Rattle.program.specs.Program.{Plain, match, any, emit, error, exit, call, back, give, update, updateWith, Selector, byToken, byRule, byOperation, byOperationWith, Act, Acts, Alts, Other, Rule}
 use Rattle.program.specs.Table.{countLabels, table}
 use Rattle.syntax.specs.Reading.{got}
+use Rattle.syntax.specs.Texts.{Head, Common, readCommon, readPart}
 use Rattle.syntax.specs.Written as written
 use Rattle.words.specs.Words.{Word}
 use Rattle.parts.specs.Link.{linked, listedType, link}
 use Rattle.parts.specs.Objects.{Aim, named, ranked, headAims, useAims, callAims, OpenRule, Object, object, commonMeans, meaning}
 use Rattle.parts.specs.Promise.{Works}
-use Rattle.parts.specs.Texts.{Head, Common, readCommon, readPart}
 
 -- the numbers of a rule's calls
 unfoldable pub numberOf : Plain → List ℕ

@@ -116,7 +116,7 @@ pub entered-more : (left top v u n t : ℕ) (e : Entry) (es : List Entry) → e 
 unfolding nextOf
 entered-more left top v u n t e es h f g = record { less = omega (arith, g .less); most = rw (h, ← f) (g .most) }
 
-assoc : {A B C : Type 0} (m : Read A) (f : A → Reader B) (g : B → Reader C) → onward (onward m f) g ≡ onward m (λ a ws. onward (f a ws) g)
+pub assoc : {A B C : Type 0} (m : Read A) (f : A → Reader B) (g : B → Reader C) → onward (onward m f) g ≡ onward m (λ a ws. onward (f a ws) g)
 unfolding onward
 assoc (got a ws) f g = refl
 assoc (fault n w) f g = refl

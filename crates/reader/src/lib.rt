@@ -6,12 +6,14 @@ ghost use Rattle.syntax.specs.Actions.{aConstant, aValue, aPlain, aSelector, so
 ghost use Rattle.syntax.specs.Reading.{expect, aName, nameOrString, optional};
 ghost use Rattle.reader.specs.Answers.{Here, Reads, Moves, Yields, Faulty, refusal};
 ghost use Rattle.reader.specs.Parts.{withConstant, oneAction, aLabelled, OneLabel, Leaves, LeavesBoth, ARanked};
+ghost use Rattle.reader.specs.Texts.{AHead, Shares, Settles, Listed, RulesAt, unlessLong};
 ghost use Rattle.reader.specs.Counting.{OneName, NumberOf, ANumber, Sure, AnEntry, Entered, listed, countOf, oneMore, toldKind, fullIn, AnOperation, SomeOperations, ASection, outputSection, errorSection, typeSection, SomeSections, ARule, ending, Decides};
 ghost use Rattle.syntax.specs.Sections.{aSpelling, entries, kindAhead, aParameter, tokenSection, aSection, aLevel, aSide, anOperator, someOperators, operatorSection, mechanismSection, otherSection};
 ghost use lib.Dec.{eqb};
 ghost use mathlib.Core.Bool.{_&&_};
 ghost use Rattle.base.specs.Common.{same, bytes};
 ghost use Rattle.syntax.specs.Parse.{someRules, program, parse};
+ghost use Rattle.syntax.specs.Texts.{someHeads, readCommon, readPart};
 ghost use Rattle.words.specs.Words.{words, wordsAt};
 use scanner::WordAt;
 
@@ -1312,4 +1314,151 @@ pub fn check_syntax(text: &[u8]) -> Out
         };
     }
     read_program(text)
+}
+
+// A line of a common part's list, where `left` more names may be declared: a choice rule, `>>`, its type, a semicolon.
+fn read_head(text: &[u8], at: usize, left: usize) -> Out
+    requires { ⌜ at ≤ length (now text) ⌝ }
+    ensures { λ r. ⌜ AHead (now (text .entry)) at left r ⌝ }
+{
+    let o = read_one_name(text, at, left);
+    if o.fault != 0 {
+        return o;
+    }
+    let e = expect_word(text, o.at, words::TWICE);
+    if e.fault != 0 {
+        return e;
+    }
+    let g = read_name(text, e.at);
+    if g.fault != 0 {
+        return g;
+    }
+    expect_word(text, g.at, words::SEMICOLON)
+}
+
+// The lines of the list: there may be none.
+fn read_heads(text: &[u8], at: usize, left: usize) -> Out
+    requires { ⌜ at ≤ length (now text) ⌝ }
+    ensures { λ r. ⌜ Reads (now (text .entry)) at at (λ k. someHeads k left) r ⌝ }
+{
+    let mut i = at;
+    let mut names = left;
+    loop {
+        let w = look(text, i);
+        if w.kind != words::NAME {
+            return Out {
+                fault: 0,
+                at: i,
+                len: 0,
+            };
+        }
+        let r = read_head(text, i, names);
+        if r.fault != 0 {
+            return r;
+        }
+        let rest = names - 1;
+        i = r.at;
+        names = rest;
+    }
+}
+
+// A common part up to its word `end`: the place behind its list, and the names that its sections leave.
+fn read_shared(text: &[u8]) -> Counted
+    ensures { λ r. ⌜ Shares (now (text .entry)) r ⌝ }
+{
+    let seen = Seen {
+        plain: 0,
+        taking: 0,
+        giving: 0,
+        both: 0,
+    };
+    let state = State {
+        left: base::NAMES,
+        input: 0,
+        output: 0,
+        error: 0,
+        seen,
+    };
+    let s = read_sections(text, 0, state);
+    let o = s.out;
+    if o.fault != 0 {
+        return s;
+    }
+    let e = expect_word(text, o.at, words::RULES);
+    if e.fault != 0 {
+        return Counted { out: e, room: 0 };
+    }
+    let left = s.room;
+    let m = smaller(base::RULES, left);
+    let h = read_heads(text, e.at, m);
+    Counted { out: h, room: left }
+}
+
+fn read_common(text: &[u8]) -> Counted
+    ensures { λ r. ⌜ Settles (Listed (now (text .entry)) (r .out .at) (r .room)) (r .out) (readCommon (now (text .entry))) ⌝ }
+{
+    let s = read_shared(text);
+    let o = s.out;
+    if o.fault != 0 {
+        return s;
+    }
+    let e = read_end(text, o.at);
+    if e.fault != 0 {
+        return Counted { out: e, room: 0 };
+    }
+    s
+}
+
+fn read_part(text: &[u8], left: usize) -> Out
+    ensures { λ r. ⌜ Settles (RulesAt (now (text .entry)) left (r .at)) r (readPart left (now (text .entry))) ⌝ }
+{
+    let k = expect_word(text, 0, words::RULES);
+    if k.fault != 0 {
+        return k;
+    }
+    let m = smaller(base::RULES, left);
+    let r = read_rules(text, k.at, m);
+    if r.fault != 0 {
+        return r;
+    }
+    let e = read_end(text, r.at);
+    if e.fault != 0 {
+        return e;
+    }
+    k
+}
+
+// Fault 9 at the empty part at the end of a text of n bytes.
+fn over_long(n: usize) -> Out
+    ensures { λ r. ⌜ (r .fault ≡ 9) × (r .at ≡ n) × (r .len ≡ 0) ⌝ }
+{
+    Out {
+        fault: base::OVER_LIMIT,
+        at: n,
+        len: 0,
+    }
+}
+
+// The first fault 1, 2 or 9 of a common part and its word. Or fault 0, and `at` is the place right behind the last semicolon of the list, or behind the
+// word `rules` where there is none: the word `end` is next; `room` is how many names the sections leave for the rules.
+pub fn check_common(text: &[u8]) -> Counted
+    ensures { λ r. ⌜ Settles (Listed (now (text .entry)) (r .out .at) (r .room)) (r .out) (unlessLong (now (text .entry)) (readCommon (now (text .entry)))) ⌝ }
+{
+    let n = text.len();
+    if base::TEXT_BYTES < n {
+        let r = over_long(n);
+        return Counted { out: r, room: 0 };
+    }
+    read_common(text)
+}
+
+// The first fault 1, 2 or 9 of a further part, where `left` names may be declared, and its word. Or fault 0, and `at` is the place right behind its word `rules`.
+pub fn check_part(text: &[u8], left: usize) -> Out
+    ensures { λ r. ⌜ Settles (RulesAt (now (text .entry)) left (r .at)) r (unlessLong (now (text .entry)) (readPart left (now (text .entry)))) ⌝ }
+{
+    let n = text.len();
+    if base::TEXT_BYTES < n {
+        return over_long(n);
+    }
+    read_part(text, left)
 }

@@ -44,7 +44,7 @@ allAgree [] = true
 allAgree (l ∷ ls) = agrees (parse (l .text)) (l .outcome) && allAgree ls
 
 -- so many times the same bytes
-pub times : ℕ → String → List ℕ
+unfoldable pub times : ℕ → String → List ℕ
 times zero s = []
 times (suc n) s = bytes s ++ times n s
 

@@ -3,3 +3,4 @@ pub mod Reading
 pub mod Actions
 pub mod Sections
 pub mod Parse
+pub mod Texts
