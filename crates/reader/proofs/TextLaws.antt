@@ -1,25 +1,26 @@
 -- Laws of a common part and of a further part, for the proofs of the code.
-use mathlib.Core.Bool.{Bool, true, false}
+use mathlib.Core.Bool.{Bool, true, false, not}
 use mathlib.Core.List.{List, [], _∷_}
 use mathlib.Core.Path.{_≡_, refl, sym, ap, _∙_}
-use Prim.Native.Nat.{ℕ, zero, suc, _≤_, _<_, min}
+use Prim.Native.Nat.{ℕ, zero, suc, _+_, _≤_, _<_, min}
 use native.Mathlib.Omega.{arith}
-use lib.Dec.{eqb, leb}
-use lib.ListN.{length}
-use borrow.Author.Tests.{leb-false, leb-true, lt-ltb, le-ltb}
+use lib.Dec.{eqb}
+use lib.ListN.{length, drop, length-drop}
+use borrow.Author.Tests.{eqb-true, lt-ltb, le-ltb}
 use Rattle.base.specs.Common.{if_then_else_}
 use Rattle.reader.proofs.Laws.{faulty, says-on}
-use Rattle.reader.proofs.SectionLaws.{assoc, decides-off, ends-whole, from-start}
-use Rattle.reader.specs.Answers.{Brings, Holds, Tells, held, told, void, went}
+use Rattle.reader.proofs.SectionLaws.{assoc, decides-off, ends-whole}
+use Rattle.reader.specs.Answers.{Brings, Here, Holds, Tells, held, told, void, went}
 use Rattle.reader.specs.Counting.{Decides, ending, fine, wrong}
-use Rattle.reader.specs.Texts.{Settles, unlessLong, upToEnd}
+use Rattle.reader.specs.Texts.{Listed, Settles, unlessLong, upToEnd}
 use Rattle.reader.specs.declared.Out.{Out}
-use Rattle.scanner.proofs.WordLaws.{ended}
+use Rattle.scanner.specs.Next.{asWord}
+use Rattle.scanner.specs.declared.WordAt.{WordAt}
 use Rattle.syntax.specs.Parse.{endOf}
 use Rattle.syntax.specs.Reading.{Read, Reader, expect, fault, got, on_then_else_, onward, pass, peek, refuse}
 use Rattle.syntax.specs.Sections.{nothing, someSections}
-use Rattle.syntax.specs.Texts.{aCommon, someHeads, tooLong}
-use Rattle.words.specs.Words.{Word, words, wordsAt}
+use Rattle.syntax.specs.Texts.{Common, aCommon, someHeads, tooLong}
+use Rattle.words.specs.Words.{Word, blank, run, wordHere, words, wordsAt, wordsFrom}
 
 -- a part was read, with all that is known of it, and the rest settles the whole
 settle-on : {A B : Type 0} {P : A → Type 0} {Q : B → Type 0} (m : Read A) (f : A → Reader B) (ws : List Word) (s : Out)
@@ -56,17 +57,40 @@ pub closes-on : {A : Type 0} {Q : A → Type 0} (a : A) (ws : List Word) {e r : 
 unfolding ending
 closes-on a ws d e f q = rw (← assoc (expect 266 ws) (λ _ ws. expect 1 ws) (λ _ ws. got a ws)) (close-on a _ d e f q)
 
--- where `end` is next the text goes on
-pub before-end : (text : List ℕ) (at : ℕ) {e : Out} → Decides e (ending (wordsAt text at)) → e .fault ≡ 0 → at < length text
-unfolding ending expect on_then_else_ refuse peek onward
-before-end text at {e} d z = go (leb (length text) at) refl
+-- where that is read `end` is next
+pub end-next : {text : List ℕ} {at : ℕ} {w : WordAt} {e : Out} → Here text at w → Decides e (ending (wordsAt text at)) → e .fault ≡ 0 → w .kind ≡ 266
+unfolding ending expect on_then_else_ refuse onward
+end-next {text} {at} {w} {e} n d z = go (eqb (w .kind) 266) refl
   where
-    none : {n : ℕ} {w : Word} → Decides {A = Word} e (fault n w) → ⊥
+    none : {m : ℕ} {v : Word} → Decides {A = Word} e (fault m v) → ⊥
     none (wrong y a b c) = y (sym a ∙ z)
 
-    go : (t : Bool) → leb (length text) at ≡ t → at < length text
-    go true q = absurd (none (rw (ended text at (leb-true (length text) at q) .final (omega arith)) at d))
-    go false q = leb-false (length text) at q
+    go : (t : Bool) → eqb (w .kind) 266 ≡ t → w .kind ≡ 266
+    go true q = eqb-true (w .kind) 266 q
+    go false q = absurd (none (rw (n .head, q) at d))
+
+-- a word that is neither bad nor the end begins inside the text
+abbrev Begins : ℕ → List Word → Type 0
+Begins n ws = 2 ≤ peek ws .kind → peek ws .start < n
+
+begins-if : (t : Bool) (n : ℕ) (x y : List Word) → Begins n x → Begins n y → Begins n (if t then x else y)
+begins-if true n x y p q = p
+begins-if false n x y p q = q
+
+begins : (skip at : ℕ) (s : List ℕ) → Begins (at + length s) (wordsFrom skip at s)
+unfolding wordsFrom peek
+begins skip at [] = λ h. absurd (omega arith)
+begins (suc n) at (b ∷ s) = λ h. omega (arith, begins n (suc at) s h)
+begins zero at (b ∷ s) =
+    begins-if (blank b) _ _ _ (λ h. omega (arith, begins 0 (suc at) s h))
+    (begins-if (eqb b 37) _ _ _ (λ h. omega (arith, begins (run (λ c. not (eqb c 10)) s) (suc at) s h))
+    (begins-if (eqb (wordHere b s .kind) 0) _ _ _ (λ h. omega arith) (λ h. omega arith)))
+
+pub begins-inside : {text : List ℕ} {at : ℕ} {w : WordAt} → Here text at w → at ≤ length text → 2 ≤ w .kind → w .start < length text
+unfolding wordsAt
+begins-inside {text} {at} {w} n l h =
+    let b : w .start < at + length (drop at text) = rw (n .head) at (begins 0 at (drop at text)) h in
+    omega (arith, length-drop at text)
 
 -- A common part, in two
 
@@ -97,6 +121,21 @@ in-two k ws =
 pub heads-as : (k m l n : ℕ) {text : List ℕ} (at : ℕ) {r : Out} → m ≡ min 128 n → l ≡ n → Tells (someHeads k m (wordsAt text at)) text r
     → Tells (someHeads k (min 128 l) (wordsAt text at)) text r
 heads-as k m l n at e f t = rw (f, ← e) t
+
+-- the list is read, and `end` is next
+pub listed : {text : List ℕ} {at n : ℕ} {c : Common} {w : WordAt} {e : Out} → c .left ≡ n → at ≤ length text → Here text at w → Decides e (ending (wordsAt text at)) → e .fault ≡ 0
+    → upToEnd (length text + 1) (words text) ≡ got c (wordsAt text at) → Listed text (w .start) n c
+listed {text} {w = w} l i h d z q =
+    let k = end-next h d z in
+    record {
+      leaves = l;
+      inside = begins-inside h i (omega arith);
+      keyword = asWord text w;
+      kind = k;
+      start = refl;
+      rest = wordsAt text (w .next);
+      reads = rw (h .more (omega arith)) at q;
+    }
 
 -- A further part
 

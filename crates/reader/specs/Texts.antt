@@ -13,7 +13,7 @@ use Rattle.syntax.specs.Reading.{Read, got, fault, Reader, _>>=_, _>>_, pure, e
 use Rattle.syntax.specs.Sections.{nothing, someSections}
 use Rattle.syntax.specs.Texts.{Common, aHead, someHeads, tooLong}
 use Rattle.syntax.specs.Written.{Rule}
-use Rattle.words.specs.Words.{Word, words, wordsAt, rules}
+use Rattle.words.specs.Words.{Word, words, wordsAt, rules, end}
 
 -- a line of the list was read where one more name may be declared
 pub record AHead (text : List ℕ) (at left : ℕ) (r : Out) : Type 0 where
@@ -37,11 +37,15 @@ pub record Settles {A : Type 0} (P : A → Type 0) (r : Out) (m : Read A) : Type
   pub decides : Decides r m
   pub holds : Holds P m
 
--- the common part c stands before the place `at`, and behind it the word `end`; its sections leave n names
+-- the common part c is read up to its word `end`, which begins at the place `at`; its sections leave n names
 pub record Listed (text : List ℕ) (at n : ℕ) (c : Common) : Type 0 where
   pub leaves : c .left ≡ n
   pub inside : at < length text
-  pub reads : upToEnd (length text + 1) (words text) ≡ got c (wordsAt text at)
+  pub keyword : Word
+  pub kind : keyword .kind ≡ end
+  pub start : keyword .start ≡ at
+  pub rest : List Word
+  pub reads : upToEnd (length text + 1) (words text) ≡ got c (keyword ∷ rest)
 
 -- the word `rules` stands before the place `at`, and behind it the rules rs, where `left` names may be declared
 pub record RulesAt (text : List ℕ) (left at : ℕ) (rs : List Rule) : Type 0 where

@@ -1362,7 +1362,7 @@ fn read_heads(text: &[u8], at: usize, left: usize) -> Out
     }
 }
 
-// A common part up to its word `end`: the place behind its list, and the names that its sections leave.
+// A common part up to its word `end`, and how many names its sections leave.
 fn read_shared(text: &[u8]) -> Counted
     ensures { λ r. ⌜ Shares (now (text .entry)) r ⌝ }
 {
@@ -1402,11 +1402,20 @@ fn read_common(text: &[u8]) -> Counted
     if o.fault != 0 {
         return s;
     }
+    let w = look(text, o.at);
     let e = read_end(text, o.at);
     if e.fault != 0 {
         return Counted { out: e, room: 0 };
     }
-    s
+    let r = Out {
+        fault: 0,
+        at: w.start,
+        len: 0,
+    };
+    Counted {
+        out: r,
+        room: s.room,
+    }
 }
 
 fn read_part(text: &[u8], left: usize) -> Out
@@ -1439,8 +1448,8 @@ fn over_long(n: usize) -> Out
     }
 }
 
-// The first fault 1, 2 or 9 of a common part and its word. Or fault 0, and `at` is the place right behind the last semicolon of the list, or behind the
-// word `rules` where there is none: the word `end` is next; `room` is how many names the sections leave for the rules.
+// The first fault 1, 2 or 9 of a common part and its word. Or fault 0: `at` is the start of its word `end`, and `room` how many names its sections leave
+// for the rules.
 pub fn check_common(text: &[u8]) -> Counted
     ensures { λ r. ⌜ Settles (Listed (now (text .entry)) (r .out .at) (r .room)) (r .out) (unlessLong (now (text .entry)) (readCommon (now (text .entry)))) ⌝ }
 {
@@ -1452,7 +1461,7 @@ pub fn check_common(text: &[u8]) -> Counted
     read_common(text)
 }
 
-// The first fault 1, 2 or 9 of a further part, where `left` names may be declared, and its word. Or fault 0, and `at` is the place right behind its word `rules`.
+// The first fault 1, 2 or 9 of a further part, where `left` names may be declared, and its word. Or fault 0: `at` is the place right behind its word `rules`.
 pub fn check_part(text: &[u8], left: usize) -> Out
     ensures { λ r. ⌜ Settles (RulesAt (now (text .entry)) left (r .at)) r (unlessLong (now (text .entry)) (readPart left (now (text .entry)))) ⌝ }
 {
