@@ -1,11 +1,11 @@
 -- Laws of a common part and of a further part, for the proofs of the code.
 use mathlib.Core.Bool.{Bool, true, false, not}
-use mathlib.Core.List.{List, [], _∷_}
+use mathlib.Core.List.{List, [], _∷_, _++_}
 use mathlib.Core.Path.{_≡_, refl, sym, ap, _∙_}
 use Prim.Native.Nat.{ℕ, zero, suc, _+_, _≤_, _<_, min}
 use native.Mathlib.Omega.{arith}
 use lib.Dec.{eqb}
-use lib.ListN.{length, drop, length-drop}
+use lib.ListN.{length, take, drop, length-drop}
 use borrow.Author.Tests.{eqb-true, lt-ltb, le-ltb}
 use Rattle.base.specs.Common.{if_then_else_}
 use Rattle.reader.proofs.Laws.{faulty, says-on}
@@ -14,6 +14,7 @@ use Rattle.reader.specs.Answers.{Brings, Here, Holds, Tells, held, told,
 use Rattle.reader.specs.Counting.{Decides, ending, fine, wrong}
 use Rattle.reader.specs.Texts.{Listed, Settles, unlessLong, upToEnd}
 use Rattle.reader.specs.declared.Out.{Out}
+use Rattle.scanner.proofs.Joined.{joined, moved, words-moved}
 use Rattle.scanner.specs.Next.{asWord}
 use Rattle.scanner.specs.declared.WordAt.{WordAt}
 use Rattle.syntax.specs.Parse.{endOf}
@@ -152,6 +153,23 @@ first-word (v ∷ ws) vs w e = go (eqb (v .kind) 265) e
 pub behind : (text : List ℕ) (at : ℕ) (w : Word) → wordsAt text 0 ≡ w ∷ wordsAt text at → 0 < at
 behind text zero w e = let n : length (wordsAt text 0) ≡ length (w ∷ wordsAt text 0) = ap length e in absurd (omega arith)
 behind text (suc n) w e = omega arith
+
+placed : (s : List ℕ) (d : ℕ) → wordsFrom 0 d s ≡ moved d (words s)
+unfolding words
+placed s d = ap (λ (k : ℕ). wordsFrom 0 k s) (omega arith) ∙ words-moved s d 0 0
+
+-- One buffer of both: the common part up to its `end`, a line feed, the further part from behind its `rules`. Its words are those of the common part before
+-- `end`, and then those of the further part behind `rules`, at other places.
+
+pub one-buffer : {common : List ℕ} {at n : ℕ} {c : Common} (l : Listed common at n c) (part : List ℕ) (from : ℕ) (ws : List Word) → words common ≡ ws ++ (l .keyword ∷ l .rest)
+    → words (take at common ++ (10 ∷ drop from part)) ≡ ws ++ moved (at + 1) (words (drop from part))
+one-buffer {common} {at} l part from ws q =
+    let j = joined common (drop from part) ws (l .rest) (l .keyword) (omega (arith, l .start, l .inside)) q in
+    (rw (l .start) at j) ∙ ap (λ (vs : List Word). ws ++ vs) (placed (drop from part) (at + 1))
+
+pub part-words : (part : List ℕ) (from : ℕ) → wordsAt part from ≡ moved from (words (drop from part))
+unfolding wordsAt
+part-words part from = placed (drop from part) from
 
 -- The limit on the text's bytes
 

@@ -28,7 +28,7 @@ pub run-end : (p : ℕ → Bool) (s : List ℕ) (i : ℕ) → length s ≤ i →
 unfolding run
 run-end p s i h = rw (drop-of-length-le s h)
 
-abbrev inLine : ℕ → Bool
+abbrev pub inLine : ℕ → Bool
 inLine b = not (eqb b 10)
 
 -- one step of the definition
@@ -36,23 +36,23 @@ skip-one : (n at b : ℕ) (s : List ℕ) → wordsFrom (suc n) at (b ∷ s) ≡ 
 unfolding wordsFrom
 skip-one n at b s = refl
 
-from-blank : (at b : ℕ) (s : List ℕ) → blank b ≡ true → wordsFrom 0 at (b ∷ s) ≡ wordsFrom 0 (suc at) s
+pub from-blank : (at b : ℕ) (s : List ℕ) → blank b ≡ true → wordsFrom 0 at (b ∷ s) ≡ wordsFrom 0 (suc at) s
 unfolding wordsFrom
 from-blank at b s e = rw e
 
-from-comment : (at b : ℕ) (s : List ℕ) → b ≡ 37 → wordsFrom 0 at (b ∷ s) ≡ wordsFrom (run inLine s) (suc at) s
+pub from-comment : (at b : ℕ) (s : List ℕ) → b ≡ 37 → wordsFrom 0 at (b ∷ s) ≡ wordsFrom (run inLine s) (suc at) s
 unfolding wordsFrom blank
 from-comment at b s e = rw e
 
 -- the word that begins with b before s, at a place
-abbrev the-word : ℕ → ℕ → List ℕ → Word
+abbrev pub the-word : ℕ → ℕ → List ℕ → Word
 the-word at b s = record { kind = wordHere b s .kind; start = at; text = take (wordHere b s .size) (b ∷ s) }
 
-from-bad : (at b : ℕ) (s : List ℕ) → blank b ≡ false → (b ≡ 37 → ⊥) → wordHere b s .kind ≡ 0 → wordsFrom 0 at (b ∷ s) ≡ the-word at b s ∷ []
+pub from-bad : (at b : ℕ) (s : List ℕ) → blank b ≡ false → (b ≡ 37 → ⊥) → wordHere b s .kind ≡ 0 → wordsFrom 0 at (b ∷ s) ≡ the-word at b s ∷ []
 unfolding wordsFrom
 from-bad at b s e f g = rw (e, ne-eqb b 37 f, eq-eqb (wordHere b s .kind) 0 g)
 
-from-word : (at b : ℕ) (s : List ℕ) → blank b ≡ false → (b ≡ 37 → ⊥) → (wordHere b s .kind ≡ 0 → ⊥)
+pub from-word : (at b : ℕ) (s : List ℕ) → blank b ≡ false → (b ≡ 37 → ⊥) → (wordHere b s .kind ≡ 0 → ⊥)
     → wordsFrom 0 at (b ∷ s) ≡ the-word at b s ∷ wordsFrom (wordHere b s .size - 1) (suc at) s
 unfolding wordsFrom
 from-word at b s e f g = rw (e, ne-eqb b 37 f, ne-eqb (wordHere b s .kind) 0 g)
