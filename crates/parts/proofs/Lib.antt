@@ -14,3 +14,5 @@ pub mod AsText
 pub mod Written
 pub mod FormFacts
 pub mod FromTexts
+pub mod Moved
+pub mod MovedActions
