@@ -260,12 +260,12 @@ known-blank i (r ∷ rs) = rw (type-text (r .gives), known-blank (suc i) rs)
     type-text none = unfold blankIf in refl
     type-text (some w) = unfold blankIf blank in refl
 
-entries-length : (es : List Entry) → length (blankEntries es) ≡ length es
+pub entries-length : (es : List Entry) → length (blankEntries es) ≡ length es
 unfolding blankEntries
 entries-length [] = refl
 entries-length (e ∷ es) = ap suc (entries-length es)
 
-operations-length : (os : List Operation) → length (blankOperations os) ≡ length os
+pub operations-length : (os : List Operation) → length (blankOperations os) ≡ length os
 unfolding blankOperations
 operations-length [] = refl
 operations-length (o ∷ os) = ap suc (operations-length os)

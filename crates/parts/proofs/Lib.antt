@@ -16,3 +16,4 @@ pub mod FormFacts
 pub mod FromTexts
 pub mod Moved
 pub mod MovedActions
+pub mod MovedSections

@@ -243,12 +243,12 @@ dry-does h = record { carries = λ a rest e. let p = h .carries a rest e in reco
 -- Tests
 
 -- a test on the words, the same for words that are the same where one is read
-module _ {b : ℕ} {x : Sort} {A : Type 0} {bl : A → A} {ws : List Word} {m m′ n n′ : Reader A} (t : List Word → Bool) where
+module _ {b : ℕ} {x : Sort} {A : Type 0} {bl : A → A} {ws : List Word} {m m′ : Reader A} (t : List Word → Bool) (n n′ : List Word → Reader A) where
   tested : ((rest rest′ ws′ : List Word) → Upto rest rest′ ws ws′ → (reads x ≡ true → length rest < length ws) → (looks x ≡ true → Alike rest rest′) → t ws ≡ t ws′)
-      → (t ws ≡ true → Carries b x bl ws m m′) → (t ws ≡ false → Carries b x bl ws n n′) → Carries b x bl ws (λ ws. (if t ws then m else n) ws) (λ ws. (if t ws then m′ else n′) ws)
+      → (t ws ≡ true → Carries b x bl ws m m′) → (t ws ≡ false → Carries b x bl ws (λ vs. n vs vs) (λ vs. n′ vs vs)) → Carries b x bl ws (λ ws. (if t ws then m else n ws) ws) (λ ws. (if t ws then m′ else n′ ws) ws)
   tested same h g = record { carries = λ a rest e. go a rest (t ws) refl e }
     where
-      go : (a : A) (rest : List Word) (c : Bool) → t ws ≡ c → (if c then m else n) ws ≡ got a rest → Carried b x bl (λ ws. (if t ws then m′ else n′) ws) ws a rest
+      go : (a : A) (rest : List Word) (c : Bool) → t ws ≡ c → (if c then m else n ws) ws ≡ got a rest → Carried b x bl (λ ws. (if t ws then m′ else n′ ws) ws) ws a rest
       go a rest true d e =
           let p = h d .carries a rest e in
           record {
@@ -272,17 +272,17 @@ module _ {b : ℕ} {x : Sort} {A : Type 0} {bl : A → A} {ws : List Word} {m m�
 pub by-kind : {b : ℕ} {x : Sort} {A : Type 0} {bl : A → A} {ws : List Word} {m m′ n n′ : Reader A} (t : ℕ → Bool)
     → (t (peek ws .kind) ≡ true → Carries b x bl ws m m′) → (t (peek ws .kind) ≡ false → Carries b x bl ws n n′)
     → Carries b x bl ws (λ ws. (if t (peek ws .kind) then m else n) ws) (λ ws. (if t (peek ws .kind) then m′ else n′) ws)
-by-kind {x = x} t h g = tested (λ ws. t (peek ws .kind)) (λ rest rest′ ws′ u s l. ap t (mid-alike x u s l)) h g
+by-kind {x = x} {n = n} {n′ = n′} t h g = tested (λ ws. t (peek ws .kind)) (λ _. n) (λ _. n′) (λ rest rest′ ws′ u s l. ap t (mid-alike x u s l)) h g
 
 pub on-kind : {b : ℕ} {x : Sort} {A : Type 0} {bl : A → A} {ws : List Word} {m m′ n n′ : Reader A} (k : ℕ)
     → (peek ws .kind ≡ k → Carries b x bl ws m m′) → Carries b x bl ws n n′ → Carries b x bl ws (on k then m else n) (on k then m′ else n′)
 unfolding on_then_else_
 on-kind {ws = ws} k h g = record { carries = by-kind (λ j. eqb j k) (λ t. h (eqb-true (peek ws .kind) k t)) (λ t. g) .carries }
 
--- by the next word, where one is read
-pub by-word : {b : ℕ} {x : Sort} {A : Type 0} {bl : A → A} {ws : List Word} {m m′ n n′ : Reader A} (t : List Word → Bool) → ((vs vs′ : List Word) → blank (peek vs) ≡ blank (peek vs′) → t vs ≡ t vs′)
-    → reads x ≡ true → (t ws ≡ true → Carries b x bl ws m m′) → Carries b x bl ws n n′ → Carries b x bl ws (λ ws. (if t ws then m else n) ws) (λ ws. (if t ws then m′ else n′) ws)
-by-word {ws = ws} t same r h g = tested t (λ rest rest′ ws′ u s l. same ws ws′ (next-same u (s r))) h (λ _. g)
+-- by the next word, where one is read; the other branch may test the words too
+pub by-word : {b : ℕ} {x : Sort} {A : Type 0} {bl : A → A} {ws : List Word} {m m′ : Reader A} (t : List Word → Bool) (n n′ : List Word → Reader A) → ((vs vs′ : List Word) → blank (peek vs) ≡ blank (peek vs′) → t vs ≡ t vs′)
+    → reads x ≡ true → (t ws ≡ true → Carries b x bl ws m m′) → Carries b x bl ws (λ vs. n vs vs) (λ vs. n′ vs vs) → Carries b x bl ws (λ ws. (if t ws then m else n ws) ws) (λ ws. (if t ws then m′ else n′ ws) ws)
+by-word {ws = ws} t n n′ same r h g = tested t n n′ (λ rest rest′ ws′ u s l. same ws ws′ (next-same u (s r))) h (λ _. g)
 
 pub limited : {b : ℕ} {x : Sort} {A : Type 0} {bl : A → A} {ws : List Word} {m m′ : Reader A} (l l′ : ℕ) → (eqb l 0 ≡ false → eqb l′ 0 ≡ false) → Carries b x bl ws m m′
     → Carries b x bl ws (within l m) (within l′ m′)
