@@ -17,3 +17,5 @@ pub mod FromTexts
 pub mod Moved
 pub mod MovedActions
 pub mod MovedSections
+pub mod JoinedFacts
+pub mod JoinedWords

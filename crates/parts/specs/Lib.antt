@@ -4,3 +4,4 @@ pub mod Blank
 pub mod Promise
 pub mod Sound
 pub mod Form
+pub mod Joined
