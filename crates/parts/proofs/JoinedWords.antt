@@ -6,12 +6,13 @@ use Prim.Native.Nat.{ℕ, zero, suc, _+_, _-_, _≤_, _<_}
 use lib.Dec.{eqb, leb}
 use lib.ListN.{length, take, drop, getD, length-take}
 use borrow.Author.Tests.{eqb-true, eqb-false, eq-eqb, ne-eqb, leb-true}
+use native.Mathlib.Nat.{add-zero}
 use native.Mathlib.Omega.{arith}
 use Rattle.base.specs.Bools.{and}
 use Rattle.base.specs.Common.{if_then_else_, bytes}
 use Rattle.parts.proofs.Moved.{inner, Ahead, at-rest, behind, Upto, here, more}
 use Rattle.parts.specs.Blank as but
-use Rattle.words.specs.Words.{Word, Found, bad, last, kindOf, reserved, letter, digit, nameByte, stringByte, blank, symbol, run, stringHere, wordHere, wordsFrom}
+use Rattle.words.specs.Words.{Word, Found, bad, last, kindOf, reserved, letter, digit, nameByte, stringByte, blank, symbol, run, stringHere, wordHere, wordsFrom, words}
 
 -- One word
 
@@ -139,9 +140,9 @@ alone-is (behind i h) = not-behind h
 
 -- a word that is reached from here starts at this place or later, and inside the bytes
 module _ (w : Word) (rest : List Word) (there : w .kind ≡ last → ⊥) where
-  record Late (skip at : ℕ) (s : List ℕ) : Type 0 where
-    low : at + skip ≤ w .start
-    high : w .start < at + length s
+  pub record Late (skip at : ℕ) (s : List ℕ) : Type 0 where
+    pub low : at + skip ≤ w .start
+    pub high : w .start < at + length s
 
   abbrev Comes : ℕ → List ℕ → List Word → Type 0
   Comes at s ws = Ahead (w ∷ rest) ws → Late 0 at s
@@ -150,7 +151,7 @@ module _ (w : Word) (rest : List Word) (there : w .kind ≡ last → ⊥) where
   late-word at b s v e f (at-rest d) = let x : v ≡ w = cc in let y : w .start ≡ at = ap (λ (u : Word). u .start) (sym x) ∙ e in record { low = omega arith; high = omega arith }
   late-word at b s v e f (behind i h) = f h
 
-  late : (skip at : ℕ) (s : List ℕ) → Ahead (w ∷ rest) (wordsFrom skip at s) → Late skip at s
+  pub late : (skip at : ℕ) (s : List ℕ) → Ahead (w ∷ rest) (wordsFrom skip at s) → Late skip at s
   unfolding wordsFrom
   late skip at [] a = absurd (there (sym (ap (λ (u : Word). u .kind) (alone-is a))))
   late (suc n) at (b ∷ s) a = let l = late n (suc at) s a in record { low = let h = l .low in omega arith; high = let h = l .high in omega arith }
@@ -224,3 +225,61 @@ module _ (w : Word) (rest : List Word) (there : w .kind ≡ last → ⊥) where
   scan zero at at′ (b ∷ u) v z e a =
       let k : suc at′ + length u + 1 ≡ at′ + suc (length u) + 1 = omega arith in
       scan-byte at at′ b u v z _ e (λ n h. rw k at (scan n (suc at) (suc at′) u v z (omega arith) h)) a
+
+-- The words behind a word
+
+some-size : (b : ℕ) (s : List ℕ) → 1 ≤ wordHere b s .size
+unfolding wordHere stringHere
+some-size b s =
+    pick (letter b) _ _ (omega arith) (pick (digit b) _ _ (omega arith) (pick (eqb b 39) _ _ (pick (leb 1 (run stringByte s) && leb (run stringByte s) 32 && eqb (getD s (run stringByte s) 0) 39) _ _ (omega arith) (omega arith))
+    (pick (eqb b 62 && eqb (getD s 0 0) 62) _ _ (omega arith) (pick (eqb b 33) _ _ (omega arith) (pick (symbol b) _ _ (omega arith) (omega arith))))))
+  where
+    pick : (t : Bool) (f g : Found) → 1 ≤ f .size → 1 ≤ g .size → 1 ≤ (if t then f else g) .size
+    pick true f g p q = p
+    pick false f g p q = q
+
+-- bytes of a word or comment are passed over, to the end of the text at most
+skip-all : (n at : ℕ) (s : List ℕ) → wordsFrom n at s ≡ wordsFrom 0 (at + length (take n s)) (drop (length (take n s)) s)
+unfolding wordsFrom
+skip-all zero at s = ap (λ (k : ℕ). wordsFrom 0 k s) (sym (add-zero at))
+skip-all (suc n) at [] = ap (λ (k : ℕ). wordsFrom 0 k []) (sym (add-zero at))
+skip-all (suc n) at (b ∷ s) = skip-all n (suc at) s ∙ ap (λ (k : ℕ). wordsFrom 0 k (drop (length (take n s)) s)) (add-move at (length (take n s)))
+  where
+    add-move : (a k : ℕ) → suc a + k ≡ a + suc k
+    add-move a k = omega arith
+
+-- n bytes on, and the words from there
+record Onward (at : ℕ) (s : List ℕ) (w : Word) (ws : List Word) : Type 0 where
+  bytes-on : ℕ
+  place : w .start + length (w .text) ≡ at + bytes-on
+  words-are : ws ≡ wordsFrom 0 (at + bytes-on) (drop bytes-on s)
+
+step-on : {at b : ℕ} {s : List ℕ} {w : Word} {ws : List Word} → Onward (suc at) s w ws → Onward at (b ∷ s) w ws
+step-on {at} {b} {s} o =
+    let k : suc at + o .bytes-on ≡ at + suc (o .bytes-on) = omega arith in
+    record { bytes-on = suc (o .bytes-on); place = o .place ∙ k; words-are = o .words-are ∙ ap (λ (n : ℕ). wordsFrom 0 n (drop (o .bytes-on) s)) k }
+
+word-on : (at b n k : ℕ) (s : List ℕ) → 1 ≤ n → Onward at (b ∷ s) (record { kind = k; start = at; text = take n (b ∷ s) }) (wordsFrom (n - 1) (suc at) s)
+word-on at b zero k s h = absurd (omega arith)
+word-on at b (suc n) k s h = rw (suc-less n) (step-on (record { bytes-on = length (take n s); place = omega arith; words-are = skip-all n (suc at) s }))
+  where
+    suc-less : (n : ℕ) → suc n - 1 ≡ n
+    suc-less n = omega arith
+
+onward : (skip at : ℕ) (s : List ℕ) (w : Word) (ws : List Word) → (w .kind ≡ last → ⊥) → (w .kind ≡ bad → ⊥) → wordsFrom skip at s ≡ w ∷ ws → Onward at s w ws
+unfolding wordsFrom
+onward skip at [] w ws f g e = let x : record { kind = last; start = at; text = [] } ≡ w = cc in absurd (f (ap (λ (u : Word). u .kind) (sym x)))
+onward (suc n) at (b ∷ s) w ws f g e = step-on (onward n (suc at) s w ws f g e)
+onward zero at (b ∷ s) w ws f g e =
+    from-cases (λ l. l ≡ w ∷ ws → Onward at (b ∷ s) w ws) at b s (λ _ d. step-on (onward 0 (suc at) s w ws f g d)) (λ _ _ d. step-on (onward (run inLine s) (suc at) s w ws f g d))
+    (λ h d. let x : word at b s ≡ w = cc in absurd (g (ap (λ (u : Word). u .kind) (sym x) ∙ eqb-true (wordHere b s .kind) bad h)))
+    (λ _ _ _ d. let x : word at b s ≡ w = cc in let y : wordsFrom (wordHere b s .size - 1) (suc at) s ≡ ws = cc in rw (← x, ← y) (word-on at b (wordHere b s .size) (wordHere b s .kind) s (some-size b s))) e
+
+-- the words behind the first word of a text
+pub behind-first : (text : List ℕ) (w : Word) (ws : List Word) → (w .kind ≡ last → ⊥) → (w .kind ≡ bad → ⊥) → words text ≡ w ∷ ws
+    → ws ≡ wordsFrom 0 (w .start + length (w .text)) (drop (w .start + length (w .text)) text)
+unfolding words
+behind-first text w ws f g e =
+    let o = onward 0 0 text w ws f g e in
+    let k : o .bytes-on ≡ w .start + length (w .text) = let p = o .place in omega arith in
+    rw (← k) (o .words-are ∙ ap (λ (n : ℕ). wordsFrom 0 n (drop (o .bytes-on) text)) (omega arith))

@@ -19,3 +19,4 @@ pub mod MovedActions
 pub mod MovedSections
 pub mod JoinedFacts
 pub mod JoinedWords
+pub mod JoinedRules
