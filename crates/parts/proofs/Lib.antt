@@ -20,3 +20,4 @@ pub mod MovedSections
 pub mod JoinedFacts
 pub mod JoinedWords
 pub mod JoinedRules
+pub mod JoinedText

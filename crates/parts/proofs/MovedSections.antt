@@ -299,7 +299,7 @@ after-blank s (values w es) = rw (entries-length es)
 after-blank s (operations os) = rw (operations-length os, instructions-blank os)
 after-blank s (operators w os) = refl
 
-pub blankAll : Sections → Sections
+unfoldable pub blankAll : Sections → Sections
 blankAll x = record { sections = blankSections (x .sections); left = x .left }
 
 sections-step : (k j : ℕ) (s : Sofar) → ((u : Sofar) (ws : List Word) → Carries j may blankAll ws (someSections k u) (someSections j u)) → (ws : List Word) → Carries (suc j) may blankAll ws (someSections (suc k) s) (someSections (suc j) s)

@@ -40,7 +40,7 @@ rulesText (t ∷ ts) = between t ++ 10 ∷ rulesText ts
 
 -- "Sections go in one common part, then `rules` ..": its list of choice rules is left out, since each is told by its rule
 unfoldable pub joinedText : List ℕ → List (List ℕ) → List ℕ
-joinedText common parts = before rules common ++ 10 ∷ bytes "rules" ++ 10 ∷ rulesText parts
+joinedText common parts = before rules common ++ 10 ∷ (bytes "rules" ++ 10 ∷ rulesText parts)
 
 -- What is promised of it
 
