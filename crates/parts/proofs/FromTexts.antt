@@ -15,6 +15,7 @@ use Rattle.parts.proofs.Accepted.{linked-works}
 use Rattle.parts.proofs.Linking.{past-test, very-words}
 use Rattle.parts.proofs.Written.{translated-sound}
 use Rattle.parts.specs.Form.{objectWords, made, unmade, listedIn, ifFits, asMade, makeObject, allWords, makes-none, makes-more, MadeAreObjects}
+use Rattle.parts.specs.Joined.{ReadsEach, reads-nil, reads-cons}
 use Rattle.parts.specs.Link.{Linked, linked, refused, atPart, collect, lastOf, withNames, withCommon, link, linkTexts}
 use Rattle.parts.specs.Objects.{Object, Translated, object, inCommon, inPart, commonMeans, meaning, readOn, readBoth, translate}
 use Rattle.parts.specs.Promise.{Parts, parts-nil, parts-cons, ReadFrom, read-nil, read-cons, TextsLinked}
@@ -93,18 +94,21 @@ record Parted (c : Common) (ts : List (List ℕ)) (os : List Object) : Type 0 wh
   rules : List (List Rule)
   parts : Parts c rules os
   read : ReadFrom (c .left) rules
+  each : ReadsEach (c .left) ts rules
   as-many : length rules ≡ length ts
 
 parted : (common : List ℕ) (c : Common) (rest : List Word) → readCommon common ≡ got c rest → {ts : List (List ℕ)} {os : List Object} → All common ts os → Parted c ts os
-parted common c rest e all-nil = record { rules = []; parts = parts-nil; read = read-nil; as-many = refl }
+parted common c rest e all-nil = record { rules = []; parts = parts-nil; read = read-nil; each = reads-nil; as-many = refl }
 parted common c rest e (all-cons {t = t} {o = o} d h) =
     let x = part-of common t o d in
     let y : x .c ≡ c = got-inj (sym (x .reads) ∙ e) in
     let r = parted common c rest e h in
+    let reads : readPart (c .left) t ≡ got (x .rs) (x .rest₁) = ap (λ (z : Common). readPart (z .left) t) (sym y) ∙ x .reads-part in
     record {
       rules = x .rs ∷ r .rules;
       parts = parts-cons (ap (λ (z : Common). meaning z (x .rs)) (sym y) ∙ x .means) (r .parts);
-      read = read-cons t (x .rest₁) (ap (λ (z : Common). readPart (z .left) t) (sym y) ∙ x .reads-part) (r .read);
+      read = read-cons t (x .rest₁) reads (r .read);
+      each = reads-cons (x .rest₁) reads (r .each);
       as-many = ap suc (r .as-many);
     }
 
@@ -129,24 +133,59 @@ common-of common f {ws} {v} {told} e = one (readCommon common) refl e
     one (got c vs) d g = two c vs d (commonMeans c []) refl g
     one (fault i w) d g = no-link g
 
-pub texts-linked : TextsLinked
+-- what was read and translated of texts that are linked
+pub record OfTexts (common : List ℕ) (parts : List (List ℕ)) (room : ℕ) (answer : Linked) : Type 0 where
+  pub c : Common
+  pub rest : List Word
+  pub reads : readCommon common ≡ got c rest
+  pub n : Names
+  pub means : commonMeans c [] ≡ good n
+  pub objects : List Object
+  pub answers : link common c n (lastOf parts) objects room ≡ answer
+  pub rules : List (List Rule)
+  pub translated : Parts c rules objects
+  pub read : ReadFrom (c .left) rules
+  pub each : ReadsEach (c .left) parts rules
+  pub as-many : length rules ≡ length parts
+  pub some : 1 ≤ length rules
+
+pub of-texts : (common : List ℕ) (parts : List (List ℕ)) (room : ℕ) (words : List ℕ) (verdict : Bool) (told : Told) → linkTexts common parts room ≡ linked words verdict told → OfTexts common parts room (linked words verdict told)
 unfolding linkTexts
-texts-linked common parts room words verdict told e =
+of-texts common parts room words verdict told e =
     let t = past-test (eqb (length parts) 0 || ltb 16 (length parts)) 9 0 (partOf (endOf common)) _ e in
     let a = collected common 1 parts _ (t .1) in
     let b = common-of common (λ c n. link common c n (lastOf parts) (a .objects) room) (a .answers) in
     let p = parted common (b .c) (b .rest) (b .reads) (a .all) in
-    let w = very-words common (b .c) (b .n) (lastOf parts) (p .rules) (a .objects) room words verdict told (b .means) (p .parts) (b .answers) in
-    let many : 1 ≤ length (p .rules) = let x = above-zero (length parts) (eqb-false (length parts) 0 (neither (eqb (length parts) 0) (ltb 16 (length parts)) (t .0) .0)) in let y = p .as-many in omega (arith, x, y) in
+    let x = above-zero (length parts) (eqb-false (length parts) 0 (neither (eqb (length parts) 0) (ltb 16 (length parts)) (t .0) .0)) in
     record {
-      common-is = b .c;
+      c = b .c;
       rest = b .rest;
       reads = b .reads;
+      n = b .n;
+      means = b .means;
+      objects = a .objects;
+      answers = b .answers;
       rules = p .rules;
-      as-many = p .as-many;
+      translated = p .parts;
       read = p .read;
+      each = p .each;
+      as-many = p .as-many;
+      some = let y = p .as-many in omega (arith, x, y);
+    }
+
+pub texts-linked : TextsLinked
+texts-linked common parts room words verdict told e =
+    let o = of-texts common parts room words verdict told e in
+    let w = very-words common (o .c) (o .n) (lastOf parts) (o .rules) (o .objects) room words verdict told (o .means) (o .translated) (o .answers) in
+    record {
+      common-is = o .c;
+      rest = o .rest;
+      reads = o .reads;
+      rules = o .rules;
+      as-many = o .as-many;
+      read = o .read;
       whole = w;
-      works = linked-works common (b .c) (b .rest) (b .reads) (p .rules) (p .read) many room words verdict told w;
+      works = linked-works common (o .c) (o .rest) (o .reads) (o .rules) (o .read) (o .some) room words verdict told w;
     }
 
 -- What was made of parts are objects

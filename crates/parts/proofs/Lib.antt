@@ -21,3 +21,4 @@ pub mod JoinedFacts
 pub mod JoinedWords
 pub mod JoinedRules
 pub mod JoinedText
+pub mod JoinedLinks

@@ -19,7 +19,7 @@ use Rattle.names.specs.Known.{Checked, good, wrong, _>>=_, Names, KnownRule}
 use Rattle.names.specs.Understand.{nobody, taken, rulesMean, understand}
 use Rattle.names.specs.Uses.{pairsOf, madeFor}
 use Rattle.parts.proofs.Alike.{Like, both-good, like-on, like-next, like-if, id, type-alike}
-use Rattle.parts.proofs.Checks.{typed-first, first-typed, all-alright, all-unlike-off, agree-listed, as-listed, calls-found, listed-agree, opened-calls, apart, not-twice, limits-off, made-on, made-off}
+use Rattle.parts.proofs.Checks.{typed-first, first-typed, all-alright, all-unlike-off, agree-listed, as-listed, calls-found, listed-agree, opened-calls, apart, not-twice, limits-off, limits-on, made-on, made-off}
 use Rattle.parts.proofs.Numbers.{Finds}
 use Rattle.parts.proofs.Rules.{Unseen, rules-clear, seenAfter, rules-append}
 use Rattle.parts.proofs.Sections.{sections-alike}
@@ -220,6 +220,20 @@ very-words commonText c n lastText rss os room words verdict told e h l =
       fits = w .fits;
       within-4096 = w .within-4096;
     }
+
+-- "then 9 .. for the whole": what is linked keeps to the limits of one text
+pub few-linked : (commonText : List ℕ) (c : Common) (n : Names) (lastText : List ℕ) (rss : List (List written.Rule)) (os : List Object) (room : ℕ) (words : List ℕ) (verdict : Bool) (told : Told)
+    → commonMeans c [] ≡ good n → Parts c rss os → link commonText c n lastText os room ≡ linked words verdict told → length (joined rss) ≤ min 128 (c .left)
+unfolding link
+few-linked commonText c n lastText rss os room words verdict told e h l =
+    let a = past-test (eqb (length os) 0 || ltb 16 (length os)) 9 0 (partOf (endOf commonText)) _ l in
+    let b = past-check 5 (firstTyped (rulesOf os)) _ (a .1) in
+    let d = past-check 49 (unlikeIn (c .listed) (rulesOf os) 1 os) _ (b .1) in
+    let f = past-check 50 (twiceIn [] 1 os) _ (d .1) in
+    let g = past-check 9 (pastLimitIn (min 128 (c .left)) 1 os) _ (f .1) in
+    let few = limits-on (min 128 (c .left)) 1 os (g .0) in
+    let long = length-is (opened-whole (translated c n e h)) in
+    omega arith
 
 -- The other way
 

@@ -1,0 +1,56 @@
+-- Linking is translating the one text of a common part and its parts: for any bytes, and the other way round.
+use mathlib.Core.Bool.{Bool, true, false, _||_}
+use mathlib.Core.List.{List, [], _∷_}
+use mathlib.Core.Path.{_≡_, refl, sym, ap, _∙_}
+use Prim.Native.Nat.{ℕ, suc, _≤_}
+use lib.Dec.{eqb, ltb}
+use lib.ListN.{length}
+use borrow.Author.Tests.{le-ltb, ne-eqb}
+use native.Mathlib.Omega.{arith}
+use Rattle.acceptance.proofs.Shape.{Each}
+use Rattle.figure.specs.Told.{Told}
+use Rattle.names.specs.Known.{Names, good}
+use Rattle.parts.proofs.AsText.{very-text, text-links}
+use Rattle.parts.proofs.FromTexts.{of-texts}
+use Rattle.parts.proofs.JoinedText.{joined-reads}
+use Rattle.parts.proofs.Linking.{few-linked}
+use Rattle.parts.specs.Joined.{joinedText, ReadsEach, reads-nil, reads-cons, VeryJoined, JoinedLinks}
+use Rattle.parts.specs.Link.{Linked, atPart, collect, lastOf, withNames, withCommon, link, linkTexts}
+use Rattle.parts.specs.Objects.{Object, object, commonMeans, meaning, readOn, readBoth, translate}
+use Rattle.parts.specs.Promise.{Parts, parts-nil, parts-cons}
+use Rattle.parts.specs.Texts.{Common, tooLong, readCommon, readPart}
+use Rattle.syntax.specs.Reading.{got}
+use Rattle.syntax.specs.Written.{Rule}
+use Rattle.words.specs.Words.{Word}
+
+pub very-joined : VeryJoined
+very-joined common parts room words verdict told e short =
+    let o = of-texts common parts room words verdict told e in
+    let few = few-linked common (o .c) (o .n) (lastOf parts) (o .rules) (o .objects) room words verdict told (o .means) (o .translated) (o .answers) in
+    very-text common (o .c) (o .n) (lastOf parts) (o .rules) (o .objects) room words verdict told (o .means) (o .translated) (o .answers) (joinedText common parts)
+    (joined-reads common parts (o .c) (o .rest) (o .rules) (o .reads) (o .each) (o .some) short few)
+
+-- The other way
+
+each-many : {left : ℕ} {ts : List (List ℕ)} {rss : List (List Rule)} → ReadsEach left ts rss → length ts ≡ length rss
+each-many reads-nil = refl
+each-many (reads-cons rest e r) = ap suc (each-many r)
+
+module _ (common : List ℕ) (c : Common) (rest : List Word) (e : readCommon common ≡ got c rest) (short : length common ≤ 32768) where
+  translates : (t : List ℕ) (rs : List Rule) (vs : List Word) (o : Object) → readPart (c .left) t ≡ got rs vs → length t ≤ 32768 → meaning c rs ≡ object o → translate common t ≡ object o
+  unfolding translate tooLong readBoth readOn
+  translates t rs vs o d h m = rw (le-ltb 32768 (length common) short, le-ltb 32768 (length t) h, e, d) m
+
+  collects : {ts : List (List ℕ)} {rss : List (List Rule)} {os : List Object} → ReadsEach (c .left) ts rss → Each (λ t. length t ≤ 32768) ts → Parts c rss os → (i : ℕ) (k : List Object → Linked) → collect common i ts k ≡ k os
+  unfolding collect atPart Each
+  collects reads-nil h parts-nil i k = refl
+  collects (reads-cons {t = t} {rs = rs} vs d r) h (parts-cons {o = o} m q) i k = rw (translates t rs vs o d (h .0) m) (collects r (h .1) q (suc i) (λ os. k (o ∷ os)))
+
+pub joined-links : JoinedLinks
+unfolding linkTexts withCommon withNames
+joined-links common parts c rest n rss e r h short each whole room words verdict p =
+    let l = text-links c n rss h (joinedText common parts) (joined-reads common parts c rest rss e r (h .some-part) whole (h .few-rules)) room words verdict p in
+    let many = each-many r in
+    let some-part : eqb (length parts) 0 ≡ false = ne-eqb (length parts) 0 (λ z. omega (arith, h .some-part, z, many)) in
+    let few-parts : ltb 16 (length parts) ≡ false = le-ltb 16 (length parts) (omega (arith, h .few-parts, many)) in
+    rw (some-part, few-parts) (collects common c rest e short r each (l .parts) 1 _ ∙ rw (e, h .common) (l .links common (lastOf parts)))
