@@ -14,6 +14,8 @@ use Rattle.names.specs.Known
 use Rattle.names.specs.Resolve
 use Rattle.names.specs.Understand
 use Rattle.names.specs.Uses
+use Rattle.parts.specs.Joined
+use Rattle.parts.specs.Joined.{joinedText}
 use Rattle.parts.specs.Link
 use Rattle.parts.specs.Link.{Linked, linked, refused, linkTexts}
 use Rattle.parts.specs.Objects
@@ -31,7 +33,7 @@ use Rattle.syntax.specs.Texts
 use Rattle.words.specs.Words
 
 linking : Unit {0}
-unfolding Words.opened Reading.opened Actions.opened Sections.opened Parse.opened Known.opened Declare.opened Resolve.opened Understand.opened Uses.opened Made.opened Program.opened Past.opened Table.opened Test.opened Bytes.opened Process.opened Renumber.opened Texts.opened Objects.opened Link.opened
+unfolding Words.opened Reading.opened Actions.opened Sections.opened Parse.opened Known.opened Declare.opened Resolve.opened Understand.opened Uses.opened Made.opened Program.opened Past.opened Table.opened Test.opened Bytes.opened Process.opened Renumber.opened Texts.opened Objects.opened Link.opened Joined.opened
 linking = tt
 
 pub sameBool : Bool → Bool → Bool
@@ -47,6 +49,7 @@ alike (refused n i p) a = false
 
 pub data Fact : Type 0 where
   makes : String → List String → String → Fact  -- the parts linked give what the one text gives
+  joins : String → List String → Fact  -- and what the text gives that is made of their bytes
   stops : String → List String → ℕ → ℕ → ℕ → ℕ → Fact  -- number, text, start and size of the word
 
 pub texts : List String → List (List ℕ)
@@ -60,6 +63,7 @@ isRefused (refused m j p) n i s z = eqb m n && eqb j i && eqb (p .start) s && eq
 unfoldable pub holds : Fact → Bool
 unfolding linking texts isRefused alike sameBool
 holds (makes c ps one) = alike (linkTexts (bytes c) (texts ps) 4096) (process (bytes one) 4096)
+holds (joins c ps) = alike (linkTexts (bytes c) (texts ps) 4096) (process (joinedText (bytes c) (texts ps)) 4096)
 holds (stops c ps n i s z) = isRefused (linkTexts (bytes c) (texts ps) 4096) n i s z
 
 unfoldable pub all : List Fact → Bool
@@ -84,6 +88,8 @@ facts =
     -- operators: the made rules stand behind the last rule of the last part, a pair of two parts once
     ∷ makes sums ("rules M: ^E @X; N: ^E @X ^F @M; end" ∷ "rules X: a; K: ^F @M ^E @X ^F @X; end" ∷ [])
     "input: a p q; output: o; operators E: p 1 left o q 2 right o; operators F: q 3 left o; rules M: ^E @X; N: ^E @X ^F @M; X: a; K: ^F @M ^E @X ^F @X; end"
+    ∷ joins common ("rules M: [@R | y: a | n: @N ]; end" ∷ "rules R >> t: [ | b: >> y | *: >> n ]; N: { @M };end" ∷ [])
+    ∷ joins sums ("rules M: ^E @X; N: ^E @X ^F @M; end" ∷ "rules X: a; K: ^F @M ^E @X ^F @X; end % M" ∷ [])
     -- an operand rule in no part; one that is a choice rule; a section that is none
     ∷ stops sums ("rules M: ^E @X; end" ∷ []) 49 1 13 1
     ∷ stops common ("rules M: ^E @X; end" ∷ []) 3 1 10 1

@@ -1,5 +1,4 @@
 -- Parts joined to one text, worked out by hand.
-use mathlib.Core.Bool.{true, _&&_}
 use mathlib.Core.List.{List, [], _∷_, _++_}
 use Prim.Native.Nat.{ℕ}
 use lib.Dec.{T}
@@ -12,7 +11,7 @@ use Rattle.words.specs.Words
 abbrev line : List ℕ → List ℕ → List ℕ
 line s more = s ++ 10 ∷ more
 
--- a comment behind `rules`, one before `end` that its line feed closes, a word that touches `end`, and bytes behind `end`
+-- a comment behind `rules`, one before `end`, an `end` that touches the rule, and bytes behind `end`
 pub two-parts : T (same
     (joinedText (bytes "input: a;rules% the list" ++ 10 ∷ bytes "R >> t; end") ((bytes "rules M:a;" ++ 10 ∷ bytes "% end" ++ 10 ∷ bytes "end % M") ∷ bytes "rules N: { @M };end" ∷ []))
     (line (bytes "input: a;") (line (bytes "rules") (line (bytes " M:a;") (line (bytes "% end") (line [] (line (bytes " N: { @M };") (line (bytes "end") []))))))))

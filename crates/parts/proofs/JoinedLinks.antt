@@ -1,22 +1,20 @@
 -- Linking is translating the one text of a common part and its parts: for any bytes, and the other way round.
-use mathlib.Core.Bool.{Bool, true, false, _||_}
-use mathlib.Core.List.{List, [], _∷_}
-use mathlib.Core.Path.{_≡_, refl, sym, ap, _∙_}
+use mathlib.Core.Bool.{false}
+use mathlib.Core.List.{List, _∷_}
+use mathlib.Core.Path.{_≡_, refl, ap, _∙_}
 use Prim.Native.Nat.{ℕ, suc, _≤_}
 use lib.Dec.{eqb, ltb}
 use lib.ListN.{length}
 use borrow.Author.Tests.{le-ltb, ne-eqb}
 use native.Mathlib.Omega.{arith}
 use Rattle.acceptance.proofs.Shape.{Each}
-use Rattle.figure.specs.Told.{Told}
-use Rattle.names.specs.Known.{Names, good}
 use Rattle.parts.proofs.AsText.{very-text, text-links}
 use Rattle.parts.proofs.FromTexts.{of-texts}
 use Rattle.parts.proofs.JoinedText.{joined-reads}
 use Rattle.parts.proofs.Linking.{few-linked}
 use Rattle.parts.specs.Joined.{joinedText, ReadsEach, reads-nil, reads-cons, VeryJoined, JoinedLinks}
-use Rattle.parts.specs.Link.{Linked, atPart, collect, lastOf, withNames, withCommon, link, linkTexts}
-use Rattle.parts.specs.Objects.{Object, object, commonMeans, meaning, readOn, readBoth, translate}
+use Rattle.parts.specs.Link.{Linked, atPart, collect, lastOf, withNames, withCommon, linkTexts}
+use Rattle.parts.specs.Objects.{Object, object, meaning, readOn, readBoth, translate}
 use Rattle.parts.specs.Promise.{Parts, parts-nil, parts-cons}
 use Rattle.parts.specs.Texts.{Common, tooLong, readCommon, readPart}
 use Rattle.syntax.specs.Reading.{got}

@@ -2,16 +2,16 @@
 use mathlib.Core.Bool.{Bool, true, false, false≢true}
 use mathlib.Core.List.{List, [], _∷_, _++_}
 use mathlib.Core.Path.{_≡_, refl, sym, ap, _∙_}
-use Prim.Native.Nat.{ℕ, zero, suc, _+_, _-_, _≤_, _<_, min}
+use Prim.Native.Nat.{ℕ, zero, suc, _+_, _-_, _≤_, _<_}
 use lib.Dec.{eqb}
 use lib.ListN.{length}
-use borrow.Author.Tests.{eqb-true, eqb-false, eq-eqb, ne-eqb}
+use borrow.Author.Tests.{eqb-true, eq-eqb, ne-eqb}
 use native.Mathlib.Omega.{arith}
 use Rattle.acceptance.proofs.ReadLaws.{no-got}
 use Rattle.base.specs.Common.{if_then_else_}
-use Rattle.parts.proofs.Moved.{Ahead, ahead-length, ahead-on, Upto, Alike, kind-same, next-same, split, alone, Again, Carried, at-rest}
+use Rattle.parts.proofs.Moved.{Ahead, ahead-on, Upto, kind-same, next-same, split, Again}
 use Rattle.parts.proofs.MovedActions.{rule-moved}
-use Rattle.parts.specs.Blank.{blank, blankRule, blankRules}
+use Rattle.parts.specs.Blank.{blankRule, blankRules}
 use Rattle.syntax.specs.Parse.{aRule, someRules}
 use Rattle.syntax.specs.Reading.{Read, got, fault, Reader, onward, _>>=_, pure, peek, refuse, on_then_else_}
 use Rattle.syntax.specs.Written.{Rule}

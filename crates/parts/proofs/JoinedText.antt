@@ -1,34 +1,32 @@
 -- The one text of a common part and its parts is read as the common part's sections and the parts' rules, so that linking is translating it.
-use mathlib.Core.Bool.{Bool, true, false, not, false≢true}
-use mathlib.Core.List.{List, [], _∷_, _++_, append-assoc}
+use mathlib.Core.Bool.{false, false≢true}
+use mathlib.Core.List.{List, [], _∷_, _++_}
 use mathlib.Core.Path.{_≡_, refl, sym, ap, _∙_}
-use Prim.Native.Nat.{ℕ, zero, suc, _+_, _-_, _≤_, _<_, min}
-use lib.Dec.{eqb, ltb}
+use Prim.Native.Nat.{ℕ, suc, _+_, _-_, _≤_, _<_, min}
+use lib.Dec.{eqb}
 use lib.ListN.{length, take, drop, length-append, length-take, length-drop, take-append-drop}
 use borrow.Author.Tests.{eqb-false, eq-eqb, ne-eqb, le-ltb}
 use lib.Seq.{drop-append-le}
 use native.Mathlib.Omega.{arith}
-use Rattle.acceptance.proofs.ReadLaws.{no-got}
-use Rattle.base.specs.Common.{if_then_else_, bytes}
+use Rattle.base.specs.Common.{bytes}
 use Rattle.grammar.proofs.Laws.{From, bind, next, gives, expects, expects-kind}
 use Rattle.grammar.proofs.ProgramIn.{rules-from}
 use Rattle.grammar.proofs.SectionsIn.{peek-took}
-use Rattle.grammar.specs.Derived.{Took, RuleIn, a-rule, RulesIn, last-rule, more-rules}
-use Rattle.parts.proofs.JoinedRules.{further, Chained, chained}
-use Rattle.parts.proofs.JoinedWords.{Scanned, scan, late, behind-first}
-use Rattle.parts.proofs.Moved.{inner, Ahead, at-rest, Again}
-use Rattle.parts.proofs.Moved as moved
+use Rattle.grammar.specs.Derived.{Took, a-rule, RulesIn, last-rule, more-rules}
+use Rattle.parts.proofs.JoinedRules.{further, chained}
+use Rattle.parts.proofs.JoinedWords.{scan, late, behind-first}
+use Rattle.parts.proofs.Moved.{inner, Ahead, at-rest, a-word, Again}
 use Rattle.parts.proofs.MovedSections.{blankAll, some-sections}
 use Rattle.parts.specs.Blank.{blankSections, blankRules, blankProgram}
 use Rattle.parts.specs.Joined.{firstWord, behind, before, between, rulesText, joinedText, ReadsEach, reads-nil, reads-cons, JoinedReads}
-use Rattle.parts.specs.Promise.{joined, oneText, ReadsAs}
-use Rattle.parts.specs.Texts.{Head, Common, someHeads, aCommon, aPart, readCommon, readPart}
-use Rattle.syntax.specs.Parse.{someRules, program, parse, endOf}
-use Rattle.syntax.specs.Reading.{got, fault, onward, _>>_, pure, peek, pass, on_then_else_, expect}
+use Rattle.parts.specs.Promise.{joined, ReadsAs}
+use Rattle.parts.specs.Texts.{Common, someHeads, aCommon, aPart, readCommon, readPart}
+use Rattle.syntax.specs.Parse.{someRules, program, parse}
+use Rattle.syntax.specs.Reading.{got, onward, peek, pass, on_then_else_, expect}
 use Rattle.syntax.specs.Sections.{nothing, Sections, someSections}
 use Rattle.syntax.specs.Written.{Rule, Program}
 use Rattle.words.specs.Words
-use Rattle.words.specs.Words.{Word, words, wordsFrom, last, bad, name, rules, end}
+use Rattle.words.specs.Words.{Word, words, wordsFrom, last, bad, rules, end}
 
 -- What was read of each text
 
@@ -77,7 +75,7 @@ common-read {ws} k =
 first-found : {w : Word} {rest ws : List Word} (k : ℕ) → inner k ≡ false → w .kind ≡ k → Ahead (w ∷ rest) ws → firstWord k ws ≡ w
 unfolding firstWord
 first-found {w} k i e (at-rest d) = rw (d, eq-eqb (w .kind) k e)
-first-found k i e (moved.behind {w = v} j h) = rw (ne-eqb (v .kind) k (λ d. false≢true (sym (ap inner d ∙ i) ∙ j))) (first-found k i e h)
+first-found k i e (a-word {w = v} j h) = rw (ne-eqb (v .kind) k (λ d. false≢true (sym (ap inner d ∙ i) ∙ j))) (first-found k i e h)
 
 -- Parts
 

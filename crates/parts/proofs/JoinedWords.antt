@@ -1,16 +1,15 @@
 -- The words of a piece of a text with a line feed behind it: those of the text up to the piece's end, but for places.
-use mathlib.Core.Bool.{Bool, true, false, _&&_, _||_, not, false≢true}
+use mathlib.Core.Bool.{Bool, true, false, _&&_, not}
 use mathlib.Core.List.{List, [], _∷_, _++_}
 use mathlib.Core.Path.{_≡_, refl, sym, ap, _∙_}
 use Prim.Native.Nat.{ℕ, zero, suc, _+_, _-_, _≤_, _<_}
 use lib.Dec.{eqb, leb}
-use lib.ListN.{length, take, drop, getD, length-take}
-use borrow.Author.Tests.{eqb-true, eqb-false, eq-eqb, ne-eqb, leb-true}
+use lib.ListN.{length, take, drop, getD}
+use borrow.Author.Tests.{eqb-true, eqb-false}
 use native.Mathlib.Nat.{add-zero}
 use native.Mathlib.Omega.{arith}
-use Rattle.base.specs.Bools.{and}
-use Rattle.base.specs.Common.{if_then_else_, bytes}
-use Rattle.parts.proofs.Moved.{inner, Ahead, at-rest, behind, Upto, here, more}
+use Rattle.base.specs.Common.{if_then_else_}
+use Rattle.parts.proofs.Moved.{Ahead, at-rest, a-word, Upto, here, more}
 use Rattle.parts.specs.Blank as but
 use Rattle.words.specs.Words.{Word, Found, bad, last, kindOf, reserved, letter, digit, nameByte, stringByte, blank, symbol, run, stringHere, wordHere, wordsFrom, words}
 
@@ -136,7 +135,7 @@ not-behind (at-rest e) = let z : _≡_ {A = ℕ} 0 1 = cc in absurd (omega arith
 
 alone-is : {v w : Word} {rest : List Word} → Ahead (w ∷ rest) (v ∷ []) → v ≡ w
 alone-is (at-rest e) = cc
-alone-is (behind i h) = not-behind h
+alone-is (a-word i h) = not-behind h
 
 -- a word that is reached from here starts at this place or later, and inside the bytes
 module _ (w : Word) (rest : List Word) (there : w .kind ≡ last → ⊥) where
@@ -149,7 +148,7 @@ module _ (w : Word) (rest : List Word) (there : w .kind ≡ last → ⊥) where
 
   late-word : (at b : ℕ) (s : List ℕ) (v : Word) → v .start ≡ at → {ws : List Word} → (Ahead (w ∷ rest) ws → Late 0 at (b ∷ s)) → Comes at (b ∷ s) (v ∷ ws)
   late-word at b s v e f (at-rest d) = let x : v ≡ w = cc in let y : w .start ≡ at = ap (λ (u : Word). u .start) (sym x) ∙ e in record { low = omega arith; high = omega arith }
-  late-word at b s v e f (behind i h) = f h
+  late-word at b s v e f (a-word i h) = f h
 
   pub late : (skip at : ℕ) (s : List ℕ) → Ahead (w ∷ rest) (wordsFrom skip at s) → Late skip at s
   unfolding wordsFrom
@@ -161,7 +160,7 @@ module _ (w : Word) (rest : List Word) (there : w .kind ≡ last → ⊥) where
 
   first-or : {v : Word} {ws : List Word} → (Ahead (w ∷ rest) ws → ⊥) → Ahead (w ∷ rest) (v ∷ ws) → v ∷ ws ≡ w ∷ rest
   first-or f (at-rest e) = e
-  first-or f (behind i h) = absurd (f h)
+  first-or f (a-word i h) = absurd (f h)
 
   -- a word that starts here is the first
   start-here : (at : ℕ) (v : List ℕ) → w .start ≡ at → Ahead (w ∷ rest) (wordsFrom 0 at v) → wordsFrom 0 at v ≡ w ∷ rest
@@ -181,7 +180,7 @@ module _ (w : Word) (rest : List Word) (there : w .kind ≡ last → ⊥) where
       → Ahead (w ∷ rest) (word at b (u ++ v) ∷ wordsFrom (wordHere b (u ++ v) .size - 1) (suc at) (u ++ v))
       → Scanned (b ∷ u) rest′ (word at b (u ++ v) ∷ wordsFrom (wordHere b (u ++ v) .size - 1) (suc at) (u ++ v)) (wordsFrom 0 at′ (b ∷ u ++ 10 ∷ z))
   scan-word at at′ b u v z rest′ e d₁ d₂ d₃ f (at-rest g) = let x : word at b (u ++ v) ≡ w = cc in let y : at ≡ w .start = ap (λ (k : Word). k .start) x in absurd (omega arith)
-  scan-word at at′ b u v z rest′ e d₁ d₂ d₃ f (behind i h) =
+  scan-word at at′ b u v z rest′ e d₁ d₂ d₃ f (a-word i h) =
       let l = late (wordHere b (u ++ v) .size - 1) (suc at) (u ++ v) h .low in
       let small : wordHere b (u ++ v) .size ≤ suc (length u) = omega arith in
       let same-word = word-before u v z b .same small (eqb-false (wordHere b (u ++ v) .kind) bad d₃) in

@@ -3,10 +3,10 @@
 use mathlib.Core.Bool.{Bool, true, false, _||_, not, false≢true}
 use mathlib.Core.List.{List, [], _∷_}
 use mathlib.Core.Path.{_≡_, refl, sym, ap, _∙_}
-use Prim.Native.Nat.{ℕ, zero, suc, _+_, _≤_, _<_}
+use Prim.Native.Nat.{ℕ, suc, _+_, _≤_, _<_}
 use lib.Dec.{eqb, ltb}
 use lib.ListN.{length}
-use borrow.Author.Tests.{eqb-true, eqb-false, eq-eqb, ne-eqb}
+use borrow.Author.Tests.{eqb-true}
 use native.Mathlib.Omega.{arith}
 use Rattle.acceptance.proofs.ReadLaws.{no-got}
 use Rattle.base.specs.Common.{if_then_else_}
@@ -23,15 +23,15 @@ inner k = not (eqb k bad || eqb k last || eqb k rules || eqb k end)
 -- the words ws end in rest, and what stands before it may be read inside
 pub data Ahead (rest : List Word) : List Word → Type 0 where
   at-rest : {ws : List Word} → ws ≡ rest → Ahead rest ws
-  behind : {w : Word} {ws : List Word} → inner (w .kind) ≡ true → Ahead rest ws → Ahead rest (w ∷ ws)
+  a-word : {w : Word} {ws : List Word} → inner (w .kind) ≡ true → Ahead rest ws → Ahead rest (w ∷ ws)
 
 pub ahead-length : {rest ws : List Word} → Ahead rest ws → length rest ≤ length ws
 ahead-length (at-rest e) = let h = ap (λ (l : List Word). length l) e in omega arith
-ahead-length (behind i h) = let g = ahead-length h in omega arith
+ahead-length (a-word i h) = let g = ahead-length h in omega arith
 
 pub ahead-on : {rest mid ws : List Word} → Ahead mid ws → Ahead rest mid → Ahead rest ws
 ahead-on {rest} (at-rest e) g = rw e g
-ahead-on (behind i h) g = behind i (ahead-on h g)
+ahead-on (a-word i h) g = a-word i (ahead-on h g)
 
 -- ws before rest is ws′ before rest′, but for places
 pub data Upto (rest rest′ : List Word) : List Word → List Word → Type 0 where
@@ -77,8 +77,8 @@ pub record Split (rest rest′ mid ws ws′ : List Word) : Type 0 where
 
 pub split : {rest rest′ mid ws ws′ : List Word} → Ahead mid ws → length rest ≤ length mid → Upto rest rest′ ws ws′ → Split rest rest′ mid ws ws′
 split {ws′ = ws′} (at-rest e) l u = record { mid′ = ws′; first = here e refl; second = rw e at u }
-split (behind i h) l (here e f) = let g = ap (λ (x : List Word). length x) e in let k = ahead-length h in absurd (omega arith)
-split (behind i h) l (more p u) = let r = split h l u in record { mid′ = r .mid′; first = more p (r .first); second = r .second }
+split (a-word i h) l (here e f) = let g = ap (λ (x : List Word). length x) e in let k = ahead-length h in absurd (omega arith)
+split (a-word i h) l (more p u) = let r = split h l u in record { mid′ = r .mid′; first = more p (r .first); second = r .second }
 
 -- Readers
 
@@ -227,10 +227,7 @@ pub refuses : {b : ℕ} {x : Sort} {A : Type 0} {bl : A → A} {ws : List Word} 
 unfolding refuse
 refuses = record { carries = λ a rest e. no-got e }
 
--- the same for what is seen more, and fuel is not asked for where there is none
-pub only-does : {b : ℕ} {A : Type 0} {bl : A → A} {ws : List Word} {m m′ : Reader A} → Carries b alone bl ws m m′ → Carries b does bl ws m m′
-only-does h = record { carries = λ a rest e. let p = h .carries a rest e in record { ahead = p .ahead; some = p .some; again = λ ws′ rest′ u fuel see. p .again ws′ rest′ u fuel (λ t. absurd (false≢true t)) } }
-
+-- less is told of it, and without fuel nothing is
 pub only-may : {b : ℕ} {x : Sort} {A : Type 0} {bl : A → A} {ws : List Word} {m m′ : Reader A} → Carries b x bl ws m m′ → Carries b may bl ws m m′
 only-may h = record { carries = λ a rest e. let p = h .carries a rest e in record { ahead = p .ahead; some = λ t. absurd (false≢true t); again = λ ws′ rest′ u fuel see. p .again ws′ rest′ u fuel (λ t. see refl) } }
 
@@ -313,7 +310,7 @@ one-word {b} {A} {bl} {ws = w ∷ ws} {k} m m′ i d f =
       carries = λ a rest e.
           let s = f w w ws ws a rest refl e .0 in
           record {
-            ahead = behind (ap inner d ∙ i) (at-rest (sym s));
+            ahead = a-word (ap inner d ∙ i) (at-rest (sym s));
             some = λ t. let g = ap (λ (l : List Word). length l) s in omega arith;
             again = λ ws′ rest′ u fuel see. go a rest s e ws′ rest′ u;
           };

@@ -1,20 +1,19 @@
 -- The readers of actions on other words: the laws of proofs/Moved.antt along the readers, one by one.
-use mathlib.Core.Bool.{Bool, true, false, false≢true}
+use mathlib.Core.Bool.{false}
 use mathlib.Core.List.{List, [], _∷_}
-use mathlib.Core.Option.{none, some}
+use mathlib.Core.Option.{some}
 use mathlib.Core.Path.{_≡_, refl, sym, ap, _∙_}
 use Prim.Native.Char.{code}
-use Prim.Native.Nat.{ℕ, zero, suc, _-_, _<_}
+use Prim.Native.Nat.{ℕ, zero, suc, _-_}
 use lib.Dec.{eqb}
 use lib.ListN.{length}
-use native.Mathlib.Omega.{arith}
-use Rattle.base.specs.Tree.{plain, cycle, choice, done, _▸_, nil, alternative, absent, otherwise}
-use Rattle.parts.proofs.Moved.{inner, may, does, alone, Carries, bind, bind-on, next, next-on, gives-a, ends, refuses, only-does, only-may, dry, dry-does, by-kind, on-kind, limited, passes, expects, shorts, a-name, one-name, name-or-string}
+use Rattle.base.specs.Tree.{plain, cycle, choice, _▸_, nil, alternative, otherwise}
+use Rattle.parts.proofs.Moved.{inner, may, does, alone, Carries, bind, bind-on, next, next-on, gives-a, ends, refuses, only-may, dry, dry-does, by-kind, on-kind, limited, passes, expects, shorts, a-name, one-name, name-or-string}
 use Rattle.parts.specs.Blank.{blank, blanks, blankIf, blankConstant, blankPlain, blankSelector, blankAct, blankActs, blankAlts, blankOther, blankRule}
 use Rattle.syntax.specs.Actions.{aConstant, aValue, aRanked, aPlain, aSelector, aLabel, someLabels, closes, aCycle, aChoice, anAction, anOtherwise, anAlternative, actions, alternatives}
 use Rattle.syntax.specs.Parse.{aRule}
 use Rattle.syntax.specs.Reading.{Reader, aName, optional}
-use Rattle.syntax.specs.Written.{named, any, exit, emit, error, call, give, ranked, byToken, byRule, byOperation, Acts, Choices, Rule}
+use Rattle.syntax.specs.Written.{named, any, exit, emit, error, call, give, ranked, byRule, byOperation, Acts, Choices}
 use Rattle.words.specs.Words.{Word, twice, name, string}
 
 -- Plain actions and selectors

@@ -1,26 +1,25 @@
 -- The readers of sections on other words: the laws of proofs/Moved.antt along the readers, one by one.
-use mathlib.Core.Bool.{Bool, true, false, _&&_, _||_, false≢true}
-use mathlib.Core.List.{List, [], _∷_, _++_}
+use mathlib.Core.Bool.{Bool, true, false, _&&_, _||_}
+use mathlib.Core.List.{List, [], _∷_}
 use mathlib.Core.Option.{Option, none, some}
 use mathlib.Core.Path.{_≡_, refl, sym, ap, _∙_}
 use Prim.Native.Char.{code}
-use Prim.Native.Nat.{ℕ, zero, suc, _+_, _-_, _<_, max}
+use Prim.Native.Nat.{ℕ, zero, suc, _+_, _-_, max}
 use lib.Dec.{eqb, ltb}
-use lib.ListN.{length}
 use borrow.Author.Tests.{eqb-true}
 use native.Mathlib.Omega.{arith}
 use Rattle.acceptance.proofs.ReadLaws.{no-got}
 use Rattle.base.specs.Bools.{and}
 use Rattle.base.specs.Common.{if_then_else_, given, bytes, same}
 use Rattle.parts.proofs.Blank.{entries-length, operations-length}
-use Rattle.parts.proofs.Moved.{inner, may, does, alone, reads, looks, Upto, Alike, Sort, Again, Carried, Carries, bind, bind-on, next, next-on, gives-a, ends, refuses, only-does, only-may, dry, on-kind, by-word, one-word, passes, expects, a-name, one-name, name-or-string, kind-same, text-same}
+use Rattle.parts.proofs.Moved.{inner, may, does, alone, Again, Carried, Carries, bind, bind-on, next, next-on, gives-a, refuses, only-may, dry, on-kind, by-word, one-word, passes, expects, a-name, one-name, name-or-string, kind-same, text-same}
 use Rattle.parts.proofs.MovedActions.{gives-moved}
 use Rattle.parts.specs.Blank.{blank, blankIf, blankEntry, blankEntries, blankOperation, blankOperations, blankOperator, blankOperators, blankSection, blankSections}
 use Rattle.syntax.proofs.Ahead.{kinds-read}
-use Rattle.syntax.specs.Reading.{Read, got, fault, Reader, onward, _>>=_, _>>_, pure, peek, pass, refuse, over, on_then_else_, expect, aName, oneName, small, aNumber, optional, nameOrString}
+use Rattle.syntax.specs.Reading.{Read, got, fault, Reader, onward, _>>=_, _>>_, pure, peek, pass, refuse, over, expect, aName, small, aNumber, optional}
 use Rattle.syntax.specs.Sections.{aSpelling, aCount, anEntry, entries, firstOf, kindAhead, isFull, aParameter, numbered, anOperation, someOperations, Sofar, nextOf, instructions, after, tokenSection, aSection, Sections, someSections, ofKind, spells, ranking, aLevel, aSide, anOperator, someOperators, operatorSection, mechanismSection, otherSection}
-use Rattle.syntax.specs.Written.{Entry, Operation, Section, inputs, outputs, both, errors, values, operations, Operator, operators}
-use Rattle.words.specs.Words.{Word, twice, name, number, string, input, output, error, type, mechanism, rules, value}
+use Rattle.syntax.specs.Written.{Entry, Operation, Section, inputs, outputs, both, errors, values, operations, operators}
+use Rattle.words.specs.Words.{Word, twice, name, number, string, input, output, error, type, rules, value}
 
 -- a number, a truth value: told by no place
 abbrev pub itself : {A : Type 0} → A → A
