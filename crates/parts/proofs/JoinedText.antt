@@ -1,4 +1,4 @@
--- The one text of a common part and its parts is read as the common part's sections and the parts' rules, so that linking is translating it.
+-- The one text of a common part and its parts is read as the common part's sections and the parts' rules.
 use mathlib.Core.Bool.{false, false≢true}
 use mathlib.Core.List.{List, [], _∷_, _++_}
 use mathlib.Core.Path.{_≡_, refl, sym, ap, _∙_}

@@ -114,36 +114,26 @@ pub record Carries (b : ℕ) (x : Sort) {A : Type 0} (bl : A → A) (ws : List W
 -- readers one after the other
 infixl 20 _then-a_
 abbrev pub _then-a_ : Sort → Sort → Sort
+x then-a alone = alone
+x then-a does = does
 may then-a may = may
 does then-a may = does
 alone then-a may = does
-may then-a does = does
-does then-a does = does
-alone then-a does = does
-may then-a alone = alone
-does then-a alone = alone
-alone then-a alone = alone
 
 then-some : (x y : Sort) {k l m : ℕ} → (reads x ≡ true → k < l) → (reads y ≡ true → m < k) → m ≤ k → k ≤ l → reads (x then-a y) ≡ true → m < l
+then-some x alone f g p q e = let h = g refl in omega arith
+then-some x does f g p q e = let h = g refl in omega arith
 then-some may may f g p q e = absurd (false≢true e)
-then-some may does f g p q e = let h = g refl in omega arith
-then-some may alone f g p q e = let h = g refl in omega arith
 then-some does may f g p q e = let h = f refl in omega arith
-then-some does does f g p q e = let h = f refl in omega arith
-then-some does alone f g p q e = let h = f refl in omega arith
 then-some alone may f g p q e = let h = f refl in omega arith
-then-some alone does f g p q e = let h = f refl in omega arith
-then-some alone alone f g p q e = let h = f refl in omega arith
 
 -- what the second reader sees
 then-looks : (x y : Sort) → looks y ≡ true → looks (x then-a y) ≡ true
+then-looks x alone e = e
+then-looks x does e = refl
 then-looks may may e = refl
 then-looks does may e = refl
 then-looks alone may e = refl
-then-looks may does e = refl
-then-looks does does e = refl
-then-looks alone does e = refl
-then-looks x alone e = absurd (false≢true e)
 
 -- what the first reader sees
 mid-alike : (y : Sort) {rest rest′ mid mid′ : List Word} → Upto rest rest′ mid mid′ → (reads y ≡ true → length rest < length mid) → (looks y ≡ true → Alike rest rest′) → Alike mid mid′
@@ -152,11 +142,11 @@ mid-alike does u s l = alike-upto u (l refl)
 mid-alike alone {mid = mid} {mid′ = mid′} u s l = kind-same (peek mid) (peek mid′) (next-same u (s refl))
 
 module _ {A B : Type 0} {bl : A → A} {bl₂ : B → B} {ws : List Word} {m m′ : Reader A} {f f′ : A → Reader B} {x y : Sort} where
-  -- b₁ and b₂ are the fuel of the first and of the second
-  sequence : (b b₁ b₂ : ℕ) → b ≤ b₁ → ((mid : List Word) → (reads x ≡ true → length mid < length ws) → length mid ≤ length ws → (rest : List Word) → length ws < length rest + b → length mid < length rest + b₂)
-      → Carries b₁ x bl ws m m′ → ((mid : List Word) (a a′ : A) → bl a ≡ bl a′ → Carries b₂ y bl₂ mid (f a) (f′ a′)) → Carries b (x then-a y) bl₂ ws (_>>=_ m f) (_>>=_ m′ f′)
+  -- with fuel for b words there is fuel for b₂ words behind the first reader
+  sequence : (b b₂ : ℕ) → ((mid : List Word) → (reads x ≡ true → length mid < length ws) → length mid ≤ length ws → (rest : List Word) → length ws < length rest + b → length mid < length rest + b₂)
+      → Carries b x bl ws m m′ → ((mid : List Word) (a a′ : A) → bl a ≡ bl a′ → Carries b₂ y bl₂ mid (f a) (f′ a′)) → Carries b (x then-a y) bl₂ ws (_>>=_ m f) (_>>=_ m′ f′)
   unfolding onward
-  sequence b b₁ b₂ l₁ l₂ h g = record { carries = λ v rest e. go v rest (m ws) refl e }
+  sequence b b₂ l₂ h g = record { carries = λ v rest e. go v rest (m ws) refl e }
     where
       go : (v : B) (rest : List Word) (r : Read A) → m ws ≡ r → onward r f ≡ got v rest → Carried b (x then-a y) bl₂ (_>>=_ m′ f′) ws v rest
       go v rest (fault n w) d e = no-got e
@@ -178,12 +168,12 @@ module _ {A B : Type 0} {bl : A → A} {bl₂ : B → B} {ws : List Word} {m m�
           }
 
   pub bind : {b : ℕ} → Carries b x bl ws m m′ → ((mid : List Word) (a a′ : A) → bl a ≡ bl a′ → Carries b y bl₂ mid (f a) (f′ a′)) → Carries b (x then-a y) bl₂ ws (_>>=_ m f) (_>>=_ m′ f′)
-  bind {b} h g = sequence b b b (omega arith) (λ mid s l rest n. omega arith) h g
+  bind {b} h g = sequence b b (λ mid s l rest n. omega arith) h g
 
   -- the first reads a word, so that less fuel is enough for the second
   pub bind-on : {b : ℕ} → reads x ≡ true → Carries (suc b) x bl ws m m′ → ((mid : List Word) (a a′ : A) → bl a ≡ bl a′ → Carries b y bl₂ mid (f a) (f′ a′))
       → Carries (suc b) (x then-a y) bl₂ ws (_>>=_ m f) (_>>=_ m′ f′)
-  bind-on {b} t h g = sequence (suc b) (suc b) b (omega arith) (λ mid s l rest n. let k = s t in omega arith) h g
+  bind-on {b} t h g = sequence (suc b) b (λ mid s l rest n. let k = s t in omega arith) h g
 
 module _ {A B : Type 0} {bl : A → A} {bl₂ : B → B} {ws : List Word} {m m′ : Reader A} {f f′ : Reader B} {x y : Sort} where
   pub next : {b : ℕ} → Carries b x bl ws m m′ → ((mid : List Word) → Carries b y bl₂ mid f f′) → Carries b (x then-a y) bl₂ ws (_>>_ m f) (_>>_ m′ f′)

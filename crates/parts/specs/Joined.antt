@@ -1,5 +1,5 @@
 -- The one text of "translating their rules as one text", as bytes: of the common part what stands before its word `rules`, then `rules`, of each part what stands
--- between its words `rules` and `end`, then `end`. Behind each piece stands a line feed, which ends its last word, and a comment.
+-- between its words `rules` and `end`, then `end`. Behind each piece stands a line feed, so that no word and no comment goes on into the next.
 use mathlib.Core.Bool.{Bool}
 use mathlib.Core.List.{List, [], _∷_, _++_}
 use mathlib.Core.Path.{_≡_}
