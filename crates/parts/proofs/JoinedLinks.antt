@@ -16,7 +16,7 @@ use Rattle.parts.specs.Joined.{joinedText, ReadsEach, reads-nil, reads-c
 use Rattle.parts.specs.Link.{Linked, atPart, collect, lastOf, withNames, withCommon, linkTexts}
 use Rattle.parts.specs.Objects.{Object, object, meaning, readOn, readBoth, translate}
 use Rattle.parts.specs.Promise.{Parts, parts-nil, parts-cons}
-use Rattle.parts.specs.Texts.{Common, tooLong, readCommon, readPart}
+use Rattle.syntax.specs.Texts.{Common, tooLong, readCommon, readPart}
 use Rattle.syntax.specs.Reading.{got}
 use Rattle.syntax.specs.Written.{Rule}
 use Rattle.words.specs.Words.{Word}

@@ -20,7 +20,7 @@ use Rattle.parts.proofs.MovedSections.{blankAll, some-sections}
 use Rattle.parts.specs.Blank.{blankSections, blankRules, blankProgram}
 use Rattle.parts.specs.Joined.{firstWord, behind, before, between, rulesText, joinedText, ReadsEach, reads-nil, reads-cons, JoinedReads}
 use Rattle.parts.specs.Promise.{joined, ReadsAs}
-use Rattle.parts.specs.Texts.{Common, someHeads, aCommon, aPart, readCommon, readPart}
+use Rattle.syntax.specs.Texts.{Common, someHeads, aCommon, aPart, readCommon, readPart}
 use Rattle.syntax.specs.Parse.{someRules, program, parse}
 use Rattle.syntax.specs.Reading.{got, onward, peek, pass, on_then_else_, expect}
 use Rattle.syntax.specs.Sections.{nothing, Sections, someSections}

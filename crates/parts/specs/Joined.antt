@@ -12,7 +12,7 @@ use Rattle.figure.specs.Told.{Told, figureOf}
 use Rattle.names.specs.Known.{Names}
 use Rattle.parts.specs.Link.{linked, linkTexts}
 use Rattle.parts.specs.Promise.{joined, InOrder, ReadsAs}
-use Rattle.parts.specs.Texts.{Common, readCommon, readPart}
+use Rattle.syntax.specs.Texts.{Common, readCommon, readPart}
 use Rattle.processor.specs.Process.{accepted, process}
 use Rattle.syntax.specs.Reading.{got, peek}
 use Rattle.syntax.specs.Written.{Rule}
