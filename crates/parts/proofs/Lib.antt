@@ -1,3 +1,4 @@
+pub mod Depth
 pub mod Facts
 pub mod Alike
 pub mod Sections

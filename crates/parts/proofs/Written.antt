@@ -3,7 +3,7 @@ use mathlib.Core.Bool.{Bool, true, false, _&&_, _||_}
 use mathlib.Core.List.{List, [], _∷_, _++_}
 use mathlib.Core.Option.{Option, none, some}
 use mathlib.Core.Path.{_≡_, refl, sym, ap, _∙_}
-use Prim.Native.Nat.{ℕ, zero, suc, _+_, _<_, min}
+use Prim.Native.Nat.{ℕ, zero, suc, _+_, _-_, _<_, min}
 use native.Mathlib.Omega.{arith}
 use lib.ListN.{length, getD}
 use Rattle.acceptance.proofs.Accepts.{nobody-ok}
@@ -27,6 +27,7 @@ use Rattle.names.specs.Understand.{nobody, isOne, taken}
 use Rattle.names.specs.Uses.{Use, plainUses, actUses, actsUses, altsUses, otherUses, rulesUses, isUsed, pairsOf, lowestOf}
 use Rattle.parts.proofs.Accepted.{common-ok, part-ok}
 use Rattle.parts.proofs.Alike.{OneEach, nowhere, there, one-each, each-left, each-right}
+use Rattle.parts.proofs.Depth.{DeepRule, part-deep}
 use Rattle.parts.proofs.Linking.{good-inj, common-is, is-common, common-same, object-of}
 use Rattle.parts.proofs.Numbers.{none-some, nothing, found-each, open-call, each-map, Sectioned, use-open, OpenUse, use-aim, open-below}
 use Rattle.parts.proofs.Pairs.{list-pairs, list-length, uses-paired}
@@ -34,7 +35,7 @@ use Rattle.parts.proofs.Rules.{Opened, opened-nil, opened-cons, all-ope
 use Rattle.parts.proofs.Sound.{frame-at}
 use Rattle.parts.specs.Objects
 use Rattle.parts.specs.Objects.{callOf, selects, calls, callsAll, callsSome, callsOther, callsIn, Aim, named, ranked, ruleAims, aimsOf, openRules, oneEach, openNames, OpenRule, together, openRule, openAll}
-use Rattle.parts.specs.Sound.{Few, FewAll, FewSome, FewOther, numberOf, selectorNumber, numbers, numbersAll, numbersSome, numbersOther, sortOf, frame, textsOf, StandsFor, Aligned, openAims, SoundRule, callWords, SoundUse, Sound, TranslatedSound}
+use Rattle.parts.specs.Sound.{Few, FewAll, FewSome, FewOther, Deep, DeepAll, DeepSome, DeepOther, numberOf, selectorNumber, numbers, numbersAll, numbersSome, numbersOther, sortOf, frame, textsOf, StandsFor, Aligned, openAims, SoundRule, callWords, SoundUse, Sound, TranslatedSound}
 use Rattle.precedence.proofs.Places as pair
 use Rattle.program.specs.Accepted.{Calls, Oks}
 use Rattle.program.specs.Made.{Level}
@@ -256,6 +257,51 @@ module _ (hs : List Head) (rs : List written.Rule) (p : Program) (n : Names) (se
     other-few absent at h = yields FewOther absent tt
     other-few (otherwise b) at h = next FewOther FewAll (actsOf p n₁ ks b at) _ (acts-few b at h) (λ d k. yields FewOther (otherwise d) k)
 
+  -- Depth
+
+  abbrev DeepTo : ℕ → means.Act → Type 0
+  DeepTo left d = Deep d left
+
+  abbrev DeepToAll : ℕ → means.Acts → Type 0
+  DeepToAll left d = DeepAll d left
+
+  abbrev DeepToSome : ℕ → means.Alts → Type 0
+  DeepToSome left d = DeepSome d left
+
+  abbrev DeepToOther : ℕ → means.Other → Type 0
+  DeepToOther left d = DeepOther d left
+
+  mutual
+    unfolding actOf Deep
+
+    act-deep : (a : written.Act) (at : Place) (left : ℕ) → Deep a left → Yields (DeepTo left) (actOf p n₁ ks a at)
+    act-deep (plain a) at left h = next (DeepTo left) (λ _. Unit {0}) (plainOf p n₁ ks at a) _ (λ _ _. tt) (λ d _. yields (DeepTo left) (plain d) tt)
+    act-deep (cycle b) at left h =
+        next (DeepTo left) (DeepToAll (left - 1)) (actsOf p n₁ ks b (within at)) _ (acts-deep b (within at) (left - 1) (h .1)) (λ d k. yields (DeepTo left) (cycle d) (h .0, k))
+    act-deep (choice s q o) at left h =
+        next (DeepTo left) (λ _. Unit {0}) (selectorOf p n₁ ks s) _ (λ _ _. tt) (λ c _.
+        next (DeepTo left) (DeepToSome (left - 1)) (altsOf p n₁ ks q at (c .labels) []) _ (alts-deep q at (c .labels) [] (left - 1) (h .1)) (λ x hx.
+        next (DeepTo left) (DeepToOther (left - 1)) (otherOf p n₁ ks o at) _ (other-deep o at (left - 1) (h .2)) (λ y hy.
+        yields (DeepTo left) (choice (c .by) x y) (h .0, hx, hy))))
+
+    acts-deep : (q : written.Acts) (at : Place) (left : ℕ) → DeepAll q left → Yields (DeepToAll left) (actsOf p n₁ ks q at)
+    acts-deep done at left h = yields (DeepToAll left) done tt
+    acts-deep (a ▸ q) at left h =
+        next (DeepToAll left) (DeepTo left) (actOf p n₁ ks a at) _ (act-deep a at left (h .0)) (λ x hx.
+        next (DeepToAll left) (DeepToAll left) (actsOf p n₁ ks q at) _ (acts-deep q at left (h .1)) (λ y hy. yields (DeepToAll left) (x ▸ y) (hx, hy)))
+
+    alts-deep : (q : written.Alts) (at : Place) (vs : List Known) (seen : List ℕ) (left : ℕ) → DeepSome q left → Yields (DeepToSome left) (altsOf p n₁ ks q at vs seen)
+    alts-deep nil at vs seen left h = yields (DeepToSome left) nil tt
+    alts-deep (alternative ls b q) at vs seen left h =
+        next (DeepToSome left) (λ _. Unit {0}) (labelsOf p n₁ ks ls vs seen) _ (λ _ _. tt) (λ us _.
+        next (DeepToSome left) (DeepToAll left) (actsOf p n₁ ks b at) _ (acts-deep b at left (h .0)) (λ x hx.
+        next (DeepToSome left) (DeepToSome left) (altsOf p n₁ ks q at vs (us ++ seen)) _ (alts-deep q at vs (us ++ seen) left (h .1)) (λ y hy.
+        yields (DeepToSome left) (alternative us x y) (hx, hy))))
+
+    other-deep : (o : written.Other) (at : Place) (left : ℕ) → DeepOther o left → Yields (DeepToOther left) (otherOf p n₁ ks o at)
+    other-deep absent at left h = yields (DeepToOther left) absent tt
+    other-deep (otherwise b) at left h = next (DeepToOther left) (DeepToAll left) (actsOf p n₁ ks b at) _ (acts-deep b at left h) (λ d k. yields (DeepToOther left) (otherwise d) k)
+
   -- The frame
 
   frame-length : (xs : List Aim) → length (frame hs xs) ≡ length xs
@@ -296,25 +342,25 @@ module _ (hs : List Head) (rs : List written.Rule) (p : Program) (n : Names) (se
   not-and true b e d = e
   not-and false b e d = bools.never d
 
-  rule-sound : NamesOk n → NamesOk n₁ → (seen : List (List ℕ)) (r : written.Rule) → ShapedAll (r .body) → LabelledAll (r .body) → UsingAll Q (r .body) → Yields (SoundRule hs aims) (openRule p n ks seen r)
+  rule-sound : NamesOk n → NamesOk n₁ → (seen : List (List ℕ)) (r : written.Rule) → ShapedAll (r .body) → LabelledAll (r .body) → DeepRule r → UsingAll Q (r .body) → Yields (SoundRule hs aims) (openRule p n ks seen r)
   unfolding openRule
-  rule-sound ok ok₁ seen r s f u =
+  rule-sound ok ok₁ seen r s f l u =
       passed (SoundRule hs aims) (taken (r .rule) n seen) 4 (r .rule) _ (λ _.
       next (SoundRule hs aims) (Typed (r .gives)) (optionalType p (n .types) (r .gives)) _ (typed p (n .types) (r .gives) (ok .types)) (λ g hg.
       let at : Place = record { inside = false; gives = g } in
-      next (SoundRule hs aims) (λ b. Oks (frame hs aims) b (given g) false × A (numbersAll b) (callsAll (r .body)) × FewAll b) (actsOf p n₁ ks (r .body) at) _
-      (λ b e. (acts-of p n₁ ks (frame hs aims) ok₁ known Q lowest (r .body) at u s (hg .members) b e, acts-aligned (r .body) at u b e, acts-few (r .body) at f b e)) (λ b hb.
+      next (SoundRule hs aims) (λ b. Oks (frame hs aims) b (given g) false × A (numbersAll b) (callsAll (r .body)) × FewAll b × DeepAll b 32) (actsOf p n₁ ks (r .body) at) _
+      (λ b e. (acts-of p n₁ ks (frame hs aims) ok₁ known Q lowest (r .body) at u s (hg .members) b e, acts-aligned (r .body) at u b e, acts-few (r .body) at f b e, acts-deep (r .body) at 32 l b e)) (λ b hb.
       passed (SoundRule hs aims) (given g && pastAll b) 8 (r .closing) _ (λ e.
       yields (SoundRule hs aims) (record { name = r .rule; gives = r .gives; calls = callsAll (r .body); means = record { valued = given g; body = b } })
-      (record { sort = hg .same-given; in-order = hb .0; no-end = not-and (given g) (pastAll b) e; few = hb .2; calls = hb .1 })))))
+      (record { sort = hg .same-given; in-order = hb .0; no-end = not-and (given g) (pastAll b) e; few = hb .2; deep = hb .3; calls = hb .1 })))))
 
-  pub rules-sound : NamesOk n → NamesOk n₁ → (seen : List (List ℕ)) (rs₁ : List written.Rule) → Each (λ r. ShapedAll (r .body)) rs₁ → LabelledRules rs₁ → Each Q (rulesUses rs₁) → Yields (Each (SoundRule hs aims)) (openAll p n ks seen rs₁)
+  pub rules-sound : NamesOk n → NamesOk n₁ → (seen : List (List ℕ)) (rs₁ : List written.Rule) → Each (λ r. ShapedAll (r .body)) rs₁ → LabelledRules rs₁ → Each DeepRule rs₁ → Each Q (rulesUses rs₁) → Yields (Each (SoundRule hs aims)) (openAll p n ks seen rs₁)
   unfolding openAll rulesUses Each LabelledRules
-  rules-sound ok ok₁ seen [] s f u = yields (Each (SoundRule hs aims)) [] tt
-  rules-sound ok ok₁ seen (r ∷ rs₁) s f u =
+  rules-sound ok ok₁ seen [] s f l u = yields (Each (SoundRule hs aims)) [] tt
+  rules-sound ok ok₁ seen (r ∷ rs₁) s f l u =
       let x = acts-using Q (r .body) (rulesUses rs₁) u in
-      next (Each (SoundRule hs aims)) (SoundRule hs aims) (openRule p n ks seen r) _ (rule-sound ok ok₁ seen r (s .0) (f .0) (x .0)) (λ m h.
-      next (Each (SoundRule hs aims)) (Each (SoundRule hs aims)) (openAll p n ks (r .rule .text ∷ seen) rs₁) _ (rules-sound ok ok₁ (r .rule .text ∷ seen) rs₁ (s .1) (f .1) (x .1)) (λ ms k.
+      next (Each (SoundRule hs aims)) (SoundRule hs aims) (openRule p n ks seen r) _ (rule-sound ok ok₁ seen r (s .0) (f .0) (l .0) (x .0)) (λ m h.
+      next (Each (SoundRule hs aims)) (Each (SoundRule hs aims)) (openAll p n ks (r .rule .text ∷ seen) rs₁) _ (rules-sound ok ok₁ (r .rule .text ∷ seen) rs₁ (s .1) (f .1) (l .1) (x .1)) (λ ms k.
       yields (Each (SoundRule hs aims)) (m ∷ ms) (h, k)))
 
 -- Uses
@@ -412,10 +458,10 @@ unfolding Each
 each-two P Q R [] f g h = tt
 each-two P Q R (u ∷ us) f g h = (f u (g .0) (h .0), each-two P Q R us f (g .1) (h .1))
 
-sound-of : (c : Common) (n : Names) (rs : List written.Rule) (os : List OpenRule) → NamesOk n → Each (λ r. ShapedAll (r .body)) rs → LabelledRules rs → NotEmpty rs
+sound-of : (c : Common) (n : Names) (rs : List written.Rule) (os : List OpenRule) → NamesOk n → Each (λ r. ShapedAll (r .body)) rs → LabelledRules rs → Each DeepRule rs → NotEmpty rs
     → openAll (together c rs) n (openRules (c .listed) rs) [] rs ≡ good os → Sound (c .listed) n (record { rules = os; uses = pairsOf rs; aims = aimsOf (c .listed) rs })
 unfolding together pairsOf aimsOf
-sound-of c n rs os ok shaped few some-rule e =
+sound-of c n rs os ok shaped few deep some-rule e =
     let hs = c .listed in
     let o = all-opened (together c rs) n (openRules hs rs) [] rs os e in
     let used = all-used (together c rs) n (openRules hs rs) [] rs os e in
@@ -426,7 +472,7 @@ sound-of c n rs os ok shaped few some-rule e =
       elsewhere = Objects.elsewhere hs rs;
       numbered = rw (opened-aims o);
       some-rule = opened-some o some-rule;
-      rules = rules-sound hs rs (together c rs) n sec (list-length hs rs) (list-pairs hs rs) ok (open-ok n ok) [] rs shaped few (uses-paired rs) os e;
+      rules = rules-sound hs rs (together c rs) n sec (list-length hs rs) (list-pairs hs rs) ok (open-ok n ok) [] rs shaped few deep (uses-paired rs) os e;
       uses = firsts-each (SoundUse hs n os) [] (rulesUses rs) uses;
     }
 
@@ -453,4 +499,4 @@ translated-sound commonText c rest read n common text rs rest₁ read₁ o e =
     let sections = common-ok (length commonText + 1) (word.words commonText) c rest read in
     let ok = sections-ok (together c []) (c .sections) nobody sections sections nobody-ok n (common-is c [] n common .sections) in
     let p = part-ok (length text + 1) (c .left) (word.words text) rs rest₁ read₁ in
-    rw (x .is) at (sound-of c n rs (x .rules) ok (p .0) (part-labelled (length text + 1) (c .left) (word.words text) rs rest₁ read₁) (p .1) opens)
+    rw (x .is) at (sound-of c n rs (x .rules) ok (p .0) (part-labelled (length text + 1) (c .left) (word.words text) rs rest₁ read₁) (part-deep (length text + 1) (c .left) (word.words text) rs rest₁ read₁) (p .1) opens)

@@ -4,11 +4,11 @@ use mathlib.Core.Bool.{Bool, true, false}
 use mathlib.Core.List.{List, [], _∷_, _++_}
 use mathlib.Core.Option.{none, some}
 use mathlib.Core.Path.{_≡_}
-use Prim.Native.Nat.{ℕ, _≤_}
+use Prim.Native.Nat.{ℕ, _-_, _≤_}
 use lib.ListN.{length, getD}
 use Rattle.acceptance.proofs.Shape.{Each, NotEmpty}
 use Rattle.base.specs.Common.{given}
-use Rattle.base.specs.Tree.{plain, cycle, choice, done, _▸_, nil, alternative, absent, otherwise}
+use Rattle.base.specs.Tree.{Action, Actions, Alternatives, Otherwise, plain, cycle, choice, done, _▸_, nil, alternative, absent, otherwise}
 use Rattle.figure.specs.Told.{Told, toldIf}
 use Rattle.finishing.specs.Test.{finishing}
 use Rattle.names.specs.Known.{good, Names, findOperators}
@@ -84,6 +84,26 @@ unfoldable mutual
   FewOther absent = Unit {0}
   FewOther (otherwise b) = FewAll b
 
+-- "at most 32 deep": no more cycles and choices, one in the other, than `left`; of any tree of actions
+module _ {P S L : Type 0} where
+  unfoldable mutual
+    pub Deep : Action P S L → ℕ → Type 0
+    Deep (plain p) left = Unit {0}
+    Deep (cycle b) left = (1 ≤ left) × DeepAll b (left - 1)
+    Deep (choice s q o) left = (1 ≤ left) × DeepSome q (left - 1) × DeepOther o (left - 1)
+
+    pub DeepAll : Actions P S L → ℕ → Type 0
+    DeepAll done left = Unit {0}
+    DeepAll (a ▸ q) left = Deep a left × DeepAll q left
+
+    pub DeepSome : Alternatives P S L → ℕ → Type 0
+    DeepSome nil left = Unit {0}
+    DeepSome (alternative ls b q) left = DeepAll b left × DeepSome q left
+
+    pub DeepOther : Otherwise P S L → ℕ → Type 0
+    DeepOther absent left = Unit {0}
+    DeepOther (otherwise b) left = DeepAll b left
+
 -- what a number stands for, as a rule: a choice rule or not, by the list
 unfoldable pub sortOf : List Head → Aim → Rule
 sortOf hs (named w) = record { valued = given (listedType w hs); body = done }
@@ -117,6 +137,7 @@ pub record SoundRule (hs : List Head) (aims : List Aim) (r : OpenRule) : Type 0 
   pub in-order : Oks (frame hs aims) (r .means .body) (r .means .valued) false
   pub no-end : r .means .valued ≡ true → pastAll (r .means .body) ≡ false
   pub few : FewAll (r .means .body)
+  pub deep : DeepAll (r .means .body) 32
   pub calls : Aligned aims (numbersAll (r .means .body)) (r .calls)
 
 -- all words that 49 looks at
@@ -160,5 +181,5 @@ AnyObjects =
 
 -- all of this file computes where this is unfolded
 unfoldable pub opened : Unit {0}
-unfolding numberOf selectorNumber numbers Few sortOf frame textsOf StandsFor Aligned openAims callWords
+unfolding numberOf selectorNumber numbers Few Deep sortOf frame textsOf StandsFor Aligned openAims callWords
 opened = tt
