@@ -1,0 +1,1 @@
+// Objects that anybody wrote, read and tested: definitions and theorems.
