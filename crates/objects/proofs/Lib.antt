@@ -1,2 +1,5 @@
 pub mod TakeLaws
 pub mod Views
+pub mod Marks
+pub mod Complete
+pub mod Found
