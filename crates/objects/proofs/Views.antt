@@ -3,7 +3,7 @@ use mathlib.Core.List.{List, [], _∷_, _++_, append-assoc}
 use mathlib.Core.Option.{Option, none, some}
 use mathlib.Core.Path.{_≡_, refl, sym, ap, _∙_}
 use mathlib.Core.Bool.{Bool, true, false}
-use Prim.Native.Nat.{ℕ, zero, suc, _+_, _≤_}
+use Prim.Native.Nat.{ℕ, zero, suc, _≤_}
 use native.Mathlib.Omega.{arith}
 use borrow.Author.Tests.{eqb-true, eq-eqb}
 use lib.Dec.{eqb}
@@ -190,8 +190,8 @@ module _ (aims : List Aim) (first : ℕ) where
   rules-length (r ∷ rs) = ap suc (rules-length rs)
 
 -- an object's words are those of its view
-pub object-words : (common : List ℕ) (size listed : ℕ) (o : Object) → form.objectWords common size listed o ≡ viewWords common (viewOf size listed o)
+pub object-words : (common : List ℕ) (size : ℕ) (o : Object) → form.objectWords common size o ≡ viewWords common (viewOf size o)
 unfolding form.objectWords form.bodyOf viewWords bodyWords viewOf
-object-words common size listed o =
-    let first = listed + length (o .rules) in
+object-words common size o =
+    let first = form.firstPair o in
     rw (pairs-words (o .uses), rules-words (o .aims) first (o .rules), pairs-length (o .uses), rules-length (o .aims) first (o .rules))

@@ -2,12 +2,12 @@
 -- one; what has to be found in a view for it to be that of a sound object is another file's.
 use mathlib.Core.List.{List, [], _∷_, _++_}
 use mathlib.Core.Option.{Option, none, some}
-use Prim.Native.Nat.{ℕ, zero, suc, _+_, _/_, _%_}
+use Prim.Native.Nat.{ℕ, zero, suc, _/_, _%_}
 use lib.Dec.{eqb}
 use lib.ListN.{length}
 use Rattle.base.specs.Common.{if_then_else_}
 use Rattle.names.specs.Uses.{Use}
-use Rattle.parts.specs.Form.{packed, bodyCells}
+use Rattle.parts.specs.Form.{packed, bodyCells, firstPair}
 use Rattle.parts.specs.Objects.{Aim, OpenRule, Object}
 use Rattle.words.specs.Words.{Word}
 use Rattle.objects.specs.Take.{Taken, took, missing, Taker, _>>=_, pure, refuse, aWord, someWords, theWord, theWords, times, sized}
@@ -63,9 +63,9 @@ module _ (aims : List Aim) (first : ℕ) where
   rulesOf [] = []
   rulesOf (r ∷ rs) = ruleOf r ∷ rulesOf rs
 
--- of an object of a part of `size` bytes, made with a common part whose list has `listed` names
-unfoldable pub viewOf : ℕ → ℕ → Object → View
-viewOf size listed o = record { size = size; pairs = pairsOf (o .uses); rules = rulesOf (o .aims) (listed + length (o .rules)) (o .rules) }
+-- of an object of a part of `size` bytes
+unfoldable pub viewOf : ℕ → Object → View
+viewOf size o = record { size = size; pairs = pairsOf (o .uses); rules = rulesOf (o .aims) (firstPair o) (o .rules) }
 
 -- The words of a view
 

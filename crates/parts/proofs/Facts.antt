@@ -110,6 +110,9 @@ facts =
     ∷ stops common ("rules M: @R; R: ; end" ∷ []) 5 1 10 1
     ∷ stops common ("rules M: [@N | y: ]; N >> t: { }; end" ∷ []) 5 1 11 1
     ∷ stops common ("rules M: @f; end" ∷ []) 5 1 10 1
+    -- a name that is only called is declared, but as a rule
+    ∷ stops common ("rules M: .N @N; end" ∷ []) 5 1 10 1
+    ∷ stops common ("rules M: .N; end" ∷ []) 3 1 10 1
     ∷ stops common ("rules M: ; M: ; end" ∷ []) 4 1 11 1
     -- faults of the common part
     ∷ stops "rules R >> t; end" ("rules M: ; end" ∷ []) 3 0 11 1
@@ -122,3 +125,24 @@ facts =
 pub facts-hold : T (all facts)
 unfolding facts all holds
 facts-hold = tt
+
+-- the limit of names, where the sections leave `left` and the list takes one: the part's own rules and those that they call are names, each once
+isFault : Objects.Translated → ℕ → ℕ → ℕ → Bool
+isFault (Objects.object o) n i s = false
+isFault (Objects.inCommon m p) n i s = eqb m n && eqb i 0 && eqb (p .start) s
+isFault (Objects.inPart m p) n i s = eqb m n && eqb i 1 && eqb (p .start) s
+
+leaving : ℕ → Texts.Common
+leaving left = record { sections = []; left = left; listed = record { rule = word "R"; gives = word "t" } ∷ [] }
+  where
+    word : String → Words.Word
+    word s = record { kind = Words.name; start = 0; text = bytes s }
+
+names-past : T (isFault (Objects.readOn (leaving 3) (Texts.readPart 3 (bytes "rules M: @N @M; N: @R @K; end"))) 9 1 23)
+unfolding linking isFault leaving
+names-past = tt
+
+-- with one more, the next fault is told: the type on the list is declared nowhere
+names-fit : T (isFault (Objects.readOn (leaving 4) (Texts.readPart 4 (bytes "rules M: @N @M; N: @R @K; end"))) 3 0 0)
+unfolding linking isFault leaving
+names-fit = tt

@@ -1,6 +1,7 @@
 -- From texts to the linked table, in one.
 use mathlib.Core.Bool.{Bool, true, false, _||_}
 use mathlib.Core.List.{List, [], _∷_, _++_}
+use mathlib.Core.Option.{Option, none, some}
 use mathlib.Core.Path.{_≡_, refl, sym, ap, _∙_}
 use Prim.Native.Nat.{ℕ, suc, _≤_}
 use native.Mathlib.Omega.{arith}
@@ -14,10 +15,10 @@ use Rattle.names.specs.Known.{Checked, good, wrong, Names}
 use Rattle.parts.proofs.Accepted.{linked-works}
 use Rattle.parts.proofs.Linking.{past-test, very-words}
 use Rattle.parts.proofs.Written.{translated-sound}
-use Rattle.parts.specs.Form.{objectWords, made, unmade, listedIn, ifFits, asMade, makeObject, allWords, makes-none, makes-more, MadeAreObjects}
+use Rattle.parts.specs.Form.{objectWords, made, unmade, ifFits, asMade, makeObject, allWords, makes-none, makes-more, MadeAreObjects}
 use Rattle.parts.specs.Joined.{ReadsEach, reads-nil, reads-cons}
 use Rattle.parts.specs.Link.{Linked, linked, refused, atPart, collect, lastOf, withNames, withCommon, link, linkTexts}
-use Rattle.parts.specs.Objects.{Object, Translated, object, inCommon, inPart, commonMeans, meaning, readOn, readBoth, translate}
+use Rattle.parts.specs.Objects.{Object, Translated, object, inCommon, inPart, commonMeans, meaning, unlessPast, readOn, readBoth, translate}
 use Rattle.parts.specs.Promise.{Parts, parts-nil, parts-cons, ReadFrom, read-nil, read-cons, TextsLinked}
 use Rattle.processor.specs.Process.{Part, partOf}
 use Rattle.syntax.specs.Parse.{endOf}
@@ -67,12 +68,17 @@ record Part₁ (common t : List ℕ) (o : Object) : Type 0 where
   reads-part : readPart (c .left) t ≡ got rs rest₁
   means : meaning c rs ≡ object o
 
+not-past : (x : Option Word) (t : Translated) {o : Object} → unlessPast x t ≡ object o → t ≡ object o
+unfolding unlessPast
+not-past none t e = e
+not-past (some w) t e = no-object′ e
+
 part-of : (common t : List ℕ) (o : Object) → translate common t ≡ object o → Part₁ common t o
 unfolding translate readBoth readOn
 part-of common t o e = one (tooLong common) refl
   where
     four : (c : Common) (ws : List Word) → readCommon common ≡ got c ws → (x : Read (List Rule)) → readPart (c .left) t ≡ x → readOn c x ≡ object o → Part₁ common t o
-    four c ws d (got rs vs) f g = record { c = c; rest = ws; reads = d; rs = rs; rest₁ = vs; reads-part = f; means = g }
+    four c ws d (got rs vs) f g = record { c = c; rest = ws; reads = d; rs = rs; rest₁ = vs; reads-part = f; means = not-past _ (meaning c rs) g }
     four c ws d (fault n w) f g = no-object′ g
 
     three : (x : Read Common) → readCommon common ≡ x → readBoth x t ≡ object o → Part₁ common t o
@@ -196,24 +202,20 @@ no-made e = let z : _≡_ {A = ℕ} 0 1 = cc in absurd (omega arith)
 record MadeOf (common t : List ℕ) (ws : List ℕ) : Type 0 where
   object-is : Object
   translates : translate common t ≡ object object-is
-  words-are : objectWords common (length t) (listedIn (readCommon common)) object-is ≡ ws
+  words-are : objectWords common (length t) object-is ≡ ws
 
 made-of : (common t : List ℕ) (room : ℕ) (ws : List ℕ) → makeObject common t room ≡ made ws → MadeOf common t ws
 unfolding makeObject asMade ifFits
 made-of common t room ws e = one (translate common t) refl e
   where
-    two : (o : Object) → translate common t ≡ object o → (us : List ℕ) → objectWords common (length t) (listedIn (readCommon common)) o ≡ us → (b : Bool) → leb (length us) room ≡ b → ifFits t room us ≡ made ws → MadeOf common t ws
+    two : (o : Object) → translate common t ≡ object o → (us : List ℕ) → objectWords common (length t) o ≡ us → (b : Bool) → leb (length us) room ≡ b → ifFits t room us ≡ made ws → MadeOf common t ws
     two o d us f true g h = let k : made us ≡ made ws = rw (ifFits, g) at h in let y : us ≡ ws = cc in record { object-is = o; translates = d; words-are = f ∙ y }
     two o d us f false g h = no-made (rw (ifFits, g) at h)
 
     one : (x : Translated) → translate common t ≡ x → asMade common t room x ≡ made ws → MadeOf common t ws
-    one (object o) d h = let us = objectWords common (length t) (listedIn (readCommon common)) o in two o d us refl (leb (length us) room) refl h
+    one (object o) d h = let us = objectWords common (length t) o in two o d us refl (leb (length us) room) refl h
     one (inCommon n p) d h = no-made h
     one (inPart n p) d h = no-made h
-
-listed-is : (common : List ℕ) (c : Common) (rest : List Word) → readCommon common ≡ got c rest → listedIn (readCommon common) ≡ length (c .listed)
-unfolding listedIn
-listed-is common c rest e = rw e
 
 pub made-are-objects : MadeAreObjects
 unfolding allWords Each
@@ -225,8 +227,7 @@ made-are-objects common c rest e n m ts words (makes-more {t = t} {ts = us} {ws 
     let means : meaning c (p .rs) ≡ object (x .object-is) = ap (λ (z : Common). meaning z (p .rs)) (sym y) ∙ p .means in
     let reads : readPart (c .left) t ≡ got (p .rs) (p .rest₁) = ap (λ (z : Common). readPart (z .left) t) (sym y) ∙ p .reads-part in
     let r = made-are-objects common c rest e n m us more h in
-    let l = listed-is common c rest e in
-    let first : ws ≡ objectWords common (length t) (length (c .listed)) (x .object-is) = sym (x .words-are) ∙ ap (λ (k : ℕ). objectWords common (length t) k (x .object-is)) l in
+    let first : ws ≡ objectWords common (length t) (x .object-is) = sym (x .words-are) in
     record {
       lengths = length t ∷ r .lengths;
       objects = x .object-is ∷ r .objects;

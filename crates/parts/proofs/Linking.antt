@@ -25,7 +25,7 @@ use Rattle.parts.proofs.Rules.{Unseen, rules-clear, seenAfter, rules-ap
 use Rattle.parts.proofs.Sections.{sections-alike}
 use Rattle.parts.proofs.Whole.{Translates, no-more, translates, opened-whole, pairs-are, known-are, length-is, Apart, parts-mean, parts-back}
 use Rattle.parts.specs.Link.{Linked, linked, refused, Found, rulesOf, firstTyped, unlikeIn, twiceIn, pastLimitIn, pairsIn, pastMade, knownOf, closedIn, orNone, program, refusedAt, inText, asOne, link, asAnswer, lentBytes}
-use Rattle.parts.specs.Objects.{aimsOf, openRules, OpenRule, Object, asRules, together, listMeans, openAll, object, inCommon, inPart, ofCommon, ofPart, commonMeans, meaning}
+use Rattle.parts.specs.Objects.{aimsOf, openRules, OpenRule, Object, together, listMeans, openAll, object, inCommon, inPart, ofCommon, ofPart, commonMeans, meaning}
 use Rattle.parts.specs.Promise.{LentZero, joined, oneText, Parts, parts-nil, parts-cons, VeryWords, InOrder, OneTextLinks}
 use Rattle.processor.specs.Process as one
 use Rattle.processor.specs.Process.{Part, partOf, accepted, answerFor}
@@ -78,7 +78,7 @@ list-alike p p′ n seen (h ∷ hs) =
 pub common-same : (c : Common) (rs rs′ : List written.Rule) (n : Names) → CommonIs c rs n → CommonIs c rs′ n
 unfolding together
 common-same c rs rs′ n h = record {
-  sections = sections-of c (asRules (c .listed) ++ rs) (asRules (c .listed) ++ rs′) n (h .sections);
+  sections = sections-of c (together c rs .rules) (together c rs′ .rules) n (h .sections);
   list = like-on id (list-alike (together c rs) (together c rs′) n [] (c .listed)) tt (h .list);
 }
 
@@ -148,7 +148,7 @@ one-program c n {rss} {os} e t a b d f =
     let x = all-alright all 1 t b in
     let listed = rw known at (agree-listed (c .listed) 0 all (x .agree)) in
     let called = rw known at (calls-found all _ (x .calls)) in
-    let s = sections-of c (asRules (c .listed) ++ []) whole n (common-is c [] n e .sections) in
+    let s = sections-of c (together c [] .rules) whole n (common-is c [] n e .sections) in
     let r = parts-mean c n whole listed [] t called (apart t d) (typed-first o a) in
     let m = made-on n (knownRules 0 whole) (namesInAll (c .sections)) (length whole) os (pairsOf whole) (rw (long, pairs) at f) in
     rw (known, long, pairs, s, r, m .1)
@@ -318,7 +318,7 @@ pub one-text-links : OneTextLinks
 unfolding together
 one-text-links c n rss prog h e =
     let u = understood c rss prog e in
-    let s = sections-of c (asRules (c .listed) ++ []) (joined rss) n (common-is c [] n (h .common) .sections) in
+    let s = sections-of c (together c [] .rules) (joined rss) n (common-is c [] n (h .common) .sections) in
     let names : u .names ≡ n = good-inj (sym (u .sections) ∙ s) in
     let rules : rulesMean (oneText c rss) n (knownRules 0 (joined rss)) [] (joined rss) ≡ good (u .own) = rw (← names) (u .rules) in
     let a = parts-back c n (joined rss) (as-listed (c .listed) 0 (joined rss) (h .listed)) [] rss (u .own) rules in

@@ -1,6 +1,6 @@
 -- The numbers of a part's calls: what each stands for.
 use mathlib.Core.Bool.{Bool, true, false}
-use mathlib.Core.List.{List, [], _∷_, _++_, append-nil, append-assoc}
+use mathlib.Core.List.{List, [], _∷_, _++_, append-assoc}
 use mathlib.Core.Logic.{_⊎_, inl, inr}
 use mathlib.Core.Option.{none, some}
 use mathlib.Core.Path.{_≡_, refl, sym, ap, _∙_}
@@ -16,9 +16,9 @@ use Rattle.base.specs.Common.{if_then_else_, same}
 use Rattle.names.specs.Known.{KnownRule, Names, findOperators, findRule}
 use Rattle.names.specs.Understand.{isOne}
 use Rattle.names.specs.Uses.{Use, samePair, isUsed, pairsOf, levelsUsed, lowestOf}
-use Rattle.parts.proofs.Alike.{OneEach, nowhere, there, one-each}
+use Rattle.parts.proofs.Alike.{OneEach, nowhere, there, one-each, each-left, each-right}
 use Rattle.parts.specs.Link.{listedType}
-use Rattle.parts.specs.Objects.{callsIn, Aim, named, ranked, headAims, ruleAims, useAims, callAims, fresh, namesOf, elsewhere, aimsOf, byList, byRules, byCalls, openRules, openNames}
+use Rattle.parts.specs.Objects.{callsAll, callsIn, mentions, Aim, named, ranked, headAims, useAims, callAims, fresh, namesOf, others, aimsOf, byList, byCalls, openRules, openNames}
 use Rattle.precedence.proofs.Places as pair
 use Rattle.program.specs.Made.{Level}
 use Rattle.syntax.specs.Texts.{Head}
@@ -50,11 +50,6 @@ unfolding byList headAims
 list-numbers i [] = numbers-nil
 list-numbers i (h ∷ hs) = numbers-cons refl refl (list-numbers (suc i) hs)
 
-rules-numbers : (i : ℕ) (rs : List written.Rule) → Numbers i (byRules i rs) (ruleAims rs)
-unfolding byRules ruleAims
-rules-numbers i [] = numbers-nil
-rules-numbers i (r ∷ rs) = numbers-cons refl refl (rules-numbers (suc i) rs)
-
 calls-numbers : (i : ℕ) (ws : List Word) → Numbers i (byCalls i ws) (callAims ws)
 unfolding byCalls callAims
 calls-numbers i [] = numbers-nil
@@ -79,35 +74,20 @@ unfolding headAims
 head-length [] = refl
 head-length (h ∷ hs) = ap suc (head-length hs)
 
-rule-length : (rs : List written.Rule) → length (ruleAims rs) ≡ length rs
-unfolding ruleAims
-rule-length [] = refl
-rule-length (r ∷ rs) = ap suc (rule-length rs)
-
-use-length : (us : List Use) → length (useAims us) ≡ length us
-unfolding useAims
-use-length [] = refl
-use-length (u ∷ us) = ap suc (use-length us)
+call-length : (ws : List Word) → length (callAims ws) ≡ length ws
+unfolding callAims
+call-length [] = refl
+call-length (w ∷ ws) = ap suc (call-length ws)
 
 open-aimed : (hs : List Head) (rs : List written.Rule) → Each (AimedIn (aimsOf hs rs)) (openRules hs rs)
 unfolding aimsOf openRules
 open-aimed hs rs =
     let A = headAims hs in
-    let B = ruleAims rs in
+    let B = callAims (others hs rs) in
     let C = useAims (pairsOf rs) in
-    let D = callAims (elsewhere hs rs) in
-    let own = length hs + length rs in
-    let lab = length-append A (B ++ C) in
-    let lbc = length-append B C in
-    let la = head-length hs in
-    let lb = rule-length rs in
-    let lc = use-length (pairsOf rs) in
-    let x = aimed (list-numbers 0 hs) [] (B ++ (C ++ D)) refl in
-    let y = aimed (rules-numbers (length hs) rs) A (C ++ D) la in
-    let z = aimed (calls-numbers (own + length (pairsOf rs)) (elsewhere hs rs)) (A ++ (B ++ C)) [] (omega (arith, lab, lbc, la, lb, lc)) in
-    let e : (A ++ (B ++ C)) ++ (D ++ []) ≡ A ++ (B ++ (C ++ D)) = ap (λ (v : List Aim). (A ++ (B ++ C)) ++ v) (append-nil D) ∙ append-assoc A (B ++ C) D ∙ ap (λ (v : List Aim). A ++ v) (append-assoc B C D) in
-    let P = AimedIn (A ++ (B ++ (C ++ D))) in
-    each-append P (byList 0 hs) _ x (each-append P (byRules (length hs) rs) _ y (rw e at z))
+    let x = aimed (list-numbers 0 hs) [] (B ++ C) refl in
+    let y = aimed (calls-numbers (length hs) (others hs rs)) A C (head-length hs) in
+    each-append (AimedIn (A ++ (B ++ C))) (byList 0 hs) _ x y
 
 -- what a name finds has what each has
 pub found-each : (P : KnownRule → Type 0) (w : List ℕ) (ks : List KnownRule) (k : KnownRule) → findRule w ks ≡ some k → Each P ks → P k × (k .named ≡ w)
@@ -124,11 +104,6 @@ found-each P w (x ∷ ks) k e h = go (same w (x .named)) refl (found-each P w ks
 -- the sort of a name is the list's
 abbrev Procedure : KnownRule → Type 0
 Procedure k = k .gives ≡ none
-
-rules-none : (i : ℕ) (rs : List written.Rule) → Each Procedure (byRules i rs)
-unfolding byRules Each
-rules-none i [] = tt
-rules-none i (r ∷ rs) = (refl, rules-none (suc i) rs)
 
 calls-none : (i : ℕ) (ws : List Word) → Each Procedure (byCalls i ws)
 unfolding byCalls Each
@@ -156,8 +131,7 @@ pub open-call : (hs : List Head) (rs : List written.Rule) (w : List ℕ) (k : Kn
 unfolding openRules
 open-call hs rs w k e =
     let x = found-each (AimedIn (aimsOf hs rs)) w (openRules hs rs) k e (open-aimed hs rs) in
-    let more = each-append Procedure (byRules (length hs) rs) (byCalls (length hs + length rs + length (pairsOf rs)) (elsewhere hs rs)) (rules-none (length hs) rs) (calls-none _ (elsewhere hs rs)) in
-    record { aim = x .0 ∙ ap named (x .1); gives = gives-in 0 hs _ more w k e }
+    record { aim = x .0 ∙ ap named (x .1); gives = gives-in 0 hs _ (calls-none (length hs) (others hs rs)) w k e }
 
 -- every call's name is there
 abbrev pub Finds : List KnownRule → Word → Type 0
@@ -223,34 +197,29 @@ fresh-found i seen pre (w ∷ ws) h = go (isOne (w .text) seen) refl (fresh-foun
         let more = byCalls (suc i) (fresh (w .text ∷ seen) ws) in
         (finds-right pre (own ∷ more) (w .text) (own, unfold findRule in rw (same-refl (w .text))), rw (append-assoc pre (own ∷ []) more) at b)
 
-covers-names : (i j : ℕ) (hs : List Head) (rs : List written.Rule) → Covers (namesOf hs rs) (byList i hs ++ byRules j rs)
-unfolding namesOf byList byRules isOne findRule
-covers-names i j [] [] v e = never e
-covers-names i j [] (r ∷ rs) v e = go (or (same v (r .rule .text)) (isOne v (namesOf [] rs)) e) (covers-names i (suc j) [] rs v)
-  where
-    own : KnownRule
-    own = record { named = r .rule .text; place = j; gives = none }
-
-    go : (same v (r .rule .text) ≡ true) ⊎ (isOne v (namesOf [] rs) ≡ true) → (isOne v (namesOf [] rs) ≡ true → FindsText (byRules (suc j) rs) v) → FindsText (own ∷ byRules (suc j) rs) v
-    go (inl d) ih = (own, rw (findRule, d))
-    go (inr d) ih = finds-cons own (byRules (suc j) rs) v (ih d)
-covers-names i j (h ∷ hs) rs v e = go (or (same v (h .rule .text)) (isOne v (namesOf hs rs)) e) (covers-names (suc i) j hs rs v)
+covers-names : (i : ℕ) (hs : List Head) → Covers (namesOf hs) (byList i hs)
+unfolding namesOf byList isOne findRule
+covers-names i [] v e = never e
+covers-names i (h ∷ hs) v e = go (or (same v (h .rule .text)) (isOne v (namesOf hs)) e) (covers-names (suc i) hs v)
   where
     own : KnownRule
     own = record { named = h .rule .text; place = i; gives = some (h .gives .text) }
 
-    go : (same v (h .rule .text) ≡ true) ⊎ (isOne v (namesOf hs rs) ≡ true) → (isOne v (namesOf hs rs) ≡ true → FindsText (byList (suc i) hs ++ byRules j rs) v)
-        → FindsText (own ∷ (byList (suc i) hs ++ byRules j rs)) v
+    go : (same v (h .rule .text) ≡ true) ⊎ (isOne v (namesOf hs) ≡ true) → (isOne v (namesOf hs) ≡ true → FindsText (byList (suc i) hs) v) → FindsText (own ∷ byList (suc i) hs) v
     go (inl d) ih = (own, rw (findRule, d))
-    go (inr d) ih = finds-cons own (byList (suc i) hs ++ byRules j rs) v (ih d)
+    go (inr d) ih = finds-cons own (byList (suc i) hs) v (ih d)
+
+-- what every name of a part has, every call has
+mentioned : (P : Word → Type 0) (rs : List written.Rule) → Each P (mentions rs) → Each P (callsIn rs)
+unfolding mentions callsIn Each
+mentioned P [] h = tt
+mentioned P (r ∷ rs) h =
+    let own = callsAll (r .body) in
+    each-append P own (callsIn rs) (each-left P own (mentions rs) (h .1)) (mentioned P rs (each-right P own (mentions rs) (h .1)))
 
 pub open-found : (hs : List Head) (rs : List written.Rule) → Each (Finds (openRules hs rs)) (callsIn rs)
-unfolding openRules elsewhere
-open-found hs rs =
-    let i = length hs + length rs + length (pairsOf rs) in
-    let pre = byList 0 hs ++ byRules (length hs) rs in
-    let x = fresh-found i (namesOf hs rs) pre (callsIn rs) (covers-names 0 (length hs) hs rs) in
-    rw (append-assoc (byList 0 hs) (byRules (length hs) rs) (byCalls i (fresh (namesOf hs rs) (callsIn rs)))) at x
+unfolding openRules others
+open-found hs rs = mentioned (Finds (openRules hs rs)) rs (fresh-found (length hs) (namesOf hs) (byList 0 hs) (mentions rs) (covers-names 0 hs))
 
 -- Pairs
 
@@ -296,40 +265,38 @@ pub record OpenUse (u : Use) (aims : List Aim) (i : ℕ) : Type 0 where
   pub same-pair : samePair u twin ≡ true
   pub aim : getD aims i nothing ≡ ranked twin
 
-lowest-open : (n : Names) (u : Use) (own : ℕ) (us : List Use) → Each (Sectioned n) us → isUsed u us ≡ true → (pre post : List Aim) → length pre ≡ own
-    → OpenUse u (pre ++ (useAims us ++ post)) (lowestOf (openNames n) u own us)
+lowest-open : (n : Names) (u : Use) (own : ℕ) (us : List Use) → Each (Sectioned n) us → isUsed u us ≡ true → (pre : List Aim) → length pre ≡ own
+    → OpenUse u (pre ++ useAims us) (lowestOf (openNames n) u own us)
 unfolding isUsed useAims lowestOf Each
-lowest-open n u own [] h e pre post l = never e
-lowest-open n u own (v ∷ us) h e pre post l = go (samePair u v) refl (lowest-open n u (own + length (levelsUsed (openNames n) v)) us (h .1))
+lowest-open n u own [] h e pre l = never e
+lowest-open n u own (v ∷ us) h e pre l = go (samePair u v) refl (lowest-open n u (own + length (levelsUsed (openNames n) v)) us (h .1))
   where
     go : (t : Bool) → samePair u v ≡ t
-        → (isUsed u us ≡ true → (pre post : List Aim) → length pre ≡ own + length (levelsUsed (openNames n) v) → OpenUse u (pre ++ (useAims us ++ post)) (lowestOf (openNames n) u (own + length (levelsUsed (openNames n) v)) us))
-        → OpenUse u (pre ++ (ranked v ∷ (useAims us ++ post))) (if t then own else lowestOf (openNames n) u (own + length (levelsUsed (openNames n) v)) us)
-    go true d ih = record { twin = v; same-pair = d; aim = ap (λ (j : ℕ). getD (pre ++ (ranked v ∷ (useAims us ++ post))) j nothing) (sym l) ∙ at-length pre (useAims us ++ post) (ranked v) }
+        → (isUsed u us ≡ true → (pre : List Aim) → length pre ≡ own + length (levelsUsed (openNames n) v) → OpenUse u (pre ++ useAims us) (lowestOf (openNames n) u (own + length (levelsUsed (openNames n) v)) us))
+        → OpenUse u (pre ++ (ranked v ∷ useAims us)) (if t then own else lowestOf (openNames n) u (own + length (levelsUsed (openNames n) v)) us)
+    go true d ih = record { twin = v; same-pair = d; aim = ap (λ (j : ℕ). getD (pre ++ (ranked v ∷ useAims us)) j nothing) (sym l) ∙ at-length pre (useAims us) (ranked v) }
     go false d ih =
         let f : isUsed u us ≡ true = rw d at e in
         let k = length-append pre (ranked v ∷ []) in
-        let x = ih f (pre ++ (ranked v ∷ [])) post (omega (arith, k, l, h .0)) in
-        rw (append-assoc pre (ranked v ∷ []) (useAims us ++ post)) at x
+        let x = ih f (pre ++ (ranked v ∷ [])) (omega (arith, k, l, h .0)) in
+        rw (append-assoc pre (ranked v ∷ []) (useAims us)) at x
 
 -- the number of a pair that a part uses stands for that pair
 pub use-aim : (hs : List Head) (rs : List written.Rule) (n : Names) (u : Use) → Each (Sectioned n) (pairsOf rs) → isUsed u (pairsOf rs) ≡ true
-    → OpenUse u (aimsOf hs rs) (lowestOf (openNames n) u (length hs + length rs) (pairsOf rs))
+    → OpenUse u (aimsOf hs rs) (lowestOf (openNames n) u (length hs + length (others hs rs)) (pairsOf rs))
 unfolding aimsOf
 use-aim hs rs n u h e =
     let A = headAims hs in
-    let B = ruleAims rs in
-    let C = useAims (pairsOf rs) in
-    let D = callAims (elsewhere hs rs) in
+    let B = callAims (others hs rs) in
     let l = length-append A B in
     let la = head-length hs in
-    let lb = rule-length rs in
-    let x = lowest-open n u (length hs + length rs) (pairsOf rs) h e (A ++ B) D (omega (arith, l, la, lb)) in
-    rw (append-assoc A B (C ++ D)) at x
+    let lb = call-length (others hs rs) in
+    let x = lowest-open n u (length hs + length (others hs rs)) (pairsOf rs) h e (A ++ B) (omega (arith, l, la, lb)) in
+    rw (append-assoc A B (useAims (pairsOf rs))) at x
 
 pub open-use : (hs : List Head) (rs : List written.Rule) (n : Names) (u : Use) → Each (Sectioned n) (pairsOf rs) → isUsed u (pairsOf rs) ≡ true
     → (us : List Use) (own : ℕ) (f : Aim → ℕ) → ((v : Use) → f (ranked v) ≡ lowestOf n v own us)
-    → lowestOf n u own us ≡ f (getD (aimsOf hs rs) (lowestOf (openNames n) u (length hs + length rs) (pairsOf rs)) nothing)
+    → lowestOf n u own us ≡ f (getD (aimsOf hs rs) (lowestOf (openNames n) u (length hs + length (others hs rs)) (pairsOf rs)) nothing)
 open-use hs rs n u h e us own f g =
     let x = use-aim hs rs n u h e in
     lowest-twin n u (x .twin) (pair.alike u (x .twin) (x .same-pair)) own us ∙ sym (ap f (x .aim) ∙ g (x .twin))
@@ -344,17 +311,11 @@ pub open-below : (hs : List Head) (rs : List written.Rule) → Each (λ k. k .pl
 unfolding aimsOf openRules
 open-below hs rs =
     let A = headAims hs in
-    let B = ruleAims rs in
+    let B = callAims (others hs rs) in
     let C = useAims (pairsOf rs) in
-    let D = callAims (elsewhere hs rs) in
-    let a = length-append A (B ++ (C ++ D)) in
-    let b = length-append B (C ++ D) in
-    let c = length-append C D in
+    let a = length-append A (B ++ C) in
+    let b = length-append B C in
     let la = head-length hs in
-    let lb = rule-length rs in
-    let lc = use-length (pairsOf rs) in
-    let m = length (A ++ (B ++ (C ++ D))) in
+    let m = length (A ++ (B ++ C)) in
     let P : KnownRule → Type 0 = λ k. k .place < m in
-    each-append P (byList 0 hs) _ (below (list-numbers 0 hs) m (omega (arith, a)))
-    (each-append P (byRules (length hs) rs) _ (below (rules-numbers (length hs) rs) m (omega (arith, a, b, la)))
-    (below (calls-numbers (length hs + length rs + length (pairsOf rs)) (elsewhere hs rs)) m (omega (arith, a, b, c, la, lb, lc))))
+    each-append P (byList 0 hs) _ (below (list-numbers 0 hs) m (omega (arith, a))) (below (calls-numbers (length hs) (others hs rs)) m (omega (arith, a, b, la)))

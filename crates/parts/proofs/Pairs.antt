@@ -1,21 +1,23 @@
 -- The pairs of section and operand rule, part by part and of the whole.
 use mathlib.Core.Bool.{Bool, true, false, _||_}
-use mathlib.Core.List.{List, [], _∷_, _++_}
+use mathlib.Core.List.{List, [], _∷_, _++_, append-nil}
 use mathlib.Core.Logic.{_⊎_, inl, inr}
 use mathlib.Core.Path.{_≡_, refl, sym, ap, _∙_}
-use Prim.Native.Nat.{_+_}
+use Prim.Native.Nat.{suc, _+_}
 use native.Mathlib.Omega.{arith}
 use lib.ListN.{length}
 use Rattle.acceptance.proofs.Shape.{Each}
 use Rattle.base.specs.Bools.{never, or, or₁, or₂}
 use Rattle.base.specs.Common.{if_then_else_}
 use Rattle.base.specs.Tree.{plain, cycle, choice, done, _▸_, nil, alternative, absent, otherwise}
+use Rattle.names.specs.Understand.{isOne}
 use Rattle.names.specs.Uses.{Use, plainUses, actUses, actsUses, altsUses, otherUses, rulesUses, samePair, isUsed, firsts, pairsOf}
 use Rattle.parts.proofs.Numbers.{each-map}
-use Rattle.parts.specs.Objects.{asRules}
+use Rattle.parts.specs.Objects.{callsAll, mentions, fresh, namesOf, others, asRules, calledRules, asActs, usedIn, together}
 use Rattle.precedence.proofs.Places as pair
-use Rattle.syntax.specs.Texts.{Head}
+use Rattle.syntax.specs.Texts.{Head, Common}
 use Rattle.syntax.specs.Written as written
+use Rattle.words.specs.Words.{Word}
 
 -- Uses one after the other
 
@@ -55,20 +57,54 @@ unfolding rulesUses
 uses-append [] ss = refl
 uses-append (r ∷ rs) ss = ap (actsUses (r .body)) (uses-append rs ss) ∙ acts-behind (r .body) (rulesUses rs) (rulesUses ss)
 
--- the list of the common part uses none
-list-uses : (hs : List Head) (rs : List written.Rule) → rulesUses (asRules hs ++ rs) ≡ rulesUses rs
+-- the program in which a part is resolved: of the names none has a use, and the first has the part's
+called-uses : (ws : List Word) → rulesUses (calledRules ws) ≡ []
+unfolding calledRules rulesUses actsUses
+called-uses [] = refl
+called-uses (w ∷ ws) = called-uses ws
+
+list-uses : (hs : List Head) (ws : List Word) → rulesUses (asRules hs ++ calledRules ws) ≡ []
 unfolding asRules rulesUses actsUses
-list-uses [] rs = refl
-list-uses (h ∷ hs) rs = list-uses hs rs
+list-uses [] ws = called-uses ws
+list-uses (h ∷ hs) ws = list-uses hs ws
 
-pub list-pairs : (hs : List Head) (rs : List written.Rule) → pairsOf (asRules hs ++ rs) ≡ pairsOf rs
-unfolding pairsOf
-list-pairs hs rs = ap (firsts []) (list-uses hs rs)
+acts-uses : (us k : List Use) → actsUses (asActs us) k ≡ us ++ k
+unfolding asActs actsUses plainUses
+acts-uses [] k = refl
+acts-uses (u ∷ us) k = ap (λ (v : List Use). u ∷ v) (acts-uses us k)
 
-pub list-length : (hs : List Head) (rs : List written.Rule) → length (asRules hs ++ rs) ≡ length hs + length rs
+first-has : (us k : List Use) → k ≡ [] → actsUses (asActs us) k ≡ us
+first-has us k e = acts-uses us k ∙ ap (λ (v : List Use). us ++ v) e ∙ append-nil us
+
+part-uses : (hs : List Head) (rs : List written.Rule) → rulesUses (usedIn (rulesUses rs) (asRules hs ++ calledRules (others hs rs))) ≡ rulesUses rs
+unfolding usedIn asRules calledRules others namesOf fresh mentions isOne rulesUses
+part-uses [] [] = refl
+part-uses [] (r ∷ rs) = first-has (rulesUses (r ∷ rs)) _ (called-uses (fresh (r .rule .text ∷ []) (callsAll (r .body) ++ mentions rs)))
+part-uses (h ∷ hs) rs = first-has (rulesUses rs) _ (list-uses hs (others (h ∷ hs) rs))
+
+pub together-pairs : (c : Common) (rs : List written.Rule) → pairsOf (together c rs .rules) ≡ pairsOf rs
+unfolding pairsOf together
+together-pairs c rs = ap (firsts []) (part-uses (c .listed) rs)
+
+called-length : (ws : List Word) → length (calledRules ws) ≡ length ws
+unfolding calledRules
+called-length [] = refl
+called-length (w ∷ ws) = ap suc (called-length ws)
+
+list-length : (hs : List Head) (ws : List Word) → length (asRules hs ++ calledRules ws) ≡ length hs + length ws
 unfolding asRules
-list-length [] rs = omega arith
-list-length (h ∷ hs) rs = let e = list-length hs rs in omega (arith, e)
+list-length [] ws = let e = called-length ws in omega (arith, e)
+list-length (h ∷ hs) ws = let e = list-length hs ws in omega (arith, e)
+
+used-length : (us : List Use) (rs : List written.Rule) → length (usedIn us rs) ≡ length rs
+unfolding usedIn
+used-length us [] = refl
+used-length us (r ∷ rs) = refl
+
+-- "as many rules as names"
+pub together-length : (c : Common) (rs : List written.Rule) → length (together c rs .rules) ≡ length (c .listed) + length (others (c .listed) rs)
+unfolding together
+together-length c rs = used-length (rulesUses rs) _ ∙ list-length (c .listed) (others (c .listed) rs)
 
 -- First uses
 

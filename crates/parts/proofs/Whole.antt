@@ -16,7 +16,7 @@ use Rattle.names.specs.Understand.{isOne, isFirst, rulesMean}
 use Rattle.names.specs.Uses.{Use, rulesUses, isUsed, firsts, pairsOf}
 use Rattle.parts.proofs.Alike.{Like, like-on, like-back, Renamed, Reranked, each-left, each-right}
 use Rattle.parts.proofs.Numbers.{none-some, found-each, open-call, Finds, each-map, open-found, Sectioned, use-sectioned, use-open, open-use}
-use Rattle.parts.proofs.Pairs.{uses-append, list-pairs, list-length, firsts-behind, part-pairs, uses-paired}
+use Rattle.parts.proofs.Pairs.{uses-append, together-pairs, together-length, firsts-behind, part-pairs, uses-paired}
 use Rattle.parts.proofs.Rules.{Unseen, NotTyped, rules-clear, all-used, Opened, opened-nil, opened-cons, opened-append, all-opened, rules-alike, seenAfter, rules-append}
 use Rattle.parts.specs.Link.{rulesOf, isNamed, listedType, usesOf, pairsIn, textOf, knownOf, placeFor, closing, closed, closedIn}
 use Rattle.parts.specs.Objects.{callsAll, callsIn, named, aimsOf, openRules, openNames, OpenRule, Object, together, openAll}
@@ -167,10 +167,10 @@ module _ (c : Common) (n : Names) (whole : List written.Rule) (listed : Each (Li
       at-name = rw (placeFor, b .1)
 
   reranked : (rs : List written.Rule) → Each (Sectioned n) (pairsOf rs) → (u : Use) → isUsed u (pairsOf rs) ≡ true → Reranked (together c rs) p n (to rs) u
-  unfolding closing placeFor together
+  unfolding closing placeFor
   reranked rs h u e =
       let x = open-use hs rs n u h e (pairsOf whole) (length whole) (placeFor n ks (length whole) (pairsOf whole)) (λ v. refl) in
-      rw (list-length hs rs, list-pairs hs rs) x
+      rw (together-length c rs, together-pairs c rs) x
 
   part-alike : (prev : List (List ℕ)) (rs : List written.Rule) → Each (Finds ks) (callsIn rs) → Each (Sectioned n) (pairsOf rs) → Unseen prev rs → NotTyped prev rs
       → Like (closed (to rs)) (openAll (together c rs) n (openRules hs rs) [] rs) (rulesMean p n ks prev rs)

@@ -30,12 +30,12 @@ use Rattle.parts.proofs.Alike.{OneEach, nowhere, there, one-each, each-
 use Rattle.parts.proofs.Depth.{DeepRule, part-deep}
 use Rattle.parts.proofs.Linking.{good-inj, common-is, is-common, common-same, object-of}
 use Rattle.parts.proofs.Numbers.{none-some, nothing, found-each, open-call, each-map, Sectioned, use-open, OpenUse, use-aim, open-below}
-use Rattle.parts.proofs.Pairs.{list-pairs, list-length, uses-paired}
+use Rattle.parts.proofs.Pairs.{together-pairs, together-length, uses-paired}
 use Rattle.parts.proofs.Rules.{Opened, opened-nil, opened-cons, all-opened, all-used}
 use Rattle.parts.proofs.Sound.{frame-at}
 use Rattle.parts.specs.Objects
-use Rattle.parts.specs.Objects.{callOf, selects, calls, callsAll, callsSome, callsOther, callsIn, Aim, named, ranked, ruleAims, aimsOf, openRules, oneEach, openNames, OpenRule, together, openRule, openAll}
-use Rattle.parts.specs.Sound.{Few, FewAll, FewSome, FewOther, Deep, DeepAll, DeepSome, DeepOther, numberOf, selectorNumber, numbers, numbersAll, numbersSome, numbersOther, sortOf, frame, textsOf, StandsFor, Aligned, openAims, SoundRule, callWords, SoundUse, Sound, TranslatedSound}
+use Rattle.parts.specs.Objects.{callOf, selects, calls, callsAll, callsSome, callsOther, callsIn, Aim, named, ranked, others, aimsOf, openRules, oneEach, openNames, OpenRule, together, openRule, openAll}
+use Rattle.parts.specs.Sound.{Few, FewAll, FewSome, FewOther, Deep, DeepAll, DeepSome, DeepOther, numberOf, selectorNumber, numbers, numbersAll, numbersSome, numbersOther, sortOf, frame, textsOf, StandsFor, Aligned, SoundRule, callWords, SoundUse, Sound, TranslatedSound}
 use Rattle.precedence.proofs.Places as pair
 use Rattle.program.specs.Accepted.{Calls, Oks}
 use Rattle.program.specs.Made.{Level}
@@ -60,7 +60,7 @@ aligned-append aims (i ∷ is) js [] vs h k = absurd h
 aligned-append aims (i ∷ is) js (w ∷ ws) vs h k = (h .0, aligned-append aims is js ws vs (h .1) k)
 
 module _ (hs : List Head) (rs : List written.Rule) (p : Program) (n : Names) (sec : Each (Sectioned n) (pairsOf rs))
-    (same-length : length (p .rules) ≡ length hs + length rs) (same-pairs : pairsOf (p .rules) ≡ pairsOf rs) where
+    (same-length : length (p .rules) ≡ length hs + length (others hs rs)) (same-pairs : pairsOf (p .rules) ≡ pairsOf rs) where
   abbrev aims : List Aim
   aims = aimsOf hs rs
 
@@ -420,11 +420,6 @@ unfolding callWords callsIn
 opened-words opened-nil = refl
 opened-words (opened-cons {r = r} {rs = rs} x g) = rw (x .calls, opened-words g)
 
-opened-aims : {rs : List written.Rule} {os : List OpenRule} → Opened rs os → ruleAims rs ≡ openAims os
-unfolding ruleAims openAims
-opened-aims opened-nil = refl
-opened-aims (opened-cons x g) = rw (x .name, opened-aims g)
-
 opened-some : {rs : List written.Rule} {os : List OpenRule} → Opened rs os → NotEmpty rs → NotEmpty os
 unfolding NotEmpty
 opened-some opened-nil h = h
@@ -469,10 +464,10 @@ sound-of c n rs os ok shaped few deep some-rule e =
     let operands = rules-operands (λ w. isOne (w .text) (textsOf (callsIn rs)) ≡ true) rs (texts-self (callsIn rs)) in
     let uses = each-two (UseOk (openNames n) (openRules hs rs)) (λ u. isOne (u .operand .text) (textsOf (callsIn rs)) ≡ true) (SoundUse hs n os) (rulesUses rs) (use-sound hs rs n os (opened-words o)) used operands in
     record {
-      elsewhere = Objects.elsewhere hs rs;
-      numbered = rw (opened-aims o);
+      others = Objects.others hs rs;
+      numbered = refl;
       some-rule = opened-some o some-rule;
-      rules = rules-sound hs rs (together c rs) n sec (list-length hs rs) (list-pairs hs rs) ok (open-ok n ok) [] rs shaped few deep (uses-paired rs) os e;
+      rules = rules-sound hs rs (together c rs) n sec (together-length c rs) (together-pairs c rs) ok (open-ok n ok) [] rs shaped few deep (uses-paired rs) os e;
       uses = firsts-each (SoundUse hs n os) [] (rulesUses rs) uses;
     }
 

@@ -15,7 +15,7 @@ use Rattle.names.specs.Uses.{Use}
 use Rattle.processor.specs.Process.{Part, partOf}
 use Rattle.program.specs.Program.{Acts}
 use Rattle.syntax.specs.Parse.{endOf}
-use Rattle.syntax.specs.Reading.{Read, got, fault}
+use Rattle.syntax.specs.Reading.{got}
 use Rattle.syntax.specs.Texts.{Common, readCommon}
 use Rattle.words.specs.Words.{Word}
 use Rattle.parts.specs.Link.{Linked, refused, link}
@@ -70,15 +70,19 @@ unfoldable pub usesWords : List Use → List ℕ
 usesWords [] = []
 usesWords (u ∷ us) = u .sign .start ∷ length (u .sign .text) ∷ (nameWords (u .section) ++ (nameWords (u .operand) ++ usesWords us))
 
--- `PO`, the number of words behind these three (32 bits), the bytes of the common part and of the part, rules, pairs; the common part; pairs; rules
-unfoldable pub bodyOf : List ℕ → ℕ → ℕ → Object → List ℕ
-bodyOf common partLength listed o =
-    length common ∷ partLength ∷ length (o .rules) ∷ length (o .uses)
-    ∷ (packed common ++ (usesWords (o .uses) ++ rulesWords (o .aims) (listed + length (o .rules)) (o .rules)))
+-- the number of the first pair: pairs are numbered last
+unfoldable pub firstPair : Object → ℕ
+firstPair o = length (o .aims) - length (o .uses)
 
-unfoldable pub objectWords : List ℕ → ℕ → ℕ → Object → List ℕ
-objectWords common partLength listed o =
-    let b = bodyOf common partLength listed o in
+-- `PO`, the number of words behind these three (32 bits), the bytes of the common part and of the part, rules, pairs; the common part; pairs; rules
+unfoldable pub bodyOf : List ℕ → ℕ → Object → List ℕ
+bodyOf common partLength o =
+    length common ∷ partLength ∷ length (o .rules) ∷ length (o .uses)
+    ∷ (packed common ++ (usesWords (o .uses) ++ rulesWords (o .aims) (firstPair o) (o .rules)))
+
+unfoldable pub objectWords : List ℕ → ℕ → Object → List ℕ
+objectWords common partLength o =
+    let b = bodyOf common partLength o in
     20559 ∷ (length b / 65536) ∷ (length b % 65536) ∷ b
 
 -- What `sst_part` answers: the object's words, or a number, the text (0 the common part, 1 the part) and its part at fault; "20" where they pass the lent words
@@ -87,15 +91,11 @@ pub data Made : Type 0 where
   made : List ℕ → Made
   unmade : ℕ → ℕ → Part → Made
 
-unfoldable pub listedIn : Read Common → ℕ
-listedIn (got c ws) = length (c .listed)
-listedIn (fault n w) = 0
-
 unfoldable pub ifFits : List ℕ → ℕ → List ℕ → Made
 ifFits part room ws = if leb (length ws) room then made ws else unmade 20 1 (partOf (endOf part))
 
 unfoldable pub asMade : List ℕ → List ℕ → ℕ → Translated → Made
-asMade common part room (object o) = ifFits part room (objectWords common (length part) (listedIn (readCommon common)) o)
+asMade common part room (object o) = ifFits part room (objectWords common (length part) o)
 asMade common part room (inCommon n p) = unmade n 0 p
 asMade common part room (inPart n p) = unmade n 1 p
 
@@ -109,10 +109,10 @@ lentObject (unmade number text at) n = replicate n 0
 
 -- What `sst_link` answers for words that are objects of the common part, one behind the other; and 40 for any others
 
-unfoldable pub allWords : List ℕ → ℕ → List ℕ → List Object → List ℕ
-allWords common listed [] os = []
-allWords common listed (n ∷ ns) [] = []
-allWords common listed (n ∷ ns) (o ∷ os) = objectWords common n listed o ++ allWords common listed ns os
+unfoldable pub allWords : List ℕ → List ℕ → List Object → List ℕ
+allWords common [] os = []
+allWords common (n ∷ ns) [] = []
+allWords common (n ∷ ns) (o ∷ os) = objectWords common n o ++ allWords common ns os
 
 -- the objects that the words are, and the lengths of their parts
 pub record AreObjects (common : List ℕ) (c : Common) (n : Names) (words : List ℕ) : Type 0 where
@@ -120,7 +120,7 @@ pub record AreObjects (common : List ℕ) (c : Common) (n : Names) (words : List
   pub objects : List Object
   pub as-many : length lengths ≡ length objects
   pub sound : Each (Sound (c .listed) n) objects
-  pub are : words ≡ allWords common (length (c .listed)) lengths objects
+  pub are : words ≡ allWords common lengths objects
 
 -- what is made of the parts of a common part, one behind the other, are its objects: linking never answers 40 for it
 pub data Makes (common : List ℕ) : List (List ℕ) → List ℕ → Type 0 where
@@ -144,5 +144,5 @@ pub record LinksWords (common : List ℕ) (c : Common) (n : Names) (words : List
 
 -- all of this file computes where this is unfolded
 unfoldable pub opened : Unit {0}
-unfolding packed nameWords typeWords namesWords markOf bodyCells ruleWords rulesWords usesWords bodyOf objectWords listedIn ifFits asMade makeObject lentObject allWords lastLength
+unfolding packed nameWords typeWords namesWords markOf bodyCells ruleWords rulesWords usesWords firstPair bodyOf objectWords ifFits asMade makeObject lentObject allWords lastLength
 opened = tt

@@ -3,7 +3,7 @@
 use mathlib.Core.Bool.{false, _&&_}
 use mathlib.Core.List.{List, [], _∷_, _++_}
 use mathlib.Core.Option.{Option, none, some}
-use Prim.Native.Nat.{ℕ, suc, _+_}
+use Prim.Native.Nat.{ℕ, zero, suc, _-_}
 use lib.ListN.{length}
 use Rattle.base.specs.Common.{if_then_else_, given}
 use Rattle.base.specs.Tree.{plain, cycle, choice, done, _▸_, nil, alternative, absent, otherwise}
@@ -11,7 +11,7 @@ use Rattle.names.specs.Declare.{declareSections}
 use Rattle.names.specs.Known.{Checked, good, wrong, _>>=_, faultIf, KnownOperators, KnownRule, Names, lookupType, optionalType}
 use Rattle.names.specs.Resolve.{actsOf}
 use Rattle.names.specs.Understand.{nobody, isOne, taken}
-use Rattle.names.specs.Uses.{Use, pairsOf}
+use Rattle.names.specs.Uses.{Use, rulesUses, pairsOf}
 use Rattle.processor.specs.Process.{Part, partOf}
 use Rattle.program.specs.Made.{Level}
 use Rattle.program.specs.Past.{pastAll}
@@ -62,6 +62,11 @@ unfoldable pub callsIn : List written.Rule → List Word
 callsIn [] = []
 callsIn (r ∷ rs) = callsAll (r .body) ++ callsIn rs
 
+-- the names of the rules and of those that they call, in text order
+unfoldable pub mentions : List written.Rule → List Word
+mentions [] = []
+mentions (r ∷ rs) = r .rule ∷ (callsAll (r .body) ++ mentions rs)
+
 -- The numbers of a part's calls
 
 -- what a number stands for: the rule of a name, or the rules of a pair of section and operand rule
@@ -72,10 +77,6 @@ pub data Aim : Type 0 where
 unfoldable pub headAims : List Head → List Aim
 headAims [] = []
 headAims (h ∷ hs) = named (h .rule .text) ∷ headAims hs
-
-unfoldable pub ruleAims : List written.Rule → List Aim
-ruleAims [] = []
-ruleAims (r ∷ rs) = named (r .rule .text) ∷ ruleAims rs
 
 unfoldable pub useAims : List Use → List Aim
 useAims [] = []
@@ -93,36 +94,29 @@ fresh seen (w ∷ ws) =
     let first = w ∷ fresh (w .text ∷ seen) ws in
     if isOne (w .text) seen then again else first
 
-unfoldable pub namesOf : List Head → List written.Rule → List (List ℕ)
-namesOf [] [] = []
-namesOf [] (r ∷ rs) = r .rule .text ∷ namesOf [] rs
-namesOf (h ∷ hs) rs = h .rule .text ∷ namesOf hs rs
+unfoldable pub namesOf : List Head → List (List ℕ)
+namesOf [] = []
+namesOf (h ∷ hs) = h .rule .text ∷ namesOf hs
 
--- "rules elsewhere": names that are called and are neither on the list nor rules of the part
-unfoldable pub elsewhere : List Head → List written.Rule → List Word
-elsewhere hs rs = fresh (namesOf hs rs) (callsIn rs)
+-- every other rule that a part names, its own or a rule elsewhere: the first word of each name that is not on the list
+unfoldable pub others : List Head → List written.Rule → List Word
+others hs rs = fresh (namesOf hs) (mentions rs)
 
--- numbered from 0: the names of the list, the part's rules, its pairs, the rules elsewhere
+-- numbered from 0: the names of the list, the other names, the part's pairs
 unfoldable pub aimsOf : List Head → List written.Rule → List Aim
-aimsOf hs rs = headAims hs ++ (ruleAims rs ++ (useAims (pairsOf rs) ++ callAims (elsewhere hs rs)))
+aimsOf hs rs = headAims hs ++ (callAims (others hs rs) ++ useAims (pairsOf rs))
 
 -- "calls go by this list": a name of the list is a choice rule of that type, any other a procedure rule, here or elsewhere
 unfoldable pub byList : ℕ → List Head → List KnownRule
 byList i [] = []
 byList i (h ∷ hs) = record { named = h .rule .text; place = i; gives = some (h .gives .text) } ∷ byList (suc i) hs
 
-unfoldable pub byRules : ℕ → List written.Rule → List KnownRule
-byRules i [] = []
-byRules i (r ∷ rs) = record { named = r .rule .text; place = i; gives = none } ∷ byRules (suc i) rs
-
 unfoldable pub byCalls : ℕ → List Word → List KnownRule
 byCalls i [] = []
 byCalls i (w ∷ ws) = record { named = w .text; place = i; gives = none } ∷ byCalls (suc i) ws
 
 unfoldable pub openRules : List Head → List written.Rule → List KnownRule
-openRules hs rs =
-    let own = length hs + length rs in
-    byList 0 hs ++ (byRules (length hs) rs ++ byCalls (own + length (pairsOf rs)) (elsewhere hs rs))
+openRules hs rs = byList 0 hs ++ byCalls (length hs) (others hs rs)
 
 -- the rules of a pair are made in linking: in a part they are one open call
 unfoldable pub oneEach : List KnownOperators → List KnownOperators
@@ -147,13 +141,27 @@ pub record Object : Type 0 where
   pub uses : List Use  -- the first use of each of its pairs
   pub aims : List Aim
 
--- what is declared, as far as the two texts show it: a name of the list is
+-- what is declared, as far as the two texts show it: a name of the list is, and so is any other rule that the part names
 unfoldable pub asRules : List Head → List written.Rule
 asRules [] = []
 asRules (h ∷ hs) = record { rule = h .rule; gives = some (h .gives); body = done; closing = h .rule } ∷ asRules hs
 
+unfoldable pub calledRules : List Word → List written.Rule
+calledRules [] = []
+calledRules (w ∷ ws) = record { rule = w; gives = none; body = done; closing = w } ∷ calledRules ws
+
+-- the uses of operators of a part, all in the first of these rules: "the order of first use" is the part's own
+unfoldable pub asActs : List Use → written.Acts
+asActs [] = done
+asActs (u ∷ us) = plain (written.ranked (u .sign) (u .section) (u .operand)) ▸ asActs us
+
+unfoldable pub usedIn : List Use → List written.Rule → List written.Rule
+usedIn us [] = []
+usedIn us (r ∷ rs) = record { rule = r .rule; gives = r .gives; body = asActs us; closing = r .closing } ∷ rs
+
+-- the program in which a part is resolved: as many rules as names, and the part's uses
 unfoldable pub together : Common → List written.Rule → Program
-together c rs = record { sections = c .sections; rules = asRules (c .listed) ++ rs }
+together c rs = record { sections = c .sections; rules = usedIn (rulesUses rs) (asRules (c .listed) ++ calledRules (others (c .listed) rs)) }
 
 -- the list: a name once, and no operation's; its type declared
 unfoldable pub listMeans : Program → Names → List (List ℕ) → List Head → Checked (Unit {0})
@@ -206,8 +214,19 @@ meaning c rs =
     ofPart (openAll (together c rs) n (openRules (c .listed) rs) [] rs) (λ os.
     object (record { rules = os; uses = pairsOf rs; aims = aimsOf (c .listed) rs })))
 
+-- "512 names of entries, types and rules": the first word past so many
+unfoldable pub pastNames : ℕ → List Word → Option Word
+pastNames left [] = none
+pastNames zero (w ∷ ws) = some w
+pastNames (suc left) (w ∷ ws) = pastNames left ws
+
+unfoldable pub unlessPast : Option Word → Translated → Translated
+unlessPast none t = t
+unlessPast (some w) t = inPart 9 (partOf w)
+
+-- the list's names and the others beside those of the sections
 unfoldable pub readOn : Common → Read (List written.Rule) → Translated
-readOn c (got rs ws) = meaning c rs
+readOn c (got rs ws) = unlessPast (pastNames (c .left - length (c .listed)) (others (c .listed) rs)) (meaning c rs)
 readOn c (fault n w) = inPart n (partOf w)
 
 unfoldable pub readBoth : Read Common → List ℕ → Translated
@@ -223,5 +242,5 @@ translate common part =
 
 -- all of this file computes where this is unfolded
 unfoldable pub opened : Unit {0}
-unfolding callOf selects calls callsIn headAims ruleAims useAims callAims fresh namesOf elsewhere aimsOf byList byRules byCalls openRules oneEach openNames asRules together listMeans openRule openAll ofCommon ofPart commonMeans meaning readOn readBoth translate
+unfolding callOf selects calls callsIn mentions headAims useAims callAims fresh namesOf others aimsOf byList byCalls openRules oneEach openNames asRules calledRules asActs usedIn together listMeans openRule openAll ofCommon ofPart commonMeans meaning pastNames unlessPast readOn readBoth translate
 opened = tt

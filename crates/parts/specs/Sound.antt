@@ -128,10 +128,6 @@ Aligned aims [] (w ∷ ws) = ⊥
 Aligned aims (i ∷ is) [] = ⊥
 Aligned aims (i ∷ is) (w ∷ ws) = StandsFor (getD aims i (named [])) w × Aligned aims is ws
 
-unfoldable pub openAims : List OpenRule → List Aim
-openAims [] = []
-openAims (r ∷ rs) = named (r .name .text) ∷ openAims rs
-
 pub record SoundRule (hs : List Head) (aims : List Aim) (r : OpenRule) : Type 0 where
   pub sort : r .means .valued ≡ given (r .gives)
   pub in-order : Oks (frame hs aims) (r .means .body) (r .means .valued) false
@@ -152,8 +148,8 @@ pub record SoundUse (hs : List Head) (n : Names) (rules : List OpenRule) (u : Us
   pub shown : isOne (u .operand .text) (textsOf (callWords rules)) ≡ true
 
 pub record Sound (hs : List Head) (n : Names) (o : Object) : Type 0 where
-  pub elsewhere : List Word
-  pub numbered : o .aims ≡ headAims hs ++ (openAims (o .rules) ++ (useAims (o .uses) ++ callAims elsewhere))
+  pub others : List Word
+  pub numbered : o .aims ≡ headAims hs ++ (callAims others ++ useAims (o .uses))
   pub some-rule : NotEmpty (o .rules)
   pub rules : Each (SoundRule hs (o .aims)) (o .rules)
   pub uses : Each (SoundUse hs n (o .rules)) (o .uses)
@@ -181,5 +177,5 @@ AnyObjects =
 
 -- all of this file computes where this is unfolded
 unfoldable pub opened : Unit {0}
-unfolding numberOf selectorNumber numbers Few Deep sortOf frame textsOf StandsFor Aligned openAims callWords
+unfolding numberOf selectorNumber numbers Few Deep sortOf frame textsOf StandsFor Aligned callWords
 opened = tt
