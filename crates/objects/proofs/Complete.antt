@@ -21,7 +21,7 @@ use Rattle.parts.specs.Link.{listedType}
 use Rattle.parts.specs.Objects.{Aim, named, ranked}
 use Rattle.parts.specs.Sound as sound
 use Rattle.parts.specs.Sound.{numberOf, selectorNumber, numbers, numbersAll, numbersSome, numbersOther, Few, FewAll, FewSome, FewOther, Deep, DeepAll, DeepSome, DeepOther, frame, StandsFor}
-use Rattle.parts.specs.Texts.{Head}
+use Rattle.syntax.specs.Texts.{Head}
 use Rattle.program.specs.Accepted.{Calls, Labelled, NeedsLabel, OkPlain, OkSelector, Ok, Oks, OkAlts, OkOther}
 use Rattle.program.specs.Past.{plainPast, isExit, exits, exitsAll, exitsSome, exitsOther, past, pastAll, pastSome, pastOther}
 use Rattle.program.specs.Program.{Plain, match, any, emit, error, exit, call, back, give, update, updateWith, Selector, byToken, byRule, byOperation, byOperationWith, Act, Acts, Alts, Other, Rule}

@@ -8,7 +8,7 @@ use lib.Dec.{eqb, leb, ltb}
 use lib.ListN.{length, drop}
 use Rattle.base.specs.Common.{if_then_else_, same, given}
 use Rattle.parts.specs.Link.{listedType}
-use Rattle.parts.specs.Texts.{Head}
+use Rattle.syntax.specs.Texts.{Head}
 use Rattle.objects.specs.View.{Name, Pair, RuleView}
 
 -- what begins with a cell

@@ -13,7 +13,7 @@ use Rattle.acceptance.proofs.Shape.{Each}
 use Rattle.base.specs.Common.{if_then_else_}
 use Rattle.base.specs.Tree.{plain, cycle, choice, done, _▸_, nil, alternative, absent, otherwise}
 use Rattle.parts.specs.Sound.{Deep, DeepAll, DeepSome, DeepOther}
-use Rattle.parts.specs.Texts.{aPart}
+use Rattle.syntax.specs.Texts.{aPart}
 use Rattle.syntax.specs.Actions.{aPlain, aSelector, someLabels, closes, aCycle, aChoice, anAction, anOtherwise, anAlternative, actions, alternatives}
 use Rattle.syntax.specs.Parse.{aRule, someRules}
 use Rattle.syntax.specs.Reading.{got, Reader, _>>_, pure, peek, pass, over, within, on_then_else_, expect, aName, oneName, optional}
