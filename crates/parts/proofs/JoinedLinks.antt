@@ -1,8 +1,9 @@
 -- Linking is translating the one text of a common part and its parts: for any bytes, and the other way round.
 use mathlib.Core.Bool.{false}
-use mathlib.Core.List.{List, _∷_}
+use mathlib.Core.List.{List, [], _∷_}
+use mathlib.Core.Option.{none}
 use mathlib.Core.Path.{_≡_, refl, ap, _∙_}
-use Prim.Native.Nat.{ℕ, suc, _≤_}
+use Prim.Native.Nat.{ℕ, zero, suc, _+_, _-_, _≤_}
 use lib.Dec.{eqb, ltb}
 use lib.ListN.{length}
 use borrow.Author.Tests.{le-ltb, ne-eqb}
@@ -12,9 +13,9 @@ use Rattle.parts.proofs.AsText.{very-text, text-links}
 use Rattle.parts.proofs.FromTexts.{of-texts}
 use Rattle.parts.proofs.JoinedText.{joined-reads}
 use Rattle.parts.proofs.Linking.{few-linked}
-use Rattle.parts.specs.Joined.{joinedText, ReadsEach, reads-nil, reads-cons, VeryJoined, JoinedLinks}
+use Rattle.parts.specs.Joined.{joinedText, ReadsEach, reads-nil, reads-cons, VeryJoined, Named, JoinedLinks}
 use Rattle.parts.specs.Link.{Linked, atPart, collect, lastOf, withNames, withCommon, linkTexts}
-use Rattle.parts.specs.Objects.{Object, object, meaning, readOn, readBoth, translate}
+use Rattle.parts.specs.Objects.{others, Object, object, meaning, pastNames, unlessPast, readOn, readBoth, translate}
 use Rattle.parts.specs.Promise.{Parts, parts-nil, parts-cons}
 use Rattle.syntax.specs.Texts.{Common, tooLong, readCommon, readPart}
 use Rattle.syntax.specs.Reading.{got}
@@ -34,21 +35,28 @@ each-many : {left : ℕ} {ts : List (List ℕ)} {rss : List (List Rule)} → Rea
 each-many reads-nil = refl
 each-many (reads-cons rest e r) = ap suc (each-many r)
 
-module _ (common : List ℕ) (c : Common) (rest : List Word) (e : readCommon common ≡ got c rest) (short : length common ≤ 32768) where
-  translates : (t : List ℕ) (rs : List Rule) (vs : List Word) (o : Object) → readPart (c .left) t ≡ got rs vs → length t ≤ 32768 → meaning c rs ≡ object o → translate common t ≡ object o
-  unfolding translate tooLong readBoth readOn
-  translates t rs vs o d h m = rw (le-ltb 32768 (length common) short, le-ltb 32768 (length t) h, e, d) m
+none-past : (left : ℕ) (ws : List Word) → length ws ≤ left → pastNames left ws ≡ none
+unfolding pastNames
+none-past left [] h = refl
+none-past zero (w ∷ ws) h = absurd (omega arith)
+none-past (suc left) (w ∷ ws) h = none-past left ws (omega arith)
 
-  collects : {ts : List (List ℕ)} {rss : List (List Rule)} {os : List Object} → ReadsEach (c .left) ts rss → Each (λ t. length t ≤ 32768) ts → Parts c rss os → (i : ℕ) (k : List Object → Linked) → collect common i ts k ≡ k os
+module _ (common : List ℕ) (c : Common) (rest : List Word) (e : readCommon common ≡ got c rest) (short : length common ≤ 32768) where
+  translates : (t : List ℕ) (rs : List Rule) (vs : List Word) (o : Object) → readPart (c .left) t ≡ got rs vs → length t ≤ 32768 → length (c .listed) + length (others (c .listed) rs) ≤ c .left
+      → meaning c rs ≡ object o → translate common t ≡ object o
+  unfolding translate tooLong readBoth readOn unlessPast
+  translates t rs vs o d h n m = rw (le-ltb 32768 (length common) short, le-ltb 32768 (length t) h, e, d, none-past (c .left - length (c .listed)) (others (c .listed) rs) (omega arith)) m
+
+  collects : {ts : List (List ℕ)} {rss : List (List Rule)} {os : List Object} → ReadsEach (c .left) ts rss → Each (λ t. length t ≤ 32768) ts → Named c rss → Parts c rss os → (i : ℕ) (k : List Object → Linked) → collect common i ts k ≡ k os
   unfolding collect atPart Each
-  collects reads-nil h parts-nil i k = refl
-  collects (reads-cons {t = t} {rs = rs} vs d r) h (parts-cons {o = o} m q) i k = rw (translates t rs vs o d (h .0) m) (collects r (h .1) q (suc i) (λ os. k (o ∷ os)))
+  collects reads-nil h n parts-nil i k = refl
+  collects (reads-cons {t = t} {rs = rs} vs d r) h n (parts-cons {o = o} m q) i k = rw (translates t rs vs o d (h .0) (n .0) m) (collects r (h .1) (n .1) q (suc i) (λ os. k (o ∷ os)))
 
 pub joined-links : JoinedLinks
 unfolding linkTexts withCommon withNames
-joined-links common parts c rest n rss e r h short each whole room words verdict p =
+joined-links common parts c rest n rss e r h named short each whole room words verdict p =
     let l = text-links c n rss h (joinedText common parts) (joined-reads common parts c rest rss e r (h .some-part) whole (h .few-rules)) room words verdict p in
     let many = each-many r in
     let some-part : eqb (length parts) 0 ≡ false = ne-eqb (length parts) 0 (λ z. omega (arith, h .some-part, z, many)) in
     let few-parts : ltb 16 (length parts) ≡ false = le-ltb 16 (length parts) (omega (arith, h .few-parts, many)) in
-    rw (some-part, few-parts) (collects common c rest e short r each (l .parts) 1 _ ∙ rw (e, h .common) (l .links common (lastOf parts)))
+    rw (some-part, few-parts) (collects common c rest e short r each named (l .parts) 1 _ ∙ rw (e, h .common) (l .links common (lastOf parts)))

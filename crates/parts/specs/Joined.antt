@@ -11,6 +11,7 @@ use Rattle.acceptance.proofs.Shape.{Each}
 use Rattle.figure.specs.Told.{Told, figureOf}
 use Rattle.names.specs.Known.{Names}
 use Rattle.parts.specs.Link.{linked, linkTexts}
+use Rattle.parts.specs.Objects.{others}
 use Rattle.parts.specs.Promise.{joined, InOrder, ReadsAs}
 use Rattle.syntax.specs.Texts.{Common, readCommon, readPart}
 use Rattle.processor.specs.Process.{accepted, process}
@@ -61,10 +62,14 @@ VeryJoined =
     (common : List ℕ) (parts : List (List ℕ)) (room : ℕ) (words : List ℕ) (verdict : Bool) (told : Told) → linkTexts common parts room ≡ linked words verdict told → length (joinedText common parts) ≤ 32768
     → (process (joinedText common parts) room ≡ accepted words verdict) × (figureOf (joinedText common parts) room ≡ told)
 
+-- "512 names": each part by itself, with the common part, names no more; so it is of itself where each name of the list is a rule of some part
+abbrev pub Named : Common → List (List Rule) → Type 0
+Named c rss = Each (λ rs. length (c .listed) + length (others (c .listed) rs) ≤ c .left) rss
+
 -- and the other way: what the processor accepts of it is linked, where no check of linking but those of the whole's table is against it. "The byte limit counts for each part"
 abbrev pub JoinedLinks : Type 0
 JoinedLinks =
-    (common : List ℕ) (parts : List (List ℕ)) (c : Common) (rest : List Word) (n : Names) (rss : List (List Rule)) → readCommon common ≡ got c rest → ReadsEach (c .left) parts rss → InOrder c n rss
+    (common : List ℕ) (parts : List (List ℕ)) (c : Common) (rest : List Word) (n : Names) (rss : List (List Rule)) → readCommon common ≡ got c rest → ReadsEach (c .left) parts rss → InOrder c n rss → Named c rss
     → length common ≤ 32768 → Each (λ t. length t ≤ 32768) parts → length (joinedText common parts) ≤ 32768
     → (room : ℕ) (words : List ℕ) (verdict : Bool) → process (joinedText common parts) room ≡ accepted words verdict
     → linkTexts common parts room ≡ linked words verdict (figureOf (joinedText common parts) room)
