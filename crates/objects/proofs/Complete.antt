@@ -2,32 +2,31 @@
 use mathlib.Core.Bool.{Bool, true, false, _&&_, _||_, not}
 use mathlib.Core.List.{List, [], _∷_, _++_}
 use mathlib.Core.Option.{Option, none, some}
-use mathlib.Core.Path.{_≡_, refl, sym, ap, _∙_, subst}
+use mathlib.Core.Path.{_≡_, refl, sym, ap, _∙_}
 use native.Mathlib.Omega.{arith}
-use Prim.Native.Nat.{ℕ, zero, suc, _+_, _-_, _<_, _≤_}
+use Prim.Native.Nat.{ℕ, zero, suc, _+_, _-_, _≤_}
 use borrow.Author.Tests.{ne-eqb, le-leb}
-use lib.Dec.{eqb, leb}
-use lib.ListN.{length, getD, drop, length-append}
+use lib.Dec.{eqb}
+use lib.ListN.{length, getD, length-append}
 use lib.Seq.{drop-append-seam}
 use Rattle.base.specs.Bools as bools
-use Rattle.base.specs.Common.{if_then_else_, given}
 use Rattle.base.specs.Tree.{plain, cycle, choice, done, _▸_, nil, alternative, absent, otherwise}
 use Rattle.calls.specs.Renumber.{renumberPlain, renumberSelector, renumber, renumbers, renumberAlts, renumberOther}
 use Rattle.cells.specs.Cells.{plainCells, selectorCells, absentCell, actCells, actsCells, altsCells, otherCells}
 use Rattle.names.specs.Uses.{Use}
 use Rattle.parts.proofs.Sound.{frame-at}
 use Rattle.parts.specs.Form.{markOf}
-use Rattle.parts.specs.Link.{listedType}
 use Rattle.parts.specs.Objects.{Aim, named, ranked}
 use Rattle.parts.specs.Sound as sound
 use Rattle.parts.specs.Sound.{numberOf, selectorNumber, numbers, numbersAll, numbersSome, numbersOther, Few, FewAll, FewSome, FewOther, Deep, DeepAll, DeepSome, DeepOther, frame, StandsFor}
 use Rattle.syntax.specs.Texts.{Head}
-use Rattle.program.specs.Accepted.{Calls, Labelled, NeedsLabel, OkPlain, OkSelector, Ok, Oks, OkAlts, OkOther}
+use Rattle.program.specs.Accepted.{Calls, OkPlain, OkSelector, Ok, Oks, OkAlts, OkOther}
+use Rattle.syntax.specs.Texts.{Head}
 use Rattle.program.specs.Past.{plainPast, isExit, exits, exitsAll, exitsSome, exitsOther, past, pastAll, pastSome, pastOther}
 use Rattle.program.specs.Program.{Plain, match, any, emit, error, exit, call, back, give, update, updateWith, Selector, byToken, byRule, byOperation, byOperationWith, Act, Acts, Alts, Other, Rule}
 use Rattle.program.specs.Table.{countLabels}
-use Rattle.objects.proofs.Marks.{nothing, wordOf, isToken, absentOf, absent-is, May, may-later, OnNil, on-nil, later-nil, or-right, Spends, parted, one-name, mark-named, mark-ranked, sort-alone, sort-taking, sort-asking, sort-askingWith, arm-labels, act-longer, acts-longer, alts-longer, other-longer, selector-longer}
-use Rattle.objects.specs.Order.{Sort, sortOf, armOf, Went, joined, inRow, beside, eitherOf, around, deeper, onOperand, standsAt, isListed, callOk, ruleOk, onCall, anAct, anArm, acts, arms}
+use Rattle.objects.proofs.Marks.{nothing, wordOf, isToken, absentOf, absent-is, May, OnNil, on-nil, later-nil, or-right, Spends, parted, one-name, mark-named, mark-ranked, sort-alone, sort-taking, sort-asking, sort-askingWith, arm-labels, act-longer, acts-longer, selector-longer}
+use Rattle.objects.specs.Order.{sortOf, armOf, Went, joined, inRow, beside, eitherOf, around, deeper, onOperand, standsAt, isListed, callOk, ruleOk, onCall, anAct, anArm, acts, arms}
 use Rattle.objects.specs.View.{Name, Pair}
 
 abbrev pub went : List ℕ → List Name → Bool → Bool → Went

@@ -1,7 +1,7 @@
 -- Cells that pass the test are those of actions that may stand in an object, with calls by any numbers that stand for the names.
-use mathlib.Core.Bool.{Bool, true, false, _&&_, _||_, not}
+use mathlib.Core.Bool.{Bool, true, false, _&&_, _||_}
 use mathlib.Core.List.{List, [], _∷_, _++_, append-assoc}
-use mathlib.Core.Logic.{_⊎_, inl, inr}
+use mathlib.Core.Logic.{inl, inr}
 use mathlib.Core.Option.{Option, none, some}
 use mathlib.Core.Path.{_≡_, refl, sym, ap, _∙_, subst}
 use native.Mathlib.Omega.{arith}
@@ -12,25 +12,25 @@ use lib.ListN.{length, getD, take, drop, take-append-drop}
 use lib.Seq.{length-take-le}
 use Rattle.acceptance.proofs.Shape.{Each}
 use Rattle.base.specs.Bools as bools
-use Rattle.base.specs.Common.{if_then_else_, given}
+use Rattle.base.specs.Common.{if_then_else_}
 use Rattle.base.specs.Tree.{plain, cycle, choice, done, _▸_, nil, alternative, absent, otherwise}
 use Rattle.calls.specs.Renumber.{renumberPlain, renumberSelector, renumber, renumbers, renumberAlts, renumberOther}
-use Rattle.cells.specs.Cells.{plainCells, selectorCells, absentCell, actCells, actsCells, altsCells, otherCells}
+use Rattle.cells.specs.Cells.{plainCells, selectorCells, actCells, actsCells, altsCells, otherCells}
 use Rattle.names.specs.Uses.{Use}
 use Rattle.parts.proofs.Numbers.{none-some}
 use Rattle.parts.proofs.Sound.{frame-at}
 use Rattle.parts.specs.Form.{markOf}
-use Rattle.parts.specs.Link.{listedType}
 use Rattle.parts.specs.Objects.{Aim, named, ranked}
 use Rattle.parts.specs.Sound as sound
 use Rattle.parts.specs.Sound.{numberOf, selectorNumber, numbers, numbersAll, numbersSome, numbersOther, Few, FewAll, FewSome, FewOther, Deep, DeepAll, DeepSome, DeepOther, frame, StandsFor}
 use Rattle.syntax.specs.Texts.{Head}
-use Rattle.program.specs.Accepted.{Value, Values, Calls, NeedsLabel, OkPlain, OkSelector, Ok, Oks, OkAlts, OkOther}
+use Rattle.program.specs.Accepted.{Values, Calls, OkPlain, OkSelector, Ok, Oks, OkAlts, OkOther}
+use Rattle.syntax.specs.Texts.{Head}
 use Rattle.program.specs.Past.{plainPast, isExit, exits, exitsAll, exitsSome, exitsOther, past, pastAll, pastSome, pastOther}
-use Rattle.program.specs.Program.{Plain, match, any, emit, error, exit, call, back, give, update, updateWith, Selector, byToken, byRule, byOperation, byOperationWith, Act, Acts, Alts, Other, Rule}
+use Rattle.program.specs.Program.{Plain, match, any, emit, error, exit, call, back, give, update, updateWith, Selector, byToken, byRule, byOperation, byOperationWith, Alts, Other, Rule}
 use Rattle.program.specs.Table.{countLabels}
 use Rattle.objects.proofs.Complete.{went}
-use Rattle.objects.proofs.Marks.{nothing, wordOf, isToken, absentOf, absent-is, May, may-later, OnNil, later-nil, needs-label, or-right, Spends, spends, mark-named, mark-ranked, SortIs, sort-is, ArmIs, arm-is}
+use Rattle.objects.proofs.Marks.{nothing, wordOf, isToken, absentOf, absent-is, May, OnNil, needs-label, or-right, Spends, spends, mark-named, mark-ranked, SortIs, sort-is, ArmIs, arm-is}
 use Rattle.objects.specs.Order.{Sort, ends, leaves, turns, alone, taking, calling, returning, giving, token, ruled, asking, askingWith, unknown, sortOf, Arm, bare, bareToken, other, labels, noArm, armOf, Went, joined, inRow, beside, eitherOf, around, deeper, onOperand, standsAt, isListed, callOk, ruleOk, onCall, Actions, Choices, anAct, anArm, acts, arms}
 use Rattle.objects.specs.View.{Name, Pair}
 
@@ -46,7 +46,7 @@ values-drop zero xs h = h
 values-drop (suc n) [] h = tt
 values-drop (suc n) (x ∷ xs) h = values-drop n xs (h .1)
 
-some-same : {A : Type 0} {a b : A} → some a ≡ some b → a ≡ b
+pub some-same : {A : Type 0} {a b : A} → some a ≡ some b → a ≡ b
 some-same e = cc
 
 frame-length : (hs : List Head) (xs : List Aim) → length (frame hs xs) ≡ length xs

@@ -3,3 +3,5 @@ pub mod Views
 pub mod Marks
 pub mod Complete
 pub mod Found
+pub mod Numbering
+pub mod Exact

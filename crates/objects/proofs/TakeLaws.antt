@@ -3,12 +3,11 @@ use mathlib.Core.Bool.{Bool, true, false}
 use mathlib.Core.List.{List, [], _∷_, _++_, append-assoc}
 use mathlib.Core.Path.{_≡_, refl, sym, ap, _∙_, subst}
 use native.Mathlib.Omega.{arith}
-use Prim.Native.Nat.{ℕ, zero, suc, _+_, _-_, _/_, _%_, _≤_}
+use Prim.Native.Nat.{ℕ, zero, suc, _-_, _/_, _%_}
 use borrow.Author.Tests.{leb-true, le-leb, eqb-true, eq-eqb}
 use lib.Dec.{eqb, leb}
 use lib.ListN.{length, take, drop, length-append, take-append-drop}
 use lib.Seq.{take-append-seam, drop-append-seam, length-take-le}
-use Rattle.acceptance.proofs.Shape.{Each}
 use Rattle.base.proofs.Laws.{same-refl, same-eq}
 use Rattle.base.specs.Common.{if_then_else_, same}
 use Rattle.objects.specs.Take.{Taken, took, missing, Taker, onward, _>>=_, pure, refuse, aWord, someWords, theWord, theWords, times, Counted, counted, ifSized, sized}

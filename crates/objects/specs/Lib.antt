@@ -1,3 +1,4 @@
 pub mod Take
 pub mod View
 pub mod Order
+pub mod Whole

@@ -1,5 +1,4 @@
 -- Taking words off the front of words: what is taken, and the words left; or nothing, where they are not of that form.
-use mathlib.Core.Bool.{Bool}
 use mathlib.Core.List.{List, [], _∷_}
 use Prim.Native.Nat.{ℕ, zero, suc, _-_, _/_, _%_}
 use lib.Dec.{eqb, leb}

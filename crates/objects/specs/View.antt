@@ -67,6 +67,12 @@ module _ (aims : List Aim) (first : ℕ) where
 unfoldable pub viewOf : ℕ → Object → View
 viewOf size o = record { size = size; pairs = pairsOf (o .uses); rules = rulesOf (o .aims) (firstPair o) (o .rules) }
 
+-- the views of objects, with the lengths of their parts
+unfoldable pub viewsOf : List ℕ → List Object → List View
+viewsOf [] os = []
+viewsOf (n ∷ ns) [] = []
+viewsOf (n ∷ ns) (o ∷ os) = viewOf n o ∷ viewsOf ns os
+
 -- The words of a view
 
 unfoldable pub nameWords : Name → List ℕ
@@ -166,5 +172,5 @@ module _ (common : List ℕ) where
 
 -- all of this file computes where this is unfolded
 unfoldable pub opened : Unit {0}
-unfolding nameOf namesOf optionOf pairOf pairsOf ruleOf rulesOf viewOf nameWords optionWords all pairWords ruleWords bodyWords viewWords aName ifNamed anOption aPair aRule before behind aBody aView views
+unfolding nameOf namesOf optionOf pairOf pairsOf ruleOf rulesOf viewOf viewsOf nameWords optionWords all pairWords ruleWords bodyWords viewWords aName ifNamed anOption aPair aRule before behind aBody aView views
 opened = tt

@@ -1,0 +1,51 @@
+-- Whether words are objects of a common part, one behind the other: "any other words are 40".
+use mathlib.Core.Bool.{Bool, true, false, _&&_, not}
+use mathlib.Core.List.{List, [], _∷_, _++_}
+use mathlib.Core.Option.{Option, none, some}
+use Prim.Native.Nat.{ℕ}
+use lib.ListN.{length}
+use Rattle.base.specs.Common.{given}
+use Rattle.names.specs.Known.{Names, findOperators}
+use Rattle.names.specs.Understand.{isOne}
+use Rattle.syntax.specs.Texts.{Head}
+use Rattle.objects.specs.Order.{isListed, ruleInOrder}
+use Rattle.objects.specs.View.{Name, Pair, RuleView, View, views}
+
+-- the names that the rules call, in text order
+unfoldable pub callsOf : List RuleView → List Name
+callsOf [] = []
+callsOf (r ∷ rs) = r .calls ++ callsOf rs
+
+unfoldable pub textsOf : List Name → List (List ℕ)
+textsOf [] = []
+textsOf (n ∷ ns) = n .text ∷ textsOf ns
+
+unfoldable pub every : {A : Type 0} → (A → Bool) → List A → Bool
+every f [] = true
+every f (a ∷ as′) = f a && every f as′
+
+unfoldable pub isSome : {A : Type 0} → List A → Bool
+isSome [] = false
+isSome (a ∷ as′) = true
+
+module _ (hs : List Head) (n : Names) where
+  -- the section is there; the operand rule is not on the list, and is called
+  unfoldable pub pairInOrder : List RuleView → Pair → Bool
+  pairInOrder rs p = given (findOperators (p .section .text) (n .operators)) && (not (isListed hs [] (p .operand)) && isOne (p .operand .text) (textsOf (callsOf rs)))
+
+  -- one rule or more; all pairs and all rules in order
+  unfoldable pub viewInOrder : View → Bool
+  viewInOrder v = isSome (v .rules) && (every (pairInOrder (v .rules)) (v .pairs) && every (ruleInOrder hs (v .pairs)) (v .rules))
+
+  unfoldable pub allInOrder : Option (List View) → Bool
+  allInOrder none = false
+  allInOrder (some vs) = every viewInOrder vs
+
+  -- of the common part with these bytes
+  unfoldable pub areObjects : List ℕ → List ℕ → Bool
+  areObjects common words = allInOrder (views common (length words) words)
+
+-- all of this file computes where this is unfolded
+unfoldable pub opened : Unit {0}
+unfolding callsOf textsOf every isSome pairInOrder viewInOrder allInOrder areObjects
+opened = tt
