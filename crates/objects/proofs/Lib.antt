@@ -5,3 +5,4 @@ pub mod Complete
 pub mod Found
 pub mod Numbering
 pub mod Exact
+pub mod Ends

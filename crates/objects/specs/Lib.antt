@@ -2,3 +2,4 @@ pub mod Take
 pub mod View
 pub mod Order
 pub mod Whole
+pub mod Places
