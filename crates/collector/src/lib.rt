@@ -273,7 +273,7 @@ fn collect_entry(
     strings: bool,
     v: usize,
 ) -> Entered
-    requires { ⌜ (at ≤ length (now text)) × (length (now text) ≤ 32768) × (count ≤ 512) × (class ≤ 65535) × (class ≡ 6 → ⊥) ⌝ }
+    requires { ⌜ (at ≤ length (now text)) × (length (now text) ≤ 65535) × (count ≤ 512) × (class ≤ 65535) × (class ≡ 6 → ⊥) ⌝ }
     ensures { λ r. ⌜ AnEntry (now (text .entry)) (now (rows .entry)) (now (rows .exit)) at count class strings v r ⌝ }
 {
     let w = look(text, at);
@@ -310,7 +310,7 @@ fn collect_entries(
     strings: bool,
     v: usize,
 ) -> Entries
-    requires { ⌜ (at ≤ length (now text)) × (length (now text) ≤ 32768) × (count ≤ 512) × (class ≤ 65535) × (class ≡ 6 → ⊥) ⌝ }
+    requires { ⌜ (at ≤ length (now text)) × (length (now text) ≤ 65535) × (count ≤ 512) × (class ≤ 65535) × (class ≡ 6 → ⊥) ⌝ }
     ensures { λ r. ⌜ SomeEntries (EntriesIn strings v (wordsAt (now (text .entry)) at)) (now (text .entry)) (now (rows .entry)) (now (rows .exit)) at count class 0 r ⌝ }
 {
     let mut i = at;
@@ -348,7 +348,7 @@ fn collect_listed(
     strings: bool,
     v: usize,
 ) -> Entries
-    requires { ⌜ (at ≤ length (now text)) × (length (now text) ≤ 32768) × (count ≤ 512) × (class ≤ 65535) × (class ≡ 6 → ⊥) ⌝ }
+    requires { ⌜ (at ≤ length (now text)) × (length (now text) ≤ 65535) × (count ≤ 512) × (class ≤ 65535) × (class ≡ 6 → ⊥) ⌝ }
     ensures { λ r. ⌜ SomeEntries (ListedIn strings v (wordsAt (now (text .entry)) at)) (now (text .entry)) (now (rows .entry)) (now (rows .exit)) at count class 0 r ⌝ }
 {
     let c = look(text, at);
@@ -416,7 +416,7 @@ fn read_head(text: &[u8], at: usize) -> Head
 }
 
 fn collect_operation(text: &[u8], at: usize, rows: &mut [u16], count: usize, seen: Seen) -> Operated
-    requires { ⌜ (at ≤ length (now text)) × (length (now text) ≤ 32768) × (count ≤ 512) ⌝ }
+    requires { ⌜ (at ≤ length (now text)) × (length (now text) ≤ 65535) × (count ≤ 512) ⌝ }
     ensures { λ r. ⌜ AnOperation (now (text .entry)) (now (rows .entry)) (now (rows .exit)) at count seen r ⌝ }
 {
     let h = read_head(text, at);
@@ -450,7 +450,7 @@ fn collect_operations(
     count: usize,
     seen: Seen,
 ) -> Operated
-    requires { ⌜ (at ≤ length (now text)) × (length (now text) ≤ 32768) × (count ≤ 512) ⌝ }
+    requires { ⌜ (at ≤ length (now text)) × (length (now text) ≤ 65535) × (count ≤ 512) ⌝ }
     ensures { λ r. ⌜ SomeOperations (now (text .entry)) (now (rows .entry)) (now (rows .exit)) at count seen r ⌝ }
 {
     let mut i = at;
@@ -480,7 +480,7 @@ fn collect_operations(
 
 // An input section, or one of inputs and outputs, after its word `input`.
 fn collect_tokens(text: &[u8], at: usize, rows: &mut [u16], count: usize, state: State) -> Sectioned
-    requires { ⌜ (at ≤ length (now text)) × (length (now text) ≤ 32768) × (count ≤ 512) ⌝ }
+    requires { ⌜ (at ≤ length (now text)) × (length (now text) ≤ 65535) × (count ≤ 512) ⌝ }
     ensures { λ r. ⌜ ASection TokensIn (now (text .entry)) (now (rows .entry)) (now (rows .exit)) at count state r ⌝ }
 {
     let w = look(text, at);
@@ -491,7 +491,7 @@ fn collect_tokens(text: &[u8], at: usize, rows: &mut [u16], count: usize, state:
 }
 
 fn collect_both(text: &[u8], at: usize, rows: &mut [u16], count: usize, state: State) -> Sectioned
-    requires { ⌜ (at ≤ length (now text)) × (length (now text) ≤ 32768) × (count ≤ 512) ⌝ }
+    requires { ⌜ (at ≤ length (now text)) × (length (now text) ≤ 65535) × (count ≤ 512) ⌝ }
     ensures { λ r. ⌜ ASection BothIn (now (text .entry)) (now (rows .entry)) (now (rows .exit)) at count state r ⌝ }
 {
     let seen = state.seen;
@@ -513,7 +513,7 @@ fn collect_both(text: &[u8], at: usize, rows: &mut [u16], count: usize, state: S
 }
 
 fn collect_inputs(text: &[u8], at: usize, rows: &mut [u16], count: usize, state: State) -> Sectioned
-    requires { ⌜ (at ≤ length (now text)) × (length (now text) ≤ 32768) × (count ≤ 512) ⌝ }
+    requires { ⌜ (at ≤ length (now text)) × (length (now text) ≤ 65535) × (count ≤ 512) ⌝ }
     ensures { λ r. ⌜ ASection InputsIn (now (text .entry)) (now (rows .entry)) (now (rows .exit)) at count state r ⌝ }
 {
     let seen = state.seen;
@@ -540,7 +540,7 @@ fn collect_outputs(
     count: usize,
     state: State,
 ) -> Sectioned
-    requires { ⌜ (at ≤ length (now text)) × (length (now text) ≤ 32768) × (count ≤ 512) ⌝ }
+    requires { ⌜ (at ≤ length (now text)) × (length (now text) ≤ 65535) × (count ≤ 512) ⌝ }
     ensures { λ r. ⌜ ASection OutputsIn (now (text .entry)) (now (rows .entry)) (now (rows .exit)) at count state r ⌝ }
 {
     let seen = state.seen;
@@ -561,7 +561,7 @@ fn collect_outputs(
 
 // An error section after its head.
 fn collect_errors(text: &[u8], at: usize, rows: &mut [u16], count: usize, state: State) -> Sectioned
-    requires { ⌜ (at ≤ length (now text)) × (length (now text) ≤ 32768) × (count ≤ 512) ⌝ }
+    requires { ⌜ (at ≤ length (now text)) × (length (now text) ≤ 65535) × (count ≤ 512) ⌝ }
     ensures { λ r. ⌜ ASection ErrorsIn (now (text .entry)) (now (rows .entry)) (now (rows .exit)) at count state r ⌝ }
 {
     let seen = state.seen;
@@ -582,7 +582,7 @@ fn collect_errors(text: &[u8], at: usize, rows: &mut [u16], count: usize, state:
 
 // A type section after its word `type`: the members' class is the type's row.
 fn collect_type(text: &[u8], at: usize, rows: &mut [u16], count: usize, state: State) -> Sectioned
-    requires { ⌜ (at ≤ length (now text)) × (length (now text) ≤ 32768) × (count ≤ 512) ⌝ }
+    requires { ⌜ (at ≤ length (now text)) × (length (now text) ≤ 65535) × (count ≤ 512) ⌝ }
     ensures { λ r. ⌜ ASection TypeIn (now (text .entry)) (now (rows .entry)) (now (rows .exit)) at count state r ⌝ }
 {
     let w = look(text, at);
@@ -615,7 +615,7 @@ fn collect_mechanism(
     count: usize,
     state: State,
 ) -> Sectioned
-    requires { ⌜ (at ≤ length (now text)) × (length (now text) ≤ 32768) × (count ≤ 512) ⌝ }
+    requires { ⌜ (at ≤ length (now text)) × (length (now text) ≤ 65535) × (count ≤ 512) ⌝ }
     ensures { λ r. ⌜ ASection MechanismIn (now (text .entry)) (now (rows .entry)) (now (rows .exit)) at count state r ⌝ }
 {
     let n = look(text, at);
@@ -662,7 +662,7 @@ fn collect_operators(
     count: usize,
     state: State,
 ) -> Sectioned
-    requires { ⌜ (at ≤ length (now text)) × (length (now text) ≤ 32768) × (count ≤ 512) ⌝ }
+    requires { ⌜ (at ≤ length (now text)) × (length (now text) ≤ 65535) × (count ≤ 512) ⌝ }
     ensures { λ r. ⌜ ASection OperatorsSectionIn (now (text .entry)) (now (rows .entry)) (now (rows .exit)) at count state r ⌝ }
 {
     let w = look(text, at);
@@ -696,7 +696,7 @@ fn collect_section(
     count: usize,
     state: State,
 ) -> Sectioned
-    requires { ⌜ (at ≤ length (now text)) × (length (now text) ≤ 32768) × (count ≤ 512) ⌝ }
+    requires { ⌜ (at ≤ length (now text)) × (length (now text) ≤ 65535) × (count ≤ 512) ⌝ }
     ensures { λ r. ⌜ ASection SectionIn (now (text .entry)) (now (rows .entry)) (now (rows .exit)) at count state r ⌝ }
 {
     let w = look(text, at);
@@ -713,7 +713,7 @@ fn collect_section(
 
 // Sections up to the word `rules`.
 fn collect_sections(text: &[u8], at: usize, rows: &mut [u16], count: usize, state: State) -> Spot
-    requires { ⌜ (at ≤ length (now text)) × (length (now text) ≤ 32768) × (count ≤ 512) ⌝ }
+    requires { ⌜ (at ≤ length (now text)) × (length (now text) ≤ 65535) × (count ≤ 512) ⌝ }
     ensures { λ r. ⌜ SomeSections (now (text .entry)) (now (rows .entry)) (now (rows .exit)) at count state r ⌝ }
 {
     let mut i = at;
@@ -742,7 +742,7 @@ fn collect_sections(text: &[u8], at: usize, rows: &mut [u16], count: usize, stat
 
 // The rule of the place k.
 fn collect_rule(text: &[u8], at: usize, rows: &mut [u16], count: usize, k: usize) -> Spot
-    requires { ⌜ (at ≤ length (now text)) × (length (now text) ≤ 32768) × (count ≤ 512) × (k ≤ 512) ⌝ }
+    requires { ⌜ (at ≤ length (now text)) × (length (now text) ≤ 65535) × (count ≤ 512) × (k ≤ 512) ⌝ }
     ensures { λ r. ⌜ ARule (now (text .entry)) (now (rows .entry)) (now (rows .exit)) at count k r ⌝ }
 {
     let w = look(text, at);
@@ -767,7 +767,7 @@ fn collect_rule(text: &[u8], at: usize, rows: &mut [u16], count: usize, k: usize
 
 // The rules, the first of them being row `count`.
 fn collect_rules(text: &[u8], at: usize, rows: &mut [u16], count: usize) -> usize
-    requires { ⌜ (at ≤ length (now text)) × (length (now text) ≤ 32768) × (count ≤ 512) ⌝ }
+    requires { ⌜ (at ≤ length (now text)) × (length (now text) ≤ 65535) × (count ≤ 512) ⌝ }
     ensures { λ r. ⌜ SomeRules (now (text .entry)) (now (rows .entry)) (now (rows .exit)) at count 0 r ⌝ }
 {
     let mut i = at;
@@ -788,7 +788,7 @@ fn collect_rules(text: &[u8], at: usize, rows: &mut [u16], count: usize) -> usiz
 
 // The declarations of a program into rows of eight numbers: at most 512 rows, as many as have their place.
 pub fn collect(text: &[u8], rows: &mut [u16]) -> Collected
-    requires { ⌜ length (now text) ≤ 32768 ⌝ }
+    requires { ⌜ length (now text) ≤ 65535 ⌝ }
     ensures { λ r. ⌜ Collects (now (text .entry)) (now (rows .entry)) (now (rows .exit)) r ⌝ }
 {
     let seen = Seen {

@@ -65,7 +65,7 @@ fn resolve_rules(
     starts: &mut [u16],
     sorts: &mut [u8],
 ) -> Resolved
-    requires { ⌜ (length (now text) ≤ 32768) × (length (now rows) ≡ 6017) × Kept (now text) (now rows) (c .count) × (c .rules ≤ 512) × (c .at ≤ length (now text)) × (length (now cells) ≡ 4224) × (length (now starts) ≡ 128) × (length (now sorts) ≡ 128) ⌝ }
+    requires { ⌜ (length (now text) ≤ 65535) × (length (now rows) ≡ 6017) × Kept (now text) (now rows) (c .count) × (c .rules ≤ 512) × (c .at ≤ length (now text)) × (length (now cells) ≡ 4224) × (length (now starts) ≡ 128) × (length (now sorts) ≡ 128) ⌝ }
     ensures { λ r. ⌜ ResolvesRules (now (text .entry)) (now (rows .entry)) (now (rows .exit)) c (now (cells .exit)) (now (starts .exit)) (now (sorts .exit)) r ⌝ }
 {
     let q = maker::pairs(text, rows, c.count, c.rules, c.at);
@@ -104,7 +104,7 @@ pub fn resolve(
     starts: &mut [u16],
     sorts: &mut [u8],
 ) -> Resolved
-    requires { ⌜ (length (now text) ≤ 32768) × (length (now rows) ≡ 6017) × (length (now cells) ≡ 4224) × (length (now starts) ≡ 128) × (length (now sorts) ≡ 128) ⌝ }
+    requires { ⌜ (length (now text) ≤ 65535) × (length (now rows) ≡ 6017) × (length (now cells) ≡ 4224) × (length (now starts) ≡ 128) × (length (now sorts) ≡ 128) ⌝ }
     ensures { λ r. ⌜ ResolvesRead (now (text .entry)) (now (rows .exit)) (now (cells .exit)) (now (starts .exit)) (now (sorts .exit)) r ⌝ }
 {
     let c = collector::collect(text, rows);

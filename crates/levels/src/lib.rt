@@ -245,7 +245,7 @@ fn make_levels(
     starts: &mut [u16],
     sorts: &mut [u8],
 ) -> Made
-    requires { ⌜ (q .at ≤ length (now text)) × (length (now text) ≤ 32768) × Kept (now text) (now rows) n × (q .operand < 65536) × (q .own < 65536) × (length (now cells) ≤ 60000) × (q .count ≤ length (now cells) + 1) × (length (now starts) ≡ 128) × (length (now sorts) ≡ 128) ⌝ }
+    requires { ⌜ (q .at ≤ length (now text)) × (length (now text) ≤ 65535) × Kept (now text) (now rows) n × (q .operand < 65536) × (q .own < 65536) × (length (now cells) ≤ 60000) × (q .count ≤ length (now cells) + 1) × (length (now starts) ≡ 128) × (length (now sorts) ≡ 128) ⌝ }
     ensures { λ r. ⌜ SiteDone (now (text .entry)) (now (rows .entry)) n q (now (cells .entry)) (q .count) (now (starts .entry)) (now (sorts .entry)) (now (cells .exit)) (now (starts .exit)) (now (sorts .exit)) r ⌝ }
 {
     let mut rules = q.own;
@@ -300,7 +300,7 @@ pub fn make(
     starts: &mut [u16],
     sorts: &mut [u8],
 ) -> Made
-    requires { ⌜ (length (now text) ≤ 32768) × Kept (now text) (now rows) n × (length (now cells) ≤ 60000) × (written .count ≤ length (now cells) + 1) × (length (now starts) ≡ 128) × (length (now sorts) ≡ 128) ⌝ }
+    requires { ⌜ (length (now text) ≤ 65535) × Kept (now text) (now rows) n × (length (now cells) ≤ 60000) × (written .count ≤ length (now cells) + 1) × (length (now starts) ≡ 128) × (length (now sorts) ≡ 128) ⌝ }
     ensures { λ r. ⌜ MakeDone (now (text .entry)) (now (rows .entry)) n (written .rules) (now (cells .entry)) (written .count) (now (starts .entry)) (now (sorts .entry)) (now (cells .exit)) (now (starts .exit)) (now (sorts .exit)) r ⌝ }
 {
     let k = base::number(rows, PAIRS);

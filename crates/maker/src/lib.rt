@@ -116,7 +116,7 @@ fn with_entry(s: Rank, above: usize, level: usize, right: bool) -> Rank
 
 // The next level in use above `above`, of the entries at the place `at`.
 pub fn next_level(text: &[u8], at: usize, above: usize) -> Rank
-    requires { ⌜ (at ≤ length (now text)) × (length (now text) ≤ 32768) × (above ≤ 15) ⌝ }
+    requires { ⌜ (at ≤ length (now text)) × (length (now text) ≤ 65535) × (above ≤ 15) ⌝ }
     ensures bound { λ r. ⌜ RankBound above r ⌝ }
     ensures done { λ r. ⌜ RankDone (now (text .entry)) at above noRank r ⌝ }
 {
@@ -149,7 +149,7 @@ fn either(a: bool, b: bool) -> bool
 
 // The levels of the entries at the place `at`.
 fn section_levels(text: &[u8], at: usize) -> Levels
-    requires { ⌜ (at ≤ length (now text)) × (length (now text) ≤ 32768) ⌝ }
+    requires { ⌜ (at ≤ length (now text)) × (length (now text) ≤ 65535) ⌝ }
     ensures { λ r. ⌜ LevelsDone (now (text .entry)) at r ⌝ }
 {
     let mut l = next_level(text, at, 0);
@@ -280,7 +280,7 @@ fn is_over(others: usize, own: usize, l: Levels) -> bool
 
 // The use behind a `^`: its pair is put behind the others, if it is new.
 fn take_use(text: &[u8], rows: &mut [u16], n: usize, others: usize, own: usize, at: usize) -> Taken
-    requires { ⌜ (length (now text) ≤ 32768) × (length (now rows) ≡ 6017) × Kept (now text) (now rows) n × (others ≤ 512) × (own ≤ 128) × (getD (now rows) 5632 0 ≤ own) ⌝ }
+    requires { ⌜ (length (now text) ≤ 65535) × (length (now rows) ≡ 6017) × Kept (now text) (now rows) n × (others ≤ 512) × (own ≤ 128) × (getD (now rows) 5632 0 ≤ own) ⌝ }
     ensures { λ r. ⌜ UseDone (now (text .entry)) (now (rows .entry)) n others own at (now (rows .exit)) r ⌝ }
 {
     let u = read_use(text, rows, n, at);
@@ -317,7 +317,7 @@ fn take_use(text: &[u8], rows: &mut [u16], n: usize, others: usize, own: usize, 
 }
 
 fn take_word(text: &[u8], rows: &mut [u16], n: usize, others: usize, own: usize, w: WordAt) -> Taken
-    requires { ⌜ (length (now text) ≤ 32768) × (length (now rows) ≡ 6017) × Kept (now text) (now rows) n × (others ≤ 512) × (own ≤ 128) × (getD (now rows) 5632 0 ≤ own) ⌝ }
+    requires { ⌜ (length (now text) ≤ 65535) × (length (now rows) ≡ 6017) × Kept (now text) (now rows) n × (others ≤ 512) × (own ≤ 128) × (getD (now rows) 5632 0 ≤ own) ⌝ }
     ensures { λ r. ⌜ WordDone (now (text .entry)) (now (rows .entry)) n others own w (now (rows .exit)) r ⌝ }
 {
     if w.kind == words::CARET {
@@ -335,7 +335,7 @@ fn take_words(
     own: usize,
     at: usize,
 ) -> Paired
-    requires { ⌜ (at ≤ length (now text)) × (length (now text) ≤ 32768) × (length (now rows) ≡ 6017) × Kept (now text) (now rows) n × (others ≤ 512) × (own ≤ 128) × (getD (now rows) 5632 0 ≤ own) ⌝ }
+    requires { ⌜ (at ≤ length (now text)) × (length (now text) ≤ 65535) × (length (now rows) ≡ 6017) × Kept (now text) (now rows) n × (others ≤ 512) × (own ≤ 128) × (getD (now rows) 5632 0 ≤ own) ⌝ }
     ensures { λ r. ⌜ PairsFrom (now (text .entry)) (now (rows .entry)) n others own at (now (rows .exit)) r ⌝ }
 {
     let mut i = at;
@@ -388,7 +388,7 @@ fn is_without(rows: &[u16], n: usize) -> bool
 
 // The pairs of the rules from the place `at` on. The rows hold n declarations, the first rule's being `first`. A use that is not in order ends them.
 pub fn pairs(text: &[u8], rows: &mut [u16], n: usize, first: usize, at: usize) -> Paired
-    requires { ⌜ (at ≤ length (now text)) × (length (now text) ≤ 32768) × (length (now rows) ≡ 6017) × Kept (now text) (now rows) n × (first ≤ 512) ⌝ }
+    requires { ⌜ (at ≤ length (now text)) × (length (now text) ≤ 65535) × (length (now rows) ≡ 6017) × Kept (now text) (now rows) n × (first ≤ 512) ⌝ }
     ensures { λ r. ⌜ PairsDone (now (text .entry)) (now (rows .entry)) n first at (now (rows .exit)) r ⌝ }
 {
     rows[PAIRS] = 0;

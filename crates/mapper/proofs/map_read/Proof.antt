@@ -23,7 +23,7 @@ slice-aggregate-resolve-4 c = search needs
 
 -- src/lib.rt:129:9
 resolve-requires : tie.Need-resolve-requires
-resolve-requires c κs = (parse-short _ (c .before .before .before .before .before .before .pre .tree) (c .before .before .before .before .before .before .pre .rest) (c .before .before .before .before .before .before .pre .reads), search needs, search needs, search needs, search needs)
+resolve-requires c κs = (omega (arith, parse-short _ (c .before .before .before .before .before .before .pre .tree) (c .before .before .before .before .before .before .pre .rest) (c .before .before .before .before .before .before .pre .reads)), search needs, search needs, search needs, search needs)
 
 -- src/lib.rt:131:9
 returns : tie.Need-returns

@@ -1,4 +1,5 @@
 use borrow.Author.Needs.{needs}
+use native.Mathlib.Omega.{arith}
 use Rattle.translator.proofs.Passes.{answered-wrong, answered-good}
 use Rattle.grammar.proofs.ProgramIn.{parse-short}
 use mathlib.Core.Path.{refl, _∙_}
@@ -23,7 +24,7 @@ slice-aggregate-resolve-4 c = search needs
 
 -- src/lib.rt:157:9
 resolve-requires : tie.Need-resolve-requires
-resolve-requires c κs = (parse-short _ (c .before .before .before .before .before .before .before .pre .0 .tree) (c .before .before .before .before .before .before .before .pre .0 .rest) (c .before .before .before .before .before .before .before .pre .0 .reads), search needs, search needs, search needs, search needs)
+resolve-requires c κs = (omega (arith, parse-short _ (c .before .before .before .before .before .before .before .pre .0 .tree) (c .before .before .before .before .before .before .before .pre .0 .rest) (c .before .before .before .before .before .before .before .pre .0 .reads)), search needs, search needs, search needs, search needs)
 
 -- src/lib.rt:160:21
 refuse-requires : tie.Need-refuse-requires
