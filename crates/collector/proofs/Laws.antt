@@ -10,9 +10,8 @@ use lib.ListN.{length, take, drop}
 use borrow.Author.Tests.{ne-eqb, leb-true, leb-false}
 use Rattle.base.specs.Common.{given, if_then_else_}
 use Rattle.collector.proofs.Rows.{appends-then}
-use Rattle.collector.proofs.Skips.{body}
 use Rattle.collector.proofs.Words.{next-kind, not-kind, option-none, option-some, took-at, took-kind, took-past, took-rest, took-word}
-use Rattle.collector.specs.Collecting.{AHead, ARule, AnEntry, AnOperation, Appends, Counts, Goes, HeadRead, IsNone, IsWord, Puts, Reads, Room, Skips, SomeEntries, SomeOperations, SomeRules, declIn, inText, optionIn}
+use Rattle.collector.specs.Collecting.{AHead, ARule, AnEntry, AnOperation, Appends, Counts, Goes, HeadRead, IsNone, IsWord, LineIn, a-line, LinesIn, last-line, more-lines, Puts, Reads, Room, Skips, SomeEntries, SomeOperations, SomeRules, declIn, inText, optionIn}
 use Rattle.collector.specs.declared.Entered.{Entered}
 use Rattle.collector.specs.declared.Entries.{Entries}
 use Rattle.collector.specs.declared.Head.{Head}
@@ -23,7 +22,7 @@ use Rattle.collector.specs.declared.Row.{Row}
 use Rattle.collector.specs.declared.Spot.{Spot}
 use Rattle.collector.specs.declared.Valued.{Valued}
 use Rattle.declarations.specs.Decls.{Decl, entryDecls, ofEntry, ofOperation, ofRule, operationDecls, ruleDecls}
-use Rattle.grammar.specs.Derived.{Took, Not, kindOf, SpellingIn, no-strings, no-spelling, a-spelling, CountIn, a-number, counted, EntryIn, an-entry, EntriesIn, last-entry, more-entries, GivesIn, gives-none, gives-some, TakesIn, takes-none, takes-some, OperationIn, an-operation, OperationsIn, last-operation, more-operations, ListedIn, listed-in, RuleIn, a-rule, RulesIn, last-rule, more-rules}
+use Rattle.grammar.specs.Derived.{Took, Not, kindOf, SpellingIn, no-strings, no-spelling, a-spelling, CountIn, a-number, counted, EntryIn, an-entry, EntriesIn, last-entry, more-entries, GivesIn, gives-none, gives-some, TakesIn, takes-none, takes-some, OperationIn, an-operation, OperationsIn, last-operation, more-operations, ListedIn, listed-in}
 use Rattle.reader.proofs.SectionLaws.{adds-one, adds-then, count-is, kinds-then}
 use Rattle.reader.specs.Answers.{Here}
 use Rattle.reader.specs.Counting.{Adds, Kinds, NumberOf, countOf, oneMore}
@@ -470,16 +469,16 @@ rule-read {text} {rows} {rows′} {at} {count} {k} {c} {to} {w} {g} h f p s = re
   goes = going;
   appends = added;
 } where
-  going : (ws′ : List Word) (x : Rule) → RuleIn (wordsAt text at) ws′ x → Goes text at to ws′
-  going ws′ x (a-rule {ws₁ = ws₁} {ws₂ = ws₂} t u d b e) =
+  going : (ws′ : List Word) (x : Rule) → LineIn (wordsAt text at) ws′ x → Goes text at to ws′
+  going ws′ x (a-line {semi = semi} {ws₂ = ws₂} t u d) =
       let u′ : GivesIn (wordsAt text (w .next)) ws₂ (x .gives) = rw (took-rest h (omega arith) t) at u in
       record {
         past = omega (arith, took-past h (omega arith) t, f .low, s .low);
-        rest = s .rest (x .closing) ws′ (body (took-at (f .rest ws₂ (x .gives) u′) d) b e);
+        rest = s .rest semi ws′ (rw (f .rest ws₂ (x .gives) u′) at d);
       }
 
-  added : (ws′ : List Word) (x : Rule) → RuleIn (wordsAt text at) ws′ x → Room rows count 1 → Appends text rows rows′ count c (ofRule k x ∷ [])
-  added ws′ x (a-rule {ws₁ = ws₁} {ws₂ = ws₂} t u d b e) r =
+  added : (ws′ : List Word) (x : Rule) → LineIn (wordsAt text at) ws′ x → Room rows count 1 → Appends text rows rows′ count c (ofRule k x ∷ [])
+  added ws′ x (a-line {ws₂ = ws₂} t u d) r =
       let u′ : GivesIn (wordsAt text (w .next)) ws₂ (x .gives) = rw (took-rest h (omega arith) t) at u in
       appended text (ofRule k x) p
       (decl-is text (ruleRow k w (g .part)) (ofRule k x) refl refl (took-word h t) (option-none text (secondKind 7) (record { start = 0; len = 0 }) refl)
@@ -489,27 +488,27 @@ pub rules-last : {text rows rows′ : List ℕ} {i n k : ℕ} {x : Spot} {w : Wo
     → SomeRules text rows rows′ i n k (x .count)
 unfolding ruleDecls
 rules-last {text} {rows} {rows′} {i} {n} {k} {x} {w} a h e = record { small = a .bounds .small; appends = added } where
-  added : (ws′ : List Word) (rs : List Rule) → RulesIn (wordsAt text i) ws′ rs → Room rows n (length rs) → Appends text rows rows′ n (x .count) (ruleDecls k rs)
-  added ws′ (y ∷ []) (last-rule q m) r = a .appends ws′ y q r
-  added ws′ (y ∷ ys) (more-rules {ws₁ = ws₁} q m l) r = absurd (e (next-kind 257 h (ap (λ (vs : List Word). peek vs .kind) (sym (a .goes ws₁ y q .rest)) ∙ m)))
+  added : (ws′ : List Word) (rs : List Rule) → LinesIn (wordsAt text i) ws′ rs → Room rows n (length rs) → Appends text rows rows′ n (x .count) (ruleDecls k rs)
+  added ws′ (y ∷ []) (last-line q m) r = a .appends ws′ y q r
+  added ws′ (y ∷ ys) (more-lines {ws₁ = ws₁} q m l) r = absurd (e (next-kind 257 h (ap (λ (vs : List Word). peek vs .kind) (sym (a .goes ws₁ y q .rest)) ∙ m)))
 
 pub rules-more : {text rows rows₁ rows′ : List ℕ} {i n k k′ c : ℕ} {x : Spot} {w : WordAt} → ARule text rows rows₁ i n k x → Here text (x .at) w → w .kind ≡ 257
     → length rows₁ ≡ length rows → (x .count ≡ n + 1 → k′ ≡ suc k) → SomeRules text rows₁ rows′ (x .at) (x .count) k′ c → SomeRules text rows rows′ i n k c
 unfolding ruleDecls
 rules-more {text} {rows} {rows₁} {rows′} {i} {n} {k} {k′} {c} {x} {w} a h e z f u = record { small = u .small; appends = added } where
-  added : (ws′ : List Word) (rs : List Rule) → RulesIn (wordsAt text i) ws′ rs → Room rows n (length rs) → Appends text rows rows′ n c (ruleDecls k rs)
-  added ws′ (y ∷ []) (last-rule q m) r = absurd (not-kind 257 h (rw (a .goes ws′ y q .rest) at m) e)
-  added ws′ (y ∷ ys) (more-rules {ws₁ = ws₁} q m l) r =
+  added : (ws′ : List Word) (rs : List Rule) → LinesIn (wordsAt text i) ws′ rs → Room rows n (length rs) → Appends text rows rows′ n c (ruleDecls k rs)
+  added ws′ (y ∷ []) (last-line q m) r = absurd (not-kind 257 h (rw (a .goes ws′ y q .rest) at m) e)
+  added ws′ (y ∷ ys) (more-lines {ws₁ = ws₁} q m l) r =
       let b = a .appends ws₁ y q (record { size = r .size; room = omega (arith, r .room) }) in
-      let l′ : RulesIn (wordsAt text (x .at)) ws′ ys = rw (a .goes ws₁ y q .rest) at l in
+      let l′ : LinesIn (wordsAt text (x .at)) ws′ ys = rw (a .goes ws₁ y q .rest) at l in
       let d = u .appends ws′ ys l′ (record { size = z ∙ r .size; room = omega (arith, r .room, b .counted) }) in
       appends-then b (rw (f (b .counted)) at d)
 
 pub rules-stuck : {text rows rows′ : List ℕ} {i n k : ℕ} {x : Spot} → ARule text rows rows′ i n k x → x .at ≤ i → SomeRules text rows rows′ i n k (x .count)
 rules-stuck {text} {rows} {rows′} {i} {n} {k} {x} a e = record { small = a .bounds .small; appends = λ ws′ rs q r. absurd (never q) } where
-  never : {ws′ : List Word} {rs : List Rule} → RulesIn (wordsAt text i) ws′ rs → ⊥
-  never (last-rule {ws′ = ws′} {r = y} q m) = omega (arith, a .goes ws′ y q .past)
-  never (more-rules {ws₁ = ws₁} {r = y} q m l) = omega (arith, a .goes ws₁ y q .past)
+  never : {ws′ : List Word} {rs : List Rule} → LinesIn (wordsAt text i) ws′ rs → ⊥
+  never (last-line {ws′ = ws′} {r = y} q m) = omega (arith, a .goes ws′ y q .past)
+  never (more-lines {ws₁ = ws₁} {r = y} q m l) = omega (arith, a .goes ws₁ y q .past)
 
 pub rules-from : {text rows rows′ : List ℕ} {at n k c : ℕ} {j : ℕ} → k ≡ j → SomeRules text rows rows′ at n k c → SomeRules text rows rows′ at n j c
 rules-from e u = rw e at u

@@ -8,10 +8,11 @@ use lib.Dec.{T, eqb}
 use lib.ListN.{length}
 use Rattle.collector.proofs.Standing.{entries-at}
 use Rattle.collector.proofs.Laws.{appended, decl-is}
+use Rattle.collector.proofs.Lines.{rules-lines}
 use Rattle.collector.proofs.Rows.{appends-none, appends-then}
 use Rattle.collector.proofs.Skips.{entries-behind}
 use Rattle.collector.proofs.Words.{next-kind, not-kind, option-none, reference-start, start-again, took-at, took-kind, took-past, took-rest, took-word}
-use Rattle.collector.specs.Collecting.{ASection, AllStand, all-more, all-none, Appends, BothIn, CollectedFor, Collects, ErrorsIn, Goes, InputsIn, Keeps, MechanismIn, OperatorsSectionIn, OutputsIn, Puts, Room, Skips, SomeEntries, SomeOperations, SomeRules, SomeSections, Stands, TokensIn, TypeIn, a-mechanism, a-type, alone, doubled, some-both, some-errors, some-inputs, some-operators, some-outputs}
+use Rattle.collector.specs.Collecting.{ASection, AllStand, all-more, all-none, Appends, BothIn, CollectedFor, Collects, ErrorsIn, Goes, InputsIn, Keeps, LinedIn, lined, LinesIn, MechanismIn, OperatorsSectionIn, OutputsIn, Puts, Room, RowsFor, Skips, SomeEntries, SomeOperations, SomeRules, SomeSections, Stands, TokensIn, TypeIn, a-mechanism, a-type, alone, doubled, some-both, some-errors, some-inputs, some-operators, some-outputs}
 use Rattle.collector.specs.declared.Entries.{Entries}
 use Rattle.collector.specs.declared.Operated.{Operated}
 use Rattle.collector.specs.declared.Row.{Row}
@@ -438,11 +439,19 @@ pub collected : {text rows rows₁ rows′ : List ℕ} {c : ℕ} {s : Spot} {w :
     → SomeSections text rows rows₁ 0 0 (record { input = 0; output = 0; error = 0; seen = record { plain = 0; taking = 0; giving = 0; both = 0 } }) s → Here text (s .at) w
     → SomeRules text rows₁ rows′ (w .next) (s .count) 0 c → Collects text rows rows′ (record { count = c; rules = s .count; at = w .next })
 unfolding declsOf entriesOf
-collected {text} {rows} {rows₁} {rows′} {c} {s} {w} y z a h b = record { size = z ∙ y; early = a .bounds .small; small = b .small; inside = h .high; collects = all } where
-  all : (p : Program) → ProgramIn (wordsAt text 0) p → length rows ≡ 6017 → CollectedFor p text rows′ (record { count = c; rules = s .count; at = w .next })
-  all p (a-program {ws₁ = ws₁} {ws₂ = ws₂} {ws₃ = ws₃} q t r e m n) l =
+collected {text} {rows} {rows₁} {rows′} {c} {s} {w} y z a h b = record { size = z ∙ y; early = a .bounds .small; small = b .small; inside = h .high; lines = lines; collects = all } where
+  behind : {xs : List Section} {head : Word} {ws₁ ws₂ : List Word} → SectionsIn nothing (wordsAt text 0) ws₁ xs → Took 265 ws₁ head ws₂ → ws₂ ≡ wordsAt text (w .next)
+  behind {xs} {ws₁ = ws₁} q t = took-rest h (omega arith) (took-at (a .rest nothing ws₁ xs q start-kept) t)
+
+  lines : (p : Program) → LinedIn (wordsAt text 0) p → length rows ≡ 6017 → RowsFor p text rows′ (record { count = c; rules = s .count; at = w .next })
+  lines p (lined {ws₁ = ws₁} {ws₂ = ws₂} {ws₃ = ws₃} q t r n) l =
       let d = a .appends nothing ws₁ (p .sections) q start-kept (record { size = l; room = omega arith }) in
-      let r′ : RulesIn (wordsAt text (w .next)) ws₃ (p .rules) = rw (took-rest h (omega arith) (took-at (a .rest nothing ws₁ (p .sections) q start-kept) t)) at r in
+      let r′ : LinesIn (wordsAt text (w .next)) ws₃ (p .rules) = rw (behind q t) at r in
       let f = b .appends ws₃ (p .rules) r′ (record { size = y ∙ l; room = omega (arith, d .counted, length-sections 0 (p .sections)) }) in
       let g = appends-then d f in
-      record { rows = g .filled ∙ start text rows (sectionsDecls 0 (p .sections) ++ ruleDecls 0 (p .rules)); count = omega (arith, g .counted); rules = omega (arith, d .counted); entries = entries-at (p .sections) (p .rules) (a .stands nothing ws₁ (p .sections) q start-kept) (omega arith); left = ws₃; again = r′; ending = e }
+      record { rows = g .filled ∙ start text rows (sectionsDecls 0 (p .sections) ++ ruleDecls 0 (p .rules)); count = omega (arith, g .counted); rules = omega (arith, d .counted); entries = entries-at (p .sections) (p .rules) (a .stands nothing ws₁ (p .sections) q start-kept) (omega arith); again = behind }
+
+  all : (p : Program) → ProgramIn (wordsAt text 0) p → length rows ≡ 6017 → CollectedFor p text rows′ (record { count = c; rules = s .count; at = w .next })
+  all p (a-program {ws₃ = ws₃} q t r e m n) l =
+      let its = lines p (lined q t (rules-lines r) n) l in
+      record { rows = its .rows; count = its .count; rules = its .rules; entries = its .entries; left = ws₃; again = rw (behind q t) at r; ending = e }

@@ -2,12 +2,13 @@
 -- `count` rows are in use before.
 use mathlib.Core.Bool.{Bool, true, false}
 use mathlib.Core.List.{List, [], _∷_, _++_}
-use mathlib.Core.Option.{Option}
+use mathlib.Core.Option.{Option, some}
 use mathlib.Core.Path.{_≡_}
 use Prim.Native.Nat.{ℕ, _+_, _*_, _≤_, _<_, max}
 use lib.Dec.{eqb}
 use lib.ListN.{length, set}
 use Rattle.base.specs.Common.{if_then_else_}
+use Rattle.base.specs.Tree.{done}
 use Rattle.collector.specs.declared.Collected.{Collected}
 use Rattle.collector.specs.declared.Entered.{Entered}
 use Rattle.collector.specs.declared.Entries.{Entries}
@@ -21,13 +22,13 @@ use Rattle.collector.specs.declared.Spot.{Spot}
 use Rattle.collector.specs.declared.State.{State}
 use Rattle.collector.specs.declared.Valued.{Valued}
 use Rattle.declarations.specs.Decls.{Decl, ofEntry, ofOperation, ofRule, entryDecls, operationDecls, sectionDecls, sectionsDecls, ruleDecls, declsOf, placeOf, entriesOf, EntriesAt}
-use Rattle.grammar.specs.Derived.{Took, Not, CountIn, EntryIn, ListedIn, OperationIn, OperationsIn, OperatorsIn, RuleIn, RulesIn, SectionsIn, ProgramIn, namesIn, namesInAll}
+use Rattle.grammar.specs.Derived.{Took, Not, CountIn, EntryIn, GivesIn, ListedIn, OperationIn, OperationsIn, OperatorsIn, RulesIn, SectionsIn, ProgramIn, namesIn, namesInAll}
 use Rattle.reader.specs.Counting.{Kinds, Adds}
 use Rattle.reader.specs.declared.Seen.{Seen}
 use Rattle.scanner.specs.declared.WordAt.{WordAt}
 use Rattle.symbols.specs.Rows.{wordOf, optionOf, secondKind, held}
 use Rattle.syntax.specs.Reading.{peek}
-use Rattle.syntax.specs.Sections.{Sofar, after, nextOf, instructions}
+use Rattle.syntax.specs.Sections.{Sofar, nothing, after, nextOf, instructions}
 use Rattle.syntax.specs.Written.{Entry, Operation, Operator, Section, inputs, outputs, both, errors, values, operations, operators, Rule, Program}
 use Rattle.words.specs.Words.{Word, wordsAt}
 
@@ -270,20 +271,51 @@ pub record Skips (text : List ℕ) (at r : ℕ) : Type 0 where
   pub high : r ≤ length text
   pub rest : (semi : Word) (ws′ : List Word) → Took 59 (toSemicolon (wordsAt text at)) semi ws′ → ws′ ≡ wordsAt text r
 
+-- a name, its type where it has one, and what stands there up to the next semicolon: a rule, or a line `NAME >> type;` of a common part's list, which is a
+-- rule without a body
+pub data LineIn (ws ws′ : List Word) (r : Rule) : Type 0 where
+  a-line : {semi : Word} {ws₁ ws₂ : List Word} → Took 257 ws (r .rule) ws₁ → GivesIn ws₁ ws₂ (r .gives) → Took 59 (toSemicolon ws₂) semi ws′ → LineIn ws ws′ r
+
+-- up to a word that is no name
+pub data LinesIn : List Word → List Word → List Rule → Type 0 where
+  last-line : {ws ws′ : List Word} {r : Rule} → LineIn ws ws′ r → Not 257 ws′ → LinesIn ws ws′ (r ∷ [])
+  more-lines : {ws ws′ ws₁ : List Word} {r : Rule} {rs : List Rule} → LineIn ws ws₁ r → peek ws₁ .kind ≡ 257 → LinesIn ws₁ ws′ rs → LinesIn ws ws′ (r ∷ rs)
+
+-- the list of a common part, `NAME >> type;` no or more times
+pub data ListIn : List Word → List Word → List Rule → Type 0 where
+  no-head : {ws ws′ : List Word} → ws′ ≡ ws → ListIn ws ws′ []
+  more-heads : {ws ws′ ws₁ ws₂ ws₃ ws₄ : List Word} {w sign g semi : Word} {rs : List Rule} → Took 257 ws w ws₁ → Took 256 ws₁ sign ws₂ → Took 257 ws₂ g ws₃ → Took 59 ws₃ semi ws₄
+      → ListIn ws₄ ws′ rs → ListIn ws ws′ (record { rule = w; gives = some g; body = done; closing = w } ∷ rs)
+
 -- the rule of the place k
 pub record ARule (text rows rows′ : List ℕ) (at count k : ℕ) (r : Spot) : Type 0 where
   pub bounds : Bounds text at (r .at) count (r .count)
-  pub goes : (ws′ : List Word) (x : Rule) → RuleIn (wordsAt text at) ws′ x → Goes text at (r .at) ws′
-  pub appends : (ws′ : List Word) (x : Rule) → RuleIn (wordsAt text at) ws′ x → Room rows count 1
+  pub goes : (ws′ : List Word) (x : Rule) → LineIn (wordsAt text at) ws′ x → Goes text at (r .at) ws′
+  pub appends : (ws′ : List Word) (x : Rule) → LineIn (wordsAt text at) ws′ x → Room rows count 1
       → Appends text rows rows′ count (r .count) (ofRule k x ∷ [])
 
 -- rules from the place k on
 pub record SomeRules (text rows rows′ : List ℕ) (at count k count′ : ℕ) : Type 0 where
   pub small : count′ ≤ 512
-  pub appends : (ws′ : List Word) (xs : List Rule) → RulesIn (wordsAt text at) ws′ xs → Room rows count (length xs)
+  pub appends : (ws′ : List Word) (xs : List Rule) → LinesIn (wordsAt text at) ws′ xs → Room rows count (length xs)
       → Appends text rows rows′ count count′ (ruleDecls k xs)
 
 -- The whole
+
+-- a text with lines for rules: a program, or the sections and the list of a common part with the rules of a part behind them
+pub data LinedIn (ws : List Word) (p : Program) : Type 0 where
+  lined : {head : Word} {ws₁ ws₂ ws₃ : List Word} → SectionsIn nothing ws ws₁ (p .sections) → Took 265 ws₁ head ws₂ → LinesIn ws₂ ws₃ (p .rules)
+      → namesInAll (p .sections) + length (p .rules) ≤ 512 → LinedIn ws p
+
+-- its rows
+pub record RowsFor (p : Program) (text rows′ : List ℕ) (r : Collected) : Type 0 where
+  pub rows : held text rows′ (r .count) ≡ declsOf p
+  pub count : r .count ≡ length (declsOf p)
+  pub rules : r .rules ≡ length (sectionsDecls 0 (p .sections))
+  -- entries of operators are read again from their places
+  pub entries : EntriesAt text (declsOf p) (entriesOf p)
+  -- the lines are read again from the place `at`
+  pub again : {head : Word} {ws₁ ws₂ : List Word} → SectionsIn nothing (wordsAt text 0) ws₁ (p .sections) → Took 265 ws₁ head ws₂ → ws₂ ≡ wordsAt text (r .at)
 
 -- the rows of a program
 pub record CollectedFor (p : Program) (text rows′ : List ℕ) (r : Collected) : Type 0 where
@@ -303,6 +335,7 @@ pub record Collects (text rows rows′ : List ℕ) (r : Collected) : Type 0 wher
   pub early : r .rules ≤ 512
   pub small : r .count ≤ 512
   pub inside : r .at ≤ length text
+  pub lines : (p : Program) → LinedIn (wordsAt text 0) p → length rows ≡ 6017 → RowsFor p text rows′ r
   pub collects : (p : Program) → ProgramIn (wordsAt text 0) p → length rows ≡ 6017 → CollectedFor p text rows′ r
 
 -- all of this file computes where this is unfolded
