@@ -11,7 +11,7 @@ use lib.ListN.{length, getD}
 use borrow.Author.Tests.{ne-eqb, eq-eqb}
 use Rattle.base.specs.Common.{if_then_else_, given}
 use Rattle.declarations.specs.Decls.{Decl, EntriesAt, indexOf, elsewhereIn, typeIn, optionalIn, entryAgain, repeatsIn, operationFault, operatorsFault, declFault, declFaults}
-use Rattle.declarer.specs.Faults.{Faults, clean, faulty, inputAgain, bothAgain, operationAgain, typesIn}
+use Rattle.declarer.specs.Faults.{Faults, clean, faulty, inputAgain, bothAgain, operationAgain, typesIn, lineAgain, lineFault, lineFaults}
 use Rattle.grammar.specs.Derived.{OperatorsIn}
 use Rattle.names.specs.Known.{Checked, good, wrong, _>>=_, faultIf}
 use Rattle.symbols.specs.Rows.{wordOf, optionOf, declAt, heldFrom, held, Looks, found, missing}
@@ -212,3 +212,37 @@ module _ (before : List Decl) (d : Decl) where
   pub again-other : (c : ℕ) → d .class ≡ c → (c ≡ 1 → ⊥) → (c ≡ 3 → ⊥) → entryAgain d before ≡ repeatsIn c d before
   unfolding entryAgain
   again-other c e f g = rw (ne-eqb (d .class) 1 (λ z. f (sym e ∙ z)), ne-eqb (d .class) 3 (λ z. g (sym e ∙ z)), e) refl
+
+-- the lines of a list
+
+module _ (ds before : List Decl) (d : Decl) where
+  pub line-go : {f at len f₂ at₂ len₂ : ℕ} → Faults f at len (faultIf (lineAgain d before) 4 (d .name)) → f ≡ 0 → Faults f₂ at₂ len₂ (optionalIn ds before (d .third))
+      → Faults f₂ at₂ len₂ (lineFault ds before d)
+  unfolding lineFault
+  line-go h z g = goes _ h z (λ a. ends g)
+
+  pub line-stop : {f at len : ℕ} → Faults f at len (faultIf (lineAgain d before) 4 (d .name)) → (f ≡ 0 → ⊥) → Faults f at len (lineFault ds before d)
+  unfolding lineFault
+  line-stop h z = stops _ h z
+
+  line-next : {f at len : ℕ} (rest : List Decl) → Faults f at len (lineFault ds before d) → f ≡ 0 → lineFaults ds before (d ∷ rest) ≡ lineFaults ds (before ++ (d ∷ [])) rest
+  unfolding lineFaults
+  line-next rest h z = rw (is-clean h z) refl
+
+  line-halt : {f at len : ℕ} (rest : List Decl) → Faults f at len (lineFault ds before d) → (f ≡ 0 → ⊥) → Faults f at len (lineFaults ds before (d ∷ rest))
+  unfolding lineFaults
+  line-halt rest h z = stops _ h z
+
+module _ (text rows : List ℕ) (ds : List Decl) (to : ℕ) where
+  abbrev pub linesFrom : ℕ → Checked (Unit {0})
+  linesFrom i = lineFaults ds (held text rows i) (heldFrom text rows i (to - i))
+
+  pub lines-go : {f at len : ℕ} (i : ℕ) → i < to → Faults f at len (lineFault ds (held text rows i) (declAt text rows i)) → f ≡ 0 → linesFrom i ≡ linesFrom (i + 1)
+  lines-go i l h z = rw (held-next text rows i to l, held-more text rows i, add-one) (line-next ds (held text rows i) (declAt text rows i) _ h z)
+
+  pub lines-stop : {f at len : ℕ} (i : ℕ) → i < to → Faults f at len (lineFault ds (held text rows i) (declAt text rows i)) → (f ≡ 0 → ⊥) → Faults f at len (linesFrom i)
+  lines-stop i l h z = rw (held-next text rows i to l) (line-halt ds (held text rows i) (declAt text rows i) _ h z)
+
+  pub lines-end : (i : ℕ) → to ≤ i → Faults 0 0 0 (linesFrom i)
+  unfolding lineFaults
+  lines-end i l = rw (held-end text rows i to l) (clean refl)

@@ -1,12 +1,12 @@
 -- The parts of a check of the declarations, and what its answer tells.
 use mathlib.Core.Bool.{Bool, _||_}
-use mathlib.Core.List.{List}
+use mathlib.Core.List.{List, [], _∷_, _++_}
 use mathlib.Core.Path.{_≡_}
 use Prim.Native.Nat.{ℕ}
 use lib.ListN.{length}
 use Rattle.base.specs.Common.{given}
 use Rattle.declarations.specs.Decls.{Decl, knownsIn, indexOf, repeatsIn, clashesIn, optionalIn}
-use Rattle.names.specs.Known.{Checked, good, wrong, _>>=_, find}
+use Rattle.names.specs.Known.{Checked, good, wrong, _>>=_, faultIf, find}
 use Rattle.words.specs.Words.{Word}
 
 -- no fault, or a fault with the place and the length of its word
@@ -32,3 +32,21 @@ typesIn ds before d = do
   _ ← optionalIn ds before (d .second)
   _ ← optionalIn ds before (d .third)
   good tt
+
+-- a line of a common part's list whose name an operation has, or a line before it
+abbrev pub lineAgain : Decl → List Decl → Bool
+lineAgain d before = given (indexOf 6 (d .name .text) 0 before) || given (indexOf 7 (d .name .text) 0 before)
+
+-- the fault of a line: its name, then its type
+unfoldable pub lineFault : List Decl → List Decl → Decl → Checked (Unit {0})
+lineFault ds before d = do
+  _ ← faultIf (lineAgain d before) 4 (d .name)
+  _ ← optionalIn ds before (d .third)
+  good tt
+
+-- the first fault of the lines `rest` after `before`
+unfoldable pub lineFaults : List Decl → List Decl → List Decl → Checked (Unit {0})
+lineFaults ds before [] = good tt
+lineFaults ds before (d ∷ rest) = do
+  _ ← lineFault ds before d
+  lineFaults ds (before ++ (d ∷ [])) rest

@@ -3,7 +3,7 @@ ghost use mathlib.Core.Path.{_≡_};
 ghost use mathlib.Core.Bool.{_&&_, _||_};
 ghost use mathlib.Core.List.{List, []};
 ghost use mathlib.Core.Option.{Option};
-ghost use Prim.Native.Nat.{ℕ, _+_, _*_, _<_, _≤_};
+ghost use Prim.Native.Nat.{ℕ, _+_, _-_, _*_, _<_, _≤_};
 ghost use lib.Dec.{eqb};
 ghost use lib.ListN.{length, take};
 ghost use Rattle.base.specs.Common.{given};
@@ -14,10 +14,10 @@ ghost use Rattle.grammar.specs.Derived.{OperatorsIn};
 ghost use Rattle.syntax.specs.Written.{Operator};
 ghost use Rattle.maker.specs.Ranks.{EntryIs};
 ghost use Rattle.symbols.specs.Index.{Kept};
-ghost use Rattle.symbols.specs.Rows.{optionOf, declAt, held};
+ghost use Rattle.symbols.specs.Rows.{optionOf, declAt, held, heldFrom};
 ghost use Rattle.symbols.specs.Search.{part, Tells};
 ghost use Rattle.words.specs.Words.{Word, wordsAt};
-ghost use Rattle.declarer.specs.Faults.{Faults, inputAgain, bothAgain, operationAgain, typesIn};
+ghost use Rattle.declarer.specs.Faults.{Faults, inputAgain, bothAgain, operationAgain, typesIn, lineAgain, lineFault, lineFaults};
 ghost use Rattle.declarer.specs.Operators.{sameValue, against, entryFault, entriesFault};
 use base::number;
 use maker::Entry;
@@ -232,6 +232,21 @@ fn optional_fault(
     }
 }
 
+// The fault of the type that declaration i gives, where it gives one.
+fn given_fault(text: &[u8], rows: &[u16], n: usize, i: usize) -> Fault
+    requires { ⌜ Kept (now text) (now rows) n × (i ≤ n) ⌝ }
+    ensures { λ r. ⌜ Faults (r .fault) (r .at) (r .len) (optionalIn (held (now (text .entry)) (now (rows .entry)) n) (held (now (text .entry)) (now (rows .entry)) i) (declAt (now (text .entry)) (now (rows .entry)) i .third)) ⌝ }
+{
+    optional_fault(
+        text,
+        rows,
+        n,
+        i,
+        number(rows, ROW * i + THIRD_START),
+        number(rows, ROW * i + THIRD_LEN),
+    )
+}
+
 // The fault of the types that an operation takes and gives.
 fn types_fault(text: &[u8], rows: &[u16], n: usize, i: usize) -> Fault
     requires { ⌜ Kept (now text) (now rows) n × (i ≤ n) ⌝ }
@@ -248,14 +263,7 @@ fn types_fault(text: &[u8], rows: &[u16], n: usize, i: usize) -> Fault
     if f.fault != 0 {
         return f;
     }
-    optional_fault(
-        text,
-        rows,
-        n,
-        i,
-        number(rows, ROW * i + THIRD_START),
-        number(rows, ROW * i + THIRD_LEN),
-    )
+    given_fault(text, rows, n, i)
 }
 
 fn operation_fault(text: &[u8], rows: &[u16], n: usize, i: usize) -> Fault
@@ -433,6 +441,51 @@ pub fn check_declarations(text: &[u8], rows: &[u16], n: usize) -> Fault
     let mut i = 0;
     while i < n {
         let f = decl_fault(text, rows, n, i);
+        if f.fault != 0 {
+            return f;
+        }
+        i += 1;
+    }
+    Fault {
+        fault: 0,
+        at: 0,
+        len: 0,
+    }
+}
+
+// The list of a common part: its lines stand in rows of rules behind those of the sections.
+
+// An operation has its name, or a rule before it.
+fn line_again(text: &[u8], rows: &[u16], i: usize) -> bool
+    requires { ⌜ Kept (now text) (now rows) i ⌝ }
+    ensures { λ r. ⌜ r ≡ lineAgain (declAt (now (text .entry)) (now (rows .entry)) i) (held (now (text .entry)) (now (rows .entry)) i) ⌝ }
+{
+    if name_taken(text, rows, i, OPERATION) {
+        return true;
+    }
+    name_taken(text, rows, i, RULE)
+}
+
+// The fault of the line that is declaration i.
+fn line_fault(text: &[u8], rows: &[u16], n: usize, i: usize) -> Fault
+    requires { ⌜ Kept (now text) (now rows) n × (i ≤ n) ⌝ }
+    ensures { λ r. ⌜ Faults (r .fault) (r .at) (r .len) (lineFault (held (now (text .entry)) (now (rows .entry)) n) (held (now (text .entry)) (now (rows .entry)) i) (declAt (now (text .entry)) (now (rows .entry)) i)) ⌝ }
+{
+    let f = fault_if(text, rows, i, line_again(text, rows, i));
+    if f.fault != 0 {
+        return f;
+    }
+    given_fault(text, rows, n, i)
+}
+
+// The first fault of the lines that are the declarations from `first` on, up to `to`.
+pub fn check_lines(text: &[u8], rows: &[u16], n: usize, first: usize, to: usize) -> Fault
+    requires { ⌜ Kept (now text) (now rows) n × (first ≤ to) × (to ≤ n) ⌝ }
+    ensures { λ r. ⌜ Faults (r .fault) (r .at) (r .len) (lineFaults (held (now (text .entry)) (now (rows .entry)) n) (held (now (text .entry)) (now (rows .entry)) first) (heldFrom (now (text .entry)) (now (rows .entry)) first (to - first))) ⌝ }
+{
+    let mut i = first;
+    while i < to {
+        let f = line_fault(text, rows, n, i);
         if f.fault != 0 {
             return f;
         }
