@@ -1,3 +1,4 @@
 -- Laws of the faults of declarations, for the proofs of the code.
 pub mod FaultLaws
 pub mod OperatorLaws
+pub mod Lines

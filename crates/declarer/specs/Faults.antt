@@ -6,7 +6,9 @@ use Prim.Native.Nat.{ℕ}
 use lib.ListN.{length}
 use Rattle.base.specs.Common.{given}
 use Rattle.declarations.specs.Decls.{Decl, knownsIn, indexOf, repeatsIn, clashesIn, optionalIn}
-use Rattle.names.specs.Known.{Checked, good, wrong, _>>=_, faultIf, find}
+use Rattle.names.specs.Known.{Checked, good, wrong, _>>=_, faultIf, Names, find, optionalType}
+use Rattle.names.specs.Understand.{taken}
+use Rattle.syntax.specs.Written.{Rule, Program}
 use Rattle.words.specs.Words.{Word}
 
 -- no fault, or a fault with the place and the length of its word
@@ -50,3 +52,11 @@ lineFaults ds before [] = good tt
 lineFaults ds before (d ∷ rest) = do
   _ ← lineFault ds before d
   lineFaults ds (before ++ (d ∷ [])) rest
+
+-- the lines by the names that are declared, after those named `seen`: a name once, and no operation's; its type declared
+unfoldable pub linesMean : Program → Names → List (List ℕ) → List Rule → Checked (Unit {0})
+linesMean p n seen [] = good tt
+linesMean p n seen (r ∷ rs) = do
+  _ ← faultIf (taken (r .rule) n seen) 4 (r .rule)
+  _ ← optionalType p (n .types) (r .gives)
+  linesMean p n (r .rule .text ∷ seen) rs
