@@ -7,8 +7,8 @@ ghost use Rattle.syntax.specs.Reading.{expect, aName, nameOrString, optional};
 ghost use Rattle.reader.specs.Answers.{Here, Reads, Moves, Yields, Faulty, refusal};
 ghost use Rattle.reader.specs.Parts.{withConstant, oneAction, aLabelled, OneLabel, Leaves, LeavesBoth, ARanked};
 ghost use Rattle.reader.specs.Texts.{AHead, Shares, Settles, Listed, RulesAt, unlessLong};
-ghost use Rattle.reader.specs.Counting.{OneName, NumberOf, ANumber, Sure, AnEntry, Entered, listed, countOf, oneMore, toldKind, fullIn, AnOperation, SomeOperations, ASection, outputSection, errorSection, typeSection, SomeSections, ARule, ending, Decides};
-ghost use Rattle.syntax.specs.Sections.{aSpelling, entries, kindAhead, aParameter, tokenSection, aSection, aLevel, aSide, anOperator, someOperators, operatorSection, mechanismSection, otherSection};
+ghost use Rattle.reader.specs.Counting.{OneName, NumberOf, ANumber, Sure, AnEntry, Entered, listed, countOf, oneMore, toldKind, fullIn, AnOperation, SomeOperations, ASection, outputSection, errorSection, typeSection, SomeSections, ARule, ending, Decides, Keeps};
+ghost use Rattle.syntax.specs.Sections.{nothing, aSpelling, entries, kindAhead, aParameter, tokenSection, aSection, aLevel, aSide, anOperator, someOperators, operatorSection, mechanismSection, otherSection};
 ghost use lib.Dec.{eqb};
 ghost use mathlib.Core.Bool.{_&&_};
 ghost use Rattle.base.specs.Common.{same, bytes};
@@ -1268,8 +1268,9 @@ fn read_end(text: &[u8], at: usize) -> Out
     refused(w)
 }
 
-fn read_program(text: &[u8]) -> Out
-    ensures { λ r. ⌜ Decides r (program (length (now (text .entry)) + 1) (words (now (text .entry)))) ⌝ }
+// What is left before any section.
+fn no_section() -> State
+    ensures { λ r. ⌜ Keeps nothing r ⌝ }
 {
     let seen = Seen {
         plain: 0,
@@ -1277,14 +1278,19 @@ fn read_program(text: &[u8]) -> Out
         giving: 0,
         both: 0,
     };
-    let state = State {
+    State {
         left: base::NAMES,
         input: 0,
         output: 0,
         error: 0,
         seen,
-    };
-    let s = read_sections(text, 0, state);
+    }
+}
+
+fn read_program(text: &[u8]) -> Out
+    ensures { λ r. ⌜ Decides r (program (length (now (text .entry)) + 1) (words (now (text .entry)))) ⌝ }
+{
+    let s = read_sections(text, 0, no_section());
     let o = s.out;
     if o.fault != 0 {
         return o;
@@ -1301,17 +1307,24 @@ fn read_program(text: &[u8]) -> Out
     read_end(text, r.at)
 }
 
+// Fault 9 at the empty part at the end of a text of n bytes.
+fn over_long(n: usize) -> Out
+    ensures { λ r. ⌜ (r .fault ≡ 9) × (r .at ≡ n) × (r .len ≡ 0) ⌝ }
+{
+    Out {
+        fault: base::OVER_LIMIT,
+        at: n,
+        len: 0,
+    }
+}
+
 // The first fault 1, 2 or 9 of a text and its word, or fault 0: the text is a program.
 pub fn check_syntax(text: &[u8]) -> Out
     ensures { λ r. ⌜ Decides r (parse (now (text .entry))) ⌝ }
 {
     let n = text.len();
     if base::TEXT_BYTES < n {
-        return Out {
-            fault: base::OVER_LIMIT,
-            at: n,
-            len: 0,
-        };
+        return over_long(n);
     }
     read_program(text)
 }
@@ -1366,20 +1379,7 @@ fn read_heads(text: &[u8], at: usize, left: usize) -> Out
 fn read_shared(text: &[u8]) -> Counted
     ensures { λ r. ⌜ Shares (now (text .entry)) r ⌝ }
 {
-    let seen = Seen {
-        plain: 0,
-        taking: 0,
-        giving: 0,
-        both: 0,
-    };
-    let state = State {
-        left: base::NAMES,
-        input: 0,
-        output: 0,
-        error: 0,
-        seen,
-    };
-    let s = read_sections(text, 0, state);
+    let s = read_sections(text, 0, no_section());
     let o = s.out;
     if o.fault != 0 {
         return s;
@@ -1435,17 +1435,6 @@ fn read_part(text: &[u8], left: usize) -> Out
         return e;
     }
     k
-}
-
-// Fault 9 at the empty part at the end of a text of n bytes.
-fn over_long(n: usize) -> Out
-    ensures { λ r. ⌜ (r .fault ≡ 9) × (r .at ≡ n) × (r .len ≡ 0) ⌝ }
-{
-    Out {
-        fault: base::OVER_LIMIT,
-        at: n,
-        len: 0,
-    }
 }
 
 // The first fault 1, 2 or 9 of a common part and its word. Or fault 0: `at` is the start of its word `end`, and `room` how many names its sections leave
