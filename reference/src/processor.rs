@@ -343,7 +343,8 @@ struct Alternative {
 struct Tree {
     sections: Vec<Section>,
     operators: Vec<Operators>,
-    /// Of a common part: the names of its choice rules, and their types.
+    /// Of a common part: how many names its sections declare; the names of its choice rules, and their types.
+    declared: usize,
     list: Vec<(At, At)>,
     bodies: Vec<Body>,
 }

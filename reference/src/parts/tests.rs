@@ -85,9 +85,18 @@ fn limits_of_a_part() {
     translated(0, &common(128, ""), &rules(128));
     // 512 names: type, value, tokens, and the list or the part's rules.
     let wide = |count: usize, more: &str| format!("{} {}", tokens(count), common(100, more));
-    translated(0, &wide(410, ""), &rules(100));
+    let listed = |count: usize, more: &str| format!("rules {}{more} end", list(count, |i| format!("R{i} >> t: >> y; ")));
+    translated(0, &wide(410, ""), &listed(100, ""));
     translated(9, &wide(410, "~X >> t;"), &rules(1));
-    translated(9, &wide(410, ""), &rules(100).replace(" end", "~X: ; end"));
+    translated(9, &wide(410, ""), &listed(100, "~X: ;"));
+    // A rule that is named beside those of the list, as a rule of the part or by a call, is one more name, and only once.
+    translated(9, &wide(410, ""), "rules ~X: ; end");
+    translated(9, &wide(409, ""), "rules X: @X [@R1 | y: ] @~Y; end");
+    translated(9, &wide(408, ""), "rules X: @Y @X @Y ^E @~Z; end");
+    translated(0, &wide(409, ""), "rules X: @X [@R1 | y: ]; end");
+    // Before 3 to 8, behind 1, 2 and 9 of reading.
+    translated(9, &wide(410, ""), "rules ~X: zz; end");
+    translated(2, &wide(410, ""), "rules X: ; ~;");
     translated(9, &format!("{} rules end", tokens(512)), "rules ~M: ; end");
     translated(9, "type t: y; rules ~n23456789012345678901234567890123 >> t; end", "$");
     translated(9, "type t: y; rules R >> ~n23456789012345678901234567890123; end", "$");

@@ -44,11 +44,12 @@ pub const PARTS: &[(u16, &str, &str)] = &[
     (5, "input: t; rules R >> ~t; end", "rules M: ; end"),
     (9, "type t: y; rules ~n23456789012345678901234567890123 >> t; end", "$"),
     (9, "type t: y; rules R >> ~n23456789012345678901234567890123; end", "$"),
-    // Declared in either text; what is only called is not declared.
+    // Declared in either text, or called: its rule stands in some part.
     (5, "rules R >> ~M; end", "rules M: ; end"),
     (5, "rules R >> ~R; end", "rules M: ; end"),
     (5, "mechanism m: f(~M); rules end", "rules M: ; end"),
-    (3, "mechanism m: f(~N); rules end", "rules M: @N; end"),
+    (5, "mechanism m: f(~N); rules end", "rules M: @N; end"),
+    (3, "mechanism m: f(~N); rules end", "rules M: ; end"),
     // A token's name may be a rule's.
     (0, "input: R; type t: y; rules R >> t; end", "rules M: R [@R | y: ]; end"),
     // The name before its type.
@@ -84,11 +85,13 @@ pub const RULES: &[(u16, &str)] = &[
     (8, "N >> t: ~;"),
     // A name of another class may be a rule's.
     (0, "M: @a @o @e @t @y @E @m;"),
-    // What is only called is not declared; the part's rules and the list's are.
-    (3, "M: .~N @N;"),
+    // What is called is declared, and so are the part's rules and the list's.
+    (5, "M: .~N @N;"),
+    (3, "M: .~N;"),
     (5, "M: .~N @N; N: ;"),
     (5, "M: .~R;"),
-    (3, "M: @N ^~N @N;"),
+    (5, "M: @N ^~N @N;"),
+    (3, "M: @N ^~P @N;"),
     (5, "M: ^~R @N;"),
     // A part's own names; the list does not make them repeat.
     (0, "R >> t: >> y;"),

@@ -1,14 +1,18 @@
 //! Parts translated separately (A.13): the words of a part are read behind those of the common part, as if both were one text, and
 //! its calls go by the common part's list.
 
-use super::{At, MAX_TEXT, Names, Node, Parser, Read, Selector, Sort, Tree, Word, first_early, first_late, values, words};
-use std::collections::HashMap;
+use super::{
+    At, MAX_NAMES, MAX_TEXT, Names, Node, Parser, Read, Selector, Sort, Tree, Word, first_early, first_late, values, words,
+};
+use std::collections::{HashMap, HashSet};
 use std::ops::Range;
 
 /// The number of a common part among the texts; the parts count from 1.
 pub const COMMON: usize = 0;
 /// The number of a part where it is translated by itself.
 const PART: usize = 1;
+/// Over a limit.
+const LIMIT: u16 = 9;
 
 /// A word at fault in one of several texts.
 #[derive(Clone, Copy, PartialEq, Eq, Debug)]
@@ -151,11 +155,29 @@ impl Texts {
         if let Some(fault) = first_early(&over, read.err()) {
             return Err(self.show(fault));
         }
+        let mentioned = mentions(&tree);
+        if let Some(at) = self.past_names(&tree, &mentioned) {
+            return Err(self.show((at, LIMIT)));
+        }
         let mut names = Names::new(&self.bytes, &self.words);
         names.list = Some(HashMap::new());
+        // A rule that is called stands in some part.
+        names.known.extend(mentioned.iter().map(|at| self.spelling(*at)));
         names.declare(&tree, &values);
         names.bodies(&tree);
         first_late(&names.faults).map_or(Ok(tree), |fault| Err(self.show(fault)))
+    }
+
+    fn spelling(&self, at: At) -> &[u8] {
+        let Word { start, len, .. } = self.words[at];
+        &self.bytes[start..start + len]
+    }
+
+    /// The first word that names a rule more than there may be names: those of the sections, the list's, and those that the part has or calls.
+    fn past_names(&self, tree: &Tree, mentioned: &[At]) -> Option<At> {
+        let mut seen: HashSet<&[u8]> = tree.list.iter().map(|(name, _)| self.spelling(*name)).collect();
+        let others = mentioned.iter().copied().filter(|at| seen.insert(self.spelling(*at)));
+        others.skip(MAX_NAMES.saturating_sub(tree.declared + tree.list.len())).next()
     }
 
     /// A name, and its place in the last text.
@@ -206,6 +228,33 @@ impl Texts {
     }
 }
 
+/// The names of rules in a part, in text order: of each rule its own, then those that it calls.
+fn mentions(tree: &Tree) -> Vec<At> {
+    let mut out = Vec::new();
+    for body in &tree.bodies {
+        out.push(body.name);
+        add_called(&body.nodes, &mut out);
+    }
+    out
+}
+
+fn add_called(nodes: &[Node], out: &mut Vec<At>) {
+    for node in nodes {
+        match node {
+            Node::Call(rule) => out.push(*rule),
+            Node::Operators(used) => out.push(used.rule),
+            Node::Cycle(nodes) => add_called(nodes, out),
+            Node::Choice { by, alternatives } => {
+                if let Selector::Rule(rule) = by {
+                    out.push(*rule);
+                }
+                alternatives.iter().for_each(|alternative| add_called(&alternative.nodes, out));
+            }
+            _ => {}
+        }
+    }
+}
+
 impl Parser<'_> {
     /// Sections, `rules`, a line for each choice rule, `end`; then the words of the next text.
     fn common(&mut self) -> Read<()> {
@@ -213,6 +262,7 @@ impl Parser<'_> {
             self.section()?;
         }
         let names = self.names;
+        self.tree.declared = names;
         while !self.takes("end") {
             let name = self.rule_name()?;
             self.must(">>")?;
