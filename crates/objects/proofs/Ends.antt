@@ -1,11 +1,12 @@
 -- Takers from a place on, one law for each way of putting them together.
 use mathlib.Core.Bool.{Bool, true, false}
 use mathlib.Core.List.{List, [], _∷_}
+use mathlib.Core.Option.{none, some}
 use mathlib.Core.Path.{_≡_, refl, sym, ap, _∙_, subst}
 use native.Mathlib.Numerals.{add-one}
 use native.Mathlib.Omega.{arith}
 use Prim.Native.Nat.{ℕ, zero, suc, _+_, _-_, _<_, _≤_}
-use borrow.Author.Tests.{le-leb, lt-leb}
+use borrow.Author.Tests.{le-leb, lt-leb, ne-eqb}
 use lib.Dec.{leb}
 use lib.ListN.{length, getD, take, drop, length-drop, drop-of-length-le}
 use lib.Seq.{drop-cons, drop-drop}
@@ -13,8 +14,8 @@ use mathlib.Core.Logic.{_⊎_, inl, inr}
 use Rattle.base.proofs.Laws.{lt-or-le}
 use Rattle.base.specs.Common.{if_then_else_}
 use Rattle.objects.specs.Places.{EndsAt, Ends}
-use Rattle.objects.specs.Take.{Taken, took, missing, Taker, onward, _>>=_, pure, aWord, someWords, times}
-use Rattle.objects.specs.View.{Name, aName}
+use Rattle.objects.specs.Take.{Taken, took, missing, Taker, onward, _>>=_, pure, refuse, aWord, someWords, times}
+use Rattle.objects.specs.View.{Name, aName, ifNamed, anOption, aPair, someCalls, someCells, aRule}
 
 module _ {words : List ℕ} where
   -- what is taken ends at p, and then the rest at r
@@ -87,6 +88,80 @@ module _ {words : List ℕ} where
       go : (at < length words) ⊎ (length words ≤ at) → Ends aName words at r
       go (inl h) = bind-word _ h (bind-no-word _ (omega (arith, l)) e)
       go (inr h) = bind-no-word _ h e
+
+  -- an option: by its first word
+  pub no-option : {at r : ℕ} → length words ≤ at → r ≡ length words + 1 → Ends anOption words at r
+  unfolding anOption
+  no-option l e = bind-no-word _ l e
+
+  pub option-none : {at r : ℕ} → at < length words → getD words at 0 ≡ 0 → r ≡ at + 1 → Ends anOption words at r
+  unfolding anOption ifNamed
+  option-none {at} {r} l d e = bind-word ifNamed l (rw (d, e) (ends-here none (omega (arith, l))))
+
+  pub option-some : {at r : ℕ} → at < length words → getD words at 0 ≡ 1 → Ends aName words (at + 1) r → Ends anOption words at r
+  unfolding anOption ifNamed
+  option-some {at} {r} l d h = bind-word ifNamed l (rw d (ends-as aName (λ n. some n) h))
+
+  pub option-not : {at r : ℕ} → at < length words → (getD words at 0 ≡ 0 → ⊥) → (getD words at 0 ≡ 1 → ⊥) → r ≡ length words + 1 → Ends anOption words at r
+  unfolding anOption ifNamed refuse EndsAt
+  option-not {at} {r} l d₀ d₁ e = bind-word ifNamed l (rw (ne-eqb (getD words at 0) 0 d₀, ne-eqb (getD words at 0) 1 d₁) (record { is = omega (arith, e); near = omega (arith, e) }))
+
+  -- a pair: two words and two names
+  pub no-pair : {at r : ℕ} → length words < at + 2 → r ≡ length words + 1 → Ends aPair words at r
+  unfolding aPair
+  no-pair {at} {r} l e = go (lt-or-le at (length words))
+    where
+      go : (at < length words) ⊎ (length words ≤ at) → Ends aPair words at r
+      go (inl h) = bind-word _ h (bind-no-word _ (omega (arith, l)) e)
+      go (inr h) = bind-no-word _ h e
+
+  pub pair-off : {at p : ℕ} → at + 2 ≤ length words → Ends aName words (at + 2) p → length words < p → Ends aPair words at p
+  unfolding aPair
+  pair-off {at} {p} l x h = bind-word _ (omega (arith, l)) (bind-word _ (omega (arith, l)) (bind-off aName _ (subst (λ n. Ends aName words n p) (two at) x) h))
+    where
+      two : (n : ℕ) → n + 2 ≡ n + 1 + 1
+      two n = omega arith
+
+  pub pair-ends : {at p r : ℕ} → at + 2 ≤ length words → Ends aName words (at + 2) p → p ≤ length words → Ends aName words p r → Ends aPair words at r
+  unfolding aPair
+  pair-ends {at} {p} {r} l x h y = bind-word _ (omega (arith, l)) (bind-word _ (omega (arith, l)) (bind-on aName _ (subst (λ n. Ends aName words n p) (two at) x) h (λ a. ends-as aName _ y)))
+    where
+      two : (n : ℕ) → n + 2 ≡ n + 1 + 1
+      two n = omega arith
+
+  -- what a word counts
+  pub no-calls : {at r : ℕ} → length words ≤ at → r ≡ length words + 1 → Ends someCalls words at r
+  unfolding someCalls
+  no-calls l e = bind-no-word _ l e
+
+  pub calls-end : {at r : ℕ} → at < length words → Ends (times (getD words at 0) aName) words (at + 1) r → Ends someCalls words at r
+  unfolding someCalls
+  calls-end l h = bind-word (λ n. times n aName) l h
+
+  pub no-cells : {at r : ℕ} → length words ≤ at → r ≡ length words + 1 → Ends someCells words at r
+  unfolding someCells
+  no-cells l e = bind-no-word _ l e
+
+  pub cells-end : {at r : ℕ} → at < length words → Ends (someWords (getD words at 0)) words (at + 1) r → Ends someCells words at r
+  unfolding someCells
+  cells-end l h = bind-word (λ n. someWords n) l h
+
+  -- a rule
+  pub rule-off : {at p : ℕ} → Ends aName words at p → length words < p → Ends aRule words at p
+  unfolding aRule
+  rule-off x l = bind-off aName _ x l
+
+  pub rule-off-gives : {at p q : ℕ} → Ends aName words at p → p ≤ length words → Ends anOption words p q → length words < q → Ends aRule words at q
+  unfolding aRule
+  rule-off-gives x l y m = bind-on aName _ x l (λ _. bind-off anOption _ y m)
+
+  pub rule-off-calls : {at p q r : ℕ} → Ends aName words at p → p ≤ length words → Ends anOption words p q → q ≤ length words → Ends someCalls words q r → length words < r → Ends aRule words at r
+  unfolding aRule
+  rule-off-calls x l y m z n = bind-on aName _ x l (λ _. bind-on anOption _ y m (λ _. bind-off someCalls _ z n))
+
+  pub rule-ends : {at p q r e : ℕ} → Ends aName words at p → p ≤ length words → Ends anOption words p q → q ≤ length words → Ends someCalls words q r → r ≤ length words → Ends someCells words r e → Ends aRule words at e
+  unfolding aRule
+  rule-ends x l y m z n u = bind-on aName _ x l (λ _. bind-on anOption _ y m (λ _. bind-on someCalls _ z n (λ _. ends-as someCells _ u)))
 
   -- as many times
   pub times-none : {A : Type 0} (m : Taker A) {p : ℕ} → p ≤ length words → Ends (times 0 m) words p p

@@ -6,3 +6,4 @@ pub mod Found
 pub mod Numbering
 pub mod Exact
 pub mod Ends
+pub mod EndsLong

@@ -16,10 +16,10 @@ use Rattle.parts.specs.Form.{packed}
 use Rattle.parts.specs.Objects.{Aim, OpenRule, Object}
 use Rattle.words.specs.Words.{Word}
 use Rattle.objects.specs.Take.{Taken, took, missing, Taker, onward, _>>=_, pure, refuse, aWord}
-use Rattle.objects.specs.View.{Name, Pair, RuleView, View, nameOf, namesOf, optionOf, pairOf, pairsOf, ruleOf, rulesOf, viewOf, nameWords, optionWords, all, pairWords, ruleWords, bodyWords, viewWords, aName, ifNamed, anOption, aPair, aRule, before, behind, aBody, aView, views}
+use Rattle.objects.specs.View.{Name, Pair, RuleView, View, nameOf, namesOf, optionOf, pairOf, pairsOf, ruleOf, rulesOf, viewOf, nameWords, optionWords, all, pairWords, ruleWords, bodyWords, viewWords, aName, ifNamed, anOption, aPair, someCalls, someCells, aRule, before, behind, someParts, aContent, aBody, aView, views}
 use Rattle.objects.proofs.TakeLaws.{no-took, Exact, Any, bind, ends, a-word, some-words, the-word, the-words, times-exact, sized-exact}
 
-name-exact : Exact aName nameWords Any
+pub name-exact : Exact aName nameWords Any
 unfolding aName nameWords
 name-exact =
     bind a-word (λ (c : Name). c .start) Any (λ _ _. tt) (λ s _.
@@ -60,7 +60,7 @@ option-exact = record { back = back; forth = forth }
     forth [] o k e = no-took e
     forth (x ∷ ws) o k e = zeroth x ws o k (eqb x 0) refl e
 
-pair-exact : Exact aPair pairWords Any
+pub pair-exact : Exact aPair pairWords Any
 unfolding aPair pairWords
 pair-exact =
     bind a-word (λ (c : Pair). c .start) Any (λ _ _. tt) (λ s _.
@@ -72,23 +72,35 @@ pair-exact =
     same : {s n : ℕ} {w : Name} (c : Pair) → c .section ≡ w → c .size ≡ n → c .start ≡ s → record { start = s; size = n; section = w; operand = c .operand } ≡ c
     same c p q r = rw (← p, ← q, ← r)
 
-rule-exact : Exact aRule ruleWords Any
+calls-exact : Exact someCalls (λ ns. length ns ∷ all nameWords ns) Any
+unfolding someCalls
+calls-exact = bind a-word (λ (ns : List Name). length ns) Any (λ _ _. tt) (λ n _. with-any (times-exact name-exact n))
+  where
+    with-any : {n : ℕ} {m : Taker (List Name)} {w : List Name → List ℕ} → Exact m w (λ ns. length ns ≡ n) → Exact m w (λ ns. (length ns ≡ n) × Any ns)
+    with-any x = record { back = λ ns h k. x .back ns (h .0) k; forth = λ ws ns k e. let y = x .forth ws ns k e in (y .0, (y .1, tt)) }
+
+cells-exact : Exact someCells (λ cs. length cs ∷ cs) Any
+unfolding someCells
+cells-exact = bind a-word (λ (cs : List ℕ). length cs) Any (λ _ _. tt) (λ n _. with-any (some-words n))
+  where
+    with-any : {n : ℕ} {m : Taker (List ℕ)} {w : List ℕ → List ℕ} → Exact m w (λ ns. length ns ≡ n) → Exact m w (λ ns. (length ns ≡ n) × Any ns)
+    with-any x = record { back = λ ns h k. x .back ns (h .0) k; forth = λ ws ns k e. let y = x .forth ws ns k e in (y .0, (y .1, tt)) }
+
+pub rule-exact : Exact aRule ruleWords Any
 unfolding aRule ruleWords
 rule-exact =
     bind name-exact (λ (c : RuleView). c .name) Any (λ _ _. tt) (λ w _.
     bind option-exact (λ (c : RuleView). c .gives) (λ c. (c .name ≡ w) × Any c) (λ _ _. tt) (λ g _.
-    bind a-word (λ (c : RuleView). length (c .calls)) (λ c. (c .gives ≡ g) × ((c .name ≡ w) × Any c)) (λ _ _. tt) (λ n _.
-    bind (times-exact name-exact n) (λ (c : RuleView). c .calls) (λ c. (length (c .calls) ≡ n) × ((c .gives ≡ g) × ((c .name ≡ w) × Any c))) (λ c q. q .0) (λ ns l₁.
-    bind a-word (λ (c : RuleView). length (c .cells)) (λ c. (c .calls ≡ ns) × ((length (c .calls) ≡ n) × ((c .gives ≡ g) × ((c .name ≡ w) × Any c)))) (λ _ _. tt) (λ m _.
-    ends (some-words m) (λ cells. record { name = w; gives = g; calls = ns; cells = cells }) (λ (c : RuleView). c .cells)
-    (λ c. (length (c .cells) ≡ m) × ((c .calls ≡ ns) × ((length (c .calls) ≡ n) × ((c .gives ≡ g) × ((c .name ≡ w) × Any c)))))
-    (λ _. refl) (λ cells l. (l, (refl, (l₁, (refl, (refl, tt)))))) (λ _ q. q .0) (λ c q. same c (q .1 .0) (q .1 .1 .1 .0) (q .1 .1 .1 .1 .0)))))))
+    bind calls-exact (λ (c : RuleView). c .calls) (λ c. (c .gives ≡ g) × ((c .name ≡ w) × Any c)) (λ _ _. tt) (λ ns _.
+    ends cells-exact (λ cells. record { name = w; gives = g; calls = ns; cells = cells }) (λ (c : RuleView). c .cells)
+    (λ c. (c .calls ≡ ns) × ((c .gives ≡ g) × ((c .name ≡ w) × Any c)))
+    (λ _. refl) (λ cells _. (refl, (refl, (refl, tt)))) (λ _ _. tt) (λ c q. same c (q .0) (q .1 .0) (q .1 .1 .0)))))
   where
     same : {w : Name} {g : Option Name} {ns : List Name} (c : RuleView) → c .calls ≡ ns → c .gives ≡ g → c .name ≡ w → record { name = w; gives = g; calls = ns; cells = c .cells } ≡ c
     same c p q r = rw (← p, ← q, ← r)
 
-body-exact : (common : List ℕ) → Exact (aBody common) (bodyWords common) Any
-unfolding aBody bodyWords
+pub body-exact : (common : List ℕ) → Exact (aBody common) (bodyWords common) Any
+unfolding aBody aContent someParts bodyWords
 body-exact common =
     bind (the-word (length common)) (λ (c : View). tt) Any (λ _ _. tt) (λ _ _.
     bind a-word (λ (c : View). c .size) (λ c. (_≡_ {A = Unit {0}} tt tt) × Any c) (λ _ _. tt) (λ s _.

@@ -128,15 +128,21 @@ aPair = do
   operand ← aName
   pure (record { start = start; size = size; section = section; operand = operand })
 
+-- as many names as a word says
+unfoldable pub someCalls : Taker (List Name)
+someCalls = do n ← aWord; times n aName
+
+-- as many cells as a word says
+unfoldable pub someCells : Taker (List ℕ)
+someCells = do n ← aWord; someWords n
+
 unfoldable pub aRule : Taker RuleView
 aRule = do
   name ← aName
   gives ← anOption
-  calls ← aWord
-  names ← times calls aName
-  size ← aWord
-  cells ← someWords size
-  pure (record { name = name; gives = gives; calls = names; cells = cells })
+  calls ← someCalls
+  cells ← someCells
+  pure (record { name = name; gives = gives; calls = calls; cells = cells })
 
 unfoldable pub before : View → Option (List View) → Option (List View)
 before v none = none
@@ -147,16 +153,25 @@ behind (took v rest) more = before v (more rest)
 behind missing more = none
 
 module _ (common : List ℕ) where
-  unfoldable pub aBody : Taker View
-  aBody = do
-    _ ← theWord (length common)
-    size ← aWord
-    rules ← aWord
-    pairs ← aWord
+  -- the common part, the pairs and the rules
+  unfoldable pub someParts : ℕ → ℕ → ℕ → Taker View
+  someParts size rules pairs = do
     _ ← theWords (packed common)
     ps ← times pairs aPair
     rs ← times rules aRule
     pure (record { size = size; pairs = ps; rules = rs })
+
+  unfoldable pub aContent : Taker View
+  aContent = do
+    size ← aWord
+    rules ← aWord
+    pairs ← aWord
+    someParts size rules pairs
+
+  unfoldable pub aBody : Taker View
+  aBody = do
+    _ ← theWord (length common)
+    aContent
 
   unfoldable pub aView : Taker View
   aView = do
@@ -172,5 +187,5 @@ module _ (common : List ℕ) where
 
 -- all of this file computes where this is unfolded
 unfoldable pub opened : Unit {0}
-unfolding nameOf namesOf optionOf pairOf pairsOf ruleOf rulesOf viewOf viewsOf nameWords optionWords all pairWords ruleWords bodyWords viewWords aName ifNamed anOption aPair aRule before behind aBody aView views
+unfolding nameOf namesOf optionOf pairOf pairsOf ruleOf rulesOf viewOf viewsOf nameWords optionWords all pairWords ruleWords bodyWords viewWords aName ifNamed anOption aPair someCalls someCells aRule before behind someParts aContent aBody aView views
 opened = tt

@@ -1,12 +1,17 @@
 // Objects that anybody wrote, read from their words: definitions, theorems, and the code that goes over the words by places.
 ghost use mathlib.Core.Path.{_≡_};
-ghost use Prim.Native.Nat.{_+_, _<_, _≤_};
+ghost use Prim.Native.Nat.{_+_, _*_, _<_, _≤_};
 ghost use lib.ListN.{length, getD};
 ghost use Rattle.machine.specs.Bytes.{wordsOf};
+ghost use Rattle.parts.specs.Form.{packed};
 ghost use Rattle.objects.specs.Places.{Ends};
-ghost use Rattle.objects.specs.Take.{someWords, times};
-ghost use Rattle.objects.specs.View.{aName, anOption, aPair, aRule};
+ghost use Rattle.objects.specs.Take.{someWords, theWords, times};
+ghost use Rattle.objects.specs.View.{aName, anOption, aPair, someCalls, someCells, aRule, aBody, aView};
+use base::byte;
 use base::wide;
+
+// `PO`, the first word of an object.
+const MARK: usize = 20559;
 
 // The number of the words, and the word at i as a number: 0 past the last.
 fn total(objects: &[u8]) -> usize
@@ -60,4 +65,199 @@ fn past_names(objects: &[u8], at: usize, n: usize) -> usize
         i += 1;
     }
     p
+}
+
+// 0, or 1 and a name.
+fn past_option(objects: &[u8], at: usize) -> usize
+    requires { ⌜ at ≤ length (wordsOf (now objects)) ⌝ }
+    ensures { λ r. ⌜ Ends anOption (wordsOf (now (objects .entry))) at r ⌝ }
+{
+    let end = total(objects);
+    if at == end {
+        return end + 1;
+    }
+    let sign = number(objects, at);
+    if sign == 0 {
+        return at + 1;
+    }
+    if sign == 1 {
+        return past_name(objects, at + 1);
+    }
+    end + 1
+}
+
+// A pair: the `^`, its section and its operand rule.
+fn past_pair(objects: &[u8], at: usize) -> usize
+    requires { ⌜ at ≤ length (wordsOf (now objects)) ⌝ }
+    ensures { λ r. ⌜ Ends aPair (wordsOf (now (objects .entry))) at r ⌝ }
+{
+    let end = total(objects);
+    if end - at < 2 {
+        return end + 1;
+    }
+    let operand = past_name(objects, at + 2);
+    if operand > end {
+        return operand;
+    }
+    past_name(objects, operand)
+}
+
+fn past_pairs(objects: &[u8], at: usize, n: usize) -> usize
+    requires { ⌜ at ≤ length (wordsOf (now objects)) ⌝ }
+    ensures { λ r. ⌜ Ends (times n aPair) (wordsOf (now (objects .entry))) at r ⌝ }
+{
+    let end = total(objects);
+    let mut p = at;
+    let mut i = 0;
+    while i < n {
+        p = past_pair(objects, p);
+        if p > end {
+            return p;
+        }
+        i += 1;
+    }
+    p
+}
+
+// As many names as a word says.
+fn past_calls(objects: &[u8], at: usize) -> usize
+    requires { ⌜ at ≤ length (wordsOf (now objects)) ⌝ }
+    ensures { λ r. ⌜ Ends someCalls (wordsOf (now (objects .entry))) at r ⌝ }
+{
+    let end = total(objects);
+    if at == end {
+        return end + 1;
+    }
+    past_names(objects, at + 1, number(objects, at))
+}
+
+// As many cells as a word says.
+fn past_cells(objects: &[u8], at: usize) -> usize
+    requires { ⌜ at ≤ length (wordsOf (now objects)) ⌝ }
+    ensures { λ r. ⌜ Ends someCells (wordsOf (now (objects .entry))) at r ⌝ }
+{
+    let end = total(objects);
+    if at == end {
+        return end + 1;
+    }
+    past_words(objects, at + 1, number(objects, at))
+}
+
+// A rule: its name, its type, the names of its calls, its cells.
+fn past_rule(objects: &[u8], at: usize) -> usize
+    requires { ⌜ at ≤ length (wordsOf (now objects)) ⌝ }
+    ensures { λ r. ⌜ Ends aRule (wordsOf (now (objects .entry))) at r ⌝ }
+{
+    let end = total(objects);
+    let gives = past_name(objects, at);
+    if gives > end {
+        return gives;
+    }
+    let calls = past_option(objects, gives);
+    if calls > end {
+        return calls;
+    }
+    let cells = past_calls(objects, calls);
+    if cells > end {
+        return cells;
+    }
+    past_cells(objects, cells)
+}
+
+fn past_rules(objects: &[u8], at: usize, n: usize) -> usize
+    requires { ⌜ at ≤ length (wordsOf (now objects)) ⌝ }
+    ensures { λ r. ⌜ Ends (times n aRule) (wordsOf (now (objects .entry))) at r ⌝ }
+{
+    let end = total(objects);
+    let mut p = at;
+    let mut i = 0;
+    while i < n {
+        p = past_rule(objects, p);
+        if p > end {
+            return p;
+        }
+        i += 1;
+    }
+    p
+}
+
+// The word at i of the bytes of a common part, two a word.
+fn common_word(common: &[u8], i: usize) -> usize
+    requires { ⌜ 2 * i < length (now common) ⌝ }
+    ensures { λ r. ⌜ r ≡ getD (packed (now (common .entry))) i 0 ⌝ }
+{
+    let at = 2 * i;
+    if at + 1 < common.len() {
+        return 256 * byte(common[at]) + byte(common[at + 1]);
+    }
+    256 * byte(common[at])
+}
+
+// The bytes of the common part, and no others.
+fn past_common(objects: &[u8], at: usize, common: &[u8]) -> usize
+    requires { ⌜ at ≤ length (wordsOf (now objects)) ⌝ }
+    ensures { λ r. ⌜ Ends (theWords (packed (now (common .entry)))) (wordsOf (now (objects .entry))) at r ⌝ }
+{
+    let end = total(objects);
+    let n = common.len() / 2 + common.len() % 2;
+    if n > end - at {
+        return end + 1;
+    }
+    let mut i = 0;
+    while i < n {
+        if number(objects, at + i) != common_word(common, i) {
+            return end + 1;
+        }
+        i += 1;
+    }
+    at + n
+}
+
+// What stands behind the length of an object: four numbers, the common part, pairs, rules.
+fn past_body(objects: &[u8], at: usize, common: &[u8]) -> usize
+    requires { ⌜ at ≤ length (wordsOf (now objects)) ⌝ }
+    ensures { λ r. ⌜ Ends (aBody (now (common .entry))) (wordsOf (now (objects .entry))) at r ⌝ }
+{
+    let end = total(objects);
+    if end - at < 4 {
+        return end + 1;
+    }
+    if number(objects, at) != common.len() {
+        return end + 1;
+    }
+    let pairs = past_common(objects, at + 4, common);
+    if pairs > end {
+        return pairs;
+    }
+    let rules = past_pairs(objects, pairs, number(objects, at + 3));
+    if rules > end {
+        return rules;
+    }
+    past_rules(objects, rules, number(objects, at + 2))
+}
+
+// An object: `PO`, the number of the words behind these three, and those.
+fn past_view(objects: &[u8], at: usize, common: &[u8]) -> usize
+    requires { ⌜ at ≤ length (wordsOf (now objects)) ⌝ }
+    ensures { λ r. ⌜ Ends (aView (now (common .entry))) (wordsOf (now (objects .entry))) at r ⌝ }
+{
+    let end = total(objects);
+    if end - at < 3 {
+        return end + 1;
+    }
+    if number(objects, at) != MARK {
+        return end + 1;
+    }
+    let next = past_body(objects, at + 3, common);
+    if next > end {
+        return next;
+    }
+    let size = next - (at + 3);
+    if number(objects, at + 1) != size / 65536 {
+        return end + 1;
+    }
+    if number(objects, at + 2) != size % 65536 {
+        return end + 1;
+    }
+    next
 }
