@@ -7,3 +7,4 @@ pub mod Numbering
 pub mod Exact
 pub mod Ends
 pub mod EndsLong
+pub mod Compared

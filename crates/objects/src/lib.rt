@@ -1,12 +1,13 @@
 // Objects that anybody wrote, read from their words: definitions, theorems, and the code that goes over the words by places.
 ghost use mathlib.Core.Path.{_≡_};
-ghost use Prim.Native.Nat.{_+_, _*_, _<_, _≤_};
-ghost use lib.ListN.{length, getD};
+ghost use Prim.Native.Nat.{ℕ, _+_, _*_, _<_, _≤_};
+ghost use lib.ListN.{length, getD, take, drop};
+ghost use Rattle.base.specs.Common.{same};
 ghost use Rattle.machine.specs.Bytes.{wordsOf};
 ghost use Rattle.parts.specs.Form.{packed};
-ghost use Rattle.objects.specs.Places.{Ends};
+ghost use Rattle.objects.specs.Places.{Ends, NameAt, HeadsAt};
 ghost use Rattle.objects.specs.Take.{someWords, theWords, times};
-ghost use Rattle.objects.specs.View.{aName, anOption, aPair, someCalls, someCells, aRule, aBody, aView};
+ghost use Rattle.objects.specs.View.{Name, aName, anOption, aPair, someCalls, someCells, aRule, aBody, aView};
 use base::byte;
 use base::wide;
 
@@ -260,4 +261,52 @@ fn past_view(objects: &[u8], at: usize, common: &[u8]) -> usize
         return end + 1;
     }
     next
+}
+
+// Whether the names at two places have the same bytes.
+fn same_names(objects: &[u8], p: usize, q: usize) -> bool
+    requires { ⌜ (p ≤ length (wordsOf (now objects))) × (q ≤ length (wordsOf (now objects))) ⌝ }
+    ensures { λ r. ⌜ ((n m : Name) → NameAt (wordsOf (now (objects .entry))) p n → NameAt (wordsOf (now (objects .entry))) q m → r ≡ same (n .text) (m .text)) ⌝ }
+{
+    let end = total(objects);
+    if end == p {
+        return false;
+    }
+    if end == q {
+        return false;
+    }
+    let size = number(objects, p + 1);
+    if number(objects, q + 1) != size {
+        return false;
+    }
+    let mut i = 0;
+    while i < size {
+        if number(objects, p + 2 + i) != number(objects, q + 2 + i) {
+            return false;
+        }
+        i += 1;
+    }
+    true
+}
+
+// Whether the name at a place has these bytes of the common part.
+fn same_common(objects: &[u8], p: usize, common: &[u8], start: usize, size: usize) -> bool
+    requires { ⌜ (p ≤ length (wordsOf (now objects))) × (start + size ≤ length (now common)) ⌝ }
+    ensures { λ r. ⌜ ((n : Name) → NameAt (wordsOf (now (objects .entry))) p n → r ≡ same (n .text) (take size (drop start (now (common .entry))))) ⌝ }
+{
+    let end = total(objects);
+    if end == p {
+        return false;
+    }
+    if number(objects, p + 1) != size {
+        return false;
+    }
+    let mut i = 0;
+    while i < size {
+        if number(objects, p + 2 + i) != byte(common[start + i]) {
+            return false;
+        }
+        i += 1;
+    }
+    true
 }
