@@ -8,3 +8,4 @@ pub mod Exact
 pub mod Ends
 pub mod EndsLong
 pub mod Compared
+pub mod Looked

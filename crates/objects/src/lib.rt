@@ -1,18 +1,24 @@
 // Objects that anybody wrote, read from their words: definitions, theorems, and the code that goes over the words by places.
+ghost use mathlib.Core.List.{List, []};
 ghost use mathlib.Core.Path.{_≡_};
 ghost use Prim.Native.Nat.{ℕ, _+_, _*_, _<_, _≤_};
 ghost use lib.ListN.{length, getD, take, drop};
 ghost use Rattle.base.specs.Common.{same};
 ghost use Rattle.machine.specs.Bytes.{wordsOf};
 ghost use Rattle.parts.specs.Form.{packed};
+ghost use Rattle.parts.specs.Texts.{Head};
+ghost use Rattle.objects.specs.Order.{standsAt, isListed};
 ghost use Rattle.objects.specs.Places.{Ends, NameAt, HeadsAt};
-ghost use Rattle.objects.specs.Take.{someWords, theWords, times};
-ghost use Rattle.objects.specs.View.{Name, aName, anOption, aPair, someCalls, someCells, aRule, aBody, aView};
+ghost use Rattle.objects.specs.Take.{took, someWords, theWords, times};
+ghost use Rattle.objects.specs.View.{Name, Pair, aName, anOption, aPair, someCalls, someCells, aRule, aBody, aView};
 use base::byte;
 use base::wide;
 
 // `PO`, the first word of an object.
 const MARK: usize = 20559;
+
+// The numbers that a caller lends of each line of the common part's list: where the rule's name starts and its length, and the same of its type.
+pub const HEAD_NUMBERS: usize = 4;
 
 // The number of the words, and the word at i as a number: 0 past the last.
 fn total(objects: &[u8]) -> usize
@@ -309,4 +315,53 @@ fn same_common(objects: &[u8], p: usize, common: &[u8], start: usize, size: usiz
         i += 1;
     }
     true
+}
+
+// The same for bytes that may lie outside: they are no name.
+fn is_part(objects: &[u8], p: usize, common: &[u8], start: usize, size: usize) -> bool
+    requires { ⌜ (p ≤ length (wordsOf (now objects))) × (start < 65536) × (size < 65536) ⌝ }
+    ensures { λ r. ⌜ ((n : Name) → start + size ≤ length (now (common .entry)) → NameAt (wordsOf (now (objects .entry))) p n → r ≡ same (n .text) (take size (drop start (now (common .entry))))) ⌝ }
+{
+    if start + size > common.len() {
+        return false;
+    }
+    same_common(objects, p, common, start, size)
+}
+
+// Whether the name at a place is on the list of the common part.
+fn is_listed(objects: &[u8], p: usize, common: &[u8], heads: &[u16]) -> bool
+    requires { ⌜ p ≤ length (wordsOf (now objects)) ⌝ }
+    ensures { λ r. ⌜ ((hs : List Head) (n : Name) → HeadsAt (now (common .entry)) (now (heads .entry)) hs → NameAt (wordsOf (now (objects .entry))) p n → r ≡ isListed hs [] n) ⌝ }
+{
+    let count = heads.len() / HEAD_NUMBERS;
+    let mut i = 0;
+    while i < count {
+        let start = wide(heads[HEAD_NUMBERS * i]);
+        let size = wide(heads[HEAD_NUMBERS * i + 1]);
+        if is_part(objects, p, common, start, size) {
+            return true;
+        }
+        i += 1;
+    }
+    false
+}
+
+// Whether the k-th of the pairs from a place on has the name at p for its operand rule.
+fn stands_at(objects: &[u8], pairs: usize, count: usize, k: usize, p: usize) -> bool
+    requires { ⌜ (pairs ≤ length (wordsOf (now objects))) × (p ≤ length (wordsOf (now objects))) ⌝ }
+    ensures { λ r. ⌜ ((ps : List Pair) (n : Name) (rest : List ℕ) → times count aPair (drop pairs (wordsOf (now (objects .entry)))) ≡ took ps rest → NameAt (wordsOf (now (objects .entry))) p n → r ≡ standsAt ps k n) ⌝ }
+{
+    let end = total(objects);
+    if k >= count {
+        return false;
+    }
+    let at = past_pairs(objects, pairs, k);
+    if at + 2 > end {
+        return false;
+    }
+    let operand = past_name(objects, at + 2);
+    if operand > end {
+        return false;
+    }
+    same_names(objects, operand, p)
 }
