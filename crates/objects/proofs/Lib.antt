@@ -9,3 +9,4 @@ pub mod Ends
 pub mod EndsLong
 pub mod Compared
 pub mod Looked
+pub mod Facts
