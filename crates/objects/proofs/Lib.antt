@@ -10,3 +10,4 @@ pub mod EndsLong
 pub mod Compared
 pub mod Looked
 pub mod Facts
+pub mod Among

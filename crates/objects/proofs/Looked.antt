@@ -95,7 +95,7 @@ all-split (p ∷ ps) (suc k) rest =
     append-assoc (pairWords p) (all pairWords ps) rest ∙ ap (λ ws. pairWords p ++ ws) (all-split ps k rest) ∙ sym (append-assoc (pairWords p) (all pairWords (take k ps)) (all pairWords (drop k ps) ++ rest))
 
 -- where a taker ends whose outcome is known
-ends-took : {A : Type 0} {m : Taker A} {words : List ℕ} {at r : ℕ} (a : A) (rest : List ℕ) → m (drop at words) ≡ took a rest → Ends m words at r → (rest ≡ drop r words) × (r ≤ length words)
+pub ends-took : {A : Type 0} {m : Taker A} {words : List ℕ} {at r : ℕ} (a : A) (rest : List ℕ) → m (drop at words) ≡ took a rest → Ends m words at r → (rest ≡ drop r words) × (r ≤ length words)
 unfolding EndsAt
 ends-took {m = m} {words = words} {at = at} {r = r} a rest e x = rw e at (x .is)
 

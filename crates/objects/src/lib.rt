@@ -5,12 +5,14 @@ ghost use Prim.Native.Nat.{ℕ, _+_, _*_, _<_, _≤_};
 ghost use lib.ListN.{length, getD, take, drop};
 ghost use Rattle.base.specs.Common.{same};
 ghost use Rattle.machine.specs.Bytes.{wordsOf};
+ghost use Rattle.names.specs.Understand.{isOne};
 ghost use Rattle.parts.specs.Form.{packed};
 ghost use Rattle.parts.specs.Texts.{Head};
 ghost use Rattle.objects.specs.Order.{standsAt, isListed};
 ghost use Rattle.objects.specs.Places.{Ends, NameAt, HeadsAt};
 ghost use Rattle.objects.specs.Take.{took, someWords, theWords, times};
 ghost use Rattle.objects.specs.View.{Name, Pair, aName, anOption, aPair, someCalls, someCells, aRule, aBody, aView};
+ghost use Rattle.objects.specs.Whole.{textsOf};
 use base::byte;
 use base::wide;
 
@@ -364,4 +366,25 @@ fn stands_at(objects: &[u8], pairs: usize, count: usize, k: usize, p: usize) -> 
         return false;
     }
     same_names(objects, operand, p)
+}
+
+// Whether the name at p is one of the n names from a place on.
+fn among_names(objects: &[u8], at: usize, n: usize, p: usize) -> bool
+    requires { ⌜ (at ≤ length (wordsOf (now objects))) × (p ≤ length (wordsOf (now objects))) ⌝ }
+    ensures { λ r. ⌜ ((ns : List Name) (m : Name) (rest : List ℕ) → times n aName (drop at (wordsOf (now (objects .entry)))) ≡ took ns rest → NameAt (wordsOf (now (objects .entry))) p m → r ≡ isOne (m .text) (textsOf ns)) ⌝ }
+{
+    let end = total(objects);
+    let mut q = at;
+    let mut i = 0;
+    while i < n {
+        if same_names(objects, p, q) {
+            return true;
+        }
+        q = past_name(objects, q);
+        if q > end {
+            return false;
+        }
+        i += 1;
+    }
+    false
 }
