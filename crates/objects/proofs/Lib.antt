@@ -11,3 +11,4 @@ pub mod Compared
 pub mod Looked
 pub mod Facts
 pub mod Among
+pub mod Called

@@ -27,7 +27,7 @@ name-exact =
     ends (some-words n) (λ t. record { start = s; text = t }) (λ (c : Name). c .text) (λ c. (length (c .text) ≡ n) × ((c .start ≡ s) × Any c))
     (λ _. refl) (λ t l. (l, (refl, tt))) (λ c q. q .0) (λ c q. ap (λ (x : ℕ). record { start = x; text = c .text }) (sym (q .1 .0)))))
 
-option-exact : Exact anOption optionWords Any
+pub option-exact : Exact anOption optionWords Any
 unfolding anOption ifNamed optionWords onward aWord refuse
 option-exact = record { back = back; forth = forth }
   where

@@ -1,5 +1,5 @@
 // Objects that anybody wrote, read from their words: definitions, theorems, and the code that goes over the words by places.
-ghost use mathlib.Core.List.{List, []};
+ghost use mathlib.Core.List.{List, [], _++_};
 ghost use mathlib.Core.Path.{_≡_};
 ghost use Prim.Native.Nat.{ℕ, _+_, _*_, _<_, _≤_};
 ghost use lib.ListN.{length, getD, take, drop};
@@ -11,8 +11,8 @@ ghost use Rattle.parts.specs.Texts.{Head};
 ghost use Rattle.objects.specs.Order.{standsAt, isListed};
 ghost use Rattle.objects.specs.Places.{Ends, NameAt, HeadsAt};
 ghost use Rattle.objects.specs.Take.{took, someWords, theWords, times};
-ghost use Rattle.objects.specs.View.{Name, Pair, aName, anOption, aPair, someCalls, someCells, aRule, aBody, aView};
-ghost use Rattle.objects.specs.Whole.{textsOf};
+ghost use Rattle.objects.specs.View.{Name, Pair, RuleView, ruleWords, aName, anOption, aPair, someCalls, someCells, aRule, aBody, aView};
+ghost use Rattle.objects.specs.Whole.{callsOf, textsOf};
 use base::byte;
 use base::wide;
 
@@ -381,6 +381,44 @@ fn among_names(objects: &[u8], at: usize, n: usize, p: usize) -> bool
             return true;
         }
         q = past_name(objects, q);
+        if q > end {
+            return false;
+        }
+        i += 1;
+    }
+    false
+}
+
+// Whether the rule at q calls the name at p.
+fn calls_name(objects: &[u8], q: usize, p: usize) -> bool
+    requires { ⌜ (q ≤ length (wordsOf (now objects))) × (p ≤ length (wordsOf (now objects))) ⌝ }
+    ensures { λ r. ⌜ ((v : RuleView) (m : Name) (k : List ℕ) → drop q (wordsOf (now (objects .entry))) ≡ ruleWords v ++ k → NameAt (wordsOf (now (objects .entry))) p m → r ≡ isOne (m .text) (textsOf (v .calls))) ⌝ }
+{
+    let end = total(objects);
+    let gives = past_name(objects, q);
+    if gives > end {
+        return false;
+    }
+    let calls = past_option(objects, gives);
+    if calls >= end {
+        return false;
+    }
+    among_names(objects, calls + 1, number(objects, calls), p)
+}
+
+// Whether one of the n rules from a place on calls the name at p.
+fn is_called(objects: &[u8], at: usize, n: usize, p: usize) -> bool
+    requires { ⌜ (at ≤ length (wordsOf (now objects))) × (p ≤ length (wordsOf (now objects))) ⌝ }
+    ensures { λ r. ⌜ ((vs : List RuleView) (m : Name) (rest : List ℕ) → times n aRule (drop at (wordsOf (now (objects .entry)))) ≡ took vs rest → NameAt (wordsOf (now (objects .entry))) p m → r ≡ isOne (m .text) (textsOf (callsOf vs))) ⌝ }
+{
+    let end = total(objects);
+    let mut q = at;
+    let mut i = 0;
+    while i < n {
+        if calls_name(objects, q, p) {
+            return true;
+        }
+        q = past_rule(objects, q);
         if q > end {
             return false;
         }
