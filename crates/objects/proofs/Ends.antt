@@ -1,21 +1,18 @@
 -- Takers from a place on, one law for each way of putting them together.
-use mathlib.Core.Bool.{Bool, true, false}
-use mathlib.Core.List.{List, [], _∷_}
+use mathlib.Core.List.{List, _∷_}
 use mathlib.Core.Option.{none, some}
-use mathlib.Core.Path.{_≡_, refl, sym, ap, _∙_, subst}
+use mathlib.Core.Path.{_≡_, refl, subst}
 use native.Mathlib.Numerals.{add-one}
 use native.Mathlib.Omega.{arith}
-use Prim.Native.Nat.{ℕ, zero, suc, _+_, _-_, _<_, _≤_}
+use Prim.Native.Nat.{ℕ, zero, suc, _+_, _<_, _≤_}
 use borrow.Author.Tests.{le-leb, lt-leb, ne-eqb}
-use lib.Dec.{leb}
-use lib.ListN.{length, getD, take, drop, length-drop, drop-of-length-le}
+use lib.ListN.{length, getD, drop, length-drop, drop-of-length-le}
 use lib.Seq.{drop-cons, drop-drop}
 use mathlib.Core.Logic.{_⊎_, inl, inr}
 use Rattle.base.proofs.Laws.{lt-or-le}
-use Rattle.base.specs.Common.{if_then_else_}
 use Rattle.objects.specs.Places.{EndsAt, Ends}
 use Rattle.objects.specs.Take.{Taken, took, missing, Taker, onward, _>>=_, pure, refuse, aWord, someWords, times}
-use Rattle.objects.specs.View.{Name, aName, ifNamed, anOption, aPair, someCalls, someCells, aRule}
+use Rattle.objects.specs.View.{aName, ifNamed, anOption, aPair, someCalls, someCells, aRule}
 
 module _ {words : List ℕ} where
   -- what is taken ends at p, and then the rest at r

@@ -1,21 +1,19 @@
 -- A name looked up on the common part's list, and among the operand rules of pairs.
 use mathlib.Core.Bool.{Bool, true, false}
 use mathlib.Core.List.{List, [], _∷_, _++_, append-assoc}
-use mathlib.Core.Path.{_≡_, refl, sym, ap, _∙_, subst}
-use native.Mathlib.Numerals.{add-one}
+use mathlib.Core.Path.{_≡_, refl, sym, ap, _∙_}
 use native.Mathlib.Omega.{arith}
-use Prim.Native.Nat.{ℕ, zero, suc, _+_, _*_, _-_, _<_, _≤_}
-use lib.ListN.{List·getD-append, length, getD, take, drop, length-append, length-drop, take-append-drop}
+use Prim.Native.Nat.{ℕ, zero, suc, _+_, _*_, _<_, _≤_}
+use lib.ListN.{List·getD-append, length, getD, take, drop, length-append, length-drop}
 use lib.Seq.{drop-drop, getD-drop, length-take-le}
-use Rattle.base.proofs.Laws.{same-refl}
-use Rattle.base.specs.Common.{same, given}
+use Rattle.base.specs.Common.{same}
 use Rattle.parts.specs.Link.{listedType}
 use Rattle.parts.specs.Texts.{Head}
-use Rattle.objects.proofs.TakeLaws.{Exact, times-exact}
+use Rattle.objects.proofs.TakeLaws.{times-exact}
 use Rattle.objects.proofs.Views.{pair-exact, name-exact}
 use Rattle.objects.specs.Order.{standsAt, isListed}
 use Rattle.objects.specs.Places.{EndsAt, Ends, NameAt, HeadsAt, textAt}
-use Rattle.objects.specs.Take.{Taken, took, missing, Taker, times}
+use Rattle.objects.specs.Take.{took, Taker, times}
 use Rattle.objects.specs.View.{Name, Pair, nameWords, pairWords, all, aName, aPair}
 
 -- The list

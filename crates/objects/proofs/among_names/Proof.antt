@@ -12,11 +12,6 @@ use Rattle.objects.specs.Take.{took, times}
 use Rattle.objects.specs.View.{Name, aName}
 use Rattle.objects.proofs.among_names.Statement.{statement}
 use Rattle.objects.proofs.among_names.Tie as tie
-use Rattle.objects.proofs.among_names.Reads as reads
-use Rattle.objects.proofs.among_names.Lts as lts
-use Rattle.objects.proofs.past_name.Reads as past-name-reads
-use Rattle.objects.proofs.same_names.Reads as same-names-reads
-use Rattle.objects.proofs.total.Reads as total-reads
 
 abbrev Inv-loop : tie.InvT-loop
 Inv-loop objects at n p end q₀ i₀ q i = (i ≤ n) × (q ≤ length (wordsOf objects))

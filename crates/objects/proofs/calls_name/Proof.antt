@@ -6,13 +6,6 @@ use Rattle.objects.proofs.Called.{calls-at}
 use borrow.Author.Needs.{needs}
 use Rattle.objects.proofs.calls_name.Statement.{statement}
 use Rattle.objects.proofs.calls_name.Tie as tie
-use Rattle.objects.proofs.calls_name.Reads as reads
-use Rattle.objects.proofs.calls_name.Lts as lts
-use Rattle.objects.proofs.among_names.Reads as among-names-reads
-use Rattle.objects.proofs.number.Reads as number-reads
-use Rattle.objects.proofs.past_name.Reads as past-name-reads
-use Rattle.objects.proofs.past_option.Reads as past-option-reads
-use Rattle.objects.proofs.total.Reads as total-reads
 
 total-requires : tie.Need-total-requires
 total-requires c κs = search needs

@@ -6,9 +6,6 @@ use Rattle.objects.proofs.EndsLong.{packed-at}
 use borrow.Author.Needs.{needs}
 use Rattle.objects.proofs.common_word.Statement.{statement}
 use Rattle.objects.proofs.common_word.Tie as tie
-use Rattle.objects.proofs.common_word.Reads as reads
-use Rattle.objects.proofs.common_word.Lts as lts
-use Rattle.base.proofs.byte.Reads as byte-reads
 
 mul-at : tie.Need-mul-at
 mul-at c = search needs

@@ -12,11 +12,6 @@ use Rattle.objects.specs.Take.{took, times}
 use Rattle.objects.specs.View.{Name, RuleView, aRule}
 use Rattle.objects.proofs.is_called.Statement.{statement}
 use Rattle.objects.proofs.is_called.Tie as tie
-use Rattle.objects.proofs.is_called.Reads as reads
-use Rattle.objects.proofs.is_called.Lts as lts
-use Rattle.objects.proofs.calls_name.Reads as calls-name-reads
-use Rattle.objects.proofs.past_rule.Reads as past-rule-reads
-use Rattle.objects.proofs.total.Reads as total-reads
 
 abbrev Inv-loop : tie.InvT-loop
 Inv-loop objects at n p end q₀ i₀ q i = (i ≤ n) × (q ≤ length (wordsOf objects))

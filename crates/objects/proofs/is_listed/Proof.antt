@@ -13,10 +13,6 @@ use Rattle.objects.specs.Places.{NameAt, HeadsAt}
 use Rattle.objects.specs.View.{Name}
 use Rattle.objects.proofs.is_listed.Statement.{statement}
 use Rattle.objects.proofs.is_listed.Tie as tie
-use Rattle.objects.proofs.is_listed.Reads as reads
-use Rattle.objects.proofs.is_listed.Lts as lts
-use Rattle.base.proofs.wide.Reads as wide-reads
-use Rattle.objects.proofs.is_part.Reads as is-part-reads
 
 abbrev Inv-loop : tie.InvT-loop
 Inv-loop objects p common heads count i₀ i = (i ≤ length heads / 4) × ((hs : List Head) (n : Name) → HeadsAt common heads hs → NameAt (wordsOf objects) p n → isListed hs [] n ≡ isListed (drop i hs) [] n)

@@ -3,9 +3,6 @@ use native.Mathlib.Omega.{arith}
 use borrow.Author.Needs.{needs}
 use Rattle.objects.proofs.is_part.Statement.{statement}
 use Rattle.objects.proofs.is_part.Tie as tie
-use Rattle.objects.proofs.is_part.Reads as reads
-use Rattle.objects.proofs.is_part.Lts as lts
-use Rattle.objects.proofs.same_common.Reads as same-common-reads
 
 add-if1 : tie.Need-add-if1
 add-if1 c = search needs

@@ -4,13 +4,6 @@ use Rattle.objects.proofs.EndsLong.{body-short, body-of-other, body-off
 use borrow.Author.Needs.{needs}
 use Rattle.objects.proofs.past_body.Statement.{statement}
 use Rattle.objects.proofs.past_body.Tie as tie
-use Rattle.objects.proofs.past_body.Reads as reads
-use Rattle.objects.proofs.past_body.Lts as lts
-use Rattle.objects.proofs.number.Reads as number-reads
-use Rattle.objects.proofs.past_common.Reads as past-common-reads
-use Rattle.objects.proofs.past_pairs.Reads as past-pairs-reads
-use Rattle.objects.proofs.past_rules.Reads as past-rules-reads
-use Rattle.objects.proofs.total.Reads as total-reads
 
 total-requires : tie.Need-total-requires
 total-requires c κs = search needs

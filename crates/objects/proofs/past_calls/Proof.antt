@@ -4,11 +4,6 @@ use Rattle.objects.proofs.Ends.{no-calls, calls-end}
 use borrow.Author.Needs.{needs}
 use Rattle.objects.proofs.past_calls.Statement.{statement}
 use Rattle.objects.proofs.past_calls.Tie as tie
-use Rattle.objects.proofs.past_calls.Reads as reads
-use Rattle.objects.proofs.past_calls.Lts as lts
-use Rattle.objects.proofs.number.Reads as number-reads
-use Rattle.objects.proofs.past_names.Reads as past-names-reads
-use Rattle.objects.proofs.total.Reads as total-reads
 
 total-requires : tie.Need-total-requires
 total-requires c κs = search needs

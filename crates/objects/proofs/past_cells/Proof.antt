@@ -4,11 +4,6 @@ use Rattle.objects.proofs.Ends.{no-cells, cells-end}
 use borrow.Author.Needs.{needs}
 use Rattle.objects.proofs.past_cells.Statement.{statement}
 use Rattle.objects.proofs.past_cells.Tie as tie
-use Rattle.objects.proofs.past_cells.Reads as reads
-use Rattle.objects.proofs.past_cells.Lts as lts
-use Rattle.objects.proofs.number.Reads as number-reads
-use Rattle.objects.proofs.past_words.Reads as past-words-reads
-use Rattle.objects.proofs.total.Reads as total-reads
 
 total-requires : tie.Need-total-requires
 total-requires c κs = search needs

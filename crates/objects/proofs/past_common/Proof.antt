@@ -2,7 +2,7 @@
 use native.Mathlib.Omega.{arith}
 use mathlib.Core.Path.{_≡_, sym, _∙_}
 use Prim.Native.Nat.{ℕ, _+_, _-_, _<_, _≤_}
-use lib.ListN.{length, getD}
+use lib.ListN.{getD}
 use borrow.Author.Count.{below-more}
 use borrow.Author.Needs.{needs}
 use Rattle.machine.specs.Bytes.{wordsOf}
@@ -10,11 +10,6 @@ use Rattle.parts.specs.Form.{packed}
 use Rattle.objects.proofs.EndsLong.{packed-length, words-few, words-are, words-not}
 use Rattle.objects.proofs.past_common.Statement.{statement}
 use Rattle.objects.proofs.past_common.Tie as tie
-use Rattle.objects.proofs.past_common.Reads as reads
-use Rattle.objects.proofs.past_common.Lts as lts
-use Rattle.objects.proofs.common_word.Reads as common-word-reads
-use Rattle.objects.proofs.number.Reads as number-reads
-use Rattle.objects.proofs.total.Reads as total-reads
 
 abbrev Inv-loop : tie.InvT-loop
 Inv-loop objects at common end n i₀ i = (i ≤ n) × ((k : ℕ) → k < i → getD (wordsOf objects) (at + k) 0 ≡ getD (packed common) k 0)

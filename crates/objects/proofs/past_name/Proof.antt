@@ -1,16 +1,9 @@
 -- `objects::past_name` meets its contract: two words, and as many as the second says.
 use native.Mathlib.Omega.{arith}
-use mathlib.Core.Path.{subst}
-use lib.ListN.{getD}
 use Rattle.objects.proofs.Ends.{name-ends, no-name}
 use borrow.Author.Needs.{needs}
 use Rattle.objects.proofs.past_name.Statement.{statement}
 use Rattle.objects.proofs.past_name.Tie as tie
-use Rattle.objects.proofs.past_name.Reads as reads
-use Rattle.objects.proofs.past_name.Lts as lts
-use Rattle.objects.proofs.number.Reads as number-reads
-use Rattle.objects.proofs.past_words.Reads as past-words-reads
-use Rattle.objects.proofs.total.Reads as total-reads
 
 total-requires : tie.Need-total-requires
 total-requires c κs = search needs

@@ -1,6 +1,6 @@
 -- `objects::past_names` meets its contract: a name at a turn; what ends behind those left ends behind all.
 use native.Mathlib.Omega.{arith}
-use Prim.Native.Nat.{ℕ, _-_, _≤_}
+use Prim.Native.Nat.{_-_, _≤_}
 use lib.ListN.{length}
 use borrow.Author.Needs.{needs}
 use Rattle.machine.specs.Bytes.{wordsOf}
@@ -8,10 +8,6 @@ use Rattle.objects.proofs.Ends.{Left, left-all, left-more, left-off, le
 use Rattle.objects.specs.View.{aName}
 use Rattle.objects.proofs.past_names.Statement.{statement}
 use Rattle.objects.proofs.past_names.Tie as tie
-use Rattle.objects.proofs.past_names.Reads as reads
-use Rattle.objects.proofs.past_names.Lts as lts
-use Rattle.objects.proofs.past_name.Reads as past-name-reads
-use Rattle.objects.proofs.total.Reads as total-reads
 
 abbrev Inv-loop : tie.InvT-loop
 Inv-loop objects at n end p₀ i₀ p i = (i ≤ n) × (p ≤ length (wordsOf objects)) × Left aName (wordsOf objects) n at (n - i) p

@@ -4,11 +4,6 @@ use Rattle.objects.proofs.Ends.{no-option, option-none, option-some, op
 use borrow.Author.Needs.{needs}
 use Rattle.objects.proofs.past_option.Statement.{statement}
 use Rattle.objects.proofs.past_option.Tie as tie
-use Rattle.objects.proofs.past_option.Reads as reads
-use Rattle.objects.proofs.past_option.Lts as lts
-use Rattle.objects.proofs.number.Reads as number-reads
-use Rattle.objects.proofs.past_name.Reads as past-name-reads
-use Rattle.objects.proofs.total.Reads as total-reads
 
 total-requires : tie.Need-total-requires
 total-requires c κs = search needs

@@ -4,10 +4,6 @@ use Rattle.objects.proofs.Ends.{no-pair, pair-off, pair-ends}
 use borrow.Author.Needs.{needs}
 use Rattle.objects.proofs.past_pair.Statement.{statement}
 use Rattle.objects.proofs.past_pair.Tie as tie
-use Rattle.objects.proofs.past_pair.Reads as reads
-use Rattle.objects.proofs.past_pair.Lts as lts
-use Rattle.objects.proofs.past_name.Reads as past-name-reads
-use Rattle.objects.proofs.total.Reads as total-reads
 
 total-requires : tie.Need-total-requires
 total-requires c κs = search needs

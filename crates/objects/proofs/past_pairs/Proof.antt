@@ -1,6 +1,6 @@
 -- `objects::past_pairs` meets its contract: a pair at a turn; what ends behind those left ends behind all.
 use native.Mathlib.Omega.{arith}
-use Prim.Native.Nat.{ℕ, _-_, _≤_}
+use Prim.Native.Nat.{_-_, _≤_}
 use lib.ListN.{length}
 use borrow.Author.Needs.{needs}
 use Rattle.machine.specs.Bytes.{wordsOf}
@@ -8,10 +8,6 @@ use Rattle.objects.proofs.Ends.{Left, left-all, left-more, left-off, le
 use Rattle.objects.specs.View.{aPair}
 use Rattle.objects.proofs.past_pairs.Statement.{statement}
 use Rattle.objects.proofs.past_pairs.Tie as tie
-use Rattle.objects.proofs.past_pairs.Reads as reads
-use Rattle.objects.proofs.past_pairs.Lts as lts
-use Rattle.objects.proofs.past_pair.Reads as past-pair-reads
-use Rattle.objects.proofs.total.Reads as total-reads
 
 abbrev Inv-loop : tie.InvT-loop
 Inv-loop objects at n end p₀ i₀ p i = (i ≤ n) × (p ≤ length (wordsOf objects)) × Left aPair (wordsOf objects) n at (n - i) p

@@ -4,13 +4,6 @@ use Rattle.objects.proofs.Ends.{rule-off, rule-off-gives, rule-off-call
 use borrow.Author.Needs.{needs}
 use Rattle.objects.proofs.past_rule.Statement.{statement}
 use Rattle.objects.proofs.past_rule.Tie as tie
-use Rattle.objects.proofs.past_rule.Reads as reads
-use Rattle.objects.proofs.past_rule.Lts as lts
-use Rattle.objects.proofs.past_calls.Reads as past-calls-reads
-use Rattle.objects.proofs.past_cells.Reads as past-cells-reads
-use Rattle.objects.proofs.past_name.Reads as past-name-reads
-use Rattle.objects.proofs.past_option.Reads as past-option-reads
-use Rattle.objects.proofs.total.Reads as total-reads
 
 total-requires : tie.Need-total-requires
 total-requires c κs = search needs

@@ -1,6 +1,6 @@
 -- `objects::past_rules` meets its contract: a rule at a turn; what ends behind those left ends behind all.
 use native.Mathlib.Omega.{arith}
-use Prim.Native.Nat.{ℕ, _-_, _≤_}
+use Prim.Native.Nat.{_-_, _≤_}
 use lib.ListN.{length}
 use borrow.Author.Needs.{needs}
 use Rattle.machine.specs.Bytes.{wordsOf}
@@ -8,10 +8,6 @@ use Rattle.objects.proofs.Ends.{Left, left-all, left-more, left-off, le
 use Rattle.objects.specs.View.{aRule}
 use Rattle.objects.proofs.past_rules.Statement.{statement}
 use Rattle.objects.proofs.past_rules.Tie as tie
-use Rattle.objects.proofs.past_rules.Reads as reads
-use Rattle.objects.proofs.past_rules.Lts as lts
-use Rattle.objects.proofs.past_rule.Reads as past-rule-reads
-use Rattle.objects.proofs.total.Reads as total-reads
 
 abbrev Inv-loop : tie.InvT-loop
 Inv-loop objects at n end p₀ i₀ p i = (i ≤ n) × (p ≤ length (wordsOf objects)) × Left aRule (wordsOf objects) n at (n - i) p

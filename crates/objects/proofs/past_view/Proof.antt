@@ -6,11 +6,6 @@ use Rattle.objects.proofs.Views.{body-exact}
 use borrow.Author.Needs.{needs}
 use Rattle.objects.proofs.past_view.Statement.{statement}
 use Rattle.objects.proofs.past_view.Tie as tie
-use Rattle.objects.proofs.past_view.Reads as reads
-use Rattle.objects.proofs.past_view.Lts as lts
-use Rattle.objects.proofs.number.Reads as number-reads
-use Rattle.objects.proofs.past_body.Reads as past-body-reads
-use Rattle.objects.proofs.total.Reads as total-reads
 
 total-requires : tie.Need-total-requires
 total-requires c κs = search needs

@@ -4,9 +4,6 @@ use Rattle.objects.proofs.Ends.{some-words, no-words}
 use borrow.Author.Needs.{needs}
 use Rattle.objects.proofs.past_words.Statement.{statement}
 use Rattle.objects.proofs.past_words.Tie as tie
-use Rattle.objects.proofs.past_words.Reads as reads
-use Rattle.objects.proofs.past_words.Lts as lts
-use Rattle.objects.proofs.total.Reads as total-reads
 
 total-requires : tie.Need-total-requires
 total-requires c κs = search needs

@@ -9,11 +9,6 @@ use Rattle.machine.specs.Bytes.{wordsOf}
 use Rattle.objects.proofs.Compared.{name-inside, common-same, common-longer, common-other}
 use Rattle.objects.proofs.same_common.Statement.{statement}
 use Rattle.objects.proofs.same_common.Tie as tie
-use Rattle.objects.proofs.same_common.Reads as reads
-use Rattle.objects.proofs.same_common.Lts as lts
-use Rattle.base.proofs.byte.Reads as byte-reads
-use Rattle.objects.proofs.number.Reads as number-reads
-use Rattle.objects.proofs.total.Reads as total-reads
 
 abbrev Inv-loop : tie.InvT-loop
 Inv-loop objects p common start size end i₀ i = (i ≤ size) × ((k : ℕ) → k < i → getD (wordsOf objects) (p + 2 + k) 0 ≡ getD common (start + k) 0)

@@ -9,10 +9,6 @@ use Rattle.machine.specs.Bytes.{wordsOf}
 use Rattle.objects.proofs.Compared.{name-inside, names-same, names-longer, names-other}
 use Rattle.objects.proofs.same_names.Statement.{statement}
 use Rattle.objects.proofs.same_names.Tie as tie
-use Rattle.objects.proofs.same_names.Reads as reads
-use Rattle.objects.proofs.same_names.Lts as lts
-use Rattle.objects.proofs.number.Reads as number-reads
-use Rattle.objects.proofs.total.Reads as total-reads
 
 abbrev Inv-loop : tie.InvT-loop
 Inv-loop objects p q end size i₀ i = (i ≤ size) × ((k : ℕ) → k < i → getD (wordsOf objects) (p + 2 + k) 0 ≡ getD (wordsOf objects) (q + 2 + k) 0)

@@ -6,12 +6,6 @@ use Rattle.objects.proofs.Looked.{as-many, stands-none, operand-at}
 use borrow.Author.Needs.{needs}
 use Rattle.objects.proofs.stands_at.Statement.{statement}
 use Rattle.objects.proofs.stands_at.Tie as tie
-use Rattle.objects.proofs.stands_at.Reads as reads
-use Rattle.objects.proofs.stands_at.Lts as lts
-use Rattle.objects.proofs.past_name.Reads as past-name-reads
-use Rattle.objects.proofs.past_pairs.Reads as past-pairs-reads
-use Rattle.objects.proofs.same_names.Reads as same-names-reads
-use Rattle.objects.proofs.total.Reads as total-reads
 
 total-requires : tie.Need-total-requires
 total-requires c κs = search needs
