@@ -35,7 +35,7 @@ use Rattle.objects.proofs.Numbering.{first-is, ranked-at, usesOf, useOf
 use Rattle.objects.proofs.Views.{rules-length, object-words, views-are, are-views}
 use Rattle.objects.specs.Order.{Went, standsAt, isListed, acts, usedUp, ruleInOrder}
 use Rattle.objects.specs.View.{Name, Pair, RuleView, View, nameOf, namesOf, optionOf, pairOf, pairsOf, ruleOf, rulesOf, viewOf, viewsOf, nameWords, optionWords, all, pairWords, ruleWords, bodyWords, viewWords, views}
-use Rattle.objects.specs.Whole.{callsOf, textsOf, every, isSome, pairInOrder, viewInOrder, allInOrder, areObjects}
+use Rattle.objects.specs.Whole.{callsOf, textsOf, every, isSome, pairInOrder, viewInOrder, allInOrder, areObjects, ObjectsPass, PassObjects, SameViews}
 
 empty : {A : Type 0} (xs : List A) → length xs ≡ 0 → xs ≡ []
 empty [] e = refl
@@ -82,10 +82,10 @@ record Ended (v : Bool) (r : Option Went) : Type 0 where
   pub no-names : outcome .names ≡ []
   pub no-end : v ≡ true → outcome .past ≡ false
 
-ended : (hs : List Head) (pairs : List Pair) (v : Bool) (r : Option Went) → usedUp hs pairs v r ≡ true → Ended v r
+ended : (v : Bool) (r : Option Went) → usedUp v r ≡ true → Ended v r
 unfolding usedUp
-ended hs pairs v none e = bools.never e
-ended hs pairs v (some w) e =
+ended v none e = bools.never e
+ended v (some w) e =
     let x = bools.and (eqb (length (w .cells)) 0 && eqb (length (w .names)) 0) (not (v && w .past)) e in
     let y = bools.and (eqb (length (w .cells)) 0) (eqb (length (w .names)) 0) (x .0) in
     record {
@@ -192,7 +192,7 @@ module _ (hs : List Head) (pairs : List Pair) (aims : List Aim) (first : ℕ) (a
 
   rule-found : (r : RuleView) → Values (r .cells) → Each (Numbered aims) (r .calls) → ruleInOrder hs pairs r ≡ true → RuleFound r
   unfolding ruleInOrder bodyCells
-  rule-found r vs ks e = go (ended hs pairs v (acts hs pairs v (length (r .cells)) 32 false (r .cells) (r .calls)) e)
+  rule-found r vs ks e = go (ended v (acts hs pairs v (length (r .cells)) 32 false (r .cells) (r .calls)) e)
     where
       v : Bool
       v = given (r .gives)
@@ -328,15 +328,14 @@ views-in-order hs n (m ∷ ns) (o ∷ os) h =
     bools.both (viewInOrder hs n (viewOf m o)) (every (viewInOrder hs n) (viewsOf ns os)) (sound-in-order hs n m o (h .0)) (views-in-order hs n ns os (h .1))
 
 -- words that are objects pass
-pub objects-pass : (common : List ℕ) (c : Common) (n : Names) (words : List ℕ) → AreObjects common c n words → areObjects (c .listed) n common words ≡ true
+pub objects-pass : ObjectsPass
 unfolding areObjects allInOrder
 objects-pass common c n words x =
     let hs = c .listed in
     rw (words-views common words (viewsOf (x .lengths) (x .objects)) (x .are ∙ all-views common (x .lengths) (x .objects))) (views-in-order hs n (x .lengths) (x .objects) (x .sound))
 
 -- two readings of the same words have the same views
-pub same-views : (common : List ℕ) (c : Common) (n : Names) (words : List ℕ) (x y : AreObjects common c n words)
-    → viewsOf (x .lengths) (x .objects) ≡ viewsOf (y .lengths) (y .objects)
+pub same-views : SameViews
 same-views common c n words x y =
     let a = words-views common words (viewsOf (x .lengths) (x .objects)) (x .are ∙ all-views common (x .lengths) (x .objects)) in
     let b = words-views common words (viewsOf (y .lengths) (y .objects)) (y .are ∙ all-views common (y .lengths) (y .objects)) in
@@ -395,7 +394,7 @@ all-shown common hs n (v ∷ vs) a h =
       views₁ = rw (x .view, y .views₁);
     }
 
-pub pass-objects : (common : List ℕ) (c : Common) (n : Names) (words : List ℕ) → Values words → areObjects (c .listed) n common words ≡ true → AreObjects common c n words
+pub pass-objects : PassObjects
 unfolding areObjects allInOrder
 pass-objects common c n words a e = go (views common (length words) words) refl e
   where

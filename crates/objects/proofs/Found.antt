@@ -123,7 +123,7 @@ module _ (hs : List Head) (pairs : List Pair) (aims : List Aim) (first : ℕ) (v
       let there : i < length prog = omega (arith, h, l) in
       record { there = there; sort = ap (λ (r : Rule). r .valued) (frame-at hs aims i there) ∙ ap (λ (a : Aim). sound.sortOf hs a .valued) d ∙ e }
 
-  by-name : (n : Name) (b : Bool) → Numbered aims n → isListed hs pairs n ≡ b → CallFound 0 n b
+  by-name : (n : Name) (b : Bool) → Numbered aims n → isListed hs n ≡ b → CallFound 0 n b
   unfolding isListed StandsFor sound.sortOf
   by-name n b x e = record {
     number = x .number;
@@ -134,7 +134,7 @@ module _ (hs : List Head) (pairs : List Pair) (aims : List Aim) (first : ℕ) (v
 
   call-found : (m : ℕ) (n : Name) → callOk hs pairs m n ≡ true → Numbered aims n → CallFound m n false
   unfolding callOk StandsFor sound.sortOf
-  call-found zero n e x = by-name n false x (not-true (isListed hs pairs n) e)
+  call-found zero n e x = by-name n false x (not-true (isListed hs n) e)
   call-found (suc k) n e x =
       let y = pair-at k n e in
       let d : first + k - first ≡ k = omega arith in
@@ -173,7 +173,7 @@ module _ (hs : List Head) (pairs : List Pair) (aims : List Aim) (first : ℕ) (v
   taking-found left c x (o ∷ cells) names w (inr (inr (inr d))) vs ks e = plainly (updateWith x o) left c (x ∷ o ∷ cells) names w cells names refl refl (d .0, d .1, vs .0) (vs .1) ks e
 
   calling-found : (left : ℕ) (c : Bool) (x : ℕ) (cells : List ℕ) (names : List Name) (w : Went) → x ≡ 8 → Values cells → Names names
-      → onCall hs pairs (callOk hs pairs) cells names (λ cells names. some (went cells names true false)) ≡ some w → FoundAct left c (x ∷ cells) names w
+      → onCall (callOk hs pairs) cells names (λ cells names. some (went cells names true false)) ≡ some w → FoundAct left c (x ∷ cells) names w
   unfolding plainCells renumberPlain numberOf Spends OkPlain plainPast isExit onCall Values Each
   calling-found left c x [] names w d vs ks e = none-some e
   calling-found left c x (m ∷ cells) [] w d vs ks e = none-some e
@@ -264,7 +264,7 @@ module _ (hs : List Head) (pairs : List Pair) (aims : List Aim) (first : ℕ) (v
       }
 
   ruled-found : (choices : Choices hs pairs v) → ChoicesFound choices → (left : ℕ) (c : Bool) (x : ℕ) (cells : List ℕ) (names : List Name) (w : Went) → x ≡ 11 → Values cells → Names names → 1 ≤ left
-      → onCall hs pairs (ruleOk hs pairs) cells names (λ cells names. choices (left - 1) c false false 64 cells names) ≡ some w → FoundAct left c (x ∷ cells) names w
+      → onCall (ruleOk hs pairs) cells names (λ cells names. choices (left - 1) c false false 64 cells names) ≡ some w → FoundAct left c (x ∷ cells) names w
   unfolding selectorCells renumberSelector selectorNumber Spends OkSelector isToken onCall Values Each
   ruled-found choices h left c x [] names w d vs ks l e = none-some e
   ruled-found choices h left c x (m ∷ cells) [] w d vs ks l e = none-some e
@@ -298,7 +298,7 @@ module _ (hs : List Head) (pairs : List Pair) (aims : List Aim) (first : ℕ) (v
       let y = deeper-is left (choices (left - 1) c true false 64 cells names) w e in
       chosen byToken left c (x ∷ cells) names w cells names (rw d) refl tt (y .0) (g (left - 1) c true false 64 cells names w vs ks (y .1))
   act-found inner choices h g left c x ruled d cells names w vs ks e =
-      let y = deeper-is left (onCall hs pairs (ruleOk hs pairs) cells names (λ cells names. choices (left - 1) c false false 64 cells names)) w e in
+      let y = deeper-is left (onCall (ruleOk hs pairs) cells names (λ cells names. choices (left - 1) c false false 64 cells names)) w e in
       ruled-found choices g left c x cells names w d vs ks (y .0) (y .1)
   act-found inner choices h g left c x asking d cells names w vs ks e =
       let y = deeper-is left (choices (left - 1) c false false 64 cells names) w e in

@@ -8,7 +8,7 @@ use lib.ListN.{List·getD-append, length, getD, take, drop, length-append, lengt
 use lib.Seq.{drop-drop, getD-drop, length-take-le}
 use Rattle.base.specs.Common.{same}
 use Rattle.parts.specs.Link.{listedType}
-use Rattle.parts.specs.Texts.{Head}
+use Rattle.syntax.specs.Texts.{Head}
 use Rattle.objects.proofs.TakeLaws.{times-exact}
 use Rattle.objects.proofs.Views.{pair-exact, name-exact}
 use Rattle.objects.specs.Order.{standsAt, isListed}
@@ -18,26 +18,26 @@ use Rattle.objects.specs.View.{Name, Pair, nameWords, pairWords, all, aN
 
 -- The list
 
-pub listed-none : (hs : List Head) (i : ℕ) (n : Name) → length hs ≤ i → isListed (drop i hs) [] n ≡ false
+pub listed-none : (hs : List Head) (i : ℕ) (n : Name) → length hs ≤ i → isListed (drop i hs) n ≡ false
 unfolding isListed listedType
 listed-none [] zero n l = refl
 listed-none [] (suc i) n l = refl
 listed-none (h ∷ hs) zero n l = absurd (omega (arith, l))
 listed-none (h ∷ hs) (suc i) n l = listed-none hs i n (omega (arith, l))
 
-pub listed-found : (hs : List Head) (i : ℕ) (n : Name) → i < length hs → same (n .text) (textAt hs i) ≡ true → isListed (drop i hs) [] n ≡ true
+pub listed-found : (hs : List Head) (i : ℕ) (n : Name) → i < length hs → same (n .text) (textAt hs i) ≡ true → isListed (drop i hs) n ≡ true
 unfolding isListed listedType textAt
 listed-found [] i n l e = absurd (omega (arith, l))
 listed-found (h ∷ hs) zero n l e = rw e
 listed-found (h ∷ hs) (suc i) n l e = listed-found hs i n (omega (arith, l)) e
 
-pub listed-later : (hs : List Head) (i : ℕ) (n : Name) → i < length hs → same (n .text) (textAt hs i) ≡ false → isListed (drop i hs) [] n ≡ isListed (drop (i + 1) hs) [] n
+pub listed-later : (hs : List Head) (i : ℕ) (n : Name) → i < length hs → same (n .text) (textAt hs i) ≡ false → isListed (drop i hs) n ≡ isListed (drop (i + 1) hs) n
 unfolding isListed listedType textAt
 listed-later [] i n l e = absurd (omega (arith, l))
 listed-later (h ∷ hs) zero n l e = rw e
 listed-later (h ∷ hs) (suc i) n l e =
     let d : suc i + 1 ≡ suc (i + 1) = omega arith in
-    listed-later hs i n (omega (arith, l)) e ∙ ap (λ j. isListed (drop j (h ∷ hs)) [] n) (sym d)
+    listed-later hs i n (omega (arith, l)) e ∙ ap (λ j. isListed (drop j (h ∷ hs)) n) (sym d)
 
 -- what is compared is the name of the list's line i
 pub line-is : {common heads : List ℕ} {hs : List Head} (x : HeadsAt common heads hs) (t : List ℕ) (i start size : ℕ) (r : Bool) → i < length hs → start ≡ getD heads (4 * i) 0 → size ≡ getD heads (4 * i + 1) 0

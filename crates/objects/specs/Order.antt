@@ -99,25 +99,31 @@ standsAt [] k n = false
 standsAt (p ∷ ps) zero n = same (p .operand .text) (n .text)
 standsAt (p ∷ ps) (suc k) n = standsAt ps k n
 
-module _ (hs : List Head) (pairs : List Pair) where
-  unfoldable pub isListed : Name → Bool
-  isListed n = given (listedType (n .text) hs)
+-- the name is on the list
+unfoldable pub isListed : List Head → Name → Bool
+isListed hs n = given (listedType (n .text) hs)
 
+-- behind the mark of a call and its name
+unfoldable pub onCall : (ℕ → Name → Bool) → List ℕ → List Name → (List ℕ → List Name → Option Went) → Option Went
+onCall ok [] names more = none
+onCall ok (m ∷ cells) [] more = none
+onCall ok (m ∷ cells) (n ∷ names) more = if ok m n then more cells names else none
+
+-- all cells and all names are used up, and no choice rule goes past its end
+unfoldable pub usedUp : Bool → Option Went → Bool
+usedUp v none = false
+usedUp v (some w) = eqb (length (w .cells)) 0 && eqb (length (w .names)) 0 && not (v && w .past)
+
+module _ (hs : List Head) (pairs : List Pair) where
   -- a call: of the rule of a name that is not on the list, or of the rules of a pair with that operand rule
   unfoldable pub callOk : ℕ → Name → Bool
-  callOk zero n = not (isListed n)
+  callOk zero n = not (isListed hs n)
   callOk (suc k) n = standsAt pairs k n
 
   -- a choice by a rule: it is on the list
   unfoldable pub ruleOk : ℕ → Name → Bool
-  ruleOk zero n = isListed n
+  ruleOk zero n = isListed hs n
   ruleOk (suc k) n = false
-
-  -- behind the mark of a call and its name
-  unfoldable pub onCall : (ℕ → Name → Bool) → List ℕ → List Name → (List ℕ → List Name → Option Went) → Option Went
-  onCall ok [] names more = none
-  onCall ok (m ∷ cells) [] more = none
-  onCall ok (m ∷ cells) (n ∷ names) more = if ok m n then more cells names else none
 
   -- v: in a choice rule
   module _ (v : Bool) where
@@ -165,11 +171,6 @@ module _ (hs : List Head) (pairs : List Pair) where
       arms zero left c byToken some₁ room cells names = none
       arms (suc k) left c byToken some₁ room [] names = none
       arms (suc k) left c byToken some₁ room (x ∷ cells) names = anArm (λ l d s n. acts k l d s n) (λ l d b t r s n. arms k l d b t r s n) left c byToken some₁ room (armOf x) cells names
-
-  -- all cells and all names are used up, and no choice rule goes past its end
-  unfoldable pub usedUp : Bool → Option Went → Bool
-  usedUp v none = false
-  usedUp v (some w) = eqb (length (w .cells)) 0 && eqb (length (w .names)) 0 && not (v && w .past)
 
   unfoldable pub ruleInOrder : RuleView → Bool
   ruleInOrder r = usedUp (given (r .gives)) (acts (given (r .gives)) (length (r .cells)) 32 false (r .cells) (r .calls))

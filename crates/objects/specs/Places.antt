@@ -3,7 +3,7 @@ use mathlib.Core.Path.{_≡_}
 use mathlib.Core.List.{List, [], _∷_}
 use Prim.Native.Nat.{ℕ, zero, suc, _+_, _*_, _<_, _≤_}
 use lib.ListN.{length, getD, take, drop}
-use Rattle.parts.specs.Texts.{Head}
+use Rattle.syntax.specs.Texts.{Head}
 use Rattle.objects.specs.Take.{Taken, took, missing, Taker}
 use Rattle.objects.specs.View.{Name}
 

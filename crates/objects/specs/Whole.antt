@@ -2,14 +2,17 @@
 use mathlib.Core.Bool.{Bool, true, false, _&&_, not}
 use mathlib.Core.List.{List, [], _∷_, _++_}
 use mathlib.Core.Option.{Option, none, some}
+use mathlib.Core.Path.{_≡_}
 use Prim.Native.Nat.{ℕ}
 use lib.ListN.{length}
 use Rattle.base.specs.Common.{given}
 use Rattle.names.specs.Known.{Names, findOperators}
 use Rattle.names.specs.Understand.{isOne}
-use Rattle.syntax.specs.Texts.{Head}
+use Rattle.parts.specs.Form.{AreObjects}
+use Rattle.syntax.specs.Texts.{Head, Common}
+use Rattle.program.specs.Accepted.{Values}
 use Rattle.objects.specs.Order.{isListed, ruleInOrder}
-use Rattle.objects.specs.View.{Name, Pair, RuleView, View, views}
+use Rattle.objects.specs.View.{Name, Pair, RuleView, View, viewsOf, views}
 
 -- the names that the rules call, in text order
 unfoldable pub callsOf : List RuleView → List Name
@@ -31,7 +34,7 @@ isSome (a ∷ as′) = true
 module _ (hs : List Head) (n : Names) where
   -- the section is there; the operand rule is not on the list, and is called
   unfoldable pub pairInOrder : List RuleView → Pair → Bool
-  pairInOrder rs p = given (findOperators (p .section .text) (n .operators)) && (not (isListed hs [] (p .operand)) && isOne (p .operand .text) (textsOf (callsOf rs)))
+  pairInOrder rs p = given (findOperators (p .section .text) (n .operators)) && (not (isListed hs (p .operand)) && isOne (p .operand .text) (textsOf (callsOf rs)))
 
   -- one rule or more; all pairs and all rules in order
   unfoldable pub viewInOrder : View → Bool
@@ -44,6 +47,19 @@ module _ (hs : List Head) (n : Names) where
   -- of the common part with these bytes
   unfoldable pub areObjects : List ℕ → List ℕ → Bool
   areObjects common words = allInOrder (views common (length words) words)
+
+-- The test is exact: words that are objects pass, words below 65,536 that pass are objects, and two readings of the same words have the same views
+
+abbrev pub ObjectsPass : Type 0
+ObjectsPass = (common : List ℕ) (c : Common) (n : Names) (words : List ℕ) → AreObjects common c n words → areObjects (c .listed) n common words ≡ true
+
+abbrev pub PassObjects : Type 0
+PassObjects = (common : List ℕ) (c : Common) (n : Names) (words : List ℕ) → Values words → areObjects (c .listed) n common words ≡ true → AreObjects common c n words
+
+abbrev pub SameViews : Type 0
+SameViews =
+    (common : List ℕ) (c : Common) (n : Names) (words : List ℕ) (x y : AreObjects common c n words)
+    → viewsOf (x .lengths) (x .objects) ≡ viewsOf (y .lengths) (y .objects)
 
 -- all of this file computes where this is unfolded
 unfoldable pub opened : Unit {0}

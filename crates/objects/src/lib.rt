@@ -7,7 +7,7 @@ ghost use Rattle.base.specs.Common.{same};
 ghost use Rattle.machine.specs.Bytes.{wordsOf};
 ghost use Rattle.names.specs.Understand.{isOne};
 ghost use Rattle.parts.specs.Form.{packed};
-ghost use Rattle.parts.specs.Texts.{Head};
+ghost use Rattle.syntax.specs.Texts.{Head};
 ghost use Rattle.objects.specs.Order.{standsAt, isListed};
 ghost use Rattle.objects.specs.Places.{Ends, NameAt, HeadsAt};
 ghost use Rattle.objects.specs.Take.{took, someWords, theWords, times};
@@ -333,7 +333,7 @@ fn is_part(objects: &[u8], p: usize, common: &[u8], start: usize, size: usize) -
 // Whether the name at a place is on the list of the common part.
 fn is_listed(objects: &[u8], p: usize, common: &[u8], heads: &[u16]) -> bool
     requires { ⌜ p ≤ length (wordsOf (now objects)) ⌝ }
-    ensures { λ r. ⌜ ((hs : List Head) (n : Name) → HeadsAt (now (common .entry)) (now (heads .entry)) hs → NameAt (wordsOf (now (objects .entry))) p n → r ≡ isListed hs [] n) ⌝ }
+    ensures { λ r. ⌜ ((hs : List Head) (n : Name) → HeadsAt (now (common .entry)) (now (heads .entry)) hs → NameAt (wordsOf (now (objects .entry))) p n → r ≡ isListed hs n) ⌝ }
 {
     let count = heads.len() / HEAD_NUMBERS;
     let mut i = 0;

@@ -6,7 +6,7 @@ use Prim.Native.Nat.{_-_, _/_, _≤_}
 use lib.ListN.{length, drop}
 use borrow.Author.Needs.{needs}
 use Rattle.machine.specs.Bytes.{wordsOf}
-use Rattle.parts.specs.Texts.{Head}
+use Rattle.syntax.specs.Texts.{Head}
 use Rattle.objects.proofs.Looked.{listed-none, listed-found, listed-later, line-is}
 use Rattle.objects.specs.Order.{isListed}
 use Rattle.objects.specs.Places.{NameAt, HeadsAt}
@@ -15,7 +15,7 @@ use Rattle.objects.proofs.is_listed.Statement.{statement}
 use Rattle.objects.proofs.is_listed.Tie as tie
 
 abbrev Inv-loop : tie.InvT-loop
-Inv-loop objects p common heads count i₀ i = (i ≤ length heads / 4) × ((hs : List Head) (n : Name) → HeadsAt common heads hs → NameAt (wordsOf objects) p n → isListed hs [] n ≡ isListed (drop i hs) [] n)
+Inv-loop objects p common heads count i₀ i = (i ≤ length heads / 4) × ((hs : List Head) (n : Name) → HeadsAt common heads hs → NameAt (wordsOf objects) p n → isListed hs n ≡ isListed (drop i hs) n)
 
 abbrev μ-loop : tie.MeasureT-loop
 μ-loop objects p common heads count i₀ i = length heads / 4 - i
