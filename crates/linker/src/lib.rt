@@ -1,0 +1,1 @@
+// Objects linked: their rules' cells closed and put one behind the other.
