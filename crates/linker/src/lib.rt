@@ -2,13 +2,20 @@
 ghost use mathlib.Core.Path.{_≡_};
 ghost use Prim.Native.Nat.{_+_, _<_, _≤_};
 ghost use lib.ListN.{take, drop};
+ghost use Rattle.base.specs.Common.{same};
 ghost use Rattle.linker.specs.Close as close;
+ghost use Rattle.linker.specs.Place.{letters, textAt, textsAt, placeOf};
 ghost use Rattle.machine.specs.Bytes.{count, wordsOf};
 ghost use Rattle.resolver.specs.Resolved.{Appends};
 use base::byte;
 use base::cell;
 use base::least;
 use base::wide;
+
+// A name in words: where it stands in its text, its length, its bytes, a word each.
+const NAME_SIZE: usize = 1;
+
+const NAME_BYTES: usize = 2;
 
 // Words: `count` of them, from the word `at` on.
 pub struct Span {
@@ -129,4 +136,52 @@ pub fn close(
         p = p + 1;
     }
     n
+}
+
+fn wide_32(x: u32) -> usize
+    ensures { λ r. ⌜ (r ≡ x) × (r < 4294967296) ⌝ }
+{
+    x as usize
+}
+
+// The n words from p and from q on are the same.
+fn same_words(words: &[u8], p: usize, q: usize, n: usize) -> bool
+    requires { ⌜ (p + n < 18446744073709551616) × (q + n < 18446744073709551616) ⌝ }
+    ensures { λ r. ⌜ r ≡ same (letters (wordsOf (now (words .entry))) p n) (letters (wordsOf (now (words .entry))) q n) ⌝ }
+{
+    let mut i = 0;
+    while i < n {
+        if machine::word(words, p + i) != machine::word(words, q + i) {
+            return false;
+        }
+        i += 1;
+    }
+    true
+}
+
+// The names at p and at q are the same.
+fn same_name(words: &[u8], p: usize, q: usize) -> bool
+    requires { ⌜ (p < 4294967296) × (q < 4294967296) ⌝ }
+    ensures { λ r. ⌜ r ≡ same (textAt (wordsOf (now (words .entry))) p) (textAt (wordsOf (now (words .entry))) q) ⌝ }
+{
+    let n = wide(machine::word(words, p + NAME_SIZE));
+    if n != wide(machine::word(words, q + NAME_SIZE)) {
+        return false;
+    }
+    same_words(words, p + NAME_BYTES, q + NAME_BYTES, n)
+}
+
+// The number of the first rule with the name at `name`, the rules' names standing at `names`; where none has it, the number of rules.
+pub fn place_of(words: &[u8], names: &[u32], name: u32) -> usize
+    ensures { λ r. ⌜ r ≡ placeOf (textAt (wordsOf (now (words .entry))) name) (textsAt (wordsOf (now (words .entry))) (now (names .entry))) ⌝ }
+{
+    let p = wide_32(name);
+    let mut i = 0;
+    while i < names.len() {
+        if same_name(words, p, wide_32(names[i])) {
+            return i;
+        }
+        i += 1;
+    }
+    i
 }
