@@ -1,3 +1,5 @@
 pub mod Closing
 pub mod Passing
 pub mod Placing
+pub mod Rules
+pub mod Facts

@@ -76,9 +76,9 @@ unfolding textAt
 unlike-names ws p q n =
     is-false _ (λ e. n (sym (letters-length ws (p + 2) (getD ws (p + 1) 0)) ∙ (ap length (same-eq (letters ws (p + 2) (getD ws (p + 1) 0)) (letters ws (q + 2) (getD ws (q + 1) 0)) e) ∙ letters-length ws (q + 2) (getD ws (q + 1) 0))))
 
-pub like-names : (ws : List ℕ) (p q m : ℕ) → m ≡ getD ws (p + 1) 0 → m ≡ getD ws (q + 1) 0 → same (letters ws (p + 2) m) (letters ws (q + 2) m) ≡ same (textAt ws p) (textAt ws q)
+pub like-names : (ws : List ℕ) (p q : ℕ) {m r : ℕ} {t : Bool} → m ≡ r → r ≡ getD ws (p + 1) 0 → m ≡ getD ws (q + 1) 0 → t ≡ same (letters ws (p + 2) m) (letters ws (q + 2) m) → t ≡ same (textAt ws p) (textAt ws q)
 unfolding textAt
-like-names ws p q m e d = rw (← e, ← d) refl
+like-names ws p q x e d h = let y = x ∙ e in rw (← y, ← d) h
 
 -- a comparison of names, at places that are known by other numbers
 pub compared : (ws : List ℕ) {p q p′ q′ : ℕ} {t v : Bool} → t ≡ same (textAt ws p) (textAt ws q) → p ≡ p′ → q ≡ q′ → t ≡ v → same (textAt ws p′) (textAt ws q′) ≡ v

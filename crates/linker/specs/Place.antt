@@ -3,7 +3,10 @@ use mathlib.Core.List.{List, [], _∷_}
 use Prim.Native.Nat.{ℕ, zero, suc, _+_}
 use lib.ListN.{getD}
 use Rattle.base.specs.Common.{if_then_else_, same}
+use Rattle.names.specs.Known.{Names}
+use Rattle.names.specs.Uses.{Use, lowestOf}
 use Rattle.parts.specs.Objects.{OpenRule}
+use Rattle.words.specs.Words.{Word}
 
 -- n words from p on, 0 past the last
 unfoldable pub letters : List ℕ → ℕ → ℕ → List ℕ
@@ -28,7 +31,17 @@ unfoldable pub ruleTexts : List OpenRule → List (List ℕ)
 ruleTexts [] = []
 ruleTexts (r ∷ rs) = r .name .text ∷ ruleTexts rs
 
+-- the numbers of the rules of these words, the names of all rules being given
+unfoldable pub placesFor : List (List ℕ) → List Word → List ℕ
+placesFor names [] = []
+placesFor names (w ∷ ws) = placeOf (w .text) names ∷ placesFor names ws
+
+-- the numbers of the lowest rules of an object's pairs, those made for all pairs `us` standing behind `own` rules
+unfoldable pub lowests : Names → ℕ → List Use → List Use → List ℕ
+lowests n own us [] = []
+lowests n own us (u ∷ uses) = lowestOf n u own us ∷ lowests n own us uses
+
 -- all of this file computes where this is unfolded
 unfoldable pub opened : Unit {0}
-unfolding letters textAt textsAt placeOf ruleTexts
+unfolding letters textAt textsAt placeOf ruleTexts placesFor lowests
 opened = tt

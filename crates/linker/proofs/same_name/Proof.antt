@@ -43,9 +43,8 @@ same-words-requires c κs = search needs
 returns-2 : tie.Need-returns-2
 returns-2 c =
     let a = c .before .before .before .before .before .before .before .args in
-    let x = c .before .before .before .before .wide .ensures .0 ∙ c .before .before .before .before .before .word .ensures in
     let y = c .before .if1 .left ∙ c .before .before .wide2 .ensures .0 ∙ c .before .before .before .word2 .ensures in
-    c .same-words .ensures ∙ like-names (wordsOf (a .words .now)) (a .p) (a .q) (c .before .before .before .before .wide .result) x y
+    like-names (wordsOf (a .words .now)) (a .p) (a .q) (c .before .before .before .before .wide .ensures .0) (c .before .before .before .before .before .word .ensures) y (c .same-words .ensures)
 
 pub same-name-spec : {M : Type 1} → statement M
 same-name-spec =
