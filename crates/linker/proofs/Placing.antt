@@ -17,7 +17,7 @@ use Rattle.names.specs.Known.{KnownRule, Names, findRule}
 use Rattle.names.specs.Uses.{Use}
 use Rattle.parts.specs.Link.{isNamed, textOf, knownOf, placeFor}
 use Rattle.parts.specs.Objects.{named, OpenRule}
-use Rattle.linker.specs.Place.{letters, textAt, textsAt, placeOf, ruleTexts}
+use Rattle.linker.specs.Place.{letters, textAt, textsAt, placeOf, ruleTexts, placesFor, behindName, textsFrom, textsEnd}
 
 -- Letters
 
@@ -101,6 +101,42 @@ place-none ws w [] zero l = refl
 place-none ws w [] (suc i) l = refl
 place-none ws w (p ∷ ps) zero l = absurd (omega arith)
 place-none ws w (p ∷ ps) (suc i) l = place-none ws w ps i (omega arith)
+
+pub place-bound : (ws w ps : List ℕ) → placeOf w (textsAt ws ps) ≤ length ps
+unfolding textsAt placeOf
+place-bound ws w [] = omega arith
+place-bound ws w (p ∷ ps) = go (same w (textAt ws p)) (place-bound ws w ps)
+  where
+    go : (t : Bool) → placeOf w (textsAt ws ps) ≤ length ps → (if t then 0 else suc (placeOf w (textsAt ws ps))) ≤ suc (length ps)
+    go true ih = omega arith
+    go false ih = omega arith
+
+-- names one behind the other
+
+pub next-name : (ws : List ℕ) (p m : ℕ) → m ≡ getD ws (p + 1) 0 → p + 2 + m ≡ behindName ws p
+unfolding behindName
+next-name ws p m e = rw e
+
+pub end-behind : (ws : List ℕ) (p m : ℕ) → p ≤ textsEnd ws p m
+unfolding textsEnd behindName
+end-behind ws p zero = omega arith
+end-behind ws p (suc m) = let h = end-behind ws (p + 2 + getD ws (p + 1) 0) m in omega arith
+
+module _ (ws : List ℕ) (names : List (List ℕ)) (p q m i : ℕ) (l : i < m) (e : q ≡ behindName ws p) where
+  suc-left : m - i ≡ suc (m - (i + 1))
+  suc-left = omega arith
+
+  pub places-next : placesFor names (textsFrom ws p (m - i)) ≡ placeOf (textAt ws p) names ∷ placesFor names (textsFrom ws q (m - (i + 1)))
+  unfolding placesFor textsFrom
+  places-next = rw (suc-left, e)
+
+  pub end-next : textsEnd ws p (m - i) ≡ textsEnd ws q (m - (i + 1))
+  unfolding textsEnd
+  end-next = rw (suc-left, e)
+
+pub places-none : (ws : List ℕ) (names : List (List ℕ)) (p m i : ℕ) → m ≤ i → placesFor names (textsFrom ws p (m - i)) ≡ []
+unfolding placesFor textsFrom
+places-none ws names p m i l = let z : m - i ≡ 0 = omega arith in rw z
 
 -- What it is to linking
 

@@ -13,7 +13,7 @@ use Rattle.names.specs.Uses.{Use, lowestOf}
 use Rattle.parts.specs.Form.{markOf, bodyCells}
 use Rattle.parts.specs.Link.{isNamed, knownOf, placeFor, closing}
 use Rattle.parts.specs.Objects.{Aim, named, ranked, headAims, useAims, callAims, OpenRule, Object}
-use Rattle.parts.specs.Sound.{numbersAll, frame, StandsFor, Aligned, openAims, SoundRule, Sound}
+use Rattle.parts.specs.Sound.{numbersAll, frame, textsOf, StandsFor, Aligned, openAims, SoundRule, Sound}
 use Rattle.parts.specs.Texts.{Head}
 use Rattle.words.specs.Words.{Word}
 use Rattle.linker.specs.Close.{inRow, closeCells, TellsOne, Tells}
@@ -107,17 +107,17 @@ module _ (n : Names) (own : ℕ) (us : List Use) where
         }
 
     tells : (is : List ℕ) (ws : List Word) → Aligned (o .aims) is ws → Each (λ w. isNamed (w .text) all ≡ true) ws
-        → Tells (inRow (lowests n own us (o .uses))) (λ j. mark j) (λ j. to j) is (placesFor (ruleTexts all) ws) []
-    unfolding Aligned Each Tells placesFor
+        → Tells (inRow (lowests n own us (o .uses))) (λ j. mark j) (λ j. to j) is (placesFor (ruleTexts all) (textsOf ws)) []
+    unfolding Aligned Each Tells placesFor textsOf
     tells [] [] h e = refl
     tells [] (w ∷ ws) h e = absurd h
     tells (i ∷ is) [] h e = absurd h
     tells (i ∷ is) (w ∷ ws) h e = (one i w (h .0) (e .0), tells is ws (h .1) (e .1))
 
     pub rule-closed : (r : OpenRule) → SoundRule hs (o .aims) r → Each (λ w. isNamed (w .text) all ≡ true) (r .calls)
-        → closeCells (inRow (lowests n own us (o .uses))) (placesFor (ruleTexts all) (r .calls)) (bodyCells (o .aims) (length hs + length (o .rules)) (r .means .body))
+        → closeCells (inRow (lowests n own us (o .uses))) (placesFor (ruleTexts all) (textsOf (r .calls))) (bodyCells (o .aims) (length hs + length (o .rules)) (r .means .body))
         ≡ actsCells (renumberRule (closing n (knownOf 0 all) own us (o .aims)) (r .means) .body) []
     unfolding bodyCells renumberRule
     rule-closed r t e =
-        closed (inRow (lowests n own us (o .uses))) (λ j. mark j) (λ j. to j) (frame hs (o .aims)) (r .means .body) (r .means .valued) false (t .in-order) (t .few) (placesFor (ruleTexts all) (r .calls)) []
+        closed (inRow (lowests n own us (o .uses))) (λ j. mark j) (λ j. to j) (frame hs (o .aims)) (r .means .body) (r .means .valued) false (t .in-order) (t .few) (placesFor (ruleTexts all) (textsOf (r .calls))) []
         (tells (numbersAll (r .means .body)) (r .calls) (t .calls) e)

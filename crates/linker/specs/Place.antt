@@ -6,7 +6,6 @@ use Rattle.base.specs.Common.{if_then_else_, same}
 use Rattle.names.specs.Known.{Names}
 use Rattle.names.specs.Uses.{Use, lowestOf}
 use Rattle.parts.specs.Objects.{OpenRule}
-use Rattle.words.specs.Words.{Word}
 
 -- n words from p on, 0 past the last
 unfoldable pub letters : List ℕ → ℕ → ℕ → List ℕ
@@ -31,10 +30,22 @@ unfoldable pub ruleTexts : List OpenRule → List (List ℕ)
 ruleTexts [] = []
 ruleTexts (r ∷ rs) = r .name .text ∷ ruleTexts rs
 
--- the numbers of the rules of these words, the names of all rules being given
-unfoldable pub placesFor : List (List ℕ) → List Word → List ℕ
+-- the numbers of the rules of these names, the names of all rules being given
+unfoldable pub placesFor : List (List ℕ) → List (List ℕ) → List ℕ
 placesFor names [] = []
-placesFor names (w ∷ ws) = placeOf (w .text) names ∷ placesFor names ws
+placesFor names (w ∷ ws) = placeOf w names ∷ placesFor names ws
+
+-- the word behind the name at p; m names one behind the other from p on, and the word behind them
+unfoldable pub behindName : List ℕ → ℕ → ℕ
+behindName ws p = p + 2 + getD ws (p + 1) 0
+
+unfoldable pub textsFrom : List ℕ → ℕ → ℕ → List (List ℕ)
+textsFrom ws p zero = []
+textsFrom ws p (suc m) = textAt ws p ∷ textsFrom ws (behindName ws p) m
+
+unfoldable pub textsEnd : List ℕ → ℕ → ℕ → ℕ
+textsEnd ws p zero = p
+textsEnd ws p (suc m) = textsEnd ws (behindName ws p) m
 
 -- the numbers of the lowest rules of an object's pairs, those made for all pairs `us` standing behind `own` rules
 unfoldable pub lowests : Names → ℕ → List Use → List Use → List ℕ
@@ -43,5 +54,5 @@ lowests n own us (u ∷ uses) = lowestOf n u own us ∷ lowests n own us uses
 
 -- all of this file computes where this is unfolded
 unfoldable pub opened : Unit {0}
-unfolding letters textAt textsAt placeOf ruleTexts placesFor lowests
+unfolding letters textAt textsAt placeOf ruleTexts placesFor behindName textsFrom textsEnd lowests
 opened = tt

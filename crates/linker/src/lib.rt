@@ -1,10 +1,10 @@
 // Objects linked: their rules' cells closed and put one behind the other.
 ghost use mathlib.Core.Path.{_≡_};
 ghost use Prim.Native.Nat.{_+_, _<_, _≤_};
-ghost use lib.ListN.{take, drop};
+ghost use lib.ListN.{length, take, drop};
 ghost use Rattle.base.specs.Common.{same};
 ghost use Rattle.linker.specs.Close as close;
-ghost use Rattle.linker.specs.Place.{letters, textAt, textsAt, placeOf};
+ghost use Rattle.linker.specs.Place.{letters, textAt, textsAt, placeOf, placesFor, textsFrom, textsEnd};
 ghost use Rattle.machine.specs.Bytes.{count, wordsOf};
 ghost use Rattle.resolver.specs.Resolved.{Appends};
 use base::byte;
@@ -171,11 +171,11 @@ fn same_name(words: &[u8], p: usize, q: usize) -> bool
     same_words(words, p + NAME_BYTES, q + NAME_BYTES, n)
 }
 
-// The number of the first rule with the name at `name`, the rules' names standing at `names`; where none has it, the number of rules.
-pub fn place_of(words: &[u8], names: &[u32], name: u32) -> usize
-    ensures { λ r. ⌜ r ≡ placeOf (textAt (wordsOf (now (words .entry))) name) (textsAt (wordsOf (now (words .entry))) (now (names .entry))) ⌝ }
+// The number of the first rule with the name at p, the rules' names standing at `names`; where none has it, the number of rules.
+pub fn place_of(words: &[u8], names: &[u32], p: usize) -> usize
+    requires { ⌜ p < 4294967296 ⌝ }
+    ensures { λ r. ⌜ r ≡ placeOf (textAt (wordsOf (now (words .entry))) p) (textsAt (wordsOf (now (words .entry))) (now (names .entry))) ⌝ }
 {
-    let p = wide_32(name);
     let mut i = 0;
     while i < names.len() {
         if same_name(words, p, wide_32(names[i])) {
@@ -184,4 +184,22 @@ pub fn place_of(words: &[u8], names: &[u32], name: u32) -> usize
         i += 1;
     }
     i
+}
+
+// The numbers of the rules of names, which stand one behind the other: `count` of them, from the word `at` on. They are put from the start of `places`.
+pub fn find_places(words: &[u8], names: &[u32], span: Span, places: &mut [u16]) -> usize
+    requires { ⌜ (textsEnd (wordsOf (now words)) (span .at) (span .count) < 4294967296) × (length (now names) < 65536) ⌝ }
+    ensures { λ r. ⌜ Appends (now (places .entry)) 0 (placesFor (textsAt (wordsOf (now (words .entry))) (now (names .entry))) (textsFrom (wordsOf (now (words .entry))) (span .at) (span .count))) (now (places .exit)) r ⌝ }
+{
+    let m = span.count;
+    let mut p = span.at;
+    let mut n = 0;
+    let mut i = 0;
+    while i < m {
+        let r = place_of(words, names, p);
+        n = resolver::put(places, n, r as u16);
+        p = p + NAME_BYTES + wide(machine::word(words, p + NAME_SIZE));
+        i += 1;
+    }
+    n
 }

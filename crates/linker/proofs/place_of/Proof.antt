@@ -1,5 +1,5 @@
 -- `linker::place_of` meets its contract.
-use mathlib.Core.Path.{_≡_, sym, _∙_}
+use mathlib.Core.Path.{_≡_, refl, sym, _∙_}
 use Prim.Native.Nat.{_+_, _-_, _≤_}
 use native.Mathlib.Omega.{arith}
 use borrow.Author.Needs.{needs}
@@ -11,15 +11,12 @@ use Rattle.linker.proofs.place_of.Statement.{statement}
 use Rattle.linker.proofs.place_of.Tie as tie
 
 abbrev Inv-loop : tie.InvT-loop
-Inv-loop words names name p i₀ i =
+Inv-loop words names p i₀ i =
     (i ≤ length names)
-    × (placeOf (textAt (wordsOf words) name) (textsAt (wordsOf words) names) ≡ i + placeOf (textAt (wordsOf words) name) (textsAt (wordsOf words) (drop i names)))
+    × (placeOf (textAt (wordsOf words) p) (textsAt (wordsOf words) names) ≡ i + placeOf (textAt (wordsOf words) p) (textsAt (wordsOf words) (drop i names)))
 
 abbrev μ-loop : tie.MeasureT-loop
-μ-loop words names name p i₀ i = length names - i
-
-wide-32-requires : tie.Need-wide-32-requires Inv-loop μ-loop
-wide-32-requires c κs = search needs
+μ-loop words names p i₀ i = length names - i
 
 loop-holds : tie.Need-loop-holds Inv-loop μ-loop
 loop-holds c = (omega arith, omega arith)
@@ -30,18 +27,18 @@ mul-wide-32 c = search needs
 shared-slice-read-wide-32 : tie.Need-shared-slice-read-wide-32 Inv-loop μ-loop
 shared-slice-read-wide-32 c = search needs
 
-wide-32-requires-2 : tie.Need-wide-32-requires-2 Inv-loop μ-loop
-wide-32-requires-2 c κs = search needs
+wide-32-requires : tie.Need-wide-32-requires Inv-loop μ-loop
+wide-32-requires c κs = search needs
 
 same-name-requires : tie.Need-same-name-requires Inv-loop μ-loop
 same-name-requires c κs = search needs
 
 returns : tie.Need-returns Inv-loop μ-loop
 returns c =
-    let a = c .before .before .before .before .before .before .before .before .before .args in
+    let a = c .before .before .before .before .before .before .before .before .args in
     let o = c .before .before .before .before .before .loop in
-    let t = compared (wordsOf (a .words .now)) (c .before .same-name .ensures) (c .before .before .before .before .before .before .wide-32 .ensures .0) (c .before .before .wide-322 .ensures .0) (c .if1 .taken) in
-    sym (o .inv .1 ∙ place-here (wordsOf (a .words .now)) (textAt (wordsOf (a .words .now)) (a .name)) (a .names .now) (o .i) (c .before .before .before .before .loop-test .taken) t)
+    let t = compared (wordsOf (a .words .now)) (c .before .same-name .ensures) refl (c .before .before .wide-32 .ensures .0) (c .if1 .taken) in
+    sym (o .inv .1 ∙ place-here (wordsOf (a .words .now)) (textAt (wordsOf (a .words .now)) (a .p)) (a .names .now) (o .i) (c .before .before .before .before .loop-test .taken) t)
 
 add-i : tie.Need-add-i Inv-loop μ-loop
 add-i c = omega arith
@@ -51,16 +48,16 @@ loop-less c = omega arith
 
 loop-again : tie.Need-loop-again Inv-loop μ-loop
 loop-again c =
-    let a = c .before .before .before .before .before .before .before .before .before .args in
+    let a = c .before .before .before .before .before .before .before .before .args in
     let o = c .before .before .before .before .before .loop in
-    let t = compared (wordsOf (a .words .now)) (c .before .same-name .ensures) (c .before .before .before .before .before .before .wide-32 .ensures .0) (c .before .before .wide-322 .ensures .0) (c .if1 .left) in
-    (omega arith, o .inv .1 ∙ place-later (wordsOf (a .words .now)) (textAt (wordsOf (a .words .now)) (a .name)) (a .names .now) (o .i) (c .before .before .before .before .loop-test .taken) t)
+    let t = compared (wordsOf (a .words .now)) (c .before .same-name .ensures) refl (c .before .before .wide-32 .ensures .0) (c .if1 .left) in
+    (omega arith, o .inv .1 ∙ place-later (wordsOf (a .words .now)) (textAt (wordsOf (a .words .now)) (a .p)) (a .names .now) (o .i) (c .before .before .before .before .loop-test .taken) t)
 
 returns-2 : tie.Need-returns-2 Inv-loop μ-loop
 returns-2 c =
-    let a = c .before .before .before .before .before .args in
+    let a = c .before .before .before .before .args in
     let o = c .before .loop in
-    let e = place-none (wordsOf (a .words .now)) (textAt (wordsOf (a .words .now)) (a .name)) (a .names .now) (o .i) (c .loop-test .left) in
+    let e = place-none (wordsOf (a .words .now)) (textAt (wordsOf (a .words .now)) (a .p)) (a .names .now) (o .i) (c .loop-test .left) in
     omega (arith, o .inv .1, e)
 
 pub place-of-spec : {M : Type 1} → statement M
@@ -69,11 +66,10 @@ place-of-spec =
     (tie.spec
     Inv-loop
     μ-loop
-    wide-32-requires
     loop-holds
     mul-wide-32
     shared-slice-read-wide-32
-    wide-32-requires-2
+    wide-32-requires
     same-name-requires
     returns
     add-i
