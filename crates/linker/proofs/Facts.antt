@@ -1,7 +1,6 @@
 -- Worked examples: marked cells closed, and places of names.
-use mathlib.Core.List.{List, [], _∷_}
+use mathlib.Core.List.{[], _∷_}
 use mathlib.Core.Path.{_≡_, refl}
-use Prim.Native.Nat.{ℕ}
 use Rattle.linker.specs.Close as close
 use Rattle.linker.specs.Close.{inRow, closeCells}
 use Rattle.linker.specs.Place as place

@@ -3,3 +3,4 @@ pub mod Passing
 pub mod Placing
 pub mod Rules
 pub mod Facts
+pub mod Names

@@ -1,5 +1,5 @@
 -- The cells of a sound object's rule, closed by the places of its calls' names and of its pairs, are those of the rule as linking has it.
-use mathlib.Core.Bool.{Bool, true, false}
+use mathlib.Core.Bool.{true, false}
 use mathlib.Core.List.{List, [], _∷_, _++_}
 use mathlib.Core.Path.{_≡_, refl, sym, ap, _∙_}
 use native.Mathlib.Omega.{arith}
