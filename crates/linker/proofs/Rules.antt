@@ -10,64 +10,38 @@ use Rattle.calls.specs.Renumber.{renumberRule}
 use Rattle.cells.specs.Cells.{actsCells}
 use Rattle.names.specs.Known.{Names}
 use Rattle.names.specs.Uses.{Use, lowestOf}
-use Rattle.parts.specs.Form.{markOf, bodyCells}
+use Rattle.objects.proofs.Marks.{nothing}
+use Rattle.objects.proofs.Numbering.{not-ranked, ranked-same, first-is, past-heads, past-calls}
+use Rattle.parts.specs.Form.{markOf, bodyCells, firstPair}
 use Rattle.parts.specs.Link.{isNamed, knownOf, placeFor, closing}
 use Rattle.parts.specs.Objects.{Aim, named, ranked, headAims, useAims, callAims, OpenRule, Object}
-use Rattle.parts.specs.Sound.{numbersAll, frame, textsOf, StandsFor, Aligned, openAims, SoundRule, Sound}
-use Rattle.parts.specs.Texts.{Head}
+use Rattle.parts.specs.Sound.{numbersAll, frame, textsOf, StandsFor, Aligned, SoundRule, Sound}
+use Rattle.syntax.specs.Texts.{Head}
 use Rattle.words.specs.Words.{Word}
 use Rattle.linker.specs.Close.{inRow, closeCells, TellsOne, Tells}
 use Rattle.linker.specs.Place.{placeOf, ruleTexts, placesFor, lowests}
 use Rattle.linker.proofs.Closing.{closed}
 use Rattle.linker.proofs.Placing.{place-for}
 
-abbrev nothing : Aim
-nothing = named []
-
-not-ranked {ℓ} : {B : Type ℓ} {t : List ℕ} {u : Use} → named t ≡ ranked u → B
-not-ranked e = let z : _≡_ {A = ℕ} 0 1 = cc in absurd (omega arith)
-
-ranked-same : {u v : Use} → ranked u ≡ ranked v → u ≡ v
-ranked-same e = cc
-
--- Whatever stands for a pair is at the pair's place
-
-past-heads : (hs : List Head) (later : List Aim) (i : ℕ) (u : Use) → getD (headAims hs ++ later) i nothing ≡ ranked u → getD later (i - length hs) nothing ≡ ranked u
-unfolding headAims
-past-heads [] later i u e = let d : i - 0 ≡ i = omega arith in rw d e
-past-heads (h ∷ hs) later zero u e = not-ranked e
-past-heads (h ∷ hs) later (suc i) u e = let d : suc i - suc (length hs) ≡ i - length hs = omega arith in rw d (past-heads hs later i u e)
-
-past-rules : (rs : List OpenRule) (later : List Aim) (i : ℕ) (u : Use) → getD (openAims rs ++ later) i nothing ≡ ranked u → getD later (i - length rs) nothing ≡ ranked u
-unfolding openAims
-past-rules [] later i u e = let d : i - 0 ≡ i = omega arith in rw d e
-past-rules (r ∷ rs) later zero u e = not-ranked e
-past-rules (r ∷ rs) later (suc i) u e = let d : suc i - suc (length rs) ≡ i - length rs = omega arith in rw d (past-rules rs later i u e)
-
-no-pair {ℓ} : {B : Type ℓ} (ws : List Word) (i : ℕ) (u : Use) → getD (callAims ws) i nothing ≡ ranked u → B
-unfolding callAims
-no-pair [] i u e = not-ranked e
-no-pair (w ∷ ws) zero u e = not-ranked e
-no-pair (w ∷ ws) (suc i) u e = no-pair ws i u e
-
 module _ (n : Names) (own : ℕ) (us : List Use) where
-  in-uses : (uses : List Use) (ws : List Word) (i : ℕ) (u : Use) → getD (useAims uses ++ callAims ws) i nothing ≡ ranked u → inRow (lowests n own us uses) i ≡ lowestOf n u own us
+  in-uses : (uses : List Use) (i : ℕ) (u : Use) → getD (useAims uses) i nothing ≡ ranked u → inRow (lowests n own us uses) i ≡ lowestOf n u own us
   unfolding useAims lowests
-  in-uses [] ws i u e = no-pair ws i u e
-  in-uses (x ∷ uses) ws zero u e = let y = ranked-same e in rw y
-  in-uses (x ∷ uses) ws (suc i) u e = in-uses uses ws i u e
+  in-uses [] i u e = not-ranked e
+  in-uses (x ∷ uses) zero u e = let y = ranked-same e in rw y
+  in-uses (x ∷ uses) (suc i) u e = in-uses uses i u e
 
-  lowest-at : (hs : List Head) (o : Object) → Sound hs n o → (i : ℕ) (u : Use) → getD (o .aims) i nothing ≡ ranked u
-      → inRow (lowests n own us (o .uses)) (i - (length hs + length (o .rules))) ≡ lowestOf n u own us
+  lowest-at : (hs : List Head) (o : Object) → Sound hs n o → (i : ℕ) (u : Use) → getD (o .aims) i nothing ≡ ranked u → inRow (lowests n own us (o .uses)) (i - firstPair o) ≡ lowestOf n u own us
+  unfolding firstPair
   lowest-at hs o s i u e =
-      let x = past-heads hs (openAims (o .rules) ++ (useAims (o .uses) ++ callAims (s .elsewhere))) i u (rw (s .numbered) at e) in
-      let y = past-rules (o .rules) (useAims (o .uses) ++ callAims (s .elsewhere)) (i - length hs) u x in
-      let z : i - length hs - length (o .rules) ≡ i - (length hs + length (o .rules)) = omega arith in
-      rw (← z) (in-uses (o .uses) (s .elsewhere) (i - length hs - length (o .rules)) u y)
+      let x = past-heads hs (callAims (s .others) ++ useAims (o .uses)) i u (rw (s .numbered) at e) in
+      let y = past-calls (s .others) (useAims (o .uses)) (i - length hs) u x in
+      let f : length (o .aims) - length (o .uses) ≡ length hs + length (s .others) = ap (λ (xs : List Aim). length xs - length (o .uses)) (s .numbered) ∙ first-is hs (s .others) (o .uses) in
+      let z : i - length hs - length (s .others) ≡ i - (length (o .aims) - length (o .uses)) = omega (arith, f) in
+      rw (← z) (in-uses (o .uses) (i - length hs - length (s .others)) u y)
 
   module _ (all : List OpenRule) (hs : List Head) (o : Object) (s : Sound hs n o) where
     abbrev first : ℕ
-    first = length hs + length (o .rules)
+    first = firstPair o
 
     abbrev mark : ℕ → ℕ
     mark i = markOf (o .aims) first i
@@ -115,7 +89,7 @@ module _ (n : Names) (own : ℕ) (us : List Use) where
     tells (i ∷ is) (w ∷ ws) h e = (one i w (h .0) (e .0), tells is ws (h .1) (e .1))
 
     pub rule-closed : (r : OpenRule) → SoundRule hs (o .aims) r → Each (λ w. isNamed (w .text) all ≡ true) (r .calls)
-        → closeCells (inRow (lowests n own us (o .uses))) (placesFor (ruleTexts all) (textsOf (r .calls))) (bodyCells (o .aims) (length hs + length (o .rules)) (r .means .body))
+        → closeCells (inRow (lowests n own us (o .uses))) (placesFor (ruleTexts all) (textsOf (r .calls))) (bodyCells (o .aims) (firstPair o) (r .means .body))
         ≡ actsCells (renumberRule (closing n (knownOf 0 all) own us (o .aims)) (r .means) .body) []
     unfolding bodyCells renumberRule
     rule-closed r t e =

@@ -18,10 +18,10 @@ use Rattle.objects.proofs.Marks.{nothing, wordOf, wordsOf}
 use Rattle.objects.specs.Order.{standsAt}
 use Rattle.objects.specs.View.{Name, Pair, nameOf, pairOf, pairsOf}
 
-not-ranked {ℓ} : {B : Type ℓ} {t : List ℕ} {u : Use} → named t ≡ ranked u → B
+pub not-ranked {ℓ} : {B : Type ℓ} {t : List ℕ} {u : Use} → named t ≡ ranked u → B
 not-ranked e = let z : _≡_ {A = ℕ} 0 1 = cc in absurd (omega arith)
 
-ranked-same : {u₁ u₂ : Use} → ranked u₁ ≡ ranked u₂ → u₁ ≡ u₂
+pub ranked-same : {u₁ u₂ : Use} → ranked u₁ ≡ ranked u₂ → u₁ ≡ u₂
 ranked-same e = cc
 
 pub heads-length : (hs : List Head) → length (headAims hs) ≡ length hs
@@ -51,13 +51,13 @@ first-is hs ws us =
 
 -- Whatever stands for a pair is at the pair's place
 
-past-heads : (hs : List Head) (later : List Aim) (i : ℕ) (u : Use) → getD (headAims hs ++ later) i nothing ≡ ranked u → getD later (i - length hs) nothing ≡ ranked u
+pub past-heads : (hs : List Head) (later : List Aim) (i : ℕ) (u : Use) → getD (headAims hs ++ later) i nothing ≡ ranked u → getD later (i - length hs) nothing ≡ ranked u
 unfolding headAims
 past-heads [] later i u e = let d : i - 0 ≡ i = omega arith in rw d e
 past-heads (h ∷ hs) later zero u e = not-ranked e
 past-heads (h ∷ hs) later (suc i) u e = let d : suc i - suc (length hs) ≡ i - length hs = omega arith in rw d (past-heads hs later i u e)
 
-past-calls : (ws : List Word) (later : List Aim) (i : ℕ) (u : Use) → getD (callAims ws ++ later) i nothing ≡ ranked u → getD later (i - length ws) nothing ≡ ranked u
+pub past-calls : (ws : List Word) (later : List Aim) (i : ℕ) (u : Use) → getD (callAims ws ++ later) i nothing ≡ ranked u → getD later (i - length ws) nothing ≡ ranked u
 unfolding callAims
 past-calls [] later i u e = let d : i - 0 ≡ i = omega arith in rw d e
 past-calls (w ∷ ws) later zero u e = not-ranked e
