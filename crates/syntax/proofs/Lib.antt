@@ -4,4 +4,4 @@ pub mod Facts
 pub mod Trees
 pub mod Ahead
 pub mod Operators
-pub mod Parts
+pub mod TextFacts
