@@ -232,7 +232,7 @@ fn optional_fault(
     }
 }
 
-// The fault of the type that declaration i gives, where it gives one.
+// The fault of the type that declaration i gives, where it gives one. `types_fault` asks in place: through this function the device's code would be longer.
 fn given_fault(text: &[u8], rows: &[u16], n: usize, i: usize) -> Fault
     requires { ⌜ Kept (now text) (now rows) n × (i ≤ n) ⌝ }
     ensures { λ r. ⌜ Faults (r .fault) (r .at) (r .len) (optionalIn (held (now (text .entry)) (now (rows .entry)) n) (held (now (text .entry)) (now (rows .entry)) i) (declAt (now (text .entry)) (now (rows .entry)) i .third)) ⌝ }
@@ -263,7 +263,14 @@ fn types_fault(text: &[u8], rows: &[u16], n: usize, i: usize) -> Fault
     if f.fault != 0 {
         return f;
     }
-    given_fault(text, rows, n, i)
+    optional_fault(
+        text,
+        rows,
+        n,
+        i,
+        number(rows, ROW * i + THIRD_START),
+        number(rows, ROW * i + THIRD_LEN),
+    )
 }
 
 fn operation_fault(text: &[u8], rows: &[u16], n: usize, i: usize) -> Fault
