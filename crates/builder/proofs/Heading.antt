@@ -115,7 +115,7 @@ type-more {text} {rows} {n} {at} {f} {v} {h} {g} {w} {d} inn N k N₂ L z N₃ e
 
 -- The name
 
-gives-kind : {text : List ℕ} {at : ℕ} {g : WordAt} {ws : List Word} (x : Option Word) → Next text at g → GivesIn (wordsAt text at) ws x → given x ≡ eqb (g .kind) 256
+pub gives-kind : {text : List ℕ} {at : ℕ} {g : WordAt} {ws : List Word} (x : Option Word) → Next text at g → GivesIn (wordsAt text at) ws x → given x ≡ eqb (g .kind) 256
 gives-kind {text} {at} {g} none N (gives-none q _) = sym (ne-eqb (g .kind) 256 (λ e. not-here text at 256 g N q e))
 gives-kind {text} {at} {g} (some v) N (gives-some {sign = s} {ws₁ = ws₁} t _) = sym (eq-eqb (g .kind) 256 (took-kind text at 256 g s ws₁ N t))
 

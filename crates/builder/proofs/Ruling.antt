@@ -39,19 +39,19 @@ use Rattle.words.specs.Words.{Word, wordsAt}
 
 -- How the code goes on after a head, and after actions
 
-head-fails : {E B : Type 0} {text : List ℕ} {ws₁ : List Word} {h : Head} (m : Checked ℕ) (k : ℕ → Checked B)
+pub head-fails : {E B : Type 0} {text : List ℕ} {ws₁ : List Word} {h : Head} (m : Checked ℕ) (k : ℕ → Checked B)
     {ws : List Word} {cs : List ℕ} {c : ℕ} {cs′ : List ℕ} {f : B → List ℕ} {P : B → Type 0} {d : Done}
     → HeadEnd text ws₁ h m → (h .fault ≡ 0 → ⊥) → d .fault ≡ h .fault → d .at ≡ h .at → d .len ≡ h .len → Ends E text ws cs c cs′ f P d (_>>=_ m k)
 head-fails (good a) k (headed e _ _) z e₁ e₂ e₃ = absurd (z e)
 head-fails (wrong n w) k (misheaded e nz at len) z e₁ e₂ e₃ = failed (e₁ ∙ e) nz (e₂ ∙ at) (e₃ ∙ len)
 
-head-then : {E B : Type 0} {text : List ℕ} {ws₁ : List Word} {h : Head} (m : Checked ℕ) (k : ℕ → Checked B)
+pub head-then : {E B : Type 0} {text : List ℕ} {ws₁ : List Word} {h : Head} (m : Checked ℕ) (k : ℕ → Checked B)
     {ws : List Word} {cs : List ℕ} {c : ℕ} {cs′ : List ℕ} {f : B → List ℕ} {P : B → Type 0} {d : Done}
     → HeadEnd text ws₁ h m → h .fault ≡ 0 → (ws₁ ≡ wordsAt text (h .at) → Ends E text ws cs c cs′ f P d (k (h .class))) → Ends E text ws cs c cs′ f P d (_>>=_ m k)
 head-then {E = E} {text = text} (good a) k {ws} {cs} {c} {cs′} {f} {P} {d} (headed e here q) z next = subst (λ t. Ends E text ws cs c cs′ f P d (k t)) q (next here)
 head-then (wrong n w) k (misheaded e nz at len) z next = absurd (nz (sym e ∙ z))
 
-ends-bind : {E A B : Type 0} {text : List ℕ} {ws₁ : List Word} {cs : List ℕ} {c : ℕ} {cs₁ : List ℕ} {f : A → List ℕ} {P : A → Type 0} {r : Done} (m : Checked A) (k : A → Checked B)
+pub ends-bind : {E A B : Type 0} {text : List ℕ} {ws₁ : List Word} {cs : List ℕ} {c : ℕ} {cs₁ : List ℕ} {f : A → List ℕ} {P : A → Type 0} {r : Done} (m : Checked A) (k : A → Checked B)
     {ws : List Word} {g : B → List ℕ} {Q : B → Type 0} {r₂ : Done}
     → Ends E text ws₁ cs c cs₁ f P r m → r .fault ≡ 0
     → ((a : A) → ws₁ ≡ wordsAt text (r .at) → (E → Appends cs c (f a) cs₁ (r .count)) → P a → Ends E text ws cs c cs₁ g Q r₂ (k a)) → Ends E text ws cs c cs₁ g Q r₂ (_>>=_ m k)
@@ -59,7 +59,7 @@ ends-bind (good a) k (ended e here app pa) z next = next a here app pa
 ends-bind (wrong n w) k (failed e nz at len) z next = absurd (nz (sym e ∙ z))
 
 -- a choice rule is one whose values have a class
-valued-is : (ds : List Decl) (class : ℕ) → given (givesOf ds class) ≡ ltb 0 class
+pub valued-is : (ds : List Decl) (class : ℕ) → given (givesOf ds class) ≡ ltb 0 class
 unfolding givesOf
 valued-is ds zero = refl
 valued-is ds (suc n) = rw (ne-eqb (suc n) 0 (λ z. omega (arith, z)), lt-ltb 0 (suc n) (omega arith)) refl
@@ -141,7 +141,7 @@ abbrev typeBy : Word → Option (List Known) → Bool → Bool → Checked (Opti
 typeBy w f t d = _>>=_ {A = List Known} (elim f [ some ks ↦ good ks | none ↦ if t then wrong 3 w else wrong (if d then 5 else 3) w ]) (λ ks. good (some ks))
 
 -- the type, by the declarations
-type-means : (p : Program) (names : Names) (rs : List KnownRule) (ds : List Decl) → Agrees p names rs ds → (g : Option Word)
+pub type-means : (p : Program) (names : Names) (rs : List KnownRule) (ds : List Decl) → Agrees p names rs ds → (g : Option Word)
     → optionalType p (names .types) g ≡ _>>=_ (optionalIn ds ds g) (λ class. good (givesOf ds class))
 unfolding optionalType optionalIn givesOf lookupType elsewhere typeIn elsewhereIn
 type-means p names rs ds A none = refl

@@ -139,7 +139,7 @@ fn put_labels(seen: &[u16], from: usize, to: usize, cells: &mut [u16], count: us
 }
 
 // Actions up to a word that closes them.
-fn build_actions(
+pub fn build_actions(
     text: &[u8],
     rows: &[u16],
     scope: Scope,
@@ -400,7 +400,7 @@ fn is_taken(text: &[u8], rows: &[u16], n: usize, before: usize, start: usize, le
 }
 
 // A rule's type, where it has one, and its colon.
-fn read_type(text: &[u8], rows: &[u16], n: usize, at: usize) -> Head
+pub fn read_type(text: &[u8], rows: &[u16], n: usize, at: usize) -> Head
     requires { ⌜ (at ≤ length (now text)) × Kept (now text) (now rows) n ⌝ }
     ensures { λ r. ⌜ TypeDone (now (text .entry)) (now (rows .entry)) n at r ⌝ }
 {

@@ -128,7 +128,7 @@ fn put_two(rows: &mut [u16], k: usize, a: u16, b: u16)
     rows[k + 1] = b;
 }
 
-fn put_part(rows: &mut [u16], k: usize, p: Part)
+pub fn put_part(rows: &mut [u16], k: usize, p: Part)
     requires { ⌜ (k + 2 ≤ length (now rows)) × (p .start + p .len ≤ 65535) ⌝ }
     ensures { λ _. ⌜ now (rows .exit) ≡ setTwo (now (rows .entry)) k (p .start) (p .len) ⌝ }
 {
@@ -149,7 +149,7 @@ fn put_words(rows: &mut [u16], k: usize, d: Row)
 }
 
 // Row i is written, if it has its place: one more row.
-fn put_row(rows: &mut [u16], i: usize, d: Row) -> usize
+pub fn put_row(rows: &mut [u16], i: usize, d: Row) -> usize
     requires { ⌜ (i ≤ 512) × Small d ⌝ }
     ensures { λ r. ⌜ Puts (now (rows .entry)) (now (rows .exit)) i r d ⌝ }
 {
@@ -712,7 +712,13 @@ fn collect_section(
 }
 
 // Sections up to the word `rules`.
-fn collect_sections(text: &[u8], at: usize, rows: &mut [u16], count: usize, state: State) -> Spot
+pub fn collect_sections(
+    text: &[u8],
+    at: usize,
+    rows: &mut [u16],
+    count: usize,
+    state: State,
+) -> Spot
     requires { ⌜ (at ≤ length (now text)) × (length (now text) ≤ 65535) × (count ≤ 512) ⌝ }
     ensures { λ r. ⌜ SomeSections (now (text .entry)) (now (rows .entry)) (now (rows .exit)) at count state r ⌝ }
 {
@@ -741,7 +747,7 @@ fn collect_sections(text: &[u8], at: usize, rows: &mut [u16], count: usize, stat
 // Rules
 
 // The rule of the place k.
-fn collect_rule(text: &[u8], at: usize, rows: &mut [u16], count: usize, k: usize) -> Spot
+pub fn collect_rule(text: &[u8], at: usize, rows: &mut [u16], count: usize, k: usize) -> Spot
     requires { ⌜ (at ≤ length (now text)) × (length (now text) ≤ 65535) × (count ≤ 512) × (k ≤ 512) ⌝ }
     ensures { λ r. ⌜ ARule (now (text .entry)) (now (rows .entry)) (now (rows .exit)) at count k r ⌝ }
 {

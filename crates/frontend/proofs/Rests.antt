@@ -47,14 +47,14 @@ no-sort false e = refl
 
 module _ {cs cs₁ starts₁ sorts₁ cs₂ starts₂ sorts₂ : List ℕ} {c k : ℕ} {m : Made} (own ms : List Rule) (app : Appends cs 0 (rulesCells own) cs₁ c) (same : k ≡ c)
     (more : MadeEnd (length own) cs₁ k cs₂ starts₁ sorts₁ starts₂ sorts₂ m ms) where
-  joined : Appends cs 0 (rulesCells (own ++ ms)) cs₂ (m .count)
+  pub joined : Appends cs 0 (rulesCells (own ++ ms)) cs₂ (m .count)
   joined =
       let b : Appends cs₁ c (rulesCells ms) cs₂ (m .count) = subst (λ i. Appends cs₁ i (rulesCells ms) cs₂ (m .count)) same (more .cells) in
       subst (λ x. Appends cs 0 x cs₂ (m .count)) (sym (rules-append own ms)) (appends-then app b)
 
   module _ (later : (r : ℕ) → length own ≤ r → r < length (own ++ ms) → ruleOf (own ++ ms) r .valued ≡ false)
       (sorted : (r : ℕ) → r < length own → getD sorts₁ r 0 ≡ sortOf (ruleOf own r .valued)) where
-    sorts-are : (r : ℕ) → r < length (own ++ ms) → getD sorts₂ r 0 ≡ sortOf (ruleOf (own ++ ms) r .valued)
+    pub sorts-are : (r : ℕ) → r < length (own ++ ms) → getD sorts₂ r 0 ≡ sortOf (ruleOf (own ++ ms) r .valued)
     sorts-are r l = go (lt-or-le r (length own))
       where
         go : (r < length own) ⊎ (length own ≤ r) → getD sorts₂ r 0 ≡ sortOf (ruleOf (own ++ ms) r .valued)
@@ -64,7 +64,7 @@ module _ {cs cs₁ starts₁ sorts₁ cs₂ starts₂ sorts₂ : List ℕ} {c k 
             ap (λ i. getD sorts₂ i 0) e ∙ more .sorted (r - length own) (omega (arith, h, l, length-append own ms)) ∙ no-sort _ (later r h l)
 
   module _ (begins : c ≤ length cs → (r : ℕ) → r < length own → getD starts₁ r 0 ≡ cellsStart 0 own r) where
-    starts-are : m .count ≤ length cs → (r : ℕ) → r < length (own ++ ms) → getD starts₂ r 0 ≡ cellsStart 0 (own ++ ms) r
+    pub starts-are : m .count ≤ length cs → (r : ℕ) → r < length (own ++ ms) → getD starts₂ r 0 ≡ cellsStart 0 (own ++ ms) r
     starts-are fits r l = go (lt-or-le r (length own))
       where
         low : c ≤ length cs

@@ -211,16 +211,16 @@ site-full {text} {rows} {n} {q} {own = own} {l} same bound low h full r g = reco
 -- The pairs
 
 -- what was made for a pair and for those behind it
-record Split (names : Names) (ks : List KnownRule) (others own : ℕ) (u : Use) (us : List Use) (ms : List Rule) : Type 0 where
-  later : List Rule
-  fits : passes others own (levelsUsed names u) ≡ false
-  behind : madeFor names ks others (own + length (levelsUsed names u)) us ≡ good later
-  is : ms ≡ levelRules own (operandOf ks u) (levelsUsed names u) ++ later
+pub record Split (names : Names) (ks : List KnownRule) (others own : ℕ) (u : Use) (us : List Use) (ms : List Rule) : Type 0 where
+  pub later : List Rule
+  pub fits : passes others own (levelsUsed names u) ≡ false
+  pub behind : madeFor names ks others (own + length (levelsUsed names u)) us ≡ good later
+  pub is : ms ≡ levelRules own (operandOf ks u) (levelsUsed names u) ++ later
 
 no-good : {A B : Type 0} {n : ℕ} {w : Word} {a : A} → _≡_ {A = Checked A} (wrong n w) (good a) → B
 no-good e = let z : _≡_ {A = ℕ} 0 1 = cc in absurd (omega (arith, z))
 
-made-split : (names : Names) (ks : List KnownRule) (others own : ℕ) (u : Use) (us : List Use) (ms : List Rule) → madeFor names ks others own (u ∷ us) ≡ good ms → Split names ks others own u us ms
+pub made-split : (names : Names) (ks : List KnownRule) (others own : ℕ) (u : Use) (us : List Use) (ms : List Rule) → madeFor names ks others own (u ∷ us) ≡ good ms → Split names ks others own u us ms
 unfolding madeFor
 made-split names ks others own u us ms e = go (passes others own (levelsUsed names u)) refl e
   where
@@ -237,7 +237,7 @@ made-split names ks others own u us ms e = go (passes others own (levelsUsed nam
     go true f q = no-good q
     go false f q = inner (madeFor names ks others (own + length (levelsUsed names u)) us) f refl q
 
-few-rules : (others own : ℕ) (ls : List Level) → passes others own ls ≡ false → own + length ls ≤ 128
+pub few-rules : (others own : ℕ) (ls : List Level) → passes others own ls ≡ false → own + length ls ≤ 128
 few-rules others own ls e = ltb-false 128 (own + length ls) (neither (ltb 128 (own + length ls)) _ (neither _ (crowded ls) e .0) .0)
 
 operand-is : (text rows : List ℕ) (n : ℕ) {p : Program} {names : Names} {ks : List KnownRule} (u : Use) → Agrees p names ks (held text rows n) → Ordered (held text rows n) u
@@ -271,11 +271,11 @@ make-end {text} {rows} {n} {j} {k} {own} {cs} {c} {starts} {sorts} z h = record 
     go p names ks [] others ms e m = let y : [] ≡ ms = cc in rw (sym y) (made-none own cs c starts sorts h)
     go p names ks (u ∷ us) others ms e m = let y : _≡_ {A = ℕ} 0 1 = cc in absurd (omega (arith, y))
 
-made-as : {own own₁ : ℕ} {cs : List ℕ} {c : ℕ} {cs′ starts sorts starts′ sorts′ : List ℕ} {r : Made} {xs ys : List Rule} → own₁ ≡ own → xs ≡ ys → MadeEnd own₁ cs c cs′ starts sorts starts′ sorts′ r xs
+pub made-as : {own own₁ : ℕ} {cs : List ℕ} {c : ℕ} {cs′ starts sorts starts′ sorts′ : List ℕ} {r : Made} {xs ys : List Rule} → own₁ ≡ own → xs ≡ ys → MadeEnd own₁ cs c cs′ starts sorts starts′ sorts′ r xs
     → MadeEnd own cs c cs′ starts sorts starts′ sorts′ r ys
 made-as e f m = rw (← e, ← f) m
 
-rules-as : {own own₁ o o₁ : ℕ} {ls ls₁ : List Level} → own ≡ own₁ → o ≡ o₁ → ls ≡ ls₁ → levelRules own o ls ≡ levelRules own₁ o₁ ls₁
+pub rules-as : {own own₁ o o₁ : ℕ} {ls ls₁ : List Level} → own ≡ own₁ → o ≡ o₁ → ls ≡ ls₁ → levelRules own o ls ≡ levelRules own₁ o₁ ls₁
 rules-as a b c = rw (a, b, c) refl
 
 pair-made : {text rows : List ℕ} {n : ℕ} {cs : List ℕ} {c : ℕ} {starts sorts cs₁ starts₁ sorts₁ cs′ starts′ sorts′ : List ℕ} {q : Site} {r₁ r : Made} (j k₁ own : ℕ)

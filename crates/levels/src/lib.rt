@@ -236,7 +236,7 @@ fn higher_of(own: usize, operand: usize, next: Rank) -> usize
 }
 
 // Its levels, the lowest first.
-fn make_levels(
+pub fn make_levels(
     text: &[u8],
     rows: &[u16],
     n: usize,

@@ -105,15 +105,15 @@ pairs-same old new j zero f = refl
 pairs-same old new j (suc k) f =
     rw (pair-same old new j (λ i a b. f i a (omega (arith, b))), pairs-same old new (suc j) k (λ i a b. f i a (omega (arith, b)))) refl
 
-module _ (rows : List ℕ) (k s o l : ℕ) (size : length rows ≡ 6017) (few : k < 128) where
+module _ (rows : List ℕ) (k s o l : ℕ) (room : 5636 + 3 * k ≤ length rows) where
   abbrev three : List ℕ
   three = setThree rows (5633 + 3 * k) s o l
 
   abbrev after : List ℕ
   after = set three 5632 (k + 1)
 
-  three-length : length three ≡ 6017
-  three-length = simp length-set size
+  three-length : length three ≡ length rows
+  three-length = simp length-set refl
 
   not-first : (i : ℕ) → (i ≡ 5632 → ⊥) → getD after i 0 ≡ getD three i 0
   not-first i h = getD-set-other three 5632 i (k + 1) 0 h
@@ -128,7 +128,7 @@ module _ (rows : List ℕ) (k s o l : ℕ) (size : length rows ≡ 6017) (few : 
   at-first =
       not-first (5633 + 3 * k) (λ e. omega (arith, e))
       ∙ (getD-set-other (set (set rows (5633 + 3 * k) s) (5633 + 3 * k + 1) o) (5633 + 3 * k + 2) (5633 + 3 * k) l 0 (λ e. omega (arith, e))
-      ∙ (getD-set-other (set rows (5633 + 3 * k) s) (5633 + 3 * k + 1) (5633 + 3 * k) o 0 (λ e. omega (arith, e)) ∙ getD-set-same rows (5633 + 3 * k) s 0 (omega (arith, size, few))))
+      ∙ (getD-set-other (set rows (5633 + 3 * k) s) (5633 + 3 * k + 1) (5633 + 3 * k) o 0 (λ e. omega (arith, e)) ∙ getD-set-same rows (5633 + 3 * k) s 0 (omega (arith, room))))
 
   at-second : getD after (5634 + 3 * k) 0 ≡ o
   at-second =
@@ -136,20 +136,20 @@ module _ (rows : List ℕ) (k s o l : ℕ) (size : length rows ≡ 6017) (few : 
       ∙ (getD-set-other (set (set rows (5633 + 3 * k) s) (5633 + 3 * k + 1) o) (5633 + 3 * k + 2) (5634 + 3 * k) l 0 (λ e. omega (arith, e)) ∙ own (omega arith))
     where
       own : 5634 + 3 * k ≡ 5633 + 3 * k + 1 → getD (set (set rows (5633 + 3 * k) s) (5633 + 3 * k + 1) o) (5634 + 3 * k) 0 ≡ o
-      own e = rw e (getD-set-same (set rows (5633 + 3 * k) s) (5633 + 3 * k + 1) o 0 (simp length-set (omega (arith, size, few))))
+      own e = rw e (getD-set-same (set rows (5633 + 3 * k) s) (5633 + 3 * k + 1) o 0 (simp length-set (omega (arith, room))))
 
   at-third : getD after (5635 + 3 * k) 0 ≡ l
   at-third = not-first (5635 + 3 * k) (λ e. omega (arith, e)) ∙ own (omega arith)
     where
       own : 5635 + 3 * k ≡ 5633 + 3 * k + 2 → getD three (5635 + 3 * k) 0 ≡ l
-      own e = rw e (getD-set-same (set (set rows (5633 + 3 * k) s) (5633 + 3 * k + 1) o) (5633 + 3 * k + 2) l 0 (simp length-set (omega (arith, size, few))))
+      own e = rw e (getD-set-same (set (set rows (5633 + 3 * k) s) (5633 + 3 * k + 1) o) (5633 + 3 * k + 2) l 0 (simp length-set (omega (arith, room))))
 
   pair-is : pairAt after k ≡ record { section = s; operand = o; lowest = l }
   unfolding pairAt
   pair-is = rw (at-first, at-second, at-third) refl
 
   count-is : getD after 5632 0 ≡ k + 1
-  count-is = getD-set-same three 5632 (k + 1) 0 (omega (arith, three-length))
+  count-is = getD-set-same three 5632 (k + 1) 0 (omega (arith, three-length, room))
 
   pub pair-added : Adds rows after k s o l
   unfolding pairsHeld
@@ -165,8 +165,8 @@ module _ (rows : List ℕ) (k s o l : ℕ) (size : length rows ≡ 6017) (few : 
         ∙ ap (λ (q : Pair). pairsFrom rows 0 (getD rows 5632 0) ++ (q ∷ [])) (ap (pairAt after) (zero-add k) ∙ pair-is)));
   }
 
-pub pair-put : {rows mid rows′ : List ℕ} {k s o l : ℕ} → length rows ≡ 6017 → k < 128 → mid ≡ setThree rows (5633 + 3 * k) s o l → rows′ ≡ set mid 5632 (k + 1) → Adds rows rows′ k s o l
-pair-put {rows} {mid} {rows′} {k} {s} {o} {l} size few e f = rw (f, e) (pair-added rows k s o l size few)
+pub pair-put : {rows mid rows′ : List ℕ} {k s o l : ℕ} → 5636 + 3 * k ≤ length rows → mid ≡ setThree rows (5633 + 3 * k) s o l → rows′ ≡ set mid 5632 (k + 1) → Adds rows rows′ k s o l
+pair-put {rows} {mid} {rows′} {k} {s} {o} {l} room e f = rw (f, e) (pair-added rows k s o l room)
 
 -- A use
 

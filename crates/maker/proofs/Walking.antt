@@ -108,14 +108,14 @@ look-append s o (x ∷ qs) q = go (eqb (x .section) s && eqb (x .operand) o) (lo
     go true e = refl
     go false e = e
 
-stands-more : {ds : List Decl} (qs : List Pair) (seen : List Use) (own : ℕ) (v : Use) → Stands ds qs seen → Ordered ds v → Stands ds (qs ++ (pairOf ds own v ∷ [])) (v ∷ seen)
+pub stands-more : {ds : List Decl} (qs : List Pair) (seen : List Use) (own : ℕ) (v : Use) → Stands ds qs seen → Ordered ds v → Stands ds (qs ++ (pairOf ds own v ∷ [])) (v ∷ seen)
 unfolding isUsed
 stands-more {ds} qs seen own v f b u a =
     look-append (sectionRow ds u) (operandRow ds u) qs (pairOf ds own v)
     ∙ (ap (λ (t : Bool). t || (eqb (sectionRow ds v) (sectionRow ds u) && eqb (operandRow ds v) (operandRow ds u))) (f u a)
     ∙ (ap (λ (t : Bool). isUsed u seen || t) (sym (same-pair a b)) ∙ or-comm (isUsed u seen) (samePair u v)))
 
-stands-as : {ds : List Decl} {qs rs : List Pair} (seen : List Use) → rs ≡ qs → Stands ds qs seen → Stands ds rs seen
+pub stands-as : {ds : List Decl} {qs rs : List Pair} (seen : List Use) → rs ≡ qs → Stands ds qs seen → Stands ds rs seen
 stands-as {ds} seen e f u a = ap (λ (l : List Pair). isThere ds l u) e ∙ f u a
 
 -- The words from a place on
@@ -197,11 +197,11 @@ ends-added {text} {rows} {rows₁} {n = n} {others} own u few kept f p names ks 
     (f .ends p names ks (rw same ag) (rw same en) (u ∷ seen) (rw same (stands-as (u ∷ seen) q (stands-more (pairsHeld rows) seen own u st ou))) nm (rw same or))
 
 -- the first use of a pair, and a later one
-first-again : (u : Use) (seen us : List Use) → isUsed u seen ≡ true → firsts seen (u ∷ us) ≡ firsts seen us
+pub first-again : (u : Use) (seen us : List Use) → isUsed u seen ≡ true → firsts seen (u ∷ us) ≡ firsts seen us
 unfolding firsts
 first-again u seen us e = rw e refl
 
-first-new : (u : Use) (seen us : List Use) → isUsed u seen ≡ false → firsts seen (u ∷ us) ≡ u ∷ firsts (u ∷ seen) us
+pub first-new : (u : Use) (seen us : List Use) → isUsed u seen ≡ false → firsts seen (u ∷ us) ≡ u ∷ firsts (u ∷ seen) us
 unfolding firsts
 first-new u seen us e = rw e refl
 

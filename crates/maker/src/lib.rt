@@ -148,7 +148,7 @@ fn either(a: bool, b: bool) -> bool
 }
 
 // The levels of the entries at the place `at`.
-fn section_levels(text: &[u8], at: usize) -> Levels
+pub fn section_levels(text: &[u8], at: usize) -> Levels
     requires { ⌜ (at ≤ length (now text)) × (length (now text) ≤ 65535) ⌝ }
     ensures { λ r. ⌜ LevelsDone (now (text .entry)) at r ⌝ }
 {
@@ -189,7 +189,7 @@ fn is_pair(rows: &[u16], j: usize, section: usize, operand: usize) -> bool
 }
 
 // The place of the lowest rule of a pair, 65,536 where there is no such pair.
-fn look_pair(rows: &[u16], section: usize, operand: usize) -> usize
+pub fn look_pair(rows: &[u16], section: usize, operand: usize) -> usize
     ensures { λ r. ⌜ Tells r (lookPair section operand (pairsHeld (now (rows .entry)))) ⌝ }
 {
     let n = base::number(rows, PAIRS);
@@ -225,8 +225,8 @@ fn put_three(rows: &mut [u16], i: usize, a: u16, b: u16, c: u16)
 }
 
 // Pair k.
-fn add_pair(rows: &mut [u16], k: usize, section: usize, operand: usize, lowest: usize)
-    requires { ⌜ (length (now rows) ≡ 6017) × (k < 128) × (section < 65536) × (operand < 65536) × (lowest < 65536) ⌝ }
+pub fn add_pair(rows: &mut [u16], k: usize, section: usize, operand: usize, lowest: usize)
+    requires { ⌜ (5636 + 3 * k ≤ length (now rows)) × (k < 65535) × (section < 65536) × (operand < 65536) × (lowest < 65536) ⌝ }
     ensures { λ _. ⌜ Adds (now (rows .entry)) (now (rows .exit)) k section operand lowest ⌝ }
 {
     put_three(
@@ -264,7 +264,7 @@ pub fn read_use(text: &[u8], rows: &[u16], n: usize, at: usize) -> Used
 }
 
 // Rules for these levels pass a limit, behind `own` rules and `others` other names.
-fn is_over(others: usize, own: usize, l: Levels) -> bool
+pub fn is_over(others: usize, own: usize, l: Levels) -> bool
     requires { ⌜ (others ≤ 512) × (own ≤ 128) × (l .count ≤ 15) ⌝ }
     ensures { λ r. ⌜ r ≡ (ltb 128 (own + l .count) || ltb 512 (others + (own + l .count)) || l .crowded) ⌝ }
 {

@@ -23,7 +23,7 @@ never-37 T more t tokens answers allowance w es n number ns l =
 pub loaded-never-37 : LoadedNever37
 loaded-never-37 file room ws verdict more e = never-37 ws more (loads-exactly file room ws verdict .only-these e .takes)
 
-claim-allowed : (size : ℕ) (verdict : Bool) → 1 ≤ size → size ≤ 4096 → allowed size (claimOf verdict) ≡ true
+pub claim-allowed : (size : ℕ) (verdict : Bool) → 1 ≤ size → size ≤ 4096 → allowed size (claimOf verdict) ≡ true
 unfolding allowed claimOf
 claim-allowed size true a b = rw (le-leb 1 size a, le-leb size 4096 b)
 claim-allowed size false a b = rw (le-leb 1 size a, le-leb size 4096 b)

@@ -21,13 +21,13 @@ use Rattle.frontend.specs.Resolving.{Ready}
 use Rattle.loader.proofs.Loading.{part-is}
 use Rattle.machine.specs.Bytes.{count, bytesOf, tableOf, over}
 use Rattle.processor.specs.Process as means
-use Rattle.processor.specs.Process.{refused, meaning, understood, answerFor, lentBytes, lentWords}
+use Rattle.processor.specs.Process.{refused, meaning, answerFor, lentBytes, lentWords}
 use Rattle.program.proofs.Lengths.{length-table}
 use Rattle.program.specs.Program.{Rule}
 use Rattle.program.specs.Table.{sizeRules, table}
 use Rattle.sizes.specs.Located.{Locates}
 use Rattle.translator.proofs.Measured.{starts-are}
-use Rattle.translator.specs.Answered.{answered, Settles, Placed}
+use Rattle.translator.specs.Answered.{answered, Settles, Stands}
 use Rattle.translator.specs.declared.Answer.{Answer}
 
 -- Refusals
@@ -110,16 +110,14 @@ module _ (text : List ℕ) (prog : List Rule) {old new : List ℕ} {r : Answer} 
   few-cells : {cells starts sorts : List ℕ} {rules filled : ℕ} → Ready cells starts sorts rules filled prog → filled ≤ 4224
   few-cells {filled = filled} h = elim (decLt 4224 filled) [ yes y ↦ absurd (false≢true (sym (too-long _ h y) ∙ it-fits)) | no y ↦ omega arith ]
 
-  pub placed : {cells starts sorts : List ℕ} {rules filled : ℕ} (places : List ℕ) (size : ℕ) → Ready cells starts sorts rules filled prog → understood text ≡ meaning prog → length places ≡ 128
-      → Locates cells sorts rules places size → Placed text new places (r .words) rules
+  pub stands : {cells starts sorts : List ℕ} {rules filled : ℕ} (places : List ℕ) (size : ℕ) → Ready cells starts sorts rules filled prog → length places ≡ 128
+      → Locates cells sorts rules places size → Stands new places (r .words) rules prog
   unfolding count
-  placed {rules = rules} places size h m k l =
+  stands {rules = rules} places size h k l =
       let its = ready-cells h (few-cells h) in
       let long = ap length front ∙ over-length (table prog) (zeroed old) (omega (arith, within .0, size-is, length-zeroed old)) in
       let room : rules ≤ length places = omega (arith, h .few, k) in
       record {
-        prog = prog;
-        means = m;
         short = within .1;
         inside = omega (arith, within .0, long, length-zeroed old);
         room = room;

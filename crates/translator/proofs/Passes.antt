@@ -20,7 +20,7 @@ use Rattle.sizes.specs.Located.{Locates}
 use Rattle.syntax.specs.Parse.{parse}
 use Rattle.syntax.specs.Reading.{got}
 use Rattle.syntax.specs.Written.{Program}
-use Rattle.translator.proofs.Ends.{placed}
+use Rattle.translator.proofs.Ends.{stands}
 use Rattle.translator.proofs.Steps.{at-word}
 use Rattle.translator.specs.Answered.{answered, Settles, Finishes, Translates}
 use Rattle.translator.specs.Measured.{asTold}
@@ -54,7 +54,7 @@ module _ (text : List ℕ) (p : Program) (ws : List Word) (e : parse text ≡ go
       let s = f text (h .prog) t (h .ready) in
       record {
         settles = by-meaning (good (h .prog)) (h .means) s;
-        placed = λ v. placed text (h .prog) s v places located (h .ready) (understood-read text p ws e ∙ rw (h .means) refl) k l;
+        placed = λ v. record { prog = h .prog; means = understood-read text p ws e ∙ rw (h .means) refl; stands = stands text (h .prog) s v places located (h .ready) k l };
       }
 
 -- The figure of a text that is translated

@@ -29,14 +29,18 @@ abbrev pub Finishes : ℕ → List ℕ → List ℕ → List ℕ → ℕ → ℕ
 Finishes size cells starts sorts rules filled old new r = (text : List ℕ) (prog : List Rule) → length text ≡ size → Ready cells starts sorts rules filled prog
     → Settles (answerFor text (count old) (meaning prog)) untold old new r
 
--- the table of a finishing text stands in front of the lent bytes, and its rules' starts in front of the places
-pub record Placed (text new places : List ℕ) (words rules : ℕ) : Type 0 where
-  pub prog : List Rule
-  pub means : understood text ≡ meaning prog
+-- the table of a finishing program stands in front of the lent bytes, and its rules' starts in front of the places
+pub record Stands (new places : List ℕ) (words rules : ℕ) (prog : List Rule) : Type 0 where
   pub short : words ≤ 4096
   pub inside : 2 * words ≤ length new
   pub room : rules ≤ length places
   pub tabled : Tabled (take (2 * words) new) (take rules places) prog
+
+-- that of a finishing text
+pub record Placed (text new places : List ℕ) (words rules : ℕ) : Type 0 where
+  pub prog : List Rule
+  pub means : understood text ≡ meaning prog
+  pub stands : Stands new places words rules prog
 
 -- the answer for a text that is read, but for its figure, and what the figure is found from
 pub record Translates (text old new places : List ℕ) (r : Answer) (rules : ℕ) : Type 0 where

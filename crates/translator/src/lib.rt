@@ -26,9 +26,9 @@ pub struct Answer {
 }
 
 // Q and 0, or 0 and 47; both 0 where there is neither.
-struct Figure {
-    figure: u64,
-    number: u16,
+pub struct Figure {
+    pub figure: u64,
+    pub number: u16,
 }
 
 fn refusal(number: u16, start: usize, len: usize) -> Answer
@@ -46,7 +46,7 @@ fn refusal(number: u16, start: usize, len: usize) -> Answer
 }
 
 // A refusal: every lent word zero.
-fn refuse(table: &mut [u8], number: u16, start: usize, len: usize) -> Answer
+pub fn refuse(table: &mut [u8], number: u16, start: usize, len: usize) -> Answer
     ensures { λ r. ⌜ Settles (refused number (record { start = start; size = len })) untold (now (table .entry)) (now (table .exit)) r ⌝ }
 {
     emitter::zero(table);
@@ -68,7 +68,7 @@ fn acceptance(words: usize, finishing: bool) -> Answer
     }
 }
 
-fn with_figure(a: Answer, f: Figure) -> Answer
+pub fn with_figure(a: Answer, f: Figure) -> Answer
     ensures { λ r. ⌜ r ≡ record { number = a .number; start = a .start; len = a .len; words = a .words; finishing = a .finishing; figure = f .figure; check = f .number } ⌝ }
 {
     Answer {
@@ -93,7 +93,7 @@ fn measure(table: &[u8], starts: &[usize]) -> u64
 }
 
 // The figure of a finishing program, from its table and its rules' starts.
-fn figure_of(table: &[u8], starts: &[usize]) -> Figure
+pub fn figure_of(table: &[u8], starts: &[usize]) -> Figure
     requires { ⌜ IsTabled (now table) (now starts) ⌝ }
     ensures { λ f. ⌜ FigureOf (now (table .entry)) (now (starts .entry)) f ⌝ }
 {
@@ -111,7 +111,7 @@ fn figure_of(table: &[u8], starts: &[usize]) -> Figure
 }
 
 // The table and the verdict of the program in the buffers, or 20. The spare room is written over.
-fn finish(
+pub fn finish(
     size: usize,
     cells: &[u16],
     starts: &[u16],

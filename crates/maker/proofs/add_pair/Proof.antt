@@ -47,7 +47,7 @@ same-length c = search needs
 
 -- src/lib.rt:233:1
 returns : tie.Need-returns
-returns c = pair-put (c .before .before .before .before .before .pre .0) (c .before .before .before .before .before .pre .1) (c .before .before .put-three .ensures) refl
+returns c = pair-put (c .before .before .before .before .before .pre .0) (c .before .before .put-three .ensures) refl
 
 pub add-pair-spec : {M : Type 1} → statement M
 add-pair-spec =

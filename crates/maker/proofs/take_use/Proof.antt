@@ -64,7 +64,7 @@ number-requires c κs = search needs
 
 -- src/lib.rt:299:5
 add-pair-requires : tie.Need-add-pair-requires
-add-pair-requires c κs = (c .before .before .before .before .before .before .before .before .before .before .before .before .before .before .before .before .before .before .before .pre .1, omega (arith, c .before .number .ensures .0, c .before .before .before .before .before .before .before .before .before .before .before .before .before .before .before .before .before .before .before .pre .5, not-over (c .before .before .before .before .before .before .before .before .before .before .before .before .before .before .before .before .before .before .before .args .others) (c .before .before .before .before .before .before .before .before .before .before .before .before .before .before .before .before .before .before .before .args .own) (c .before .before .before .before .before .before .before .section-levels .result) (c .before .before .before .before .is-over .ensures) (c .before .before .before .if4 .left), c .before .before .before .before .before .if3 .left), omega (arith, c .before .before .before .before .before .before .before .before .before .before .before .before .before .before .before .read-use .ensures .section (not-false _ (c .before .before .before .before .before .before .before .before .before .before .before .before .before .if1 .left)), c .before .before .before .before .before .before .before .before .before .before .before .before .before .before .before .before .before .before .before .pre .2 .few), omega (arith, c .before .before .before .before .before .before .before .before .before .before .before .before .before .before .before .read-use .ensures .operand (not-false _ (c .before .before .before .before .before .before .before .before .before .before .before .before .before .if1 .left)), c .before .before .before .before .before .before .before .before .before .before .before .before .before .before .before .before .before .before .before .pre .2 .few), omega (arith, c .before .before .before .before .before .before .before .before .before .before .before .before .before .before .before .before .before .before .before .pre .4))
+add-pair-requires c κs = (omega (arith, c .before .before .before .before .before .before .before .before .before .before .before .before .before .before .before .before .before .before .before .pre .1, c .before .number .ensures .0, c .before .before .before .before .before .before .before .before .before .before .before .before .before .before .before .before .before .before .before .pre .5, not-over (c .before .before .before .before .before .before .before .before .before .before .before .before .before .before .before .before .before .before .before .args .others) (c .before .before .before .before .before .before .before .before .before .before .before .before .before .before .before .before .before .before .before .args .own) (c .before .before .before .before .before .before .before .section-levels .result) (c .before .before .before .before .is-over .ensures) (c .before .before .before .if4 .left), c .before .before .before .before .before .if3 .left), omega (arith, c .before .number .ensures .0, c .before .before .before .before .before .before .before .before .before .before .before .before .before .before .before .before .before .before .before .pre .5, not-over (c .before .before .before .before .before .before .before .before .before .before .before .before .before .before .before .before .before .before .before .args .others) (c .before .before .before .before .before .before .before .before .before .before .before .before .before .before .before .before .before .before .before .args .own) (c .before .before .before .before .before .before .before .section-levels .result) (c .before .before .before .before .is-over .ensures) (c .before .before .before .if4 .left), c .before .before .before .before .before .if3 .left), omega (arith, c .before .before .before .before .before .before .before .before .before .before .before .before .before .before .before .read-use .ensures .section (not-false _ (c .before .before .before .before .before .before .before .before .before .before .before .before .before .if1 .left)), c .before .before .before .before .before .before .before .before .before .before .before .before .before .before .before .before .before .before .before .pre .2 .few), omega (arith, c .before .before .before .before .before .before .before .before .before .before .before .before .before .before .before .read-use .ensures .operand (not-false _ (c .before .before .before .before .before .before .before .before .before .before .before .before .before .if1 .left)), c .before .before .before .before .before .before .before .before .before .before .before .before .before .before .before .before .before .before .before .pre .2 .few), omega (arith, c .before .before .before .before .before .before .before .before .before .before .before .before .before .before .before .before .before .before .before .pre .4))
 
 -- src/lib.rt:302:14
 add-t25 : tie.Need-add-t25

@@ -43,27 +43,27 @@ returns-2 c = no-figure (c .before .before .before .before .before .before .tran
 
 -- src/lib.rt:186:15
 mul-end : tie.Need-mul-end
-mul-end c = omega (arith, c .before .before .before .before .before .before .translate .ensures .placed (not-false _ (c .before .if2 .left)) .short)
+mul-end c = omega (arith, c .before .before .before .before .before .before .translate .ensures .placed (not-false _ (c .before .if2 .left)) .stands .short)
 
 -- src/lib.rt:187:23
 slice-reshare-prefix-figure-of : tie.Need-slice-reshare-prefix-figure-of
-slice-reshare-prefix-figure-of c = c .before .before .before .before .before .before .translate .ensures .placed (not-false _ (c .before .if2 .left)) .inside
+slice-reshare-prefix-figure-of c = c .before .before .before .before .before .before .translate .ensures .placed (not-false _ (c .before .if2 .left)) .stands .inside
 
 -- src/lib.rt:187:23
 slice-aggregate-figure-of : tie.Need-slice-aggregate-figure-of
-slice-aggregate-figure-of c = sym (length-take-le _ _ (c .before .before .before .before .before .before .before .translate .ensures .placed (not-false _ (c .before .before .if2 .left)) .inside))
+slice-aggregate-figure-of c = sym (length-take-le _ _ (c .before .before .before .before .before .before .before .translate .ensures .placed (not-false _ (c .before .before .if2 .left)) .stands .inside))
 
 -- src/lib.rt:187:38
 array-share-prefix-places : tie.Need-array-share-prefix-places
-array-share-prefix-places c = c .before .before .before .before .before .before .before .translate .ensures .placed (not-false _ (c .before .before .if2 .left)) .room
+array-share-prefix-places c = c .before .before .before .before .before .before .before .translate .ensures .placed (not-false _ (c .before .before .if2 .left)) .stands .room
 
 -- src/lib.rt:187:38
 slice-aggregate-figure-of-2 : tie.Need-slice-aggregate-figure-of-2
-slice-aggregate-figure-of-2 c = sym (length-take-le _ _ (c .before .before .before .before .before .before .before .before .translate .ensures .placed (not-false _ (c .before .before .before .if2 .left)) .room))
+slice-aggregate-figure-of-2 c = sym (length-take-le _ _ (c .before .before .before .before .before .before .before .before .translate .ensures .placed (not-false _ (c .before .before .before .if2 .left)) .stands .room))
 
 -- src/lib.rt:187:9
 figure-of-requires : tie.Need-figure-of-requires
-figure-of-requires c κs = let p = c .before .before .before .before .before .before .before .before .translate .ensures .placed (not-false _ (c .before .before .before .if2 .left)) in record { prog = p .prog; tabled = p .tabled }
+figure-of-requires c κs = let p = c .before .before .before .before .before .before .before .before .translate .ensures .placed (not-false _ (c .before .before .before .if2 .left)) in record { prog = p .prog; tabled = p .stands .tabled }
 
 -- src/lib.rt:188:5
 with-figure-requires : tie.Need-with-figure-requires
@@ -75,7 +75,7 @@ same-length-3 c = search needs
 
 -- src/lib.rt:174:1
 returns-3 : tie.Need-returns-3
-returns-3 c = let v = not-false _ (c .before .before .before .before .before .if2 .left) in let t = c .before .before .before .before .before .before .before .before .before .before .translate .ensures in the-figure t v (c .before .figure-of .ensures (t .placed v .prog) (t .placed v .tabled)) (c .with-figure .ensures)
+returns-3 c = let v = not-false _ (c .before .before .before .before .before .if2 .left) in let t = c .before .before .before .before .before .before .before .before .before .before .translate .ensures in the-figure t v (c .before .figure-of .ensures (t .placed v .prog) (t .placed v .stands .tabled)) (c .with-figure .ensures)
 
 pub process-spec : {M : Type 1} → statement M
 process-spec =
