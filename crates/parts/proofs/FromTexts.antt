@@ -15,7 +15,7 @@ use Rattle.names.specs.Known.{Checked, good, wrong, Names}
 use Rattle.parts.proofs.Accepted.{linked-works}
 use Rattle.parts.proofs.Linking.{past-test, very-words}
 use Rattle.parts.proofs.Written.{translated-sound}
-use Rattle.parts.specs.Form.{objectWords, made, unmade, ifFits, asMade, makeObject, allWords, makes-none, makes-more, MadeAreObjects}
+use Rattle.parts.specs.Form.{objectWords, made, unmade, ifFits, asMade, makeObject, allWords, AreObjects, Makes, makes-none, makes-more, MadeAreObjects}
 use Rattle.parts.specs.Joined.{ReadsEach, reads-nil, reads-cons}
 use Rattle.parts.specs.Link.{Linked, linked, refused, atPart, collect, lastOf, withNames, withCommon, link, linkTexts}
 use Rattle.parts.specs.Objects.{Object, Translated, object, inCommon, inPart, commonMeans, meaning, unlessPast, readOn, readBoth, translate}
@@ -217,21 +217,38 @@ made-of common t room ws e = one (translate common t) refl e
     one (inCommon n p) d h = no-made h
     one (inPart n p) d h = no-made h
 
-pub made-are-objects : MadeAreObjects
+-- the objects that words are which were made of parts, and the rules that were read of each part
+pub record OfParts (common : List ℕ) (c : Common) (n : Names) (ts : List (List ℕ)) (words : List ℕ) : Type 0 where
+  pub are : AreObjects common c n words
+  pub rules : List (List Rule)
+  pub parts : Parts c rules (are .objects)
+  pub each : ReadsEach (c .left) ts rules
+
+pub of-parts : (common : List ℕ) (c : Common) (rest : List Word) → readCommon common ≡ got c rest → (n : Names) → commonMeans c [] ≡ good n → (ts : List (List ℕ)) (words : List ℕ)
+    → Makes common ts words → OfParts common c n ts words
 unfolding allWords Each
-made-are-objects common c rest e n m ts words makes-none = record { lengths = []; objects = []; as-many = refl; sound = tt; are = refl }
-made-are-objects common c rest e n m ts words (makes-more {t = t} {ts = us} {ws = ws} {more = more} room d h) =
+of-parts common c rest e n m ts words makes-none =
+    record { are = record { lengths = []; objects = []; as-many = refl; sound = tt; are = refl }; rules = []; parts = parts-nil; each = reads-nil }
+of-parts common c rest e n m ts words (makes-more {t = t} {ts = us} {ws = ws} {more = more} room d h) =
     let x = made-of common t room ws d in
     let p = part-of common t (x .object-is) (x .translates) in
     let y : p .c ≡ c = got-inj (sym (p .reads) ∙ e) in
     let means : meaning c (p .rs) ≡ object (x .object-is) = ap (λ (z : Common). meaning z (p .rs)) (sym y) ∙ p .means in
     let reads : readPart (c .left) t ≡ got (p .rs) (p .rest₁) = ap (λ (z : Common). readPart (z .left) t) (sym y) ∙ p .reads-part in
-    let r = made-are-objects common c rest e n m us more h in
+    let r = of-parts common c rest e n m us more h in
     let first : ws ≡ objectWords common (length t) (x .object-is) = sym (x .words-are) in
     record {
-      lengths = length t ∷ r .lengths;
-      objects = x .object-is ∷ r .objects;
-      as-many = ap suc (r .as-many);
-      sound = (translated-sound common c rest e n m t (p .rs) (p .rest₁) reads (x .object-is) means, r .sound);
-      are = λ i. first i ++ r .are i;
+      are = record {
+        lengths = length t ∷ r .are .lengths;
+        objects = x .object-is ∷ r .are .objects;
+        as-many = ap suc (r .are .as-many);
+        sound = (translated-sound common c rest e n m t (p .rs) (p .rest₁) reads (x .object-is) means, r .are .sound);
+        are = λ i. first i ++ r .are .are i;
+      };
+      rules = p .rs ∷ r .rules;
+      parts = parts-cons means (r .parts);
+      each = reads-cons (p .rest₁) reads (r .each);
     }
+
+pub made-are-objects : MadeAreObjects
+made-are-objects common c rest e n m ts words h = of-parts common c rest e n m ts words h .are

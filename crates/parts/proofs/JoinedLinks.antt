@@ -1,22 +1,28 @@
 -- Linking is translating the one text of a common part and its parts: for any bytes, and the other way round.
-use mathlib.Core.Bool.{false}
+use mathlib.Core.Bool.{Bool, false, _||_}
 use mathlib.Core.List.{List, [], _∷_}
 use mathlib.Core.Option.{none}
-use mathlib.Core.Path.{_≡_, refl, ap, _∙_}
+use mathlib.Core.Path.{_≡_, refl, sym, ap, _∙_}
 use Prim.Native.Nat.{ℕ, zero, suc, _+_, _-_, _≤_}
 use lib.Dec.{eqb, ltb}
-use lib.ListN.{length}
-use borrow.Author.Tests.{le-ltb, ne-eqb}
+use lib.ListN.{length, replicate}
+use borrow.Author.Tests.{eqb-false, le-ltb, ne-eqb}
 use native.Mathlib.Omega.{arith}
 use Rattle.acceptance.proofs.Shape.{Each}
+use Rattle.base.proofs.Laws.{neither, above-zero}
+use Rattle.figure.specs.Told.{Told}
+use Rattle.names.specs.Known.{Names}
 use Rattle.parts.proofs.AsText.{very-text, text-links}
-use Rattle.parts.proofs.FromTexts.{of-texts}
+use Rattle.parts.proofs.FromTexts.{of-texts, of-parts}
 use Rattle.parts.proofs.JoinedText.{joined-reads}
-use Rattle.parts.proofs.Linking.{few-linked}
-use Rattle.parts.specs.Joined.{joinedText, ReadsEach, reads-nil, reads-cons, VeryJoined, Named, JoinedLinks}
-use Rattle.parts.specs.Link.{Linked, atPart, collect, lastOf, withNames, withCommon, linkTexts}
+use Rattle.parts.proofs.Linking.{past-test, few-linked}
+use Rattle.parts.specs.Form.{lastLength}
+use Rattle.parts.specs.Joined.{joinedText, ReadsEach, reads-nil, reads-cons, VeryJoined, MadeJoined, Named, JoinedLinks}
+use Rattle.parts.specs.Link.{Linked, linked, atPart, collect, lastOf, withNames, withCommon, link, linkTexts}
 use Rattle.parts.specs.Objects.{others, Object, object, meaning, pastNames, unlessPast, readOn, readBoth, translate}
 use Rattle.parts.specs.Promise.{Parts, parts-nil, parts-cons}
+use Rattle.processor.specs.Process.{partOf}
+use Rattle.syntax.specs.Parse.{endOf}
 use Rattle.syntax.specs.Texts.{Common, tooLong, readCommon, readPart}
 use Rattle.syntax.specs.Reading.{got}
 use Rattle.syntax.specs.Written.{Rule}
@@ -28,6 +34,32 @@ very-joined common parts room words verdict told e short =
     let few = few-linked common (o .c) (o .n) (lastOf parts) (o .rules) (o .objects) room words verdict told (o .means) (o .translated) (o .answers) in
     very-text common (o .c) (o .n) (lastOf parts) (o .rules) (o .objects) room words verdict told (o .means) (o .translated) (o .answers) (joinedText common parts)
     (joined-reads common parts (o .c) (o .rest) (o .rules) (o .reads) (o .each) (o .some) short few)
+
+-- Objects as words
+
+parts-many : {c : Common} {rss : List (List Rule)} {os : List Object} → Parts c rss os → length rss ≡ length os
+parts-many parts-nil = refl
+parts-many (parts-cons e h) = ap suc (parts-many h)
+
+-- no object is linked to nothing
+some-object : (commonText : List ℕ) (c : Common) (n : Names) (lastText : List ℕ) (os : List Object) (room : ℕ) (words : List ℕ) (verdict : Bool) (told : Told)
+    → link commonText c n lastText os room ≡ linked words verdict told → 1 ≤ length os
+unfolding link
+some-object commonText c n lastText os room words verdict told e =
+    let t = past-test (eqb (length os) 0 || ltb 16 (length os)) 9 0 (partOf (endOf commonText)) _ e in
+    above-zero (length os) (eqb-false (length os) 0 (neither (eqb (length os) 0) (ltb 16 (length os)) (t .0) .0))
+
+pub made-joined : MadeJoined
+made-joined common c rest e n m parts objects h room words verdict told l short =
+    let o = of-parts common c rest e n m parts objects h in
+    let last : List ℕ = replicate (lastLength (o .are .lengths)) 0 in
+    let os = o .are .objects in
+    let so = sym (l .linked-so (o .are)) in
+    let some-part = some-object common c n last os room words verdict told so in
+    let many = parts-many (o .parts) in
+    let few = few-linked common c n last (o .rules) os room words verdict told m (o .parts) so in
+    very-text common c n last (o .rules) os room words verdict told m (o .parts) so (joinedText common parts)
+    (joined-reads common parts c rest (o .rules) e (o .each) (omega (arith, some-part, many)) short few)
 
 -- The other way
 

@@ -12,6 +12,7 @@ use Rattle.base.specs.Common.{if_then_else_}
 use Rattle.parts.proofs.Moved.{Ahead, ahead-on, Upto, kind-same, next-same, split, Again}
 use Rattle.parts.proofs.MovedActions.{rule-moved}
 use Rattle.parts.specs.Blank.{blankRule, blankRules}
+use Rattle.parts.specs.Moved.{moveRules}
 use Rattle.syntax.specs.Parse.{aRule, someRules}
 use Rattle.syntax.specs.Reading.{Read, got, fault, Reader, onward, _>>=_, pure, peek, refuse, on_then_else_}
 use Rattle.syntax.specs.Written.{Rule}
@@ -60,7 +61,7 @@ pub record Chained (rs : List Rule) (ws rest : List Word) : Type 0 where
 
 cons-again : (k l : ℕ) {ws mid final : List Word} {r : Rule} {m : List Rule} → Again blankRule (aRule k l) ws r mid → Again blankRules (further k (l - 1)) mid m final
     → Again blankRules (someRules (suc k) l) ws (r ∷ m) final
-unfolding blankRules
+unfolding moveRules
 cons-again k l {ws} {mid} {final} o p =
     record { value = o .value ∷ p .value; gives = rules-first k l ws (o .value) mid (p .value) final (o .gives) (p .gives); like = λ i. o .like i ∷ p .like i }
 

@@ -11,6 +11,7 @@ use native.Mathlib.Omega.{arith}
 use Rattle.base.specs.Common.{if_then_else_}
 use Rattle.parts.proofs.Moved.{Ahead, at-rest, a-word, Upto, here, more}
 use Rattle.parts.specs.Blank as but
+use Rattle.parts.specs.Moved.{moveWord}
 use Rattle.words.specs.Words.{Word, Found, bad, last, kindOf, reserved, letter, digit, nameByte, stringByte, blank, symbol, run, stringHere, wordHere, wordsFrom, words}
 
 -- One word
@@ -192,7 +193,7 @@ module _ (w : Word) (rest : List Word) (there : w .kind ≡ last → ⊥) where
     where
       first-same : wordHere b (u ++ 10 ∷ z) ≡ wordHere b (u ++ v) → take (wordHere b (u ++ v) .size) (b ∷ u ++ v) ≡ take (wordHere b (u ++ v) .size) (b ∷ u ++ 10 ∷ z)
           → but.blank (word at b (u ++ v)) ≡ but.blank (word at′ b (u ++ 10 ∷ z))
-      first-same p q = unfold but.blank in (rw (p, q) refl)
+      first-same p q = unfold moveWord in (rw (p, q) refl)
 
   one-more : {b : ℕ} {u : List ℕ} {rest′ ws ws′ : List Word} → Scanned u rest′ ws ws′ → Scanned (b ∷ u) rest′ ws ws′
   one-more r = record { upto = r .upto; count = let g = r .count in omega arith }

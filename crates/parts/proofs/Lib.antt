@@ -10,7 +10,14 @@ pub mod Checks
 pub mod Linking
 pub mod Accepted
 pub mod Sound
+pub mod Shifted
 pub mod Blank
+pub mod ShiftedRules
+pub mod ShiftedIn
+pub mod ShiftedBack
+pub mod PartIn
+pub mod Bound
+pub mod Counts
 pub mod AsText
 pub mod Written
 pub mod FormFacts

@@ -11,6 +11,7 @@ use native.Mathlib.Omega.{arith}
 use Rattle.acceptance.proofs.ReadLaws.{no-got}
 use Rattle.base.specs.Common.{if_then_else_}
 use Rattle.parts.specs.Blank.{blank}
+use Rattle.parts.specs.Moved.{moveWord}
 use Rattle.syntax.specs.Reading.{Read, got, fault, Reader, onward, _>>=_, _>>_, pure, peek, pass, refuse, over, within, on_then_else_, expect, short, aName, oneName, nameOrString}
 use Rattle.words.specs.Words.{Word, bad, last, name, string, rules, end}
 
@@ -43,11 +44,11 @@ abbrev pub Alike : List Word → List Word → Type 0
 Alike ws ws′ = peek ws .kind ≡ peek ws′ .kind
 
 pub kind-same : (w w′ : Word) → blank w ≡ blank w′ → w .kind ≡ w′ .kind
-unfolding blank
+unfolding moveWord
 kind-same w w′ e = ap (λ (x : Word). x .kind) e
 
 pub text-same : (w w′ : Word) → blank w ≡ blank w′ → w .text ≡ w′ .text
-unfolding blank
+unfolding moveWord
 text-same w w′ e = ap (λ (x : Word). x .text) e
 
 -- the next words are the same but for places, where there are some before the rest

@@ -15,6 +15,7 @@ use Rattle.parts.proofs.Blank.{entries-length, operations-length}
 use Rattle.parts.proofs.Moved.{inner, may, does, alone, Again, Carried, Carries, bind, bind-on, next, next-on, gives-a, refuses, only-may, dry, on-kind, by-word, one-word, passes, expects, a-name, one-name, name-or-string, kind-same, text-same}
 use Rattle.parts.proofs.MovedActions.{gives-moved}
 use Rattle.parts.specs.Blank.{blank, blankIf, blankEntry, blankEntries, blankOperation, blankOperations, blankOperator, blankOperators, blankSection, blankSections}
+use Rattle.parts.specs.Moved.{moveIf}
 use Rattle.syntax.proofs.Ahead.{kinds-read}
 use Rattle.syntax.specs.Reading.{Read, got, fault, Reader, onward, _>>=_, _>>_, pure, peek, pass, refuse, over, expect, aName, small, aNumber, optional}
 use Rattle.syntax.specs.Sections.{aSpelling, aCount, anEntry, entries, firstOf, kindAhead, isFull, aParameter, numbered, anOperation, someOperations, Sofar, nextOf, instructions, after, tokenSection, aSection, Sections, someSections, ofKind, spells, ranking, aLevel, aSide, anOperator, someOperators, operatorSection, mechanismSection, otherSection}
@@ -28,7 +29,7 @@ itself a = a
 -- Entries
 
 spellings : {b : ℕ} {ws : List Word} (strings : Bool) → Carries b may blankIf ws (aSpelling strings) (aSpelling strings)
-unfolding aSpelling blankIf inner
+unfolding aSpelling moveIf inner
 spellings false = gives-a refl
 spellings true = on-kind string (λ d. only-may (bind (passes 259 refl d) (λ ws₁ w w′ p. gives-a (λ i. some (p i))))) (gives-a refl)
 
@@ -97,11 +98,11 @@ some-entries (suc k) (suc j) left strings v ws = entries-step k j left strings v
 -- Operations
 
 parameters : {b : ℕ} {ws : List Word} → Carries b may blankIf ws aParameter aParameter
-unfolding aParameter blankIf inner
+unfolding aParameter moveIf inner
 parameters = on-kind (code "(") (λ d. only-may (next (passes 40 refl d) (λ ws₁. bind a-name (λ ws₂ t t′ p. next (expects 41 refl) (λ ws₃. gives-a (λ i. some (p i))))))) (gives-a refl)
 
 given-same : (t t′ : Option Word) → blankIf t ≡ blankIf t′ → given t ≡ given t′
-unfolding blankIf
+unfolding moveIf
 given-same none none e = refl
 given-same none (some w) e = let z : _≡_ {A = ℕ} 0 1 = cc in absurd (omega arith)
 given-same (some w) none e = let z : _≡_ {A = ℕ} 0 1 = cc in absurd (omega arith)

@@ -134,7 +134,7 @@ module _ (to : ℕ → ℕ) where
     other-few absent h = h
     other-few (otherwise b) h = acts-few b h
 
-abbrev FewRule : Rule → Type 0
+abbrev pub FewRule : Rule → Type 0
 FewRule m = FewAll (m .body)
 
 operators-few : (c : ℕ) (os : List Operator) → (countLabels (operatorAlts c os) ≡ length os) × FewSome (operatorAlts c os)
@@ -142,7 +142,7 @@ unfolding operatorAlts countLabels Few
 operators-few c [] = (refl, tt)
 operators-few c (o ∷ os) = let h = operators-few c os in (omega (arith, h .0), (omega arith, (tt, (tt, tt)), h .1))
 
-level-few : (l : Level) (own higher : ℕ) → length (l .operators) ≤ 64 → FewRule (levelRule l own higher)
+pub level-few : (l : Level) (own higher : ℕ) → length (l .operators) ≤ 64 → FewRule (levelRule l own higher)
 unfolding levelRule levelBody Few
 level-few l own higher h = go (l .right)
   where
@@ -155,7 +155,7 @@ unfolding closed renumberRule Each
 closed-few hs aims to [] h = tt
 closed-few hs aims to (r ∷ rs) h = (acts-few to (r .means .body) (h .0 .few), closed-few hs aims to rs (h .1))
 
-all-few : (hs : List Head) (n : Names) (ks : List KnownRule) (own : ℕ) (us : List Use) (os : List Object) → Each (Sound hs n) os → Each FewRule (closedIn n ks own us os)
+pub all-few : (hs : List Head) (n : Names) (ks : List KnownRule) (own : ℕ) (us : List Use) (os : List Object) → Each (Sound hs n) os → Each FewRule (closedIn n ks own us os)
 unfolding closedIn Each
 all-few hs n ks own us [] h = tt
 all-few hs n ks own us (o ∷ os) h =
@@ -236,7 +236,7 @@ unfolding callWords
 words-append [] us = refl
 words-append (o ∷ os) us = ap (λ (v : List Word). o .calls ++ v) (words-append os us) ∙ sym (append-assoc (o .calls) (callWords os) (callWords us))
 
-unlike-all : (hs : List Head) (all : List OpenRule) (i : ℕ) (os : List Object) → unlikeIn hs all i os ≡ none → Each (Agrees hs) (rulesOf os) × CallsIn all (callWords (rulesOf os))
+pub unlike-all : (hs : List Head) (all : List OpenRule) (i : ℕ) (os : List Object) → unlikeIn hs all i os ≡ none → Each (Agrees hs) (rulesOf os) × CallsIn all (callWords (rulesOf os))
 unfolding unlikeIn rulesOf callWords Each
 unlike-all hs all i [] e = (tt, tt)
 unlike-all hs all i (o ∷ os) e =
@@ -431,7 +431,7 @@ module _ (hs : List Head) (n : Names) (ok : NamesOk n) (os : List Object) (sound
 
 -- The answer
 
-some-rules : (hs : List Head) (n : Names) (os : List Object) → Each (Sound hs n) os → (eqb (length os) 0 || ltb 16 (length os)) ≡ false → NotEmpty (rulesOf os)
+pub some-rules : (hs : List Head) (n : Names) (os : List Object) → Each (Sound hs n) os → (eqb (length os) 0 || ltb 16 (length os)) ≡ false → NotEmpty (rulesOf os)
 unfolding rulesOf Each NotEmpty
 some-rules hs n [] h e = never (sym e)
 some-rules hs n (o ∷ os) h e = longer (o .rules) (rulesOf os) (h .0 .some-rule)
@@ -440,7 +440,7 @@ some-rules hs n (o ∷ os) h e = longer (o .rules) (rulesOf os) (h .0 .some-rule
     longer [] ss k = absurd k
     longer (r ∷ rs) ss k = tt
 
-program-is : (n : Names) (others : ℕ) (os : List Object) (made : List Rule) → madeFor n (knownOf 0 (rulesOf os)) others (length (rulesOf os)) (pairsIn os) ≡ good made
+pub program-is : (n : Names) (others : ℕ) (os : List Object) (made : List Rule) → madeFor n (knownOf 0 (rulesOf os)) others (length (rulesOf os)) (pairsIn os) ≡ good made
     → closedIn n (knownOf 0 (rulesOf os)) (length (rulesOf os)) (pairsIn os) os ++ made ≡ program n others os
 unfolding program orNone
 program-is n others os made e = rw e
@@ -466,4 +466,12 @@ any-objects commonText c rest read n common lastText os room words verdict told 
     let labels : Each FewRule (program n others os) = rw (program-is n others os (m .0) (m .1)) at (each-append FewRule _ (m .0) (all-few hs n (knownOf 0 all) (length all) (pairsIn os) os h)
     (made-each FewRule level-few n (knownOf 0 all) others (length all) (pairsIn os) (m .0) (m .1))) in
     let accepts = rw (program-is n others os (m .0) (m .1)) at a in
-    record { prog = program n others os; works = accepted-works (program n others os) words verdict accepts (w .words-are) (w .verdict-is); few = labels; words-are = w .words-are; verdict-is = w .verdict-is; figure-is = w .figure-is }
+    record {
+      works = accepted-works (program n others os) words verdict accepts (w .words-are) (w .verdict-is);
+      few = labels;
+      words-are = w .words-are;
+      verdict-is = w .verdict-is;
+      figure-is = w .figure-is;
+      fits = w .fits;
+      within-4096 = w .within-4096;
+    }

@@ -9,9 +9,10 @@ use lib.ListN.{length, take, drop}
 use Rattle.base.specs.Common.{if_then_else_, bytes}
 use Rattle.acceptance.proofs.Shape.{Each}
 use Rattle.figure.specs.Told.{Told, figureOf}
-use Rattle.names.specs.Known.{Names}
+use Rattle.names.specs.Known.{good, Names}
+use Rattle.parts.specs.Form.{Makes, LinksWords}
 use Rattle.parts.specs.Link.{linked, linkTexts}
-use Rattle.parts.specs.Objects.{others}
+use Rattle.parts.specs.Objects.{others, commonMeans}
 use Rattle.parts.specs.Promise.{joined, InOrder, ReadsAs}
 use Rattle.syntax.specs.Texts.{Common, readCommon, readPart}
 use Rattle.processor.specs.Process.{accepted, process}
@@ -62,7 +63,14 @@ VeryJoined =
     (common : List ℕ) (parts : List (List ℕ)) (room : ℕ) (words : List ℕ) (verdict : Bool) (told : Told) → linkTexts common parts room ≡ linked words verdict told → length (joinedText common parts) ≤ 32768
     → (process (joinedText common parts) room ≡ accepted words verdict) × (figureOf (joinedText common parts) room ≡ told)
 
--- "512 names": each part by itself, with the common part, names no more; so it is of itself where each name of the list is a rule of some part
+-- so of objects as words: each part made an object by itself, and these, one behind the other, linked
+abbrev pub MadeJoined : Type 0
+MadeJoined =
+    (common : List ℕ) (c : Common) (rest : List Word) → readCommon common ≡ got c rest → (n : Names) → commonMeans c [] ≡ good n → (parts : List (List ℕ)) (objects : List ℕ) → Makes common parts objects
+    → (room : ℕ) (words : List ℕ) (verdict : Bool) (told : Told) → LinksWords common c n objects room (linked words verdict told) → length (joinedText common parts) ≤ 32768
+    → (process (joinedText common parts) room ≡ accepted words verdict) × (figureOf (joinedText common parts) room ≡ told)
+
+-- "512 names": each part by itself, with the common part, names no more (docs/DECISIONS.md, A.13 L12)
 abbrev pub Named : Common → List (List Rule) → Type 0
 Named c rss = Each (λ rs. length (c .listed) + length (others (c .listed) rs) ≤ c .left) rss
 

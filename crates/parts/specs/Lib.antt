@@ -1,5 +1,6 @@
 pub mod Objects
 pub mod Link
+pub mod Moved
 pub mod Blank
 pub mod Promise
 pub mod Sound

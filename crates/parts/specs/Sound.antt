@@ -21,10 +21,11 @@ use Rattle.program.specs.Past.{pastAll}
 use Rattle.program.specs.Program.{Plain, match, any, emit, error, exit, call, back, give, update, updateWith, Selector, byToken, byRule, byOperation, byOperationWith, Act, Acts, Alts, Other, Rule}
 use Rattle.program.specs.Table.{countLabels, table}
 use Rattle.syntax.specs.Reading.{got}
+use Rattle.syntax.specs.Sections.{namesInAll}
 use Rattle.syntax.specs.Texts.{Head, Common, readCommon, readPart}
 use Rattle.syntax.specs.Written as written
 use Rattle.words.specs.Words.{Word}
-use Rattle.parts.specs.Link.{linked, listedType, link}
+use Rattle.parts.specs.Link.{linked, listedType, program, link}
 use Rattle.parts.specs.Objects.{Aim, named, ranked, headAims, useAims, callAims, OpenRule, Object, object, commonMeans, meaning}
 use Rattle.parts.specs.Promise.{Works}
 
@@ -161,19 +162,20 @@ TranslatedSound =
     → (text : List ℕ) (rs : List written.Rule) (rest₁ : List Word) → readPart (c .left) text ≡ got rs rest₁ → (o : Object) → meaning c rs ≡ object o → Sound (c .listed) n o
 
 -- whatever is linked of such objects is an accepted program's, and works as one
-pub record LinkedTable (room : ℕ) (words : List ℕ) (verdict : Bool) (told : Told) : Type 0 where
-  pub prog : List Rule
+pub record LinkedTable (prog : List Rule) (room : ℕ) (words : List ℕ) (verdict : Bool) (told : Told) : Type 0 where
   pub works : Works prog words verdict
   pub few : Each (λ m. FewAll (m .body)) prog
   pub words-are : words ≡ table prog
   pub verdict-is : verdict ≡ finishing prog
   pub figure-is : told ≡ toldIf (accepted words verdict) prog
+  pub fits : length words ≤ room
+  pub within-4096 : length words ≤ 4096
 
 abbrev pub AnyObjects : Type 0
 AnyObjects =
     (commonText : List ℕ) (c : Common) (rest : List Word) → readCommon commonText ≡ got c rest → (n : Names) → commonMeans c [] ≡ good n
     → (size : List ℕ) (os : List Object) (room : ℕ) (words : List ℕ) (verdict : Bool) (told : Told) → Each (Sound (c .listed) n) os
-    → link commonText c n size os room ≡ linked words verdict told → LinkedTable room words verdict told
+    → link commonText c n size os room ≡ linked words verdict told → LinkedTable (program n (namesInAll (c .sections)) os) room words verdict told
 
 -- all of this file computes where this is unfolded
 unfoldable pub opened : Unit {0}
