@@ -310,7 +310,7 @@ in-order-sound hs n v vs e =
 
 -- Words
 
-all-views : (common : List ℕ) (ns : List ℕ) (os : List Object) → allWords common ns os ≡ all (viewWords common) (viewsOf ns os)
+pub all-views : (common : List ℕ) (ns : List ℕ) (os : List Object) → allWords common ns os ≡ all (viewWords common) (viewsOf ns os)
 unfolding allWords all viewsOf
 all-views common [] os = refl
 all-views common (n ∷ ns) [] = refl
@@ -320,7 +320,7 @@ all-views common (n ∷ ns) (o ∷ os) = rw (object-words common n o, all-views 
 words-views : (common : List ℕ) (words : List ℕ) (vs : List View) → words ≡ all (viewWords common) vs → views common (length words) words ≡ some vs
 words-views common words vs e = rw e (are-views common (length (all (viewWords common) vs)) vs (omega arith))
 
-views-in-order : (hs : List Head) (n : Names) (ns : List ℕ) (os : List Object) → Each (Sound hs n) os → every (viewInOrder hs n) (viewsOf ns os) ≡ true
+pub views-in-order : (hs : List Head) (n : Names) (ns : List ℕ) (os : List Object) → Each (Sound hs n) os → every (viewInOrder hs n) (viewsOf ns os) ≡ true
 unfolding every viewsOf Each
 views-in-order hs n [] os h = refl
 views-in-order hs n (m ∷ ns) [] h = refl

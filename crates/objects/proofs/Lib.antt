@@ -12,3 +12,12 @@ pub mod Looked
 pub mod Facts
 pub mod Among
 pub mod Called
+pub mod Sections
+pub mod Told
+pub mod Walked
+pub mod Bodies
+pub mod Every
+pub mod PairAt
+pub mod ViewAt
+pub mod Checking
+pub mod Tested

@@ -3,3 +3,4 @@ pub mod View
 pub mod Order
 pub mod Whole
 pub mod Places
+pub mod Cells

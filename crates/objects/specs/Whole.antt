@@ -3,16 +3,19 @@ use mathlib.Core.Bool.{Bool, true, false, _&&_, not}
 use mathlib.Core.List.{List, [], _∷_, _++_}
 use mathlib.Core.Option.{Option, none, some}
 use mathlib.Core.Path.{_≡_}
-use Prim.Native.Nat.{ℕ}
+use Prim.Native.Nat.{ℕ, zero, suc, _%_}
+use lib.Dec.{eqb}
 use lib.ListN.{length}
-use Rattle.base.specs.Common.{given}
+use Rattle.base.specs.Common.{if_then_else_, given}
+use Rattle.machine.specs.Bytes.{wordsOf}
 use Rattle.names.specs.Known.{Names, findOperators}
 use Rattle.names.specs.Understand.{isOne}
 use Rattle.parts.specs.Form.{AreObjects}
 use Rattle.syntax.specs.Texts.{Head, Common}
 use Rattle.program.specs.Accepted.{Values}
 use Rattle.objects.specs.Order.{isListed, ruleInOrder}
-use Rattle.objects.specs.View.{Name, Pair, RuleView, View, viewsOf, views}
+use Rattle.objects.specs.Take.{Taken, took, missing}
+use Rattle.objects.specs.View.{Name, Pair, RuleView, View, viewsOf, aView, views}
 
 -- the names that the rules call, in text order
 unfoldable pub callsOf : List RuleView → List Name
@@ -48,6 +51,19 @@ module _ (hs : List Head) (n : Names) where
   unfoldable pub areObjects : List ℕ → List ℕ → Bool
   areObjects common words = allInOrder (views common (length words) words)
 
+  -- how many objects stand in order before the first that does not; k is at least the number of the words
+  unfoldable pub goodAfter : Taken View → (List ℕ → ℕ) → ℕ
+  goodAfter (took v rest) more = if viewInOrder v then suc (more rest) else 0
+  goodAfter missing more = 0
+
+  unfoldable pub goodViews : List ℕ → ℕ → List ℕ → ℕ
+  goodViews common zero words = 0
+  goodViews common (suc k) words = goodAfter (aView common words) (λ rest. goodViews common k rest)
+
+-- words of two bytes each, and no byte more
+unfoldable pub evenly : List ℕ → Bool
+evenly bytes = eqb (length bytes % 2) 0
+
 -- The test is exact: words that are objects pass, words below 65,536 that pass are objects, and two readings of the same words have the same views
 
 abbrev pub ObjectsPass : Type 0
@@ -61,7 +77,13 @@ SameViews =
     (common : List ℕ) (c : Common) (n : Names) (words : List ℕ) (x y : AreObjects common c n words)
     → viewsOf (x .lengths) (x .objects) ≡ viewsOf (y .lengths) (y .objects)
 
+-- what the answer of a test of bytes decides: they are words, and the words are objects; or they are not
+pub record Decides (common : List ℕ) (c : Common) (n : Names) (bytes : List ℕ) (ok : Bool) : Type 0 where
+  pub objects : ok ≡ true → AreObjects common c n (wordsOf bytes)
+  pub words : ok ≡ true → length bytes % 2 ≡ 0
+  pub no-objects : ok ≡ false → length bytes % 2 ≡ 0 → AreObjects common c n (wordsOf bytes) → ⊥
+
 -- all of this file computes where this is unfolded
 unfoldable pub opened : Unit {0}
-unfolding callsOf textsOf every isSome pairInOrder viewInOrder allInOrder areObjects
+unfolding callsOf textsOf every isSome pairInOrder viewInOrder allInOrder areObjects goodAfter goodViews evenly
 opened = tt
