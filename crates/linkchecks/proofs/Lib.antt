@@ -1,0 +1,5 @@
+pub mod Walking
+pub mod Rows
+pub mod Finding
+pub mod Placing
+pub mod Facts
