@@ -17,27 +17,27 @@ use Rattle.linker.specs.Close.{isCall, behind, aimed, operand, placesAft
 
 -- What first cells tell
 
-no-call : (x : ℕ) → 64 ≤ x → isCall x ≡ false
+pub no-call : (x : ℕ) → 64 ≤ x → isCall x ≡ false
 unfolding isCall
 no-call x l = simp (ne-eqb x 8 (λ h. omega arith), ne-eqb x 11 (λ h. omega arith))
 
-behind-labels : (j : ℕ) → j < 192 → behind (64 + j) ≡ j
+pub behind-labels : (j : ℕ) → j < 192 → behind (64 + j) ≡ j
 unfolding behind
 behind-labels j l = simp (le-ltb (64 + j) 15 (omega arith), le-ltb (64 + j) 64 (omega arith), lt-ltb (64 + j) 256 (omega arith)) (omega arith)
 
-behind-update : (x : ℕ) → 256 ≤ x → x < 512 → behind x ≡ 0
+pub behind-update : (x : ℕ) → 256 ≤ x → x < 512 → behind x ≡ 0
 unfolding behind
 behind-update x l h = simp (le-ltb x 15 (omega arith), le-ltb x 64 (omega arith), le-ltb x 256 l, lt-ltb x 512 h)
 
-behind-updateWith : (x : ℕ) → 512 ≤ x → x < 768 → behind x ≡ 1
+pub behind-updateWith : (x : ℕ) → 512 ≤ x → x < 768 → behind x ≡ 1
 unfolding behind
 behind-updateWith x l h = simp (le-ltb x 15 (omega arith), le-ltb x 64 (omega arith), le-ltb x 256 (omega arith), le-ltb x 512 l, lt-ltb x 768 h)
 
-behind-ask : (x : ℕ) → 768 ≤ x → x < 1024 → behind x ≡ 0
+pub behind-ask : (x : ℕ) → 768 ≤ x → x < 1024 → behind x ≡ 0
 unfolding behind
 behind-ask x l h = simp (le-ltb x 15 (omega arith), le-ltb x 64 (omega arith), le-ltb x 256 (omega arith), le-ltb x 512 (omega arith), le-ltb x 768 l, lt-ltb x 1024 h)
 
-behind-askWith : (x : ℕ) → 1024 ≤ x → behind x ≡ 1
+pub behind-askWith : (x : ℕ) → 1024 ≤ x → behind x ≡ 1
 unfolding behind
 behind-askWith x l = simp (le-ltb x 15 (omega arith), le-ltb x 64 (omega arith), le-ltb x 256 (omega arith), le-ltb x 512 (omega arith), le-ltb x 768 (omega arith), le-ltb x 1024 l)
 

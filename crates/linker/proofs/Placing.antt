@@ -5,10 +5,11 @@ use mathlib.Core.Option.{some}
 use mathlib.Core.Path.{_≡_, refl, sym, ap, _∙_}
 use native.Mathlib.Numerals.{add-one}
 use native.Mathlib.Omega.{arith}
-use Prim.Native.Nat.{ℕ, zero, suc, _+_, _-_, _<_, _≤_}
+use Prim.Native.Nat.{ℕ, zero, suc, _+_, _-_, _<_, _≤_, min}
+use native.Mathlib.Decide.{decLt}
 use borrow.Author.Tests.{eq-eqb, ne-eqb, lt-ltb, ltb-true}
 use lib.Dec.{ltb}
-use lib.ListN.{length, getD, take, drop}
+use lib.ListN.{length, getD, take, drop, List·getD-eq-default}
 use lib.Seq.{drop-cons}
 use Rattle.base.proofs.Laws.{same-eq, is-false}
 use Rattle.base.specs.Bools as bools
@@ -80,9 +81,20 @@ pub like-names : (ws : List ℕ) (p q : ℕ) {m r : ℕ} {t : Bool} → m ≡ r 
 unfolding textAt
 like-names ws p q x e d h = let y = x ∙ e in rw (← y, ← d) h
 
--- a comparison of names, at places that are known by other numbers
-pub compared : (ws : List ℕ) {p q p′ q′ : ℕ} {t v : Bool} → t ≡ same (textAt ws p) (textAt ws q) → p ≡ p′ → q ≡ q′ → t ≡ v → same (textAt ws p′) (textAt ws q′) ≡ v
-compared ws h e d k = rw (← e, ← d) (sym h ∙ k)
+-- a comparison of names, one of them being known by another place
+pub compared : (ws : List ℕ) (p q q′ : ℕ) {t v : Bool} → t ≡ same (textAt ws p) (textAt ws q) → textAt ws q ≡ textAt ws q′ → t ≡ v → same (textAt ws p) (textAt ws q′) ≡ v
+compared ws p q q′ h d k = rw (← d) (sym h ∙ k)
+
+-- past the end every name is empty
+no-text : (ws : List ℕ) (p : ℕ) → length ws ≤ p → textAt ws p ≡ []
+unfolding textAt letters
+no-text ws p l = rw (List·getD-eq-default ws 0 {n = p + 1} (omega arith)) refl
+
+pub text-within : (ws : List ℕ) (p n : ℕ) → n ≡ length ws → textAt ws (min p n) ≡ textAt ws p
+text-within ws p n e = elim (decLt p n) [
+  | yes l ↦ let z : min p n ≡ p = omega arith in ap (textAt ws) z
+  | no l ↦ no-text ws (min p n) (omega (arith, e)) ∙ sym (no-text ws p (omega (arith, e)))
+]
 
 -- Places
 

@@ -3,11 +3,10 @@
 use mathlib.Core.Bool.{Bool, cond, _||_}
 use mathlib.Core.List.{List, [], _∷_}
 use mathlib.Core.Path.{_≡_}
-use Prim.Native.Nat.{ℕ, zero, suc, _+_, _-_, _≤_}
+use Prim.Native.Nat.{ℕ, zero, suc, _-_}
 use lib.Dec.{eqb, ltb}
 use lib.ListN.{getD, drop}
 use Rattle.base.specs.Common.{if_then_else_}
-use Rattle.linker.specs.declared.Spot.{Spot}
 
 -- a call, or a choice by a rule: its operand is a mark
 unfoldable pub isCall : ℕ → Bool
@@ -47,16 +46,6 @@ module _ (lowest : ℕ → ℕ) where
 
   unfoldable pub closeCells : List ℕ → List ℕ → List ℕ
   closeCells places cells = closeFrom 0 0 places cells
-
-  -- Where a pass stands: what it closes, and what it makes of the next cell
-
-  -- the words left to close are those of the places behind the first `used`
-  abbrev pub closeAt : List ℕ → Spot → List ℕ → List ℕ
-  closeAt places s cells = closeFrom (s .first) (s .left) (drop (s .used) places) cells
-
-  pub record Turned (places : List ℕ) (s : Spot) (x : ℕ) (r : Spot) : Type 0 where
-    pub closes : (cells : List ℕ) → closeAt places s (x ∷ cells) ≡ r .cell ∷ closeAt places r cells
-    pub used : r .used ≤ s .used + 1
 
   -- What a place has to be for the mark of a call to become the number that the call is to have
 

@@ -21,14 +21,14 @@ abbrev μ-loop : tie.MeasureT-loop
 loop-holds : tie.Need-loop-holds Inv-loop μ-loop
 loop-holds c = (omega arith, omega arith)
 
-mul-wide-32 : tie.Need-mul-wide-32 Inv-loop μ-loop
-mul-wide-32 c = search needs
+mul-within : tie.Need-mul-within Inv-loop μ-loop
+mul-within c = search needs
 
-shared-slice-read-wide-32 : tie.Need-shared-slice-read-wide-32 Inv-loop μ-loop
-shared-slice-read-wide-32 c = search needs
+shared-slice-read-within : tie.Need-shared-slice-read-within Inv-loop μ-loop
+shared-slice-read-within c = search needs
 
-wide-32-requires : tie.Need-wide-32-requires Inv-loop μ-loop
-wide-32-requires c κs = search needs
+within-requires : tie.Need-within-requires Inv-loop μ-loop
+within-requires c κs = search needs
 
 same-name-requires : tie.Need-same-name-requires Inv-loop μ-loop
 same-name-requires c κs = search needs
@@ -37,7 +37,7 @@ returns : tie.Need-returns Inv-loop μ-loop
 returns c =
     let a = c .before .before .before .before .before .before .before .before .args in
     let o = c .before .before .before .before .before .loop in
-    let t = compared (wordsOf (a .words .now)) (c .before .same-name .ensures) refl (c .before .before .wide-32 .ensures .0) (c .if1 .taken) in
+    let t = compared (wordsOf (a .words .now)) _ _ _ (c .before .same-name .ensures) (c .before .before .within .ensures .0) (c .if1 .taken) in
     sym (o .inv .1 ∙ place-here (wordsOf (a .words .now)) (textAt (wordsOf (a .words .now)) (a .p)) (a .names .now) (o .i) (c .before .before .before .before .loop-test .taken) t)
 
 add-i : tie.Need-add-i Inv-loop μ-loop
@@ -50,7 +50,7 @@ loop-again : tie.Need-loop-again Inv-loop μ-loop
 loop-again c =
     let a = c .before .before .before .before .before .before .before .before .args in
     let o = c .before .before .before .before .before .loop in
-    let t = compared (wordsOf (a .words .now)) (c .before .same-name .ensures) refl (c .before .before .wide-32 .ensures .0) (c .if1 .left) in
+    let t = compared (wordsOf (a .words .now)) _ _ _ (c .before .same-name .ensures) (c .before .before .within .ensures .0) (c .if1 .left) in
     (omega arith, o .inv .1 ∙ place-later (wordsOf (a .words .now)) (textAt (wordsOf (a .words .now)) (a .p)) (a .names .now) (o .i) (c .before .before .before .before .loop-test .taken) t)
 
 returns-2 : tie.Need-returns-2 Inv-loop μ-loop
@@ -67,9 +67,9 @@ place-of-spec =
     Inv-loop
     μ-loop
     loop-holds
-    mul-wide-32
-    shared-slice-read-wide-32
-    wide-32-requires
+    mul-within
+    shared-slice-read-within
+    within-requires
     same-name-requires
     returns
     add-i
