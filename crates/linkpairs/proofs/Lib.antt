@@ -1,0 +1,9 @@
+pub mod Gathering
+pub mod Standing
+pub mod Sections
+pub mod Looking
+pub mod Collecting
+pub mod Objects
+pub mod Making
+pub mod Whole
+pub mod Facts
