@@ -1,0 +1,11 @@
+pub mod Copied
+pub mod Listing
+pub mod Swaps
+pub mod Commons
+pub mod Mentioned
+pub mod Named
+pub mod Together
+pub mod Settled
+pub mod HeadLaws
+pub mod Sides
+pub mod Facts

@@ -1,0 +1,5 @@
+pub mod Buffer
+pub mod Declaring
+pub mod Mentioning
+pub mod Settling
+pub mod Heads
