@@ -1,0 +1,13 @@
+pub mod Writing
+pub mod Reading
+pub mod Sound
+pub mod Standing
+pub mod Naming
+pub mod Rows
+pub mod Contexts
+pub mod Own
+pub mod Able
+pub mod Objects
+pub mod Translating
+pub mod Whole
+pub mod Counted

@@ -1,0 +1,4 @@
+pub mod Steps
+pub mod Uses
+pub mod Answers
+pub mod Objects
