@@ -1,0 +1,5 @@
+pub mod Checking
+pub mod Common
+pub mod Answers
+pub mod Rules
+pub mod Single
