@@ -9,3 +9,4 @@ pub mod Behind
 pub mod Admitted
 pub mod Screens
 pub mod Tables
+pub mod Linking

@@ -7,3 +7,4 @@ pub mod AtAdmission
 pub mod AtScreen
 pub mod AtFigure
 pub mod AtTable
+pub mod AtLinking
