@@ -1,5 +1,5 @@
-/* S/SL tables at the release desk: figures over a shelf of books, and where the rules of a program stand in text and table. These entries are in
- * libsst-desk.a, apart from the device's library; words, buffers and the numbers of walk calls and texts are those of sst.h.
+/* S/SL tables at the release desk: figures over a shelf of books, where the rules of a program stand in text and table, and parts of a program that are
+ * translated separately and linked. These entries are in libsst-desk.a, apart from the device's library; words, buffers and the numbers of walk calls and texts are those of sst.h.
  *
  * The number that sst_add_book answers, the first of these that holds; sst_shelf answers 21 or 0:
  *   21  bytes that are no figures: another length, or parts that do not fit together (docs/LAYOUT.md). Figures and event buffer are unchanged
@@ -57,6 +57,38 @@ uint16_t sst_rules_total(const uint8_t *figures, size_t figures_len, const uint8
 /* The most rules of a program, and the bytes of a rule's row. */
 #define SST_RULES 128
 #define SST_RULE_BYTES 24
+
+/* Parts translated separately. A program is split into a common part, its sections, then `rules`, a line `NAME >> type;` for each choice rule, `end`; and 1 to
+ * 16 further parts, each `rules`, one rule or more, `end`. Texts are numbered from 0, the common part; the parts are 1 to 16 in the order of their objects. */
+
+/* Translates a part by itself with its common part. Read: common and part, any bytes, 32,768 at most each. Lent: object, every whole word of which is written:
+ * the words of the part's object (docs/LAYOUT.md) and then zeros; zeros alone on a refusal. Answers 0, and `*words` is the number of the object's words; or
+ * a number of sst_process's list, its text in `*text` (0 the common part, 1 the part), the part of that text at fault in `*start` and `*len`, and `*words` is 0.
+ * 20 is for an object that does not fit, at the end of the part: lend more.
+ * It takes some 300 KB of the stack, sst_link some 95 KB (measured with 32 choices in each other): no device calls them. */
+uint16_t sst_part(const uint8_t *common, size_t common_len, const uint8_t *part, size_t part_len, uint8_t *object, size_t object_len,
+                  uint64_t *text, uint64_t *start, uint64_t *len, uint64_t *words);
+
+/* Links parts of one common part. Read: common; objects, those of the parts one behind the other in the order in which they are linked, any bytes. Lent: table,
+ * as with sst_process. Answers 0 with the table, verdict and figure of the program that has the common part's sections and all rules of the parts in order, as
+ * sst_process answers for that as one text, but that the byte limit counts for each part. Or the first of these that holds, its text in `*text` and the
+ * part of that text at fault in `*start` and `*len`; then every lent word is zero, and the other five are 0:
+ *        a number of sst_process's list for the common part, text 0
+ *   40   bytes that are no objects of this common part: `*text` is the number of the first that is none, `*start` and `*len` are 0
+ *    9   no object, or more than 16, at the end of the common part
+ *    5   the first rule of the first part has a type, at its name
+ *   49   a called rule that no part has, or a rule of another sort or type than the common part says, at that word
+ *   50   a rule name in two parts, at the name in the later one
+ *    9   a limit passed by the rules of all parts, at the first name past it; by the rules that operators stand for, at the `^`
+ *   20   the table passes the lent buffer or 4,096 words, at the end of the last part
+ * Whoever wrote the objects, a table that is answered with 0 is that of a program as sst_process accepts it: sst_load takes it, no walk answers 37, and with
+ * `*finishing` 1 every walk ends. */
+uint16_t sst_link(const uint8_t *common, size_t common_len, const uint8_t *objects, size_t objects_len, uint8_t *table, size_t table_len,
+                  uint64_t *text, uint64_t *start, uint64_t *len, uint64_t *words, uint64_t *finishing, uint64_t *figure,
+                  uint64_t *figure_number);
+
+/* The most parts. */
+#define SST_PARTS 16
 
 #ifdef __cplusplus
 }

@@ -1,2 +1,3 @@
 -- Facts by computation.
 pub mod Facts
+pub mod Joining

@@ -4,7 +4,11 @@ ghost use mathlib.Core.Path.{_≡_};
 ghost use Rattle.mapping.specs.Mapping as mapping;
 ghost use Rattle.figures.specs.Form as figuring;
 ghost use Rattle.figures.specs.Spans as spans;
+ghost use Rattle.machine.specs.Bytes.{count};
+ghost use Rattle.parts.specs.Form.{makeObject};
+ghost use Rattle.separate.specs.Answers as separate;
 ghost use Rattle.desk.specs.Leaves.{adds, reports};
+ghost use Rattle.desk.specs.Parted.{makes, flagOf, tells, Joins};
 
 // The map of a text's rules, on bytes and numbers alone.
 #[no_mangle]
@@ -77,4 +81,62 @@ pub extern "C" fn sst_rules_total(figures: &[u8], rows: &[u8], end: u64, total: 
     let r = counting::rules_total(figures, rows, end);
     *total = r.total;
     r.number
+}
+
+// Parts
+
+// "finishing" as a number.
+fn flag(b: bool) -> u64
+    ensures { λ r. ⌜ r ≡ flagOf b ⌝ }
+{
+    if b { 1 } else { 0 }
+}
+
+// A part translated by itself with its common part, on bytes and numbers alone.
+#[no_mangle]
+pub extern "C" fn sst_part(
+    common: &[u8],
+    part: &[u8],
+    object: &mut [u8],
+    text: &mut u64,
+    start: &mut u64,
+    len: &mut u64,
+    words: &mut u64,
+) -> u16
+    ensures { λ r. ⌜ makes r (now (text .exit)) (now (start .exit)) (now (len .exit)) (now (words .exit)) ≡ separate.answered (makeObject (now (common .entry)) (now (part .entry)) (count (now (object .entry)))) ⌝ }
+    ensures lent { λ _. ⌜ now (object .exit) ≡ separate.lentBytes (makeObject (now (common .entry)) (now (part .entry)) (count (now (object .entry)))) (now (object .entry)) ⌝ }
+{
+    let m = separate::make_object(common, part, object);
+    *text = m.text as u64;
+    *start = m.start as u64;
+    *len = m.len as u64;
+    *words = m.words as u64;
+    m.number
+}
+
+// Objects of one common part, linked.
+#[no_mangle]
+pub extern "C" fn sst_link(
+    common: &[u8],
+    objects: &[u8],
+    table: &mut [u8],
+    text: &mut u64,
+    start: &mut u64,
+    len: &mut u64,
+    words: &mut u64,
+    finishing: &mut u64,
+    figure: &mut u64,
+    check: &mut u64,
+) -> u16
+    ensures { λ r. ⌜ Joins (now (common .entry)) (now (objects .entry)) (now (table .entry)) (now (table .exit)) (tells r (now (text .exit)) (now (start .exit)) (now (len .exit)) (now (words .exit)) (now (finishing .exit)) (now (figure .exit)) (now (check .exit))) ⌝ }
+{
+    let a = linking::link(common, objects, table);
+    *text = a.text as u64;
+    *start = a.start as u64;
+    *len = a.len as u64;
+    *words = a.words as u64;
+    *finishing = flag(a.finishing);
+    *figure = a.figure;
+    *check = a.check as u64;
+    a.number
 }
