@@ -2,17 +2,20 @@
 # make table FILE=.. OUT=..   translate a program and write its table file
 # make load FILE=..        say what the loader says of a table file: number, words, the sender's verdict
 # make figures FILE=.. BOOKS=".."   figures over a shelf of books: executions by rule, and what was never executed
+# make link COMMON=.. PARTS=".."    translate parts of a program separately, link them and print the table; OUT=.. writes its table file
 # make build               prove libraries and lister: target/lib/libsst.a, target/lib/libsst-desk.a, target/bin/lister
 # make install PREFIX=..   put libraries, headers, pkg-config files, lister and its page below PREFIX (/usr/local); DESTDIR=.. for a package
 # make test                every check and test
 FILE ?= examples/scanner.ssl
 OUT ?= $(FILE:.ssl=.sst)
 BOOKS ?=
+COMMON ?= examples/pages/common.ssl
+PARTS ?= examples/pages/book.ssl examples/pages/line.ssl examples/pages/blank.ssl
 PREFIX ?= /usr/local
 DESTDIR ?=
 SOURCES = crates.txt $(shell find crates -name '*.rt' -o -name '*.antt')
 
-.PHONY: list table load figures build install test
+.PHONY: list table load figures link build install test
 .NOTPARALLEL:
 
 list:
@@ -29,7 +32,10 @@ load: target/bin/sst-file
 figures: target/bin/sst-figures
 	@target/bin/sst-figures "$(FILE)" $(BOOKS)
 
-target/bin/sst-file target/bin/sst-figures: target/bin/%: tools/%.c tools/input.h include/sst.h include/sst-desk.h target/lib/libsst.a
+link: target/bin/sst-link
+	@target/bin/sst-link $(if $(filter command%,$(origin OUT)),-o "$(OUT)") "$(COMMON)" $(PARTS)
+
+target/bin/sst-file target/bin/sst-figures target/bin/sst-link: target/bin/%: tools/%.c tools/input.h include/sst.h include/sst-desk.h target/lib/libsst.a
 	@mkdir -p target/bin
 	@$(CC) -std=c99 -Wall -Wextra -pedantic -O2 -Iinclude $< -Ltarget/lib -lsst-desk -lsst -o $@
 

@@ -32,7 +32,7 @@ static long read_bytes(const char *path, uint8_t *bytes, size_t room)
     return bad ? -1 : (long)count;
 }
 
-static enum status refused(uint16_t number, const char *path)
+static inline enum status refused(uint16_t number, const char *path)
 {
     printf("refused %u: `make list FILE=%s` shows where\n", (unsigned)number, path);
     return REFUSED;

@@ -194,7 +194,7 @@ pub trait Parts {
     fn link(&self, common: &[u8], objects: &[u8], table: &mut [u8]) -> Linked;
 }
 
-/// This crate's own objects have the part's bytes, a word each, as their last cells: the linker wants the text.
+/// This crate's own objects have the part's bytes, a word each, behind what an object has: the linker wants the text.
 impl Parts for Reference {
     fn name(&self) -> &'static str {
         "rust"
@@ -236,9 +236,10 @@ impl Parts for Reference {
     }
 }
 
-fn own_words(object: &Object, text: &[u8]) -> Vec<u16> {
-    let cells: Vec<u16> = text.iter().map(|byte| u16::from(*byte)).collect();
-    object.with_cells(&cells)
+/// The words of this crate's own object.
+pub fn own_words(object: &Object, text: &[u8]) -> Vec<u16> {
+    let text: Vec<u16> = text.iter().map(|byte| u16::from(*byte)).collect();
+    object.with(&text)
 }
 
 /// The texts of this crate's own objects, or 40 with the number of the first that is none: what is read must be written as these

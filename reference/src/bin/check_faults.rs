@@ -3,18 +3,22 @@
 //! check_faults FILE
 //!
 //! A section `## N: ..` has a bad text, the sentence "The word shown is `;`." or "The word shown is the third `;`." (a word that stands
-//! there more than once), the line `mended:` and a mended text; both texts are indented. 20 is no fault of a text and has none. Both
+//! there more than once), the line `mended:` and a mended text; both texts are indented. 20 is no fault of a text and has none. A section
+//! with a line `common:` has a common part, its parts in order, the sentence with "of part 2" at its end, and the mended parts. Both
 //! processors are asked; built without the library, this crate's alone.
 #![forbid(unsafe_code)]
 
 use std::process::ExitCode;
 
 use reference::ffi;
+use reference::parts::{Linked, Parts};
 use reference::side::{Processed, Processor, Reference};
 
 const LARGEST: usize = 2 * 4_096;
+/// Bytes enough for an object of these texts.
+const OBJECT: usize = 4_096;
 /// The numbers that have a section, in the document's order, and the one that has no texts.
-const NUMBERS: [u16; 11] = [1, 2, 3, 4, 5, 6, 7, 8, 9, 20, 45];
+const NUMBERS: [u16; 13] = [1, 2, 3, 4, 5, 6, 7, 8, 9, 20, 45, 49, 50];
 const WITHOUT_TEXTS: u16 = 20;
 const ORDINALS: [&str; 6] = ["the first ", "the second ", "the third ", "the fourth ", "the fifth ", "the sixth "];
 
@@ -56,7 +60,8 @@ fn places(text: &str, word: &str) -> Vec<usize> {
 fn shown(lines: &[&str], text: &str) -> Result<(usize, usize), String> {
     let sentence = lines.iter().find_map(|line| line.strip_prefix("The word shown is "));
     let (ordinal, quoted) = sentence.and_then(|rest| rest.split_once('`')).ok_or("no sentence `The word shown is ..`")?;
-    let word = quoted.strip_suffix("`.").ok_or("the sentence does not end in its word")?;
+    let word =
+        quoted.strip_suffix('.').and_then(|rest| rest.split('`').next()).ok_or("the sentence does not end in a full stop")?;
     let places = places(text, word);
     let which = match (ordinal, places.len()) {
         ("", 1) => 0,
@@ -96,6 +101,43 @@ fn check(sides: &[&dyn Processor], number: u16, lines: &[&str]) -> Result<(), St
     Ok(())
 }
 
+/// What linking parts of a common part answers.
+fn link(side: &dyn Parts, common: &str, parts: &[String]) -> Linked {
+    let mut objects = Vec::new();
+    for part in parts {
+        let mut object = vec![0; OBJECT];
+        let made = side.part(common.as_bytes(), part.as_bytes(), &mut object);
+        if made.number != 0 {
+            return Linked { number: made.number, text: made.text, start: made.start, len: made.len, ..Linked::default() };
+        }
+        objects.extend(&object[..2 * made.words as usize]);
+    }
+    side.link(common.as_bytes(), &objects, &mut vec![0; LARGEST])
+}
+
+/// What is wrong with a section of parts, if anything.
+fn check_parts(sides: &[&dyn Parts], number: u16, lines: &[&str]) -> Result<(), String> {
+    let mended = lines.iter().position(|line| *line == "mended:").ok_or("no line `mended:`")?;
+    let (bad, good) = (blocks(&lines[..mended]), blocks(&lines[mended..]));
+    let [common, parts @ ..] = &bad[..] else { return Err("no common part".to_string()) };
+    let sentence = lines.iter().find(|line| line.starts_with("The word shown is ")).ok_or("no sentence")?;
+    let text = sentence.strip_suffix('.').and_then(|rest| rest.rsplit(' ').next()).and_then(|text| text.parse::<usize>().ok());
+    let text = text.filter(|text| (1..=parts.len()).contains(text)).ok_or("no `of part ..`")?;
+    let (start, len) = shown(lines, &parts[text - 1])?;
+    let wanted = Linked { number, text: text as u64, start: start as u64, len: len as u64, ..Linked::default() };
+    for side in sides {
+        let done = link(*side, common, parts);
+        if done != wanted {
+            return Err(format!("{}: {done:?}, not {wanted:?}", side.name()));
+        }
+        let done = link(*side, common, &good);
+        if done.number != 0 {
+            return Err(format!("{} refuses the mended parts: {done:?}", side.name()));
+        }
+    }
+    Ok(())
+}
+
 fn main() -> ExitCode {
     let file = std::env::args().nth(1).unwrap_or_default();
     let document = match std::fs::read_to_string(&file) {
@@ -109,13 +151,19 @@ fn main() -> ExitCode {
     if let Some(library) = ffi::processor() {
         sides.push(library);
     }
+    let mut linkers: Vec<&dyn Parts> = vec![&Reference];
+    if let Some(library) = ffi::parts() {
+        linkers.push(library);
+    }
     let sections = sections(&document).unwrap_or_else(|message| {
         println!("{message}");
         Vec::new()
     });
     let mut good = !sections.is_empty();
     for (number, lines) in &sections {
-        if let Err(message) = check(&sides, *number, lines) {
+        let checked =
+            if lines.contains(&"common:") { check_parts(&linkers, *number, lines) } else { check(&sides, *number, lines) };
+        if let Err(message) = checked {
             println!("{number}: {message}");
             good = false;
         }

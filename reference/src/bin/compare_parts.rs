@@ -90,7 +90,8 @@ impl Harness {
             (Err(fault), _) => done == Translated::refused(*fault),
             (Ok(_), _) if done.number == SHORT => done == Translated::refused(too_short(1, text)),
             (Ok(own), Some(bytes)) => {
-                done == Translated { words: done.words, ..Translated::default() } && own.fits(&words(bytes))
+                let wanted = if ffi::parts().is_some() { own.words() } else { parts::own_words(own, text) };
+                done == Translated { words: done.words, ..Translated::default() } && words(bytes) == wanted
             }
         };
         self.tally.expect(right && read.iter().all(Lent::kept), || {
@@ -585,34 +586,6 @@ fn object_of(h: &Harness, common: &[u8], text: &[u8]) -> Vec<u8> {
     object
 }
 
-/// The rules of an object are those of the objects of each rule alone, the others being blank.
-fn rule_by_rule(h: &mut Harness, rng: &mut Rng) {
-    let mut seed = Seed::new(rng.draw());
-    let size = 6 + seed.below(60);
-    let text = texts::good(&mut seed, size).join(&b' ');
-    let split = SplitWords::of(&mut seed, &text, 2).joined(&mut seed);
-    let (common, text) = (&split.common, &split.parts[0]);
-    let Ok(part) = translate(common, text) else { return };
-    let Some(whole) = h.part(rng, common, text) else { return };
-    let mut joined = whole[..2 * before_rules(common, text)].to_vec();
-    for alone in &part.rules {
-        let mut blank = text.clone();
-        part.rules.iter().filter(|rule| *rule != alone).for_each(|rule| blank[rule.text.clone()].fill(b' '));
-        let Some(object) = h.part(rng, common, &blank) else { return };
-        joined.extend(&object[2 * before_rules(common, &blank)..]);
-    }
-    // This crate's own objects hold the text.
-    if h.other.name() != Parts::name(&Reference) {
-        h.tally.expect(joined == whole, || format!("  the rules alone make another object\n{}", shown(common, &[text])));
-    }
-    h.tally.met("rule by rule");
-}
-
-/// The words of a part's object before its first rule.
-fn before_rules(common: &[u8], text: &[u8]) -> usize {
-    parts::part(common, text).map_or(0, |object| object.before_rules())
-}
-
 impl Compares for Harness {
     type Source = Rng;
 
@@ -629,7 +602,6 @@ impl Compares for Harness {
         ("lent sizes", lent_sizes, 2),
         ("each word of objects changed", each_word, 1),
         ("no objects", no_objects, 2),
-        ("objects rule by rule", rule_by_rule, 2),
     ];
 
     fn tally(&mut self) -> &mut Tally {
@@ -651,7 +623,7 @@ impl Compares for Harness {
         self.tally.demand(least, [1, 2, 3, 4, 15, 16, 17].map(|parts| format!("{parts} parts")));
         self.tally.demand(least, ["finishing 0", "finishing 1", "figure number 0"]);
         self.tally.demand(least, [format!("figure number {TOO_LONG}")]);
-        self.tally.demand(least, ["whole as one text", "whole too long for one text", "rule by rule"]);
+        self.tally.demand(least, ["whole as one text", "whole too long for one text"]);
         self.tally.demand_numbers(least, "limits: link", &[0, 9, 20]);
         self.tally.demand(least, [MAX_TEXT - 1, MAX_TEXT, MAX_TEXT + 1].map(|bytes| format!("bytes {bytes}")));
         self.tally.demand(least, ["a word changed: 40"]);

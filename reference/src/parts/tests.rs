@@ -205,43 +205,48 @@ fn words_of_an_object() {
     let object = part(common, text).expect("a good part");
     let packed: Vec<u16> = common.chunks(2).map(|two| u16::from(two[0]) << 8 | u16::from(*two.get(1).unwrap_or(&0))).collect();
     assert_eq!((common.len(), packed.len(), packed[14]), (29, 15, 0x2000));
-    let rules = [6, 1, 77, 0, 10, 1, 78, 14, 1, 82, 24, 1, 82, 1, 29, 1, 116];
-    let behind = [vec![29, 41, 2, 0], packed.clone(), rules.to_vec()].concat();
-    let words = [vec![20_559, 0, behind.len() as u16], behind].concat();
-    assert_eq!(object.with_cells(&[]), words);
-    assert!(object.fits(&words));
-    // Other words between what is known, but not before the first rule, and none left out or changed.
-    let with = |at: usize, cells: &[u16]| {
-        let mut more = [&words[..at], cells, &words[at..]].concat();
-        more[2] += cells.len() as u16;
-        more
-    };
-    let first_rule = 7 + packed.len();
-    for at in [first_rule + 4, first_rule + 7, first_rule + 10, words.len()] {
-        assert!(object.fits(&with(at, &[3, 0])), "{at}");
-    }
-    for at in [4, 7, first_rule, first_rule + 1, first_rule + 5] {
-        assert!(!object.fits(&with(at, &[3, 0])), "{at}");
-    }
-    for at in 0..words.len() {
-        let mut other = words.clone();
-        other[at] ^= 1;
-        assert!(!object.fits(&other), "{at}");
-    }
+    // M: `@N`, `[@R | y: ]` with no otherwise; R: `>> y`.
+    let rules: [Vec<u16>; 2] = [
+        vec![6, 1, 77, 0, 2, 10, 1, 78, 14, 1, 82, 9, 8, 0, 11, 0, 65, 0, 0, 12, 0],
+        vec![24, 1, 82, 1, 29, 1, 116, 0, 3, 10, 0, 0],
+    ];
+    let behind = [vec![29, 41, 2, 0], packed.clone(), rules.concat()].concat();
+    assert_eq!(object.words(), [vec![20_559, 0, behind.len() as u16], behind].concat());
     let pairs = b"input: p; output: o; operators E: p 1 left o; rules end";
     let object = part(pairs, b"rules M: ^E @M ^E @NN ^ E @M; end").expect("a good part");
-    let words = object.with_cells(&[]);
+    let words = object.words();
     let head = 7 + pairs.len().div_ceil(2);
     assert_eq!(words[..7], [20_559, 0, words.len() as u16 - 3, pairs.len() as u16, 33, 1, 2]);
     let wanted = [
         vec![9, 1, 10, 1, 69, 13, 1, 77],
         vec![15, 1, 16, 1, 69, 19, 2, 78, 78],
-        vec![6, 1, 77, 0],
+        vec![6, 1, 77, 0, 3],
         vec![13, 1, 77],
         vec![19, 2, 78, 78],
         vec![27, 1, 77],
+        vec![7, 8, 1, 8, 2, 8, 1, 0],
     ];
     assert_eq!(words[head..], wanted.concat());
+}
+
+#[test]
+fn cells_of_an_object() {
+    let common = b"input: a b; output: o; error: e; type t: x y; mechanism m: u v(t) c >> t d(t) >> t; rules R >> t; end";
+    let text = b"rules M: { a ? .o #e > } u v(y) [ | a, b: | b: ]; end";
+    let bad = part(common, text);
+    assert_eq!(bad.map(|_| ()).map_err(|fault| fault.number), Err(6));
+    let text = b"rules M: { a ? .o #e > } u v(y) [ | a, b: >> | *: ] [ c | x: ] [ d(y) | x: | *: ] [ | a: ]; end";
+    let words = part(common, text).expect("a good part").words();
+    let cells: Vec<u16> = [
+        vec![2, 3, 0, 4, 5, 0, 6, 0, 1, 0],
+        vec![256, 512, 1],
+        vec![7, 66, 0, 1, 9, 0, 13, 0],
+        vec![768, 65, 0, 0, 12],
+        vec![1_024, 1, 65, 0, 0, 13, 0],
+        vec![7, 65, 0, 0, 14, 0],
+    ]
+    .concat();
+    assert_eq!(words[words.len() - cells.len() - 1..], [vec![cells.len() as u16], cells].concat());
 }
 
 #[test]

@@ -2,10 +2,12 @@
 //! its calls go by the common part's list.
 
 use super::{
-    At, MAX_NAMES, MAX_TEXT, Names, Node, Parser, Read, Selector, Sort, Tree, Word, first_early, first_late, values, words,
+    Act, At, By, Choice, MAX_NAMES, MAX_TEXT, Names, Node, Parser, Program, Read, Selector, Sort, Tree, Word, first_early,
+    first_late, values, words,
 };
 use std::collections::{HashMap, HashSet};
 use std::ops::Range;
+use std::{iter, slice};
 
 /// The number of a common part among the texts; the parts count from 1.
 pub const COMMON: usize = 0;
@@ -35,14 +37,22 @@ pub struct Name {
 pub enum Called {
     Call(Name),
     Selector(Name),
-    /// As operand of a section of operators.
-    Operand(Name),
+    /// As operand of a section of operators, with the place of their pair among the part's.
+    Operand(Name, usize),
 }
 
 impl Called {
     pub fn rule(&self) -> &Name {
         match self {
-            Called::Call(name) | Called::Selector(name) | Called::Operand(name) => name,
+            Called::Call(name) | Called::Selector(name) | Called::Operand(name, _) => name,
+        }
+    }
+
+    /// What stands for it among the cells of an object: 0 for a rule by its name, and from 1 on the pairs.
+    fn mark(&self) -> u16 {
+        match self {
+            Called::Operand(_, pair) => 1 + *pair as u16,
+            Called::Call(_) | Called::Selector(_) => 0,
         }
     }
 }
@@ -61,6 +71,8 @@ pub struct PartRule {
     pub name: Name,
     pub of: Option<Name>,
     pub called: Vec<Called>,
+    /// Its actions as an object has them (docs/LAYOUT.md).
+    pub cells: Vec<u16>,
     /// From behind the rule before it to behind its semicolon.
     pub text: Range<usize>,
 }
@@ -82,7 +94,7 @@ pub struct Common {
 /// A common part by itself.
 pub fn common(text: &[u8]) -> Result<Common, Fault> {
     let texts = Texts::new(&[text])?;
-    let tree = texts.tree()?;
+    let (tree, _) = texts.tree()?;
     let list = tree.list.iter().map(|(name, of)| (texts.name(*name).spelling, texts.name(*of).spelling)).collect();
     Ok(Common { sections: texts.words[texts.rules()].start, list })
 }
@@ -90,8 +102,8 @@ pub fn common(text: &[u8]) -> Result<Common, Fault> {
 /// A part with its common part.
 pub fn translate(common: &[u8], part: &[u8]) -> Result<Part, Fault> {
     let texts = Texts::new(&[common, part])?;
-    let tree = texts.tree()?;
-    Ok(texts.part(&tree))
+    let (tree, program) = texts.tree()?;
+    Ok(texts.part(&tree, &program))
 }
 
 /// The words of a text as they are spelt, also those that are no words.
@@ -143,8 +155,8 @@ impl Texts {
         Fault { number, text, start: start - self.starts[text].1, len }
     }
 
-    /// The tree of a common part, and of a part behind it if there is one, if they have no fault.
-    fn tree(&self) -> Result<Tree, Fault> {
+    /// The tree of a common part, and of a part behind it if there is one, if they have no fault; and its rules with numbers for names.
+    fn tree(&self) -> Result<(Tree, Program), Fault> {
         let mut parser = Parser::new(&self.bytes, &self.words);
         let mut read = parser.common();
         if self.starts.len() > PART {
@@ -164,8 +176,8 @@ impl Texts {
         // A rule that is called stands in some part.
         names.known.extend(mentioned.iter().map(|at| self.spelling(*at)));
         names.declare(&tree, &values);
-        names.bodies(&tree);
-        first_late(&names.faults).map_or(Ok(tree), |fault| Err(self.show(fault)))
+        let program = names.bodies(&tree);
+        first_late(&names.faults).map_or(Ok((tree, program)), |fault| Err(self.show(fault)))
     }
 
     fn spelling(&self, at: At) -> &[u8] {
@@ -187,16 +199,18 @@ impl Texts {
     }
 
     /// The rules of the last text.
-    fn part(&self, tree: &Tree) -> Part {
+    fn part(&self, tree: &Tree, program: &Program) -> Part {
         let end = |at: At| self.words[at].start + self.words[at].len - self.last().1;
         let mut part = Part::default();
         let mut from = end(self.rules());
-        for body in &tree.bodies {
+        for (body, rule) in tree.bodies.iter().zip(&program.rules) {
             let mut called = Vec::new();
             self.called(&body.nodes, &mut part.pairs, &mut called);
+            let mut cells = Vec::new();
+            put_acts(&rule.acts, &mut called.iter(), &mut cells);
             let text = from..end(body.end);
             from = text.end;
-            part.rules.push(PartRule { name: self.name(body.name), of: body.of.map(|of| self.name(of)), called, text });
+            part.rules.push(PartRule { name: self.name(body.name), of: body.of.map(|of| self.name(of)), called, cells, text });
         }
         part
     }
@@ -210,8 +224,9 @@ impl Texts {
                     let (section, operand) = (self.name(used.section), self.name(used.rule));
                     let same =
                         |pair: &Pair| (&pair.section.spelling, &pair.operand.spelling) == (&section.spelling, &operand.spelling);
-                    out.push(Called::Operand(operand.clone()));
-                    if !pairs.iter().any(same) {
+                    let found = pairs.iter().position(same);
+                    out.push(Called::Operand(operand.clone(), found.unwrap_or(pairs.len())));
+                    if found.is_none() {
                         pairs.push(Pair { sign: self.name(used.sign).start, section, operand });
                     }
                 }
@@ -225,6 +240,55 @@ impl Texts {
                 _ => {}
             }
         }
+    }
+}
+
+/// Actions as cells, then 0; `called` are the uses of rules in them, in text order.
+fn put_acts(acts: &[Act], called: &mut slice::Iter<Called>, cells: &mut Vec<u16>) {
+    for act in acts {
+        match act {
+            Act::Exit => cells.push(1),
+            Act::Match(token) => cells.extend([3, *token]),
+            Act::Any => cells.push(4),
+            Act::Emit(token) => cells.extend([5, *token]),
+            Act::Signal(error) => cells.extend([6, *error]),
+            Act::Call(_) => cells.extend([8, next_mark(called)]),
+            Act::Return(None) => cells.push(9),
+            Act::Return(Some(value)) => cells.extend([10, *value]),
+            Act::Update(operation, value) => cells.extend(iter::once(*operation).chain(*value)),
+            Act::Cycle(acts) => {
+                cells.push(2);
+                put_acts(acts, called, cells);
+            }
+            Act::Choice(choice) => {
+                match choice.by {
+                    By::Token => cells.push(7),
+                    By::Rule(_) => cells.extend([11, next_mark(called)]),
+                    By::Operation(operation, value) => cells.extend(iter::once(operation).chain(value)),
+                }
+                put_alternatives(choice, called, cells);
+            }
+        }
+    }
+    cells.push(0);
+}
+
+fn next_mark(called: &mut slice::Iter<Called>) -> u16 {
+    called.next().expect("a name for each call").mark()
+}
+
+fn put_alternatives(choice: &Choice, called: &mut slice::Iter<Called>, cells: &mut Vec<u16>) {
+    for (labels, acts) in &choice.alternatives {
+        cells.push(64 + labels.len() as u16);
+        cells.extend(labels);
+        put_acts(acts, called, cells);
+    }
+    match &choice.otherwise {
+        Some(acts) => {
+            cells.push(13);
+            put_acts(acts, called, cells);
+        }
+        None => cells.push(if choice.by == By::Token { 14 } else { 12 }),
     }
 }
 
