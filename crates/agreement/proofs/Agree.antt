@@ -84,7 +84,7 @@ never-outside (both-stopped r h e f) g = h cc
 module _ (T : List ℕ) (start : ℕ → ℕ) (prog : List Rule) (tokens answers : List ℕ)
     (laid : (r : ℕ) → r < length prog → At T start prog (ruleOf prog r .valued) (bodyOf prog r) [] (start r)) where
   -- at the place of s; on the way through its next step, with one instruction or two to come; at the place of s but for a jump
-  data Near (s : Own) (m : Walk) : Type 0 where
+  pub data Near (s : Own) (m : Walk) : Type 0 where
     near : Rel T start prog s m → Near s m
     half : (io : Io) (l : ℕ) (rs : List ℕ) (w p : ℕ) → Running s io → m ≡ goingAt l rs w p io
         → Rel T start prog (own prog tokens answers s) (one T tokens answers m) → Near s m
@@ -93,7 +93,7 @@ module _ (T : List ℕ) (start : ℕ → ℕ) (prog : List Rule) (tokens answers
         → Rel T start prog (own prog tokens answers s) (one T tokens answers (goingAt l′ rs w p io′)) → Near s m
     late : (io : Io) (l : ℕ) (rs : List ℕ) (w p : ℕ) → Running s io → m ≡ goingAt l rs w p io → Rel T start prog s (one T tokens answers m) → Near s m
 
-  near-same : {s : Own} {m : Walk} → Near s m → Same s m
+  pub near-same : {s : Own} {m : Walk} → Near s m → Same s m
   near-same (near (rel-on a p)) = both-going running-on refl
   near-same (near (rel-choosing a p)) = both-going running-choosing refl
   near-same (near (rel-stopped {r = r} h)) = both-stopped r (not-outside r h) refl refl
@@ -101,13 +101,13 @@ module _ (T : List ℕ) (start : ℕ → ℕ) (prog : List Rule) (tokens answers
   near-same (early io l rs w p io′ l′ d e d′ e′ h) = rw e (both-going d refl)
   near-same (late io l rs w p d e h) = rw e (both-going d refl)
 
-  owns-add : (i j : ℕ) (s : Own) → owns prog tokens answers j (owns prog tokens answers i s) ≡ owns prog tokens answers (i + j) s
+  pub owns-add : (i j : ℕ) (s : Own) → owns prog tokens answers j (owns prog tokens answers i s) ≡ owns prog tokens answers (i + j) s
   unfolding owns
   owns-add zero j s = rw (zero-add j)
   owns-add (suc i) j s = rw (suc-add i j) (owns-add i j (own prog tokens answers s))
 
   -- an instruction is some steps of the rules
-  after : (f : ℕ) (s : Own) (m : Walk) → weight s < f → Rel T start prog s m → (j : ℕ) × Near (owns prog tokens answers j s) (one T tokens answers m)
+  pub after : (f : ℕ) (s : Own) (m : Walk) → weight s < f → Rel T start prog s m → (j : ℕ) × Near (owns prog tokens answers j s) (one T tokens answers m)
   unfolding owns
   after zero s m w h = absurd (omega arith)
   after (suc f) s m w h = go (λ t v h₁. after f t m v h₁) (move T start prog tokens answers laid h)
@@ -119,14 +119,14 @@ module _ (T : List ℕ) (start : ℕ → ℕ) (prog : List Rule) (tokens answers
       go ih (two-steps io l rs w₁ p d e h₁) = (0, half io l rs w₁ p d e (rw e h₁))
       go ih (three-steps io l rs w₁ p io′ l′ d e d′ e′ h₁) = (0, early io l rs w₁ p io′ l′ d e d′ (ap (one T tokens answers) e ∙ e′) h₁)
 
-  next : (s : Own) (m : Walk) → Near s m → (j : ℕ) × Near (owns prog tokens answers j s) (one T tokens answers m)
+  pub next : (s : Own) (m : Walk) → Near s m → (j : ℕ) × Near (owns prog tokens answers j s) (one T tokens answers m)
   unfolding owns
   next s m (near h) = after (suc (weight s)) s m (omega arith) h
   next s m (half io l rs w p d e h) = (1, near h)
   next s m (early io l rs w p io′ l′ d e d′ e′ h) = (1, late io′ l′ rs w p d′ e′ (rw e′ h))
   next s m (late io l rs w p d e h) = (0, near h)
 
-  all : (k : ℕ) (s : Own) (m : Walk) → Near s m → (j : ℕ) × Near (owns prog tokens answers j s) (runs T tokens answers k m)
+  pub all : (k : ℕ) (s : Own) (m : Walk) → Near s m → (j : ℕ) × Near (owns prog tokens answers j s) (runs T tokens answers k m)
   unfolding runs owns
   all zero s m h = (0, h)
   all (suc k) s m h =
@@ -135,7 +135,7 @@ module _ (T : List ℕ) (start : ℕ → ℕ) (prog : List Rule) (tokens answers
       (a .0 + b .0, rw (owns-add (a .0) (b .0) s) at (b .1))
 
   -- the rules' steps are at most three times as many instructions
-  ahead : (j : ℕ) (s : Own) (m : Walk) → Rel T start prog s m
+  pub ahead : (j : ℕ) (s : Own) (m : Walk) → Rel T start prog s m
       → (k : ℕ) × (k ≤ 3 * j) × Rel T start prog (owns prog tokens answers j s) (runs T tokens answers k m)
   unfolding runs owns
   ahead zero s m h = (0, omega arith, h)

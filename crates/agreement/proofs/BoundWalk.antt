@@ -21,18 +21,18 @@ use Rattle.program.specs.Accepted.{Accepted}
 use Rattle.program.specs.Program.{Plain, match, any, emit, error, exit, call, back, give, update, updateWith, Selector, byToken, byRule, byOperation, byOperationWith, Act, Acts, Alts, Other, Rule, bodyOf}
 
 -- what a call of any rule takes at most, and all rules with such calls
-callCost : List Rule → ℕ
+unfoldable pub callCost : List Rule → ℕ
 callCost prog = costs prog (length prog)
 
-allRules : List Rule → ℕ
+unfoldable pub allRules : List Rule → ℕ
 allRules prog = total (callCost prog) prog + 1
 
 -- steps between two reads or repairs, at most: all the rules, in each of 65 places
-pub most : List Rule → ℕ
+unfoldable pub most : List Rule → ℕ
 most prog = 65 * allRules prog
 
 -- steps of the rules' own walk over tokens and an allowance that are t together, at most
-pub budget : List Rule → ℕ → ℕ
+unfoldable pub budget : List Rule → ℕ → ℕ
 budget prog t = most prog + (t + 1) * (most prog + 1)
 
 -- Where a walk can be
@@ -51,7 +51,7 @@ module _ (prog : List Rule) where
   weighPending (beforeChoice al o q k ∷ ps) = 2 + weighAlts (callCost prog) al + weighOther (callCost prog) o + weighs (callCost prog) q + weighAround k + weighPending ps
 
   -- a place of the program: tame, and no heavier than all rules
-  data Fits : Acts → List Context → Type 0 where
+  pub data Fits : Acts → List Context → Type 0 where
     fits-rule : {q : Acts} → Tames prog q → weighs (callCost prog) q + 1 ≤ allRules prog → Fits q []
     fits-cycle : {q b r : Acts} {k : List Context} → Tames prog q → weighs (callCost prog) q ≤ weighs (callCost prog) b → Fits (cycle b ▸ r) k → Fits q (inCycle b r ∷ k)
     fits-alternative : {q r : Acts} {k : List Context} (a : Act) → Tames prog q → weighs (callCost prog) q + 1 ≤ weigh (callCost prog) a → Fits (a ▸ r) k → Fits q (inAlternative r ∷ k)
@@ -64,7 +64,7 @@ module _ (prog : List Rule) where
   fits-le (fits-alternative a o h f) = omega (arith, fits-le f)
   fits-le (fits-otherwise a o h f) = omega (arith, fits-le f)
 
-  fits-tame : {q : Acts} {k : List Context} → Fits q k → Tames prog q
+  pub fits-tame : {q : Acts} {k : List Context} → Fits q k → Tames prog q
   fits-tame (fits-rule o h) = o
   fits-tame (fits-cycle o h f) = o
   fits-tame (fits-alternative a o h f) = o
@@ -76,13 +76,13 @@ module _ (prog : List Rule) where
   fits-less o l (fits-alternative a x h f) = fits-alternative a o (omega arith) f
   fits-less o l (fits-otherwise a x h f) = fits-otherwise a o (omega arith) f
 
-  fits-rest : {a : Act} {q : Acts} {k : List Context} → Fits (a ▸ q) k → Fits q k
+  pub fits-rest : {a : Act} {q : Acts} {k : List Context} → Fits (a ▸ q) k → Fits q k
   unfolding Tame weighs
   fits-rest {a} {q} f =
       let h : weighs (callCost prog) q ≤ weighs (callCost prog) (a ▸ q) = omega arith in
       fits-less (fits-tame f .1) h f
 
-  data Waits : List Pending → Type 0 where
+  pub data Waits : List Pending → Type 0 where
     waits-nil : Waits []
     waits-before : {q : Acts} {k : List Context} {ps : List Pending} → Fits q k → Waits ps → Waits (before q k ∷ ps)
     waits-choice : {al : Alts} {o : Other} {q : Acts} {k : List Context} {ps : List Pending} (s : Selector) → Fits (choice s al o ▸ q) k → Waits ps → Waits (beforeChoice al o q k ∷ ps)
@@ -94,13 +94,13 @@ module _ (prog : List Rule) where
   waits-le (waits-choice s f w) = omega (arith, fits-le f, waits-le w)
 
   -- i of t tokens read, with these calls pending
-  record Sits (t i : ℕ) (ps : List Pending) : Type 0 where
-    waits : Waits ps
-    few : length ps ≤ 64
-    within : i ≤ t
+  pub record Sits (t i : ℕ) (ps : List Pending) : Type 0 where
+    pub waits : Waits ps
+    pub few : length ps ≤ 64
+    pub within : i ≤ t
 
   -- a state that a walk comes to
-  data Good (t : ℕ) : Own → Type 0 where
+  pub data Good (t : ℕ) : Own → Type 0 where
     good-on : {q : Acts} {k : List Context} {ps : List Pending} {io : Io} → Fits q k → Sits t (io .read) ps → Good t (on q k ps io)
     good-choosing : {v : ℕ} {al : Alts} {o : Other} {q : Acts} {k : List Context} {ps : List Pending} {io : Io} (s : Selector) → Fits (choice s al o ▸ q) k → Sits t (io .read) ps
         → Good t (choosing v al o q k ps io)
@@ -402,10 +402,10 @@ module _ (prog : List Rule) (ok : Accepted prog) (fin : Finishing prog) (tokens 
   kept (good-on {q = choice s al o ▸ q} {k = k} {ps = ps} {io = io} f w) = choice-kept s al o q k ps io f w
 
   -- the walk from s is over within m steps
-  record OverBy (m : ℕ) (s : Own) : Type 0 where
-    steps : ℕ
-    few : steps ≤ m
-    over : Over (owns prog tokens answers steps s)
+  pub record OverBy (m : ℕ) (s : Own) : Type 0 where
+    pub steps : ℕ
+    pub few : steps ≤ m
+    pub over : Over (owns prog tokens answers steps s)
 
   -- x: one more than the tokens and repairs left after the next one; n: steps until that
   inner : (x : ℕ) → ((s : Own) → Good prog (length tokens) s → length tokens + leftOf s < readOf s + x → OverBy (most prog + x * (most prog + 1)) s)
@@ -420,7 +420,7 @@ module _ (prog : List Rule) (ok : Accepted prog) (fin : Finishing prog) (tokens 
       let a = inner x next e (k .good) (omega (arith, k .onward)) in
       record { steps = suc (a .steps); few = omega (arith, a .few); over = a .over }
 
-  over-by : (x : ℕ) (s : Own) → Good prog (length tokens) s → length tokens + leftOf s < readOf s + x → OverBy (most prog + x * (most prog + 1)) s
+  pub over-by : (x : ℕ) (s : Own) → Good prog (length tokens) s → length tokens + leftOf s < readOf s + x → OverBy (most prog + x * (most prog + 1)) s
   unfolding owns readOf leftOf
   over-by zero s (good-over o) h = record { steps = 0; few = omega arith; over = o }
   over-by zero s (good-on f w) h = absurd (omega (arith, w .within))

@@ -28,16 +28,16 @@ use Rattle.agreement.proofs.Lay.{Entry, lookup, entries, Leads, leads-n
 -- Words in a table
 
 -- the words stand in T from l on
-data Seg (T : List ℕ) : ℕ → List ℕ → Type 0 where
+pub data Seg (T : List ℕ) : ℕ → List ℕ → Type 0 where
   seg-nil : {l : ℕ} → Seg T l []
   seg-cons : {l w : ℕ} {ws : List ℕ} → fetch T l ≡ some w → Seg T (suc l) ws → Seg T l (w ∷ ws)
 
-seg-weaken : {T : List ℕ} {l : ℕ} {ws : List ℕ} (v : ℕ) → Seg T (suc l) ws → Seg (v ∷ T) (suc (suc l)) ws
+pub seg-weaken : {T : List ℕ} {l : ℕ} {ws : List ℕ} (v : ℕ) → Seg T (suc l) ws → Seg (v ∷ T) (suc (suc l)) ws
 unfolding fetch
 seg-weaken v seg-nil = seg-nil
 seg-weaken v (seg-cons f h) = seg-cons f (seg-weaken v h)
 
-seg-self : (ws : List ℕ) → Seg ws 1 ws
+pub seg-self : (ws : List ℕ) → Seg ws 1 ws
 unfolding fetch
 seg-self [] = seg-nil
 seg-self (w ∷ ws) = seg-cons refl (seg-weaken w (seg-self ws))
@@ -47,18 +47,18 @@ seg-behind : (n : ℕ) (ws : List ℕ) → Seg (replicate n 0 ++ ws) (suc n) ws
 seg-behind zero ws = seg-self ws
 seg-behind (suc n) ws = seg-weaken 0 (seg-behind n ws)
 
-seg-at : {T : List ℕ} {l l′ : ℕ} {ws : List ℕ} → Seg T l ws → l ≡ l′ → Seg T l′ ws
+pub seg-at : {T : List ℕ} {l l′ : ℕ} {ws : List ℕ} → Seg T l ws → l ≡ l′ → Seg T l′ ws
 seg-at {T} {ws = ws} h p = subst (λ (i : ℕ). Seg T i ws) p h
 
-seg-left : {T : List ℕ} {l : ℕ} (a b : List ℕ) → Seg T l (a ++ b) → Seg T l a
+pub seg-left : {T : List ℕ} {l : ℕ} (a b : List ℕ) → Seg T l (a ++ b) → Seg T l a
 seg-left [] b h = seg-nil
 seg-left (w ∷ a) b (seg-cons f h) = seg-cons f (seg-left a b h)
 
-seg-right : {T : List ℕ} {l : ℕ} (a b : List ℕ) → Seg T l (a ++ b) → Seg T (l + length a) b
+pub seg-right : {T : List ℕ} {l : ℕ} (a b : List ℕ) → Seg T l (a ++ b) → Seg T (l + length a) b
 seg-right [] b h = rw add-zero h
 seg-right (w ∷ a) b (seg-cons f h) = seg-at (seg-right a b h) (omega arith)
 
-seg-after : {T : List ℕ} {l : ℕ} (k : ℕ) (a b : List ℕ) → length a ≡ k → Seg T l (a ++ b) → Seg T (l + k) b
+pub seg-after : {T : List ℕ} {l : ℕ} (k : ℕ) (a b : List ℕ) → length a ≡ k → Seg T l (a ++ b) → Seg T (l + k) b
 seg-after k a b e s = seg-at (seg-right a b s) (omega arith)
 
 pub fetch-le : (T : List ℕ) (l w : ℕ) → fetch T l ≡ some w → l ≤ length T
@@ -69,23 +69,23 @@ fetch-le (v ∷ T) (suc zero) w h = omega arith
 fetch-le (v ∷ T) (suc (suc i)) w h = omega (arith, fetch-le T (suc i) w h)
 
 -- the last of some words is in the table
-seg-le : {T : List ℕ} {l : ℕ} (w : ℕ) (ws : List ℕ) → Seg T l (w ∷ ws) → l + length ws ≤ length T
+pub seg-le : {T : List ℕ} {l : ℕ} (w : ℕ) (ws : List ℕ) → Seg T l (w ∷ ws) → l + length ws ≤ length T
 seg-le {T} {l} w [] (seg-cons f h) = omega (arith, fetch-le T l w f)
 seg-le {T} {l} w (v ∷ ws) (seg-cons f h) = omega (arith, seg-le v ws h)
 
 -- Choice tables
 
 -- the entries of alternatives that begin at l
-pairs : ℕ → Alts → List Entry
+unfoldable pub pairs : ℕ → Alts → List Entry
 pairs l nil = []
 pairs l (alternative ls b q) = entries ls l (pairs (l + sizes b + 2) q)
 
-entries-length : (ls : List ℕ) (l : ℕ) (ps : List Entry) → length (entries ls l ps) ≡ length ls + length ps
+pub entries-length : (ls : List ℕ) (l : ℕ) (ps : List Entry) → length (entries ls l ps) ≡ length ls + length ps
 unfolding entries
 entries-length [] l ps = omega arith
 entries-length (v ∷ ls) l ps = omega (arith, entries-length ls l ps)
 
-pairs-length : (l : ℕ) (q : Alts) → length (pairs l q) ≡ countLabels q
+pub pairs-length : (l : ℕ) (q : Alts) → length (pairs l q) ≡ countLabels q
 unfolding pairs countLabels
 pairs-length l nil = refl
 pairs-length l (alternative ls b q) =
@@ -155,7 +155,7 @@ module _ (T : List ℕ) where
       (entries-at (pairs-all q c (p + 2 * length ls) (l + sizes b + 2) (omega arith)
       (seg-at (seg-right a t s) (omega (arith, length-labels d p ls)))) (omega arith))
 
-laid-table : (T : List ℕ) (q : Alts) (l : ℕ) (ws : List ℕ) → Seg T (l + sizeAlts q) (countLabels q ∷ (tableWords 1 q ++ ws))
+pub laid-table : (T : List ℕ) (q : Alts) (l : ℕ) (ws : List ℕ) → Seg T (l + sizeAlts q) (countLabels q ∷ (tableWords 1 q ++ ws))
     → Table T (l + sizeAlts q) (pairs l q)
 laid-table T q l ws (seg-cons f s) =
     let left = seg-left (tableWords 1 q) ws s in
@@ -176,7 +176,7 @@ one-word l w none h = rw h
 one-word l w (some x) h = rw h
 
 -- an operation's number
-length-operation : (w : ℕ) → 256 ≤ w → w < 1280 → lengthOf w ≡ 1
+pub length-operation : (w : ℕ) → 256 ≤ w → w < 1280 → lengthOf w ≡ 1
 unfolding lengthOf
 length-operation w a b = rw (le-leb 1 w (omega arith), lt-leb w 13 (omega arith), le-leb 256 w a, le-leb w 1279 (omega arith))
 
@@ -184,43 +184,43 @@ decode-operation : (w : ℕ) → 256 ≤ w → decodeOne w ≡ decodeOperation w
 unfolding decodeOne
 decode-operation w a = rw (ne-eqb w 4 (λ e. omega arith), ne-eqb w 9 (λ e. omega arith), ne-eqb w 12 (λ e. omega arith))
 
-is-update : (w : ℕ) → w < 512 → decodeOperation w ≡ updates w
+pub is-update : (w : ℕ) → w < 512 → decodeOperation w ≡ updates w
 unfolding decodeOperation
 is-update w b = rw (lt-ltb w 512 b)
 
-is-updateWith : (w : ℕ) → 512 ≤ w → w < 768 → decodeOperation w ≡ updatesWith w
+pub is-updateWith : (w : ℕ) → 512 ≤ w → w < 768 → decodeOperation w ≡ updatesWith w
 unfolding decodeOperation
 is-updateWith w a b = rw (le-ltb w 512 a, lt-ltb w 768 b)
 
-is-choose : (w : ℕ) → 768 ≤ w → w < 1024 → decodeOperation w ≡ choose w
+pub is-choose : (w : ℕ) → 768 ≤ w → w < 1024 → decodeOperation w ≡ choose w
 unfolding decodeOperation
 is-choose w a b = rw (le-ltb w 512 (omega arith), le-ltb w 768 a, lt-ltb w 1024 b)
 
-is-chooseWith : (w : ℕ) → 1024 ≤ w → decodeOperation w ≡ chooseWith w
+pub is-chooseWith : (w : ℕ) → 1024 ≤ w → decodeOperation w ≡ chooseWith w
 unfolding decodeOperation
 is-chooseWith w a = rw (le-ltb w 512 (omega arith), le-ltb w 768 (omega arith), le-ltb w 1024 a)
 
 module _ {T : List ℕ} where
-  seg-two : {l w d : ℕ} {ws : List ℕ} → Seg T l (w ∷ d ∷ ws) → decode T l ≡ decodeWord l w (some d)
+  pub seg-two : {l w d : ℕ} {ws : List ℕ} → Seg T l (w ∷ d ∷ ws) → decode T l ≡ decodeWord l w (some d)
   unfolding decode decodeAt
   seg-two (seg-cons f (seg-cons g s)) = rw (f, g)
 
-  seg-one : {l w : ℕ} {ws : List ℕ} → lengthOf w ≡ 1 → Seg T l (w ∷ ws) → decode T l ≡ decodeOne w
+  pub seg-one : {l w : ℕ} {ws : List ℕ} → lengthOf w ≡ 1 → Seg T l (w ∷ ws) → decode T l ≡ decodeOne w
   unfolding decode decodeAt
   seg-one {l} {w} h (seg-cons f s) = rw (f, one-word l w (fetch T (suc l)) h)
 
-  seg-operation : {l w : ℕ} {ws : List ℕ} → 256 ≤ w → w < 1280 → Seg T l (w ∷ ws) → decode T l ≡ decodeOperation w
+  pub seg-operation : {l w : ℕ} {ws : List ℕ} → 256 ≤ w → w < 1280 → Seg T l (w ∷ ws) → decode T l ≡ decodeOperation w
   seg-operation {w = w} a b s = seg-one (length-operation w a b) s ∙ decode-operation w a
 
-  seg-return : {l : ℕ} {ws : List ℕ} → Seg T l (9 ∷ ws) → decode T l ≡ return
+  pub seg-return : {l : ℕ} {ws : List ℕ} → Seg T l (9 ∷ ws) → decode T l ≡ return
   unfolding lengthOf lengths decodeOne
   seg-return s = seg-one refl s
 
-  seg-jump : {l d : ℕ} {ws : List ℕ} (y : ℕ) → l + 1 + d ≡ y → Seg T l (1 ∷ d ∷ ws) → decode T l ≡ jump y
+  pub seg-jump : {l d : ℕ} {ws : List ℕ} (y : ℕ) → l + 1 + d ≡ y → Seg T l (1 ∷ d ∷ ws) → decode T l ≡ jump y
   unfolding lengthOf lengths decodeWord decodeTwo
   seg-jump y e s = seg-two s ∙ ap jump e
 
-  seg-jumpBack : {l d : ℕ} {ws : List ℕ} (y : ℕ) → y + d ≡ l + 1 → Seg T l (2 ∷ d ∷ ws) → decode T l ≡ jump y
+  pub seg-jumpBack : {l d : ℕ} {ws : List ℕ} (y : ℕ) → y + d ≡ l + 1 → Seg T l (2 ∷ d ∷ ws) → decode T l ≡ jump y
   unfolding lengthOf lengths decodeWord decodeTwo
   seg-jumpBack {l} {d} y e s =
       let z : l + 1 - d ≡ y = omega arith in
@@ -251,7 +251,7 @@ module _ (prog : List Rule) where
     no-exit (choice s q o) v ok e =
         elim (or (exitsSome q) (exitsOther o) e) [ inl h ↦ no-exit-alts q v (ok .1) h | inr h ↦ no-exit-other o v (ok .2) h ]
 
-    no-exits : (q : Acts) (v : Bool) → Oks prog q v false → exitsAll q ≡ true → ⊥
+    pub no-exits : (q : Acts) (v : Bool) → Oks prog q v false → exitsAll q ≡ true → ⊥
     no-exits done v ok e = never e
     no-exits (a ▸ q) v ok e = elim (or (exits a) (exitsAll q) e) [ inl h ↦ no-exit a v (ok .0) h | inr h ↦ no-exits q v (ok .1) h ]
 
@@ -276,7 +276,7 @@ module _ (T : List ℕ) (start : ℕ → ℕ) (prog : List Rule) where
   lays-end : {v : Bool} {q : Acts} {x l e e′ : ℕ} → Lays T start prog v q x l e → e ≡ e′ → Lays T start prog v q x l e′
   lays-end {v} {q} {x} {l} h p = subst (λ (i : ℕ). Lays T start prog v q x l i) p h
 
-  other-at : {v i : Bool} {o : Other} {x l l′ e e′ : ℕ} {ps : List Entry} → LayOther T start prog v i o x ps l e → l ≡ l′ → e ≡ e′
+  pub other-at : {v i : Bool} {o : Other} {x l l′ e e′ : ℕ} {ps : List Entry} → LayOther T start prog v i o x ps l e → l ≡ l′ → e ≡ e′
       → LayOther T start prog v i o x ps l′ e′
   other-at {v} {i} {o} {x} {l} {l′} {e} {ps = ps} h p q =
       subst (λ (z : ℕ). LayOther T start prog v i o x ps l′ z) q (subst (λ (z : ℕ). LayOther T start prog v i o x ps z e) p h)
@@ -315,7 +315,7 @@ module _ (T : List ℕ) (start : ℕ → ℕ) (prog : List Rule) where
   unfolding lengthOf lengths decodeOne
   laid-end v x l e ps s = other-end (seg-one refl s)
 
-  isToken : Selector → Bool
+  unfoldable pub isToken : Selector → Bool
   isToken byToken = true
   isToken (byRule r) = false
   isToken (byOperation op) = false
@@ -330,21 +330,21 @@ module _ (T : List ℕ) (start : ℕ → ℕ) (prog : List Rule) where
   laid-absent (byOperationWith op u) v q x d l l′ e z ok t = laid-end v x l e (pairs l′ q) t
 
   -- the parts of a choice that stand at its instruction, at l
-  data Parts (v i : Bool) (q : Alts) (o : Other) (x l e : ℕ) : Type 0 where
+  pub data Parts (v i : Bool) (q : Alts) (o : Other) (x l e : ℕ) : Type 0 where
     parts : {c : ℕ} {ps : List Entry} → c ≡ l + 2 + sizeAlts q → Table T c ps → LayAlts T start prog v q x e (l + 2) ps
         → LayOther T start prog v i o x ps (c + 1 + 2 * length ps) e → Parts v i q o x l e
 
-  parts-at : {v i : Bool} {q : Alts} {o : Other} {x l l′ e : ℕ} → Parts v i q o x l e → l ≡ l′ → Parts v i q o x l′ e
+  pub parts-at : {v i : Bool} {q : Alts} {o : Other} {x l l′ e : ℕ} → Parts v i q o x l e → l ≡ l′ → Parts v i q o x l′ e
   parts-at {v} {i} {q} {o} {x} {e = e} h p = subst (λ (z : ℕ). Parts v i q o x z e) p h
 
-  laid-token : {v : Bool} {q : Alts} {o : Other} {x l e : ℕ} {ws : List ℕ} → NeedsLabel byToken o q → Seg T l (7 ∷ (sizeAlts q + 1) ∷ ws) → Parts v true q o x l e
+  pub laid-token : {v : Bool} {q : Alts} {o : Other} {x l e : ℕ} {ws : List ℕ} → NeedsLabel byToken o q → Seg T l (7 ∷ (sizeAlts q + 1) ∷ ws) → Parts v true q o x l e
       → Lay T start prog v (choice byToken q o) x l e
   unfolding lengthOf lengths decodeWord decodeTwo
   laid-token {q = q} {l = l} nl t (parts {c = c} z tb a b) =
       let d : decode T l ≡ inputChoice c = seg-two t ∙ ap inputChoice (omega arith) in
       lay-token nl d tb a b
 
-  laid-result : {v : Bool} {q : Alts} {o : Other} {x l e : ℕ} {ws : List ℕ} → Seg T l (11 ∷ (sizeAlts q + 1) ∷ ws) → Parts v false q o x l e
+  pub laid-result : {v : Bool} {q : Alts} {o : Other} {x l e : ℕ} {ws : List ℕ} → Seg T l (11 ∷ (sizeAlts q + 1) ∷ ws) → Parts v false q o x l e
       → LayChoice T start prog v q o x l e
   unfolding lengthOf lengths decodeWord decodeTwo
   laid-result {q = q} {l = l} t (parts {c = c} z tb a b) =
@@ -352,7 +352,7 @@ module _ (T : List ℕ) (start : ℕ → ℕ) (prog : List Rule) where
       lay-choice d tb a b
 
   -- behind its selector
-  laid-choice : (s : Selector) (v : Bool) (q : Alts) (o : Other) (x l e : ℕ) (ws : List ℕ) → OkSelector prog s → NeedsLabel s o q
+  pub laid-choice : (s : Selector) (v : Bool) (q : Alts) (o : Other) (x l e : ℕ) (ws : List ℕ) → OkSelector prog s → NeedsLabel s o q
       → Seg T l (selectorWords start s ++ (choiceNumber s ∷ (sizeAlts q + 1) ∷ ws)) → Parts v (isToken s) q o x (l + sizeSelector s) e
       → Lay T start prog v (choice s q o) x l e
   unfolding selectorWords choiceNumber isToken OkSelector sizeSelector lengthOf lengths decodeWord decodeTwo
@@ -370,7 +370,7 @@ module _ (T : List ℕ) (start : ℕ → ℕ) (prog : List Rule) where
   mutual
     unfolding size code Ok NeedsLabel pairs
 
-    laid : (a : Act) (v c : Bool) (out x l : ℕ) → Ok prog a v c → (c ≡ true → x ≡ l + size a + out) → Seg T l (code start a out)
+    pub laid : (a : Act) (v c : Bool) (out x l : ℕ) → Ok prog a v c → (c ≡ true → x ≡ l + size a + out) → Seg T l (code start a out)
         → Lay T start prog v a x l (l + size a)
     laid (plain p) v c out x l ok hx s = lay-plain (laid-plain p v c out x l ok hx s)
     laid (cycle b) v c out x l ok hx s =
@@ -397,7 +397,7 @@ module _ (T : List ℕ) (start : ℕ → ℕ) (prog : List Rule) where
         (laid-other o sl v c q out d x (l₁ + 2 + sizeAlts q + (1 + 2 * countLabels q)) (l₁ + 2) (omega arith) (ok .2) (ok .3) (λ e. omega (arith, hx e)) s₄)
         (omega (arith, pairs-length (l₁ + 2) q)) (omega arith)))
 
-    laids : (q : Acts) (v c : Bool) (out x l : ℕ) → Oks prog q v c → (c ≡ true → x ≡ l + sizes q + out) → Seg T l (codes start q out)
+    pub laids : (q : Acts) (v c : Bool) (out x l : ℕ) → Oks prog q v c → (c ≡ true → x ≡ l + sizes q + out) → Seg T l (codes start q out)
         → Lays T start prog v q x l (l + sizes q)
     laids done v c out x l ok hx s = lays-end lays-done (omega arith)
     laids (a ▸ q) v c out x l ok hx s =
@@ -408,7 +408,7 @@ module _ (T : List ℕ) (start : ℕ → ℕ) (prog : List Rule) where
         (seg-after (size a) w (codes start q out) (length-code start a (sizes q + out)) s)))
         (omega arith)
 
-    laid-alts : (q : Alts) (v c : Bool) (out z x y l : ℕ) → OkAlts prog q v c → (c ≡ true → x ≡ y + out) → l + sizeAlts q + z ≡ y
+    pub laid-alts : (q : Alts) (v c : Bool) (out z x y l : ℕ) → OkAlts prog q v c → (c ≡ true → x ≡ y + out) → l + sizeAlts q + z ≡ y
         → Seg T l (codeAlts start q out z) → LayAlts T start prog v q x y l (pairs l q)
     laid-alts nil v c out z x y l ok hx e s = alts-nil
     laid-alts (alternative ls b q) v c out z x y l ok hx e s =
@@ -419,7 +419,7 @@ module _ (T : List ℕ) (start : ℕ → ℕ) (prog : List Rule) where
         (laid-alts q v c out z x y (l + sizes b + 2) (ok .2) hx (omega arith)
         (seg-after 2 (1 ∷ (1 + sizeAlts q + z) ∷ []) (codeAlts start q out z) refl s₂))
 
-    laid-other : (o : Other) (sl : Selector) (v c : Bool) (q : Alts) (out d x l l′ : ℕ) → l + 3 ≡ l′ + d → OkOther prog o v c → NeedsLabel sl o q
+    pub laid-other : (o : Other) (sl : Selector) (v c : Bool) (q : Alts) (out d x l l′ : ℕ) → l + 3 ≡ l′ + d → OkOther prog o v c → NeedsLabel sl o q
         → (c ≡ true → x ≡ l + sizeOther o (sizeAbsent sl) + out) → Seg T l (codeOther start o out (absentWords sl (firstLabel q) d))
         → LayOther T start prog v (isToken sl) o x (pairs l′ q) l (l + sizeOther o (sizeAbsent sl))
     laid-other absent sl v c q out d x l l′ z ok nl hx s = laid-absent sl v q x d l l′ (l + sizeAbsent sl) z nl s

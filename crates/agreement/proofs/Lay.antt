@@ -146,6 +146,7 @@ module _ (T : List ℕ) (start : ℕ → ℕ) (prog : List Rule) where
   -- pending calls beside return locations; the index says whether the rule that returns next is a choice rule
   pub data Pend : Bool → List Pending → List ℕ → Type 0 where
     pend-nil : Pend false [] []
+    pend-last : Pend true [] []  -- a walk begun in a choice rule
     pend-before : {v : Bool} {q : Acts} {k : List Context} {ps : List Pending} {r : ℕ} {rs : List ℕ} → At v q k r → Pend v ps rs
         → Pend false (before q k ∷ ps) (r ∷ rs)
     pend-choice : {v : Bool} {q : Alts} {o : Other} {b : Acts} {k : List Context} {ps : List Pending} {r : ℕ} {rs : List ℕ}

@@ -20,7 +20,7 @@ use Rattle.machine.specs.Walk.{Phase, going, waiting, stopped, Walk, fresh, mov
 use Rattle.machine.specs.Step.{Next, goesOutside, stops, goes, tells, asks, goTo, seekBy, landed, branched, inputChoosing, calling, returning, requiring, exec, step}
 use Rattle.machine.specs.Call
 use Rattle.machine.specs.Call.{Mode, whole, paused, Called, ends, endsFor, keeps, writing, Turn, over, further, takes, handsOut, turn, run, callIn, callWalk}
-use Rattle.agreement.specs.Demand.{wanted, Allowed, Listed, begin, then-call}
+use Rattle.agreement.specs.Demand.{wanted, Allowed, ListedFrom, begin, then-call, Listed}
 use Rattle.agreement.proofs.Single.{taking, done, oneIn, one, runs}
 
 -- a walk with these events in place of its own
@@ -398,14 +398,15 @@ module _ (T tokens answers : List ℕ) where
   unfolding one oneIn
   one-going w g = rw g
 
-module _ (T tokens answers : List ℕ) (allowance : ℕ) where
-  -- the walks that so many single steps of a fresh walk lead to
+-- From a walk on, the events before it included
+
+module _ (T tokens answers : List ℕ) (s₀ : Walk) (kept₀ : Kept s₀) where
+  -- the walks that so many single steps lead to
   abbrev pub after : ℕ → Walk
-  after n = runs T tokens answers n (fresh allowance)
+  after n = runs T tokens answers n s₀
 
   pub kept-after : (n : ℕ) → Kept (after n)
-  unfolding fresh choices
-  kept-after n = kept-runs T tokens answers n (fresh allowance) (record { used = refl; returns = omega arith })
+  kept-after n = kept-runs T tokens answers n s₀ kept₀
 
   -- the single step before was one of a walk that went on
   abbrev pub Moved : ℕ → Type 0
@@ -414,7 +415,7 @@ module _ (T tokens answers : List ℕ) (allowance : ℕ) where
   -- a walk that goes on went on before
   went-on : (m : ℕ) → after (suc m) .phase ≡ going → after m .phase ≡ going
   unfolding one oneIn
-  went-on m g = go (after m .phase) refl (ap (λ (w : Walk). w .phase) (sym (runs-suc T tokens answers m (fresh allowance))) ∙ g)
+  went-on m g = go (after m .phase) refl (ap (λ (w : Walk). w .phase) (sym (runs-suc T tokens answers m s₀)) ∙ g)
     where
       go : (p : Phase) → after m .phase ≡ p → oneIn T tokens answers p (after m) .phase ≡ going → p ≡ going
       go going e h = refl
@@ -443,7 +444,7 @@ module _ (T tokens answers : List ℕ) (allowance : ℕ) where
       → es ≡ v .io .events ++ (e ∷ []) → after (suc k) ≡ taking (wanted answers es) e v′ v
   unfolding done
   asked-next k v v′ e es a g s q =
-      runs-suc T tokens answers k (fresh allowance) ∙ ap (one T tokens answers) a ∙ one-going T tokens answers v g ∙ ap (λ nx. done T tokens answers nx v) s
+      runs-suc T tokens answers k s₀ ∙ ap (one T tokens answers) a ∙ one-going T tokens answers v g ∙ ap (λ nx. done T tokens answers nx v) s
       ∙ ap (λ o. taking o e v′ v) (sym (ap (wanted answers) q ∙ wanted-asked answers (v .io .events) e (step-asked T tokens v v′ e s .choice)))
 
   -- A call
@@ -487,7 +488,7 @@ module _ (T tokens answers : List ℕ) (allowance : ℕ) where
     unfolding withEarlier withEvents withIo
     next-within n w nx g d s =
         let e : k + (n + 1) ≡ suc (k + n) = omega arith in
-        ap after e ∙ runs-suc T tokens answers (k + n) (fresh allowance) ∙ ap (one T tokens answers) (sym d) ∙ one-going T tokens answers (withEarlier es w) g
+        ap after e ∙ runs-suc T tokens answers (k + n) s₀ ∙ ap (one T tokens answers) (sym d) ∙ one-going T tokens answers (withEarlier es w) g
         ∙ ap (λ x. done T tokens answers x (withEarlier es w)) (step-earlier es T tokens w ∙ ap (earlier es) s)
 
     waited : (n number : ℕ) (w v : Walk) (e : Event) → w .phase ≡ going → Within n w → Keeps w v → step T tokens w ≡ asks e v
@@ -612,11 +613,60 @@ module _ (T tokens answers : List ℕ) (allowance : ℕ) where
   in-phase (stopped r) (paused none) budget room w es n g a h = repeats w es n r g h
   in-phase (stopped r) (paused (some x)) budget room w es n g a h = refused w es n h
 
-  pub listed-where : {w : Walk} {es : List Event} {n : ℕ} {ns : List ℕ} → Listed T tokens answers allowance w es n ns → Where w es n
-  unfolding callWalk fresh runs withEvents withIo
-  listed-where begin = lives (going-waiting refl) refl (λ m e. absurd (omega arith))
-  listed-where (then-call {w = w} {es = es} {n = n} l m budget room a) = in-phase (w .phase) m budget room w es n refl a (listed-where l)
+  -- the first walk of the list, its events before included, is s₀
+  pub listed-from : {w₀ : Walk} {es₀ : List Event} {w : Walk} {es : List Event} {n : ℕ} {ns : List ℕ} → (w₀ .phase ≡ waiting → ⊥) → withEvents es₀ w₀ ≡ s₀
+      → ListedFrom T tokens answers w₀ es₀ w es n ns → Where w es n
+  unfolding callWalk runs
+  listed-from p e begin = lives p e (λ m d. absurd (omega arith))
+  listed-from p e (then-call {w = w} {es = es} {n = n} l m budget room a) = in-phase (w .phase) m budget room w es n refl a (listed-from p e l)
 
+  -- a list that begins with a walk that waits, for the answer x, has done nothing yet, or has taken it: s₀ is the walk with the answer
+  pub data Awaits (w₀ : Walk) (es₀ : List Event) (w : Walk) (es : List Event) (n : ℕ) : Type 0 where
+    still : w ≡ w₀ → es ≡ es₀ → n ≡ 0 → Awaits w₀ es₀ w es n
+    answered : Where w es n → Awaits w₀ es₀ w es n
+
+  -- the call that brings the answer
+  brings : (w₀ : Walk) (es₀ : List Event) (x budget room : ℕ) → withEvents es₀ (withAnswer x w₀) ≡ s₀ → Ended es₀ 0 (run T tokens budget (paused none) room 0 (withAnswer x (atRest w₀)))
+  unfolding runs withEarlier withEvents Given Walk.opened Events.answered
+  brings w₀ es₀ x budget room e =
+      let b : length (w₀ .returns) ≤ 64 = rw (← e) at (kept₀ .returns) in
+      let r = all64 (w₀ .returns) b in
+      run-ended es₀ 0 budget (paused none) tt room 0 (withAnswer x (atRest w₀)) refl (rw (append-nil es₀, r) e)
+
+  waits-in : (w₀ : Walk) (es₀ : List Event) (x : ℕ) → w₀ .phase ≡ waiting → wanted answers es₀ ≡ some x → withEvents es₀ (withAnswer x w₀) ≡ s₀ → (ph : Phase) → ph ≡ waiting → (m : Mode) (budget room : ℕ)
+      → Allowed answers m ph es₀ → (c : Called) → c ≡ callIn T tokens ph m budget room w₀ → Awaits w₀ es₀ (c .walk) (es₀ ++ c .events) (0 + c .steps)
+  unfolding callIn Allowed
+  waits-in w₀ es₀ x p o e going q m budget room a c d = absurd (going-waiting refl q)
+  waits-in w₀ es₀ x p o e (stopped r) q m budget room a c d = absurd (waiting-stopped q refl)
+  waits-in w₀ es₀ x p o e waiting q (whole given) budget room a c d = rw d (still refl (append-nil es₀) refl)
+  waits-in w₀ es₀ x p o e waiting q (paused none) budget room a c d = rw d (still refl (append-nil es₀) refl)
+  waits-in w₀ es₀ x p o e waiting q (paused (some y)) budget room a c d =
+      let z : x ≡ y = same-answer (sym o ∙ a) in
+      answered (rw (d, ← z) (brings w₀ es₀ x budget room e))
+    where
+      same-answer : some x ≡ some y → x ≡ y
+      same-answer h = cc
+
+  pub listed-awaits : {w₀ : Walk} {es₀ : List Event} (x : ℕ) {w : Walk} {es : List Event} {n : ℕ} {ns : List ℕ} → w₀ .phase ≡ waiting → wanted answers es₀ ≡ some x
+      → withEvents es₀ (withAnswer x w₀) ≡ s₀ → ListedFrom T tokens answers w₀ es₀ w es n ns → Awaits w₀ es₀ w es n
+  unfolding callWalk
+  listed-awaits x p o e begin = still refl refl refl
+  listed-awaits {w₀} {es₀} x p o e (then-call {w = w} {es = es} {n = n} l m budget room a) = go (listed-awaits x p o e l)
+    where
+      go : Awaits w₀ es₀ w es n → Awaits w₀ es₀ (callWalk T tokens m budget room w .walk) (es ++ callWalk T tokens m budget room w .events) (n + callWalk T tokens m budget room w .steps)
+      go (answered h) = answered (in-phase (w .phase) m budget room w es n refl a h)
+      go (still d f g) = rw (d, f, g) (waits-in w₀ es₀ x p o e (w₀ .phase) p m budget room (rw (d, f) at a) (callWalk T tokens m budget room w₀) refl)
+
+pub kept-fresh : (allowance : ℕ) → Kept (fresh allowance)
+unfolding fresh choices
+kept-fresh allowance = record { used = refl; returns = omega arith }
+
+pub listed-where : (T tokens answers : List ℕ) (allowance : ℕ) {w : Walk} {es : List Event} {n : ℕ} {ns : List ℕ} → Listed T tokens answers allowance w es n ns
+    → Where T tokens answers (fresh allowance) (kept-fresh allowance) w es n
+unfolding fresh withEvents withIo
+listed-where T tokens answers allowance l = listed-from T tokens answers (fresh allowance) (kept-fresh allowance) (going-waiting refl) refl l
+
+module _ (T tokens answers : List ℕ) where
   -- 37
 
   outside-37 : (r : Reason) → reasonNumber r ≡ 37 → r ≡ outside
@@ -685,7 +735,7 @@ module _ (T tokens answers : List ℕ) (allowance : ℕ) where
   in-phase-37 (stopped r) (paused none) budget room w g = λ z. g ∙ ap stopped (outside-37 r z)
   in-phase-37 (stopped r) (paused (some x)) budget room w g = λ z. absurd (omega arith)
 
-  pub number-37 : {w : Walk} {es : List Event} {n number : ℕ} {ns : List ℕ} → Listed T tokens answers allowance w es n (number ∷ ns) → number ≡ 37
+  pub number-37 : {w₀ : Walk} {es₀ : List Event} {w : Walk} {es : List Event} {n number : ℕ} {ns : List ℕ} → ListedFrom T tokens answers w₀ es₀ w es n (number ∷ ns) → number ≡ 37
       → w .phase ≡ stopped outside
   unfolding callWalk
   number-37 (then-call {w = w} l m budget room a) z = in-phase-37 (w .phase) m budget room w refl z

@@ -16,7 +16,7 @@ use Rattle.machine.specs.Walk
 use Rattle.machine.specs.Walk.{Phase, going, waiting, stopped, Walk, fresh}
 
 -- what a list has at a place it keeps with more behind it
-kept-answer : (as′ : List ℕ) (x i y : ℕ) → getElem? as′ i ≡ some y → (getElem? (as′ ++ (x ∷ [])) i ≡ some y) × (i < length as′)
+pub kept-answer : (as′ : List ℕ) (x i y : ℕ) → getElem? as′ i ≡ some y → (getElem? (as′ ++ (x ∷ [])) i ≡ some y) × (i < length as′)
 kept-answer [] x i y e = let z : _≡_ {A = ℕ} 0 1 = cc in absurd (omega arith)
 kept-answer (a ∷ as′) x zero y e = (e, omega arith)
 kept-answer (a ∷ as′) x (suc i) y e = let h = kept-answer as′ x i y e in (h .0, omega (arith, h .1))
@@ -66,18 +66,24 @@ module _ (T tokens answers : List ℕ) (x : ℕ) where
   one-from w waiting e g = e ∙ (rw e at g)
   one-from w (stopped r) e g = e ∙ (rw e at g)
 
-  pub alike : (allowance n : ℕ) → runs T tokens answers n (fresh allowance) .phase ≡ going
-      → Alike (runs T tokens answers n (fresh allowance)) (runs T tokens More n (fresh allowance))
-  unfolding runs fresh choices
-  alike allowance zero g = record { same = refl; taken = omega arith }
-  alike allowance (suc n) g =
-      let w = runs T tokens answers n (fresh allowance) in
-      let s = runs-suc T tokens answers n (fresh allowance) in
+  -- from a walk on that has taken no answer past the last
+  pub alike-from : (s₀ : Walk) → choices (s₀ .io .events) ≤ length answers → (n : ℕ) → runs T tokens answers n s₀ .phase ≡ going
+      → Alike (runs T tokens answers n s₀) (runs T tokens More n s₀)
+  unfolding runs
+  alike-from s₀ h₀ zero g = record { same = refl; taken = h₀ }
+  alike-from s₀ h₀ (suc n) g =
+      let w = runs T tokens answers n s₀ in
+      let s = runs-suc T tokens answers n s₀ in
       let g₁ : one T tokens answers w .phase ≡ going = ap (λ (u : Walk). u .phase) (sym s) ∙ g in
       let g₂ = one-from w (w .phase) refl g₁ in
-      let ih = alike allowance n g₂ in
+      let ih = alike-from s₀ h₀ n g₂ in
       let d = one-going T tokens answers w g₂ in
       let h = alike-done w (step-after T tokens w) (ih .taken) (ap (λ (u : Walk). u .phase) (sym d) ∙ g₁) in
-      let m : runs T tokens More (suc n) (fresh allowance) ≡ done T tokens More (step T tokens w) w =
-      runs-suc T tokens More n (fresh allowance) ∙ ap (one T tokens More) (ih .same) ∙ one-going T tokens More w g₂ in
+      let m : runs T tokens More (suc n) s₀ ≡ done T tokens More (step T tokens w) w =
+      runs-suc T tokens More n s₀ ∙ ap (one T tokens More) (ih .same) ∙ one-going T tokens More w g₂ in
       record { same = m ∙ h .same ∙ sym (s ∙ d); taken = rw (s ∙ d) (h .taken) }
+
+  pub alike : (allowance n : ℕ) → runs T tokens answers n (fresh allowance) .phase ≡ going
+      → Alike (runs T tokens answers n (fresh allowance)) (runs T tokens More n (fresh allowance))
+  unfolding fresh choices
+  alike allowance n g = alike-from (fresh allowance) (omega arith) n g

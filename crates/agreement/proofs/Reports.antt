@@ -15,7 +15,7 @@ use Rattle.machine.specs.Form.{reasonOf}
 use Rattle.machine.specs.Step.{Next}
 use Rattle.machine.specs.Walk
 use Rattle.machine.specs.Walk.{Phase, going, waiting, stopped, Walk, withAnswer, atRest}
-use Rattle.agreement.specs.Demand.{Listed, then-call}
+use Rattle.agreement.specs.Demand.{ListedFrom, then-call}
 use Rattle.agreement.specs.Reports.{Reports, refused, full, spent, handed-out, ended}
 use Rattle.agreement.proofs.Lists.{After, after-outside, after-stop, after-goes, after-tells, after-asks, step-after, resume, run-resume}
 
@@ -110,7 +110,8 @@ module _ (T tokens : List ℕ) where
   reports m budget room w = call-tells (w .phase) m budget room w refl
 
   -- of the last call of a list
-  pub reports-last : {answers : List ℕ} {allowance : ℕ} {w : Walk} {es : List Event} {n number : ℕ} {ns : List ℕ} → Listed T tokens answers allowance w es n (number ∷ ns) → Reports number (w .phase)
+  pub reports-last : {answers : List ℕ} {w₀ : Walk} {es₀ : List Event} {w : Walk} {es : List Event} {n number : ℕ} {ns : List ℕ}
+      → ListedFrom T tokens answers w₀ es₀ w es n (number ∷ ns) → Reports number (w .phase)
   reports-last (then-call {w = w} l m budget room a) = reports m budget room w
 
 -- A reason's number is no other's, nor 21, 22, 35 or 36

@@ -22,7 +22,7 @@ use Rattle.program.specs.Accepted.{Calls, Labelled, NeedsLabel}
 use Rattle.program.specs.Past.{plainPast, isExit, exits, exitsAll, exitsSome, exitsOther, past, pastAll, pastSome, pastOther}
 use Rattle.program.specs.Program.{Plain, match, any, emit, error, exit, call, update, updateWith, byToken, byRule, byOperation, byOperationWith, Act, Acts, Alts, Other, Rule, ruleOf, bodyOf}
 use Rattle.agreement.proofs.Single.{taking, done as doing, oneIn, one}
-use Rattle.agreement.proofs.Lay.{Entry, lookup, entries, Leads, leads-none, leads, Table, goingAt, inside, LayPlain, lay-match, lay-any, lay-emit, lay-error, lay-exit, lay-call, lay-back, lay-give, lay-update, lay-updateWith, Lay, lay-plain, lay-cycle, lay-token, lay-rule, lay-operation, lay-operationWith, Lays, lays-done, lays-cons, lay-choice, LayAlts, alts-nil, alts-cons, LayOther, other-input, other-end, other-is, At, at-place, End, end-rule, end-cycle, end-alternative, end-otherwise, Out, out-cycle, out-alternative, out-otherwise, AtChoice, at-choice, Pend, pend-nil, pend-before, pend-choice, Rel, rel-on, rel-choosing, rel-stopped}
+use Rattle.agreement.proofs.Lay.{Entry, lookup, entries, Leads, leads-none, leads, Table, goingAt, inside, LayPlain, lay-match, lay-any, lay-emit, lay-error, lay-exit, lay-call, lay-back, lay-give, lay-update, lay-updateWith, Lay, lay-plain, lay-cycle, lay-token, lay-rule, lay-operation, lay-operationWith, Lays, lays-done, lays-cons, lay-choice, LayAlts, alts-nil, alts-cons, LayOther, other-input, other-end, other-is, At, at-place, End, end-rule, end-cycle, end-alternative, end-otherwise, Out, out-cycle, out-alternative, out-otherwise, AtChoice, at-choice, Pend, pend-nil, pend-last, pend-before, pend-choice, Rel, rel-on, rel-choosing, rel-stopped}
 
 -- Steps that are no instruction: into a cycle, out of otherwise; with them this weight falls
 
@@ -73,7 +73,7 @@ entries-lookup u (v ∷ ls) l ps = go (eqb u v) (entries-lookup u ls l ps)
     go false h = h
 
 -- the first label is not the token where no label is
-missed : (w : Option ℕ) (v a : ℕ) (ps : List Entry) → lookupBy w ((v, a) ∷ ps) ≡ none → is v w ≡ false
+pub missed : (w : Option ℕ) (v a : ℕ) (ps : List Entry) → lookupBy w ((v, a) ∷ ps) ≡ none → is v w ≡ false
 unfolding lookupBy lookup is
 missed none v a ps h = refl
 missed (some u) v a ps h = same (eqb v u) (eqb u v) (λ e. eq-eqb u v (sym (eqb-true v u e))) (λ e. eq-eqb v u (sym (eqb-true u v e))) ∙ go (eqb u v) h
@@ -83,13 +83,13 @@ missed (some u) v a ps h = same (eqb v u) (eqb u v) (λ e. eq-eqb u v (sym (eqb-
     go false e = refl
 
 -- what inputChoice makes of the result
-orElse : Option ℕ → ℕ → ℕ
+unfoldable pub orElse : Option ℕ → ℕ → ℕ
 orElse none v = v
 orElse (some u) v = u
 
 -- The table
 
-good : Instruction → Bool
+unfoldable pub good : Instruction → Bool
 good invalid = false
 good (jump y) = true
 good (input t) = true
@@ -107,7 +107,7 @@ good (updatesWith w) = true
 good (choose w) = true
 good (chooseWith w) = true
 
-good-there : (T : List ℕ) (l : ℕ) → good (decode T l) ≡ true → given (fetch T l) ≡ true
+pub good-there : (T : List ℕ) (l : ℕ) → good (decode T l) ≡ true → given (fetch T l) ≡ true
 unfolding decode decodeAt good
 good-there T l h = go (fetch T l) h
   where
@@ -116,11 +116,11 @@ good-there T l h = go (fetch T l) h
     go (some w) e = refl
 
 module _ (T tokens : List ℕ) where
-  goTo-is : (y : ℕ) (w : Walk) → good (decode T y) ≡ true → goTo T tokens y w ≡ goes (moved y w)
+  pub goTo-is : (y : ℕ) (w : Walk) → good (decode T y) ≡ true → goTo T tokens y w ≡ goes (moved y w)
   unfolding goTo
   goTo-is y w h = rw (good-there T y h)
 
-  landed-is : (l x y d : ℕ) (taken w : Walk) → fetch T l ≡ some x → l - x ≡ y → landed T tokens (some l) d taken w ≡ goTo T tokens y taken
+  pub landed-is : (l x y d : ℕ) (taken w : Walk) → fetch T l ≡ some x → l - x ≡ y → landed T tokens (some l) d taken w ≡ goTo T tokens y taken
   unfolding landed
   landed-is l x y d taken w f e = rw (f, landed, e)
 
@@ -129,12 +129,12 @@ module _ (T tokens : List ℕ) where
   seek-leads none t = leads-none
   seek-leads (some u) t = t .finds tokens u
 
-  branched-is : (u : Option ℕ) {c : ℕ} {ps : List Entry} (taken w : Walk) → Table T c ps
+  pub branched-is : (u : Option ℕ) {c : ℕ} {ps : List Entry} (taken w : Walk) → Table T c ps
       → branched T tokens (fetch T c) u c taken w ≡ landed T tokens (seekBy T tokens u (length ps) (c + 1)) (c + 1 + 2 * length ps) taken w
   unfolding branched
   branched-is u taken w t = rw (t .count, t .fits)
 
-  inputChoosing-is : (u : Option ℕ) {c : ℕ} {ps : List Entry} (l : ℕ) (rs : List ℕ) (w p : ℕ) (io : Io) → Table T c ps
+  pub inputChoosing-is : (u : Option ℕ) {c : ℕ} {ps : List Entry} (l : ℕ) (rs : List ℕ) (w p : ℕ) (io : Io) → Table T c ps
       → inputChoosing T tokens u c (goingAt l rs w p io)
       ≡ landed T tokens (seekBy T tokens u (length ps) (c + 1)) (c + 1 + 2 * length ps)
       (goingAt l rs (orElse u w) p (took io)) (goingAt l rs (orElse u w) p io)
@@ -181,10 +181,10 @@ module _ (T : List ℕ) (start : ℕ → ℕ) (prog : List Rule) where
   end-good (inAlternative r ∷ k) (end-alternative d a) = rw d
   end-good (inOtherwise r ∷ k) (end-otherwise (at-place h hg hh)) = lays-good r h (λ g. end-good k (hg g))
 
-  at-good : {v : Bool} {q : Acts} {k : List Context} {l : ℕ} → At T start prog v q k l → good (decode T l) ≡ true
+  pub at-good : {v : Bool} {q : Acts} {k : List Context} {l : ℕ} → At T start prog v q k l → good (decode T l) ≡ true
   at-good (at-place {q = q} {k = k} h hg hh) = lays-good q h (λ g. end-good k (hg g))
 
-  at-choice-good : {v : Bool} {q : Alts} {o : Other} {r : Acts} {k : List Context} {l : ℕ} → AtChoice T start prog v q o r k l
+  pub at-choice-good : {v : Bool} {q : Alts} {o : Other} {r : Acts} {k : List Context} {l : ℕ} → AtChoice T start prog v q o r k l
       → good (decode T l) ≡ true
   unfolding good
   at-choice-good (at-choice (lay-choice d t hq ho) hg hh) = rw d
@@ -201,8 +201,9 @@ module _ (T : List ℕ) (start : ℕ → ℕ) (prog : List Rule) where
   unfolding exitsAll
   exit-out a q hh g = hh (or₁ (exits a) (exitsAll q) g)
 
-  pend-length : {v : Bool} {ps : List Pending} {rs : List ℕ} → Pend T start prog v ps rs → length ps ≡ length rs
+  pub pend-length : {v : Bool} {ps : List Pending} {rs : List ℕ} → Pend T start prog v ps rs → length ps ≡ length rs
   pend-length pend-nil = refl
+  pend-length pend-last = refl
   pend-length (pend-before a h) = ap suc (pend-length h)
   pend-length (pend-choice a h) = ap suc (pend-length h)
 
@@ -296,7 +297,8 @@ module _ (T : List ℕ) (start : ℕ → ℕ) (prog : List Rule) (tokens answers
 
   give-rel : {ps : List Pending} {rs : List ℕ} (io : Io) (l w p : ℕ) → Pend T start prog true ps rs
       → Rel T start prog (gaveBack w ps io) (doing T tokens answers (returning T tokens rs (goingAt l rs w p io)) (goingAt l rs w p io))
-  unfolding gaveBack returning doing withReturns moved
+  unfolding gaveBack returning doing withReturns moved inPhase
+  give-rel io l w p pend-last = rel-stopped refl
   give-rel io l w p (pend-choice {r = r} {rs = rs} a h) =
       rw (goTo-is T tokens r (goingAt l rs w p io) (at-choice-good T start prog a)) (rel-choosing a h)
 

@@ -14,7 +14,7 @@ use Rattle.agreement.proofs.Agree.{Same, both-going, both-stopped, same
 use Rattle.agreement.proofs.BoundWalk.{budget, finishes}
 use Rattle.agreement.proofs.Bound.{Over, over-stopped, over-nowhere}
 use Rattle.agreement.proofs.MoreAnswers.{one-more, alike}
-use Rattle.agreement.proofs.Lists.{withEvents, step-asked, going-stopped, waiting-stopped, runs-suc, one-going, Where, lives, left, waits, listed-where, number-37}
+use Rattle.agreement.proofs.Lists.{withEvents, step-asked, going-stopped, waiting-stopped, runs-suc, one-going, Where, lives, left, waits, listed-where, kept-fresh, number-37}
 use Rattle.agreement.proofs.Sim.{Running, running-on, running-choosing}
 use Rattle.agreement.proofs.Single.{taking, done, oneIn, one, runs}
 use Rattle.agreement.specs.Demand.{wanted, Listed, RulesStop, RulesWrite, HasStopped, Suffices, StepsBelow, Agrees, Finishes, Demand3}
@@ -44,7 +44,7 @@ module _ (T tokens answers : List ℕ) where
   stays zero w r e = refl
   stays (suc k) w r e = ap (runs T tokens answers k) (one-stopped w r e) ∙ stays k w r e
 
-  later : (k n : ℕ) (w : Walk) (r : Reason) → k ≤ n → runs T tokens answers k w .phase ≡ stopped r → runs T tokens answers n w .phase ≡ stopped r
+  pub later : (k n : ℕ) (w : Walk) (r : Reason) → k ≤ n → runs T tokens answers k w .phase ≡ stopped r → runs T tokens answers n w .phase ≡ stopped r
   unfolding runs
   later zero n w r h e = ap (λ (v : Walk). v .phase) (stays n w r e) ∙ e
   later (suc k) zero w r h e = absurd (omega arith)
@@ -60,7 +60,7 @@ module _ (prog : List Rule) (more tokens answers : List ℕ) (allowance : ℕ) (
   Step n = runs Table tokens answers n (fresh allowance)
 
   -- no single step leads out of the table
-  no-way-out : {A : Type 0} (n : ℕ) → Step n .phase ≡ going → step Table tokens (Step n) ≡ goesOutside → A
+  pub no-way-out : {A : Type 0} (n : ℕ) → Step n .phase ≡ going → step Table tokens (Step n) ≡ goesOutside → A
   unfolding done inPhase
   no-way-out n g s =
       let x = agree prog more tokens answers allowance a (suc n) in
@@ -81,15 +81,15 @@ module _ (prog : List Rule) (more tokens answers : List ℕ) (allowance : ℕ) (
   pub events : {w : Walk} {es : List Event} {n : ℕ} {ns : List ℕ} → Listed Table tokens answers allowance w es n ns → (w .phase ≡ waiting → ⊥) → RulesWrite prog tokens answers allowance es
   events {w} {es} {n} l h = go (listed-where Table tokens answers allowance l)
     where
-      go : Where Table tokens answers allowance w es n → RulesWrite prog tokens answers allowance es
+      go : Where Table tokens answers (fresh allowance) (kept-fresh allowance) w es n → RulesWrite prog tokens answers allowance es
       go (lives p e mv) = events-of w es n e
       go (left p g s e) = no-way-out n g s
       go (waits k v v′ e d g s q m e₁) = absurd (h (ap (λ (u : Walk). u .phase) e₁ ∙ unfold inPhase in refl))
 
   pub never-37 : {w : Walk} {es : List Event} {n number : ℕ} {ns : List ℕ} → Listed Table tokens answers allowance w es n (number ∷ ns) → number ≡ 37 → ⊥
-  never-37 {w} {es} {n} l e = go (listed-where Table tokens answers allowance l) (number-37 Table tokens answers allowance l e)
+  never-37 {w} {es} {n} l e = go (listed-where Table tokens answers allowance l) (number-37 Table tokens answers l e)
     where
-      go : Where Table tokens answers allowance w es n → w .phase ≡ stopped outside → ⊥
+      go : Where Table tokens answers (fresh allowance) (kept-fresh allowance) w es n → w .phase ≡ stopped outside → ⊥
       go (lives p e₁ mv) h = never-outside (agree prog more tokens answers allowance a n .1) (in-phase w es n (stopped outside) e₁ h)
       go (left p g s e₁) h = no-way-out n g s
       go (waits k v v′ e d g s q m e₁) h = waiting-stopped (ap (λ (u : Walk). u .phase) e₁ ∙ unfold inPhase in refl) h
@@ -99,7 +99,7 @@ module _ (prog : List Rule) (more tokens answers : List ℕ) (allowance : ℕ) (
   unfolding withEvents withIo inPhase
   stops-alike {w} {es} {n} {ns} {r} l h = go (listed-where Table tokens answers allowance l)
     where
-      go : Where Table tokens answers allowance w es n → RulesStop prog tokens answers allowance r (record { read = w .io .read; used = w .io .used; allowance = w .io .allowance; events = es })
+      go : Where Table tokens answers (fresh allowance) (kept-fresh allowance) w es n → RulesStop prog tokens answers allowance r (record { read = w .io .read; used = w .io .used; allowance = w .io .allowance; events = es })
       go (lives p e mv) =
           let x = agree prog more tokens answers allowance a n in
           record { steps = x .0; stop = same-stopped (x .1) (in-phase w es n (stopped r) e h) ∙ ap (λ (v : Walk). rules.stopped r (v .io)) (sym e) }
@@ -111,7 +111,7 @@ module _ (prog : List Rule) (more tokens answers : List ℕ) (allowance : ℕ) (
   unfolding withEvents withIo
   suffices k b r h e w es n ns l = elim (decLt n b) [ yes x ↦ inr (inl x) | no x ↦ inl (go (listed-where Table tokens answers allowance l) (omega arith)) ]
     where
-      go : Where Table tokens answers allowance w es n → k < n → HasStopped w
+      go : Where Table tokens answers (fresh allowance) (kept-fresh allowance) w es n → k < n → HasStopped w
       go (lives p e₁ mv) m = record { reason = r; stop = ap (λ (v : Walk). v .phase) e₁ ∙ later Table tokens answers k n (fresh allowance) r (omega arith) e }
       go (left p g s e₁) m = record { reason = outside; stop = p }
       go (waits i v v′ e₂ d g s q m₁ e₁) m = absurd (going-stopped g (ap (λ (u : Walk). u .phase) (sym d) ∙ later Table tokens answers k i (fresh allowance) r (omega arith) e))
@@ -124,7 +124,7 @@ module _ (prog : List Rule) (more tokens answers : List ℕ) (allowance : ℕ) (
       too-late : (m : ℕ) → Step m .phase ≡ going → k ≤ m → ⊥
       too-late m g x = going-stopped g (later Table tokens answers k m (fresh allowance) r x e)
 
-      go : Where Table tokens answers allowance w es n → k < n → ⊥
+      go : Where Table tokens answers (fresh allowance) (kept-fresh allowance) w es n → k < n → ⊥
       go (lives p e₁ mv) x = let q : n ≡ suc (n - 1) = omega arith in too-late (n - 1) (mv (n - 1) q) (omega arith)
       go (left p g s e₁) x = too-late n g (omega arith)
       go (waits i v v′ e₂ d g s q m e₁) x = too-late i (ap (λ (u : Walk). u .phase) d ∙ g) (omega arith)
@@ -140,7 +140,7 @@ module _ (prog : List Rule) (more tokens answers : List ℕ) (allowance : ℕ) (
   unfolding done taking writing Walk.opened io.wrote io.answered
   events-waiting {w} {es} {n} l h x = go (listed-where Table tokens answers allowance l)
     where
-      go : Where Table tokens answers allowance w es n → RulesWrite prog tokens (answers ++ (x ∷ [])) allowance es
+      go : Where Table tokens answers (fresh allowance) (kept-fresh allowance) w es n → RulesWrite prog tokens (answers ++ (x ∷ [])) allowance es
       go (lives p e mv) = absurd (p h)
       go (left p g s e) = no-way-out n g s
       go (waits k v v′ e d g s q m e₁) =

@@ -39,14 +39,18 @@ Allowed answers (paused (some x)) going es = Unit {0}
 Allowed answers (paused (some x)) waiting es = wanted answers es ≡ some x
 Allowed answers (paused (some x)) (stopped r) es = Unit {0}
 
--- the walks that a list of calls from a fresh walk with this repair allowance leads to, "each getting the walk that the last one gave back": with the events of the
--- calls in order, the steps in all, and the numbers answered, the last first
-pub data Listed (T tokens answers : List ℕ) (allowance : ℕ) : Walk → List Event → ℕ → List ℕ → Type 0 where
-  begin : Listed T tokens answers allowance (fresh allowance) [] 0 []
-  then-call : {w : Walk} {es : List Event} {n : ℕ} {ns : List ℕ} → Listed T tokens answers allowance w es n ns
+-- the walks that a list of calls from the walk w₀ leads to, "each getting the walk that the last one gave back", es₀ being the events before: with all
+-- events in order, the steps of the calls in all, and the numbers answered, the last first
+pub data ListedFrom (T tokens answers : List ℕ) (w₀ : Walk) (es₀ : List Event) : Walk → List Event → ℕ → List ℕ → Type 0 where
+  begin : ListedFrom T tokens answers w₀ es₀ w₀ es₀ 0 []
+  then-call : {w : Walk} {es : List Event} {n : ℕ} {ns : List ℕ} → ListedFrom T tokens answers w₀ es₀ w es n ns
       → (m : Mode) (budget room : ℕ) → Allowed answers m (w .phase) es
-      → Listed T tokens answers allowance (callWalk T tokens m budget room w .walk) (es ++ callWalk T tokens m budget room w .events)
+      → ListedFrom T tokens answers w₀ es₀ (callWalk T tokens m budget room w .walk) (es ++ callWalk T tokens m budget room w .events)
       (n + callWalk T tokens m budget room w .steps) (callWalk T tokens m budget room w .number ∷ ns)
+
+-- from a fresh walk with this repair allowance
+abbrev pub Listed : List ℕ → List ℕ → List ℕ → ℕ → Walk → List Event → ℕ → List ℕ → Type 0
+Listed T tokens answers allowance = ListedFrom T tokens answers (fresh allowance) []
 
 -- the rules' own walk stops
 pub record RulesStop (prog : List Rule) (tokens answers : List ℕ) (allowance : ℕ) (r : Reason) (io : Io) : Type 0 where

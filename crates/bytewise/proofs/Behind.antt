@@ -27,7 +27,7 @@ module _ (short long more : List ℕ) (b : Slice short) (good : Taken (tableOf s
       → callBytes long tokens m budget s buffer ≡ callBytes short tokens m budget s buffer
   same-call {s} l m budget buffer =
       let st = byte-calls short tokens answers (b .bytes) bk ba allowance small l in
-      call-bytes m budget s buffer (st .walk) (st .read-back) (led (tableOf short) (wordsOf tokens) good (st .listed) .walk)
+      call-bytes m budget s buffer (st .walk) (st .read-back) (led (tableOf short) (wordsOf tokens) good allowance (st .listed) .walk)
 
   to-long : {s ws : List ℕ} {n : ℕ} {ns : List ℕ} → ByteCalls short tokens answers allowance s ws n ns → ByteCalls long tokens answers allowance s ws n ns
   to-long first = first

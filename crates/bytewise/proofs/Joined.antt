@@ -8,7 +8,7 @@ use lib.Dec.{leb}
 use lib.ListN.{length, take, drop, getD}
 use lib.Seq.{take-append-seam}
 use Rattle.base.specs.Common.{if_then_else_}
-use Rattle.agreement.specs.Demand.{wanted, Allowed, Listed, begin, then-call}
+use Rattle.agreement.specs.Demand.{wanted, Allowed, ListedFrom, begin, then-call}
 use Rattle.events.specs.Events.{Event, output, signal, repair, operation, operationWith, eventWords, isChoice, choices}
 use Rattle.machine.proofs.Bytes.{length-wordsOf, length-tableOf, wordsOf-append}
 use Rattle.machine.proofs.Form.{walkOf-walkBytes}
@@ -19,7 +19,7 @@ use Rattle.machine.specs.Bytes.{count, wordsOf, tableOf, bytesOf, over}
 use Rattle.machine.specs.Call.{Mode, whole, paused, callWalk}
 use Rattle.machine.specs.Form.{Fits, walkBytes, walkOf, eventsWords, Outcome, outcome, callBytes}
 use Rattle.machine.specs.Walk.{Phase, going, waiting, stopped, Walk, fresh}
-use Rattle.bytewise.specs.ByteCalls.{Slice, writtenWords, choicesIn, Hands, ByteCalls, first, next, Stands}
+use Rattle.bytewise.specs.ByteCalls.{Slice, writtenWords, choicesIn, Hands, ByteCallsFrom, first, next, ByteCalls, StandsFrom, Stands}
 
 -- Words and bytes
 
@@ -72,37 +72,44 @@ small-mode answers s ws (whole given) b h = rw h (small-words answers (b .bytes)
 small-mode answers s ws (paused none) b h = tt
 small-mode answers s ws (paused (some x)) b h = h .0
 
-module _ (table tokens answers : List ℕ) (bt : (i : ℕ) → getD table i 0 < 256) (bk : Slice tokens) (ba : Slice answers) (allowance : ℕ) (small : allowance < 65536) where
-  step : {n : ℕ} {ns : List ℕ} (w : Walk) (es : List Event) → Fits w → Listed (tableOf table) (wordsOf tokens) (wordsOf answers) allowance w es n ns
-      → (m : Mode) (budget : ℕ) (buffer : List ℕ) → SmallMode m → Allowed (wordsOf answers) m (w .phase) es → (o : Outcome)
-      → o ≡ outcome (some w) (walkBytes w) buffer (callWalk (tableOf table) (wordsOf tokens) m budget (count buffer))
-      → Stands table tokens answers allowance (o .walk) (eventsWords es ++ writtenWords o) (n + o .steps) (o .number ∷ ns)
-  unfolding outcome writtenWords
-  step {n} {ns} w es f l m budget buffer sm h o e =
-      let c = callWalk (tableOf table) (wordsOf tokens) m budget (count buffer) w in
-      let g : Fits (c .walk) = fits-call (tableOf table) (wordsOf tokens) m budget (count buffer) w (small-table table bt) (small-words tokens (bk .bytes))
-      sm (length-tableOf table) (short-words tokens bk) f in
-      rw e (record {
-        walk = c .walk;
-        events = es ++ c .events;
-        bytes = refl;
-        read-back = walkOf-walkBytes (c .walk) g;
-        fits = g;
-        words = ap (λ (x : List ℕ). eventsWords es ++ x) (written-is (c .events) buffer) ∙ sym (eventsWords-then es (c .events));
-        listed = then-call l m budget (count buffer) h;
-      })
+module _ (table tokens answers : List ℕ) (bt : (i : ℕ) → getD table i 0 < 256) (bk : Slice tokens) (ba : Slice answers) where
+  module _ (w₀ : Walk) (es₀ : List Event) (fits₀ : Fits w₀) where
+    step : {n : ℕ} {ns : List ℕ} (w : Walk) (es : List Event) → Fits w → ListedFrom (tableOf table) (wordsOf tokens) (wordsOf answers) w₀ es₀ w es n ns
+        → (m : Mode) (budget : ℕ) (buffer : List ℕ) → SmallMode m → Allowed (wordsOf answers) m (w .phase) es → (o : Outcome)
+        → o ≡ outcome (some w) (walkBytes w) buffer (callWalk (tableOf table) (wordsOf tokens) m budget (count buffer))
+        → StandsFrom table tokens answers w₀ es₀ (o .walk) (eventsWords es ++ writtenWords o) (n + o .steps) (o .number ∷ ns)
+    unfolding outcome writtenWords
+    step {n} {ns} w es f l m budget buffer sm h o e =
+        let c = callWalk (tableOf table) (wordsOf tokens) m budget (count buffer) w in
+        let g : Fits (c .walk) = fits-call (tableOf table) (wordsOf tokens) m budget (count buffer) w (small-table table bt) (small-words tokens (bk .bytes))
+        sm (length-tableOf table) (short-words tokens bk) f in
+        rw e (record {
+          walk = c .walk;
+          events = es ++ c .events;
+          bytes = refl;
+          read-back = walkOf-walkBytes (c .walk) g;
+          fits = g;
+          words = ap (λ (x : List ℕ). eventsWords es ++ x) (written-is (c .events) buffer) ∙ sym (eventsWords-then es (c .events));
+          listed = then-call l m budget (count buffer) h;
+        })
 
-  pub byte-calls : {s ws : List ℕ} {n : ℕ} {ns : List ℕ} → ByteCalls table tokens answers allowance s ws n ns → Stands table tokens answers allowance s ws n ns
-  unfolding eventsWords callBytes
-  byte-calls first = record { walk = fresh allowance; events = []; bytes = refl; read-back = walkOf-walkBytes (fresh allowance) (fits-fresh allowance small); fits = fits-fresh allowance small; words = refl; listed = begin }
-  byte-calls (next {s} {ws} {n} {ns} l m budget buffer h {o} e) = go (byte-calls l)
-    where
-      go : Stands table tokens answers allowance s ws n ns → Stands table tokens answers allowance (o .walk) (ws ++ writtenWords o) (n + o .steps) (o .number ∷ ns)
-      go st =
-          let w = st .walk in
-          let es = st .events in
-          let h₁ : Hands answers m s (eventsWords es) = rw (st .words) at h in
-          let d : o ≡ outcome (some w) (walkBytes w) buffer (callWalk (tableOf table) (wordsOf tokens) m budget (count buffer)) =
-          e ∙ (rw (st .read-back, st .bytes) refl) in
-          rw (st .words) (step w es (st .fits) (st .listed) m budget buffer (small-mode answers s (eventsWords es) m ba h₁)
-          (allowed answers s ba m w (w .phase) es (st .read-back) refl h₁) o d)
+    pub byte-calls-from : {s₀ ws₀ s ws : List ℕ} {n : ℕ} {ns : List ℕ} → s₀ ≡ walkBytes w₀ → ws₀ ≡ eventsWords es₀ → ByteCallsFrom table tokens answers s₀ ws₀ s ws n ns
+        → StandsFrom table tokens answers w₀ es₀ s ws n ns
+    unfolding callBytes
+    byte-calls-from d e first = record { walk = w₀; events = es₀; bytes = d; read-back = rw d (walkOf-walkBytes w₀ fits₀); fits = fits₀; words = e; listed = begin }
+    byte-calls-from d₀ e₀ (next {s} {ws} {n} {ns} l m budget buffer h {o} e) = go (byte-calls-from d₀ e₀ l)
+      where
+        go : StandsFrom table tokens answers w₀ es₀ s ws n ns → StandsFrom table tokens answers w₀ es₀ (o .walk) (ws ++ writtenWords o) (n + o .steps) (o .number ∷ ns)
+        go st =
+            let w = st .walk in
+            let es = st .events in
+            let h₁ : Hands answers m s (eventsWords es) = rw (st .words) at h in
+            let d : o ≡ outcome (some w) (walkBytes w) buffer (callWalk (tableOf table) (wordsOf tokens) m budget (count buffer)) =
+            e ∙ (rw (st .read-back, st .bytes) refl) in
+            rw (st .words) (step w es (st .fits) (st .listed) m budget buffer (small-mode answers s (eventsWords es) m ba h₁)
+            (allowed answers s ba m w (w .phase) es (st .read-back) refl h₁) o d)
+
+  module _ (allowance : ℕ) (small : allowance < 65536) where
+    pub byte-calls : {s ws : List ℕ} {n : ℕ} {ns : List ℕ} → ByteCalls table tokens answers allowance s ws n ns → Stands table tokens answers allowance s ws n ns
+    unfolding eventsWords
+    byte-calls l = byte-calls-from (fresh allowance) [] (fits-fresh allowance small) refl refl l

@@ -10,3 +10,4 @@ pub mod Admitted
 pub mod Screens
 pub mod Tables
 pub mod Linking
+pub mod Carried

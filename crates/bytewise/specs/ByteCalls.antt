@@ -8,7 +8,7 @@ use Prim.Native.Nat.{ℕ, _+_, _*_, _-_, _^_, _<_}
 use lib.Dec.{eqb, leb}
 use lib.ListN.{length, take, getD, getElem?}
 use Rattle.base.specs.Common.{if_then_else_}
-use Rattle.agreement.specs.Demand.{Listed}
+use Rattle.agreement.specs.Demand.{ListedFrom}
 use Rattle.events.specs.Events.{Event}
 use Rattle.machine.specs.Bytes.{wordsOf, tableOf}
 use Rattle.machine.specs.Call.{Mode, whole, paused}
@@ -43,24 +43,30 @@ Hands answers (whole given) s ws = given ≡ wordsOf answers
 Hands answers (paused none) s ws = Unit {0}
 Hands answers (paused (some x)) s ws = (x < 65536) × (Waits s → getElem? (wordsOf answers) (choicesIn ws - 1) ≡ some x)
 
--- what a list of calls leads to from the bytes of a fresh walk with this repair allowance, as `sst_fresh` writes them: the walk's bytes, the words of the events of all calls in order, the steps in
--- all, the numbers answered, the last first. Each call has any budget and any event buffer; o is what it leaves with its caller, by the
--- contracts of `sst_whole` and `sst_paused`
-pub data ByteCalls (table tokens answers : List ℕ) (allowance : ℕ) : List ℕ → List ℕ → ℕ → List ℕ → Type 0 where
-  first : ByteCalls table tokens answers allowance (walkBytes (fresh allowance)) [] 0 []
-  next : {s ws : List ℕ} {n : ℕ} {ns : List ℕ} → ByteCalls table tokens answers allowance s ws n ns
+-- what a list of calls leads to from a walk's bytes s₀ on, ws₀ being the words of the events before: the walk's bytes, the words of all events in order, the steps of the calls, the
+-- numbers answered, the last first. Each call has any budget and any event buffer; o is what it leaves with its caller, by the contracts of `sst_whole` and `sst_paused`
+pub data ByteCallsFrom (table tokens answers s₀ ws₀ : List ℕ) : List ℕ → List ℕ → ℕ → List ℕ → Type 0 where
+  first : ByteCallsFrom table tokens answers s₀ ws₀ s₀ ws₀ 0 []
+  next : {s ws : List ℕ} {n : ℕ} {ns : List ℕ} → ByteCallsFrom table tokens answers s₀ ws₀ s ws n ns
       → (m : Mode) (budget : ℕ) (buffer : List ℕ) → Hands answers m s ws → {o : Outcome} → o ≡ callBytes table tokens m budget s buffer
-      → ByteCalls table tokens answers allowance (o .walk) (ws ++ writtenWords o) (n + o .steps) (o .number ∷ ns)
+      → ByteCallsFrom table tokens answers s₀ ws₀ (o .walk) (ws ++ writtenWords o) (n + o .steps) (o .number ∷ ns)
 
--- the bytes and words are those of a list of calls of demand 3 (`Listed`): the bytes a walk's and read back as that walk, the words its events'
-pub record Stands (table tokens answers : List ℕ) (allowance : ℕ) (s ws : List ℕ) (n : ℕ) (ns : List ℕ) : Type 0 where
+-- from the bytes of a fresh walk with this repair allowance, as `sst_fresh` writes them
+abbrev pub ByteCalls : List ℕ → List ℕ → List ℕ → ℕ → List ℕ → List ℕ → ℕ → List ℕ → Type 0
+ByteCalls table tokens answers allowance = ByteCallsFrom table tokens answers (walkBytes (fresh allowance)) []
+
+-- the bytes and words are those of a list of calls of demand 3 that began with the walk w₀ after the events es₀: the bytes a walk's and read back as that walk, the words its events'
+pub record StandsFrom (table tokens answers : List ℕ) (w₀ : Walk) (es₀ : List Event) (s ws : List ℕ) (n : ℕ) (ns : List ℕ) : Type 0 where
   pub walk : Walk
   pub events : List Event
   pub bytes : s ≡ walkBytes walk
   pub read-back : walkOf s ≡ some walk
   pub fits : Fits walk
   pub words : ws ≡ eventsWords events
-  pub listed : Listed (tableOf table) (wordsOf tokens) (wordsOf answers) allowance walk events n ns
+  pub listed : ListedFrom (tableOf table) (wordsOf tokens) (wordsOf answers) w₀ es₀ walk events n ns
+
+abbrev pub Stands : List ℕ → List ℕ → List ℕ → ℕ → List ℕ → List ℕ → ℕ → List ℕ → Type 0
+Stands table tokens answers allowance = StandsFrom table tokens answers (fresh allowance) []
 
 -- all of this file computes where this is unfolded
 unfoldable pub opened : Unit {0}

@@ -8,3 +8,4 @@ pub mod AtScreen
 pub mod AtFigure
 pub mod AtTable
 pub mod AtLinking
+pub mod AtCarry

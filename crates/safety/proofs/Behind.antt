@@ -55,11 +55,11 @@ module _ (T more tokens : List ℕ) (good : Taken T) where
   module _ (answers : List ℕ) (allowance : ℕ) where
     with-more : {w : Walk} {es : List Event} {n : ℕ} {ns : List ℕ} → Listed T tokens answers allowance w es n ns → Listed (T ++ more) tokens answers allowance w es n ns
     with-more begin = begin
-    with-more (then-call {w = w} l m budget room a) = rw (← call-same m budget room w (led T tokens good l .walk)) (then-call (with-more l) m budget room a)
+    with-more (then-call {w = w} l m budget room a) = rw (← call-same m budget room w (led T tokens good allowance l .walk)) (then-call (with-more l) m budget room a)
 
     without : {w : Walk} {es : List Event} {n : ℕ} {ns : List ℕ} → Listed (T ++ more) tokens answers allowance w es n ns → Listed T tokens answers allowance w es n ns
     without begin = begin
-    without (then-call {w = w} l m budget room a) = let h = without l in rw (call-same m budget room w (led T tokens good h .walk)) (then-call h m budget room a)
+    without (then-call {w = w} l m budget room a) = let h = without l in rw (call-same m budget room w (led T tokens good allowance h .walk)) (then-call h m budget room a)
 
 pub behind-nothing : BehindNothing
 behind-nothing T more good tokens answers allowance = record { with-more = with-more T more tokens good answers allowance; without = without T more tokens good answers allowance }

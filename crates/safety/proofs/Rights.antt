@@ -38,7 +38,7 @@ pub keeps : AdmittedKeeps
 keeps T more set e tokens answers allowance w es n ns l =
     let r = admits-exactly T set .only-these e in
     let h = Taken-behind T more (r .0) in
-    sources-within T more set (r .0) (r .1) (led (T ++ more) tokens h l .events)
+    sources-within T more set (r .0) (r .1) (led (T ++ more) tokens h allowance l .events)
 
 pub loaded-keeps : LoadedKeeps
 unfolding admitLoaded

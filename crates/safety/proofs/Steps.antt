@@ -347,11 +347,11 @@ module _ (T tokens : List ℕ) (good : Taken T) where
   unfolding fresh
   fresh-stands allowance = record { at = at-start; back = back-nil; events = no-events; live = not-outside refl }
 
-  pub led : {answers : List ℕ} {allowance : ℕ} {w : Walk} {es : List Event} {n : ℕ} {ns : List ℕ} → Listed T tokens answers allowance w es n ns → Led w es ns
+  pub led : {answers : List ℕ} (allowance : ℕ) {w : Walk} {es : List Event} {n : ℕ} {ns : List ℕ} → Listed T tokens answers allowance w es n ns → Led w es ns
   unfolding Last callWalk
-  led {allowance = allowance} begin = record { walk = fresh-stands allowance; events = no-events; number = tt }
-  led (then-call {w = w} {es = es} l m budget room a) =
-      let h = led l in
+  led allowance begin = record { walk = fresh-stands allowance; events = no-events; number = tt }
+  led allowance (then-call {w = w} {es = es} l m budget room a) =
+      let h = led allowance l in
       let r = callIn-right (w .phase) m budget room w refl (h .walk) in
       record { walk = r .walk; events = sources-append (h .events) (r .events); number = r .number }
 

@@ -18,7 +18,7 @@ use Rattle.safety.proofs.Written.{written-taken}
 pub never-37 : TakenNever37
 never-37 T more t tokens answers allowance w es n number ns l =
     let h = Taken-behind T more t in
-    last-37 (T ++ more) tokens h (led (T ++ more) tokens h l)
+    last-37 (T ++ more) tokens h (led (T ++ more) tokens h allowance l)
 
 pub loaded-never-37 : LoadedNever37
 loaded-never-37 file room ws verdict more e = never-37 ws more (loads-exactly file room ws verdict .only-these e .takes)

@@ -1,0 +1,4 @@
+pub mod Held
+pub mod Going
+pub mod Sheets
+pub mod Sections

@@ -1,0 +1,6 @@
+pub mod Carry
+pub mod Texts
+pub mod Identity
+pub mod Places
+pub mod GoingOn
+pub mod Scan
