@@ -17,7 +17,7 @@ use Rattle.agreement.specs.Demand.{wanted, Listed}
 use Rattle.base.specs.Common.{if_then_else_}
 use Rattle.carry.proofs.After.{follows-going, ends-going, follows-waiting, ends-waiting, follows-stopped, ends-stopped, listed-idle}
 use Rattle.carry.proofs.Ends.{ends-after}
-use Rattle.carry.proofs.Found.{Spot, found-after}
+use Rattle.carry.proofs.Found.{carried-inj, no-stay, Spot, found-after}
 use Rattle.carry.proofs.Lists.{some-inj, none-some, Distinct}
 use Rattle.carry.proofs.Tokens.{runs-reads}
 use Rattle.carry.specs.Carry.{Source, carryPlace, beside, carryPlaces, Carried, carried, stays, putAt, sameAll, carry}
@@ -32,12 +32,6 @@ use Rattle.machine.specs.Walk
 use Rattle.machine.specs.Walk.{Phase, going, waiting, stopped, Walk, fresh, moved, withReturns, withIo, inPhase, withAnswer}
 use Rattle.program.specs.Accepted.{Accepted}
 use Rattle.program.specs.Table.{table}
-
-carried-inj : {a b : Walk} → carried a ≡ carried b → a ≡ b
-carried-inj e = cc
-
-no-stay : {A : Type 0} {n : ℕ} {w : Walk} → stays n ≡ carried w → A
-no-stay e = let z : _≡_ {A = ℕ} 0 1 = cc in absurd (omega arith)
 
 -- carrying sees and changes places only; f changes what is no place
 module _ (p q : Source) (f : Walk → Walk) (same-location : (w : Walk) → f w .location ≡ w .location) (same-returns : (w : Walk) → f w .returns ≡ w .returns)

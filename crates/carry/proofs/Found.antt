@@ -70,12 +70,12 @@ partner p q a = go (numberOf (nameOf (p .names) a) 0 (q .names))
     go none = none
     go (some s) = if sameWords p q a s then some s else none
 
-record Partner (p q : Source) (a a′ : ℕ) : Type 0 where
-  there : a′ < length (q .names)
-  named : nameOf (q .names) a′ ≡ nameOf (p .names) a
-  words : markedWords (mark (p .names) (q .names)) (ruleOf (q .rules) a′) ≡ markedWords (mark (p .names) (p .names)) (ruleOf (p .rules) a)
+pub record Partner (p q : Source) (a a′ : ℕ) : Type 0 where
+  pub there : a′ < length (q .names)
+  pub named : nameOf (q .names) a′ ≡ nameOf (p .names) a
+  pub words : markedWords (mark (p .names) (q .names)) (ruleOf (q .rules) a′) ≡ markedWords (mark (p .names) (p .names)) (ruleOf (p .rules) a)
 
-partner-is : (p q : Source) (a a′ : ℕ) → partner p q a ≡ some a′ → Partner p q a a′
+pub partner-is : (p q : Source) (a a′ : ℕ) → partner p q a ≡ some a′ → Partner p q a a′
 unfolding partner sameWords
 partner-is p q a a′ e = outer (numberOf (nameOf (p .names) a) 0 (q .names)) refl e
   where
@@ -95,12 +95,12 @@ partner-is p q a a′ e = outer (numberOf (nameOf (p .names) a) 0 (q .names)) re
     outer (some s) d e₁ = inner s d (sameWords p q a s) refl e₁
 
 -- a carried location: the rule has a partner, the word is the same
-record CarriedAt (p q : Source) (a o l′ : ℕ) : Type 0 where
-  rule : ℕ
-  is : partner p q a ≡ some rule
-  at : l′ ≡ place 0 (q .rules) rule + o
+pub record CarriedAt (p q : Source) (a o l′ : ℕ) : Type 0 where
+  pub rule : ℕ
+  pub is : partner p q a ≡ some rule
+  pub at : l′ ≡ place 0 (q .rules) rule + o
 
-given-some : (x : Option ℕ) → given x ≡ true → (y : ℕ) × (x ≡ some y)
+pub given-some : (x : Option ℕ) → given x ≡ true → (y : ℕ) × (x ≡ some y)
 given-some none e = never e
 given-some (some y) e = (y, refl)
 
@@ -108,12 +108,12 @@ pub length-marked : (to : ℕ → ℕ) (r : Rule) → length (markedWords to r) 
 unfolding markedWords sizeRule
 length-marked to r = simp length-append (omega (arith, length-codes to (r .body) 0))
 
-not-zero : (W : List ℕ) (o : ℕ) → given (fetch W o) ≡ true → 1 ≤ o
+pub not-zero : (W : List ℕ) (o : ℕ) → given (fetch W o) ≡ true → 1 ≤ o
 unfolding fetch
 not-zero W zero e = never e
 not-zero W (suc o) e = omega arith
 
-carried-at : (p q : Source) (a o l l′ : ℕ) → l ≡ place 0 (p .rules) a + o → a < length (p .rules)
+pub carried-at : (p q : Source) (a o l l′ : ℕ) → l ≡ place 0 (p .rules) a + o → a < length (p .rules)
     → given (fetch (markedWords (mark (p .names) (p .names)) (ruleOf (p .rules) a)) o) ≡ true → carryPlace p q l ≡ some l′ → CarriedAt p q a o l′
 unfolding carryPlace carriedAt placeOf partner inRule
 carried-at p q a zero l l′ e h g c = let z = not-zero (markedWords (mark (p .names) (p .names)) (ruleOf (p .rules) a)) 0 g in absurd (omega arith)
@@ -145,14 +145,14 @@ carried-at p q a (suc o) l l′ e h g c =
     outer (some s) d c₁ = inner s d (sameWords p q a s) refl c₁
 
 -- all return locations
-record CarriedTwo (p q : Source) (l : ℕ) (ls ls′ : List ℕ) : Type 0 where
-  first : ℕ
-  rest : List ℕ
-  is : ls′ ≡ first ∷ rest
-  first-is : carryPlace p q l ≡ some first
-  rest-is : carryPlaces p q ls ≡ some rest
+pub record CarriedTwo (p q : Source) (l : ℕ) (ls ls′ : List ℕ) : Type 0 where
+  pub first : ℕ
+  pub rest : List ℕ
+  pub is : ls′ ≡ first ∷ rest
+  pub first-is : carryPlace p q l ≡ some first
+  pub rest-is : carryPlaces p q ls ≡ some rest
 
-carried-two : (p q : Source) (l : ℕ) (ls ls′ : List ℕ) → carryPlaces p q (l ∷ ls) ≡ some ls′ → CarriedTwo p q l ls ls′
+pub carried-two : (p q : Source) (l : ℕ) (ls ls′ : List ℕ) → carryPlaces p q (l ∷ ls) ≡ some ls′ → CarriedTwo p q l ls ls′
 unfolding carryPlaces beside
 carried-two p q l ls ls′ e = go (carryPlace p q l) refl (carryPlaces p q ls) refl e
   where
@@ -160,6 +160,33 @@ carried-two p q l ls ls′ e = go (carryPlace p q l) refl (carryPlaces p q ls) r
     go none d y f e₁ = none-some e₁
     go (some x) d none f e₁ = none-some e₁
     go (some x) d (some y) f e₁ = let z : (x ∷ y) ≡ ls′ = some-inj e₁ in record { first = x; rest = y; is = sym z; first-is = d; rest-is = f }
+
+-- where a carried walk is put
+pub record Puts (p q : Source) (w w′ : Walk) : Type 0 where
+  pub location : ℕ
+  pub returns : List ℕ
+  pub location-is : carryPlace p q (w .location) ≡ some location
+  pub returns-are : carryPlaces p q (w .returns) ≡ some returns
+  pub walk-is : w′ ≡ moved location (withReturns returns w)
+
+pub carried-inj : {a b : Walk} → carried a ≡ carried b → a ≡ b
+carried-inj e = cc
+
+pub no-stay : {A : Type 0} {n : ℕ} {w : Walk} → stays n ≡ carried w → A
+no-stay e = let z : _≡_ {A = ℕ} 0 1 = cc in absurd (omega arith)
+
+pub puts : (p q : Source) (w w′ : Walk) → carry p q w ≡ carried w′ → Puts p q w w′
+unfolding carry putAt
+puts p q w w′ e = outer (sameAll (p .sections) (q .sections)) e
+  where
+    inner : (x : Option ℕ) → carryPlace p q (w .location) ≡ x → (y : Option (List ℕ)) → carryPlaces p q (w .returns) ≡ y → putAt w x y ≡ carried w′ → Puts p q w w′
+    inner none d y f e₁ = no-stay e₁
+    inner (some x) d none f e₁ = no-stay e₁
+    inner (some x) d (some y) f e₁ = record { location = x; returns = y; location-is = d; returns-are = f; walk-is = sym (carried-inj e₁) }
+
+    outer : (t : Bool) → (if t then putAt w (carryPlace p q (w .location)) (carryPlaces p q (w .returns)) else stays 51) ≡ carried w′ → Puts p q w w′
+    outer true e₁ = inner (carryPlace p q (w .location)) refl (carryPlaces p q (w .returns)) refl e₁
+    outer false e₁ = no-stay e₁
 
 -- the rules' own walk at the place of a walk, or at the one where the step of the rules began that the walk is in
 pub record Spot (prog : List Rule) (T tokens : List ℕ) (w : Walk) : Type 0 where
@@ -321,32 +348,6 @@ module _ (p q : Source) (ok : Accepted (p .rules)) (ok′ : Accepted (q .rules))
   abbrev Tr : Walk → Type 0
   Tr = Track (p .rules) (q .rules) more more′ mk mk′ ok ok′ tokens answers (partner p q) there fits
 
-  record Puts (w w′ : Walk) : Type 0 where
-    location : ℕ
-    returns : List ℕ
-    location-is : carryPlace p q (w .location) ≡ some location
-    returns-are : carryPlaces p q (w .returns) ≡ some returns
-    walk-is : w′ ≡ moved location (withReturns returns w)
-
-  carried-inj : {a b : Walk} → carried a ≡ carried b → a ≡ b
-  carried-inj e = cc
-
-  no-stay : {A : Type 0} {n : ℕ} {w : Walk} → stays n ≡ carried w → A
-  no-stay e = let z : _≡_ {A = ℕ} 0 1 = cc in absurd (omega arith)
-
-  puts : (w w′ : Walk) → carry p q w ≡ carried w′ → Puts w w′
-  unfolding carry putAt
-  puts w w′ e = outer (sameAll (p .sections) (q .sections)) e
-    where
-      inner : (x : Option ℕ) → carryPlace p q (w .location) ≡ x → (y : Option (List ℕ)) → carryPlaces p q (w .returns) ≡ y → putAt w x y ≡ carried w′ → Puts w w′
-      inner none d y f e₁ = no-stay e₁
-      inner (some x) d none f e₁ = no-stay e₁
-      inner (some x) d (some y) f e₁ = record { location = x; returns = y; location-is = d; returns-are = f; walk-is = sym (carried-inj e₁) }
-
-      outer : (t : Bool) → (if t then putAt w (carryPlace p q (w .location)) (carryPlaces p q (w .returns)) else stays 51) ≡ carried w′ → Puts w w′
-      outer true e₁ = inner (carryPlace p q (w .location)) refl (carryPlaces p q (w .returns)) refl e₁
-      outer false e₁ = no-stay e₁
-
   abbrev Found : Walk → Type 0
   Found = Spot (q .rules) T′ tokens
 
@@ -368,20 +369,20 @@ module _ (p q : Source) (ok : Accepted (p .rules)) (ok′ : Accepted (q .rules))
   goes-on : {w : Walk} → Tr w → (w′ : Walk) → w .phase ≡ going → carry p q w ≡ carried w′ → Found w′
   unfolding moved withReturns
   goes-on (now (at-place {a = a} {o = o} {l = l} {w = w} {p = pa} {rs = rs} {io = io} d h t fr)) w′ g e =
-      let x = puts (goingAt l rs w pa io) w′ e in
+      let x = puts p q (goingAt l rs w pa io) w′ e in
       let y = carried-at p q a o l (x .location) d h (old-inside a o t) (x .location-is) in
       let r = relates a o (y .rule) (x .location) rs (x .returns) w pa io (inl t) fr h (y .is) (y .at) (x .returns-are) in
       let m = goingAt (x .location) (x .returns) w pa io in
       record { own = r .0; at = m; goes-on = refl; related = r .1; stands = r .2; within = subst (Within T′ tokens m) (sym (x .walk-is)) at-start; pending = ap (λ (v : Walk). v .returns) (sym (x .walk-is)) }
   goes-on (now (at-choosing {a = a} {o = o} {l = l} {w = w} {p = pa} {rs = rs} {io = io} d h t fr)) w′ g e =
-      let x = puts (goingAt l rs w pa io) w′ e in
+      let x = puts p q (goingAt l rs w pa io) w′ e in
       let y = carried-at p q a o l (x .location) d h (old-choice-inside a o t) (x .location-is) in
       let r = relates a o (y .rule) (x .location) rs (x .returns) w pa io (inr t) fr h (y .is) (y .at) (x .returns-are) in
       let m = goingAt (x .location) (x .returns) w pa io in
       record { own = r .0; at = m; goes-on = refl; related = r .1; stands = r .2; within = subst (Within T′ tokens m) (sym (x .walk-is)) at-start; pending = ap (λ (v : Walk). v .returns) (sym (x .walk-is)) }
   goes-on (now (at-stop r s)) w′ g e = let z : _≡_ {A = ℕ} 0 1 = cc in absurd (omega arith)
   goes-on (half {a = a} {o = o} {l = l} {w₂ = w₂} {p₂ = p₂} {rs = rs} {io₂ = io₂} o₂ w pa io d i h t fr c n) w′ g e =
-      let x = puts (goingAt l rs w₂ p₂ io₂) w′ e in
+      let x = puts p q (goingAt l rs w₂ p₂ io₂) w′ e in
       let y = carried-at p q a o₂ l (x .location) d h i (x .location-is) in
       let a′ = y .rule in
       let r = relates a o a′ (place 0 (q .rules) a′ + o) rs (x .returns) w pa io t fr h (y .is) refl (x .returns-are) in

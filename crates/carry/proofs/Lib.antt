@@ -13,6 +13,7 @@ pub mod Carrying
 pub mod Tokens
 pub mod Ends
 pub mod Theorem
+pub mod Lying
 pub mod Scanning
 pub mod Comparing
 pub mod Bytes

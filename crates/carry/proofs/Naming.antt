@@ -34,7 +34,7 @@ rising-less a b [] h r = tt
 rising-less a b (l ∷ ls) h r = (omega (arith, r .0), r .1)
 
 -- the operators of a level have its number
-level-of : (l : ℕ) (os : List Operator) (o : Operator) (more : List Operator) → atLevel l os ≡ o ∷ more → o .level ≡ l
+pub level-of : (l : ℕ) (os : List Operator) (o : Operator) (more : List Operator) → atLevel l os ≡ o ∷ more → o .level ≡ l
 unfolding atLevel
 level-of l [] o more e = let z : _≡_ {A = ℕ} 0 1 = cc in absurd (omega arith)
 level-of l (x ∷ os) o more e = go (eqb (x .level) l) refl e (level-of l os o more)

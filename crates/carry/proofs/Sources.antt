@@ -67,12 +67,12 @@ rules-fine p n ks seen (r ∷ rs) =
 
 -- The rules made
 
-levels-named : (u : Use) (ls : List Level) → length (levelNames u ls) ≡ length ls
+pub levels-named : (u : Use) (ls : List Level) → length (levelNames u ls) ≡ length ls
 unfolding levelNames
 levels-named u [] = refl
 levels-named u (l ∷ ls) = ap suc (levels-named u ls)
 
-made-named : (n : Names) (us : List Use) → length (madeNames n us) ≡ total n us
+pub made-named : (n : Names) (us : List Use) → length (madeNames n us) ≡ total n us
 unfolding madeNames total
 made-named n [] = refl
 made-named n (u ∷ us) =

@@ -34,12 +34,12 @@ use Rattle.carry.specs.Places.{Default as Fallback, Within, behind-value
 
 -- Tables with entries so many words later
 
-length-later : (base : ℕ) (ps : List Entry) → length (later base ps) ≡ length ps
+pub length-later : (base : ℕ) (ps : List Entry) → length (later base ps) ≡ length ps
 unfolding later
 length-later base [] = refl
 length-later base (p ∷ ps) = ap suc (length-later base ps)
 
-unfoldable ahead : ℕ → Option ℕ → Option ℕ
+unfoldable pub ahead : ℕ → Option ℕ → Option ℕ
 ahead base none = none
 ahead base (some y) = some (base + y)
 
@@ -53,7 +53,7 @@ lookup-later base u (p ∷ ps) = go (eqb u (p .0)) (lookup-later base u ps)
     go true h = refl
     go false h = h
 
-by-later : (base : ℕ) (u : Option ℕ) (ps : List Entry) → lookupBy u (later base ps) ≡ ahead base (lookupBy u ps)
+pub by-later : (base : ℕ) (u : Option ℕ) (ps : List Entry) → lookupBy u (later base ps) ≡ ahead base (lookupBy u ps)
 unfolding lookupBy ahead
 by-later base none ps = refl
 by-later base (some u) ps = lookup-later base u ps
