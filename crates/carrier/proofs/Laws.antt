@@ -14,7 +14,7 @@ use Rattle.carry.specs.Carry.{written, made, sameName}
 use Rattle.scanner.proofs.WordLaws.{part-at}
 use Rattle.symbols.proofs.Parts.{part-whole, part-own}
 use Rattle.symbols.specs.Search.{part}
-use Rattle.carrier.specs.Held.{numberHeld, nameHeld, lastHeld, ruleHeld, callsHeld, findHeld, endHeld}
+use Rattle.carrier.specs.Held.{countHeld, sizeHeld, numberHeld, nameHeld, lastHeld, ruleHeld, callsHeld, findHeld, endHeld}
 
 -- the parts lie in their lists, and the first k of each are the same
 pub record Alike (a : List ℕ) (i : ℕ) (b : List ℕ) (j n k : ℕ) : Type 0 where
@@ -50,17 +50,17 @@ same-own a i ilen b j jlen n e f = both (part-own a i ilen n e) (part-own b j jl
 
 -- The rule in which a location lies
 
-pub rule-zero : (sheet : List ℕ) (rules size l : ℕ) → l ≡ 0 → (128 ≡ ruleHeld sheet rules size l) × (128 ≤ 128)
+pub rule-zero : (sheet : List ℕ) (l : ℕ) → l ≡ 0 → (128 ≡ ruleHeld sheet l) × (128 ≤ 128)
 unfolding ruleHeld
-rule-zero sheet rules size l e = (rw e refl, omega arith)
+rule-zero sheet l e = (rw e refl, omega arith)
 
-pub rule-past : (sheet : List ℕ) (rules size l : ℕ) → size < l → (128 ≡ ruleHeld sheet rules size l) × (128 ≤ 128)
+pub rule-past : (sheet : List ℕ) (size l : ℕ) → size ≡ sizeHeld sheet → size < l → (128 ≡ ruleHeld sheet l) × (128 ≤ 128)
 unfolding ruleHeld
-rule-past sheet rules size l h = (rw (le-leb 1 l (omega arith), lt-leb l size h) refl, omega arith)
+rule-past sheet size l e h = (rw (le-leb 1 l (omega arith), lt-leb l (sizeHeld sheet) (omega (arith, e, h))) refl, omega arith)
 
-rule-in : (sheet : List ℕ) (rules size l : ℕ) → (l ≡ 0 → ⊥) → l ≤ size → lastHeld sheet rules l ≡ ruleHeld sheet rules size l
+rule-in : (sheet : List ℕ) (l : ℕ) → (l ≡ 0 → ⊥) → l ≤ sizeHeld sheet → lastHeld sheet (countHeld sheet) l ≡ ruleHeld sheet l
 unfolding ruleHeld
-rule-in sheet rules size l n h = rw (le-leb 1 l (above-zero l n), le-leb l size h) refl
+rule-in sheet l n h = rw (le-leb 1 l (above-zero l n), le-leb l (sizeHeld sheet) h) refl
 
 -- the rules from k on begin behind it
 pub record Upto (sheet : List ℕ) (l k₀ k : ℕ) : Type 0 where
@@ -88,23 +88,23 @@ last-next sheet (suc k) l h e =
     let f : l < getD sheet (6 * k + 0) 0 = rw y at e in
     rw (z, lt-leb (getD sheet (6 * k + 0) 0) l f) refl
 
-pub upto-found : {sheet : List ℕ} {l k₀ k : ℕ} (rules size n : ℕ) → Upto sheet l k₀ k → 0 < k → k₀ ≡ rules → rules ≤ 128 → (l ≡ 0 → ⊥) → l ≤ size → n ≡ getD sheet (6 * (k - 1)) 0 → n ≤ l
-    → (k - 1 ≡ ruleHeld sheet rules size l) × (k - 1 ≤ 128)
-upto-found {sheet} {l} {k₀} {k} rules size n u h e few nz le d t =
+pub upto-found : {sheet : List ℕ} {l k₀ k : ℕ} (n : ℕ) → Upto sheet l k₀ k → 0 < k → k₀ ≡ countHeld sheet → countHeld sheet ≤ 128 → (l ≡ 0 → ⊥) → l ≤ sizeHeld sheet → n ≡ getD sheet (6 * (k - 1)) 0 → n ≤ l
+    → (k - 1 ≡ ruleHeld sheet l) × (k - 1 ≤ 128)
+upto-found {sheet} {l} {k₀} {k} n u h e few nz le d t =
     let x : getD sheet (6 * (k - 1)) 0 ≤ l = rw d at t in
-    (last-found sheet k l h x ∙ u .last ∙ ap (λ (i : ℕ). lastHeld sheet i l) e ∙ rule-in sheet rules size l nz le, omega (arith, u .low, e, few))
+    (last-found sheet k l h x ∙ u .last ∙ ap (λ (i : ℕ). lastHeld sheet i l) e ∙ rule-in sheet l nz le, omega (arith, u .low, e, few))
 
 pub upto-next : {sheet : List ℕ} {l k₀ k : ℕ} (n : ℕ) → Upto sheet l k₀ k → 0 < k → n ≡ getD sheet (6 * (k - 1)) 0 → l < n → Upto sheet l k₀ (k - 1)
 upto-next {sheet} {l} {k₀} {k} n u h d t =
     let x : l < getD sheet (6 * (k - 1)) 0 = rw d at t in
     record { low = omega (arith, u .low); last = sym (last-next sheet k l h x) ∙ u .last }
 
-pub upto-none : {sheet : List ℕ} {l k₀ k : ℕ} (rules size : ℕ) → Upto sheet l k₀ k → k ≤ 0 → k₀ ≡ rules → (l ≡ 0 → ⊥) → l ≤ size → (128 ≡ ruleHeld sheet rules size l) × (128 ≤ 128)
+pub upto-none : {sheet : List ℕ} {l k₀ k : ℕ} → Upto sheet l k₀ k → k ≤ 0 → k₀ ≡ countHeld sheet → (l ≡ 0 → ⊥) → l ≤ sizeHeld sheet → (128 ≡ ruleHeld sheet l) × (128 ≤ 128)
 unfolding lastHeld
-upto-none {sheet} {l} {k₀} {k} rules size u h e nz le =
+upto-none {sheet} {l} {k₀} {k} u h e nz le =
     let z : k ≡ 0 = omega arith in
     let x : lastHeld sheet 0 l ≡ lastHeld sheet k₀ l = rw z at (u .last) in
-    (x ∙ ap (λ (i : ℕ). lastHeld sheet i l) e ∙ rule-in sheet rules size l nz le, omega arith)
+    (x ∙ ap (λ (i : ℕ). lastHeld sheet i l) e ∙ rule-in sheet l nz le, omega arith)
 
 -- Names
 
@@ -183,19 +183,19 @@ yet-so false e = never (sym e)
 
 -- Calls
 
-module _ (old sheet : List ℕ) (rules size : ℕ) (new other : List ℕ) (rules′ size′ x y : ℕ) where
+module _ (old sheet new other : List ℕ) (x y : ℕ) where
   abbrev Called : Bool
-  Called = callsHeld old sheet rules size new other rules′ size′ x y
+  Called = callsHeld old sheet new other x y
 
-  pub calls-nowhere : (i : ℕ) → i ≡ ruleHeld sheet rules size x → i ≡ 128 → false ≡ Called
+  pub calls-nowhere : (i : ℕ) → i ≡ ruleHeld sheet x → i ≡ 128 → false ≡ Called
   unfolding callsHeld
   calls-nowhere i e z = rw (sym e ∙ z) refl
 
-  pub calls-gone : (i j : ℕ) → i ≡ ruleHeld sheet rules size x → (i ≡ 128 → ⊥) → j ≡ ruleHeld other rules′ size′ y → j ≡ 128 → false ≡ Called
+  pub calls-gone : (i j : ℕ) → i ≡ ruleHeld sheet x → (i ≡ 128 → ⊥) → j ≡ ruleHeld other y → j ≡ 128 → false ≡ Called
   unfolding callsHeld
   calls-gone i j e n f z = rw (← e, ne-eqb i 128 n, sym f ∙ z) refl
 
-  pub calls-named : (i j : ℕ) (r : Bool) → i ≡ ruleHeld sheet rules size x → (i ≡ 128 → ⊥) → j ≡ ruleHeld other rules′ size′ y → (j ≡ 128 → ⊥)
+  pub calls-named : (i j : ℕ) (r : Bool) → i ≡ ruleHeld sheet x → (i ≡ 128 → ⊥) → j ≡ ruleHeld other y → (j ≡ 128 → ⊥)
       → r ≡ sameName (nameHeld old sheet i) (nameHeld new other j) → r ≡ Called
   unfolding callsHeld
   calls-named i j r e n f m h = rw (← e, ← f, ne-eqb i 128 n, ne-eqb j 128 m) h
@@ -223,10 +223,10 @@ unfolding findHeld
 find-next old sheet i new other zero j r h e = absurd (omega arith)
 find-next old sheet i new other (suc k) j r h e = let z : suc k - 1 ≡ k = omega arith in rw (z, ← e) refl
 
-pub sought-found : {old sheet : List ℕ} {i : ℕ} {new other : List ℕ} {n j : ℕ} (r : Bool) → Sought old sheet i new other n j → j < n → n ≤ 128 → r ≡ sameName (nameHeld old sheet i) (nameHeld new other j) → r ≡ true
-    → (j ≡ findHeld old sheet i new other n 0) × (j ≤ 128)
-sought-found {old} {sheet} {i} {new} {other} {n} {j} r s l m e t =
-    (sym (find-next old sheet i new other (n - j) j r (omega arith) e ∙ rw t refl) ∙ s .rest, omega arith)
+pub sought-found : {old sheet : List ℕ} {i : ℕ} {new other : List ℕ} {n j : ℕ} (r : Bool) → Sought old sheet i new other n j → n ≡ countHeld other → j < n → countHeld other ≤ 128 → r ≡ sameName (nameHeld old sheet i) (nameHeld new other j) → r ≡ true
+    → (j ≡ findHeld old sheet i new other (countHeld other) 0) × (j ≤ 128)
+sought-found {old} {sheet} {i} {new} {other} {n} {j} r s d l m e t =
+    (sym (find-next old sheet i new other (n - j) j r (omega arith) e ∙ rw t refl) ∙ s .rest ∙ ap (λ (k : ℕ). findHeld old sheet i new other k 0) d, omega (arith, d, l, m))
 
 pub sought-next : {old sheet : List ℕ} {i : ℕ} {new other : List ℕ} {n j : ℕ} (r : Bool) → Sought old sheet i new other n j → j < n → r ≡ sameName (nameHeld old sheet i) (nameHeld new other j) → r ≡ false
     → Sought old sheet i new other n (j + 1)
@@ -235,17 +235,17 @@ sought-next {old} {sheet} {i} {new} {other} {n} {j} r s l e t =
     let y : suc j ≡ j + 1 = omega arith in
     record { low = omega arith; rest = sym (find-next old sheet i new other (n - j) j r (omega arith) e ∙ (rw (t, x, y) refl)) ∙ s .rest }
 
-pub sought-none : {old sheet : List ℕ} {i : ℕ} {new other : List ℕ} {n j : ℕ} → Sought old sheet i new other n j → n ≤ j → (128 ≡ findHeld old sheet i new other n 0) × (128 ≤ 128)
+pub sought-none : {old sheet : List ℕ} {i : ℕ} {new other : List ℕ} {n j : ℕ} → Sought old sheet i new other n j → n ≡ countHeld other → n ≤ j → (128 ≡ findHeld old sheet i new other (countHeld other) 0) × (128 ≤ 128)
 unfolding findHeld
-sought-none {old} {sheet} {i} {new} {other} {n} {j} s l =
+sought-none {old} {sheet} {i} {new} {other} {n} {j} s d l =
     let z : n - j ≡ 0 = omega arith in
     let x : findHeld old sheet i new other 0 j ≡ findHeld old sheet i new other n 0 = rw z at (s .rest) in
-    (x, omega arith)
+    (x ∙ ap (λ (k : ℕ). findHeld old sheet i new other k 0) d, omega arith)
 
-pub end-next : (sheet : List ℕ) (rules size i r : ℕ) → i + 1 < rules → r ≡ getD sheet (6 * (i + 1)) 0 → r < 65536 → (r ≡ endHeld sheet rules size i) × (r < 65536)
+pub end-next : (sheet : List ℕ) (i r : ℕ) → i + 1 < countHeld sheet → r ≡ getD sheet (6 * (i + 1)) 0 → r < 65536 → (r ≡ endHeld sheet i) × (r < 65536)
 unfolding endHeld numberHeld
-end-next sheet rules size i r h e l = let z : 6 * (i + 1) + 0 ≡ 6 * (i + 1) = omega arith in (rw (lt-ltb (i + 1) rules h, z) e, l)
+end-next sheet i r h e l = let z : 6 * (i + 1) + 0 ≡ 6 * (i + 1) = omega arith in (rw (lt-ltb (i + 1) (countHeld sheet) h, z) e, l)
 
-pub end-last : (sheet : List ℕ) (rules size i : ℕ) → rules ≤ i + 1 → size ≤ 4096 → (size + 1 ≡ endHeld sheet rules size i) × (size + 1 < 65536)
+pub end-last : (sheet : List ℕ) (size i : ℕ) → countHeld sheet ≤ i + 1 → size ≡ sizeHeld sheet → size ≤ 4096 → (size + 1 ≡ endHeld sheet i) × (size + 1 < 65536)
 unfolding endHeld
-end-last sheet rules size i h l = (rw (le-ltb (i + 1) rules h) refl, omega arith)
+end-last sheet size i h e l = (rw (le-ltb (i + 1) (countHeld sheet) h) (ap (λ (n : ℕ). n + 1) e), omega arith)

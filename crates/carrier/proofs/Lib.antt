@@ -6,3 +6,5 @@ pub mod Spans
 pub mod Placing
 pub mod Linked
 pub mod Stepping
+pub mod Walks
+pub mod HasRules

@@ -3,20 +3,21 @@ use mathlib.Core.Bool.{Bool, true, false}
 use mathlib.Core.List.{List, [], _∷_, _++_, append-assoc}
 use mathlib.Core.Option.{Option, none, some}
 use mathlib.Core.Path.{_≡_, refl, sym, ap, _∙_}
-use Prim.Native.Nat.{ℕ, zero, suc, _+_, _-_, _*_, _<_, _≤_}
+use Prim.Native.Nat.{ℕ, suc, _+_, _-_, _<_, _≤_}
 use native.Mathlib.Nat.{add-zero}
 use native.Mathlib.Omega.{arith}
 use native.Mathlib.Decide.{decLt}
-use lib.Dec.{eqb, ltb}
-use lib.ListN.{length, take, drop}
+use lib.Dec.{eqb}
+use lib.ListN.{length, drop, length-append}
 use lib.Seq.{take-append-seam, drop-append-le}
 use borrow.Author.Tests.{lt-ltb, le-ltb, eqb-true, eqb-false, ne-eqb}
 use Rattle.agreement.proofs.Laid.{ownWords}
-use Rattle.base.specs.Common.{if_then_else_, same}
+use Rattle.base.specs.Common.{if_then_else_}
 use Rattle.carry.proofs.Found.{length-marked}
 use Rattle.carry.proofs.Lists.{Distinct, number-found}
 use Rattle.carry.specs.Carry.{Name, sameName, Source, Place, placeOf, numberOf, nameOf, mark, markedWords, sameWords, inRule, carriedAt, carryPlace}
 use Rattle.carry.specs.Scan.{instruction, sameScan}
+use Rattle.machine.proofs.Bytes.{length-wordsOf}
 use Rattle.machine.specs.Bytes.{wordsOf}
 use Rattle.program.proofs.Lengths.{length-table}
 use Rattle.program.proofs.Places.{place-next, place-from, place-fits, place-words}
@@ -26,7 +27,7 @@ use Rattle.program.specs.Table.{codes, endWords, sizeRule, sizeRules, rulesWord
 use Rattle.scanner.proofs.WordLaws.{same-length}
 use Rattle.symbols.specs.Search.{part}
 use Rattle.carrier.proofs.Sheets.{Found, nowhere, somewhere, rule-held, words-held}
-use Rattle.carrier.specs.Held.{numberHeld, nameHeld, ruleHeld, callsHeld, findHeld, endHeld, wordsHeld, placeHeld}
+use Rattle.carrier.specs.Held.{numberHeld, nameHeld, ruleHeld, callsHeld, findHeld, endHeld, Laid, wordsHeld, placeHeld}
 use Rattle.carrier.specs.Sheets.{Sheet}
 
 -- a number, or 128 or 0 where there is none
@@ -58,19 +59,30 @@ place-end l (b ∷ bs) = let x = place-end (l + sizeRule b) bs in omega (arith, 
 
 module _ (text sheet : List ℕ) (p : Source) (s : Sheet text sheet p) where
   -- where a rule ends
-  end-is : (r : ℕ) → r < length (p .rules) → endHeld sheet (length (p .rules)) (sizeRules (p .rules)) r ≡ place 1 (p .rules) r + sizeRule (ruleOf (p .rules) r)
+  end-is : (r : ℕ) → r < length (p .rules) → endHeld sheet r ≡ place 1 (p .rules) r + sizeRule (ruleOf (p .rules) r)
   unfolding endHeld
-  end-is r h = elim (decLt (r + 1) (length (p .rules))) [
+  end-is r h = rw (s .count, s .size) (elim (decLt (r + 1) (length (p .rules))) [
     | yes x ↦ let z : r + 1 ≡ suc r = omega arith in rw (lt-ltb (r + 1) (length (p .rules)) x, s .locations (r + 1) x, z) (place-next 1 (p .rules) r h)
     | no x ↦ let y : length (p .rules) ≡ suc r = omega arith in
         let a = place-next 1 (p .rules) r h in
         let b = place-end 1 (p .rules) in
         let c : place 1 (p .rules) (length (p .rules)) ≡ place 1 (p .rules) (suc r) = ap (place 1 (p .rules)) y in
         rw (le-ltb (r + 1) (length (p .rules)) (omega arith)) (omega (arith, a, b, c))
-  ]
+  ])
 
-  size-is : (r : ℕ) → r < length (p .rules) → endHeld sheet (length (p .rules)) (sizeRules (p .rules)) r - numberHeld sheet r 0 ≡ sizeRule (ruleOf (p .rules) r)
+  size-is : (r : ℕ) → r < length (p .rules) → endHeld sheet r - numberHeld sheet r 0 ≡ sizeRule (ruleOf (p .rules) r)
   size-is r h = let a = end-is r h in let b = s .locations r h in omega (arith, a, b)
+
+  -- the sheet of a program with no more than 4,096 words, whose table the bytes begin with
+  pub laid : (a more : List ℕ) → wordsOf a ≡ table (p .rules) ++ more → sizeRules (p .rules) ≤ 4096 → Laid sheet a
+  laid a more e small = record {
+    few = omega (arith, s .count, s .few);
+    small = omega (arith, s .size, small);
+    inside = omega (arith, s .size, length-wordsOf a, ap length e, length-append (table (p .rules)) more, length-table (p .rules));
+    from = λ i h. omega (arith, s .locations i (omega (arith, s .count, h)), place-from 1 (p .rules) i);
+    onward = λ i h. let k : i < length (p .rules) = omega (arith, s .count, h) in omega (arith, end-is i k, s .locations i k);
+    within = λ i h. let k : i < length (p .rules) = omega (arith, s .count, h) in omega (arith, end-is i k, place-fits 1 (p .rules) i k, s .size);
+  }
 
   -- its words in the table
   words-is : (a more : List ℕ) → wordsOf a ≡ table (p .rules) ++ more → (r : ℕ) → r < length (p .rules) → part (wordsOf a) (numberHeld sheet r 0 - 1) (sizeRule (ruleOf (p .rules) r)) ≡ ownWords (p .rules) r
@@ -93,7 +105,7 @@ module _ (old sheet : List ℕ) (p : Source) (s : Sheet old sheet p) (new sheet�
     (dp : Distinct (p .names)) (dq : Distinct (q .names)) (np : length (p .names) ≡ length (p .rules)) (nq : length (q .names) ≡ length (q .rules))
     (a more b more′ : List ℕ) (ea : wordsOf a ≡ table (p .rules) ++ more) (eb : wordsOf b ≡ table (q .rules) ++ more′) where
   abbrev Same : ℕ → ℕ → Bool
-  Same = wordsHeld a b old sheet (length (p .rules)) (sizeRules (p .rules)) new sheet′ (length (q .rules)) (sizeRules (q .rules))
+  Same = wordsHeld a b old sheet new sheet′
 
   -- rules of different length have other words
   apart : (r t : ℕ) → (sizeRule (ruleOf (q .rules) t) ≡ sizeRule (ruleOf (p .rules) r) → ⊥) → sameWords p q r t ≡ false
@@ -103,7 +115,7 @@ module _ (old sheet : List ℕ) (p : Source) (s : Sheet old sheet p) (new sheet�
       (λ e. n (sym (sym (length-marked (mark (p .names) (p .names)) (ruleOf (p .rules) r)) ∙ e ∙ length-marked (mark (p .names) (q .names)) (ruleOf (q .rules) t))))
 
   abbrev Calls : ℕ → ℕ → Bool
-  Calls = callsHeld old sheet (length (p .rules)) (sizeRules (p .rules)) new sheet′ (length (q .rules)) (sizeRules (q .rules))
+  Calls = callsHeld old sheet new sheet′
 
   rules-held : (r t : ℕ) → r < length (p .rules) → t < length (q .rules) → Same r t ≡ sameWords p q r t
   unfolding wordsHeld
@@ -119,9 +131,9 @@ module _ (old sheet : List ℕ) (p : Source) (s : Sheet old sheet p) (new sheet�
           rw (x, y) (words-held old sheet p s new sheet′ q s′ ok ok′ dp dq np nq r t h k)
       go false e = sym (apart r t (λ n. eqb-false (sizeRule (ruleOf (q .rules) t)) (sizeRule (ruleOf (p .rules) r)) e n))
 
-  pub place-held : (l : ℕ) → placeHeld a b old sheet (length (p .rules)) (sizeRules (p .rules)) new sheet′ (length (q .rules)) (sizeRules (q .rules)) l ≡ orNo 0 (carryPlace p q l)
+  pub place-held : (l : ℕ) → placeHeld a b old sheet new sheet′ l ≡ orNo 0 (carryPlace p q l)
   unfolding placeHeld carryPlace carriedAt inRule orNo
-  place-held l = outer (placeOf (p .rules) l) (ruleHeld sheet (length (p .rules)) (sizeRules (p .rules)) l) (rule-held old sheet p s l)
+  place-held l = rw (s′ .count) (outer (placeOf (p .rules) l) (ruleHeld sheet l) (rule-held old sheet p s l))
     where
       held : (r : ℕ) → r < length (p .rules) → findHeld old sheet r new sheet′ (length (q .rules)) 0 ≡ orNo 128 (numberOf (nameOf (p .names) r) 0 (q .names))
       held r h =

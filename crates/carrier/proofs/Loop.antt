@@ -1,18 +1,16 @@
 -- Two rules gone through in step: what the loop of `same_words` keeps.
 use mathlib.Core.Bool.{Bool, true, false}
-use mathlib.Core.List.{List, [], _∷_}
+use mathlib.Core.List.{List, []}
 use mathlib.Core.Path.{_≡_, refl, sym, ap, _∙_}
-use Prim.Native.Nat.{ℕ, zero, suc, _+_, _*_, _-_, _<_, _≤_}
+use Prim.Native.Nat.{ℕ, suc, _+_, _<_, _≤_}
 use native.Mathlib.Numerals.{add-one}
 use native.Mathlib.Omega.{arith}
 use lib.Dec.{eqb}
 use lib.ListN.{length, getD, drop, replicate, drop-of-length-le, length-replicate}
 use lib.Seq.{drop-cons}
-use borrow.Author.Tests.{eqb-true, eq-eqb, ne-eqb}
 use Rattle.base.proofs.Laws.{zeros-at}
-use Rattle.base.specs.Bools.{never, split}
 use Rattle.base.specs.Common.{if_then_else_, member}
-use Rattle.carry.specs.Scan.{Expects, instruction, operand, label, labelsLeft, expectsAfter, tablesAfter, isCall, sameScan}
+use Rattle.carry.specs.Scan.{Expects, instruction, operand, label, expectsAfter, tablesAfter, sameScan}
 use Rattle.machine.proofs.Bytes.{length-wordsOf}
 use Rattle.machine.specs.Bytes.{count, wordsOf}
 use Rattle.scanner.proofs.WordLaws.{part-at}

@@ -1,26 +1,25 @@
 -- What the code finds by its rows is what the definitions find by the source: places, called rules, the rule with a name, and the words of two rules.
-use mathlib.Core.Bool.{Bool, true, false, _&&_}
-use mathlib.Core.List.{List, [], _∷_, _++_}
+use mathlib.Core.Bool.{Bool, true, false}
+use mathlib.Core.List.{List, [], _∷_}
 use mathlib.Core.Option.{Option, none, some}
-use mathlib.Core.Path.{_≡_, refl, sym, ap, _∙_}
-use Prim.Native.Nat.{ℕ, zero, suc, _+_, _-_, _*_, _<_, _≤_}
+use mathlib.Core.Path.{_≡_, refl, sym, _∙_}
+use Prim.Native.Nat.{ℕ, zero, suc, _+_, _-_, _<_, _≤_}
 use native.Mathlib.Omega.{arith}
 use native.Mathlib.Decide.{decLt}
-use lib.Dec.{eqb, leb, ltb}
+use lib.Dec.{eqb, ltb}
 use lib.ListN.{length}
 use borrow.Author.Tests.{le-leb, lt-leb, lt-ltb, le-ltb, ne-eqb}
-use Rattle.base.specs.Bools.{split}
 use Rattle.base.specs.Common.{if_then_else_}
 use Rattle.agreement.proofs.Laid.{ownWords}
 use Rattle.carry.proofs.Comparing.{scanned-words}
-use Rattle.carry.proofs.Lists.{Distinct, LiesIn, place-of}
-use Rattle.carry.specs.Carry.{Name, sameName, Source, Place, placeIn, placeOf, numberOf, nameOf, sameWords}
-use Rattle.carry.specs.Scan.{Expects, instruction, operand, label, expectsAfter, tablesAfter, isCall, sameScan, namesMeet, callsMeet}
+use Rattle.carry.proofs.Lists.{Distinct, place-of}
+use Rattle.carry.specs.Carry.{sameName, Source, Place, placeIn, placeOf, sameWords}
+use Rattle.carry.specs.Scan.{Expects, instruction, expectsAfter, tablesAfter, sameScan, namesMeet, callsMeet}
 use Rattle.program.proofs.Places.{place-next}
 use Rattle.program.specs.Accepted.{Accepted}
 use Rattle.program.specs.Program.{Rule, ruleOf}
 use Rattle.program.specs.Table.{sizeRule, sizeRules, place}
-use Rattle.carrier.specs.Held.{numberHeld, nameHeld, lastHeld, ruleHeld, callsHeld}
+use Rattle.carrier.specs.Held.{nameHeld, lastHeld, ruleHeld, callsHeld}
 use Rattle.carrier.specs.Sheets.{Sheet}
 
 -- Places
@@ -69,16 +68,16 @@ module _ (text sheet : List ℕ) (p : Source) (s : Sheet text sheet p) where
     nowhere : Found l none 128
     somewhere : (at : Place) → at .rule < length (p .rules) → place 1 (p .rules) (at .rule) + at .offset ≡ l → Found l (some at) (at .rule)
 
-  pub rule-held : (l : ℕ) → Found l (placeOf (p .rules) l) (ruleHeld sheet (length (p .rules)) (sizeRules (p .rules)) l)
+  pub rule-held : (l : ℕ) → Found l (placeOf (p .rules) l) (ruleHeld sheet l)
   unfolding placeOf ruleHeld
   rule-held zero = nowhere
-  rule-held (suc i) = elim (decLt i (sizeRules (p .rules))) [
+  rule-held (suc i) = rw (s .count, s .size) (elim (decLt i (sizeRules (p .rules))) [
     | no x ↦ rw (le-leb 1 (suc i) (omega arith), lt-leb (suc i) (sizeRules (p .rules)) (omega arith), place-beyond i 0 (p .rules) (omega arith)) nowhere
     | yes x ↦ let t = place-total i 0 (p .rules) x in
         let a = place-of (p .rules) (suc i) (t .0) (unfold placeOf in t .1) in
         let z = last-is (length (p .rules)) (t .0 .rule) (suc i) (a .there) (omega arith) (omega (arith, a .location)) (omega (arith, a .location, a .inside)) in
         rw (le-leb 1 (suc i) (omega arith), le-leb (suc i) (sizeRules (p .rules)) (omega arith), t .1, z) (somewhere (t .0) (a .there) (a .location))
-  ]
+  ])
 
 -- Two programs
 
@@ -91,12 +90,12 @@ scan-as c d h ts o e (w ∷ ws) (v ∷ vs) = rw (h w v, scan-as c d h (tablesAft
 
 module _ (old sheet : List ℕ) (p : Source) (s : Sheet old sheet p) (new sheet′ : List ℕ) (q : Source) (s′ : Sheet new sheet′ q) where
   abbrev Calls : ℕ → ℕ → Bool
-  Calls = callsHeld old sheet (length (p .rules)) (sizeRules (p .rules)) new sheet′ (length (q .rules)) (sizeRules (q .rules))
+  Calls = callsHeld old sheet new sheet′
 
   pub calls-held : (x y : ℕ) → Calls x y ≡ callsMeet p q x y
   unfolding callsHeld callsMeet namesMeet
-  calls-held x y = go (placeOf (p .rules) x) (ruleHeld sheet (length (p .rules)) (sizeRules (p .rules)) x) (rule-held old sheet p s x) (placeOf (q .rules) y)
-      (ruleHeld sheet′ (length (q .rules)) (sizeRules (q .rules)) y) (rule-held new sheet′ q s′ y)
+  calls-held x y = go (placeOf (p .rules) x) (ruleHeld sheet x) (rule-held old sheet p s x) (placeOf (q .rules) y)
+      (ruleHeld sheet′ y) (rule-held new sheet′ q s′ y)
     where
       go : (a : Option Place) (i : ℕ) → Found old sheet p s x a i → (b : Option Place) (j : ℕ) → Found new sheet′ q s′ y b j
           → (if eqb i 128 then false else if eqb j 128 then false else sameName (nameHeld old sheet i) (nameHeld new sheet′ j)) ≡ namesMeet (p .names) (q .names) a b

@@ -2,20 +2,19 @@
 use mathlib.Core.Bool.{Bool, true, false}
 use mathlib.Core.List.{List, [], _∷_}
 use mathlib.Core.Logic.{_⊎_, inl, inr}
-use mathlib.Core.Path.{_≡_, refl, sym, ap, _∙_}
-use Prim.Native.Nat.{ℕ, _+_, _<_, _≤_}
+use mathlib.Core.Path.{_≡_, refl, sym, _∙_}
+use Prim.Native.Nat.{ℕ, _<_, _≤_}
 use native.Mathlib.Omega.{arith}
 use lib.Dec.{eqb}
-use lib.ListN.{length, take, drop}
+use lib.ListN.{length}
 use borrow.Author.Tests.{eqb-true, eqb-false, eq-eqb, ne-eqb}
 use Rattle.base.proofs.Laws.{lt-or-le}
-use Rattle.base.specs.Bools.{split}
-use Rattle.base.specs.Common.{if_then_else_, same}
+use Rattle.base.specs.Common.{same}
 use Rattle.carry.specs.Carry.{sameAll, sectionWords}
 use Rattle.scanner.specs.Next.{asWord, Next}
 use Rattle.scanner.specs.declared.WordAt.{WordAt}
 use Rattle.symbols.specs.Search.{part}
-use Rattle.words.specs.Words.{Word, words, wordsFrom, wordsAt}
+use Rattle.words.specs.Words.{Word, words, wordsAt}
 use Rattle.carrier.specs.Sections.{HasRules, Sections}
 
 pub record Steps (old new : List ℕ) (i j : ℕ) : Type 0 where

@@ -1,18 +1,16 @@
 -- Laws of what is expected next, of the flags of choice tables, and of two rules gone through in step.
 use mathlib.Core.Bool.{Bool, true, false, _||_}
-use mathlib.Core.List.{List, [], _∷_}
+use mathlib.Core.List.{List, _∷_}
 use mathlib.Core.Path.{_≡_, refl, sym, ap, _∙_}
 use Prim.Native.Nat.{ℕ, zero, suc, _+_, _*_, _-_, _<_, _≤_}
-use native.Mathlib.Numerals.{add-one}
 use native.Mathlib.Omega.{arith}
 use lib.Dec.{eqb}
-use lib.ListN.{length, getD, drop, set, replicate, drop-of-length-le, length-set}
-use lib.Seq.{drop-cons, getD-set-same, getD-set-other}
-use borrow.Author.Tests.{eqb-true, eqb-false, eq-eqb, ne-eqb}
-use Rattle.base.proofs.Laws.{zeros-at}
-use Rattle.base.specs.Bools.{never, split}
+use lib.ListN.{length, getD, set, length-set}
+use lib.Seq.{getD-set-same, getD-set-other}
+use borrow.Author.Tests.{eqb-true, eqb-false, ne-eqb}
+use Rattle.base.specs.Bools.{split}
 use Rattle.base.specs.Common.{if_then_else_, member}
-use Rattle.carry.specs.Scan.{Expects, instruction, operand, label, labelsLeft, expectsAfter, tablesAfter, isCall, sameScan}
+use Rattle.carry.specs.Scan.{Expects, instruction, operand, label, labelsLeft, tablesAfter, isCall}
 use Rattle.machine.specs.Lengths.{lengthOf}
 use Rattle.carrier.specs.Going.{Is, Announced, expectsBy, wordsMeet, Follows, Meets, Tells}
 

@@ -1,40 +1,48 @@
 // Carrying a walk to new rules: where a location stands, which rules have one name, and whether two rules have the same words.
 ghost use mathlib.Core.Path.{_≡_};
-ghost use Prim.Native.Nat.{ℕ, _+_, _*_, _<_, _≤_, _-_};
+ghost use Prim.Native.Nat.{_+_, _*_, _<_, _≤_, _-_};
 ghost use lib.Dec.{eqb};
 ghost use lib.ListN.{length};
 ghost use Rattle.base.specs.Common.{same};
 ghost use Rattle.carry.specs.Carry.{sameName};
 ghost use Rattle.machine.specs.Bytes.{count, wordsOf};
-ghost use Rattle.carrier.specs.Held.{ruleHeld, nameHeld, callsHeld, findHeld, endHeld, Laid, wordsHeld, placeHeld};
+ghost use Rattle.carrier.specs.Held.{countHeld, sizeHeld, ruleHeld, nameHeld, callsHeld, findHeld, endHeld, Laid, wordsHeld, placeHeld};
 ghost use Rattle.carrier.specs.Going.{Is, Follows, Meets, Tells};
 ghost use Rattle.carrier.specs.Sections.{Sections};
+ghost use Rattle.carrier.specs.Walks.{CarriesWalk};
 ghost use Rattle.carry.specs.Scan.{instruction, labelsLeft, sameScan};
 ghost use mathlib.Core.Bool.{_||_};
 ghost use mathlib.Core.List.{[]};
 ghost use Rattle.symbols.specs.Search.{part};
+use walker::Walk;
 
 // A row of a rule: its location, its name as a part of the text; of a rule made for operators the name of its section, then that of its operand rule and its level.
 pub const ROW: usize = 6;
 
-const NAME_START: usize = 1;
+pub const NAME_START: usize = 1;
 
-const NAME_LEN: usize = 2;
+pub const NAME_LEN: usize = 2;
 
-const OPERAND_START: usize = 3;
+pub const OPERAND_START: usize = 3;
 
-const OPERAND_LEN: usize = 4;
+pub const OPERAND_LEN: usize = 4;
 
-const LEVEL: usize = 5;
+pub const LEVEL: usize = 5;
 
 // No rule.
 pub const NO_RULE: usize = base::RULES;
 
-// The rules of a program: how many there are, and how many words their table has.
-pub struct Rules {
-    pub count: usize,
-    pub size: usize,
-}
+// A sheet: the rows of all rules, then how many rules there are, then how many words their table has.
+pub const COUNT: usize = ROW * base::RULES;
+
+pub const SIZE: usize = COUNT + 1;
+
+pub const SHEET: usize = SIZE + 1;
+
+// The numbers of sections that differ, and of a rule in progress that differs or is gone, or a place in no rule.
+pub const SECTIONS_DIFFER: u16 = 51;
+
+pub const RULE_DIFFERS: u16 = 52;
 
 // Names
 
@@ -102,17 +110,17 @@ fn same_names(old: &[u8], sheet: &[u16], i: usize, new: &[u8], other: &[u16], j:
 // Places
 
 // The rule in which the location l lies, or none.
-fn rule_at(sheet: &[u16], rules: Rules, l: usize) -> usize
-    requires { ⌜ rules .count ≤ 128 ⌝ }
-    ensures { λ r. ⌜ (r ≡ ruleHeld (now (sheet .entry)) (rules .count) (rules .size) l) × (r ≤ 128) ⌝ }
+fn rule_at(sheet: &[u16], l: usize) -> usize
+    requires { ⌜ countHeld (now sheet) ≤ 128 ⌝ }
+    ensures { λ r. ⌜ (r ≡ ruleHeld (now (sheet .entry)) l) × (r ≤ 128) ⌝ }
 {
     if l == 0 {
         return NO_RULE;
     }
-    if rules.size < l {
+    if base::number(sheet, SIZE) < l {
         return NO_RULE;
     }
-    let mut k = rules.count;
+    let mut k = base::number(sheet, COUNT);
     while 0 < k {
         k -= 1;
         if base::number(sheet, ROW * k) <= l {
@@ -123,29 +131,22 @@ fn rule_at(sheet: &[u16], rules: Rules, l: usize) -> usize
 }
 
 // Behind the last word of rule i.
-fn end_of(sheet: &[u16], rules: Rules, i: usize) -> usize
-    requires { ⌜ (i < 128) × (rules .size ≤ 4096) ⌝ }
-    ensures { λ r. ⌜ (r ≡ endHeld (now (sheet .entry)) (rules .count) (rules .size) i) × (r < 65536) ⌝ }
+fn end_of(sheet: &[u16], i: usize) -> usize
+    requires { ⌜ (i < 128) × (sizeHeld (now sheet) ≤ 4096) ⌝ }
+    ensures { λ r. ⌜ (r ≡ endHeld (now (sheet .entry)) i) × (r < 65536) ⌝ }
 {
-    if i + 1 < rules.count {
+    if i + 1 < base::number(sheet, COUNT) {
         return base::number(sheet, ROW * (i + 1));
     }
-    rules.size + 1
+    base::number(sheet, SIZE) + 1
 }
 
 // The rule of the other program that has the name of rule i, or none.
-fn rule_named(
-    old: &[u8],
-    sheet: &[u16],
-    i: usize,
-    new: &[u8],
-    other: &[u16],
-    others: Rules,
-) -> usize
-    requires { ⌜ (i < 128) × (others .count ≤ 128) ⌝ }
-    ensures { λ r. ⌜ (r ≡ findHeld (now (old .entry)) (now (sheet .entry)) i (now (new .entry)) (now (other .entry)) (others .count) 0) × (r ≤ 128) ⌝ }
+fn rule_named(old: &[u8], sheet: &[u16], i: usize, new: &[u8], other: &[u16]) -> usize
+    requires { ⌜ (i < 128) × (countHeld (now other) ≤ 128) ⌝ }
+    ensures { λ r. ⌜ (r ≡ findHeld (now (old .entry)) (now (sheet .entry)) i (now (new .entry)) (now (other .entry)) (countHeld (now (other .entry))) 0) × (r ≤ 128) ⌝ }
 {
-    let n = others.count;
+    let n = base::number(other, COUNT);
     let mut j: usize = 0;
     while j < n {
         if same_names(old, sheet, i, new, other, j) {
@@ -157,24 +158,15 @@ fn rule_named(
 }
 
 // The rules in which two locations lie have one name.
-fn calls_meet(
-    old: &[u8],
-    sheet: &[u16],
-    rules: Rules,
-    new: &[u8],
-    other: &[u16],
-    others: Rules,
-    x: usize,
-    y: usize,
-) -> bool
-    requires { ⌜ (rules .count ≤ 128) × (others .count ≤ 128) ⌝ }
-    ensures { λ r. ⌜ r ≡ callsHeld (now (old .entry)) (now (sheet .entry)) (rules .count) (rules .size) (now (new .entry)) (now (other .entry)) (others .count) (others .size) x y ⌝ }
+fn calls_meet(old: &[u8], sheet: &[u16], new: &[u8], other: &[u16], x: usize, y: usize) -> bool
+    requires { ⌜ (countHeld (now sheet) ≤ 128) × (countHeld (now other) ≤ 128) ⌝ }
+    ensures { λ r. ⌜ r ≡ callsHeld (now (old .entry)) (now (sheet .entry)) (now (new .entry)) (now (other .entry)) x y ⌝ }
 {
-    let i = rule_at(sheet, rules, x);
+    let i = rule_at(sheet, x);
     if i == NO_RULE {
         return false;
     }
-    let j = rule_at(other, others, y);
+    let j = rule_at(other, y);
     if j == NO_RULE {
         return false;
     }
@@ -195,11 +187,11 @@ const OPERAND: usize = 1;
 
 const LABEL: usize = 2;
 
-const CALL: usize = 8;
+const CALL: usize = machine::CALL as usize;
 
-const INPUT_CHOICE: usize = 7;
+const INPUT_CHOICE: usize = machine::INPUT_CHOICE as usize;
 
-const CHOICE: usize = 11;
+const CHOICE: usize = machine::CHOICE as usize;
 
 // So many words of a choice table.
 fn labels(n: usize) -> Next
@@ -274,19 +266,9 @@ fn announce(flags: &mut [u8], o: usize, n: Next, w: u16)
 }
 
 // Two words: those of a call by the names of the rules in which they lie, any others as they are.
-fn words_meet(
-    old: &[u8],
-    sheet: &[u16],
-    rules: Rules,
-    new: &[u8],
-    other: &[u16],
-    others: Rules,
-    n: Next,
-    w: u16,
-    v: u16,
-) -> bool
-    requires { ⌜ (rules .count ≤ 128) × (others .count ≤ 128) ⌝ }
-    ensures { λ r. ⌜ Meets (callsHeld (now (old .entry)) (now (sheet .entry)) (rules .count) (rules .size) (now (new .entry)) (now (other .entry)) (others .count) (others .size) w v) (n .kind) (n .left) w v r ⌝ }
+fn words_meet(old: &[u8], sheet: &[u16], new: &[u8], other: &[u16], n: Next, w: u16, v: u16) -> bool
+    requires { ⌜ (countHeld (now sheet) ≤ 128) × (countHeld (now other) ≤ 128) ⌝ }
+    ensures { λ r. ⌜ Meets (callsHeld (now (old .entry)) (now (sheet .entry)) (now (new .entry)) (now (other .entry)) w v) (n .kind) (n .left) w v r ⌝ }
 {
     if n.kind != OPERAND {
         return w == v;
@@ -294,16 +276,7 @@ fn words_meet(
     if n.left != CALL {
         return w == v;
     }
-    calls_meet(
-        old,
-        sheet,
-        rules,
-        new,
-        other,
-        others,
-        base::wide(w),
-        base::wide(v),
-    )
+    calls_meet(old, sheet, new, other, base::wide(w), base::wide(v))
 }
 
 // Where the words of two rules begin, counted from 0, and how many there are.
@@ -320,13 +293,11 @@ pub fn same_words(
     span: Span,
     old: &[u8],
     sheet: &[u16],
-    rules: Rules,
     new: &[u8],
     other: &[u16],
-    others: Rules,
 ) -> bool
-    requires { ⌜ (span .i + span .n ≤ count (now a)) × (span .j + span .n ≤ count (now b)) × (span .n ≤ 4096) × (span .i ≤ 4096) × (span .j ≤ 4096) × (rules .count ≤ 128) × (others .count ≤ 128) ⌝ }
-    ensures { λ r. ⌜ r ≡ sameScan (callsHeld (now (old .entry)) (now (sheet .entry)) (rules .count) (rules .size) (now (new .entry)) (now (other .entry)) (others .count) (others .size)) [] 0 instruction (part (wordsOf (now (a .entry))) (span .i) (span .n)) (part (wordsOf (now (b .entry))) (span .j) (span .n)) ⌝ }
+    requires { ⌜ (span .i + span .n ≤ count (now a)) × (span .j + span .n ≤ count (now b)) × (span .n ≤ 4096) × (span .i ≤ 4096) × (span .j ≤ 4096) × (countHeld (now sheet) ≤ 128) × (countHeld (now other) ≤ 128) ⌝ }
+    ensures { λ r. ⌜ r ≡ sameScan (callsHeld (now (old .entry)) (now (sheet .entry)) (now (new .entry)) (now (other .entry))) [] 0 instruction (part (wordsOf (now (a .entry))) (span .i) (span .n)) (part (wordsOf (now (b .entry))) (span .j) (span .n)) ⌝ }
 {
     let mut flags = [0u8; 4096];
     let mut next = Next {
@@ -340,7 +311,7 @@ pub fn same_words(
     while o < n {
         let w = machine::word(a, i + o);
         let v = machine::word(b, j + o);
-        if !words_meet(old, sheet, rules, new, other, others, next, w, v) {
+        if !words_meet(old, sheet, new, other, next, w, v) {
             return false;
         }
         let here = flags[o] == 1;
@@ -351,26 +322,31 @@ pub fn same_words(
     true
 }
 
-// Rule i of one program and rule j of the other have the same words.
+// A rule of one program and a rule of the other, by their numbers.
+pub struct Pair {
+    pub i: usize,
+    pub j: usize,
+}
+
+// The two rules have the same words.
 fn same_rules(
     a: &[u8],
     b: &[u8],
     old: &[u8],
     sheet: &[u16],
-    rules: Rules,
-    i: usize,
     new: &[u8],
     other: &[u16],
-    others: Rules,
-    j: usize,
+    pair: Pair,
 ) -> bool
-    requires { ⌜ Laid (now sheet) (rules .count) (rules .size) (now a) × Laid (now other) (others .count) (others .size) (now b) × (i < rules .count) × (j < others .count) ⌝ }
-    ensures { λ r. ⌜ r ≡ wordsHeld (now (a .entry)) (now (b .entry)) (now (old .entry)) (now (sheet .entry)) (rules .count) (rules .size) (now (new .entry)) (now (other .entry)) (others .count) (others .size) i j ⌝ }
+    requires { ⌜ Laid (now sheet) (now a) × Laid (now other) (now b) × (pair .i < countHeld (now sheet)) × (pair .j < countHeld (now other)) ⌝ }
+    ensures { λ r. ⌜ r ≡ wordsHeld (now (a .entry)) (now (b .entry)) (now (old .entry)) (now (sheet .entry)) (now (new .entry)) (now (other .entry)) (pair .i) (pair .j) ⌝ }
 {
+    let i = pair.i;
+    let j = pair.j;
     let p = base::number(sheet, ROW * i);
     let q = base::number(other, ROW * j);
-    let n = end_of(sheet, rules, i) - p;
-    let m = end_of(other, others, j) - q;
+    let n = end_of(sheet, i) - p;
+    let m = end_of(other, j) - q;
     if m != n {
         return false;
     }
@@ -379,7 +355,7 @@ fn same_rules(
         j: q - 1,
         n,
     };
-    same_words(a, b, span, old, sheet, rules, new, other, others)
+    same_words(a, b, span, old, sheet, new, other)
 }
 
 // The place that a location becomes in the new table, or 0: the rule in which it lies is there by its name, with the same words, and the place is as far behind its first word.
@@ -388,29 +364,70 @@ pub fn carry_place(
     b: &[u8],
     old: &[u8],
     sheet: &[u16],
-    rules: Rules,
     new: &[u8],
     other: &[u16],
-    others: Rules,
     l: usize,
 ) -> usize
-    requires { ⌜ Laid (now sheet) (rules .count) (rules .size) (now a) × Laid (now other) (others .count) (others .size) (now b) ⌝ }
-    ensures { λ r. ⌜ r ≡ placeHeld (now (a .entry)) (now (b .entry)) (now (old .entry)) (now (sheet .entry)) (rules .count) (rules .size) (now (new .entry)) (now (other .entry)) (others .count) (others .size) l ⌝ }
+    requires { ⌜ Laid (now sheet) (now a) × Laid (now other) (now b) ⌝ }
+    ensures { λ r. ⌜ (r ≡ placeHeld (now (a .entry)) (now (b .entry)) (now (old .entry)) (now (sheet .entry)) (now (new .entry)) (now (other .entry)) l) × (r < 65536) ⌝ }
 {
-    let i = rule_at(sheet, rules, l);
+    let i = rule_at(sheet, l);
     if i == NO_RULE {
         return 0;
     }
-    let j = rule_named(old, sheet, i, new, other, others);
+    let j = rule_named(old, sheet, i, new, other);
     if j == NO_RULE {
         return 0;
     }
-    if !same_rules(a, b, old, sheet, rules, i, new, other, others, j) {
+    if !same_rules(a, b, old, sheet, new, other, Pair { i, j }) {
         return 0;
     }
     let p = base::number(sheet, ROW * i);
     let q = base::number(other, ROW * j);
     q + (l - p)
+}
+
+// What a walk becomes: whether each of its places becomes one, and then the walk at those.
+pub struct Placed {
+    pub ok: bool,
+    pub walk: Walk,
+}
+
+// The walk with its location and the return locations that it holds carried, all else kept.
+pub fn carry_walk(
+    a: &[u8],
+    b: &[u8],
+    old: &[u8],
+    sheet: &[u16],
+    new: &[u8],
+    other: &[u16],
+    walk: Walk,
+) -> Placed
+    requires { ⌜ Laid (now sheet) (now a) × Laid (now other) (now b) ⌝ }
+    ensures { λ r. ⌜ CarriesWalk (now (a .entry)) (now (b .entry)) (now (old .entry)) (now (sheet .entry)) (now (new .entry)) (now (other .entry)) walk r ⌝ }
+{
+    let phase = walk.phase;
+    let mut at = walk.at;
+    let mut returns = walk.returns;
+    let held = base::least(at.depth, base::PENDING);
+    let location = carry_place(a, b, old, sheet, new, other, at.location);
+    if location == 0 {
+        return Placed { ok: false, walk };
+    }
+    at.location = location;
+    let mut i: usize = 0;
+    while i < held {
+        let l = carry_place(a, b, old, sheet, new, other, base::wide(returns[i]));
+        if l == 0 {
+            return Placed { ok: false, walk };
+        }
+        returns[i] = l as u16;
+        i += 1;
+    }
+    Placed {
+        ok: true,
+        walk: Walk { phase, at, returns },
+    }
 }
 
 // Sections

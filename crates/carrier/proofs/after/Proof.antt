@@ -3,53 +3,37 @@ use Rattle.carrier.proofs.Words.{follows-operand, follows-label, follow
 use borrow.Author.Needs.{needs}
 use Rattle.carrier.proofs.after.Statement.{statement}
 use Rattle.carrier.proofs.after.Tie as tie
-use Rattle.carrier.proofs.after.Reads as reads
-use Rattle.carrier.proofs.after.Lts as lts
-use Rattle.base.proofs.wide.Reads as wide-reads
-use Rattle.carrier.proofs.labels.Reads as labels-reads
-use Rattle.machine.proofs.instruction_length.Reads as instruction-length-reads
 
--- src/lib.rt:190:9
 returns : tie.Need-returns
 returns c = follows-operand (c .before .before .args .here) (c .before .before .args .n .kind) (c .before .before .args .n .left) (c .before .before .args .w) (c .if1 .taken)
 
--- src/lib.rt:196:9
 labels-requires : tie.Need-labels-requires
 labels-requires c κs = search needs
 
--- src/lib.rt:196:9
 returns-2 : tie.Need-returns-2
 returns-2 c = follows-label (c .before .before .before .before .before .args .here) (c .before .before .before .before .before .args .n .kind) (c .before .before .before .before .before .args .n .left) (c .before .before .before .before .before .args .w) _ _ (c .before .if2 .taken) (c .labels .ensures)
 
--- src/lib.rt:199:27
 wide-requires : tie.Need-wide-requires
 wide-requires c κs = search needs
 
--- src/lib.rt:199:23
 mul-labels : tie.Need-mul-labels
 mul-labels c = search needs
 
--- src/lib.rt:199:9
 labels-requires-2 : tie.Need-labels-requires-2
 labels-requires-2 c κs = search needs
 
--- src/lib.rt:199:9
 returns-3 : tie.Need-returns-3
 returns-3 c = follows-table (c .before .before .before .before .before .before .before .args .here) (c .before .before .before .before .before .before .before .args .n .kind) (c .before .before .before .before .before .before .before .args .n .left) (c .before .before .before .before .before .before .before .args .w) _ _ _ (c .before .before .before .before .before .if1 .left) (c .before .before .before .if2 .left) (c .before .before .if3 .taken) (c .before .wide .ensures .0) (c .labels2 .ensures)
 
--- src/lib.rt:201:8
 instruction-length-requires : tie.Need-instruction-length-requires
 instruction-length-requires c κs = search needs
 
--- src/lib.rt:204:19
 wide-requires-2 : tie.Need-wide-requires-2
 wide-requires-2 c κs = search needs
 
--- src/lib.rt:202:9
 returns-4 : tie.Need-returns-4
 returns-4 c = follows-two (c .before .before .before .before .before .before .before .before .args .here) (c .before .before .before .before .before .before .before .before .args .n .kind) (c .before .before .before .before .before .before .before .before .args .n .left) (c .before .before .before .before .before .before .before .before .args .w) _ _ (c .before .before .before .before .before .before .if1 .left) (c .before .before .before .before .if2 .left) (c .before .before .before .if3 .left) (c .before .before .instruction-length .ensures) (c .before .if4 .taken) (c .wide2 .ensures .0)
 
--- src/lib.rt:186:1
 returns-5 : tie.Need-returns-5
 returns-5 c = follows-one (c .before .before .before .before .before .before .before .args .here) (c .before .before .before .before .before .before .before .args .n .kind) (c .before .before .before .before .before .before .before .args .n .left) (c .before .before .before .before .before .before .before .args .w) _ (c .before .before .before .before .before .if1 .left) (c .before .before .before .if2 .left) (c .before .before .if3 .left) (c .before .instruction-length .ensures) (c .if4 .left)
 

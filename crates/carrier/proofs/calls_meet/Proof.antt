@@ -3,34 +3,24 @@ use borrow.Author.Needs.{needs}
 use Rattle.carrier.proofs.Laws.{calls-nowhere, calls-gone, calls-named}
 use Rattle.carrier.proofs.calls_meet.Statement.{statement}
 use Rattle.carrier.proofs.calls_meet.Tie as tie
-use Rattle.carrier.proofs.calls_meet.Reads as reads
-use Rattle.carrier.proofs.calls_meet.Lts as lts
-use Rattle.carrier.proofs.rule_at.Reads as rule-at-reads
-use Rattle.carrier.proofs.same_names.Reads as same-names-reads
 
--- src/lib.rt:135:9
 rule-at-requires : tie.Need-rule-at-requires
 rule-at-requires c κs = search needs
 
--- src/lib.rt:137:9
 returns : tie.Need-returns
-returns c = calls-nowhere (c .before .before .before .before .before .before .args .old .now) (c .before .before .before .before .before .before .args .sheet .now) (c .before .before .before .before .before .before .args .rules .count) (c .before .before .before .before .before .before .args .rules .size) (c .before .before .before .before .before .before .args .new .now) (c .before .before .before .before .before .before .args .other .now) (c .before .before .before .before .before .before .args .others .count) (c .before .before .before .before .before .before .args .others .size) (c .before .before .before .before .before .before .args .x) (c .before .before .before .before .before .before .args .y) _ (c .before .rule-at .ensures .0) (c .if1 .taken)
+returns c = calls-nowhere (c .before .before .before .before .before .before .args .old .now) (c .before .before .before .before .before .before .args .sheet .now) (c .before .before .before .before .before .before .args .new .now) (c .before .before .before .before .before .before .args .other .now) (c .before .before .before .before .before .before .args .x) (c .before .before .before .before .before .before .args .y) _ (c .before .rule-at .ensures .0) (c .if1 .taken)
 
--- src/lib.rt:139:9
 rule-at-requires-2 : tie.Need-rule-at-requires-2
 rule-at-requires-2 c κs = search needs
 
--- src/lib.rt:141:9
 returns-2 : tie.Need-returns-2
-returns-2 c = calls-gone (c .before .before .before .before .before .before .before .before .args .old .now) (c .before .before .before .before .before .before .before .before .args .sheet .now) (c .before .before .before .before .before .before .before .before .args .rules .count) (c .before .before .before .before .before .before .before .before .args .rules .size) (c .before .before .before .before .before .before .before .before .args .new .now) (c .before .before .before .before .before .before .before .before .args .other .now) (c .before .before .before .before .before .before .before .before .args .others .count) (c .before .before .before .before .before .before .before .before .args .others .size) (c .before .before .before .before .before .before .before .before .args .x) (c .before .before .before .before .before .before .before .before .args .y) _ _ (c .before .before .before .rule-at .ensures .0) (c .before .before .if1 .left) (c .before .rule-at2 .ensures .0) (c .if2 .taken)
+returns-2 c = calls-gone (c .before .before .before .before .before .before .before .before .args .old .now) (c .before .before .before .before .before .before .before .before .args .sheet .now) (c .before .before .before .before .before .before .before .before .args .new .now) (c .before .before .before .before .before .before .before .before .args .other .now) (c .before .before .before .before .before .before .before .before .args .x) (c .before .before .before .before .before .before .before .before .args .y) _ _ (c .before .before .before .rule-at .ensures .0) (c .before .before .if1 .left) (c .before .rule-at2 .ensures .0) (c .if2 .taken)
 
--- src/lib.rt:143:5
 same-names-requires : tie.Need-same-names-requires
 same-names-requires c κs = search needs
 
--- src/lib.rt:122:1
 returns-3 : tie.Need-returns-3
-returns-3 c = calls-named (c .before .before .before .before .before .before .before .before .before .args .old .now) (c .before .before .before .before .before .before .before .before .before .args .sheet .now) (c .before .before .before .before .before .before .before .before .before .args .rules .count) (c .before .before .before .before .before .before .before .before .before .args .rules .size) (c .before .before .before .before .before .before .before .before .before .args .new .now) (c .before .before .before .before .before .before .before .before .before .args .other .now) (c .before .before .before .before .before .before .before .before .before .args .others .count) (c .before .before .before .before .before .before .before .before .before .args .others .size) (c .before .before .before .before .before .before .before .before .before .args .x) (c .before .before .before .before .before .before .before .before .before .args .y) _ _ _ (c .before .before .before .before .rule-at .ensures .0) (c .before .before .before .if1 .left) (c .before .before .rule-at2 .ensures .0) (c .before .if2 .left) (c .same-names .ensures)
+returns-3 c = calls-named (c .before .before .before .before .before .before .before .before .before .args .old .now) (c .before .before .before .before .before .before .before .before .before .args .sheet .now) (c .before .before .before .before .before .before .before .before .before .args .new .now) (c .before .before .before .before .before .before .before .before .before .args .other .now) (c .before .before .before .before .before .before .before .before .before .args .x) (c .before .before .before .before .before .before .before .before .before .args .y) _ _ _ (c .before .before .before .before .rule-at .ensures .0) (c .before .before .before .if1 .left) (c .before .before .rule-at2 .ensures .0) (c .before .if2 .left) (c .same-names .ensures)
 
 pub calls-meet-spec : {M : Type 1} → statement M
 calls-meet-spec =

@@ -2,14 +2,10 @@
 use Rattle.carrier.proofs.Laws.{chooses-first, chooses-second}
 use Rattle.carrier.proofs.chooses.Statement.{statement}
 use Rattle.carrier.proofs.chooses.Tie as tie
-use Rattle.carrier.proofs.chooses.Reads as reads
-use Rattle.carrier.proofs.chooses.Lts as lts
 
--- src/lib.rt:218:9
 returns : tie.Need-returns
 returns c = chooses-first _ (c .if1 .taken)
 
--- src/lib.rt:214:1
 returns-2 : tie.Need-returns-2
 returns-2 c = chooses-second _ (c .if1 .left)
 

@@ -3,18 +3,13 @@ use Rattle.carrier.proofs.Words.{labels-none, labels-some}
 use borrow.Author.Needs.{needs}
 use Rattle.carrier.proofs.labels.Statement.{statement}
 use Rattle.carrier.proofs.labels.Tie as tie
-use Rattle.carrier.proofs.labels.Reads as reads
-use Rattle.carrier.proofs.labels.Lts as lts
 
--- src/lib.rt:172:9
 returns : tie.Need-returns
 returns c = labels-none _ (c .if1 .taken)
 
--- src/lib.rt:179:15
 sub-t3 : tie.Need-sub-t3
 sub-t3 c = search needs
 
--- src/lib.rt:168:1
 returns-2 : tie.Need-returns-2
 returns-2 c = labels-some _ (c .if1 .left)
 

@@ -1,6 +1,5 @@
 -- `carrier::same_bytes` meets its contract.
-use mathlib.Core.Path.{_≡_, refl}
-use Prim.Native.Nat.{_-_, _≤_}
+use Prim.Native.Nat.{_-_}
 use native.Mathlib.Omega.{arith}
 use Rattle.carrier.proofs.Laws.{Alike, alike-first, alike-not, alike-next, alike-end}
 use Rattle.carrier.proofs.same_bytes.Statement.{statement}

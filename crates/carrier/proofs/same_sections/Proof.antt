@@ -7,10 +7,6 @@ use Rattle.carrier.proofs.Laws.{not-so, yet-so}
 use Rattle.carrier.proofs.Stepping.{Steps, steps-first, both-end, new-ends, old-lacks, new-lacks, words-differ, steps-next}
 use Rattle.carrier.proofs.same_sections.Statement.{statement}
 use Rattle.carrier.proofs.same_sections.Tie as tie
-use Rattle.carrier.proofs.same_sections.Reads as reads
-use Rattle.carrier.proofs.same_sections.Lts as lts
-use Rattle.carrier.proofs.same_parts.Reads as same-parts-reads
-use Rattle.scanner.proofs.next_word.Reads as next-word-reads
 
 abbrev Inv-loop : tie.InvT-loop
 Inv-loop old new i₀ j₀ i j = Steps old new i j
@@ -18,47 +14,36 @@ Inv-loop old new i₀ j₀ i j = Steps old new i j
 abbrev μ-loop : tie.MeasureT-loop
 μ-loop old new i₀ j₀ i j = length old - i
 
--- src/lib.rt:424:5
 loop-holds : tie.Need-loop-holds Inv-loop μ-loop
 loop-holds c = steps-first
 
--- src/lib.rt:425:13
 next-word-requires : tie.Need-next-word-requires Inv-loop μ-loop
 next-word-requires c κs = search needs
 
--- src/lib.rt:426:13
 next-word-requires-2 : tie.Need-next-word-requires-2 Inv-loop μ-loop
 next-word-requires-2 c κs = search needs
 
--- src/lib.rt:428:13
 returns : tie.Need-returns Inv-loop μ-loop
 returns c = both-end (c .before .before .before .before .before .loop .inv) (c .before .before .before .before .next-word .ensures) (c .before .before .before .next-word2 .ensures) (c .before .if1 .taken)
 
--- src/lib.rt:431:13
 returns-2 : tie.Need-returns-2 Inv-loop μ-loop
 returns-2 c = new-ends (c .before .before .before .before .before .before .loop .inv) (c .before .before .before .before .before .next-word .ensures) (c .before .before .before .before .next-word2 .ensures) (c .before .before .if1 .left) (c .if2 .taken)
 
--- src/lib.rt:434:13
 returns-3 : tie.Need-returns-3 Inv-loop μ-loop
 returns-3 c = old-lacks (c .before .before .before .before .before .before .before .before .loop .inv) (c .before .before .before .before .before .before .before .next-word .ensures) (c .before .before .before .before .before .before .next-word2 .ensures) (c .before .before .before .before .if1 .left) (c .if3 .taken)
 
--- src/lib.rt:437:13
 returns-4 : tie.Need-returns-4 Inv-loop μ-loop
 returns-4 c = new-lacks (c .before .before .before .before .before .before .before .before .before .before .loop .inv) (c .before .before .before .before .before .before .before .before .before .next-word .ensures) (c .before .before .before .before .before .before .before .before .next-word2 .ensures) (c .before .before .before .before .if2 .left) (c .if4 .taken)
 
--- src/lib.rt:439:13
 same-parts-requires : tie.Need-same-parts-requires Inv-loop μ-loop
 same-parts-requires c κs = search needs
 
--- src/lib.rt:440:13
 returns-5 : tie.Need-returns-5 Inv-loop μ-loop
 returns-5 c = words-differ (c .before .before .before .before .before .before .before .before .before .before .before .before .loop .inv) (c .before .before .before .before .before .before .before .before .before .before .before .next-word .ensures) (c .before .before .before .before .before .before .before .before .before .before .next-word2 .ensures) (c .before .before .before .before .before .before .before .before .if1 .left) (c .before .before .before .before .before .before .if2 .left) (omega (arith, c .before .before .before .before .if3 .left)) (omega (arith, c .before .before .if4 .left)) _ (c .before .same-parts .ensures) (not-so _ (c .if5 .taken))
 
--- src/lib.rt:424:5
 loop-less : tie.Need-loop-less Inv-loop μ-loop
 loop-less c = omega (arith, c .before .before .before .before .before .before .before .before .before .before .before .next-word .ensures .moves (omega (arith, c .before .before .before .before .if3 .left)), c .before .before .before .before .before .before .before .before .before .before .before .next-word .ensures .high (c .before .before .before .before .before .before .before .before .before .before .before .before .loop .inv .low))
 
--- src/lib.rt:424:5
 loop-again : tie.Need-loop-again Inv-loop μ-loop
 loop-again c = steps-next (c .before .before .before .before .before .before .before .before .before .before .before .before .loop .inv) (c .before .before .before .before .before .before .before .before .before .before .before .next-word .ensures) (c .before .before .before .before .before .before .before .before .before .before .next-word2 .ensures) (c .before .before .before .before .before .before .before .before .if1 .left) (c .before .before .before .before .before .before .if2 .left) (omega (arith, c .before .before .before .before .if3 .left)) (omega (arith, c .before .before .if4 .left)) _ (c .before .same-parts .ensures) (yet-so _ (c .if5 .left))
 

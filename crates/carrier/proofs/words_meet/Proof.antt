@@ -4,34 +4,24 @@ use Rattle.carrier.specs.Held.{callsHeld}
 use borrow.Author.Needs.{needs}
 use Rattle.carrier.proofs.words_meet.Statement.{statement}
 use Rattle.carrier.proofs.words_meet.Tie as tie
-use Rattle.carrier.proofs.words_meet.Reads as reads
-use Rattle.carrier.proofs.words_meet.Lts as lts
-use Rattle.base.proofs.wide.Reads as wide-reads
-use Rattle.carrier.proofs.calls_meet.Reads as calls-meet-reads
 
--- src/lib.rt:257:9
 returns : tie.Need-returns
 returns c = meets-no-operand _ (c .before .before .before .before .before .before .args .n .kind) (c .before .before .before .before .before .before .args .n .left) (c .before .before .before .before .before .before .args .w) (c .before .before .before .before .before .before .args .v) (c .if1 .taken)
 
--- src/lib.rt:260:9
 returns-2 : tie.Need-returns-2
 returns-2 c = meets-no-call _ (c .before .before .before .before .before .before .before .before .args .n .kind) (c .before .before .before .before .before .before .before .before .args .n .left) (c .before .before .before .before .before .before .before .before .args .w) (c .before .before .before .before .before .before .before .before .args .v) (c .if2 .taken)
 
--- src/lib.rt:269:9
 wide-requires : tie.Need-wide-requires
 wide-requires c κs = search needs
 
--- src/lib.rt:270:9
 wide-requires-2 : tie.Need-wide-requires-2
 wide-requires-2 c κs = search needs
 
--- src/lib.rt:262:5
 calls-meet-requires : tie.Need-calls-meet-requires
 calls-meet-requires c κs = search needs
 
--- src/lib.rt:242:1
 returns-3 : tie.Need-returns-3
-returns-3 c = meets-call (callsHeld (c .before .before .before .before .before .before .before .before .before .before .before .args .old .now) (c .before .before .before .before .before .before .before .before .before .before .before .args .sheet .now) (c .before .before .before .before .before .before .before .before .before .before .before .args .rules .count) (c .before .before .before .before .before .before .before .before .before .before .before .args .rules .size) (c .before .before .before .before .before .before .before .before .before .before .before .args .new .now) (c .before .before .before .before .before .before .before .before .before .before .before .args .other .now) (c .before .before .before .before .before .before .before .before .before .before .before .args .others .count) (c .before .before .before .before .before .before .before .before .before .before .before .args .others .size)) (c .before .before .before .before .before .before .before .before .before .before .before .args .n .kind) (c .before .before .before .before .before .before .before .before .before .before .before .args .n .left) (c .before .before .before .before .before .before .before .before .before .before .before .args .w) (c .before .before .before .before .before .before .before .before .before .before .before .args .v) _ _ _ (c .before .before .before .before .before .if1 .left) (c .before .before .before .if2 .left) (c .before .before .wide .ensures .0) (c .before .wide2 .ensures .0) (c .calls-meet .ensures)
+returns-3 c = meets-call (callsHeld (c .before .before .before .before .before .before .before .before .before .before .before .args .old .now) (c .before .before .before .before .before .before .before .before .before .before .before .args .sheet .now) (c .before .before .before .before .before .before .before .before .before .before .before .args .new .now) (c .before .before .before .before .before .before .before .before .before .before .before .args .other .now)) (c .before .before .before .before .before .before .before .before .before .before .before .args .n .kind) (c .before .before .before .before .before .before .before .before .before .before .before .args .n .left) (c .before .before .before .before .before .before .before .before .before .before .before .args .w) (c .before .before .before .before .before .before .before .before .before .before .before .args .v) _ _ _ (c .before .before .before .before .before .if1 .left) (c .before .before .before .if2 .left) (c .before .before .wide .ensures .0) (c .before .wide2 .ensures .0) (c .calls-meet .ensures)
 
 pub words-meet-spec : {M : Type 1} → statement M
 words-meet-spec =
