@@ -82,9 +82,9 @@ const BOOK_WORDS: usize = 83;
 const LEFT_WORD: usize = 79;
 
 // Whether some bytes are a walk, and which.
-struct Held {
-    ok: bool,
-    walk: Walk,
+pub struct Held {
+    pub ok: bool,
+    pub walk: Walk,
 }
 
 // Writing words
@@ -164,7 +164,7 @@ fn put_returns(out: &mut [u8], returns: &[u16], depth: usize)
 }
 
 // The form of a walk: 79 words.
-fn put_walk(out: &mut [u8], w: Walk)
+pub fn put_walk(out: &mut [u8], w: Walk)
     requires { ⌜ (length (now out) ≡ 158) × (w .at .location < 65536) ⌝ }
     ensures { λ _. ⌜ now (out .exit) ≡ form.walkBytes (view.walkOf w) ⌝ }
 {
@@ -275,7 +275,7 @@ fn fresh_walk(allowance: u16) -> Walk
 }
 
 // The walk that the bytes are: what they name, if that is written so.
-fn read_walk(s: &[u8]) -> Held
+pub fn read_walk(s: &[u8]) -> Held
     ensures { λ r. ⌜ Holds (now (s .entry)) r ⌝ }
 {
     if s.len() != WALK_BYTES {
