@@ -4,53 +4,42 @@ use mathlib.Core.List.{List, [], _∷_, _++_}
 use mathlib.Core.Logic.{_⊎_, inl, inr}
 use mathlib.Core.Option.{Option, none, some}
 use mathlib.Core.Path.{_≡_, refl, sym, ap, _∙_, subst}
-use Prim.Native.Nat.{ℕ, zero, suc, _+_, _-_, _<_, _≤_}
+use Prim.Native.Nat.{ℕ, zero, suc, _+_, _-_, _*_, _<_, _≤_}
 use native.Mathlib.Omega.{arith}
-use lib.Dec.{leb}
 use lib.ListN.{length, getElem?}
-use borrow.Author.Tests.{le-leb}
 use Rattle.acceptance.proofs.Accepts.{accepted-table}
 use Rattle.acceptance.specs.Answers.{TableOf}
 use Rattle.agreement.proofs.Reports.{reports-last}
 use Rattle.agreement.specs.Demand.{wanted, HasStopped, Listed}
 use Rattle.agreement.specs.Reports.{Reports}
 use Rattle.base.specs.Common.{if_then_else_}
+use Rattle.carrybound.proofs.Ending.{figure-carried}
+use Rattle.carrybound.specs.EnoughCarried.{EnoughFrom}
 use Rattle.carry.proofs.Bytes.{carried-fits}
+use Rattle.carry.proofs.Lying.{accepted-most}
 use Rattle.carry.proofs.Sources.{SourceOk, source-ok}
 use Rattle.carry.proofs.Theorem.{carrying-on}
 use Rattle.carry.specs.Carry.{Source, Carried, carried, stays, carryPlace, carryPlaces, putAt, sameAll, carry, sourceOf}
 use Rattle.carry.specs.GoingOn.{WritesFrom, StopsFrom, EndsBy, Follows, GoesOn, Carries, CarryingOn}
-use Rattle.carry.specs.Texts as texts
 use Rattle.carry.specs.Texts.{answerOf, between, carryTexts, told, Outcome, outcome, carryBytes}
 use Rattle.events.specs.Events.{Event, Reason, Io}
-use Rattle.finishing.specs.Test.{finishing}
+use Rattle.figure.specs.Count.{figure}
 use Rattle.machine.proofs.Bytes.{length-wordsOf}
 use Rattle.machine.proofs.Form.{walkOf-walkBytes}
 use Rattle.machine.specs.Bytes.{count, wordsOf, tableOf}
 use Rattle.machine.specs.Form.{Fits, walkOf, walkBytes, eventsWords}
 use Rattle.machine.specs.Walk.{Phase, going, waiting, stopped, Walk}
 use Rattle.ownwalk.specs.OwnWalk.{Own}
-use Rattle.processor.specs.Process as processor
-use Rattle.processor.specs.Process.{accepted, process, answerFor, understood, meaning, partOf}
+use Rattle.processor.specs.Process.{accepted, process, understood, meaning}
 use Rattle.program.proofs.Lengths.{length-table}
 use Rattle.program.specs.Program.{Rule}
-use Rattle.program.specs.Table.{sizeRules, table}
-use Rattle.syntax.specs.Parse.{endOf}
+use Rattle.program.specs.Table.{sizeRules}
 use Rattle.bytewise.proofs.Entries.{behind, begins, left-bytes, Below}
 use Rattle.bytewise.proofs.Joined.{eventsWords-then, choices-words, byte-calls-from, byte-calls}
 use Rattle.bytewise.specs.AtCarry.{Moves, WritesWords, StopsWords, EndsByBytes, FollowsBytes, GoesOnBytes, KeptBytes, AtCarry}
+use Rattle.bytewise.specs.AtCarryFigure.{EnoughCarried}
 use Rattle.bytewise.specs.AtEntries.{StoppedBytes, Leaves}
 use Rattle.bytewise.specs.ByteCalls.{Slice, choicesIn, Waits, ByteCallsFrom, ByteCalls, StandsFrom, Stands}
-
--- a text that is accepted with some room is accepted with the most that a table has
-accepted-most : (text : List ℕ) (room : ℕ) (words : List ℕ) (verdict : Bool) → process text room ≡ accepted words verdict → process text 4096 ≡ accepted words verdict
-unfolding process answerFor
-accepted-most text room words verdict e =
-    let t = accepted-table text room words verdict e in
-    let n = length-table (t .prog) in
-    let l : sizeRules (t .prog) ≤ 4096 = omega (arith, n, t .within-4096, ap length (t .words-are)) in
-    let z : accepted (table (t .prog)) (finishing (t .prog)) ≡ accepted words verdict = λ i. accepted (sym (t .words-are) i) (sym (t .verdict-is) i) in
-    rw (t .means, le-leb (sizeRules (t .prog)) 4096 l) z
 
 -- what is not carried answers 51 or 52
 not-0 : (p q : Source) (w : Walk) (n : ℕ) → carry p q w ≡ stays n → n ≡ 0 → ⊥
@@ -109,6 +98,12 @@ module _ (prog : List Rule) (table tokens answers : List ℕ) (bt : Below 256 ta
       go : (st : St s ws n ns) → HasStopped (st .walk) ⊎ (n < b) → StoppedBytes s ⊎ (n < b)
       go st (inl x) = inl (st .walk, st .read-back, x)
       go st (inr x) = inr x
+
+  enough-bytes : (b : ℕ) → EnoughFrom (tableOf table) (wordsOf tokens) (wordsOf answers) w₀ es₀ b → EnoughCarried table tokens answers s₀ ws₀ b
+  enough-bytes b h = record {
+    suffices = ends-bytes b (h .suffices);
+    steps = λ s ws n ns l. (let st = standing l in h .steps (st .walk) (st .events) n ns (st .listed));
+  }
 
   follows-bytes : (o : Own) → Follows prog (tableOf table) (wordsOf tokens) (wordsOf answers) o w₀ es₀ → FollowsBytes prog table tokens answers o s₀ ws₀
   follows-bytes o f =
@@ -237,6 +232,16 @@ module _ (old new : List ℕ) (room room′ : ℕ) (words words′ : List ℕ) (
       ends b h =
           ends-bytes (claim .prog′) table′ tokens answers (left-bytes new room′ words′ verdict′ e′ l′) bk ba (k .walk) (st .events) fits₁ s₁ ws (k .bytes) (st .words) b
           (rw (begins new room′ words′ verdict′ e′ l′) h)
+
+      -- with the new text's verdict "finishing" and its figure q
+      pub enough-carried : verdict′ ≡ true → (prog′ : List Rule) → understood new ≡ meaning prog′ → (q : ℕ) → figure prog′ ≡ some q → (w : Walk) → walkOf s₁ ≡ some w
+          → EnoughCarried table′ tokens answers s₁ ws (65 * q * (count tokens + w .io .allowance + 1))
+      enough-carried v prog′ d q f w b =
+          let h = figure-carried old new room room′ words words′ verdict e (rw v at e′) prog′ d q f (behind old room words verdict e l) (behind new room′ words′ verdict′ e′ l′)
+          (wordsOf tokens) (wordsOf answers) allowance (st .walk) (st .events) n ns listed (k .walk) (k .carries) in
+          rw (← length-wordsOf tokens, ← same-walk back₁ b)
+          (enough-bytes (claim .prog′) table′ tokens answers (left-bytes new room′ words′ verdict′ e′ l′) bk ba (k .walk) (st .events) fits₁ s₁ ws (k .bytes) (st .words)
+          (65 * q * (length (wordsOf tokens) + k .walk .io .allowance + 1)) (rw (begins new room′ words′ verdict′ e′ l′) h))
 
   pub at-carry : AtCarry old new words verdict words′ verdict′
   at-carry = record {

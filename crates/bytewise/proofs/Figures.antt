@@ -46,7 +46,7 @@ measured text room h = go (process text room) (understood text) refl refl h
 pub same-meaning : {p q : List Rule} {u : Understood} → u ≡ meaning p → u ≡ meaning q → p ≡ q
 same-meaning {p} {q} e f = let x : meaning p ≡ meaning q = sym e ∙ f in cc
 
-told-figure : (a : Answer) (f : Told) → numbersOf a f .figure ≡ f .figure
+pub told-figure : (a : Answer) (f : Told) → numbersOf a f .figure ≡ f .figure
 unfolding numbersOf
 told-figure (accepted words verdict) f = refl
 told-figure (refused number at) f = refl

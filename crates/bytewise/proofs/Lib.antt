@@ -11,3 +11,5 @@ pub mod Screens
 pub mod Tables
 pub mod Linking
 pub mod Carried
+pub mod Unmoved
+pub mod CarriedFigure

@@ -9,3 +9,5 @@ pub mod AtFigure
 pub mod AtTable
 pub mod AtLinking
 pub mod AtCarry
+pub mod AtIdentity
+pub mod AtCarryFigure

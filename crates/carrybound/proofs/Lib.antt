@@ -1,0 +1,4 @@
+pub mod Bound
+pub mod Shifted
+pub mod Reaching
+pub mod Ending
