@@ -1,4 +1,4 @@
-//! Compiles the files of c/ and, with the feature `lib`, links libsst.a and libsst-desk.a.
+//! Compiles the files of c/ and, with the feature `lib`, links libsst.a and libsst-desk.a, with `carry` libsst-carry.a too.
 //!
 //! `SST_PAD` is the number of a build with padding before the walkers, for scripts/bench-spread; without it there is none.
 
@@ -80,9 +80,10 @@ fn main() {
     println!("cargo::rerun-if-env-changed=SST_LIB_DIR");
     if env::var_os("CARGO_FEATURE_LIB").is_some() {
         let Ok(dir) = env::var("SST_LIB_DIR") else {
-            fail("set SST_LIB_DIR to the folder of libsst.a and libsst-desk.a, or build with --no-default-features")
+            fail("set SST_LIB_DIR to the folder of the libraries, or build with --no-default-features")
         };
-        for (name, entries) in LIBRARIES {
+        let carry = env::var_os("CARGO_FEATURE_CARRY").is_some();
+        for (name, entries) in LIBRARIES.into_iter().filter(|(name, _)| carry || *name != CARRY_IN) {
             let parts: &[&str] = if name == PARTS_IN && env::var_os("CARGO_FEATURE_PARTS").is_some() { PARTS } else { &[] };
             let library = Path::new(&dir).join(format!("lib{name}.a"));
             let Ok(library) = library.canonicalize() else {
@@ -98,11 +99,14 @@ fn main() {
 }
 
 /// The libraries, each with its entries in the alphabet's order.
-const LIBRARIES: [(&str, &[&str]); 2] = [("sst", DEVICE), ("sst-desk", DESK)];
+const LIBRARIES: [(&str, &[&str]); 3] = [("sst", DEVICE), ("sst-desk", DESK), (CARRY_IN, CARRY)];
 const DESK: &[&str] = &["add_book", "rule_total", "rules", "rules_total", "shelf"];
 /// The entries of the feature `parts`, and the library that they are in.
 const PARTS: &[&str] = &["link", "part"];
 const PARTS_IN: &str = "sst-desk";
+/// The entry of the feature `carry`, and its library.
+const CARRY: &[&str] = &["carry"];
+const CARRY_IN: &str = "sst-carry";
 const DEVICE: &[&str] = &[
     "admit", //
     "allowance",

@@ -1,6 +1,7 @@
 //! The C entries: of the library (`include/sst.h`, feature `lib`) and of the plain C walker (`c/walker.c`).
 #![allow(unsafe_code)]
 
+use crate::carry::Carrier;
 use crate::figures::Figures;
 use crate::files::Files;
 use crate::parts::Parts;
@@ -151,6 +152,8 @@ side! {
     Library "lib" sst_fresh sst_whole sst_paused sst_phase sst_reason sst_location sst_read sst_used sst_allowance
 }
 
+#[cfg(all(feature = "lib", feature = "carry"))]
+mod carry;
 #[cfg(feature = "lib")]
 mod figures;
 #[cfg(feature = "lib")]
@@ -198,6 +201,14 @@ linked! {
     screens: Screens;
     /// The library's figures over a shelf, where they are linked.
     figures: Figures;
+}
+
+/// The library's carrying of a walk to new rules, where it is linked.
+pub fn carrier() -> Option<&'static (dyn Carrier + Sync)> {
+    #[cfg(all(feature = "lib", feature = "carry"))]
+    return Some(&Library);
+    #[cfg(not(all(feature = "lib", feature = "carry")))]
+    return None;
 }
 
 /// The library's translation of parts and its linker, where they are linked.

@@ -18,6 +18,8 @@ pub mod quiet;
 pub mod rules;
 pub mod verdict;
 
+pub mod agreement;
+pub mod carry;
 pub mod crowded;
 pub mod faults;
 pub mod figures;
@@ -30,6 +32,7 @@ pub mod programs;
 pub mod rights;
 pub mod screen;
 pub mod slow;
+pub mod stack;
 pub mod sums;
 pub mod texts;
 pub mod timing;

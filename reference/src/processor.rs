@@ -7,6 +7,7 @@
 //! 5. `assemble` writes the words and patches the distances afterwards
 //! 6. `verdict::finishing` searches the program's quiet paths
 
+pub mod marks;
 mod operators;
 pub mod parts;
 
@@ -93,7 +94,7 @@ pub fn places(text: &[u8]) -> Result<Vec<Place>, u16> {
     parser.program().map_err(|Stop(number, _)| number)?;
     let own = parser.tree.bodies.iter().map(|body| (body.name, body.name));
     let made = operators::first_uses(text, &words, &parser.tree);
-    let parts = own.chain(made.iter().map(|used| (used.sign, used.rule)));
+    let parts = own.chain(made.iter().map(|(used, _)| (used.sign, used.rule)));
     let place = |((first, last), location): ((At, At), usize)| {
         let (start, end) = (words[first].start, words[last].start + words[last].len);
         Place { start, len: end - start, location }
@@ -1242,6 +1243,12 @@ pub fn written_out(text: &[u8]) -> Option<Vec<u8>> {
 
 /// The words, of any size, and the locations of the rules' first ones; the word at location n stands at n - 1.
 fn assemble(program: &Program) -> (Vec<usize>, Vec<usize>) {
+    let (words, starts, _) = assemble_with_calls(program);
+    (words, starts)
+}
+
+/// The same, with the locations of the calls' operands and the rules that are called.
+fn assemble_with_calls(program: &Program) -> (Vec<usize>, Vec<usize>, Vec<(usize, usize)>) {
     let mut out = Assembly { words: Vec::new(), calls: Vec::new() };
     let mut starts = Vec::new();
     for rule in &program.rules {
@@ -1251,10 +1258,10 @@ fn assemble(program: &Program) -> (Vec<usize>, Vec<usize>) {
             out.words.push(9);
         }
     }
-    for (hole, rule) in out.calls {
-        out.words[hole - 1] = starts[rule];
+    for (hole, rule) in &out.calls {
+        out.words[hole - 1] = starts[*rule];
     }
-    (out.words, starts)
+    (out.words, starts, out.calls)
 }
 
 struct Assembly {

@@ -1,5 +1,7 @@
 //! The rules' own walk: over the program as it is written, without a table.
 
+pub mod places;
+
 use crate::processor::{Act, By, Choice, Program};
 
 /// The most calls that may be pending.
@@ -27,38 +29,29 @@ enum Rest<'a> {
     Chooses(&'a Choice),
 }
 
+/// What is left of a step that a table has begun: nothing, a choice by a value that is there, or one by the next answer, the operation
+/// being handed out.
+#[derive(Clone, Copy, Default)]
+enum Half<'a> {
+    #[default]
+    None,
+    Value(&'a Choice, u16),
+    Answer(&'a Choice),
+}
+
 struct Walk<'a> {
     program: &'a Program,
     tokens: &'a [u16],
     answers: &'a [u16],
     /// The place, and below it those of the pending calls.
     places: Vec<Vec<Rest<'a>>>,
+    half: Half<'a>,
     end: End,
 }
 
 /// Walks a program from its first rule's start, at most so many steps.
 pub fn walk(program: &Program, tokens: &[u16], answers: &[u16], allowance: u16, steps: usize) -> End {
-    follow(program, tokens, answers, allowance, steps, |_| ()).0
-}
-
-/// Such a walk, looked at after each step; with its end, the steps done.
-pub fn follow(
-    program: &Program,
-    tokens: &[u16],
-    answers: &[u16],
-    allowance: u16,
-    steps: usize,
-    mut look: impl FnMut(&End),
-) -> (End, usize) {
-    let end = End { reason: None, events: Vec::new(), read: 0, used: 0, allowance };
-    let mut walk = Walk { program, tokens, answers, places: vec![vec![Rest::List(&program.rules[0].acts)]], end };
-    let mut done = 0;
-    while done < steps && walk.end.reason.is_none() {
-        walk.end.reason = walk.step().err();
-        done += 1;
-        look(&walk.end);
-    }
-    (walk.end, done)
+    Walk::new(program, tokens, answers, allowance).follow(steps, |_| ()).0
 }
 
 /// The rules' own walk on its way: its end, its steps, and after each of them events written, tokens read, answers used and repairs left, once each.
@@ -73,19 +66,41 @@ pub type State = (usize, u64, u64, u16);
 
 impl Own {
     pub fn new(program: &Program, tokens: &[u16], answers: &[u16], allowance: u16, most: usize) -> Own {
-        let mut states = vec![(0, 0, 0, allowance)];
+        Own::of(Walk::new(program, tokens, answers, allowance), most)
+    }
+
+    fn of(walk: Walk, most: usize) -> Own {
+        let state = |end: &End| (end.events.len(), end.read, end.used, end.allowance);
+        let mut states = vec![state(&walk.end)];
         let look = |end: &End| {
-            let state = (end.events.len(), end.read, end.used, end.allowance);
+            let state = state(end);
             if states.last() != Some(&state) {
                 states.push(state);
             }
         };
-        let (end, steps) = follow(program, tokens, answers, allowance, most, look);
+        let (end, steps) = walk.follow(most, look);
         Own { end, steps, states }
     }
 }
 
 impl<'a> Walk<'a> {
+    fn new(program: &'a Program, tokens: &'a [u16], answers: &'a [u16], allowance: u16) -> Walk<'a> {
+        let end = End { reason: None, events: Vec::new(), read: 0, used: 0, allowance };
+        let places = vec![vec![Rest::List(&program.rules[0].acts[..])]];
+        Walk { program, tokens, answers, places, half: Half::None, end }
+    }
+
+    /// At most so many steps, looked at after each; with its end, the steps done.
+    fn follow(mut self, steps: usize, mut look: impl FnMut(&End)) -> (End, usize) {
+        let mut done = 0;
+        while done < steps && self.end.reason.is_none() {
+            self.end.reason = self.step().err();
+            done += 1;
+            look(&self.end);
+        }
+        (self.end, done)
+    }
+
     fn present(&self) -> Option<u16> {
         self.tokens.get(self.end.read as usize).copied()
     }
@@ -100,6 +115,14 @@ impl<'a> Walk<'a> {
 
     /// One action, or one end of a list; an error is a stop.
     fn step(&mut self) -> Result<(), u16> {
+        match std::mem::take(&mut self.half) {
+            Half::None => {}
+            Half::Value(choice, value) => return self.choose(choice, Some(value), 32).map(|_| ()),
+            Half::Answer(choice) => {
+                let answer = self.answer()?;
+                return self.choose(choice, Some(answer), 32).map(|_| ());
+            }
+        }
         let place = self.place();
         let Some(rest) = place.pop() else { return self.back(None) };
         let (act, rest) = match rest {
@@ -142,14 +165,20 @@ impl<'a> Walk<'a> {
                     return self.call(*rule);
                 }
                 By::Operation(number, parameter) => {
-                    let Some(answer) = self.answers.get(self.end.used as usize).copied() else { return Err(34) };
+                    let answer = self.answer()?;
                     self.event(3, *number, *parameter);
-                    self.end.used = self.end.used.saturating_add(1);
                     self.choose(choice, Some(answer), 32)?;
                 }
             },
         }
         Ok(())
+    }
+
+    /// The next answer, which is then used.
+    fn answer(&mut self) -> Result<u16, u16> {
+        let answer = self.answers.get(self.end.used as usize).copied().ok_or(34u16)?;
+        self.end.used = self.end.used.saturating_add(1);
+        Ok(answer)
     }
 
     /// A required token that is not there.

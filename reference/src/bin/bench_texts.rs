@@ -10,48 +10,15 @@ use std::hint::black_box;
 use std::process::ExitCode;
 
 use reference::ffi;
-use reference::limits::{self, LIMITS};
 use reference::programs::{self, CHOSEN, PLAIN, SIZES, Text};
 use reference::quiet::Measurer;
 use reference::side::{Processed, Processor, Reference};
-use reference::texts::{self, Seed};
+use reference::stack;
 use reference::timing;
 
 const LARGEST: usize = 2 * 4_096;
-/// The painted stack: much more than a processor should need.
-const STACK: usize = 8 << 20;
 /// The seconds that one timing of one side takes at least.
 const LEAST: f64 = 2e-3;
-
-/// The deepest stack over many texts: those that are timed, those around the limits, and small ones, good and damaged.
-fn stack(side: &'static (dyn Measurer + Sync), works: &[[Text; 3]]) -> Option<(u64, String)> {
-    let mut texts: Vec<(String, Vec<u8>)> = Vec::new();
-    for Text { name, text } in works.iter().flatten() {
-        texts.push((format!("{name} of {} bytes", text.len()), text.clone()));
-    }
-    for (limit, (name, _)) in LIMITS.into_iter().enumerate() {
-        for number in 0..4 {
-            let samples = limits::samples(&mut Seed::new(number), limit);
-            texts.extend(samples.into_iter().map(|sample| (format!("limit of {name}"), sample.text)));
-        }
-    }
-    texts.push(("an update with its constant, 32 deep".to_string(), programs::deep_update()));
-    texts.extend(limits::beyond().into_iter().map(|(text, number)| (format!("far beyond a limit, {number}"), text)));
-    texts.extend((0..400).map(|n| (format!("text {n}"), texts::text(&mut Seed::new(n), 40))));
-    let mut table = vec![0; LARGEST];
-    // What is called for the first time may be bound on the way: once without measuring.
-    for (_, text) in &texts {
-        black_box(side.measure(text, &mut table));
-    }
-    let mut deepest = (0, String::new());
-    for (name, text) in &texts {
-        let used = ffi::stack_used(|| _ = black_box(side.measure(text, &mut table)), STACK)?;
-        if used > deepest.0 {
-            deepest = (used, name.clone());
-        }
-    }
-    Some(deepest)
-}
 
 /// A text's name and bytes, with the times of the library and of this crate, and of this crate without the figure Q.
 struct Times {
@@ -156,7 +123,8 @@ fn bench() -> Result<(), ExitCode> {
     let largest = |sort: usize| all[sort + 1][SIZES.len() - 1].ours;
     let [plain, names, strings] = [PLAIN, CHOSEN, CHOSEN + 1].map(largest);
     println!("chosen names over plain ones: {:.1}; chosen names and strings: {:.1}", names / plain, strings / plain);
-    match stack(library, &works) {
+    let (texts, mut table) = (stack::texts(), vec![0; LARGEST]);
+    match stack::deepest(&texts, |text| _ = black_box(library.measure(text, &mut table))) {
         Some((used, name)) => println!("largest stack of the library: {used} bytes, {name}"),
         None => println!("the stack could not be measured"),
     }

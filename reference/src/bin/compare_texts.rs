@@ -9,6 +9,7 @@
 use std::collections::BTreeMap;
 use std::process::ExitCode;
 
+use reference::agreement::{Calls, ENDLESS};
 use reference::before;
 use reference::choosers;
 use reference::faults::{self, Fault};
@@ -19,18 +20,16 @@ use reference::pairs::{self, BESIDE, Case, Limit, Sample};
 use reference::processor::resolve;
 use reference::programs;
 use reference::rules::{self, Own};
-use reference::side::{Inputs, Processed, Processor, Reference, Side};
+use reference::side::{Processed, Processor, Reference, Side};
 use reference::tables::bytes;
 use reference::texts::{self, Seed, VOCABULARY, Words};
-use reference::walker::{WALK_BYTES, Walk};
+use reference::walker::WALK_BYTES;
 
 const SEEDS: u64 = 900;
 /// Lent bytes for the largest table.
 const LARGEST: usize = 2 * 4_096;
 /// The steps that the rules' own walk may do; the table of a rule step has at most three instructions.
 const RULE_STEPS: usize = 1_000_000;
-/// The steps over the table of a walk that does not stop. The rules' own walk does at most 40 for each: the ends of lists in each other.
-const ENDLESS: usize = 1_500;
 
 /// The numbers that the comparison must meet: those of the processor, and those of a walk.
 const NUMBERS: [u16; 11] = [0, 1, 2, 3, 4, 5, 6, 7, 8, 9, 20];
@@ -375,38 +374,6 @@ fn lent_sizes(h: &mut Harness, seed: &mut Seed) {
     }
 }
 
-/// A walk over a table in calls, with what its calls wrote and did.
-struct Run {
-    walk: Vec<u8>,
-    number: u16,
-    events: Vec<u8>,
-    steps: u64,
-}
-
-impl Run {
-    fn new(side: &dyn Side, allowance: u16) -> Run {
-        let mut walk = vec![0xEE; WALK_BYTES];
-        side.fresh(&mut walk, allowance);
-        Run { walk, number: 36, events: Vec::new(), steps: 0 }
-    }
-
-    /// One call; with an answer, or asked for one, it is a paused call.
-    fn go(&mut self, side: &dyn Side, inputs: Inputs, paused: Option<Option<u16>>, budget: u64, size: usize) {
-        let mut events = vec![0; size];
-        let done = match paused {
-            None => side.whole(inputs, budget, &mut self.walk, &mut events),
-            Some(answer) => {
-                let given = u16::from(answer.is_some());
-                side.paused(inputs, given, answer.unwrap_or(0), budget, &mut self.walk, &mut events)
-            }
-        };
-        let written = (done.written as usize).saturating_mul(6).min(size);
-        self.events.extend_from_slice(&events[..written]);
-        self.number = done.number;
-        self.steps += done.steps;
-    }
-}
-
 /// What a walk is fed.
 struct Feed<'a> {
     text: &'a [u8],
@@ -419,62 +386,22 @@ struct Feed<'a> {
 /// One walk over a table in calls of any budget and buffer, compared with the rules' own walk after each call.
 fn table_walk(h: &mut Harness, seed: &mut Seed, feed: &Feed, own: &Own, pauses: bool) {
     let Feed { text, table, tokens, answers, allowance } = *feed;
-    let (token_bytes, answer_bytes) = (bytes(tokens), bytes(answers));
-    let inputs = Inputs { table, tokens: &token_bytes, answers: &answer_bytes };
-    let mut run = Run::new(h.walker, allowance);
-    let most = if own.end.reason.is_some() { 3 * own.steps as u64 + 3 } else { ENDLESS as u64 };
-    let (mut state, mut agrees, mut used) = (0, true, 0);
-    let long = seed.one_in(2);
-    loop {
-        let left = most - run.steps.min(most);
-        let budget = match seed.below(4) {
-            _ if long => left,
-            0 => seed.below(3) as u64,
-            1 => seed.below(12) as u64,
-            2 => left,
-            _ => seed.below(200) as u64,
-        };
-        let size = if long { 6 * own.end.events.len() + 12 } else { seed.below(60) };
-        let answer = (run.number == 22).then(|| answers[used]);
-        used += usize::from(answer.is_some());
-        run.go(h.walker, inputs, pauses.then_some(answer), budget.min(left), size);
-        count(&mut h.met.walks, run.number);
-        // The rules' own walk writes an operation's event and takes its answer at once.
-        let Some(walk) = Walk::decode(&run.walk) else { break };
-        let now = (run.events.len() / 6 - usize::from(run.number == 22), walk.read, walk.used, walk.allowance);
-        match own.states[state..].iter().position(|state| *state == now) {
-            Some(further) => state += further,
-            None => agrees = false,
-        }
-        let goes_on = matches!(run.number, 35 | 36) || run.number == 22 && used < answers.len();
-        if !goes_on || !agrees || run.steps >= most {
-            break;
-        }
-    }
-    let mut wanted: Vec<u8> = own.end.events.iter().flat_map(|event| bytes(event)).collect();
-    let walk = Walk::decode(&run.walk).unwrap_or_default();
+    let calls = Calls { side: h.walker, table, tokens, answers, pauses };
+    let mut walk = vec![0xEE; WALK_BYTES];
+    h.walker.fresh(&mut walk, allowance);
+    let run = calls.run(seed, walk, own, |number| count(&mut h.met.walks, number));
     match own.end.reason {
-        None => {
-            agrees &= matches!(run.number, 22 | 35 | 36) && wanted.starts_with(&run.events);
-            h.met.endless += 1;
-        }
+        None => h.met.endless += 1,
         Some(reason) => {
-            if run.number == 22 {
-                // It waits for the answer past the last; only the operation's event is there already.
-                let event = run.events.split_off(run.events.len().saturating_sub(6));
-                agrees &= reason == 34 && event.len() == 6 && event[..2] == [0, 3];
-            } else {
-                agrees &= run.number == reason;
-            }
-            agrees &= run.events == wanted && run.steps <= most;
-            agrees &= (walk.read, walk.used, walk.allowance) == (own.end.read, own.end.used, own.end.allowance);
             let repaired = own.end.allowance < allowance;
             h.met.repaired += u64::from(repaired);
             h.met.used_up += u64::from(repaired && reason == 30);
         }
     }
+    let mut wanted: Vec<u8> = own.end.events.iter().flat_map(|event| bytes(event)).collect();
     wanted.truncate(120);
-    h.tally.expect(agrees, || {
+    let walk = run.state();
+    h.tally.expect(run.agrees, || {
         format!(
             "  pauses: {pauses}\n  rules: {:?} after {} steps, read {}, used {}, events {wanted:?}\n  table: {} after {} steps, read {}, used {}, \
              events {:?}\n  tokens {tokens:?}\n  answers {answers:?}\n{}",

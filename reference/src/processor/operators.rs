@@ -10,11 +10,11 @@ type Pair<'a> = (&'a [u8], &'a [u8]);
 /// The operators of each level that is used, the lowest first, in the section's order.
 type Levels<'a> = BTreeMap<u16, Vec<&'a Operator>>;
 
-/// Rules that are made, as text, with the first use of each, and for each pair the name of the lowest one.
+/// Rules that are made, as text, with the first use of each and its level, and for each pair the name of the lowest one.
 #[derive(Default)]
 struct Made<'a> {
     text: Vec<u8>,
-    uses: Vec<Use>,
+    uses: Vec<(Use, u16)>,
     lowest: HashMap<Pair<'a>, Vec<u8>>,
 }
 
@@ -50,8 +50,8 @@ pub fn write_out(text: &[u8], words: &[Word], tree: &Tree, names: usize) -> Resu
     Ok(out)
 }
 
-/// For each rule made the first use of its pair, for a text that passes no limit.
-pub fn first_uses(text: &[u8], words: &[Word], tree: &Tree) -> Vec<Use> {
+/// For each rule made the first use of its pair, and its level, for a text that passes no limit.
+pub fn first_uses(text: &[u8], words: &[Word], tree: &Tree) -> Vec<(Use, u16)> {
     Writer { text, words, tree }.make(&uses(tree), 0).map_or(Vec::new(), |made| made.uses)
 }
 
@@ -76,7 +76,7 @@ impl<'a> Writer<'a> {
             }
             let section = self.tree.operators.iter().find(|other| self.spelling(other.name) == section);
             let levels = levels(section.expect("declared"));
-            made.uses.extend(levels.keys().map(|_| *used));
+            made.uses.extend(levels.keys().map(|level| (*used, *level)));
             let count = made.uses.len();
             let most = levels.values().map(Vec::len).max();
             if most > Some(MAX_LABELS) || self.tree.bodies.len() + count > MAX_RULES || names + count > MAX_NAMES {
