@@ -3,7 +3,7 @@
 # make load FILE=..        say what the loader says of a table file: number, words, the sender's verdict
 # make figures FILE=.. BOOKS=".."   figures over a shelf of books: executions by rule, and what was never executed
 # make link COMMON=.. PARTS=".."    translate parts of a program separately, link them and print the table; OUT=.. writes its table file
-# make build               prove libraries and lister: target/lib/libsst.a, target/lib/libsst-desk.a, target/bin/lister
+# make build               prove libraries and lister: target/lib/libsst.a, target/lib/libsst-carry.a, target/lib/libsst-desk.a, target/bin/lister
 # make install PREFIX=..   put libraries, headers, pkg-config files, lister and its page below PREFIX (/usr/local); DESTDIR=.. for a package
 # make test                every check and test
 FILE ?= examples/scanner.ssl

@@ -274,6 +274,15 @@ pub trait Compares: Sized + 'static {
     fn report(&mut self, least: u64);
 }
 
+/// The document that the command line `NAME FILE` names, or the status to end with.
+pub fn document(name: &str) -> Result<String, ExitCode> {
+    let file = std::env::args().nth(1).unwrap_or_default();
+    std::fs::read_to_string(&file).map_err(|error| {
+        eprintln!("{name} FILE: {file}: {error}");
+        ExitCode::from(2)
+    })
+}
+
 /// A comparison by the command line. It is begun with whether bytes are to be lent without guard bytes, and prints what stands on both sides.
 pub fn main<H: Compares>(name: &str, seeds: u64, begin: impl FnOnce(bool) -> H) -> ExitCode {
     match Options::read(std::env::args().skip(1), seeds) {

@@ -11,6 +11,7 @@ use std::process::ExitCode;
 
 use reference::carry::{Carried, Carrier};
 use reference::ffi;
+use reference::harness;
 use reference::processor::{self, Answer};
 use reference::side::Reference;
 use reference::walker::{self, Walk};
@@ -93,13 +94,9 @@ fn check(sides: &[&dyn Carrier], text: &str, walk: &Walk, number: u16, edits: &[
 }
 
 fn main() -> ExitCode {
-    let file = std::env::args().nth(1).unwrap_or_default();
-    let document = match std::fs::read_to_string(&file) {
+    let document = match harness::document("check_carrying") {
         Ok(document) => document,
-        Err(error) => {
-            eprintln!("check_carrying FILE: {file}: {error}");
-            return ExitCode::from(2);
-        }
+        Err(status) => return status,
     };
     let mut sides: Vec<&dyn Carrier> = vec![&Reference];
     if let Some(library) = ffi::carrier() {

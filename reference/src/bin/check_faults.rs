@@ -11,6 +11,7 @@
 use std::process::ExitCode;
 
 use reference::ffi;
+use reference::harness;
 use reference::parts::{Linked, Parts};
 use reference::side::{Processed, Processor, Reference};
 
@@ -139,13 +140,9 @@ fn check_parts(sides: &[&dyn Parts], number: u16, lines: &[&str]) -> Result<(), 
 }
 
 fn main() -> ExitCode {
-    let file = std::env::args().nth(1).unwrap_or_default();
-    let document = match std::fs::read_to_string(&file) {
+    let document = match harness::document("check_faults") {
         Ok(document) => document,
-        Err(error) => {
-            eprintln!("check_faults FILE: {file}: {error}");
-            return ExitCode::from(2);
-        }
+        Err(status) => return status,
     };
     let mut sides: Vec<&dyn Processor> = vec![&Reference];
     if let Some(library) = ffi::processor() {

@@ -2,17 +2,10 @@
 
 use crate::processor::Program;
 use crate::random::{self, Rng};
+pub use crate::slow::Feed;
 use crate::tables::bytes;
 use crate::texts::{self, Seed};
 use crate::walker::{self, MAX_RETURNS, Phase, WALK_BYTES, Walk};
-
-/// What a walk is fed.
-#[derive(Clone, Debug)]
-pub struct Feed {
-    pub tokens: Vec<u16>,
-    pub answers: Vec<u16>,
-    pub allowance: u16,
-}
 
 impl Feed {
     /// Tokens and answers that lead on, now and then over and over, so that many calls are pending.
