@@ -21,6 +21,7 @@ pub mod verdict;
 pub mod agreement;
 pub mod carry;
 pub mod crowded;
+pub mod delays;
 pub mod faults;
 pub mod figures;
 pub mod files;

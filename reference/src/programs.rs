@@ -69,7 +69,7 @@ pub fn hard(sort: usize, bytes: usize) -> Text {
 }
 
 /// Filled up with a comment.
-fn filled(mut text: String, bytes: usize) -> Vec<u8> {
+pub fn filled(mut text: String, bytes: usize) -> Vec<u8> {
     if text.len() < bytes {
         text.push('%');
         text.push_str(&"-".repeat(bytes - text.len()));
@@ -122,7 +122,7 @@ fn chosen(bytes: usize, with_strings: bool, most: usize) -> String {
 
 /// So many words of three letters or digits between these, all in the first chain of the library's index. The hash is a copy of the one in
 /// `crates/symbols/specs/Index.antt` and serves to choose names only: were that one another, these would be names like any.
-fn chained(before: &str, behind: &str, count: usize) -> Vec<String> {
+pub fn chained(before: &str, behind: &str, count: usize) -> Vec<String> {
     let letters: Vec<char> = ('a'..='z').chain('A'..='Z').chain('0'..='9').chain(['_']).collect();
     let hash = |hash: u32, part: &str| part.bytes().fold(hash, |hash, byte| (hash * 33 + u32::from(byte)) % 65_536);
     let mut words = Vec::new();
@@ -131,7 +131,7 @@ fn chained(before: &str, behind: &str, count: usize) -> Vec<String> {
         for (a, b) in letters.iter().flat_map(|a| letters.iter().map(move |b| (a, b))) {
             let start = format!("{before}{more}{a}{b}");
             let started = hash(0, &start);
-            let fits = |c: &&char| hash((started * 33 + u32::from(**c)) % 65_536, behind) % 512 == 0;
+            let fits = |c: &&char| hash((started * 33 + u32::from(**c)) % 65_536, behind) % 511 == 0;
             words.extend(letters.iter().filter(fits).map(|c| format!("{start}{c}{behind}")));
         }
     }

@@ -15,7 +15,8 @@ use Rattle.declarations.proofs.Declaring.{Means, entry-means}
 use Rattle.declarations.specs.Decls.{Decl, knownsIn, declaredIn, elsewhereIn, indexOf, lookupIn, operatorIn, operatorsIn, operatorsFault}
 use Rattle.declarer.proofs.FaultLaws.{goes, stops, ends, is-clean, again, once}
 use Rattle.declarer.specs.Faults.{Faults, clean, faulty}
-use Rattle.declarer.specs.Operators.{sameValue, againstOne, against, entryFault, entriesFault, Left, Passed}
+use Rattle.declarer.specs.Operators.{sameValue, againstOne, against, entryFault, entriesFault, Left, Passed, MarkedAs, Apart, MarksKept, AllMarked}
+use Rattle.declarer.proofs.MarkLaws.{apart-against, marked-kept, marked-more}
 use Rattle.grammar.specs.Derived.{Not, OperatorsIn, last-operator, more-operators}
 use Rattle.maker.specs.Ranks.{EntryIs, AnEntry}
 use Rattle.maker.specs.declared.Entry.{Entry}
@@ -284,6 +285,12 @@ module _ (ds : List Decl) (before : List Operator) {text : List ℕ} {from : ℕ
           goes _ (looked-word ds 1 text (e .token) (is .token) ht refl refl refl) z (λ _.
           ends (looked-word ds 2 text (e .emits) (is .emits) hu h p l))))
 
+-- an entry that is apart from the marks
+pub apart-entry : (ds : List Decl) {text rows : List ℕ} {n from v : ℕ} {marks : List ℕ} {bs : List Operator} {o : Operator} {ws₁ : List Word} {e : Entry} {r : Bool} → EntryIs text from o ws₁ e
+    → Tells v (find (part text (e .token .start) (e .token .len)) (knownsIn 1 ds)) → AllMarked ds rows n marks bs → (r ≡ true → (x : Option ℕ) → Tells v x → Apart rows n marks (e .level) (e .right) x)
+    → r ≡ true → against ds (find (o .token .text) (knownsIn 1 ds)) o bs ≡ false
+apart-entry ds {o = o} is t m f q = apart-against o m (rw (is .level, is .right) (f q (find (o .token .text) (knownsIn 1 ds)) (tells-token ds is t)))
+
 -- All entries
 
 pub passed-start : {ds : List Decl} {text : List ℕ} {at : ℕ} {ws′ : List Word} {es : List Operator} → OperatorsIn (wordsAt text at) ws′ es → Passed ds text at 0 ws′ es
@@ -324,6 +331,20 @@ module _ {ds : List Decl} {text : List ℕ} {i count : ℕ} {ws′ : List Word} 
 
   taken : take count es ≡ at-i .before
   taken = ap (λ (l : List Operator). take count l) (at-i .whole) ∙ ap (λ (k : ℕ). take k (at-i .before ++ (at-i .one ∷ at-i .rest))) (sym (at-i .size)) ∙ take-append-seam (at-i .before) (at-i .one ∷ at-i .rest)
+
+  taken-more : take (count + 1) es ≡ at-i .before ++ (at-i .one ∷ [])
+  taken-more =
+      ap (λ (l : List Operator). take (count + 1) l) (at-i .whole ∙ sym (append-snoc (at-i .before) (at-i .one) (at-i .rest)))
+      ∙ ap (λ (k : ℕ). take k ((at-i .before ++ (at-i .one ∷ [])) ++ at-i .rest)) (sym size-more)
+      ∙ take-append-seam (at-i .before ++ (at-i .one ∷ [])) (at-i .rest)
+    where
+      size-more : length (at-i .before ++ (at-i .one ∷ [])) ≡ count + 1
+      size-more = omega (arith, at-i .size, length-append (at-i .before) (at-i .one ∷ []))
+
+  -- the marks are those of this entry, too
+  pub passed-marks : {rows : List ℕ} {n v : ℕ} {old new : List ℕ} → AllMarked ds rows n old (take count es) → MarksKept old new → Tells v (find (part text (e .token .start) (e .token .len)) (knownsIn 1 ds))
+      → ((x : Option ℕ) → Tells v x → MarkedAs rows n new (e .level) (e .right) x) → AllMarked ds rows n new (take (count + 1) es)
+  passed-marks {rows} {n} {v} {old} {new} m k t g = rw taken-more (marked-more (at-i .before) (at-i .one) (marked-kept k (rw taken at m)) (rw (at-i .is .level, at-i .is .right) (g (find (at-i .one .token .text) (knownsIn 1 ds)) (tells-token ds (at-i .is) t))))
 
   module _ {f at len : ℕ} (h : count < length es → (from : ℕ) (o : Operator) (ws₁ : List Word) → EntryIs text from o ws₁ e → Faults f at len (entryFault ds (take count es) o)) where
     one-fault : Faults f at len (entryFault ds (at-i .before) (at-i .one))

@@ -3,9 +3,10 @@ use mathlib.Core.Bool.{Bool, true, false, _&&_, _||_, not}
 use mathlib.Core.List.{List, [], _∷_, _++_}
 use mathlib.Core.Option.{Option, none, some}
 use mathlib.Core.Path.{_≡_}
-use Prim.Native.Nat.{ℕ, _<_}
+use Prim.Native.Nat.{ℕ, zero, suc, _+_, _*_, _%_, _<_}
 use lib.Dec.{eqb}
-use lib.ListN.{length, take}
+use lib.ListN.{length, getD, take}
+use Rattle.base.specs.Common.{if_then_else_}
 use Rattle.declarations.specs.Decls.{Decl, knownsIn, declaredIn, lookupIn}
 use Rattle.grammar.specs.Derived.{OperatorsIn}
 use Rattle.names.specs.Declare.{differ}
@@ -58,7 +59,38 @@ pub record Passed (ds : List Decl) (text : List ℕ) (i count : ℕ) (ws′ : Li
   pub stand : OperatorsIn (wordsAt text i) ws′ rest
   pub same : entriesFault ds [] es ≡ entriesFault ds before rest
 
+-- The marks of a section's entries
+
+-- from the i-th of the rows on, the first of k that has the value v
+unfoldable pub slotFrom : List ℕ → ℕ → ℕ → ℕ → ℕ
+slotFrom rows v i zero = i
+slotFrom rows v i (suc k) = if eqb (getD rows (8 * i + 1) 0) v then i else slotFrom rows v (suc i) k
+
+-- where a side of a level is marked
+unfoldable pub sideSlot : ℕ → Bool → ℕ
+sideSlot level right = if right then 514 + 2 * (level % 16) else 513 + 2 * (level % 16)
+
+-- an entry of that level and side, whose token has the value x, is marked
+pub record MarkedAs (rows : List ℕ) (n : ℕ) (marks : List ℕ) (level : ℕ) (right : Bool) (x : Option ℕ) : Type 0 where
+  pub side : getD marks (sideSlot level right) 0 ≡ 1
+  pub token : (u : ℕ) → x ≡ some u → getD marks (slotFrom rows u 0 n) 0 ≡ 1
+
+-- no mark is of the other side, and none of the token
+pub record Apart (rows : List ℕ) (n : ℕ) (marks : List ℕ) (level : ℕ) (right : Bool) (x : Option ℕ) : Type 0 where
+  pub side : getD marks (sideSlot level (not right)) 0 ≡ 0
+  pub token : (u : ℕ) → x ≡ some u → getD marks (slotFrom rows u 0 n) 0 ≡ 0
+
+-- marks that were set are
+pub record MarksKept (old new : List ℕ) : Type 0 where
+  pub size : length new ≡ length old
+  pub kept : (j : ℕ) → getD old j 0 ≡ 1 → getD new j 0 ≡ 1
+
+-- all of these entries are marked
+pub data AllMarked (ds : List Decl) (rows : List ℕ) (n : ℕ) (marks : List ℕ) : List Operator → Type 0 where
+  none-marked : AllMarked ds rows n marks []
+  more-marked : {b : Operator} {bs : List Operator} → MarkedAs rows n marks (b .level) (b .right) (find (b .token .text) (knownsIn 1 ds)) → AllMarked ds rows n marks bs → AllMarked ds rows n marks (b ∷ bs)
+
 -- all of this file computes where this is unfolded
 unfoldable pub opened : Unit {0}
-unfolding sameValue againstOne against entryFault entriesFault
+unfolding sameValue againstOne against entryFault entriesFault slotFrom sideSlot
 opened = tt

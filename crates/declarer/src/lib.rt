@@ -1,6 +1,6 @@
 // The faults of the declarations, over their row; a section of operators has its entries in the text.
 ghost use mathlib.Core.Path.{_≡_};
-ghost use mathlib.Core.Bool.{_&&_, _||_};
+ghost use mathlib.Core.Bool.{true, false, _&&_, _||_};
 ghost use mathlib.Core.List.{List, []};
 ghost use mathlib.Core.Option.{Option};
 ghost use Prim.Native.Nat.{ℕ, _+_, _-_, _*_, _<_, _≤_};
@@ -18,7 +18,7 @@ ghost use Rattle.symbols.specs.Rows.{optionOf, declAt, held, heldFrom};
 ghost use Rattle.symbols.specs.Search.{part, Tells};
 ghost use Rattle.words.specs.Words.{Word, wordsAt};
 ghost use Rattle.declarer.specs.Faults.{Faults, inputAgain, bothAgain, operationAgain, typesIn, lineAgain, lineFault, lineFaults};
-ghost use Rattle.declarer.specs.Operators.{sameValue, against, entryFault, entriesFault};
+ghost use Rattle.declarer.specs.Operators.{sameValue, against, entryFault, entriesFault, slotFrom, sideSlot, Apart, MarkedAs, MarksKept};
 use base::number;
 use maker::Entry;
 use maker::entries_at;
@@ -48,6 +48,11 @@ use symbols::is_known;
 use symbols::part_len;
 use symbols::type_of;
 use symbols::value_of;
+
+// Marks of the entries of a section: for each token's value, at the first declaration that has it, and behind them for each level and side.
+const MARKS: usize = 545;
+
+const SIDES: usize = 513;
 
 // A fault with the place and the length of its word, or 0.
 pub struct Fault {
@@ -347,6 +352,87 @@ fn against(text: &[u8], rows: &[u16], n: usize, at: usize, count: usize, e: Entr
     false
 }
 
+// The first declaration that has the value, whatever its class; their number where none has.
+fn slot_of(rows: &[u16], n: usize, v: usize) -> usize
+    requires { ⌜ n ≤ 512 ⌝ }
+    ensures same { λ r. ⌜ r ≡ slotFrom (now (rows .entry)) v 0 n ⌝ }
+    ensures low { λ r. ⌜ r ≤ 512 ⌝ }
+{
+    let mut i: usize = 0;
+    while i < n {
+        if number(rows, ROW * i + VALUE) == v {
+            return i;
+        }
+        i += 1;
+    }
+    n
+}
+
+// Where a side of a level is marked.
+fn side_slot(level: usize, right: bool) -> usize
+    ensures same { λ r. ⌜ r ≡ sideSlot level right ⌝ }
+    ensures low { λ r. ⌜ (513 ≤ r) × (r < 545) ⌝ }
+{
+    if right {
+        return SIDES + 1 + 2 * (level % 16);
+    }
+    SIDES + 2 * (level % 16)
+}
+
+// No entry that is marked has the other side of e's level, or its token, which has the value v.
+fn is_apart(
+    rows: &[u16],
+    n: usize,
+    marks: &[u8; MARKS],
+    v: usize,
+    level: usize,
+    right: bool,
+) -> bool
+    requires { ⌜ n ≤ 512 ⌝ }
+    ensures { λ r. ⌜ (r ≡ true → (x : Option ℕ) → Tells v x → Apart (now (rows .entry)) n (now (marks .entry)) level right x) ⌝ }
+{
+    if marks[side_slot(level, !right)] != 0 {
+        return false;
+    }
+    marks[slot_of(rows, n, v)] == 0
+}
+
+// The marks with those of an entry.
+fn mark(rows: &[u16], n: usize, marks: &mut [u8; MARKS], v: usize, level: usize, right: bool)
+    requires { ⌜ (n ≤ 512) × (length (now marks) ≡ 545) ⌝ }
+    ensures kept { λ _. ⌜ MarksKept (now (marks .entry)) (now (marks .exit)) ⌝ }
+    ensures marked { λ _. ⌜ ((x : Option ℕ) → Tells v x → MarkedAs (now (rows .entry)) n (now (marks .exit)) level right x) ⌝ }
+{
+    let i = side_slot(level, right);
+    marks[i] = 1;
+    if v == symbols::NONE {
+        return;
+    }
+    let j = slot_of(rows, n, v);
+    marks[j] = 1;
+}
+
+// The same as `against`, where the entry is not known to be apart from those before.
+fn against_unless(
+    text: &[u8],
+    rows: &[u16],
+    n: usize,
+    at: usize,
+    count: usize,
+    e: Entry,
+    apart: bool,
+) -> bool
+    requires { ⌜ Kept (now text) (now rows) n × (at ≤ length (now text)) ⌝ }
+    ensures { λ r. ⌜ ((es : List Operator) (ws′ : List Word) → OperatorsIn (wordsAt (now (text .entry)) at) ws′ es → count < length es → (from : ℕ) (o : Operator) (ws₁ : List Word) → EntryIs (now (text .entry)) from o ws₁ e
+        → (apart ≡ true → against (held (now (text .entry)) (now (rows .entry)) n) (find (o .token .text) (knownsIn 1 (held (now (text .entry)) (now (rows .entry)) n))) o (take count es) ≡ false)
+        → r ≡ against (held (now (text .entry)) (now (rows .entry)) n) (find (o .token .text) (knownsIn 1 (held (now (text .entry)) (now (rows .entry)) n))) o (take count es)) ⌝ }
+{
+    if apart {
+        return false;
+    }
+    against(text, rows, n, at, count, e)
+}
+
 // The fault of a word of an entry.
 fn word_fault(text: &[u8], fault: u16, w: WordAt) -> Fault
     ensures { λ r. ⌜ (r .fault ≡ fault) × (r .at ≡ w .start) × (r .len ≡ length (part (now (text .entry)) (w .start) (w .len))) ⌝ }
@@ -358,17 +444,26 @@ fn word_fault(text: &[u8], fault: u16, w: WordAt) -> Fault
     }
 }
 
-// The fault of the entry e behind `count` others at the place `at`.
-fn entry_fault(text: &[u8], rows: &[u16], n: usize, at: usize, count: usize, e: Entry) -> Fault
+// The fault of the entry e behind `count` others at the place `at`, from which it may be known to be apart.
+fn entry_fault(
+    text: &[u8],
+    rows: &[u16],
+    n: usize,
+    at: usize,
+    count: usize,
+    e: Entry,
+    apart: bool,
+) -> Fault
     requires { ⌜ Kept (now text) (now rows) n × (at ≤ length (now text)) ⌝ }
     ensures { λ r. ⌜ ((es : List Operator) (ws′ : List Word) → OperatorsIn (wordsAt (now (text .entry)) at) ws′ es → count < length es → (from : ℕ) (o : Operator) (ws₁ : List Word) → EntryIs (now (text .entry)) from o ws₁ e
+        → (apart ≡ true → against (held (now (text .entry)) (now (rows .entry)) n) (find (o .token .text) (knownsIn 1 (held (now (text .entry)) (now (rows .entry)) n))) o (take count es) ≡ false)
         → Faults (r .fault) (r .at) (r .len) (entryFault (held (now (text .entry)) (now (rows .entry)) n) (take count es) o)) ⌝ }
 {
     let w = e.token;
     if !is_declared(text, rows, n, w.start, w.len) {
         return word_fault(text, base::UNDECLARED, w);
     }
-    if against(text, rows, n, at, count, e) {
+    if against_unless(text, rows, n, at, count, e, apart) {
         return word_fault(text, base::CONTRADICTS, w);
     }
     let t = value_of(text, rows, n, INPUT, w.start, w.len);
@@ -384,11 +479,14 @@ fn entries_fault(text: &[u8], rows: &[u16], n: usize, at: usize) -> Fault
     requires { ⌜ Kept (now text) (now rows) n × (at ≤ length (now text)) ⌝ }
     ensures { λ r. ⌜ ((es : List Operator) (ws′ : List Word) → OperatorsIn (wordsAt (now (text .entry)) at) ws′ es → Faults (r .fault) (r .at) (r .len) (entriesFault (held (now (text .entry)) (now (rows .entry)) n) [] es)) ⌝ }
 {
+    let mut marks = [0u8; MARKS];
     let mut i = at;
     let mut count: usize = 0;
     loop {
         let e = read_entry(text, i);
-        let f = entry_fault(text, rows, n, at, count, e);
+        let v = find_value(text, rows, n, INPUT, e.token.start, e.token.len);
+        let apart = is_apart(rows, n, &marks, v, e.level, e.right);
+        let f = entry_fault(text, rows, n, at, count, e, apart);
         if f.fault != 0 {
             return f;
         }
@@ -400,6 +498,7 @@ fn entries_fault(text: &[u8], rows: &[u16], n: usize, at: usize) -> Fault
         if next <= i {
             return f;
         }
+        mark(rows, n, &mut marks, v, e.level, e.right);
         i = next;
         count += 1;
     }

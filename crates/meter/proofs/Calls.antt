@@ -91,9 +91,6 @@ module _ {T S called : List ℕ} {k c p : ℕ} {rows : List ℕ} (kp : Kept T S 
       none-here : {i v : ℕ} → ValueAt T called c k p rows i v → ⊥
       none-here (value-at {v = v} d z) = f v d
 
-  pub value-0 : p ≡ 0 → Steps T S (ValueAt T called c k p) called rows rows false
-  value-0 e = no-value (λ v d. let z = fetch-inside T p (rw (set-words T p v d .0) refl) in omega (arith, z .0))
-
   pub value-cut : length T ≤ p → Steps T S (ValueAt T called c k p) called rows rows false
   value-cut h = no-value (λ v d. let z = fetch-inside T (p + 1) (rw (set-words T p v d .1) refl) in omega (arith, z .1))
 

@@ -3,15 +3,17 @@ use mathlib.Core.Bool.{Bool, true, false, _||_}
 use mathlib.Core.List.{List}
 use mathlib.Core.Option.{none, some}
 use mathlib.Core.Path.{_≡_, sym, ap, _∙_}
+use native.Mathlib.Decide.{decLt}
 use native.Mathlib.Omega.{arith}
 use Prim.Native.Nat.{ℕ, _+_, _≤_, _<_}
 use lib.ListN.{length}
 use Rattle.machine.specs.Decode.{inputChoice, callRule, choice, decodeTwo, decode}
 use Rattle.figure.specs.Figure.{at-start, leads-call}
 use Rattle.meter.specs.Makes.{overAt, backAt, Makes, makes-call-over, makes-call-back, makes-call-value, marks-call}
-use Rattle.meter.specs.Shaped.{indexOf, startOf, endOf, isChoice, Fits, HasTable, by-token, by-result}
+use Rattle.meter.specs.Shaped.{indexOf, startOf, endOf, InRule, isChoice, Fits, HasTable, by-token, by-result}
 use Rattle.meter.specs.Steps.{flagOf, calledOf, Kept, Here, Steps, Only, only, Both, this, that, Raised, RaisedTwo, MakesAt, CallsHere, ValueAt, value-at, ValueHere, Values, values, Behind, behind-back, behind-value, ChoiceAt}
 use Rattle.meter.proofs.Bounds.{index-start, next-to}
+use Rattle.meter.proofs.Words.{end-next, end-last}
 use Rattle.meter.proofs.Raising.{stays, seq, covers, may}
 use Rattle.base.proofs.Laws.{above-zero}
 use Rattle.base.specs.Bools.{never}
@@ -39,6 +41,14 @@ module _ {T S called rows : List ℕ} (kp : Kept T S called rows) where
   -- a rule has a word
   pub start-end : {q : ℕ} → q < length S → startOf S q ≤ endOf (length T) S q
   start-end h = let i = kp .shaped .stays h at-start in omega (arith, i .from, i .to)
+
+  -- the words of a rule are the table's
+  pub rule-inside : {q p : ℕ} → q < length S → InRule T S q p → (1 ≤ p) × (p ≤ length T)
+  rule-inside {q} {p} h i = (omega (arith, kp .shaped .inside h at-start .0, i .from), ends (decLt (q + 1) (length S)))
+    where
+      ends : Dec (q + 1 < length S) → p ≤ length T
+      ends (yes y) = omega (arith, i .to, end-next (length T) q S y, kp .shaped .inside y at-start .1)
+      ends (no y) = omega (arith, i .to, end-last (length T) q S (omega arith))
 
   -- a path comes to places of the table only
   pub here-inside : {r l k : ℕ} → Here T S called r l k → (1 ≤ l) × (l ≤ 4096)

@@ -134,6 +134,22 @@ before-all {T} {S} {called} {r} u h = covers (λ i v m. ask m) (u .steps)
     ask : {rows : List ℕ} {i v : ℕ} → AskedFrom T S called 0 rows i v → AskedBefore T S called r rows i v
     ask (asked-from {r = o} {l = l} y z w m) = asked-before {r = o} {l = l} (omega arith) w m
 
+-- Sweeps of some rules, of which nothing is known but what they keep
+
+pub none-asked : {T S called rows : List ℕ} → Kept T S called rows → Steps T S (AskedFrom T S called (length S)) called rows rows false
+none-asked k = rules-first k .steps
+
+pub some-swept : {T S called : List ℕ} {r : ℕ} {rows after : List ℕ} {b : Bool} → Steps T S (AskedBelow T S called r (endOf (length T) S r)) called rows after b → Steps T S (AskedFrom T S called (length S)) called rows after b
+some-swept {T} {S} {called} x = covers (λ i v m. absurd (nothing m)) x
+  where
+    nothing : {rows : List ℕ} {i v : ℕ} → AskedFrom T S called (length S) rows i v → ⊥
+    nothing (asked-from h l i m) = omega arith
+
+-- and then a sweep
+pub then-swept : {T S called : List ℕ} {q : ℕ} {rows mid after : List ℕ} {a b e : Bool} → Steps T S (AskedFrom T S called (length S)) called rows mid a → Steps T S (AskedFrom T S called q) called mid after b → e ≡ (a || b)
+    → Steps T S (AskedFrom T S called q) called rows after e
+then-swept x y e = rw e (covers (λ i v m. that m) (seq x y))
+
 -- Until nothing is raised
 
 pub record Settling (T S called rows after : List ℕ) (changed : Bool) : Type 0 where
@@ -162,13 +178,24 @@ settling-next {T} {S} {called} {rows} {mid} {after} {a} {b} u x = record {
         let n : AskedFrom T S called 0 mid i v = rw q at m in
         rw q (x .all e n h)
 
-pub todo-less : {T S called mid after : List ℕ} {a b : Bool} → a ≡ true → Steps T S (AskedFrom T S called 0) called mid after b → todo after b < todo mid a
-unfolding todo
-todo-less {mid = mid} {after = after} {b = b} e x = rw e (go b (x .less) (x .same))
+-- what goes before a sweep
+pub settling-hurried : {T S called rows mid after : List ℕ} {a b : Bool} → Settling T S called rows mid a → Steps T S (AskedFrom T S called (length S)) called mid after b → Settling T S called rows after true
+settling-hurried u x = record { kept = x .kept; grows = λ i. omega (arith, u .grows i, x .grows i); done = λ e. never (sym e) }
+
+pub no-more-left : {T S called rows after : List ℕ} {q : ℕ} {b : Bool} → Steps T S (AskedFrom T S called q) called rows after b → left after ≤ left rows
+no-more-left {rows = rows} {after = after} {b = b} x = go b (x .less) (x .same)
   where
-    go : (b : Bool) → (b ≡ true → left after < left mid) → (b ≡ false → after ≡ mid) → todo after b < 2 * left mid + 1
+    go : (b : Bool) → (b ≡ true → left after < left rows) → (b ≡ false → after ≡ rows) → left after ≤ left rows
     go true f g = omega (arith, f refl)
     go false f g = rw (g refl) (omega arith)
+
+pub todo-less : {T S called rows mid after : List ℕ} {a b e : Bool} → a ≡ true → Steps T S (AskedFrom T S called (length S)) called rows mid e → Steps T S (AskedFrom T S called 0) called mid after b → todo after b < todo rows a
+unfolding todo
+todo-less {rows = rows} {mid = mid} {after = after} {b = b} e y x = rw e (go b (x .less) (x .same))
+  where
+    go : (b : Bool) → (b ≡ true → left after < left mid) → (b ≡ false → after ≡ mid) → todo after b < 2 * left rows + 1
+    go true f g = omega (arith, f refl, no-more-left y)
+    go false f g = rw (g refl) (omega (arith, no-more-left y))
 
 pub settled : {T S called rows after : List ℕ} {a : Bool} → Settling T S called rows after a → a ≡ false → Settled T S called rows after
 settled u e = record { kept = u .kept; grows = u .grows; all = λ m h. u .done e m h }

@@ -305,13 +305,10 @@ fn raise_value(
     requires { ⌜ Kept (tableOf (now table)) (now starts) (calledNumbers (now called)) (numbersOf (now rows)) × ValueHere (tableOf (now table)) (now starts) (calledNumbers (now called)) (here .rule) (here .at) (here .number) c p × (length (now rows) ≡ 4490) ⌝ }
     ensures { λ r. ⌜ Steps (tableOf (now (table .entry))) (now (starts .entry)) (ValueAt (tableOf (now (table .entry))) (calledNumbers (now (called .entry))) c (here .number) p) (calledNumbers (now (called .entry))) (numbersOf (now (rows .entry))) (numbersOf (now (rows .exit))) r ⌝ }
 {
-    if p == 0 {
+    if loader::word_at(table, p) != SET_RESULT {
         return false;
     }
     if loader::size_of(table) <= p {
-        return false;
-    }
-    if loader::word_at(table, p) != SET_RESULT {
         return false;
     }
     let m = called_number(called, rows, p);
@@ -536,16 +533,240 @@ fn sweep(table: &[u8], starts: &[usize], called: &[u32], up: bool, rows: &mut [u
     sweep_down(table, starts, called, rows)
 }
 
-// Sweeps down and up in turn, until nothing is raised.
+// A set of rules, a bit for each.
+struct Due {
+    lo: u64,
+    hi: u64,
+}
+
+fn is_due(d: Due, r: usize) -> bool {
+    if r < 64 {
+        return (d.lo >> r) & 1 == 1;
+    }
+    if r < 128 {
+        return (d.hi >> (r - 64)) & 1 == 1;
+    }
+    false
+}
+
+// The set, with r where it is to be.
+fn with_due(d: Due, r: usize, on: bool) -> Due {
+    if !on {
+        return d;
+    }
+    if r < 64 {
+        return Due {
+            lo: d.lo | (1 << r),
+            hi: d.hi,
+        };
+    }
+    if r < 128 {
+        return Due {
+            lo: d.lo,
+            hi: d.hi | (1 << (r - 64)),
+        };
+    }
+    d
+}
+
+// The rules that rounds have raised: in the round before, and in this one so far.
+struct Raisings {
+    before: Due,
+    now: Due,
+}
+
+// Rule q was raised since rule r was swept: rules are swept from the last on.
+fn is_news(s: Raisings, q: usize, r: usize) -> bool {
+    if is_due(s.now, q) {
+        return true;
+    }
+    if r < q {
+        return false;
+    }
+    is_due(s.before, q)
+}
+
+// The word at a location is that of a call, and the rule that is called was raised since rule r was swept.
+fn calls_news(table: &[u8], starts: &[usize], s: Raisings, r: usize, l: usize) -> bool
+    requires { ⌜ Rising (now starts) × (1 ≤ l) × (l < length (tableOf (now table))) × (length (tableOf (now table)) ≤ 4096) ⌝ }
+{
+    if loader::word_at(table, l) == CALL {
+        let q = rule_at(starts, loader::word_at(table, l + 1));
+        return is_news(s, q, r);
+    }
+    false
+}
+
+// Where a rule starts, 1 at least.
+fn place(starts: &[usize], i: usize) -> usize
+    ensures { λ r. ⌜ 1 ≤ r ⌝ }
+{
+    if starts.len() <= i {
+        return 1;
+    }
+    let s = starts[i];
+    if s == 0 {
+        return 1;
+    }
+    s
+}
+
+// Where a rule starts, the table's size at most.
+fn upper(table: &[u8], starts: &[usize], i: usize) -> usize
+    ensures { λ r. ⌜ r ≤ length (tableOf (now (table .entry))) ⌝ }
+{
+    let n = loader::size_of(table);
+    if starts.len() <= i {
+        return n;
+    }
+    let s = starts[i];
+    if n < s {
+        return n;
+    }
+    s
+}
+
+// Rule r calls one that was raised since it was swept.
+fn has_news(table: &[u8], starts: &[usize], s: Raisings, r: usize) -> bool
+    requires { ⌜ Rising (now starts) × (r < 1000) × (length (tableOf (now table)) ≤ 4096) ⌝ }
+{
+    let to = upper(table, starts, r + 1);
+    let mut l = place(starts, r);
+    while l < to {
+        if calls_news(table, starts, s, r, l) {
+            return true;
+        }
+        l += 1;
+    }
+    false
+}
+
+// Rule r is to be swept: it was raised in the round before or, as long as the numbers of called rules rise, one that it calls was. Nothing depends on it but
+// the number of visits.
+fn is_stirred(table: &[u8], starts: &[usize], s: Raisings, r: usize, first: bool) -> bool
+    requires { ⌜ Rising (now starts) × (r < 1000) × (length (tableOf (now table)) ≤ 4096) ⌝ }
+{
+    if is_due(s.before, r) {
+        return true;
+    }
+    if first {
+        return has_news(table, starts, s, r);
+    }
+    false
+}
+
+// A rule is swept, where that is due.
+fn sweep_if(
+    table: &[u8],
+    starts: &[usize],
+    r: usize,
+    called: &[u32],
+    rows: &mut [u32],
+    on: bool,
+) -> bool
+    requires { ⌜ Kept (tableOf (now table)) (now starts) (calledNumbers (now called)) (numbersOf (now rows)) × (r < length (now starts)) × (length (now rows) ≡ 4490) ⌝ }
+    ensures { λ b. ⌜ Steps (tableOf (now (table .entry))) (now (starts .entry)) (AskedFrom (tableOf (now (table .entry))) (now (starts .entry)) (calledNumbers (now (called .entry))) (length (now (starts .entry)))) (calledNumbers (now (called .entry))) (numbersOf (now (rows .entry))) (numbersOf (now (rows .exit))) b ⌝ }
+{
+    if on {
+        return sweep_rule(table, starts, r, called, rows);
+    }
+    false
+}
+
+// What a round over the rules brought: whether a number was raised, and in which rules.
+struct Brought {
+    changed: bool,
+    raised: Due,
+}
+
+// The rules that are due swept, the last first, where those of `raised` were raised in the round before.
+fn round(table: &[u8], starts: &[usize], called: &[u32], raised: Due, rows: &mut [u32]) -> Brought
+    requires { ⌜ Kept (tableOf (now table)) (now starts) (calledNumbers (now called)) (numbersOf (now rows)) × (length (now rows) ≡ 4490) ⌝ }
+    ensures { λ t. ⌜ Steps (tableOf (now (table .entry))) (now (starts .entry)) (AskedFrom (tableOf (now (table .entry))) (now (starts .entry)) (calledNumbers (now (called .entry))) (length (now (starts .entry)))) (calledNumbers (now (called .entry))) (numbersOf (now (rows .entry))) (numbersOf (now (rows .exit))) (t .changed) ⌝ }
+{
+    let first = called.len() != ROWS;
+    let mut changed = false;
+    let mut now = Due { lo: 0, hi: 0 };
+    let mut r = starts.len();
+    while 0 < r {
+        r -= 1;
+        let s = Raisings {
+            before: raised,
+            now,
+        };
+        let on = is_stirred(table, starts, s, r, first);
+        let more = sweep_if(table, starts, r, called, rows, on);
+        changed = either(changed, more);
+        now = with_due(now, r, more);
+    }
+    Brought {
+        changed,
+        raised: now,
+    }
+}
+
+// One less; 0 where nothing is due.
+fn less(left: usize, due: Due) -> usize
+    requires { ⌜ 0 < left ⌝ }
+    ensures { λ r. ⌜ r < left ⌝ }
+{
+    if (due.lo == 0) & (due.hi == 0) {
+        return 0;
+    }
+    left - 1
+}
+
+// Rounds until nothing is due, or many of them.
+fn hurry(table: &[u8], starts: &[usize], called: &[u32], rows: &mut [u32]) -> bool
+    requires { ⌜ Kept (tableOf (now table)) (now starts) (calledNumbers (now called)) (numbersOf (now rows)) × (length (now rows) ≡ 4490) ⌝ }
+    ensures { λ b. ⌜ Steps (tableOf (now (table .entry))) (now (starts .entry)) (AskedFrom (tableOf (now (table .entry))) (now (starts .entry)) (calledNumbers (now (called .entry))) (length (now (starts .entry)))) (calledNumbers (now (called .entry))) (numbersOf (now (rows .entry))) (numbersOf (now (rows .exit))) b ⌝ }
+{
+    let mut changed = false;
+    let mut due = Due {
+        lo: 18446744073709551615,
+        hi: 18446744073709551615,
+    };
+    let mut left: usize = 10000;
+    while 0 < left {
+        let t = round(table, starts, called, due, rows);
+        changed = either(changed, t.changed);
+        due = t.raised;
+        left = less(left, due);
+    }
+    changed
+}
+
+// Rounds, where they are due by now.
+fn hurry_if(table: &[u8], starts: &[usize], called: &[u32], late: bool, rows: &mut [u32]) -> bool
+    requires { ⌜ Kept (tableOf (now table)) (now starts) (calledNumbers (now called)) (numbersOf (now rows)) × (length (now rows) ≡ 4490) ⌝ }
+    ensures { λ b. ⌜ Steps (tableOf (now (table .entry))) (now (starts .entry)) (AskedFrom (tableOf (now (table .entry))) (now (starts .entry)) (calledNumbers (now (called .entry))) (length (now (starts .entry)))) (calledNumbers (now (called .entry))) (numbersOf (now (rows .entry))) (numbersOf (now (rows .exit))) b ⌝ }
+{
+    if late {
+        return hurry(table, starts, called, rows);
+    }
+    false
+}
+
+fn before(n: usize) -> usize {
+    if n == 0 {
+        return 0;
+    }
+    n - 1
+}
+
+// Sweeps down and up in turn, late ones behind rounds, until one raises nothing.
 fn settle(table: &[u8], starts: &[usize], called: &[u32], rows: &mut [u32])
     requires { ⌜ Kept (tableOf (now table)) (now starts) (calledNumbers (now called)) (numbersOf (now rows)) × (length (now rows) ≡ 4490) ⌝ }
     ensures { λ _. ⌜ Settled (tableOf (now (table .entry))) (now (starts .entry)) (calledNumbers (now (called .entry))) (numbersOf (now (rows .entry))) (numbersOf (now (rows .exit))) ⌝ }
 {
     let mut changed = true;
     let mut up = false;
+    let mut early: usize = 3;
     while changed {
+        hurry_if(table, starts, called, early == 0, rows);
         changed = sweep(table, starts, called, up, rows);
         up = !up;
+        early = before(early);
     }
 }
 

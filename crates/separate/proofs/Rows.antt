@@ -8,7 +8,7 @@ use Rattle.declarations.specs.Decls.{Decl, EntriesAt, declsOf, entriesOf, Agree
 use Rattle.names.specs.Known.{Names}
 use Rattle.parts.specs.Objects.{together, openRules}
 use Rattle.separate.specs.Steps.{Known}
-use Rattle.symbols.specs.Index.{linkAt, Chain, chain-end, chain-node, Kept}
+use Rattle.symbols.specs.Index.{keyOf, linkAt, Chain, chain-end, chain-node, Kept}
 use Rattle.symbols.specs.Rows.{declAt, heldFrom, held}
 use Rattle.syntax.specs.Texts.{Common}
 use Rattle.syntax.specs.Written.{Rule}
@@ -61,11 +61,14 @@ kept-front {text} {old} {new} {n} f k = record {
   indexed = record {
     chain = k .indexed .chain;
     follows = λ b l. rw (f .same (4096 + b) (omega (arith, l))) (chain-front f (k .indexed .follows b l));
-    names = λ i l. rw (same-decl i l) (k .indexed .names i l);
-    seconds = λ i w l e. k .indexed .seconds i w l (ap (λ (d : Decl). d .second) (sym (same-decl i l)) ∙ e);
+    names = λ i l. rw (same-decl i l, same-key) (k .indexed .names i l);
+    seconds = λ i w l e. rw same-key (k .indexed .seconds i w l (ap (λ (d : Decl). d .second) (sym (same-decl i l)) ∙ e));
   };
 }
   where
+    same-key : keyOf new ≡ keyOf old
+    same-key = f .same 4607 (omega arith)
+
     same-decl : (i : ℕ) → i < n → declAt text new i ≡ declAt text old i
     same-decl i l = decl-front text i f (omega (arith, l, k .few))
 

@@ -15,7 +15,7 @@ use Rattle.declarations.specs.Decls.{Decl, feeds}
 use Rattle.names.specs.Known.{isWord}
 use Rattle.symbols.proofs.Chains.{least-none, least-more, Following, chain-least, to-node, no-more, found-at, not-at}
 use Rattle.symbols.proofs.Searches.{Search, start}
-use Rattle.symbols.specs.Index.{Chain, chain-end, chain-node, Among, headAt, linkAt, nextOf, bucketOf, Indexed}
+use Rattle.symbols.specs.Index.{Chain, chain-end, chain-node, Among, headAt, linkAt, nextOf, bucketOf, keyOf, Indexed}
 use Rattle.symbols.specs.Rows.{declAt, held}
 use Rattle.symbols.specs.Search.{knows, named, declares}
 use Rattle.words.specs.Words.{Word}
@@ -65,7 +65,7 @@ module _ {X : Type 0} {F : ℕ → List Decl → X} {t : Decl → Bool} {h : ℕ
     pub ahead : (p ≡ 0) ⊎ (2 * lo < p)
     pub following : Following s text rows n lo rest
 
-  pub along-start : (b p : ℕ) (f : Indexed text rows n) → b < 512 → p ≡ headAt rows b → ((j : ℕ) → j < n → t (declAt text rows j) ≡ true → Among j (f .chain b)) → Along p
+  pub along-start : (b p : ℕ) (f : Indexed text rows n) → b < 511 → p ≡ headAt rows b → ((j : ℕ) → j < n → t (declAt text rows j) ≡ true → Among j (f .chain b)) → Along p
   along-start b p f l e g = record {
     lo = 0;
     rest = f .chain b;
@@ -125,18 +125,18 @@ module _ {X : Type 0} {F : ℕ → List Decl → X} {t : Decl → Bool} {h : ℕ
 -- a row that passes a test is in the chain of the word
 
 module _ {text rows : List ℕ} {n : ℕ} (f : Indexed text rows n) (w : List ℕ) (j : ℕ) (l : j < n) where
-  by-own-name : same w (declAt text rows j .name .text) ≡ true → Among j (f .chain (bucketOf w))
+  by-own-name : same w (declAt text rows j .name .text) ≡ true → Among j (f .chain (bucketOf (keyOf rows) w))
   by-own-name e = rw (same-eq w (declAt text rows j .name .text) e) (f .names j l)
 
-  by-second : isWord w (declAt text rows j .second) ≡ true → Among j (f .chain (bucketOf w))
+  by-second : isWord w (declAt text rows j .second) ≡ true → Among j (f .chain (bucketOf (keyOf rows) w))
   unfolding isWord
   by-second e = go (declAt text rows j .second) refl e
     where
-      go : (o : Option Word) → declAt text rows j .second ≡ o → isWord w o ≡ true → Among j (f .chain (bucketOf w))
+      go : (o : Option Word) → declAt text rows j .second ≡ o → isWord w o ≡ true → Among j (f .chain (bucketOf (keyOf rows) w))
       go none p q = never q
       go (some v) p q = rw (same-eq w (v .text) q) (f .seconds j v l p)
 
-  either : (a b : Bool) → (a ≡ true → Among j (f .chain (bucketOf w))) → (b ≡ true → Among j (f .chain (bucketOf w))) → (a || b) ≡ true → Among j (f .chain (bucketOf w))
+  either : (a b : Bool) → (a ≡ true → Among j (f .chain (bucketOf (keyOf rows) w))) → (b ≡ true → Among j (f .chain (bucketOf (keyOf rows) w))) → (a || b) ≡ true → Among j (f .chain (bucketOf (keyOf rows) w))
   either true b g h e = g refl
   either false b g h e = h e
 
@@ -144,14 +144,14 @@ module _ {text rows : List ℕ} {n : ℕ} (f : Indexed text rows n) (w : List �
   second-of true b e = e
   second-of false b e = never e
 
-  pub known-among : (c : ℕ) → knows c w (declAt text rows j) ≡ true → Among j (f .chain (bucketOf w))
+  pub known-among : (c : ℕ) → knows c w (declAt text rows j) ≡ true → Among j (f .chain (bucketOf (keyOf rows) w))
   unfolding knows
   known-among c e = either (same w (declAt text rows j .name .text)) (isWord w (declAt text rows j .second)) by-own-name by-second (second-of (feeds c (declAt text rows j)) _ e)
 
-  pub named-among : (c : ℕ) → named c w (declAt text rows j) ≡ true → Among j (f .chain (bucketOf w))
+  pub named-among : (c : ℕ) → named c w (declAt text rows j) ≡ true → Among j (f .chain (bucketOf (keyOf rows) w))
   unfolding named
   named-among c e = by-own-name (second-of (eqb (declAt text rows j .class) c) _ e)
 
-  pub declared-among : declares w (declAt text rows j) ≡ true → Among j (f .chain (bucketOf w))
+  pub declared-among : declares w (declAt text rows j) ≡ true → Among j (f .chain (bucketOf (keyOf rows) w))
   unfolding declares
   declared-among e = either (same w (declAt text rows j .name .text)) _ by-own-name (λ q. by-second (second-of (not (eqb (declAt text rows j .class) 6)) (isWord w (declAt text rows j .second)) q)) e

@@ -67,7 +67,7 @@ pub typed : (typeIn ds (held text rows 3) (name 8) ∷ typeIn ds (held text rows
 unfolding Rows.opened Decls.opened Known.opened
 typed = refl
 
--- (97 * 33 + 98) % 512
-pub hashed : (bucketOf [] ∷ bucketOf (bytes "ab") ∷ []) ≡ (0 ∷ 227 ∷ [])
+-- (97 * 33 + 98) % 511, (97 * 35 + 98) % 511
+pub hashed : (bucketOf 33 [] ∷ bucketOf 33 (bytes "ab") ∷ bucketOf 35 (bytes "ab") ∷ []) ≡ (0 ∷ 233 ∷ 427 ∷ [])
 unfolding Index.opened
 hashed = refl

@@ -13,7 +13,7 @@ use native.Mathlib.Omega.{arith}
 use Rattle.base.specs.Common.{if_then_else_}
 use Rattle.declarations.specs.Decls.{Decl}
 use Rattle.symbols.proofs.Parts.{bucket-low}
-use Rattle.symbols.specs.Index.{Chain, chain-end, chain-node, Among, here, later, headAt, linkAt, pushRows, pushSecond, pushName, bucketOf, RowsKept, IndexKept, Kept}
+use Rattle.symbols.specs.Index.{Chain, chain-end, chain-node, Among, here, later, headAt, linkAt, keyOf, pushRows, pushSecond, pushName, bucketOf, RowsKept, IndexKept, Kept}
 use Rattle.symbols.specs.Rows.{declAt, optionOf, secondKind, wordOf, heldFrom, held}
 use Rattle.symbols.specs.Search.{part}
 use Rattle.words.specs.Words.{Word}
@@ -36,14 +36,14 @@ chain-kept {rows} {p} lo i x (chain-node {k = k} {is = is} e u q c) h apart = ch
 
 -- chains of nodes above lo; what each meets is said by `chain`
 pub record Nodes (rows : List ℕ) (lo : ℕ) (chain : ℕ → List ℕ) : Type 0 where
-  pub follows : (b : ℕ) → b < 512 → Chain rows (headAt rows b) (chain b)
-  pub above : (b : ℕ) → b < 512 → (headAt rows b ≡ 0) ⊎ (lo < headAt rows b)
+  pub follows : (b : ℕ) → b < 511 → Chain rows (headAt rows b) (chain b)
+  pub above : (b : ℕ) → b < 511 → (headAt rows b ≡ 0) ⊎ (lo < headAt rows b)
 
 -- the chains with node k before that of b
 abbrev pub pushed : (ℕ → List ℕ) → ℕ → ℕ → ℕ → List ℕ
 pushed chain b k c = if eqb c b then k / 2 ∷ chain c else chain c
 
-pub push-nodes : {rows : List ℕ} {lo : ℕ} {chain : ℕ → List ℕ} (b k : ℕ) → Nodes rows lo chain → length rows ≡ 6017 → b < 512 → k < 1024 → k < lo → Nodes (pushRows rows b k) k (pushed chain b k)
+pub push-nodes : {rows : List ℕ} {lo : ℕ} {chain : ℕ → List ℕ} (b k : ℕ) → Nodes rows lo chain → length rows ≡ 6017 → b < 511 → k < 1024 → k < lo → Nodes (pushRows rows b k) k (pushed chain b k)
 push-nodes {rows} {lo} {chain} b k n size lb lk l = record { follows = λ c lc. one c lc (eqb c b) refl; above = λ c lc. top c lc (eqb c b) refl }
   where
     mid : List ℕ
@@ -63,7 +63,7 @@ push-nodes {rows} {lo} {chain} b k n size lb lk l = record { follows = λ c lc. 
     head-own : headAt new b ≡ k + 1
     head-own = getD-set-same mid (4096 + b) (k + 1) 0 (omega (arith, lb, size, length-set rows (4608 + k) (headAt rows b)))
 
-    head-other : (c : ℕ) → c < 512 → (c ≡ b → ⊥) → headAt new c ≡ headAt rows c
+    head-other : (c : ℕ) → c < 511 → (c ≡ b → ⊥) → headAt new c ≡ headAt rows c
     head-other c lc d = getD-set-other mid (4096 + b) (4096 + c) (k + 1) 0 (λ e. d (omega (arith, e))) ∙ getD-set-other rows (4608 + k) (4096 + c) (headAt rows b) 0 (λ e. omega (arith, e, lc))
 
     link-own : linkAt new k ≡ headAt rows b
@@ -76,11 +76,11 @@ push-nodes {rows} {lo} {chain} b k n size lb lk l = record { follows = λ c lc. 
     own : Chain new (k + 1) (k / 2 ∷ chain b)
     own = chain-node {p = k + 1} {k = k} {is = chain b} (omega arith) lk (rw link-own (rising (n .above b lb))) (rw link-own (stays (n .follows b lb) (n .above b lb)))
 
-    one : (c : ℕ) → c < 512 → (t : Bool) → eqb c b ≡ t → Chain new (headAt new c) (if t then k / 2 ∷ chain c else chain c)
+    one : (c : ℕ) → c < 511 → (t : Bool) → eqb c b ≡ t → Chain new (headAt new c) (if t then k / 2 ∷ chain c else chain c)
     one c lc true e = let d : c ≡ b = eqb-true c b e in rw d (rw head-own own)
     one c lc false e = rw (head-other c lc (eqb-false c b e)) (stays (n .follows c lc) (n .above c lc))
 
-    top : (c : ℕ) → c < 512 → (t : Bool) → eqb c b ≡ t → (headAt new c ≡ 0) ⊎ (k < headAt new c)
+    top : (c : ℕ) → c < 511 → (t : Bool) → eqb c b ≡ t → (headAt new c ≡ 0) ⊎ (k < headAt new c)
     top c lc true e = let d : c ≡ b = eqb-true c b e in rw d (rw head-own (inr (omega arith)))
     top c lc false e = rw (head-other c lc (eqb-false c b e)) (lower (n .above c lc))
       where
@@ -102,6 +102,18 @@ rows-set rows i x h = record { size = length-set rows i x; kept = λ j l. getD-s
 
 rows-pushed : (rows : List ℕ) (b k : ℕ) → RowsKept rows (pushRows rows b k)
 rows-pushed rows b k = rows-after (rows-set rows (4608 + k) (headAt rows b) (omega arith)) (rows-set _ (4096 + b) (k + 1) (omega arith))
+
+-- the key stands between heads and links
+key-pushed : (rows : List ℕ) (b k : ℕ) → b < 511 → keyOf (pushRows rows b k) ≡ keyOf rows
+key-pushed rows b k l = getD-set-other (set rows (4608 + k) (headAt rows b)) (4096 + b) 4607 (k + 1) 0 (λ e. omega (arith, e, l)) ∙ getD-set-other rows (4608 + k) 4607 (headAt rows b) 0 (λ e. omega (arith, e))
+
+-- the key is written
+pub key-set : (rows : List ℕ) (key : ℕ) → length rows ≡ 6017 → keyOf (set rows 4607 key) ≡ key
+key-set rows key size = getD-set-same rows 4607 key 0 (omega (arith, size))
+
+-- it is no head
+pub clear-keyed : (rows : List ℕ) (key : ℕ) → ((b : ℕ) → b < 511 → headAt rows b ≡ 0) → (b : ℕ) → b < 511 → headAt (set rows 4607 key) b ≡ 0
+clear-keyed rows key z b l = getD-set-other rows 4607 (4096 + b) key 0 (λ e. omega (arith, e, l)) ∙ z b l
 
 pub decl-kept : {old new : List ℕ} (text : List ℕ) (j : ℕ) → RowsKept old new → j < 512 → declAt text new j ≡ declAt text old j
 unfolding declAt
@@ -129,33 +141,35 @@ held-kept text n r l = held-from-kept text 0 n r (omega (arith, l))
 -- the index, from its end
 
 -- the words of the nodes above lo are in their chains
-pub record IndexedFrom (text rows : List ℕ) (lo n : ℕ) : Type 0 where
+pub record IndexedFrom (key : ℕ) (text rows : List ℕ) (lo n : ℕ) : Type 0 where
+  pub keyed : keyOf rows ≡ key
   pub chain : ℕ → List ℕ
   pub nodes : Nodes rows lo chain
-  pub names : (j : ℕ) → lo ≤ 2 * j → j < n → Among j (chain (bucketOf (declAt text rows j .name .text)))
-  pub seconds : (j : ℕ) (w : Word) → lo ≤ 2 * j + 1 → j < n → declAt text rows j .second ≡ some w → Among j (chain (bucketOf (w .text)))
+  pub names : (j : ℕ) → lo ≤ 2 * j → j < n → Among j (chain (bucketOf key (declAt text rows j .name .text)))
+  pub seconds : (j : ℕ) (w : Word) → lo ≤ 2 * j + 1 → j < n → declAt text rows j .second ≡ some w → Among j (chain (bucketOf key (w .text)))
 
-pub index-none : (text rows : List ℕ) (n : ℕ) → ((b : ℕ) → b < 512 → headAt rows b ≡ 0) → IndexedFrom text rows (2 * n) n
-index-none text rows n z = record {
+pub index-none : {key : ℕ} (text rows : List ℕ) (n : ℕ) → keyOf rows ≡ key → ((b : ℕ) → b < 511 → headAt rows b ≡ 0) → IndexedFrom key text rows (2 * n) n
+index-none text rows n d z = record {
+  keyed = d;
   chain = λ b. [];
   nodes = record { follows = λ b l. chain-end (z b l); above = λ b l. inl (z b l) };
   names = λ j h l. absurd (omega (arith, h, l));
   seconds = λ j w h l e. absurd (omega (arith, h, l));
 }
 
-pub index-all : {text rows : List ℕ} {n : ℕ} → n ≤ 512 → IndexedFrom text rows 0 n → Kept text rows n
+pub index-all : {key : ℕ} {text rows : List ℕ} {n : ℕ} → n ≤ 512 → IndexedFrom key text rows 0 n → Kept text rows n
 index-all few f = record {
   few = few;
   indexed = record {
     chain = f .chain;
     follows = λ b l. f .nodes .follows b l;
-    names = λ j l. f .names j (omega arith) l;
-    seconds = λ j w l e. f .seconds j w (omega arith) l e;
+    names = λ j l. rw (f .keyed) (f .names j (omega arith) l);
+    seconds = λ j w l e. rw (f .keyed) (f .seconds j w (omega arith) l e);
   };
 }
 
-pub index-at : {text rows : List ℕ} {n i : ℕ} → IndexedFrom text rows (2 * i) n → i ≡ 0 → IndexedFrom text rows 0 n
-index-at {text} {rows} {n} f e = subst (λ (k : ℕ). IndexedFrom text rows (2 * k) n) e f
+pub index-at : {key : ℕ} {text rows : List ℕ} {n i : ℕ} → IndexedFrom key text rows (2 * i) n → i ≡ 0 → IndexedFrom key text rows 0 n
+index-at {key} {text} {rows} {n} f e = subst (λ (k : ℕ). IndexedFrom key text rows (2 * k) n) e f
 
 pub kept-less : {text rows : List ℕ} {m n : ℕ} → m ≤ n → Kept text rows n → Kept text rows m
 kept-less h k = record {
@@ -185,46 +199,46 @@ alike a b = go (eqb a b) refl
     go true e = inl (eqb-true a b e)
     go false e = inr (eqb-false a b e)
 
-pub second-kept : (text rows : List ℕ) (i : ℕ) → RowsKept rows (pushSecond text rows i)
+pub second-kept : (key : ℕ) (text rows : List ℕ) (i : ℕ) → RowsKept rows (pushSecond key text rows i)
 unfolding pushSecond
-second-kept text rows i = go (declAt text rows i .second)
+second-kept key text rows i = go (declAt text rows i .second)
   where
-    go : (o : Option Word) → RowsKept rows (elim o [ none ↦ rows | some w ↦ pushRows rows (bucketOf (w .text)) (2 * i + 1) ])
+    go : (o : Option Word) → RowsKept rows (elim o [ none ↦ rows | some w ↦ pushRows rows (bucketOf key (w .text)) (2 * i + 1) ])
     go none = rows-same rows
-    go (some w) = rows-pushed rows (bucketOf (w .text)) (2 * i + 1)
+    go (some w) = rows-pushed rows (bucketOf key (w .text)) (2 * i + 1)
 
-pub name-kept : (text rows : List ℕ) (i : ℕ) → RowsKept rows (pushName text rows i)
+pub name-kept : (key : ℕ) (text rows : List ℕ) (i : ℕ) → RowsKept rows (pushName key text rows i)
 unfolding pushName
-name-kept text rows i = rows-pushed rows (bucketOf (declAt text rows i .name .text)) (2 * i)
+name-kept key text rows i = rows-pushed rows (bucketOf key (declAt text rows i .name .text)) (2 * i)
 
 -- the code's ways to them
 
-abbrev secondOf : List ℕ → List ℕ → ℕ → ℕ → ℕ → Bool → List ℕ
-secondOf text rows i start len t = elim (if t then none else some (wordOf text (secondKind (getD rows (8 * i) 0)) start len)) [ none ↦ rows | some w ↦ pushRows rows (bucketOf (w .text)) (2 * i + 1) ]
+abbrev secondOf : ℕ → List ℕ → List ℕ → ℕ → ℕ → ℕ → Bool → List ℕ
+secondOf key text rows i start len t = elim (if t then none else some (wordOf text (secondKind (getD rows (8 * i) 0)) start len)) [ none ↦ rows | some w ↦ pushRows rows (bucketOf key (w .text)) (2 * i + 1) ]
 
-pub second-none : (text rows : List ℕ) (i len : ℕ) → len ≡ getD rows (8 * i + 5) 0 → len ≡ 0 → rows ≡ pushSecond text rows i
+pub second-none : (key : ℕ) (text rows : List ℕ) (i len : ℕ) → len ≡ getD rows (8 * i + 5) 0 → len ≡ 0 → rows ≡ pushSecond key text rows i
 unfolding pushSecond declAt optionOf
-second-none text rows i len e z = ap (λ (t : Bool). secondOf text rows i (getD rows (8 * i + 4) 0) (getD rows (8 * i + 5) 0) t) (sym (eq-eqb (getD rows (8 * i + 5) 0) 0 (sym e ∙ z)))
+second-none key text rows i len e z = ap (λ (t : Bool). secondOf key text rows i (getD rows (8 * i + 4) 0) (getD rows (8 * i + 5) 0) t) (sym (eq-eqb (getD rows (8 * i + 5) 0) 0 (sym e ∙ z)))
 
-pub second-some : (text rows new : List ℕ) (i start len b : ℕ) → len ≡ getD rows (8 * i + 5) 0 → (len ≡ 0 → ⊥) → start ≡ getD rows (8 * i + 4) 0 → b ≡ bucketOf (part text start len)
-    → new ≡ pushRows rows b (2 * i + 1) → new ≡ pushSecond text rows i
+pub second-some : (key : ℕ) (text rows new : List ℕ) (i start len b : ℕ) → len ≡ getD rows (8 * i + 5) 0 → (len ≡ 0 → ⊥) → start ≡ getD rows (8 * i + 4) 0 → b ≡ bucketOf key (part text start len)
+    → new ≡ pushRows rows b (2 * i + 1) → new ≡ pushSecond key text rows i
 unfolding pushSecond declAt optionOf
-second-some text rows new i start len b e n f g h = h ∙ (ap (λ (c : ℕ). pushRows rows c (2 * i + 1)) (g ∙ both f e)
-    ∙ ap (λ (t : Bool). secondOf text rows i (getD rows (8 * i + 4) 0) (getD rows (8 * i + 5) 0) t) (sym (ne-eqb (getD rows (8 * i + 5) 0) 0 (λ z. n (e ∙ z)))))
+second-some key text rows new i start len b e n f g h = h ∙ (ap (λ (c : ℕ). pushRows rows c (2 * i + 1)) (g ∙ both f e)
+    ∙ ap (λ (t : Bool). secondOf key text rows i (getD rows (8 * i + 4) 0) (getD rows (8 * i + 5) 0) t) (sym (ne-eqb (getD rows (8 * i + 5) 0) 0 (λ z. n (e ∙ z)))))
   where
-    both : {x y u v : ℕ} → x ≡ u → y ≡ v → bucketOf (part text x y) ≡ bucketOf (part text u v)
+    both : {x y u v : ℕ} → x ≡ u → y ≡ v → bucketOf key (part text x y) ≡ bucketOf key (part text u v)
     both p q = cc
 
-pub name-pushed : (text rows new : List ℕ) (i start len b : ℕ) → start ≡ getD rows (8 * i + 2) 0 → len ≡ getD rows (8 * i + 3) 0 → b ≡ bucketOf (part text start len)
-    → new ≡ pushRows rows b (2 * i) → new ≡ pushName text rows i
+pub name-pushed : (key : ℕ) (text rows new : List ℕ) (i start len b : ℕ) → start ≡ getD rows (8 * i + 2) 0 → len ≡ getD rows (8 * i + 3) 0 → b ≡ bucketOf key (part text start len)
+    → new ≡ pushRows rows b (2 * i) → new ≡ pushName key text rows i
 unfolding pushName declAt
-name-pushed text rows new i start len b f e g h = h ∙ ap (λ (c : ℕ). pushRows rows c (2 * i)) (g ∙ both f e)
+name-pushed key text rows new i start len b f e g h = h ∙ ap (λ (c : ℕ). pushRows rows c (2 * i)) (g ∙ both f e)
   where
-    both : {x y u v : ℕ} → x ≡ u → y ≡ v → bucketOf (part text x y) ≡ bucketOf (part text u v)
+    both : {x y u v : ℕ} → x ≡ u → y ≡ v → bucketOf key (part text x y) ≡ bucketOf key (part text u v)
     both p q = cc
 
 -- one head more is cleared
-pub clear-more : {old rows : List ℕ} (b : ℕ) → length old ≡ 6017 → b < 512 → RowsKept old rows → ((c : ℕ) → c < b → headAt rows c ≡ 0)
+pub clear-more : {old rows : List ℕ} (b : ℕ) → length old ≡ 6017 → b < 511 → RowsKept old rows → ((c : ℕ) → c < b → headAt rows c ≡ 0)
     → RowsKept old (set rows (4096 + b) 0) × ((c : ℕ) → c < b + 1 → headAt (set rows (4096 + b) 0) c ≡ 0)
 clear-more {old} {rows} b size l r z = (rows-after r (rows-set rows (4096 + b) 0 (omega arith)), λ c m. one c m (alike c b))
   where
@@ -236,12 +250,13 @@ clear-more {old} {rows} b size l r z = (rows-after r (rows-set rows (4096 + b) 0
         apart x y = omega arith
 
 -- the second word's node is put in
-pub index-second : {text rows : List ℕ} {n : ℕ} (i : ℕ) → length rows ≡ 6017 → i < 512 → n ≤ 512 → IndexedFrom text rows (2 * i + 2) n → IndexedFrom text (pushSecond text rows i) (2 * i + 1) n
+pub index-second : {key : ℕ} {text rows : List ℕ} {n : ℕ} (i : ℕ) → length rows ≡ 6017 → i < 512 → n ≤ 512 → IndexedFrom key text rows (2 * i + 2) n → IndexedFrom key text (pushSecond key text rows i) (2 * i + 1) n
 unfolding pushSecond
-index-second {text} {rows} {n} i size l few f = go (declAt text rows i .second) refl
+index-second {key} {text} {rows} {n} i size l few f = go (declAt text rows i .second) refl
   where
-    go : (o : Option Word) → declAt text rows i .second ≡ o → IndexedFrom text (elim o [ none ↦ rows | some w ↦ pushRows rows (bucketOf (w .text)) (2 * i + 1) ]) (2 * i + 1) n
+    go : (o : Option Word) → declAt text rows i .second ≡ o → IndexedFrom key text (elim o [ none ↦ rows | some w ↦ pushRows rows (bucketOf key (w .text)) (2 * i + 1) ]) (2 * i + 1) n
     go none e = record {
+      keyed = f .keyed;
       chain = f .chain;
       nodes = record { follows = λ b h. f .nodes .follows b h; above = λ b h. wide (f .nodes .above b h) };
       names = λ j h m. f .names j (omega (arith, h)) m;
@@ -252,7 +267,7 @@ index-second {text} {rows} {n} i size l few f = go (declAt text rows i .second) 
         wide (inl z) = inl z
         wide (inr z) = inr (omega (arith, z))
 
-        old : (j : ℕ) (w : Word) → 2 * i + 1 ≤ 2 * j + 1 → j < n → declAt text rows j .second ≡ some w → (j ≡ i) ⊎ ((j ≡ i) → ⊥) → Among j (f .chain (bucketOf (w .text)))
+        old : (j : ℕ) (w : Word) → 2 * i + 1 ≤ 2 * j + 1 → j < n → declAt text rows j .second ≡ some w → (j ≡ i) ⊎ ((j ≡ i) → ⊥) → Among j (f .chain (bucketOf key (w .text)))
         old j w h m q (inl d) = absurd (none-some (sym e ∙ (ap (λ (k : ℕ). declAt text rows k .second) (sym d) ∙ q)))
           where
             none-some : _≡_ {A = Option Word} none (some w) → ⊥
@@ -262,61 +277,63 @@ index-second {text} {rows} {n} i size l few f = go (declAt text rows i .second) 
             apart : 2 * i + 1 ≤ 2 * j + 1 → ((j ≡ i) → ⊥) → 2 * i + 2 ≤ 2 * j + 1
             apart x y = omega arith
     go (some v) e = record {
+      keyed = key-pushed rows b (2 * i + 1) (bucket-low key (v .text)) ∙ f .keyed;
       chain = pushed (f .chain) b (2 * i + 1);
-      nodes = push-nodes b (2 * i + 1) (f .nodes) size (bucket-low (v .text)) (omega (arith, l)) (omega arith);
-      names = λ j h m. rw (same-decl j m) (still (f .chain) b (2 * i + 1) (bucketOf (declAt text rows j .name .text)) (f .names j (omega (arith, h)) m));
+      nodes = push-nodes b (2 * i + 1) (f .nodes) size (bucket-low key (v .text)) (omega (arith, l)) (omega arith);
+      names = λ j h m. rw (same-decl j m) (still (f .chain) b (2 * i + 1) (bucketOf key (declAt text rows j .name .text)) (f .names j (omega (arith, h)) m));
       seconds = λ j w h m q. one j w h m (ap (λ (d : Decl). d .second) (sym (same-decl j m)) ∙ q) (alike j i);
     }
       where
         b : ℕ
-        b = bucketOf (v .text)
+        b = bucketOf key (v .text)
 
         same-decl : (j : ℕ) → j < n → declAt text (pushRows rows b (2 * i + 1)) j ≡ declAt text rows j
         same-decl j m = decl-kept text j (rows-pushed rows b (2 * i + 1)) (omega (arith, m, few))
 
         one : (j : ℕ) (w : Word) → 2 * i + 1 ≤ 2 * j + 1 → j < n → declAt text rows j .second ≡ some w → (j ≡ i) ⊎ ((j ≡ i) → ⊥)
-            → Among j (pushed (f .chain) b (2 * i + 1) (bucketOf (w .text)))
+            → Among j (pushed (f .chain) b (2 * i + 1) (bucketOf key (w .text)))
         one j w h m q (inl d) = rw (sym (same-word (sym e ∙ (ap (λ (k : ℕ). declAt text rows k .second) (sym d) ∙ q)))) (own-chain (f .chain) b (2 * i + 1) (omega (arith, d)))
           where
             same-word : _≡_ {A = Option Word} (some v) (some w) → v ≡ w
             same-word z = cc
-        one j w h m q (inr d) = still (f .chain) b (2 * i + 1) (bucketOf (w .text)) (f .seconds j w (apart h d) m q)
+        one j w h m q (inr d) = still (f .chain) b (2 * i + 1) (bucketOf key (w .text)) (f .seconds j w (apart h d) m q)
           where
             apart : 2 * i + 1 ≤ 2 * j + 1 → ((j ≡ i) → ⊥) → 2 * i + 2 ≤ 2 * j + 1
             apart x y = omega arith
 
 -- the name's node is put in
-pub index-name : {text rows : List ℕ} {n : ℕ} (i : ℕ) → length rows ≡ 6017 → i < 512 → n ≤ 512 → IndexedFrom text rows (2 * i + 1) n → IndexedFrom text (pushName text rows i) (2 * i) n
+pub index-name : {key : ℕ} {text rows : List ℕ} {n : ℕ} (i : ℕ) → length rows ≡ 6017 → i < 512 → n ≤ 512 → IndexedFrom key text rows (2 * i + 1) n → IndexedFrom key text (pushName key text rows i) (2 * i) n
 unfolding pushName
-index-name {text} {rows} {n} i size l few f = record {
+index-name {key} {text} {rows} {n} i size l few f = record {
+  keyed = key-pushed rows b (2 * i) (bucket-low key (declAt text rows i .name .text)) ∙ f .keyed;
   chain = pushed (f .chain) b (2 * i);
-  nodes = push-nodes b (2 * i) (f .nodes) size (bucket-low (declAt text rows i .name .text)) (omega (arith, l)) (omega arith);
+  nodes = push-nodes b (2 * i) (f .nodes) size (bucket-low key (declAt text rows i .name .text)) (omega (arith, l)) (omega arith);
   names = λ j h m. rw (same-decl j m) (one j h m (alike j i));
-  seconds = λ j w h m q. still (f .chain) b (2 * i) (bucketOf (w .text)) (f .seconds j w (omega (arith, h)) m (ap (λ (d : Decl). d .second) (sym (same-decl j m)) ∙ q));
+  seconds = λ j w h m q. still (f .chain) b (2 * i) (bucketOf key (w .text)) (f .seconds j w (omega (arith, h)) m (ap (λ (d : Decl). d .second) (sym (same-decl j m)) ∙ q));
 }
   where
     b : ℕ
-    b = bucketOf (declAt text rows i .name .text)
+    b = bucketOf key (declAt text rows i .name .text)
 
     same-decl : (j : ℕ) → j < n → declAt text (pushRows rows b (2 * i)) j ≡ declAt text rows j
     same-decl j m = decl-kept text j (rows-pushed rows b (2 * i)) (omega (arith, m, few))
 
-    one : (j : ℕ) → 2 * i ≤ 2 * j → j < n → (j ≡ i) ⊎ ((j ≡ i) → ⊥) → Among j (pushed (f .chain) b (2 * i) (bucketOf (declAt text rows j .name .text)))
+    one : (j : ℕ) → 2 * i ≤ 2 * j → j < n → (j ≡ i) ⊎ ((j ≡ i) → ⊥) → Among j (pushed (f .chain) b (2 * i) (bucketOf key (declAt text rows j .name .text)))
     one j h m (inl e) = rw e (own-chain (f .chain) b (2 * i) (omega arith))
-    one j h m (inr d) = still (f .chain) b (2 * i) (bucketOf (declAt text rows j .name .text)) (f .names j (apart h d) m)
+    one j h m (inr d) = still (f .chain) b (2 * i) (bucketOf key (declAt text rows j .name .text)) (f .names j (apart h d) m)
       where
         apart : 2 * i ≤ 2 * j → ((j ≡ i) → ⊥) → 2 * i + 1 ≤ 2 * j
         apart x y = omega arith
 
-module _ (text : List ℕ) {rows mid : List ℕ} (k : ℕ) (p : mid ≡ pushSecond text rows (k - 1)) where
+module _ (key : ℕ) (text : List ℕ) {rows mid : List ℕ} (k : ℕ) (p : mid ≡ pushSecond key text rows (k - 1)) where
   pub mid-kept : RowsKept rows mid
-  mid-kept = rw p (second-kept text rows (k - 1))
+  mid-kept = rw p (second-kept key text rows (k - 1))
 
-  pub row-kept : {new : List ℕ} → new ≡ pushName text mid (k - 1) → RowsKept rows new
-  row-kept q = rows-after mid-kept (rw q (name-kept text mid (k - 1)))
+  pub row-kept : {new : List ℕ} → new ≡ pushName key text mid (k - 1) → RowsKept rows new
+  row-kept q = rows-after mid-kept (rw q (name-kept key text mid (k - 1)))
 
   -- the nodes of the row before the k-th are put in
-  pub index-more : {new : List ℕ} {n : ℕ} → new ≡ pushName text mid (k - 1) → 0 < k → k ≤ n → n ≤ 512 → length rows ≡ 6017 → IndexedFrom text rows (2 * k) n → IndexedFrom text new (2 * (k - 1)) n
+  pub index-more : {new : List ℕ} {n : ℕ} → new ≡ pushName key text mid (k - 1) → 0 < k → k ≤ n → n ≤ 512 → length rows ≡ 6017 → IndexedFrom key text rows (2 * k) n → IndexedFrom key text new (2 * (k - 1)) n
   index-more {new} {n} q low l few size f = rw q (index-name (k - 1) (mid-kept .size ∙ size) (omega (arith, l, few, low)) few (rw p (index-second (k - 1) size (omega (arith, l, few, low)) few (rw (sym even) f))))
     where
       even : 2 * k ≡ 2 * (k - 1) + 2
@@ -351,11 +368,14 @@ kept-behind {text} {old} {new} {n} f k = record {
   indexed = record {
     chain = k .indexed .chain;
     follows = λ b l. rw (f .kept (4096 + b) (omega (arith, l))) (chain-front f (k .indexed .follows b l));
-    names = λ i l. rw (same-decl i l) (k .indexed .names i l);
-    seconds = λ i w l e. k .indexed .seconds i w l (ap (λ (d : Decl). d .second) (sym (same-decl i l)) ∙ e);
+    names = λ i l. rw (same-decl i l, same-key) (k .indexed .names i l);
+    seconds = λ i w l e. rw same-key (k .indexed .seconds i w l (ap (λ (d : Decl). d .second) (sym (same-decl i l)) ∙ e));
   };
 }
   where
+    same-key : keyOf new ≡ keyOf old
+    same-key = f .kept 4607 (omega arith)
+
     same-decl : (i : ℕ) → i < n → declAt text new i ≡ declAt text old i
     same-decl i l = decl-kept text i (rows-front f) (omega (arith, l, k .few))
 

@@ -3,6 +3,7 @@ use mathlib.Core.List.{List, [], _∷_}
 use mathlib.Core.Path.{_≡_, refl, ap, sym, _∙_}
 use Prim.Native.Nat.{ℕ, zero, suc, _+_, _*_, _-_, _%_, _≤_, _<_}
 use native.Mathlib.Numerals.{add-one}
+use native.Mathlib.Nat.{mul-le-mul}
 use native.Mathlib.Omega.{arith}
 use lib.ListN.{length, getD, take, drop, length-take, length-drop, drop-of-length-le}
 use lib.Seq.{drop-cons, getD-take, getD-drop}
@@ -45,18 +46,22 @@ part-byte text start len i h = getD-take len (drop start text) i 0 low ∙ getD-
     low = let g : length (part text start len) ≤ len = simp (length-take) (omega arith) in omega (arith, h, g)
 
 -- the hash takes one byte more
-pub hash-more : (w : List ℕ) (h i b : ℕ) → i < length w → getD w i 0 ≡ b → hashFrom h (drop i w) ≡ hashFrom ((h * 33 + b) % 65536) (drop (i + 1) w)
+pub hash-more : (key : ℕ) (w : List ℕ) (h i b : ℕ) → i < length w → getD w i 0 ≡ b → hashFrom key h (drop i w) ≡ hashFrom key ((h * key + b) % 65536) (drop (i + 1) w)
 unfolding hashFrom
-hash-more w h i b l e = rw (add-one, drop-cons w i 0 l, sym e) refl
+hash-more key w h i b l e = rw (add-one, drop-cons w i 0 l, sym e) refl
 
-pub hash-end : (w : List ℕ) (h i : ℕ) → length w ≤ i → hashFrom h (drop i w) ≡ h
+pub hash-end : (key : ℕ) (w : List ℕ) (h i : ℕ) → length w ≤ i → hashFrom key h (drop i w) ≡ h
 unfolding hashFrom
-hash-end w h i l = rw (drop-of-length-le w l) refl
+hash-end key w h i l = rw (drop-of-length-le w l) refl
 
-pub bucket-end : (w : List ℕ) (h i : ℕ) → length w ≤ i → hashFrom h (drop i w) ≡ hashFrom 0 w → h % 512 ≡ bucketOf w
+pub bucket-end : (key : ℕ) (w : List ℕ) (h i : ℕ) → length w ≤ i → hashFrom key h (drop i w) ≡ hashFrom key 0 w → h % 511 ≡ bucketOf key w
 unfolding bucketOf
-bucket-end w h i l e = ap (λ (x : ℕ). x % 512) (sym (hash-end w h i l) ∙ e)
+bucket-end key w h i l e = ap (λ (x : ℕ). x % 511) (sym (hash-end key w h i l) ∙ e)
 
-pub bucket-low : (w : List ℕ) → bucketOf w < 512
+pub bucket-low : (key : ℕ) (w : List ℕ) → bucketOf key w < 511
 unfolding bucketOf
-bucket-low w = omega arith
+bucket-low key w = omega arith
+
+-- two numbers of 16 bits
+pub product-low : (h key : ℕ) → h < 65536 → key < 65536 → h * key ≤ 4294836225
+product-low h key l m = let a : h ≤ 65535 = omega (arith, l) in let b : key ≤ 65535 = omega (arith, m) in mul-le-mul a b

@@ -1,4 +1,4 @@
--- The index by names: behind the rows' 4,096 numbers stand 512 heads and 1,024 links. Node k + 1 is row k / 2, by its name where k is even and by its
+-- The index by names: behind the rows' 4,096 numbers stand 511 heads, the key of the hash and 1,024 links. Node k + 1 is row k / 2, by its name where k is even and by its
 -- second word where k is odd; 0 is no node. A chain meets the rows whose words have one hash, in the order of the row.
 use mathlib.Core.List.{List, [], _∷_}
 use mathlib.Core.Logic.{_⊎_}
@@ -11,13 +11,17 @@ use Rattle.base.specs.Common.{if_then_else_}
 use Rattle.symbols.specs.Rows.{declAt}
 use Rattle.words.specs.Words.{Word}
 
-unfoldable pub hashFrom : ℕ → List ℕ → ℕ
-hashFrom h [] = h
-hashFrom h (b ∷ s) = hashFrom ((h * 33 + b) % 65536) s
+unfoldable pub hashFrom : ℕ → ℕ → List ℕ → ℕ
+hashFrom key h [] = h
+hashFrom key h (b ∷ s) = hashFrom key ((h * key + b) % 65536) s
 
--- the chain of a word
-unfoldable pub bucketOf : List ℕ → ℕ
-bucketOf w = hashFrom 0 w % 512
+-- the chain of a word, by a key
+unfoldable pub bucketOf : ℕ → List ℕ → ℕ
+bucketOf key w = hashFrom key 0 w % 511
+
+-- the key of an index
+abbrev pub keyOf : List ℕ → ℕ
+keyOf rows = getD rows 4607 0
 
 abbrev pub headAt : List ℕ → ℕ → ℕ
 headAt rows b = getD rows (4096 + b) 0
@@ -30,12 +34,12 @@ abbrev pub pushRows : List ℕ → ℕ → ℕ → List ℕ
 pushRows rows b k = set (set rows (4608 + k) (headAt rows b)) (4096 + b) (k + 1)
 
 -- row i before the chain of its second word, where it has one
-unfoldable pub pushSecond : List ℕ → List ℕ → ℕ → List ℕ
-pushSecond text rows i = elim (declAt text rows i .second) [ none ↦ rows | some w ↦ pushRows rows (bucketOf (w .text)) (2 * i + 1) ]
+unfoldable pub pushSecond : ℕ → List ℕ → List ℕ → ℕ → List ℕ
+pushSecond key text rows i = elim (declAt text rows i .second) [ none ↦ rows | some w ↦ pushRows rows (bucketOf key (w .text)) (2 * i + 1) ]
 
 -- row i before the chain of its name
-unfoldable pub pushName : List ℕ → List ℕ → ℕ → List ℕ
-pushName text rows i = pushRows rows (bucketOf (declAt text rows i .name .text)) (2 * i)
+unfoldable pub pushName : ℕ → List ℕ → List ℕ → ℕ → List ℕ
+pushName key text rows i = pushRows rows (bucketOf key (declAt text rows i .name .text)) (2 * i)
 
 -- the node after p: nodes rise, 0 is the end
 unfoldable pub nextOf : List ℕ → ℕ → ℕ
@@ -63,9 +67,9 @@ pub data Among (i : ℕ) : List ℕ → Type 0 where
 -- every row is in the chains of its words
 pub record Indexed (text rows : List ℕ) (n : ℕ) : Type 0 where
   pub chain : ℕ → List ℕ
-  pub follows : (b : ℕ) → b < 512 → Chain rows (headAt rows b) (chain b)
-  pub names : (i : ℕ) → i < n → Among i (chain (bucketOf (declAt text rows i .name .text)))
-  pub seconds : (i : ℕ) (w : Word) → i < n → declAt text rows i .second ≡ some w → Among i (chain (bucketOf (w .text)))
+  pub follows : (b : ℕ) → b < 511 → Chain rows (headAt rows b) (chain b)
+  pub names : (i : ℕ) → i < n → Among i (chain (bucketOf (keyOf rows) (declAt text rows i .name .text)))
+  pub seconds : (i : ℕ) (w : Word) → i < n → declAt text rows i .second ≡ some w → Among i (chain (bucketOf (keyOf rows) (w .text)))
 
 -- the first n rows, few enough and indexed
 pub record Kept (text rows : List ℕ) (n : ℕ) : Type 0 where

@@ -8,7 +8,7 @@ ghost use Rattle.base.specs.Common.{same, member, given};
 ghost use Rattle.names.specs.Known.{find, isWord};
 ghost use Rattle.names.specs.Declare.{valuesOf};
 ghost use Rattle.declarations.specs.Decls.{knownsIn, indexOf, declaredIn, elsewhereIn, lookupIn, typeIn};
-ghost use Rattle.symbols.specs.Index.{bucketOf, headAt, nextOf, pushRows, pushSecond, pushName, RowsKept, Kept};
+ghost use Rattle.symbols.specs.Index.{bucketOf, headAt, keyOf, nextOf, pushRows, pushSecond, pushName, RowsKept, Kept};
 ghost use Rattle.symbols.specs.Rows.{wordOf, declAt, held, numberOf, rowIn, operationIn, operatorsRow, ruleIn, Looks};
 ghost use Rattle.symbols.specs.Search.{part, serves, knows, named, declares, counts, Tells};
 use base::byte;
@@ -52,10 +52,12 @@ pub const VALUES: usize = 8;
 
 pub const OPERATORS: usize = 600;
 
-// Behind the rows: the heads of the chains, their links, how many pairs of a section and a rule there are, and the pairs.
+// Behind the rows: the heads of the chains, the key of the words' hash, the links, how many pairs of a section and a rule there are, and the pairs.
 pub const HEADS: usize = 4096;
 
-pub const BUCKETS: usize = 512;
+pub const BUCKETS: usize = 511;
+
+const KEY: usize = 4607;
 
 pub const LINKS: usize = 4608;
 
@@ -69,8 +71,17 @@ pub const PAIR_OPERAND: usize = 5634;
 
 pub const PAIR_RULE: usize = 5635;
 
-// What a word's hash is multiplied by at each byte.
-const HASH_FACTOR: usize = 33;
+// What a word's hash is multiplied by at each byte, at first; the keys that are tried where a chain is long with it; and which chain is long.
+const FIRST_KEY: usize = 33;
+
+const KEY_STEP: usize = 2026;
+
+const LAST_KEY: usize = 40000;
+
+const LONG: usize = 32;
+
+// So few rows have no chain that takes long.
+const FEW: usize = 64;
 
 // No value and no declaration: more than any.
 pub const NONE: usize = 65536;
@@ -211,16 +222,17 @@ fn counts(rows: &[u16], i: usize, class: usize, v: usize) -> bool
 
 // The index by names
 
-// The chain of a word.
-fn bucket(text: &[u8], start: usize, len: usize) -> usize
-    ensures { λ r. ⌜ r ≡ bucketOf (part (now (text .entry)) start len) ⌝ }
-    ensures { λ r. ⌜ r < 512 ⌝ }
+// The chain of a word, by a key.
+fn bucket(text: &[u8], key: usize, start: usize, len: usize) -> usize
+    requires { ⌜ key < 65536 ⌝ }
+    ensures { λ r. ⌜ r ≡ bucketOf key (part (now (text .entry)) start len) ⌝ }
+    ensures { λ r. ⌜ r < 511 ⌝ }
 {
     let n = part_len(text, start, len);
     let mut h: usize = 0;
     let mut i: usize = 0;
     while i < n {
-        h = (h * HASH_FACTOR + byte(text[start + i])) % 65536;
+        h = (h * key + byte(text[start + i])) % 65536;
         i += 1;
     }
     h % BUCKETS
@@ -228,7 +240,7 @@ fn bucket(text: &[u8], start: usize, len: usize) -> usize
 
 // Node k is put before the chain b.
 fn push_node(rows: &mut [u16], b: usize, k: usize)
-    requires { ⌜ (length (now rows) ≡ 6017) × (b < 512) × (k < 1024) ⌝ }
+    requires { ⌜ (length (now rows) ≡ 6017) × (b < 511) × (k < 1024) ⌝ }
     ensures { λ _. ⌜ now (rows .exit) ≡ pushRows (now (rows .entry)) b k ⌝ }
 {
     let first = rows[HEADS + b];
@@ -237,66 +249,53 @@ fn push_node(rows: &mut [u16], b: usize, k: usize)
 }
 
 // Row i is put before the chain of its second word, where it has one.
-fn push_second(text: &[u8], rows: &mut [u16], i: usize)
-    requires { ⌜ (length (now rows) ≡ 6017) × (i < 512) ⌝ }
-    ensures { λ _. ⌜ now (rows .exit) ≡ pushSecond (now (text .entry)) (now (rows .entry)) i ⌝ }
+fn push_second(text: &[u8], rows: &mut [u16], key: usize, i: usize)
+    requires { ⌜ (length (now rows) ≡ 6017) × (key < 65536) × (i < 512) ⌝ }
+    ensures { λ _. ⌜ now (rows .exit) ≡ pushSecond key (now (text .entry)) (now (rows .entry)) i ⌝ }
 {
     let len = number(rows, ROW * i + SECOND_LEN);
     if len == 0 {
         return;
     }
-    let b = bucket(text, number(rows, ROW * i + SECOND_START), len);
+    let b = bucket(text, key, number(rows, ROW * i + SECOND_START), len);
     push_node(rows, b, 2 * i + 1);
 }
 
 // Row i is put before the chain of its name.
-fn push_name(text: &[u8], rows: &mut [u16], i: usize)
-    requires { ⌜ (length (now rows) ≡ 6017) × (i < 512) ⌝ }
-    ensures { λ _. ⌜ now (rows .exit) ≡ pushName (now (text .entry)) (now (rows .entry)) i ⌝ }
+fn push_name(text: &[u8], rows: &mut [u16], key: usize, i: usize)
+    requires { ⌜ (length (now rows) ≡ 6017) × (key < 65536) × (i < 512) ⌝ }
+    ensures { λ _. ⌜ now (rows .exit) ≡ pushName key (now (text .entry)) (now (rows .entry)) i ⌝ }
 {
     let b = bucket(
         text,
+        key,
         number(rows, ROW * i + NAME_START),
         number(rows, ROW * i + NAME_LEN),
     );
     push_node(rows, b, 2 * i);
 }
 
-// No chain has a node.
-fn clear_heads(rows: &mut [u16])
-    requires { ⌜ length (now rows) ≡ 6017 ⌝ }
+// No chain has a node, and the key is this one.
+fn clear_heads(rows: &mut [u16], key: usize)
+    requires { ⌜ (length (now rows) ≡ 6017) × (key < 65536) ⌝ }
     ensures kept { λ _. ⌜ RowsKept (now (rows .entry)) (now (rows .exit)) ⌝ }
-    ensures clear { λ _. ⌜ ((b : ℕ) → b < 512 → headAt (now (rows .exit)) b ≡ 0) ⌝ }
+    ensures clear { λ _. ⌜ ((b : ℕ) → b < 511 → headAt (now (rows .exit)) b ≡ 0) ⌝ }
+    ensures keyed { λ _. ⌜ keyOf (now (rows .exit)) ≡ key ⌝ }
 {
     let mut b: usize = 0;
     while b < BUCKETS {
         rows[HEADS + b] = 0;
         b += 1;
     }
-}
-
-// The first n rows are put into the chains of their words, the last row first.
-pub fn index(text: &[u8], rows: &mut [u16], n: usize)
-    requires { ⌜ (length (now rows) ≡ 6017) × (n ≤ 512) ⌝ }
-    ensures index { λ _. ⌜ Kept (now (text .entry)) (now (rows .exit)) n ⌝ }
-    ensures rows { λ _. ⌜ RowsKept (now (rows .entry)) (now (rows .exit)) ⌝ }
-    ensures held { λ _. ⌜ ((t : List ℕ) → held t (now (rows .exit)) n ≡ held t (now (rows .entry)) n) ⌝ }
-{
-    clear_heads(rows);
-    let mut i = n;
-    while 0 < i {
-        i -= 1;
-        push_second(text, rows, i);
-        push_name(text, rows, i);
-    }
+    rows[KEY] = key as u16;
 }
 
 // The first node of the chain of a word.
 fn first_node(text: &[u8], rows: &[u16], start: usize, len: usize) -> usize
-    ensures same { λ r. ⌜ r ≡ headAt (now (rows .entry)) (bucketOf (part (now (text .entry)) start len)) ⌝ }
+    ensures same { λ r. ⌜ r ≡ headAt (now (rows .entry)) (bucketOf (keyOf (now (rows .entry))) (part (now (text .entry)) start len)) ⌝ }
     ensures low { λ r. ⌜ r < 65536 ⌝ }
 {
-    number(rows, HEADS + bucket(text, start, len))
+    number(rows, HEADS + bucket(text, number(rows, KEY), start, len))
 }
 
 // The node after p, 0 at the end. Nodes rise in an index; the test makes a search end on any rows.
@@ -311,6 +310,90 @@ fn next_node(rows: &[u16], p: usize) -> usize
         return q;
     }
     0
+}
+
+// The first n rows are put into the chains of their words by a key, the last row first.
+fn build(text: &[u8], rows: &mut [u16], n: usize, key: usize)
+    requires { ⌜ (length (now rows) ≡ 6017) × (n ≤ 512) × (key < 65536) ⌝ }
+    ensures index { λ _. ⌜ Kept (now (text .entry)) (now (rows .exit)) n ⌝ }
+    ensures rows { λ _. ⌜ RowsKept (now (rows .entry)) (now (rows .exit)) ⌝ }
+{
+    clear_heads(rows, key);
+    let mut i = n;
+    while 0 < i {
+        i -= 1;
+        push_second(text, rows, key, i);
+        push_name(text, rows, key, i);
+    }
+}
+
+// How many nodes the chain b has.
+fn nodes_of(rows: &[u16], b: usize) -> usize
+    requires { ⌜ b < 511 ⌝ }
+{
+    let mut k: usize = 0;
+    let mut p = number(rows, HEADS + b);
+    while p != 0 {
+        k = k + 1;
+        p = next_node(rows, p);
+    }
+    k
+}
+
+// How many nodes the longest chain has.
+fn longest(rows: &[u16]) -> usize {
+    let mut most: usize = 0;
+    let mut b: usize = 0;
+    while b < BUCKETS {
+        let k = nodes_of(rows, b);
+        if most < k {
+            most = k;
+        }
+        b += 1;
+    }
+    most
+}
+
+// The first key with no long chain; where there is none, that with the shortest longest one. The rows have the chains of the first key.
+fn best_key(text: &[u8], rows: &mut [u16], n: usize) -> usize
+    requires { ⌜ (length (now rows) ≡ 6017) × (n ≤ 512) ⌝ }
+    ensures low { λ r. ⌜ r < 65536 ⌝ }
+    ensures rows { λ _. ⌜ RowsKept (now (rows .entry)) (now (rows .exit)) ⌝ }
+{
+    let mut best = FIRST_KEY;
+    let mut least = longest(rows);
+    let mut key = FIRST_KEY + KEY_STEP;
+    while key < LAST_KEY {
+        if least <= LONG {
+            return best;
+        }
+        build(text, rows, n, key);
+        let k = longest(rows);
+        if k < least {
+            best = key;
+            least = k;
+        }
+        key += KEY_STEP;
+    }
+    best
+}
+
+// The first n rows are put into the chains of their words. Which words share a chain depends on a key: where a chain is long, other keys are tried.
+pub fn index(text: &[u8], rows: &mut [u16], n: usize)
+    requires { ⌜ (length (now rows) ≡ 6017) × (n ≤ 512) ⌝ }
+    ensures index { λ _. ⌜ Kept (now (text .entry)) (now (rows .exit)) n ⌝ }
+    ensures rows { λ _. ⌜ RowsKept (now (rows .entry)) (now (rows .exit)) ⌝ }
+    ensures held { λ _. ⌜ ((t : List ℕ) → held t (now (rows .exit)) n ≡ held t (now (rows .entry)) n) ⌝ }
+{
+    build(text, rows, n, FIRST_KEY);
+    if n <= FEW {
+        return;
+    }
+    if longest(rows) <= LONG {
+        return;
+    }
+    let key = best_key(text, rows, n);
+    build(text, rows, n, key);
 }
 
 // The row

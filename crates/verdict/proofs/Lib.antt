@@ -9,3 +9,4 @@ pub mod Stands
 pub mod Growth
 pub mod Looking
 pub mod Room
+pub mod Worthy

@@ -194,6 +194,23 @@ sweep-next cells starts n r i j old k mid u new d h a b = record {
       ];
 }
 
+-- a look at one rule, as a part of a sweep that closes nothing
+pub look-swept : (cells starts : List ℕ) (n r : ℕ) (j : Learnt) (old : List ℕ) (k : Learnt) (new : List ℕ) → r < n → LookedTold cells starts r j old k new → SweepTold cells starts n n j old k new
+look-swept cells starts n r j old k new h b = record {
+  widens = b .widens;
+  holds = λ prog e l t. b .holds prog (omega (arith, e, h)) l t;
+  closed = λ prog e l q s m p c. absurd (omega arith);
+}
+
+-- and then a sweep
+pub sweep-after : (cells starts : List ℕ) (n i : ℕ) (j : Learnt) (old : List ℕ) (k : Learnt) (mid : List ℕ) (u : Learnt) (new : List ℕ)
+    → SweepTold cells starts n n j old k mid → SweepTold cells starts n i k mid u new → SweepTold cells starts n i j old u new
+sweep-after cells starts n i j old k mid u new a b = record {
+  widens = widens-trans j k u old mid new (a .widens) (b .widens);
+  holds = λ prog e l t. b .holds prog e l (a .holds prog e l t);
+  closed = λ prog e l q s m p c. b .closed prog e l (same-mid j k u old mid new (a .widens) (b .widens) q .1) s m p c;
+}
+
 -- Sweeps until one brings nothing
 pub record Settling (cells starts : List ℕ) (n : ℕ) (more : Bool) (k : Learnt) (facts : List ℕ) : Type 0 where
   pub room : 2 * k .count ≤ length facts

@@ -79,6 +79,19 @@ pub record Either (w a : Ways) (x : Bool) (r : Ways) : Type 0 where
   pub loops : r .looping ≡ (w .looping || a .looping)
   pub next : r .next ≡ a .next
 
+-- the ways of a bring nothing to those of w
+pub record Covers (w a : Ways) : Type 0 where
+  pub end : (w .end || a .end) ≡ w .end
+  pub exit : (w .exit || a .exit) ≡ w .exit
+  pub ret : (w .ret || a .ret) ≡ w .ret
+  pub calls : (k : ℕ) → (member (w .calls) k || member (a .calls) k) ≡ member (w .calls) k
+  pub given : (k : ℕ) → (member (w .given) k || member (a .given) k) ≡ member (w .given) k
+
+-- of m facts all are worth a look, or none where they could only open ways that bring nothing
+pub data Worth (w a : Ways) (m : ℕ) : ℕ → Type 0 where
+  all-worth : Worth w a m m
+  none-worth : Covers w a → Worth w a m 0
+
 pub record Cycled (b r : Ways) : Type 0 where
   pub end : r .end ≡ b .exit
   pub exit : r .exit ≡ false

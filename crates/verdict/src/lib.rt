@@ -8,7 +8,7 @@ ghost use Prim.Native.Nat.{_*_};
 ghost use mathlib.Core.Bool.{not};
 ghost use Rattle.base.specs.Common.{member as listed};
 ghost use Rattle.finishing.specs.Test.{some-below};
-ghost use Rattle.verdict.specs.Told.{member, someIn, knownIn, Simple, Giving, Then, Either, Cycled, Calling, Placed, pastCell, takes, heads, LeafTold, ActTold, ActsTold, AltsTold, ValuedTold, Collected, RuleTold, rowOf, sought, GatheredTold, NotedTold, NotesTold, Joined, TriedTold, LookedTold, SweepTold, LearntTold, alike, Puts, Widened, Closure, Arrows, Verdict};
+ghost use Rattle.verdict.specs.Told.{member, someIn, knownIn, Simple, Giving, Then, Either, Covers, Worth, Cycled, Calling, Placed, pastCell, takes, heads, LeafTold, ActTold, ActsTold, AltsTold, ValuedTold, Collected, RuleTold, rowOf, sought, GatheredTold, NotedTold, NotesTold, Joined, TriedTold, LookedTold, SweepTold, LearntTold, alike, Puts, Widened, Closure, Arrows, Verdict};
 use base::cell;
 use base::number;
 use base::wide;
@@ -225,6 +225,47 @@ fn either(w: Ways, a: Ways, on: bool) -> Ways
         given: wg,
         next: a.next,
     }
+}
+
+// The ways of a bring nothing to those of w.
+fn is_covered(w: Ways, a: Ways) -> bool
+    ensures { λ b. ⌜ (b ≡ true → Covers w a) ⌝ }
+{
+    let wc = w.calls;
+    let ac = a.calls;
+    let wg = w.given;
+    let ag = a.given;
+    let c = union(wc, ac);
+    let g = union(wg, ag);
+    if a.end & !w.end {
+        return false;
+    }
+    if a.exit & !w.exit {
+        return false;
+    }
+    if a.ret & !w.ret {
+        return false;
+    }
+    if c.lo != wc.lo {
+        return false;
+    }
+    if c.hi != wc.hi {
+        return false;
+    }
+    if g.lo != wg.lo {
+        return false;
+    }
+    g.hi == wg.hi
+}
+
+// How many of m facts are worth a look: none, where they could only open ways that bring nothing.
+fn worth(w: Ways, a: Ways, m: usize) -> usize
+    ensures { λ r. ⌜ Worth w a m r ⌝ }
+{
+    if is_covered(w, a) {
+        return 0;
+    }
+    m
 }
 
 // The ways of a cycle from those of its body.
@@ -541,7 +582,8 @@ fn valued(cells: &[u16], at: usize, known: Learnt, facts: &[u16], wanted: &[u16]
         let to = ahead(cells, from, tag - ALTERNATIVE);
         n = collected(cells, from, to, &mut labels, n);
         let b = acts(cells, to, known, facts, wanted);
-        w = either(w, b, opened(cells, from, to, facts, known.count, r));
+        let m = worth(w, b, known.count);
+        w = either(w, b, opened(cells, from, to, facts, m, r));
         i = b.next;
         tag = number(cells, i);
     }
@@ -693,7 +735,11 @@ fn tried(
     }
 }
 
-// The same until a look brings no value more: what one value opens may return the next.
+fn chosen(on: bool, a: usize, b: usize) -> usize {
+    if on { a } else { b }
+}
+
+// The same, and where the rule calls itself until a look brings no value more: what one value opens may return the next.
 fn pressed(
     cells: &[u16],
     starts: &[u16],
@@ -706,7 +752,8 @@ fn pressed(
     requires { ⌜ (from ≤ to) × (to ≤ length (now cells)) × (2 * k .count ≤ length (now facts)) × (r < 128) ⌝ }
     ensures { λ t. ⌜ TriedTold (now (cells .entry)) (now (starts .entry)) r k (now (facts .entry)) from to t (now (facts .exit)) ⌝ }
 {
-    let mut had = k.count;
+    let itself = calls(cells, from, to, wide(r));
+    let mut had = chosen(itself, k.count, facts.len());
     let mut t = tried(cells, starts, r, k, facts, from, to);
     while had < t.known.count {
         had = t.known.count;
@@ -758,6 +805,158 @@ fn sweep(cells: &[u16], starts: &[u16], n: usize, k: Learnt, facts: &mut [u16]) 
     j
 }
 
+// Some cell from one place to another is that of a call, and the cell behind it is r.
+fn calls(cells: &[u16], from: usize, to: usize, r: usize) -> bool {
+    let mut i = from;
+    while i < to {
+        let tag = number(cells, i);
+        if (tag == CALL) | (tag == BY_RULE) {
+            if number(cells, i + 1) == r {
+                return true;
+            }
+        }
+        i += 1;
+    }
+    false
+}
+
+// Where a rule's cells are thought to end.
+fn thought_end(cells: &[u16], to: usize, from: usize) -> usize {
+    if to < from {
+        return cells.len();
+    }
+    to
+}
+
+// The set with the rules from one number to another that call rule r. Nothing depends on it but the number of looks.
+fn callers(cells: &[u16], starts: &[u16], first: usize, end: usize, r: usize, s: Rules) -> Rules {
+    let mut t = s;
+    let mut i = first;
+    while i < end {
+        let from = number(starts, i);
+        let to = thought_end(cells, number(starts, i + 1), from);
+        t = marked(t, i, calls(cells, from, to, r));
+        i += 1;
+    }
+    t
+}
+
+// Up to n, or no way.
+fn upto(n: usize, none: bool) -> usize {
+    if none {
+        return 0;
+    }
+    n
+}
+
+// One rule looked at, where that is due.
+fn looked_if(
+    cells: &[u16],
+    starts: &[u16],
+    r: u16,
+    k: Learnt,
+    facts: &mut [u16],
+    on: bool,
+) -> Learnt
+    requires { ⌜ (2 * k .count ≤ length (now facts)) × (r < 128) ⌝ }
+    ensures { λ j. ⌜ ((n : ℕ) → r < n → SweepTold (now (cells .entry)) (now (starts .entry)) n n k (now (facts .entry)) j (now (facts .exit))) ⌝ }
+{
+    if on {
+        return looked(cells, starts, r, k, facts);
+    }
+    k
+}
+
+// What a round over the rules that were due brought, and the rules that are due in the next.
+struct Brought {
+    known: Learnt,
+    next: Rules,
+}
+
+// The rules that are due looked at, the last first. Where a look brings something, the rules that call that rule are due.
+fn round(
+    cells: &[u16],
+    starts: &[u16],
+    n: usize,
+    k: Learnt,
+    facts: &mut [u16],
+    due: Rules,
+) -> Brought
+    requires { ⌜ (2 * k .count ≤ length (now facts)) × (n ≤ 128) ⌝ }
+    ensures { λ t. ⌜ SweepTold (now (cells .entry)) (now (starts .entry)) n n k (now (facts .entry)) (t .known) (now (facts .exit)) ⌝ }
+{
+    let mut j = k;
+    let mut now = due;
+    let mut next = Rules { lo: 0, hi: 0 };
+    let mut r = n;
+    while 0 < r {
+        r -= 1;
+        let t = looked_if(cells, starts, r as u16, j, facts, has(now, r));
+        let same = unchanged(t, j);
+        now = callers(cells, starts, 0, upto(r, same), r, now);
+        next = callers(cells, starts, r, upto(n, same), r, next);
+        j = t;
+    }
+    Brought { known: j, next }
+}
+
+// One less; 0 where nothing is due.
+fn less(left: usize, due: Rules) -> usize
+    requires { ⌜ 0 < left ⌝ }
+    ensures { λ r. ⌜ r < left ⌝ }
+{
+    if (due.lo == 0) & (due.hi == 0) {
+        return 0;
+    }
+    left - 1
+}
+
+// Rounds until nothing is due, or many of them.
+fn hurried(cells: &[u16], starts: &[u16], n: usize, k: Learnt, facts: &mut [u16]) -> Learnt
+    requires { ⌜ (2 * k .count ≤ length (now facts)) × (n ≤ 128) ⌝ }
+    ensures { λ j. ⌜ SweepTold (now (cells .entry)) (now (starts .entry)) n n k (now (facts .entry)) j (now (facts .exit)) ⌝ }
+{
+    let mut j = k;
+    let mut due = Rules {
+        lo: 18446744073709551615,
+        hi: 18446744073709551615,
+    };
+    let mut left: usize = 10000;
+    while 0 < left {
+        let t = round(cells, starts, n, j, facts, due);
+        j = t.known;
+        due = t.next;
+        left = less(left, due);
+    }
+    j
+}
+
+// A sweep, late ones behind rounds.
+fn swept(
+    cells: &[u16],
+    starts: &[u16],
+    n: usize,
+    k: Learnt,
+    facts: &mut [u16],
+    late: bool,
+) -> Learnt
+    requires { ⌜ (2 * k .count ≤ length (now facts)) × (n ≤ 128) ⌝ }
+    ensures { λ j. ⌜ SweepTold (now (cells .entry)) (now (starts .entry)) n 0 k (now (facts .entry)) j (now (facts .exit)) ⌝ }
+{
+    if late {
+        let m = hurried(cells, starts, n, k, facts);
+        return sweep(cells, starts, n, m, facts);
+    }
+    sweep(cells, starts, n, k, facts)
+}
+
+fn before(n: usize) -> usize {
+    if n == 0 {
+        return 0;
+    }
+    n - 1
+}
+
 // The same is known.
 fn unchanged(j: Learnt, k: Learnt) -> bool
     ensures { λ b. ⌜ b ≡ alike j k ⌝ }
@@ -777,10 +976,12 @@ fn settled(cells: &[u16], starts: &[u16], n: usize, facts: &mut [u16]) -> Learnt
         count: 0,
     };
     let mut more = true;
+    let mut early: usize = 4;
     while more {
-        let j = sweep(cells, starts, n, k, facts);
+        let j = swept(cells, starts, n, k, facts, early == 0);
         more = !unchanged(j, k);
         k = j;
+        early = before(early);
     }
     k
 }

@@ -9,6 +9,7 @@
 use std::hint::black_box;
 use std::process::ExitCode;
 
+use reference::delays;
 use reference::ffi;
 use reference::programs::{self, CHOSEN, PLAIN, SIZES, Text};
 use reference::quiet::Measurer;
@@ -69,7 +70,7 @@ fn line(library: &dyn Measurer, text: &Text, repetitions: usize) -> Result<Times
     let (ratio, ratio_without) = (times.ratio(), times.ratio_without());
     let per_byte = ours * 1e3 / bytes as f64;
     println!(
-        "{name:<12}{bytes:>7}{words:>7}{ours:>12.1}{rust:>12.1}{ratio:>10.2}{without:>12.1}{ratio_without:>10.2}{per_byte:>13.1}"
+        "{name:<17}{bytes:>7}{words:>7}{ours:>12.1}{rust:>12.1}{ratio:>10.2}{without:>12.1}{ratio_without:>10.2}{per_byte:>13.1}"
     );
     Ok(times)
 }
@@ -78,6 +79,19 @@ fn line(library: &dyn Measurer, text: &Text, repetitions: usize) -> Result<Times
 fn most(all: &[Vec<Times>], by: fn(&Times) -> f64) -> (f64, &str) {
     let all = all.iter().flatten().map(|times| (by(times), times.name.as_str()));
     all.max_by(|a, b| a.0.total_cmp(&b.0)).unwrap_or((f64::NAN, "none"))
+}
+
+/// Times the texts made to keep a processor busy, and prints the most over the typical text of their size. scripts/text-costs holds them to a bound, by
+/// instructions.
+fn slowest_over_typical(library: &dyn Measurer, all: &[Vec<Times>], repetitions: usize) -> Result<(), ExitCode> {
+    let typical = all[0][SIZES.len() - 1].ours;
+    let slow = delays::all().iter().map(|text| line(library, text, repetitions)).collect::<Result<Vec<_>, _>>()?;
+    let last = all.iter().map(|sizes| &sizes[SIZES.len() - 1]);
+    let worst = last.chain(&slow).max_by(|a, b| a.ours.total_cmp(&b.ours));
+    if let Some(worst) = worst {
+        println!("slowest over the typical text of 32 KB: {:.1}, {}", worst.ours / typical, worst.name);
+    }
+    Ok(())
 }
 
 fn main() -> ExitCode {
@@ -93,7 +107,7 @@ fn bench() -> Result<(), ExitCode> {
     );
     println!("which the library always finds; median of {repetitions} repetitions, in microseconds a text");
     println!(
-        "{:<12}{:>7}{:>7}{:>12}{:>12}{:>10}{:>12}{:>10}{:>13}",
+        "{:<17}{:>7}{:>7}{:>12}{:>12}{:>10}{:>12}{:>10}{:>13}",
         "text", "bytes", "words", "lib", "rust", "lib/rust", "no Q", "lib/no Q", "lib ns/byte"
     );
     let mut all: Vec<Vec<Times>> = Vec::new();
@@ -106,6 +120,7 @@ fn bench() -> Result<(), ExitCode> {
     println!("largest ratio to this crate without the figure: {ratio:.2}, {name}");
     let (slowest, name) = most(&all, |times| times.ours);
     println!("slowest of the library: {:.2} ms, {name}", slowest * 1e3);
+    slowest_over_typical(library, &all, repetitions)?;
     println!("growth of the time from 1 to 8 KB, from 8 to 32 KB (8 and 4 would be in proportion)");
     for (sizes, each) in works.iter().zip(&all) {
         let by = |side: fn(&Times) -> f64, from: usize| side(&each[from + 1]) / side(&each[from]);

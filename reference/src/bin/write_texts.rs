@@ -1,19 +1,23 @@
-//! Writes the texts of `bench_texts` as files, for scripts/bench-before.
+//! Writes the texts of `bench_texts` as files, for scripts/bench-before and scripts/text-costs; with a size those of that size alone.
 //!
-//! write_texts FOLDER
+//! write_texts FOLDER [BYTES]
 #![forbid(unsafe_code)]
 
 use std::process::ExitCode;
 
-use reference::programs;
+use reference::{delays, programs};
 
 fn main() -> ExitCode {
     let Some(folder) = std::env::args().nth(1) else {
-        eprintln!("write_texts FOLDER");
+        eprintln!("write_texts FOLDER [BYTES]");
         return ExitCode::from(2);
     };
-    for text in programs::timed().into_iter().flatten() {
-        let file = format!("{folder}/{}-{}.ssl", text.name.replace([',', ' '], ""), text.text.len());
+    let bytes = std::env::args().nth(2).and_then(|bytes| bytes.parse::<usize>().ok());
+    for text in programs::timed().into_iter().flatten().chain(delays::all()) {
+        if bytes.is_some_and(|bytes| bytes != text.text.len()) {
+            continue;
+        }
+        let file = format!("{folder}/{}-{}.ssl", text.name.replace(", ", "-").replace(' ', "-"), text.text.len());
         if let Err(error) = std::fs::write(&file, &text.text) {
             eprintln!("{file}: {error}");
             return ExitCode::FAILURE;

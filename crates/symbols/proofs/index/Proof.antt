@@ -1,57 +1,50 @@
 -- `symbols::index` meets its contract.
-use mathlib.Core.Path.{_≡_, _∙_}
-use Prim.Native.Nat.{ℕ, _*_, _≤_}
-use native.Mathlib.Omega.{arith}
-use Rattle.symbols.specs.Index.{RowsKept}
-use Rattle.symbols.proofs.Indexing.{IndexedFrom, rows-same, rows-after, held-kept, index-none, index-all, index-at, mid-kept, row-kept, index-more}
+use borrow.Author.Needs.{needs}
+use Rattle.symbols.proofs.Indexing.{rows-after, held-kept}
 use Rattle.symbols.proofs.index.Statement.{statement}
 use Rattle.symbols.proofs.index.Tie as tie
 
-abbrev Inv-loop : tie.InvT-loop
-Inv-loop text rows₀ n i₀ rows i = (i ≤ n) × RowsKept rows₀ rows × IndexedFrom text rows (2 * i) n
+build-requires : tie.Need-build-requires
+build-requires c κs = search needs
 
-abbrev μ-loop : tie.MeasureT-loop
-μ-loop text rows₀ n i₀ rows i = i
+same-length : tie.Need-same-length
+same-length c = search needs
 
-clear-heads-requires : tie.Need-clear-heads-requires Inv-loop μ-loop
-clear-heads-requires c κs = c .before .before .before .pre .0
+returns : tie.Need-returns
+returns c = (c .before .before .before .build .ensures .0, (c .before .before .before .build .ensures .1, λ t. held-kept t (c .before .before .before .before .before .before .before .args .n) (c .before .before .before .build .ensures .1) (c .before .before .before .before .before .before .before .pre .1)))
 
-loop-holds : tie.Need-loop-holds Inv-loop μ-loop
-loop-holds c = (omega arith, rows-same _, index-none (c .before .before .before .before .before .before .args .text .now) _ (c .before .before .before .before .before .before .args .n) (c .before .before .clear-heads .ensures .1))
+longest-requires : tie.Need-longest-requires
+longest-requires c κs = search needs
 
-sub-i : tie.Need-sub-i Inv-loop μ-loop
-sub-i c = omega arith
+same-length-2 : tie.Need-same-length-2
+same-length-2 c = search needs
 
-push-second-requires : tie.Need-push-second-requires Inv-loop μ-loop
-push-second-requires c κs = ((c .before .before .loop .inv .1 .size ∙ (c .before .before .before .before .before .clear-heads .ensures .0 .size ∙ c .before .before .before .before .before .before .before .before .before .pre .0)), omega (arith, c .before .loop-test .taken, c .before .before .loop .inv .0, c .before .before .before .before .before .before .before .before .before .pre .1))
+returns-2 : tie.Need-returns-2
+returns-2 c = (c .before .before .before .before .before .before .build .ensures .0, (c .before .before .before .before .before .before .build .ensures .1, λ t. held-kept t (c .before .before .before .before .before .before .before .before .before .before .args .n) (c .before .before .before .before .before .before .build .ensures .1) (c .before .before .before .before .before .before .before .before .before .before .pre .1)))
 
-push-name-requires : tie.Need-push-name-requires Inv-loop μ-loop
-push-name-requires c κs = (mid-kept (c .before .before .before .before .before .before .before .before .before .before .before .before .before .args .text .now) (c .before .before .before .before .before .before .loop .i) (c .before .before .before .push-second .ensures) .size ∙ (c .before .before .before .before .before .before .loop .inv .1 .size ∙ (c .before .before .before .before .before .before .before .before .before .clear-heads .ensures .0 .size ∙ c .before .before .before .before .before .before .before .before .before .before .before .before .before .pre .0)), omega (arith, c .before .before .before .before .before .loop-test .taken, c .before .before .before .before .before .before .loop .inv .0, c .before .before .before .before .before .before .before .before .before .before .before .before .before .pre .1))
+best-key-requires : tie.Need-best-key-requires
+best-key-requires c κs = search needs
 
-loop-less : tie.Need-loop-less Inv-loop μ-loop
-loop-less c = omega arith
+build-requires-2 : tie.Need-build-requires-2
+build-requires-2 c κs = search needs
 
-loop-again : tie.Need-loop-again Inv-loop μ-loop
-loop-again c = (omega (arith, c .before .before .before .before .before .before .before .before .loop-test .taken, c .before .before .before .before .before .before .before .before .before .loop .inv .0), rows-after (c .before .before .before .before .before .before .before .before .before .loop .inv .1) (row-kept (c .before .before .before .before .before .before .before .before .before .before .before .before .before .before .before .before .args .text .now) (c .before .before .before .before .before .before .before .before .before .loop .i) (c .before .before .before .before .before .before .push-second .ensures) (c .before .before .push-name .ensures)), index-more (c .before .before .before .before .before .before .before .before .before .before .before .before .before .before .before .before .args .text .now) (c .before .before .before .before .before .before .before .before .before .loop .i) (c .before .before .before .before .before .before .push-second .ensures) (c .before .before .push-name .ensures) (c .before .before .before .before .before .before .before .before .loop-test .taken) (c .before .before .before .before .before .before .before .before .before .loop .inv .0) (c .before .before .before .before .before .before .before .before .before .before .before .before .before .before .before .before .pre .1) (c .before .before .before .before .before .before .before .before .before .loop .inv .1 .size ∙ (c .before .before .before .before .before .before .before .before .before .before .before .before .clear-heads .ensures .0 .size ∙ c .before .before .before .before .before .before .before .before .before .before .before .before .before .before .before .before .pre .0)) (c .before .before .before .before .before .before .before .before .before .loop .inv .2))
+same-length-3 : tie.Need-same-length-3
+same-length-3 c = search needs
 
-same-length : tie.Need-same-length Inv-loop μ-loop
-same-length c = c .before .loop .inv .1 .size ∙ c .before .before .before .before .clear-heads .ensures .0 .size
-
-returns : tie.Need-returns Inv-loop μ-loop
-returns c = (index-all (c .before .before .before .before .before .before .before .before .pre .1) (index-at (c .before .loop .inv .2) (omega (arith, c .loop-test .left))), (rows-after (c .before .before .before .before .clear-heads .ensures .0) (c .before .loop .inv .1), λ t. held-kept t (c .before .before .before .before .before .before .before .before .args .n) (rows-after (c .before .before .before .before .clear-heads .ensures .0) (c .before .loop .inv .1)) (c .before .before .before .before .before .before .before .before .pre .1)))
+returns-3 : tie.Need-returns-3
+returns-3 c = let r = rows-after (c .before .before .before .before .before .before .before .before .before .before .before .before .before .before .build .ensures .1) (rows-after (c .before .before .before .before .before .before .best-key .ensures .1) (c .before .before .build2 .ensures .1)) in (c .before .before .build2 .ensures .0, (r, λ t. held-kept t (c .before .before .before .before .before .before .before .before .before .before .before .before .before .before .before .before .before .before .args .n) r (c .before .before .before .before .before .before .before .before .before .before .before .before .before .before .before .before .before .before .pre .1)))
 
 pub index-spec : {M : Type 1} → statement M
 index-spec =
     tie.close
     (tie.spec
-    Inv-loop
-    μ-loop
-    clear-heads-requires
-    loop-holds
-    sub-i
-    push-second-requires
-    push-name-requires
-    loop-less
-    loop-again
+    build-requires
     same-length
-    returns)
+    returns
+    longest-requires
+    same-length-2
+    returns-2
+    best-key-requires
+    build-requires-2
+    same-length-3
+    returns-3)

@@ -2,7 +2,7 @@
 use mathlib.Core.Path.{_≡_, sym, _∙_}
 use Prim.Native.Nat.{_-_, _%_, _<_}
 use native.Mathlib.Omega.{arith}
-use Rattle.symbols.specs.Index.{bucketOf}
+use Rattle.symbols.specs.Index.{bucketOf, keyOf}
 use Rattle.symbols.specs.Search.{part}
 use Rattle.symbols.proofs.Along.{Along, along-start, along-end, along-past, along-hit, along-miss, nodes-left, declared-among}
 use Rattle.symbols.proofs.Parts.{bucket-low}
@@ -20,7 +20,7 @@ first-node-requires : tie.Need-first-node-requires Inv-loop μ-loop
 first-node-requires c κs = tt
 
 loop-holds : tie.Need-loop-holds Inv-loop μ-loop
-loop-holds c = (c .first-node .ensures .1, along-start (by-word (part (c .before .before .before .args .text .now) (c .before .before .before .args .start) (c .before .before .before .args .len))) (c .before .before .before .args .text .now) (c .before .before .before .args .rows .now) (c .before .before .before .args .n) (bucketOf (part (c .before .before .before .args .text .now) (c .before .before .before .args .start) (c .before .before .before .args .len))) _ (c .before .before .before .pre .indexed) (bucket-low (part (c .before .before .before .args .text .now) (c .before .before .before .args .start) (c .before .before .before .args .len))) (c .first-node .ensures .0) (λ j l e. declared-among (c .before .before .before .pre .indexed) (part (c .before .before .before .args .text .now) (c .before .before .before .args .start) (c .before .before .before .args .len)) j l e))
+loop-holds c = (c .first-node .ensures .1, along-start (by-word (part (c .before .before .before .args .text .now) (c .before .before .before .args .start) (c .before .before .before .args .len))) (c .before .before .before .args .text .now) (c .before .before .before .args .rows .now) (c .before .before .before .args .n) (bucketOf (keyOf (c .before .before .before .args .rows .now)) (part (c .before .before .before .args .text .now) (c .before .before .before .args .start) (c .before .before .before .args .len))) _ (c .before .before .before .pre .indexed) (bucket-low (keyOf (c .before .before .before .args .rows .now)) (part (c .before .before .before .args .text .now) (c .before .before .before .args .start) (c .before .before .before .args .len))) (c .first-node .ensures .0) (λ j l e. declared-among (c .before .before .before .pre .indexed) (part (c .before .before .before .args .text .now) (c .before .before .before .args .start) (c .before .before .before .args .len)) j l e))
 
 sub-i : tie.Need-sub-i Inv-loop μ-loop
 sub-i c = let d : (c .before .loop .p ≡ 0 → ⊥) = c .loop-test .taken in omega arith

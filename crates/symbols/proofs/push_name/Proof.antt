@@ -35,7 +35,7 @@ same-length : tie.Need-same-length
 same-length c = search needs
 
 returns : tie.Need-returns
-returns c = name-pushed (c .before .before .before .before .before .before .before .before .before .before .before .args .text .now) (c .before .before .before .before .before .before .before .before .before .before .before .args .rows .now) _ (c .before .before .before .before .before .before .before .before .before .before .before .args .i) _ _ _ (c .before .before .before .before .before .before .before .number .ensures .0) (c .before .before .before .before .before .number2 .ensures .0) (c .before .before .before .before .bucket .ensures .0) (c .before .before .push-node .ensures)
+returns c = name-pushed _ (c .before .before .before .before .before .before .before .before .before .before .before .args .text .now) (c .before .before .before .before .before .before .before .before .before .before .before .args .rows .now) _ (c .before .before .before .before .before .before .before .before .before .before .before .args .i) _ _ _ (c .before .before .before .before .before .before .before .number .ensures .0) (c .before .before .before .before .before .number2 .ensures .0) (c .before .before .before .before .bucket .ensures .0) (c .before .before .push-node .ensures)
 
 pub push-name-spec : {M : Type 1} → statement M
 push-name-spec =

@@ -17,7 +17,7 @@ same-length : tie.Need-same-length
 same-length c = search needs
 
 returns : tie.Need-returns
-returns c = second-none (c .before .before .before .before .before .args .text .now) (c .before .before .before .before .before .args .rows .now) (c .before .before .before .before .before .args .i) _ (c .before .number .ensures .0) (c .if1 .taken)
+returns c = second-none _ (c .before .before .before .before .before .args .text .now) (c .before .before .before .before .before .args .rows .now) (c .before .before .before .before .before .args .i) _ (c .before .number .ensures .0) (c .if1 .taken)
 
 mul-number-2 : tie.Need-mul-number-2
 mul-number-2 c = search needs
@@ -44,7 +44,7 @@ same-length-2 : tie.Need-same-length-2
 same-length-2 c = search needs
 
 returns-2 : tie.Need-returns-2
-returns-2 c = second-some (c .before .before .before .before .before .before .before .before .before .before .before .before .args .text .now) (c .before .before .before .before .before .before .before .before .before .before .before .before .args .rows .now) _ (c .before .before .before .before .before .before .before .before .before .before .before .before .args .i) _ _ _ (c .before .before .before .before .before .before .before .before .number .ensures .0) (c .before .before .before .before .before .before .before .if1 .left) (c .before .before .before .before .before .number2 .ensures .0) (c .before .before .before .before .bucket .ensures .0) (c .before .before .push-node .ensures)
+returns-2 c = second-some _ (c .before .before .before .before .before .before .before .before .before .before .before .before .args .text .now) (c .before .before .before .before .before .before .before .before .before .before .before .before .args .rows .now) _ (c .before .before .before .before .before .before .before .before .before .before .before .before .args .i) _ _ _ (c .before .before .before .before .before .before .before .before .number .ensures .0) (c .before .before .before .before .before .before .before .if1 .left) (c .before .before .before .before .before .number2 .ensures .0) (c .before .before .before .before .bucket .ensures .0) (c .before .before .push-node .ensures)
 
 pub push-second-spec : {M : Type 1} → statement M
 push-second-spec =

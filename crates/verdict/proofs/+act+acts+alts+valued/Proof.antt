@@ -4,9 +4,10 @@ use mathlib.Core.List.{List}
 use native.Mathlib.Omega.{arith}
 use borrow.Author.Needs.{needs}
 use lib.ListN.{length, take, drop, getD}
+use Rattle.base.specs.Common.{member as listed}
 use Rattle.program.specs.Program.{Acts, Alts, Other}
 use Rattle.verdict.specs.Lies.{labelled, LiesAll, LiesRest}
-use Rattle.verdict.specs.Told.{knownIn}
+use Rattle.verdict.specs.Told.{someIn, knownIn}
 use Rattle.verdict.proofs.Scan.{cycle-told, rule-told, choice-told, heads-some, leaf-act, Left, left-start, left-step, left-done, Rest, rest-start, rest-step, rest-closed, rest-other, RestBy, by-start, by-step, by-closed, by-other, unnamed-same, nonzero-lt}
 use Prim.Native.Nat.{ℕ, _<_, _≤_, _-_, _*_, _+_}
 use borrow.Fn.Kinds.{In}
@@ -38,6 +39,8 @@ use Rattle.verdict.proofs.simple.Reads as simple-reads
 use Rattle.verdict.proofs.then.Reads as then-reads
 use Rattle.verdict.proofs.unnamed.Reads as unnamed-reads
 use Rattle.base.proofs.wide.Reads as wide-reads
+use Rattle.verdict.proofs.worth.Reads as worth-reads
+use Rattle.verdict.proofs.Worthy.{worth-few, either-worth}
 use Rattle.verdict.proofs.+act+acts+alts+valued.{statement}
 use Rattle.verdict.proofs.+act+acts+alts+valued.Tie.{close}
 
@@ -87,7 +90,7 @@ abbrev alts-claims : ℕ → alts-lts.Claims
 alts-claims t = (simple-reads.Asked, simple-reads.Learnt, number-reads.Asked, number-reads.Learnt, ahead-reads.Asked, ahead-reads.Learnt, acts-below t, acts.Post, either-reads.Asked, either-reads.Learnt, placed-reads.Asked, placed-reads.Learnt)
 
 abbrev valued-claims : ℕ → valued-lts.Claims
-valued-claims t = (simple-reads.Asked, simple-reads.Learnt, number-reads.Asked, number-reads.Learnt, ahead-reads.Asked, ahead-reads.Learnt, collected-reads.Asked, collected-reads.Learnt, acts-below t, acts.Post, opened-reads.Asked, opened-reads.Learnt, either-reads.Asked, either-reads.Learnt, unnamed-reads.Asked, unnamed-reads.Learnt, placed-reads.Asked, placed-reads.Learnt)
+valued-claims t = (simple-reads.Asked, simple-reads.Learnt, number-reads.Asked, number-reads.Learnt, ahead-reads.Asked, ahead-reads.Learnt, collected-reads.Asked, collected-reads.Learnt, acts-below t, acts.Post, worth-reads.Asked, worth-reads.Learnt, opened-reads.Asked, opened-reads.Learnt, either-reads.Asked, either-reads.Learnt, unnamed-reads.Asked, unnamed-reads.Learnt, placed-reads.Asked, placed-reads.Learnt)
 
 act-number-requires : (t : ℕ) → act-lts.Need-number-requires (act-claims t) (act-at t) act.Post
 act-number-requires t c κs = tt
@@ -315,8 +318,11 @@ valued-acts-requires t c κs =
     let m = c .before .before .before .before .ahead .ensures .1 .0 (omega arith) l in
     (omega (arith, c .before .before .before .ahead2 .ensures .0 .0), (omega (arith, c .before .before .before .ahead2 .ensures .0 .1), c .before .before .before .before .before .before .before .before .before .before .before .before .pre .1 .1))
 
+valued-worth-requires : (t : ℕ) → valued-lts.Need-worth-requires (valued-claims t) (valued-at t) valued.Post valued-Inv-loop valued-μ-loop
+valued-worth-requires t c κs = tt
+
 valued-opened-requires : (t : ℕ) → valued-lts.Need-opened-requires (valued-claims t) (valued-at t) valued.Post valued-Inv-loop valued-μ-loop
-valued-opened-requires t c κs = (c .before .before .before .before .ahead2 .ensures .0 .0, c .before .before .before .before .ahead2 .ensures .0 .1, c .before .before .before .before .before .before .before .before .before .before .before .before .before .pre .1 .1)
+valued-opened-requires t c κs = (c .before .before .before .before .before .ahead2 .ensures .0 .0, c .before .before .before .before .before .ahead2 .ensures .0 .1, worth-few (c .worth .ensures) (c .before .before .before .before .before .before .before .before .before .before .before .before .before .before .pre .1 .1))
 
 valued-either-requires : (t : ℕ) → valued-lts.Need-either-requires (valued-claims t) (valued-at t) valued.Post valued-Inv-loop valued-μ-loop
 valued-either-requires t c κs = tt
@@ -326,21 +332,21 @@ valued-number-requires-2 t c κs = tt
 
 valued-loop-less : (t : ℕ) → valued-lts.Need-loop-less (valued-claims t) (valued-at t) valued.Post valued-Inv-loop valued-μ-loop
 valued-loop-less t c =
-    let l = nonzero-lt (c .before .before .before .before .before .before .before .before .before .before .before .before .before .before .before .before .args .cells .now) (c .before .before .before .before .before .before .before .before .before .before .loop .i) (λ e. omega (arith, c .before .before .before .before .before .before .before .before .before .before .loop .inv .2)) in
-    let m = c .before .before .before .before .before .before .before .before .ahead .ensures .1 .0 (omega arith) l in
-    let s = c .before .before .before .acts .ensures in
-    omega (arith, s .after, s .within, c .before .before .before .before .before .before .before .ahead2 .ensures .0 .0)
+    let l = nonzero-lt (c .before .before .before .before .before .before .before .before .before .before .before .before .before .before .before .before .before .args .cells .now) (c .before .before .before .before .before .before .before .before .before .before .before .loop .i) (λ e. omega (arith, c .before .before .before .before .before .before .before .before .before .before .before .loop .inv .2)) in
+    let m = c .before .before .before .before .before .before .before .before .before .ahead .ensures .1 .0 (omega arith) l in
+    let s = c .before .before .before .before .acts .ensures in
+    omega (arith, s .after, s .within, c .before .before .before .before .before .before .before .before .ahead2 .ensures .0 .0)
 
 valued-loop-again : (t : ℕ) → valued-lts.Need-loop-again (valued-claims t) (valued-at t) valued.Post valued-Inv-loop valued-μ-loop
 unfolding knownIn
 valued-loop-again t c =
-    let I = c .before .before .before .before .before .before .before .before .before .before .loop .inv in
-    let A = c .before .before .before .before .before .before .before .before .ahead .ensures in
-    let B = c .before .before .before .before .before .before .before .ahead2 .ensures in
-    let s = c .before .before .before .acts .ensures in
-    let z : 64 ≤ getD (c .before .before .before .before .before .before .before .before .before .before .before .before .before .before .before .before .args .cells .now) (c .before .before .before .before .before .before .before .before .before .before .loop .i) 0 = omega (arith, I .2) in
-    let e : length (c .before .before .before .before .before .collected .last .1 .1 .1 .0) ≡ 64 = search needs in
-    (omega (arith, A .0 .0, B .0 .0, s .after), s .within, c .number2 .ensures .0, omega (arith, c .before .before .before .before .before .collected .ensures .0, e), e, λ q o k g l. by-step (c .before .before .before .before .before .before .before .before .before .before .before .before .before .before .before .before .args .wanted .now) (c .before .before .before .before .before .before .before .before .before .before .before .before .before .before .before .before .args .cells .now) (c .before .before .before .before .before .before .before .before .before .before .loop .i) (knownIn (c .before .before .before .before .before .before .before .before .before .before .before .before .before .before .before .before .args .known .passed) (c .before .before .before .before .before .before .before .before .before .before .before .before .before .before .before .before .args .facts .now) (c .before .before .before .before .before .before .before .before .before .before .before .before .before .before .before .before .args .known .count)) (c .before .before .before .before .before .before .before .before .before .before .before .before .before .before .before .before .args .r) (c .before .before .opened .result) (c .before .before .before .before .before .before .before .before .before .before .loop .w) (c .before .before .before .acts .result) (c .before .either .result) (c .before .before .before .before .before .before .before .before .ahead .result) (c .before .before .before .before .before .before .before .ahead2 .result) (take (c .before .before .before .before .before .before .before .before .before .before .loop .n) (c .before .before .before .before .before .before .before .before .before .before .loop .labels)) _ (c .before .before .before .before .before .before .before .before .before .before .loop .n) (c .before .before .before .before .before .collected .result) q o k z (A .1 .1) (rw (I .2) at (B .1 .1)) (B .0 .0) (B .0 .1) (c .before .before .opened .ensures) (λ h. c .before .before .before .before .before .collected .ensures .1 .all (rw (I .4) h)) s (c .before .either .ensures) (I .5 q o k g l))
+    let I = c .before .before .before .before .before .before .before .before .before .before .before .loop .inv in
+    let A = c .before .before .before .before .before .before .before .before .before .ahead .ensures in
+    let B = c .before .before .before .before .before .before .before .before .ahead2 .ensures in
+    let s = c .before .before .before .before .acts .ensures in
+    let z : 64 ≤ getD (c .before .before .before .before .before .before .before .before .before .before .before .before .before .before .before .before .before .args .cells .now) (c .before .before .before .before .before .before .before .before .before .before .before .loop .i) 0 = omega (arith, I .2) in
+    let e : length (c .before .before .before .before .before .before .collected .last .1 .1 .1 .0) ≡ 64 = search needs in
+    (omega (arith, A .0 .0, B .0 .0, s .after), s .within, c .number2 .ensures .0, omega (arith, c .before .before .before .before .before .before .collected .ensures .0, e), e, λ q o k g l. by-step (c .before .before .before .before .before .before .before .before .before .before .before .before .before .before .before .before .before .args .wanted .now) (c .before .before .before .before .before .before .before .before .before .before .before .before .before .before .before .before .before .args .cells .now) (c .before .before .before .before .before .before .before .before .before .before .before .loop .i) (knownIn (c .before .before .before .before .before .before .before .before .before .before .before .before .before .before .before .before .before .args .known .passed) (c .before .before .before .before .before .before .before .before .before .before .before .before .before .before .before .before .before .args .facts .now) (c .before .before .before .before .before .before .before .before .before .before .before .before .before .before .before .before .before .args .known .count)) (c .before .before .before .before .before .before .before .before .before .before .before .before .before .before .before .before .before .args .r) (someIn (c .before .before .before .before .before .before .before .before .before .before .before .before .before .before .before .before .before .args .facts .now) (c .before .before .before .before .before .before .before .before .before .before .before .before .before .before .before .before .before .args .known .count) (c .before .before .before .before .before .before .before .before .before .before .before .before .before .before .before .before .before .args .r) (λ v. listed v (take (c .before .before .before .before .before .before .before .before .ahead2 .result - c .before .before .before .before .before .before .before .before .before .ahead .result) (drop (c .before .before .before .before .before .before .before .before .before .ahead .result) (c .before .before .before .before .before .before .before .before .before .before .before .before .before .before .before .before .before .args .cells .now))))) (c .before .before .before .before .before .before .before .before .before .before .before .loop .w) (c .before .before .before .before .acts .result) (c .before .either .result) (c .before .before .before .before .before .before .before .before .before .ahead .result) (c .before .before .before .before .before .before .before .before .ahead2 .result) (take (c .before .before .before .before .before .before .before .before .before .before .before .loop .n) (c .before .before .before .before .before .before .before .before .before .before .before .loop .labels)) _ (c .before .before .before .before .before .before .before .before .before .before .before .loop .n) (c .before .before .before .before .before .before .collected .result) q o k z (A .1 .1) (rw (I .2) at (B .1 .1)) (B .0 .0) (B .0 .1) refl (λ h. c .before .before .before .before .before .before .collected .ensures .1 .all (rw (I .4) h)) s (either-worth (c .before .before .before .before .before .before .before .before .before .before .before .before .before .before .before .before .before .args .r) (c .before .before .before .before .before .before .before .before .before .before .before .before .before .before .before .before .before .args .facts .now) (λ v. listed v (take (c .before .before .before .before .before .before .before .before .ahead2 .result - c .before .before .before .before .before .before .before .before .before .ahead .result) (drop (c .before .before .before .before .before .before .before .before .before .ahead .result) (c .before .before .before .before .before .before .before .before .before .before .before .before .before .before .before .before .before .args .cells .now)))) (c .before .before .before .worth .ensures) (c .before .before .opened .ensures) (c .before .either .ensures)) (I .5 q o k g l))
 
 valued-slice-aggregate-unnamed : (t : ℕ) → valued-lts.Need-slice-aggregate-unnamed (valued-claims t) (valued-at t) valued.Post valued-Inv-loop valued-μ-loop
 valued-slice-aggregate-unnamed t c = search needs
@@ -437,6 +443,7 @@ pub +act+acts+alts+valued-spec : {M : Type 1} → statement M
     (valued-slice-aggregate-collected t)
     (valued-collected-requires t)
     (valued-acts-requires t)
+    (valued-worth-requires t)
     (valued-opened-requires t)
     (valued-either-requires t)
     (valued-number-requires-2 t)
