@@ -2,3 +2,4 @@
 pub mod Hold
 pub mod Agree
 pub mod Before
+pub mod Limits

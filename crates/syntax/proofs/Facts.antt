@@ -418,26 +418,10 @@ labels =
 -- "Limits: 128 rules, 512 names of entries, types and rules, 256 operations a kind" (R7, R9); "Text over 32,768 bytes is 9 before all else"
 pub many : List Line
 many =
-    fineOf (bytes "rules " ++ (times 128 "r:;" ++ bytes "end"))
-    ∷ atOf (bytes "rules " ++ (times 128 "r:;" ++ bytes "^q $")) 9 1
-    ∷ atOf (bytes "rules " ++ (times 128 "r:;" ++ bytes "^q >> abcdefghijklmnopqrstuvwxyz1234567:;end")) 9 1
-    ∷ atOf (bytes "rules " ++ (times 128 "r:;" ++ bytes "^; end")) 2 1
-    ∷ fineOf (bytes "type t:v;mechanism m:f;mechanism n:g;input:a'x'" ++ (times 506 "a " ++ bytes ";rules M:;end"))
-    ∷ atOf (bytes "type t:v;mechanism m:f;mechanism n:g;input:a'x'" ++ (times 506 "a " ++ bytes ";rules M:;^N:;end")) 9 1
-    ∷ fineOf (bytes "output:a;error:a;input output:a;input:" ++ (times 508 "a " ++ bytes ";rules M:;end"))
-    ∷ atOf (bytes "output:a;error:a;input output:a;input:" ++ (times 508 "a " ++ bytes ";rules M:;^N:;end")) 9 1
-    ∷ atOf (bytes "operators E:a 1 left a;input:" ++ (times 510 "a " ++ bytes ";rules M:;^N:;end")) 9 1
-    ∷ atOf (bytes "input:" ++ (times 512 "a " ++ bytes ";operators ^E $")) 9 1
+    atOf (bytes "rules " ++ (times 128 "r:;" ++ bytes "^q $")) 9 1
     ∷ atOf (bytes "input:" ++ (times 512 "a " ++ bytes ";type ^t $")) 9 1
-    ∷ atOf (bytes "input:" ++ (times 511 "a " ++ bytes ";type t:^v;")) 9 1
-    ∷ atOf (bytes "input:" ++ (times 512 "a " ++ bytes ";mechanism m:^f")) 9 1
     ∷ atOf (bytes "input:" ++ (times 512 "a " ++ bytes ";mechanism m:^f(abcdefghijklmnopqrstuvwxyz1234567);")) 9 1
-    ∷ atOf (bytes "input:" ++ (times 512 "a " ++ bytes "^b = 65536;")) 9 1
-    ∷ atOf (bytes "input:" ++ (times 512 "a " ++ bytes "^)")) 2 1
     ∷ atOf (bytes "mechanism m:" ++ (times 200 "f " ++ (bytes ";mechanism m:" ++ (times 56 "f " ++ bytes "^g;")))) 9 1
-    ∷ fineOf (bytes "mechanism m:" ++ (times 256 "f " ++ bytes "g(t) g>>t g(t)>>t;rules M:;end"))
-    ∷ atOf (bytes "mechanism m:" ++ (times 256 "f>>t " ++ bytes "^g >> $")) 9 1
-    ∷ atOf (bytes "mechanism m:" ++ (times 256 "f(t) " ++ bytes "^g(abcdefghijklmnopqrstuvwxyz1234567);")) 9 1
     ∷ record { text = replicate 32768 (code "$"); outcome = stops 1 0 1 }
     ∷ record { text = replicate 32769 (code "$"); outcome = stops 9 32769 0 }
     ∷ []
