@@ -66,6 +66,12 @@ pub struct Part {
     pub len: usize,
 }
 
+// A use of operators that was found: its name, and the place behind its `^`, where the uses behind it begin.
+pub struct FirstUse {
+    pub name: Part,
+    pub next: usize,
+}
+
 // How many cells and rules there are.
 pub struct Made {
     pub count: usize,
@@ -352,6 +358,13 @@ fn name_of(text: &[u8], w: WordAt) -> Part
     }
 }
 
+fn not_found(at: usize) -> FirstUse
+    ensures { λ r. ⌜ r .next ≡ at ⌝ }
+{
+    let name = Part { start: 0, len: 0 };
+    FirstUse { name, next: at }
+}
+
 // The first use of a section and an operand rule, by their declarations, in the rules from the place `at` on.
 pub fn first_use(
     text: &[u8],
@@ -360,7 +373,7 @@ pub fn first_use(
     at: usize,
     section: usize,
     operand: usize,
-) -> Part
+) -> FirstUse
     requires { ⌜ (at ≤ length (now text)) × Kept (now text) (now rows) n ⌝ }
     ensures { λ r. ⌜ FirstDone (now (text .entry)) (now (rows .entry)) n at section operand r ⌝ }
 {
@@ -368,13 +381,14 @@ pub fn first_use(
     loop {
         let w = scanner::next_word(text, i);
         if w.kind < words::FIRST_WORD {
-            return Part { start: 0, len: 0 };
+            return not_found(i);
         }
         if w.kind == words::END {
-            return Part { start: 0, len: 0 };
+            return not_found(i);
         }
         if is_use_of(text, rows, n, w, section, operand) {
-            return name_of(text, w);
+            let name = name_of(text, w);
+            return FirstUse { name, next: w.next };
         }
         i = w.next;
     }

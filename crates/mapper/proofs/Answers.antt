@@ -114,7 +114,7 @@ module _ {text rows : List ℕ} (cells sorts places : List ℕ) {b : Resolved} (
 
   -- the words of the rules made stand behind those of the rules written
   behind-them : (old : List ℕ) {mid new : List ℕ} → b .rules ≤ length old / 24 → b .rules ≤ length places → mid ≡ over (bytesOf (rowsWords (heldRows text rows places (b .first) 0 (b .written)))) old
-      → MadePut text rows b 0 (b .written) places mid new → new ≡ over (bytesOf (rowsWords (allRows prog names p))) old
+      → MadePut text rows b 0 (b .written) (b .body) places mid new → new ≡ over (bytesOf (rowsWords (allRows prog names p))) old
   behind-them old {mid} {new} l few e put =
       let n : b .written ≡ length (p .rules) = rowed .number in
       let own : List Row = rowsFrom prog 0 (p .rules) in
@@ -135,7 +135,7 @@ module _ {text rows : List ℕ} (cells sorts places : List ℕ) {b : Resolved} (
       ∙ ap (λ (w : List ℕ). over (bytesOf w) old) (sym (rows-append own made))
 
   pub held-whole : {old mid new : List ℕ} → size ≤ 4096 → b .rules ≤ length old / 24 → b .rules ≤ length places → mid ≡ over (bytesOf (rowsWords (heldRows text rows places (b .first) 0 (b .written)))) old
-      → MadePut text rows b 0 (b .written) places mid new → Maps (mapOf (rowsOf p (good names) (good prog)) (roomIn old) (answerFor text 4096 (meaning prog))) 0 (b .rules) old new
+      → MadePut text rows b 0 (b .written) (b .body) places mid new → Maps (mapOf (rowsOf p (good names) (good prog)) (roomIn old) (answerFor text 4096 (meaning prog))) 0 (b .rules) old new
   unfolding roomIn numbersOf lentRows rowsOf
   held-whole {old} {mid} {new} h l few e put =
       let a = map-whole text prog (allRows prog names p) (length old / 24) (omega (arith, sized, h)) (omega (arith, counted, l)) in

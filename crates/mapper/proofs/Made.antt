@@ -7,7 +7,9 @@ use lib.ListN.{length, getD, length-append}
 use Rattle.declarations.specs.Decls.{Decl}
 use Rattle.frontend.specs.declared.Resolved.{Resolved}
 use mathlib.Core.Option.{some}
-use Rattle.levels.specs.Naming.{AllFirst, FirstDone, Names, firstUse}
+use Rattle.levels.proofs.Naming.{named-behind, ordered-behind}
+use Rattle.levels.specs.Naming.{AllFirst, FirstDone, Found, Names, behindFirst, firstUse}
+use Rattle.levels.specs.declared.FirstUse.{FirstUse}
 use Rattle.levels.specs.declared.Part.{Part}
 use Rattle.machine.specs.Bytes.{bytesOf, over}
 use Rattle.maker.specs.Marks.{marks}
@@ -168,7 +170,7 @@ operand-at : (rows : List ℕ) (j : ℕ) → pairAt rows j .operand ≡ getD row
 unfolding pairAt
 operand-at rows j = refl
 
-first-of : (ds : List Decl) (all : List Use) (u : Use) (us : List Use) → AllFirst ds all (u ∷ us) → (firstUse ds (sectionRow ds u) (operandRow ds u) all ≡ some u) × AllFirst ds all us
+first-of : (ds : List Decl) (all : List Use) (u : Use) (us : List Use) → AllFirst ds all (u ∷ us) → (firstUse ds (sectionRow ds u) (operandRow ds u) all ≡ some u) × AllFirst ds (behindFirst ds (sectionRow ds u) (operandRow ds u) all) us
 unfolding AllFirst
 first-of ds all u us h = h
 
@@ -177,8 +179,8 @@ part-is n = let a = n .start in let b = n .len in cc
 
 -- The loop
 
-pub made-end : {text rows : List ℕ} {b : Resolved} {j k : ℕ} {places out : List ℕ} → getD rows 5632 0 ≤ j → MadePut text rows b j k places out out
-made-end {text} {rows} {b} {j} {k} {places} {out} h = record {
+pub made-end : {text rows : List ℕ} {b : Resolved} {j k at : ℕ} {places out : List ℕ} → getD rows 5632 0 ≤ j → MadePut text rows b j k at places out out
+made-end {text} {rows} {b} {j} {k} {at} {places} {out} h = record {
   puts = λ names prog us e nm or first total f.
       let z = none-left rows j (getD rows 5632 0 - j) names (held text rows (b .declared)) k us (omega (arith, h)) e in
       subst (λ w. Puts out out (12 * k) w) (sym (ap (λ xs. rowsWords (madeRows prog names k xs)) z ∙ ap rowsWords (made-none prog names k) ∙ no-rows)) puts-none;
@@ -201,33 +203,42 @@ module _ (text rows : List ℕ) (b : Resolved) (j k end : ℕ) (inside : j < get
       end-is left prog names ds (k + levels names (s .used)) (s .later) ends (omega (arith, inside)) (s .others) (omega (arith, total, l))
 
   -- a pair does not end before it begins
-  pub made-never : {places out : List ℕ} → end < k → MadePut text rows b j k places out out
+  pub made-never : {at : ℕ} {places out : List ℕ} → end < k → MadePut text rows b j k at places out out
   made-never h = record { puts = λ names prog us e nm or first total f. absurd (omega (arith, h, ended names prog us (split names us e) total)) }
 
-  pub made-next : {places out out₁ out′ : List ℕ} {section operand : ℕ} {part : Part} → FirstDone text rows (b .declared) (b .body) section operand part → section ≡ getD rows (5633 + 3 * j) 0
-      → operand ≡ getD rows (5634 + 3 * j) 0 → Puts out out₁ (12 * k) (rowsWords (levelsHeld (part .start) (part .len) places k (end - k))) → MadePut text rows b (j + 1) end places out₁ out′
-      → MadePut text rows b j k places out out′
-  made-next {places} {out} {out₁} {out′} {section} {operand} {part} found e₁ e₂ put more = record { puts = go }
+  -- those from a place on
+  abbrev uses : ℕ → List Use
+  uses at = marks (wordsAt text at)
+
+  -- the pair's first use among those from the place `at` on, and the later pairs' among those behind it
+  pub made-next : {at : ℕ} {places out out₁ out′ : List ℕ} {section operand : ℕ} {r : FirstUse} → FirstDone text rows (b .declared) at section operand r → section ≡ getD rows (5633 + 3 * j) 0
+      → operand ≡ getD rows (5634 + 3 * j) 0 → Puts out out₁ (12 * k) (rowsWords (levelsHeld (r .name .start) (r .name .len) places k (end - k))) → MadePut text rows b (j + 1) end (r .next) places out₁ out′
+      → MadePut text rows b j k at places out out′
+  made-next {at} {places} {out} {out₁} {out′} {section} {operand} {r} done e₁ e₂ put more = record { puts = go }
     where
-      go : (names : known.Names) (prog : List Rule) (us : List Use) → pairsFrom rows j (getD rows 5632 0 - j) ≡ pairsMean names ds k us → AllNamed (marks (wordsAt text (b .body)))
-          → AllOrdered ds (marks (wordsAt text (b .body))) → AllFirst ds (marks (wordsAt text (b .body))) us → k + length (madeRows prog names k us) ≡ b .rules
-          → ((r : ℕ) → r < b .rules → getD places r 0 ≡ place 1 prog r) → Puts out out′ (12 * k) (rowsWords (madeRows prog names k us))
+      go : (names : known.Names) (prog : List Rule) (us : List Use) → pairsFrom rows j (getD rows 5632 0 - j) ≡ pairsMean names ds k us → AllNamed (uses at) → AllOrdered ds (uses at) → AllFirst ds (uses at) us
+          → k + length (madeRows prog names k us) ≡ b .rules → ((r : ℕ) → r < b .rules → getD places r 0 ≡ place 1 prog r) → Puts out out′ (12 * k) (rowsWords (madeRows prog names k us))
       go names prog us e nm or first total f =
           let s = split names us e in
           let n : ℕ = levels names (s .used) in
           let q : end ≡ k + n = ended names prog us s total in
-          let firsts = first-of ds (marks (wordsAt text (b .body))) (s .used) (s .later) (subst (λ xs. AllFirst ds (marks (wordsAt text (b .body))) xs) (s .are) first) in
+          let firsts = first-of ds (uses at) (s .used) (s .later) (subst (λ xs. AllFirst ds (uses at) xs) (s .are) first) in
           let a : section ≡ sectionRow ds (s .used) = e₁ ∙ sym (section-at rows j) ∙ ap (λ (x : Pair). x .section) (s .pair) in
           let o : operand ≡ operandRow ds (s .used) = e₂ ∙ sym (operand-at rows j) ∙ ap (λ (x : Pair). x .operand) (s .pair) in
-          let name : Names (s .used) part = found .names nm or (s .used) (ap (λ x. firstUse ds x operand (marks (wordsAt text (b .body)))) a ∙ ap (λ x. firstUse ds (sectionRow ds (s .used)) x (marks (wordsAt text (b .body)))) o ∙ firsts .0) in
+          let found : Found text (s .used) (behindFirst ds section operand (uses at)) r = done .found nm or (s .used) (ap (λ x. firstUse ds x operand (uses at)) a ∙ ap (λ x. firstUse ds (sectionRow ds (s .used)) x (uses at)) o ∙ firsts .0) in
+          let later : behindFirst ds (sectionRow ds (s .used)) (operandRow ds (s .used)) (uses at) ≡ uses (r .next) =
+          sym (found .behind ∙ ap (λ x. behindFirst ds x operand (uses at)) a ∙ ap (λ x. behindFirst ds (sectionRow ds (s .used)) x (uses at)) o) in
+          let nm′ : AllNamed (uses (r .next)) = subst (λ xs. AllNamed xs) later (named-behind ds (sectionRow ds (s .used)) (operandRow ds (s .used)) (uses at) nm) in
+          let or′ : AllOrdered ds (uses (r .next)) = subst (λ xs. AllOrdered ds xs) later (ordered-behind ds (sectionRow ds (s .used)) (operandRow ds (s .used)) (uses at) or) in
+          let first′ : AllFirst ds (uses (r .next)) (s .later) = subst (λ xs. AllFirst ds xs (s .later)) later (firsts .1) in
           let l : length (madeRows prog names k us) ≡ n + length (madeRows prog names (k + n) (s .later)) = ap (λ xs. length (madeRows prog names k xs)) (s .are) ∙ made-long prog names k (s .used) (s .later) in
           let z : end - k ≡ n = omega (arith, q) in
-          let own : levelsHeld (part .start) (part .len) places k (end - k) ≡ levelRows prog (s .used) k n =
-          ap (λ m. levelsHeld (part .start) (part .len) places k m) z ∙ levels-are (part .start) (part .len) places prog (s .used) k n (part-is name) (λ r h. f r (omega (arith, h, total, l))) in
+          let own : levelsHeld (r .name .start) (r .name .len) places k (end - k) ≡ levelRows prog (s .used) k n =
+          ap (λ m. levelsHeld (r .name .start) (r .name .len) places k m) z ∙ levels-are (r .name .start) (r .name .len) places prog (s .used) k n (part-is (found .names)) (λ r h. f r (omega (arith, h, total, l))) in
           let put′ : Puts out out₁ (12 * k) (rowsWords (levelRows prog (s .used) k n)) = subst (λ (x : List Row). Puts out out₁ (12 * k) (rowsWords x)) own put in
           let one : suc j ≡ j + 1 = omega arith in
           let rest : Puts out₁ out′ (12 * end) (rowsWords (madeRows prog names end (s .later))) =
-          more .puts names prog (s .later) (ap (λ i. pairsFrom rows i left) (sym one) ∙ s .others ∙ ap (λ i. pairsMean names ds i (s .later)) (sym q)) nm or (firsts .1)
+          more .puts names prog (s .later) (ap (λ i. pairsFrom rows i left) (sym one) ∙ s .others ∙ ap (λ i. pairsMean names ds i (s .later)) (sym q)) nm′ or′ first′
           (ap (λ i. i + length (madeRows prog names i (s .later))) q ∙ omega (arith, total, l)) f in
           let rest′ : Puts out₁ out′ (12 * end) (rowsWords (madeRows prog names (k + n) (s .later))) = subst (λ i. Puts out₁ out′ (12 * end) (rowsWords (madeRows prog names i (s .later)))) q rest in
           let whole : rowsWords (madeRows prog names k us) ≡ rowsWords (levelRows prog (s .used) k n) ++ rowsWords (madeRows prog names (k + n) (s .later)) =

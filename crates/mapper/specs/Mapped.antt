@@ -53,10 +53,10 @@ pub record EndOf (rows : List ℕ) (j rules r : ℕ) : Type 0 where
   pub next : j + 1 < getD rows 5632 0 → getD rows (5638 + 3 * j) 0 ≤ rules → r ≡ getD rows (5638 + 3 * j) 0
   pub last : getD rows 5632 0 ≤ j + 1 → r ≡ rules
 
--- the rows of the rules made for the pairs from the j-th on, from rule k on
-pub record MadePut (text rows : List ℕ) (b : Resolved) (j k : ℕ) (places out out′ : List ℕ) : Type 0 where
+-- the rows of the rules made for the pairs from the j-th on, from rule k on, whose first uses stand from the place `at` on
+pub record MadePut (text rows : List ℕ) (b : Resolved) (j k at : ℕ) (places out out′ : List ℕ) : Type 0 where
   pub puts : (names : Names) (prog : List Rule) (us : List Use) → pairsFrom rows j (getD rows 5632 0 - j) ≡ pairsMean names (held text rows (b .declared)) k us
-      → AllNamed (marks (wordsAt text (b .body))) → AllOrdered (held text rows (b .declared)) (marks (wordsAt text (b .body))) → AllFirst (held text rows (b .declared)) (marks (wordsAt text (b .body))) us
+      → AllNamed (marks (wordsAt text at)) → AllOrdered (held text rows (b .declared)) (marks (wordsAt text at)) → AllFirst (held text rows (b .declared)) (marks (wordsAt text at)) us
       → k + length (madeRows prog names k us) ≡ b .rules → ((r : ℕ) → r < b .rules → getD places r 0 ≡ place 1 prog r) → Puts out out′ (12 * k) (rowsWords (madeRows prog names k us))
 
 -- the rules' declarations and the uses of operators have their places

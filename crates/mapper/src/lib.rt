@@ -86,24 +86,26 @@ fn end_of(rows: &[u16], j: usize, rules: usize) -> usize
     rules
 }
 
-// The rows of the rules made for operators: each has the name of its pair's first use.
+// The rows of the rules made for operators: each has the name of its pair's first use, which stands behind that of the pair before.
 fn put_made(text: &[u8], rows: &[u16], b: Resolved, places: &[usize], out: &mut [u8])
     requires { ⌜ Placed (now text) (now rows) b × (b .rules ≤ length (now places)) × (24 * b .rules ≤ length (now out)) ⌝ }
-    ensures { λ _. ⌜ MadePut (now (text .entry)) (now (rows .entry)) b 0 (b .written) (now (places .entry)) (now (out .entry)) (now (out .exit)) ⌝ }
+    ensures { λ _. ⌜ MadePut (now (text .entry)) (now (rows .entry)) b 0 (b .written) (b .body) (now (places .entry)) (now (out .entry)) (now (out .exit)) ⌝ }
 {
     let pairs = base::number(rows, PAIRS);
     let mut j: usize = 0;
     let mut k = b.written;
+    let mut at = b.body;
     while j < pairs {
         let section = base::number(rows, PAIR_SECTION + PAIR * j);
         let operand = base::number(rows, PAIR_OPERAND + PAIR * j);
-        let name = levels::first_use(text, rows, b.declared, b.body, section, operand);
+        let u = levels::first_use(text, rows, b.declared, at, section, operand);
         let end = end_of(rows, j, b.rules);
         if end < k {
             return;
         }
-        put_levels(out, name, places, k, end);
+        put_levels(out, u.name, places, k, end);
         k = end;
+        at = u.next;
         j += 1;
     }
 }
