@@ -9,10 +9,11 @@ use native.Mathlib.Omega.{arith}
 use lib.Dec.{eqb}
 use lib.ListN.{length, take, length-append}
 use lib.Seq.{append-snoc, take-append-seam}
-use borrow.Author.Tests.{ne-eqb, eq-eqb}
-use Rattle.base.specs.Common.{given}
+use borrow.Author.Tests.{eqb-true, ne-eqb, eq-eqb}
+use Rattle.base.specs.Bools.{never}
+use Rattle.base.specs.Common.{if_then_else_, given, same}
 use Rattle.declarations.proofs.Declaring.{Means, entry-means}
-use Rattle.declarations.specs.Decls.{Decl, knownsIn, declaredIn, elsewhereIn, indexOf, lookupIn, operatorIn, operatorsIn, operatorsFault}
+use Rattle.declarations.specs.Decls.{Decl, feeds, knownsIn, declaredIn, elsewhereIn, indexOf, lookupIn, operatorIn, operatorsIn, operatorsFault}
 use Rattle.declarer.proofs.FaultLaws.{goes, stops, ends, is-clean, again, once}
 use Rattle.declarer.specs.Faults.{Faults, clean, faulty}
 use Rattle.declarer.specs.Operators.{sameValue, againstOne, against, entryFault, entriesFault, Left, Passed, MarkedAs, Apart, MarksKept, AllMarked}
@@ -21,13 +22,14 @@ use Rattle.grammar.specs.Derived.{Not, OperatorsIn, last-operator, more-operato
 use Rattle.maker.specs.Ranks.{EntryIs, AnEntry}
 use Rattle.maker.specs.declared.Entry.{Entry}
 use Rattle.names.specs.Declare.{differ, otherSide, listed}
-use Rattle.names.specs.Known.{Checked, good, wrong, _>>=_, faultIf, find}
+use Rattle.names.specs.Known.{Checked, good, wrong, _>>=_, faultIf, find, isWord}
 use Rattle.places.proofs.Heres.{kind-here}
 use Rattle.program.specs.Made as made
 use Rattle.scanner.specs.Next.{Next, asWord}
 use Rattle.scanner.specs.declared.WordAt.{WordAt}
+use Rattle.symbols.proofs.Searches.{by-value, by-word}
 use Rattle.symbols.specs.Rows.{Looks, found, missing}
-use Rattle.symbols.specs.Search.{part, Tells, there, nowhere}
+use Rattle.symbols.specs.Search.{part, knows, declares, Tells, there, nowhere}
 use Rattle.syntax.specs.Reading.{peek}
 use Rattle.syntax.specs.Written.{Operator}
 use Rattle.words.specs.Words.{Word, wordsAt}
@@ -252,27 +254,81 @@ looked-word : {f u v at len : ℕ} (ds : List Decl) (c : ℕ) (text : List ℕ) 
     → len ≡ length (part text (a .start) (a .len)) → Faults f at len (lookupIn ds c w)
 looked-word ds c text {w} a e l h p q = rw (e, h) (looked-up ds c (asWord text a) l p q)
 
-module _ (ds : List Decl) (before : List Operator) {text : List ℕ} {from : ℕ} {o : Operator} {ws₁ : List Word} {e : Entry} (is : EntryIs text from o ws₁ e) {d : Bool}
-    (hd : d ≡ declaredIn (part text (e .token .start) (e .token .len)) ds) where
-  undeclared : not (declaredIn (o .token .text) ds) ≡ not d
-  undeclared = ap not (ap (λ (w : Word). declaredIn (w .text) ds) (is .token) ∙ sym hd)
+-- A token's value tells whether it is declared
 
-  pub entry-nowhere : {f at len : ℕ} → not d ≡ true → f ≡ 3 → at ≡ e .token .start → len ≡ length (part text (e .token .start) (e .token .len)) → Faults f at len (entryFault ds before o)
+not-operation : (k : ℕ) → (eqb k 1 || (eqb k 3 && true)) ≡ true → eqb k 6 ≡ false
+not-operation k e = go (eqb k 1) refl (eqb k 3) refl e
+  where
+    go : (a : Bool) → eqb k 1 ≡ a → (b : Bool) → eqb k 3 ≡ b → (a || (b && true)) ≡ true → eqb k 6 ≡ false
+    go true p b q z = rw (eqb-true k 1 p) refl
+    go false p true q z = rw (eqb-true k 3 q) refl
+    go false p false q z = never z
+
+known-declares : (w : List ℕ) (d : Decl) → knows 1 w d ≡ true → declares w d ≡ true
+unfolding knows declares feeds
+known-declares w d e = go (feeds 1 d) refl (same w (d .name .text)) e
+  where
+    go : (s : Bool) → feeds 1 d ≡ s → (a : Bool) → (s && (a || isWord w (d .second))) ≡ true → (a || (not (eqb (d .class) 6) && isWord w (d .second))) ≡ true
+    go true p true z = refl
+    go true p false z = rw (not-operation (d .class) p) z
+    go false p a z = never z
+
+known-declared : (w : List ℕ) (ds : List Decl) {v : ℕ} → find w (knownsIn 1 ds) ≡ some v → declaredIn w ds ≡ true
+unfolding find knownsIn
+known-declared w [] e = absurd (none-some e)
+  where
+    none-some : {v : ℕ} → _≡_ {A = Option ℕ} none (some v) → ⊥
+    none-some z = let y : _≡_ {A = ℕ} 0 1 = cc in omega (arith, y)
+known-declared w (d ∷ ds) {v} e = by-word w .cons 0 d ds ∙ go (knows 1 w d) refl (declares w d) refl (known-declared w ds) (sym (by-value 1 w .cons 0 d ds) ∙ e)
+  where
+    go : (s : Bool) → knows 1 w d ≡ s → (a : Bool) → declares w d ≡ a → (find w (knownsIn 1 ds) ≡ some v → declaredIn w ds ≡ true) → (if s then some (d .value) else find w (knownsIn 1 ds)) ≡ some v
+        → (if a then true else declaredIn w ds) ≡ true
+    go s p true q rest z = refl
+    go true p false q rest z = never (sym q ∙ known-declares w d p)
+    go false p false q rest z = rest z
+
+token-nowhere : {t v : ℕ} (ds : List Decl) (w : Word) → Looks t v (lookupIn ds 1 w) → t ≡ 3 → not (declaredIn (w .text) ds) ≡ true
+unfolding lookupIn elsewhereIn
+token-nowhere {t} {v} ds w l e = go (find (w .text) (knownsIn 1 ds)) (declaredIn (w .text) ds) l
+  where
+    go : (x : Option ℕ) (b : Bool) → Looks t v (elim x as (λ _. Checked ℕ) [ some u ↦ good u | none ↦ wrong (if b then 5 else 3) w ]) → not b ≡ true
+    go (some u) b (found p q) = absurd (omega (arith, p, e))
+    go none true (missing p n) = absurd (omega (arith, p, e))
+    go none false m = refl
+
+token-declared : {t v : ℕ} (ds : List Decl) (w : Word) → Looks t v (lookupIn ds 1 w) → (t ≡ 3 → ⊥) → not (declaredIn (w .text) ds) ≡ false
+unfolding lookupIn elsewhereIn
+token-declared {t} {v} ds w l n = go (find (w .text) (knownsIn 1 ds)) refl (declaredIn (w .text) ds) refl l
+  where
+    go : (x : Option ℕ) → find (w .text) (knownsIn 1 ds) ≡ x → (b : Bool) → declaredIn (w .text) ds ≡ b → Looks t v (elim x as (λ _. Checked ℕ) [ some u ↦ good u | none ↦ wrong (if b then 5 else 3) w ]) → not b ≡ false
+    go x p true q m = refl
+    go (some u) p false q m = never (sym q ∙ known-declared (w .text) ds p)
+    go none p false q (missing h z) = absurd (n h)
+
+module _ (ds : List Decl) (before : List Operator) {text : List ℕ} {from : ℕ} {o : Operator} {ws₁ : List Word} {e : Entry} (is : EntryIs text from o ws₁ e) {t v : ℕ}
+    (ht : Looks t v (lookupIn ds 1 (asWord text (e .token)))) where
+  pub entry-nowhere : {f at len : ℕ} → t ≡ 3 → f ≡ 3 → at ≡ e .token .start → len ≡ length (part text (e .token .start) (e .token .len)) → Faults f at len (entryFault ds before o)
   unfolding entryFault
-  entry-nowhere q h p l = stops _ (again _ _ _ _ 3 (o .token) (undeclared ∙ q) h (λ z. omega arith) (rw (is .token) p) (rw (is .token) l)) (λ z. omega arith)
+  entry-nowhere q h p l = stops _ (again _ _ _ _ 3 (o .token) undeclared h (λ z. omega arith) (rw (is .token) p) (rw (is .token) l)) (λ z. omega arith)
+    where
+      undeclared : not (declaredIn (o .token .text) ds) ≡ true
+      undeclared = rw (is .token) (token-nowhere ds (asWord text (e .token)) ht q)
 
-  module _ (q : not d ≡ false) {a : Bool} (ha : a ≡ against ds (find (o .token .text) (knownsIn 1 ds)) o before) where
+  module _ (q : t ≡ 3 → ⊥) {a : Bool} (ha : a ≡ against ds (find (o .token .text) (knownsIn 1 ds)) o before) where
+    is-declared : not (declaredIn (o .token .text) ds) ≡ false
+    is-declared = rw (is .token) (token-declared ds (asWord text (e .token)) ht q)
+
     pub entry-again : {f at len : ℕ} → a ≡ true → f ≡ 45 → at ≡ e .token .start → len ≡ length (part text (e .token .start) (e .token .len)) → Faults f at len (entryFault ds before o)
     unfolding entryFault
     entry-again r h p l =
-        goes _ (once 0 0 0 _ 3 (o .token) (undeclared ∙ q) refl) refl (λ _.
+        goes _ (once 0 0 0 _ 3 (o .token) is-declared refl) refl (λ _.
         stops _ (again _ _ _ _ 45 (o .token) (sym ha ∙ r) h (λ z. omega arith) (rw (is .token) p) (rw (is .token) l)) (λ z. omega arith))
 
-    module _ (r : a ≡ false) {t v : ℕ} (ht : Looks t v (lookupIn ds 1 (asWord text (e .token)))) where
+    module _ (r : a ≡ false) where
       pub entry-token : {f at len : ℕ} → (t ≡ 0 → ⊥) → f ≡ t → at ≡ e .token .start → len ≡ length (part text (e .token .start) (e .token .len)) → Faults f at len (entryFault ds before o)
       unfolding entryFault
       entry-token z h p l =
-          goes _ (once 0 0 0 _ 3 (o .token) (undeclared ∙ q) refl) refl (λ _.
+          goes _ (once 0 0 0 _ 3 (o .token) is-declared refl) refl (λ _.
           goes _ (once 0 0 0 _ 45 (o .token) (sym ha ∙ r) refl) refl (λ _.
           stops _ (looked-word ds 1 text (e .token) (is .token) ht h p l) (λ y. z (sym h ∙ y))))
 
@@ -280,7 +336,7 @@ module _ (ds : List Decl) (before : List Operator) {text : List ℕ} {from : ℕ
           → len ≡ length (part text (e .emits .start) (e .emits .len)) → Faults f at len (entryFault ds before o)
       unfolding entryFault
       entry-emits z hu h p l =
-          goes _ (once 0 0 0 _ 3 (o .token) (undeclared ∙ q) refl) refl (λ _.
+          goes _ (once 0 0 0 _ 3 (o .token) is-declared refl) refl (λ _.
           goes _ (once 0 0 0 _ 45 (o .token) (sym ha ∙ r) refl) refl (λ _.
           goes _ (looked-word ds 1 text (e .token) (is .token) ht refl refl refl) z (λ _.
           ends (looked-word ds 2 text (e .emits) (is .emits) hu h p l))))

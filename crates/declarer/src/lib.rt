@@ -43,7 +43,6 @@ use symbols::VALUE;
 use symbols::find_value;
 use symbols::has_row;
 use symbols::has_value;
-use symbols::is_declared;
 use symbols::is_known;
 use symbols::part_len;
 use symbols::type_of;
@@ -460,13 +459,13 @@ fn entry_fault(
         → Faults (r .fault) (r .at) (r .len) (entryFault (held (now (text .entry)) (now (rows .entry)) n) (take count es) o)) ⌝ }
 {
     let w = e.token;
-    if !is_declared(text, rows, n, w.start, w.len) {
+    let t = value_of(text, rows, n, INPUT, w.start, w.len);
+    if t.fault == base::UNDECLARED {
         return word_fault(text, base::UNDECLARED, w);
     }
     if against_unless(text, rows, n, at, count, e, apart) {
         return word_fault(text, base::CONTRADICTS, w);
     }
-    let t = value_of(text, rows, n, INPUT, w.start, w.len);
     if t.fault != 0 {
         return word_fault(text, t.fault, w);
     }

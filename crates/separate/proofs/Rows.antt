@@ -62,7 +62,7 @@ kept-front {text} {old} {new} {n} f k = record {
     chain = k .indexed .chain;
     follows = λ b l. rw (f .same (4096 + b) (omega (arith, l))) (chain-front f (k .indexed .follows b l));
     names = λ i l. rw (same-decl i l, same-key) (k .indexed .names i l);
-    seconds = λ i w l e. rw same-key (k .indexed .seconds i w l (ap (λ (d : Decl). d .second) (sym (same-decl i l)) ∙ e));
+    seconds = λ i w l e. rw (same-decl i l, same-key) (k .indexed .seconds i w l (ap (λ (d : Decl). d .second) (sym (same-decl i l)) ∙ e));
   };
 }
   where

@@ -1,12 +1,12 @@
 -- The code's way along a chain: from a node to the next, until a row passes the test, or the rows or the chain end.
-use mathlib.Core.Bool.{Bool, true, false, _&&_, _||_, not}
+use mathlib.Core.Bool.{Bool, true, false, _&&_, _||_}
 use mathlib.Core.List.{List}
 use mathlib.Core.Logic.{_⊎_, inl, inr}
 use mathlib.Core.Option.{Option, none, some}
 use mathlib.Core.Path.{_≡_, refl, sym, ap, _∙_}
 use Prim.Native.Nat.{ℕ, zero, suc, _+_, _-_, _*_, _/_, _%_, _≤_, _<_}
 use lib.Dec.{eqb, ltb}
-use borrow.Author.Tests.{lt-ltb, le-ltb}
+use borrow.Author.Tests.{eqb-true, lt-ltb, le-ltb}
 use native.Mathlib.Omega.{arith}
 use Rattle.base.proofs.Laws.{same-eq}
 use Rattle.base.specs.Bools.{never}
@@ -15,9 +15,9 @@ use Rattle.declarations.specs.Decls.{Decl, feeds}
 use Rattle.names.specs.Known.{isWord}
 use Rattle.symbols.proofs.Chains.{least-none, least-more, Following, chain-least, to-node, no-more, found-at, not-at}
 use Rattle.symbols.proofs.Searches.{Search, start}
-use Rattle.symbols.specs.Index.{Chain, chain-end, chain-node, Among, headAt, linkAt, nextOf, bucketOf, keyOf, Indexed}
+use Rattle.symbols.specs.Index.{Chain, chain-end, chain-node, Among, headAt, linkAt, nextOf, seedOf, bucketOf, keyOf, Indexed}
 use Rattle.symbols.specs.Rows.{declAt, held}
-use Rattle.symbols.specs.Search.{knows, named, declares}
+use Rattle.symbols.specs.Search.{serves, knows, named}
 use Rattle.words.specs.Words.{Word}
 
 -- nodes
@@ -124,34 +124,52 @@ module _ {X : Type 0} {F : ℕ → List Decl → X} {t : Decl → Bool} {h : ℕ
 
 -- a row that passes a test is in the chain of the word
 
-module _ {text rows : List ℕ} {n : ℕ} (f : Indexed text rows n) (w : List ℕ) (j : ℕ) (l : j < n) where
-  by-own-name : same w (declAt text rows j .name .text) ≡ true → Among j (f .chain (bucketOf (keyOf rows) w))
-  by-own-name e = rw (same-eq w (declAt text rows j .name .text) e) (f .names j l)
+-- a declaration and the class that it feeds begin with one number
+same-seed : (c d : ℕ) → serves c d ≡ true → seedOf c ≡ seedOf d
+unfolding serves seedOf
+same-seed c d e = go (eqb d c) refl (eqb d 3) refl (eqb c 1) refl (eqb c 2) refl e
+  where
+    go : (own : Bool) → eqb d c ≡ own → (both : Bool) → eqb d 3 ≡ both → (input : Bool) → eqb c 1 ≡ input → (output : Bool) → eqb c 2 ≡ output
+        → (own || (both && (input || output))) ≡ true → seedOf c ≡ seedOf d
+    go true p both q input r output t z = ap seedOf (sym (eqb-true d c p))
+    go false p true q true r output t z = rw (eqb-true d 3 q, eqb-true c 1 r) refl
+    go false p true q false r true t z = rw (eqb-true d 3 q, eqb-true c 2 t) refl
+    go false p true q false r false t z = never z
+    go false p false q input r output t z = never z
 
-  by-second : isWord w (declAt text rows j .second) ≡ true → Among j (f .chain (bucketOf (keyOf rows) w))
+module _ {text rows : List ℕ} {n : ℕ} (f : Indexed text rows n) (w : List ℕ) (j : ℕ) (l : j < n) (c : ℕ) where
+  -- the chain of the word in the class c
+  abbrev InChain : Type 0
+  InChain = Among j (f .chain (bucketOf (keyOf rows) c w))
+
+  alike : (v : List ℕ) → serves c (declAt text rows j .class) ≡ true → w ≡ v → bucketOf (keyOf rows) c w ≡ bucketOf (keyOf rows) (declAt text rows j .class) v
+  unfolding bucketOf
+  alike v s e = rw (e, same-seed c (declAt text rows j .class) s) refl
+
+  by-own-name : serves c (declAt text rows j .class) ≡ true → same w (declAt text rows j .name .text) ≡ true → InChain
+  by-own-name s e = rw (alike (declAt text rows j .name .text) s (same-eq w (declAt text rows j .name .text) e)) (f .names j l)
+
+  by-second : serves c (declAt text rows j .class) ≡ true → isWord w (declAt text rows j .second) ≡ true → InChain
   unfolding isWord
-  by-second e = go (declAt text rows j .second) refl e
+  by-second s e = go (declAt text rows j .second) refl e
     where
-      go : (o : Option Word) → declAt text rows j .second ≡ o → isWord w o ≡ true → Among j (f .chain (bucketOf (keyOf rows) w))
+      go : (o : Option Word) → declAt text rows j .second ≡ o → isWord w o ≡ true → InChain
       go none p q = never q
-      go (some v) p q = rw (same-eq w (v .text) q) (f .seconds j v l p)
+      go (some v) p q = rw (alike (v .text) s (same-eq w (v .text) q)) (f .seconds j v l p)
 
-  either : (a b : Bool) → (a ≡ true → Among j (f .chain (bucketOf (keyOf rows) w))) → (b ≡ true → Among j (f .chain (bucketOf (keyOf rows) w))) → (a || b) ≡ true → Among j (f .chain (bucketOf (keyOf rows) w))
-  either true b g h e = g refl
-  either false b g h e = h e
+  pub known-among : knows c w (declAt text rows j) ≡ true → InChain
+  unfolding knows feeds serves
+  known-among e = go (feeds c (declAt text rows j)) refl (same w (declAt text rows j .name .text)) refl e
+    where
+      go : (s : Bool) → feeds c (declAt text rows j) ≡ s → (a : Bool) → same w (declAt text rows j .name .text) ≡ a → (s && (a || isWord w (declAt text rows j .second))) ≡ true → InChain
+      go true p true q z = by-own-name p q
+      go true p false q z = by-second p z
+      go false p a q z = never z
 
-  second-of : (a b : Bool) → (a && b) ≡ true → b ≡ true
-  second-of true b e = e
-  second-of false b e = never e
-
-  pub known-among : (c : ℕ) → knows c w (declAt text rows j) ≡ true → Among j (f .chain (bucketOf (keyOf rows) w))
-  unfolding knows
-  known-among c e = either (same w (declAt text rows j .name .text)) (isWord w (declAt text rows j .second)) by-own-name by-second (second-of (feeds c (declAt text rows j)) _ e)
-
-  pub named-among : (c : ℕ) → named c w (declAt text rows j) ≡ true → Among j (f .chain (bucketOf (keyOf rows) w))
-  unfolding named
-  named-among c e = by-own-name (second-of (eqb (declAt text rows j .class) c) _ e)
-
-  pub declared-among : declares w (declAt text rows j) ≡ true → Among j (f .chain (bucketOf (keyOf rows) w))
-  unfolding declares
-  declared-among e = either (same w (declAt text rows j .name .text)) _ by-own-name (λ q. by-second (second-of (not (eqb (declAt text rows j .class) 6)) (isWord w (declAt text rows j .second)) q)) e
+  pub named-among : named c w (declAt text rows j) ≡ true → InChain
+  unfolding named serves
+  named-among e = go (eqb (declAt text rows j .class) c) refl e
+    where
+      go : (s : Bool) → eqb (declAt text rows j .class) c ≡ s → (s && same w (declAt text rows j .name .text)) ≡ true → InChain
+      go true p z = by-own-name (rw p refl) z
+      go false p z = never z

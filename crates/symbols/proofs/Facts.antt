@@ -67,7 +67,12 @@ pub typed : (typeIn ds (held text rows 3) (name 8) ∷ typeIn ds (held text rows
 unfolding Rows.opened Decls.opened Known.opened
 typed = refl
 
--- (97 * 33 + 98) % 511, (97 * 35 + 98) % 511
-pub hashed : (bucketOf 33 [] ∷ bucketOf 33 (bytes "ab") ∷ bucketOf 35 (bytes "ab") ∷ []) ≡ (0 ∷ 233 ∷ 427 ∷ [])
+-- ((7 * 33 + 97) * 33 + 98) % 511, ((7 * 35 + 97) * 35 + 98) % 511
+pub hashed : (bucketOf 33 7 [] ∷ bucketOf 33 7 (bytes "ab") ∷ bucketOf 35 7 (bytes "ab") ∷ []) ≡ (7 ∷ 191 ∷ 315 ∷ [])
 unfolding Index.opened
 hashed = refl
+
+-- the classes of tokens are alike, that of errors is another
+pub hashed-tokens : (bucketOf 33 1 (bytes "ab") ∷ bucketOf 33 2 (bytes "ab") ∷ bucketOf 33 3 (bytes "ab") ∷ bucketOf 33 4 (bytes "ab") ∷ []) ≡ (300 ∷ 300 ∷ 300 ∷ 501 ∷ [])
+unfolding Index.opened
+hashed-tokens = refl

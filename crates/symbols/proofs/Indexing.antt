@@ -145,8 +145,8 @@ pub record IndexedFrom (key : ℕ) (text rows : List ℕ) (lo n : ℕ) : Type 0 
   pub keyed : keyOf rows ≡ key
   pub chain : ℕ → List ℕ
   pub nodes : Nodes rows lo chain
-  pub names : (j : ℕ) → lo ≤ 2 * j → j < n → Among j (chain (bucketOf key (declAt text rows j .name .text)))
-  pub seconds : (j : ℕ) (w : Word) → lo ≤ 2 * j + 1 → j < n → declAt text rows j .second ≡ some w → Among j (chain (bucketOf key (w .text)))
+  pub names : (j : ℕ) → lo ≤ 2 * j → j < n → Among j (chain (bucketOf key (declAt text rows j .class) (declAt text rows j .name .text)))
+  pub seconds : (j : ℕ) (w : Word) → lo ≤ 2 * j + 1 → j < n → declAt text rows j .second ≡ some w → Among j (chain (bucketOf key (declAt text rows j .class) (w .text)))
 
 pub index-none : {key : ℕ} (text rows : List ℕ) (n : ℕ) → keyOf rows ≡ key → ((b : ℕ) → b < 511 → headAt rows b ≡ 0) → IndexedFrom key text rows (2 * n) n
 index-none text rows n d z = record {
@@ -203,39 +203,39 @@ pub second-kept : (key : ℕ) (text rows : List ℕ) (i : ℕ) → RowsKept rows
 unfolding pushSecond
 second-kept key text rows i = go (declAt text rows i .second)
   where
-    go : (o : Option Word) → RowsKept rows (elim o [ none ↦ rows | some w ↦ pushRows rows (bucketOf key (w .text)) (2 * i + 1) ])
+    go : (o : Option Word) → RowsKept rows (elim o [ none ↦ rows | some w ↦ pushRows rows (bucketOf key (declAt text rows i .class) (w .text)) (2 * i + 1) ])
     go none = rows-same rows
-    go (some w) = rows-pushed rows (bucketOf key (w .text)) (2 * i + 1)
+    go (some w) = rows-pushed rows (bucketOf key (declAt text rows i .class) (w .text)) (2 * i + 1)
 
 pub name-kept : (key : ℕ) (text rows : List ℕ) (i : ℕ) → RowsKept rows (pushName key text rows i)
 unfolding pushName
-name-kept key text rows i = rows-pushed rows (bucketOf key (declAt text rows i .name .text)) (2 * i)
+name-kept key text rows i = rows-pushed rows (bucketOf key (declAt text rows i .class) (declAt text rows i .name .text)) (2 * i)
 
 -- the code's ways to them
 
 abbrev secondOf : ℕ → List ℕ → List ℕ → ℕ → ℕ → ℕ → Bool → List ℕ
-secondOf key text rows i start len t = elim (if t then none else some (wordOf text (secondKind (getD rows (8 * i) 0)) start len)) [ none ↦ rows | some w ↦ pushRows rows (bucketOf key (w .text)) (2 * i + 1) ]
+secondOf key text rows i start len t = elim (if t then none else some (wordOf text (secondKind (getD rows (8 * i) 0)) start len)) [ none ↦ rows | some w ↦ pushRows rows (bucketOf key (getD rows (8 * i) 0) (w .text)) (2 * i + 1) ]
 
 pub second-none : (key : ℕ) (text rows : List ℕ) (i len : ℕ) → len ≡ getD rows (8 * i + 5) 0 → len ≡ 0 → rows ≡ pushSecond key text rows i
 unfolding pushSecond declAt optionOf
 second-none key text rows i len e z = ap (λ (t : Bool). secondOf key text rows i (getD rows (8 * i + 4) 0) (getD rows (8 * i + 5) 0) t) (sym (eq-eqb (getD rows (8 * i + 5) 0) 0 (sym e ∙ z)))
 
-pub second-some : (key : ℕ) (text rows new : List ℕ) (i start len b : ℕ) → len ≡ getD rows (8 * i + 5) 0 → (len ≡ 0 → ⊥) → start ≡ getD rows (8 * i + 4) 0 → b ≡ bucketOf key (part text start len)
+pub second-some : (key : ℕ) (text rows new : List ℕ) (i class start len b : ℕ) → len ≡ getD rows (8 * i + 5) 0 → (len ≡ 0 → ⊥) → class ≡ getD rows (8 * i) 0 → start ≡ getD rows (8 * i + 4) 0 → b ≡ bucketOf key class (part text start len)
     → new ≡ pushRows rows b (2 * i + 1) → new ≡ pushSecond key text rows i
 unfolding pushSecond declAt optionOf
-second-some key text rows new i start len b e n f g h = h ∙ (ap (λ (c : ℕ). pushRows rows c (2 * i + 1)) (g ∙ both f e)
+second-some key text rows new i class start len b e n d f g h = h ∙ (ap (λ (c : ℕ). pushRows rows c (2 * i + 1)) (g ∙ both d f e)
     ∙ ap (λ (t : Bool). secondOf key text rows i (getD rows (8 * i + 4) 0) (getD rows (8 * i + 5) 0) t) (sym (ne-eqb (getD rows (8 * i + 5) 0) 0 (λ z. n (e ∙ z)))))
   where
-    both : {x y u v : ℕ} → x ≡ u → y ≡ v → bucketOf key (part text x y) ≡ bucketOf key (part text u v)
-    both p q = cc
+    both : {c x y d u v : ℕ} → c ≡ d → x ≡ u → y ≡ v → bucketOf key c (part text x y) ≡ bucketOf key d (part text u v)
+    both o p q = cc
 
-pub name-pushed : (key : ℕ) (text rows new : List ℕ) (i start len b : ℕ) → start ≡ getD rows (8 * i + 2) 0 → len ≡ getD rows (8 * i + 3) 0 → b ≡ bucketOf key (part text start len)
+pub name-pushed : (key : ℕ) (text rows new : List ℕ) (i class start len b : ℕ) → class ≡ getD rows (8 * i) 0 → start ≡ getD rows (8 * i + 2) 0 → len ≡ getD rows (8 * i + 3) 0 → b ≡ bucketOf key class (part text start len)
     → new ≡ pushRows rows b (2 * i) → new ≡ pushName key text rows i
 unfolding pushName declAt
-name-pushed key text rows new i start len b f e g h = h ∙ ap (λ (c : ℕ). pushRows rows c (2 * i)) (g ∙ both f e)
+name-pushed key text rows new i class start len b d f e g h = h ∙ ap (λ (c : ℕ). pushRows rows c (2 * i)) (g ∙ both d f e)
   where
-    both : {x y u v : ℕ} → x ≡ u → y ≡ v → bucketOf key (part text x y) ≡ bucketOf key (part text u v)
-    both p q = cc
+    both : {c x y d u v : ℕ} → c ≡ d → x ≡ u → y ≡ v → bucketOf key c (part text x y) ≡ bucketOf key d (part text u v)
+    both o p q = cc
 
 -- one head more is cleared
 pub clear-more : {old rows : List ℕ} (b : ℕ) → length old ≡ 6017 → b < 511 → RowsKept old rows → ((c : ℕ) → c < b → headAt rows c ≡ 0)
@@ -254,7 +254,7 @@ pub index-second : {key : ℕ} {text rows : List ℕ} {n : ℕ} (i : ℕ) → le
 unfolding pushSecond
 index-second {key} {text} {rows} {n} i size l few f = go (declAt text rows i .second) refl
   where
-    go : (o : Option Word) → declAt text rows i .second ≡ o → IndexedFrom key text (elim o [ none ↦ rows | some w ↦ pushRows rows (bucketOf key (w .text)) (2 * i + 1) ]) (2 * i + 1) n
+    go : (o : Option Word) → declAt text rows i .second ≡ o → IndexedFrom key text (elim o [ none ↦ rows | some w ↦ pushRows rows (bucketOf key (declAt text rows i .class) (w .text)) (2 * i + 1) ]) (2 * i + 1) n
     go none e = record {
       keyed = f .keyed;
       chain = f .chain;
@@ -267,7 +267,7 @@ index-second {key} {text} {rows} {n} i size l few f = go (declAt text rows i .se
         wide (inl z) = inl z
         wide (inr z) = inr (omega (arith, z))
 
-        old : (j : ℕ) (w : Word) → 2 * i + 1 ≤ 2 * j + 1 → j < n → declAt text rows j .second ≡ some w → (j ≡ i) ⊎ ((j ≡ i) → ⊥) → Among j (f .chain (bucketOf key (w .text)))
+        old : (j : ℕ) (w : Word) → 2 * i + 1 ≤ 2 * j + 1 → j < n → declAt text rows j .second ≡ some w → (j ≡ i) ⊎ ((j ≡ i) → ⊥) → Among j (f .chain (bucketOf key (declAt text rows j .class) (w .text)))
         old j w h m q (inl d) = absurd (none-some (sym e ∙ (ap (λ (k : ℕ). declAt text rows k .second) (sym d) ∙ q)))
           where
             none-some : _≡_ {A = Option Word} none (some w) → ⊥
@@ -277,26 +277,26 @@ index-second {key} {text} {rows} {n} i size l few f = go (declAt text rows i .se
             apart : 2 * i + 1 ≤ 2 * j + 1 → ((j ≡ i) → ⊥) → 2 * i + 2 ≤ 2 * j + 1
             apart x y = omega arith
     go (some v) e = record {
-      keyed = key-pushed rows b (2 * i + 1) (bucket-low key (v .text)) ∙ f .keyed;
+      keyed = key-pushed rows b (2 * i + 1) (bucket-low key (declAt text rows i .class) (v .text)) ∙ f .keyed;
       chain = pushed (f .chain) b (2 * i + 1);
-      nodes = push-nodes b (2 * i + 1) (f .nodes) size (bucket-low key (v .text)) (omega (arith, l)) (omega arith);
-      names = λ j h m. rw (same-decl j m) (still (f .chain) b (2 * i + 1) (bucketOf key (declAt text rows j .name .text)) (f .names j (omega (arith, h)) m));
-      seconds = λ j w h m q. one j w h m (ap (λ (d : Decl). d .second) (sym (same-decl j m)) ∙ q) (alike j i);
+      nodes = push-nodes b (2 * i + 1) (f .nodes) size (bucket-low key (declAt text rows i .class) (v .text)) (omega (arith, l)) (omega arith);
+      names = λ j h m. rw (same-decl j m) (still (f .chain) b (2 * i + 1) (bucketOf key (declAt text rows j .class) (declAt text rows j .name .text)) (f .names j (omega (arith, h)) m));
+      seconds = λ j w h m q. rw (same-decl j m) (one j w h m (ap (λ (d : Decl). d .second) (sym (same-decl j m)) ∙ q) (alike j i));
     }
       where
         b : ℕ
-        b = bucketOf key (v .text)
+        b = bucketOf key (declAt text rows i .class) (v .text)
 
         same-decl : (j : ℕ) → j < n → declAt text (pushRows rows b (2 * i + 1)) j ≡ declAt text rows j
         same-decl j m = decl-kept text j (rows-pushed rows b (2 * i + 1)) (omega (arith, m, few))
 
         one : (j : ℕ) (w : Word) → 2 * i + 1 ≤ 2 * j + 1 → j < n → declAt text rows j .second ≡ some w → (j ≡ i) ⊎ ((j ≡ i) → ⊥)
-            → Among j (pushed (f .chain) b (2 * i + 1) (bucketOf key (w .text)))
-        one j w h m q (inl d) = rw (sym (same-word (sym e ∙ (ap (λ (k : ℕ). declAt text rows k .second) (sym d) ∙ q)))) (own-chain (f .chain) b (2 * i + 1) (omega (arith, d)))
+            → Among j (pushed (f .chain) b (2 * i + 1) (bucketOf key (declAt text rows j .class) (w .text)))
+        one j w h m q (inl d) = rw (d, sym (same-word (sym e ∙ (ap (λ (k : ℕ). declAt text rows k .second) (sym d) ∙ q)))) (own-chain (f .chain) b (2 * i + 1) (omega (arith, d)))
           where
             same-word : _≡_ {A = Option Word} (some v) (some w) → v ≡ w
             same-word z = cc
-        one j w h m q (inr d) = still (f .chain) b (2 * i + 1) (bucketOf key (w .text)) (f .seconds j w (apart h d) m q)
+        one j w h m q (inr d) = still (f .chain) b (2 * i + 1) (bucketOf key (declAt text rows j .class) (w .text)) (f .seconds j w (apart h d) m q)
           where
             apart : 2 * i + 1 ≤ 2 * j + 1 → ((j ≡ i) → ⊥) → 2 * i + 2 ≤ 2 * j + 1
             apart x y = omega arith
@@ -305,22 +305,22 @@ index-second {key} {text} {rows} {n} i size l few f = go (declAt text rows i .se
 pub index-name : {key : ℕ} {text rows : List ℕ} {n : ℕ} (i : ℕ) → length rows ≡ 6017 → i < 512 → n ≤ 512 → IndexedFrom key text rows (2 * i + 1) n → IndexedFrom key text (pushName key text rows i) (2 * i) n
 unfolding pushName
 index-name {key} {text} {rows} {n} i size l few f = record {
-  keyed = key-pushed rows b (2 * i) (bucket-low key (declAt text rows i .name .text)) ∙ f .keyed;
+  keyed = key-pushed rows b (2 * i) (bucket-low key (declAt text rows i .class) (declAt text rows i .name .text)) ∙ f .keyed;
   chain = pushed (f .chain) b (2 * i);
-  nodes = push-nodes b (2 * i) (f .nodes) size (bucket-low key (declAt text rows i .name .text)) (omega (arith, l)) (omega arith);
+  nodes = push-nodes b (2 * i) (f .nodes) size (bucket-low key (declAt text rows i .class) (declAt text rows i .name .text)) (omega (arith, l)) (omega arith);
   names = λ j h m. rw (same-decl j m) (one j h m (alike j i));
-  seconds = λ j w h m q. still (f .chain) b (2 * i) (bucketOf key (w .text)) (f .seconds j w (omega (arith, h)) m (ap (λ (d : Decl). d .second) (sym (same-decl j m)) ∙ q));
+  seconds = λ j w h m q. rw (same-decl j m) (still (f .chain) b (2 * i) (bucketOf key (declAt text rows j .class) (w .text)) (f .seconds j w (omega (arith, h)) m (ap (λ (d : Decl). d .second) (sym (same-decl j m)) ∙ q)));
 }
   where
     b : ℕ
-    b = bucketOf key (declAt text rows i .name .text)
+    b = bucketOf key (declAt text rows i .class) (declAt text rows i .name .text)
 
     same-decl : (j : ℕ) → j < n → declAt text (pushRows rows b (2 * i)) j ≡ declAt text rows j
     same-decl j m = decl-kept text j (rows-pushed rows b (2 * i)) (omega (arith, m, few))
 
-    one : (j : ℕ) → 2 * i ≤ 2 * j → j < n → (j ≡ i) ⊎ ((j ≡ i) → ⊥) → Among j (pushed (f .chain) b (2 * i) (bucketOf key (declAt text rows j .name .text)))
+    one : (j : ℕ) → 2 * i ≤ 2 * j → j < n → (j ≡ i) ⊎ ((j ≡ i) → ⊥) → Among j (pushed (f .chain) b (2 * i) (bucketOf key (declAt text rows j .class) (declAt text rows j .name .text)))
     one j h m (inl e) = rw e (own-chain (f .chain) b (2 * i) (omega arith))
-    one j h m (inr d) = still (f .chain) b (2 * i) (bucketOf key (declAt text rows j .name .text)) (f .names j (apart h d) m)
+    one j h m (inr d) = still (f .chain) b (2 * i) (bucketOf key (declAt text rows j .class) (declAt text rows j .name .text)) (f .names j (apart h d) m)
       where
         apart : 2 * i ≤ 2 * j → ((j ≡ i) → ⊥) → 2 * i + 1 ≤ 2 * j
         apart x y = omega arith
@@ -369,7 +369,7 @@ kept-behind {text} {old} {new} {n} f k = record {
     chain = k .indexed .chain;
     follows = λ b l. rw (f .kept (4096 + b) (omega (arith, l))) (chain-front f (k .indexed .follows b l));
     names = λ i l. rw (same-decl i l, same-key) (k .indexed .names i l);
-    seconds = λ i w l e. rw same-key (k .indexed .seconds i w l (ap (λ (d : Decl). d .second) (sym (same-decl i l)) ∙ e));
+    seconds = λ i w l e. rw (same-decl i l, same-key) (k .indexed .seconds i w l (ap (λ (d : Decl). d .second) (sym (same-decl i l)) ∙ e));
   };
 }
   where

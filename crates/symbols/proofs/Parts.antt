@@ -8,7 +8,7 @@ use native.Mathlib.Omega.{arith}
 use lib.ListN.{length, getD, take, drop, length-take, length-drop, drop-of-length-le}
 use lib.Seq.{drop-cons, getD-take, getD-drop}
 use Rattle.base.specs.Common.{same}
-use Rattle.symbols.specs.Index.{hashFrom, bucketOf}
+use Rattle.symbols.specs.Index.{hashFrom, seedOf, bucketOf}
 use Rattle.symbols.specs.Search.{part}
 
 pub part-past : (text : List ℕ) (start len : ℕ) → length text ≤ start → 0 ≡ length (part text start len)
@@ -46,7 +46,7 @@ part-byte text start len i h = getD-take len (drop start text) i 0 low ∙ getD-
     low = let g : length (part text start len) ≤ len = simp (length-take) (omega arith) in omega (arith, h, g)
 
 -- the hash takes one byte more
-pub hash-more : (key : ℕ) (w : List ℕ) (h i b : ℕ) → i < length w → getD w i 0 ≡ b → hashFrom key h (drop i w) ≡ hashFrom key ((h * key + b) % 65536) (drop (i + 1) w)
+pub hash-more : (key : ℕ) (w : List ℕ) (h i b : ℕ) → i < length w → getD w i 0 ≡ b → hashFrom key h (drop i w) ≡ hashFrom key ((h * key + b) % 281474976710656) (drop (i + 1) w)
 unfolding hashFrom
 hash-more key w h i b l e = rw (add-one, drop-cons w i 0 l, sym e) refl
 
@@ -54,14 +54,14 @@ pub hash-end : (key : ℕ) (w : List ℕ) (h i : ℕ) → length w ≤ i → has
 unfolding hashFrom
 hash-end key w h i l = rw (drop-of-length-le w l) refl
 
-pub bucket-end : (key : ℕ) (w : List ℕ) (h i : ℕ) → length w ≤ i → hashFrom key h (drop i w) ≡ hashFrom key 0 w → h % 511 ≡ bucketOf key w
+pub bucket-end : (key class : ℕ) (w : List ℕ) (h i : ℕ) → length w ≤ i → hashFrom key h (drop i w) ≡ hashFrom key (seedOf class) w → h % 511 ≡ bucketOf key class w
 unfolding bucketOf
-bucket-end key w h i l e = ap (λ (x : ℕ). x % 511) (sym (hash-end key w h i l) ∙ e)
+bucket-end key class w h i l e = ap (λ (x : ℕ). x % 511) (sym (hash-end key w h i l) ∙ e)
 
-pub bucket-low : (key : ℕ) (w : List ℕ) → bucketOf key w < 511
+pub bucket-low : (key class : ℕ) (w : List ℕ) → bucketOf key class w < 511
 unfolding bucketOf
-bucket-low key w = omega arith
+bucket-low key class w = omega arith
 
--- two numbers of 16 bits
-pub product-low : (h key : ℕ) → h < 65536 → key < 65536 → h * key ≤ 4294836225
-product-low h key l m = let a : h ≤ 65535 = omega (arith, l) in let b : key ≤ 65535 = omega (arith, m) in mul-le-mul a b
+-- a hash by a key of 16 bits
+pub product-low : (h key : ℕ) → h < 281474976710656 → key < 65536 → h * key ≤ 18446462598732775425
+product-low h key l m = let a : h ≤ 281474976710655 = omega (arith, l) in let b : key ≤ 65535 = omega (arith, m) in mul-le-mul a b

@@ -1,23 +1,29 @@
 -- The index by names: behind the rows' 4,096 numbers stand 511 heads, the key of the hash and 1,024 links. Node k + 1 is row k / 2, by its name where k is even and by its
--- second word where k is odd; 0 is no node. A chain meets the rows whose words have one hash, in the order of the row.
+-- second word where k is odd; 0 is no node. A chain meets the rows whose classes and words have one hash, in the order of the row.
+use mathlib.Core.Bool.{_||_}
 use mathlib.Core.List.{List, [], _∷_}
 use mathlib.Core.Logic.{_⊎_}
 use mathlib.Core.Option.{none, some}
 use mathlib.Core.Path.{_≡_}
 use Prim.Native.Nat.{ℕ, suc, _+_, _*_, _-_, _/_, _%_, _<_, _≤_}
-use lib.Dec.{ltb}
+use lib.Dec.{eqb, ltb}
 use lib.ListN.{length, getD, set}
 use Rattle.base.specs.Common.{if_then_else_}
 use Rattle.symbols.specs.Rows.{declAt}
 use Rattle.words.specs.Words.{Word}
 
+-- A hash has 48 bits. Under every odd key some names have the same, since 8 divides key * key - 1: short ones where a hash has 16 bits, long ones here.
 unfoldable pub hashFrom : ℕ → ℕ → List ℕ → ℕ
 hashFrom key h [] = h
-hashFrom key h (b ∷ s) = hashFrom key ((h * key + b) % 65536) s
+hashFrom key h (b ∷ s) = hashFrom key ((h * key + b) % 281474976710656) s
 
--- the chain of a word, by a key
-unfoldable pub bucketOf : ℕ → List ℕ → ℕ
-bucketOf key w = hashFrom key 0 w % 511
+-- what the hash of a word of a class begins with: a token of class 3 is looked up in 1 and in 2, so the three share a number
+unfoldable pub seedOf : ℕ → ℕ
+seedOf class = if eqb class 2 || eqb class 3 then 1 else class % 281474976710656
+
+-- the chain of a word of a class, by a key
+unfoldable pub bucketOf : ℕ → ℕ → List ℕ → ℕ
+bucketOf key class w = hashFrom key (seedOf class) w % 511
 
 -- the key of an index
 abbrev pub keyOf : List ℕ → ℕ
@@ -35,11 +41,11 @@ pushRows rows b k = set (set rows (4608 + k) (headAt rows b)) (4096 + b) (k + 1)
 
 -- row i before the chain of its second word, where it has one
 unfoldable pub pushSecond : ℕ → List ℕ → List ℕ → ℕ → List ℕ
-pushSecond key text rows i = elim (declAt text rows i .second) [ none ↦ rows | some w ↦ pushRows rows (bucketOf key (w .text)) (2 * i + 1) ]
+pushSecond key text rows i = elim (declAt text rows i .second) [ none ↦ rows | some w ↦ pushRows rows (bucketOf key (declAt text rows i .class) (w .text)) (2 * i + 1) ]
 
 -- row i before the chain of its name
 unfoldable pub pushName : ℕ → List ℕ → List ℕ → ℕ → List ℕ
-pushName key text rows i = pushRows rows (bucketOf key (declAt text rows i .name .text)) (2 * i)
+pushName key text rows i = pushRows rows (bucketOf key (declAt text rows i .class) (declAt text rows i .name .text)) (2 * i)
 
 -- the node after p: nodes rise, 0 is the end
 unfoldable pub nextOf : List ℕ → ℕ → ℕ
@@ -68,8 +74,8 @@ pub data Among (i : ℕ) : List ℕ → Type 0 where
 pub record Indexed (text rows : List ℕ) (n : ℕ) : Type 0 where
   pub chain : ℕ → List ℕ
   pub follows : (b : ℕ) → b < 511 → Chain rows (headAt rows b) (chain b)
-  pub names : (i : ℕ) → i < n → Among i (chain (bucketOf (keyOf rows) (declAt text rows i .name .text)))
-  pub seconds : (i : ℕ) (w : Word) → i < n → declAt text rows i .second ≡ some w → Among i (chain (bucketOf (keyOf rows) (w .text)))
+  pub names : (i : ℕ) → i < n → Among i (chain (bucketOf (keyOf rows) (declAt text rows i .class) (declAt text rows i .name .text)))
+  pub seconds : (i : ℕ) (w : Word) → i < n → declAt text rows i .second ≡ some w → Among i (chain (bucketOf (keyOf rows) (declAt text rows i .class) (w .text)))
 
 -- the first n rows, few enough and indexed
 pub record Kept (text rows : List ℕ) (n : ℕ) : Type 0 where
@@ -78,5 +84,5 @@ pub record Kept (text rows : List ℕ) (n : ℕ) : Type 0 where
 
 -- all of this file computes where this is unfolded
 unfoldable pub opened : Unit {0}
-unfolding hashFrom bucketOf pushSecond pushName nextOf
+unfolding hashFrom seedOf bucketOf pushSecond pushName nextOf
 opened = tt

@@ -8,7 +8,7 @@ ghost use Rattle.base.specs.Common.{same, member, given};
 ghost use Rattle.names.specs.Known.{find, isWord};
 ghost use Rattle.names.specs.Declare.{valuesOf};
 ghost use Rattle.declarations.specs.Decls.{knownsIn, indexOf, declaredIn, elsewhereIn, lookupIn, typeIn};
-ghost use Rattle.symbols.specs.Index.{bucketOf, headAt, keyOf, nextOf, pushRows, pushSecond, pushName, RowsKept, Kept};
+ghost use Rattle.symbols.specs.Index.{seedOf, bucketOf, headAt, keyOf, nextOf, pushRows, pushSecond, pushName, RowsKept, Kept};
 ghost use Rattle.symbols.specs.Rows.{wordOf, declAt, held, numberOf, rowIn, operationIn, operatorsRow, ruleIn, Looks};
 ghost use Rattle.symbols.specs.Search.{part, serves, knows, named, declares, counts, Tells};
 use base::byte;
@@ -70,6 +70,9 @@ pub const PAIR_SECTION: usize = 5633;
 pub const PAIR_OPERAND: usize = 5634;
 
 pub const PAIR_RULE: usize = 5635;
+
+// A word's hash is below this, 2 to the power 48: the product with a key still fits 64 bits.
+const MODULUS: usize = 281474976710656;
 
 // What a word's hash is multiplied by at each byte, at first; the keys that are tried where a chain is long with it; and which chain is long.
 const FIRST_KEY: usize = 33;
@@ -222,17 +225,31 @@ fn counts(rows: &[u16], i: usize, class: usize, v: usize) -> bool
 
 // The index by names
 
-// The chain of a word, by a key.
-fn bucket(text: &[u8], key: usize, start: usize, len: usize) -> usize
+// What the hash of a word of a class begins with: a token of both sides is looked up in both classes of tokens.
+fn seed(class: usize) -> usize
+    ensures same { λ r. ⌜ r ≡ seedOf class ⌝ }
+    ensures low { λ r. ⌜ r < 281474976710656 ⌝ }
+{
+    if class == OUTPUT {
+        return INPUT;
+    }
+    if class == BOTH {
+        return INPUT;
+    }
+    class % MODULUS
+}
+
+// The chain of a word of a class, by a key.
+fn bucket(text: &[u8], key: usize, class: usize, start: usize, len: usize) -> usize
     requires { ⌜ key < 65536 ⌝ }
-    ensures { λ r. ⌜ r ≡ bucketOf key (part (now (text .entry)) start len) ⌝ }
+    ensures { λ r. ⌜ r ≡ bucketOf key class (part (now (text .entry)) start len) ⌝ }
     ensures { λ r. ⌜ r < 511 ⌝ }
 {
     let n = part_len(text, start, len);
-    let mut h: usize = 0;
+    let mut h = seed(class);
     let mut i: usize = 0;
     while i < n {
-        h = (h * key + byte(text[start + i])) % 65536;
+        h = (h * key + byte(text[start + i])) % MODULUS;
         i += 1;
     }
     h % BUCKETS
@@ -257,7 +274,8 @@ fn push_second(text: &[u8], rows: &mut [u16], key: usize, i: usize)
     if len == 0 {
         return;
     }
-    let b = bucket(text, key, number(rows, ROW * i + SECOND_START), len);
+    let class = number(rows, ROW * i);
+    let b = bucket(text, key, class, number(rows, ROW * i + SECOND_START), len);
     push_node(rows, b, 2 * i + 1);
 }
 
@@ -269,6 +287,7 @@ fn push_name(text: &[u8], rows: &mut [u16], key: usize, i: usize)
     let b = bucket(
         text,
         key,
+        number(rows, ROW * i),
         number(rows, ROW * i + NAME_START),
         number(rows, ROW * i + NAME_LEN),
     );
@@ -290,12 +309,15 @@ fn clear_heads(rows: &mut [u16], key: usize)
     rows[KEY] = key as u16;
 }
 
-// The first node of the chain of a word.
-fn first_node(text: &[u8], rows: &[u16], start: usize, len: usize) -> usize
-    ensures same { λ r. ⌜ r ≡ headAt (now (rows .entry)) (bucketOf (keyOf (now (rows .entry))) (part (now (text .entry)) start len)) ⌝ }
+// The first node of the chain of a word of a class.
+fn first_node(text: &[u8], rows: &[u16], class: usize, start: usize, len: usize) -> usize
+    ensures same { λ r. ⌜ r ≡ headAt (now (rows .entry)) (bucketOf (keyOf (now (rows .entry))) class (part (now (text .entry)) start len)) ⌝ }
     ensures low { λ r. ⌜ r < 65536 ⌝ }
 {
-    number(rows, HEADS + bucket(text, number(rows, KEY), start, len))
+    number(
+        rows,
+        HEADS + bucket(text, number(rows, KEY), class, start, len),
+    )
 }
 
 // The node after p, 0 at the end. Nodes rise in an index; the test makes a search end on any rows.
@@ -411,7 +433,7 @@ pub fn find_value(
     ensures same { λ r. ⌜ r ≡ numberOf (find (part (now (text .entry)) start len) (knownsIn class (held (now (text .entry)) (now (rows .entry)) n))) ⌝ }
     ensures tells { λ r. ⌜ Tells r (find (part (now (text .entry)) start len) (knownsIn class (held (now (text .entry)) (now (rows .entry)) n))) ⌝ }
 {
-    let mut p = first_node(text, rows, start, len);
+    let mut p = first_node(text, rows, class, start, len);
     while p != 0 {
         let i = (p - 1) / 2;
         if n <= i {
@@ -439,7 +461,7 @@ pub fn find_row(
     ensures tells { λ r. ⌜ Tells r (indexOf class (part (now (text .entry)) start len) 0 (held (now (text .entry)) (now (rows .entry)) n)) ⌝ }
     ensures below { λ r. ⌜ (r < 65536 → r < n) ⌝ }
 {
-    let mut p = first_node(text, rows, start, len);
+    let mut p = first_node(text, rows, class, start, len);
     while p != 0 {
         let i = (p - 1) / 2;
         if n <= i {
@@ -469,21 +491,17 @@ pub fn has_row(text: &[u8], rows: &[u16], n: usize, class: usize, start: usize, 
     find_row(text, rows, n, class, start, len) < NONE
 }
 
-// The part is declared in some class.
+// The part is declared in some class. The index goes by classes, so each row is asked: a lookup that failed asks this, for its fault.
 pub fn is_declared(text: &[u8], rows: &[u16], n: usize, start: usize, len: usize) -> bool
     requires { ⌜ Kept (now text) (now rows) n ⌝ }
     ensures { λ r. ⌜ r ≡ declaredIn (part (now (text .entry)) start len) (held (now (text .entry)) (now (rows .entry)) n) ⌝ }
 {
-    let mut p = first_node(text, rows, start, len);
-    while p != 0 {
-        let i = (p - 1) / 2;
-        if n <= i {
-            return false;
-        }
+    let mut i = 0;
+    while i < n {
         if declares(text, rows, i, start, len) {
             return true;
         }
-        p = next_node(rows, p);
+        i += 1;
     }
     false
 }

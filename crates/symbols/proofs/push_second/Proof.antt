@@ -22,11 +22,17 @@ returns c = second-none _ (c .before .before .before .before .before .args .text
 mul-number-2 : tie.Need-mul-number-2
 mul-number-2 c = search needs
 
+number-requires-2 : tie.Need-number-requires-2
+number-requires-2 c κs = search needs
+
+mul-number-3 : tie.Need-mul-number-3
+mul-number-3 c = search needs
+
 add-number-2 : tie.Need-add-number-2
 add-number-2 c = search needs
 
-number-requires-2 : tie.Need-number-requires-2
-number-requires-2 c κs = search needs
+number-requires-3 : tie.Need-number-requires-3
+number-requires-3 c κs = search needs
 
 bucket-requires : tie.Need-bucket-requires
 bucket-requires c κs = search needs
@@ -44,7 +50,7 @@ same-length-2 : tie.Need-same-length-2
 same-length-2 c = search needs
 
 returns-2 : tie.Need-returns-2
-returns-2 c = second-some _ (c .before .before .before .before .before .before .before .before .before .before .before .before .args .text .now) (c .before .before .before .before .before .before .before .before .before .before .before .before .args .rows .now) _ (c .before .before .before .before .before .before .before .before .before .before .before .before .args .i) _ _ _ (c .before .before .before .before .before .before .before .before .number .ensures .0) (c .before .before .before .before .before .before .before .if1 .left) (c .before .before .before .before .before .number2 .ensures .0) (c .before .before .before .before .bucket .ensures .0) (c .before .before .push-node .ensures)
+returns-2 c = second-some _ (c .before .before .before .before .before .before .before .before .before .before .before .before .before .before .args .text .now) (c .before .before .before .before .before .before .before .before .before .before .before .before .before .before .args .rows .now) _ (c .before .before .before .before .before .before .before .before .before .before .before .before .before .before .args .i) _ _ _ _ (c .before .before .before .before .before .before .before .before .before .before .number .ensures .0) (c .before .before .before .before .before .before .before .before .before .if1 .left) (c .before .before .before .before .before .before .before .number2 .ensures .0) (c .before .before .before .before .before .number3 .ensures .0) (c .before .before .before .before .bucket .ensures .0) (c .before .before .push-node .ensures)
 
 pub push-second-spec : {M : Type 1} → statement M
 push-second-spec =
@@ -56,8 +62,10 @@ push-second-spec =
     same-length
     returns
     mul-number-2
-    add-number-2
     number-requires-2
+    mul-number-3
+    add-number-2
+    number-requires-3
     bucket-requires
     mul-push-node
     add-push-node
