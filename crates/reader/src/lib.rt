@@ -1,6 +1,7 @@
 // The syntax pass: faults 1, 2 and 9, by reading the text word by word. Nothing is kept but places and counts.
+ghost use mathlib.Core.List.{List};
 ghost use mathlib.Core.Path.{_≡_};
-ghost use Prim.Native.Nat.{_+_, _-_, _≤_, _<_, max, min};
+ghost use Prim.Native.Nat.{ℕ, _+_, _-_, _≤_, _<_, max, min};
 ghost use lib.ListN.{length, take, drop};
 ghost use Rattle.syntax.specs.Actions.{aConstant, aValue, aPlain, aSelector, someLabels, closes, aCycle, aChoice, anOtherwise, actions, alternatives};
 ghost use Rattle.syntax.specs.Reading.{expect, aName, nameOrString, optional};
@@ -137,11 +138,10 @@ fn expect_word(text: &[u8], at: usize, kind: u16) -> Out
     refused(w)
 }
 
-fn read_name(text: &[u8], at: usize) -> Out
-    requires { ⌜ at ≤ length (now text) ⌝ }
-    ensures { λ r. ⌜ Moves (now (text .entry)) at at (λ _. aName) r ⌝ }
+// A word that is to be a name.
+fn check_name(w: WordAt) -> Out
+    ensures { λ r. ⌜ ((text : List ℕ) (at : ℕ) → Here text at w → Moves text at at (λ _. aName) r) ⌝ }
 {
-    let w = look(text, at);
     if w.kind != words::NAME {
         return refused(w);
     }
@@ -153,6 +153,14 @@ fn read_name(text: &[u8], at: usize) -> Out
         at: w.next,
         len: 0,
     }
+}
+
+fn read_name(text: &[u8], at: usize) -> Out
+    requires { ⌜ at ≤ length (now text) ⌝ }
+    ensures { λ r. ⌜ Moves (now (text .entry)) at at (λ _. aName) r ⌝ }
+{
+    let w = look(text, at);
+    check_name(w)
 }
 
 fn name_or_string(text: &[u8], at: usize) -> Out
@@ -167,7 +175,7 @@ fn name_or_string(text: &[u8], at: usize) -> Out
             len: 0,
         };
     }
-    read_name(text, at)
+    check_name(w)
 }
 
 fn read_constant(text: &[u8], at: usize) -> Out
@@ -189,11 +197,12 @@ fn read_constant(text: &[u8], at: usize) -> Out
     expect_word(text, r.at, words::CLOSING)
 }
 
-fn with_constant(text: &[u8], at: usize) -> Out
-    requires { ⌜ at ≤ length (now text) ⌝ }
+// A name, the word w at the place, and its constant.
+fn with_constant(text: &[u8], at: usize, w: WordAt) -> Out
+    requires { ⌜ Here (now text) at w ⌝ }
     ensures { λ r. ⌜ Moves (now (text .entry)) at at (λ _. withConstant) r ⌝ }
 {
-    let r = read_name(text, at);
+    let r = check_name(w);
     if r.fault != 0 {
         return r;
     }
@@ -206,7 +215,7 @@ fn read_value(text: &[u8], at: usize) -> Out
 {
     let w = look(text, at);
     if w.kind == words::NAME {
-        return read_name(text, at);
+        return check_name(w);
     }
     if w.kind == words::STRING {
         return Out {
@@ -231,7 +240,7 @@ fn read_selector(text: &[u8], at: usize) -> Out
         return read_name(text, w.next);
     }
     if w.kind == words::NAME {
-        return with_constant(text, at);
+        return with_constant(text, at, w);
     }
     Out {
         fault: 0,
@@ -256,14 +265,14 @@ fn read_ranked(text: &[u8], at: usize) -> Out
     read_name(text, s.at)
 }
 
-fn read_plain(text: &[u8], at: usize) -> Out
-    requires { ⌜ at ≤ length (now text) ⌝ }
+// A plain action, whose first word is w.
+fn read_plain(text: &[u8], at: usize, w: WordAt) -> Out
+    requires { ⌜ Here (now text) at w ⌝ }
     ensures { λ r. ⌜ Moves (now (text .entry)) at at (λ _. aPlain) r ⌝ }
 {
-    let w = look(text, at);
     let kind = w.kind;
     match kind {
-        words::NAME => with_constant(text, at),
+        words::NAME => with_constant(text, at, w),
         words::STRING => read_constant(text, w.next),
         words::QUESTION => Out {
             fault: 0,
@@ -367,7 +376,7 @@ fn read_actions(text: &[u8], at: usize, left: usize) -> Out
                 len: 0,
             };
         }
-        let r = read_action(text, i, left);
+        let r = read_action(text, i, w, left);
         if r.fault != 0 {
             return r;
         }
@@ -375,11 +384,11 @@ fn read_actions(text: &[u8], at: usize, left: usize) -> Out
     }
 }
 
-fn read_action(text: &[u8], at: usize, left: usize) -> Out
-    requires { ⌜ at ≤ length (now text) ⌝ }
+// An action, whose first word is w.
+fn read_action(text: &[u8], at: usize, w: WordAt, left: usize) -> Out
+    requires { ⌜ Here (now text) at w ⌝ }
     ensures { λ r. ⌜ Moves (now (text .entry)) at (at + 1) (λ k. oneAction k left) r ⌝ }
 {
-    let w = look(text, at);
     if w.kind == words::DO {
         if left == 0 {
             return over(w);
@@ -392,7 +401,7 @@ fn read_action(text: &[u8], at: usize, left: usize) -> Out
         }
         return read_choice(text, w.next, left - 1);
     }
-    read_plain(text, at)
+    read_plain(text, at, w)
 }
 
 // The rest of a cycle after its brace.

@@ -2,15 +2,17 @@
 use mathlib.Core.Path.{_≡_, refl, ap, sym, _∙_}
 use mathlib.Core.Bool.{Bool, true, false, _&&_, not, false≢true}
 use mathlib.Core.List.{List, [], _∷_, _++_}
+use mathlib.Core.Logic.{inl, inr}
 use Prim.Native.Nat.{ℕ, zero, suc, _+_, _-_, _≤_, _<_}
 use native.Mathlib.Numerals.{add-one}
 use native.Mathlib.Nat.{add-zero}
 use native.Mathlib.Omega.{arith}
 use lib.Dec.{eqb, leb}
 use lib.ListN.{length, getD, take, drop, drop-of-length-le, length-drop, length-take, List·getD-eq-default}
+use types.Run.{OneOf}
 use lib.Seq.{drop-cons, drop-drop, getD-drop, getD-take}
 use borrow.Author.Tests.{ne-eqb, eq-eqb, lt-leb, le-leb, eqb-true, eqb-false}
-use Rattle.base.specs.Common.{if_then_else_, same, member}
+use Rattle.base.specs.Common.{if_then_else_, same}
 use Rattle.scanner.specs.Next.{asWord, Next}
 use Rattle.scanner.specs.Scanning.{brackets, heads, others, found, nameHere, numberHere, greaterHere, symbolHere, Spelt, wordFound}
 use Rattle.scanner.specs.declared.WordAt.{WordAt}
@@ -260,15 +262,16 @@ pub no-symbol : (b : ℕ) → (b ≡ 33 → ⊥) → symbol b ≡ false → symb
 unfolding symbolHere
 no-symbol b e f = rw (ne-eqb b 33 e, f) refl
 
--- the loop of `listed`
-pub member-go : (b : ℕ) (s : List ℕ) (i : ℕ) → i < length s → (b ≡ getD s i 0 → ⊥) → member b (drop i s) ≡ member b (drop (i + 1) s)
-member-go b s i h e = rw (add-one, drop-cons s i 0, ne-eqb b (getD s i 0) e)
+-- what holds of each key of an arm holds of a byte that is one of them
+abbrev Each : (ℕ → Bool) → List ℕ → Type 0
+Each p [] = Unit {0}
+Each p (k ∷ ks) = (p k ≡ true) × Each p ks
 
-pub member-stop : (b : ℕ) (s : List ℕ) (i : ℕ) → i < length s → b ≡ getD s i 0 → member b (drop i s) ≡ true
-member-stop b s i h e = rw (drop-cons s i 0, eq-eqb b (getD s i 0) e)
-
-pub member-end : (b : ℕ) (s : List ℕ) (i : ℕ) → length s ≤ i → member b (drop i s) ≡ false
-member-end b s i h = rw (drop-of-length-le s h)
+pub one-of : (p : ℕ → Bool) (ks : List ℕ) (x : ℕ) → Each p ks → OneOf ks x → p x ≡ true
+one-of p [] x h e = absurd e
+one-of p (k ∷ []) x h e = ap p e ∙ h .0
+one-of p (k ∷ l ∷ ks) x h (inl e) = ap p e ∙ h .0
+one-of p (k ∷ l ∷ ks) x h (inr e) = one-of p (l ∷ ks) x (h .1) e
 
 -- a byte past `at`, read by its place in the text
 pub past : (text : List ℕ) (at n : ℕ) → getD (drop (at + 1) text) n 0 ≡ getD text (at + 1 + n) 0

@@ -2,7 +2,7 @@
 ghost use mathlib.Core.Path.{_≡_};
 ghost use Prim.Native.Nat.{_+_, _^_, _≤_, _<_};
 ghost use lib.ListN.{length, take, drop, getD};
-ghost use Rattle.base.specs.Common.{same, member};
+ghost use Rattle.base.specs.Common.{same};
 ghost use Rattle.words.specs.Words.{blank, symbol, digit, letter, nameByte, stringByte, kindOf, reserved, stringHere, wordHere};
 ghost use Rattle.scanner.specs.Next.{Next};
 ghost use Rattle.scanner.specs.Scanning.{inClass, Ran, brackets, heads, others, nameHere, numberHere, greaterHere, symbolHere, wordFound, Spelt, SkippedOne, Skipped};
@@ -39,24 +39,17 @@ fn is_blank(b: u8) -> bool
     b == b'\n'
 }
 
-// The byte is one of the list.
-fn listed(b: u8, list: &[u8]) -> bool
-    ensures { λ r. ⌜ r ≡ member b (now (list .entry)) ⌝ }
-{
-    let mut i = 0;
-    while i < list.len() {
-        if b == list[i] {
-            return true;
-        }
-        i += 1;
-    }
-    false
-}
-
 fn is_symbol(b: u8) -> bool
     ensures { λ r. ⌜ r ≡ symbol b ⌝ }
 {
-    listed(b, b":;,=()[]{}|*?.#@>^")
+    match b {
+        b'(' | b'[' | b'{' => true,
+        b')' | b']' | b'}' => true,
+        b':' | b',' | b'=' | b'|' => true,
+        b';' | b'.' | b'#' | b'*' | b'?' | b'^' => true,
+        b'@' | b'>' => true,
+        _ => false,
+    }
 }
 
 fn is_digit(b: u8) -> bool

@@ -43,7 +43,7 @@ use Rattle.reader.proofs.+read_action+read_actions+read_alternatives+re
 use Rattle.reader.proofs.+read_action+read_actions+read_alternatives+read_choice+read_cycle+read_labelled+read_otherwise.Tie.{close}
 
 abbrev μ-read-action : Measures 1 read-action-kinds.ps ℕ
-μ-read-action κs a = 5 * a .1 .1 .0 + 0
+μ-read-action κs a = 5 * a .1 .1 .1 .0 + 0
 
 abbrev μ-read-actions : Measures 1 read-actions-kinds.ps ℕ
 μ-read-actions κs a = 5 * a .1 .1 .0 + 1
@@ -144,7 +144,7 @@ read-otherwise-below t =
     read-otherwise.Pre
 
 abbrev read-action-claims : ℕ → read-action-lts.Claims
-read-action-claims t = (look-reads.Asked, look-reads.Learnt, over-reads.Asked, over-reads.Learnt, read-cycle-below t, read-cycle.Post, read-choice-below t, read-choice.Post, read-plain-reads.Asked, read-plain-reads.Learnt)
+read-action-claims t = (over-reads.Asked, over-reads.Learnt, read-cycle-below t, read-cycle.Post, read-choice-below t, read-choice.Post, read-plain-reads.Asked, read-plain-reads.Learnt)
 
 abbrev read-actions-claims : ℕ → read-actions-lts.Claims
 read-actions-claims t = (look-reads.Asked, look-reads.Learnt, is-closing-reads.Asked, is-closing-reads.Learnt, read-action-below t, read-action.Post)
@@ -164,15 +164,12 @@ read-labelled-claims t = (read-labels-reads.Asked, read-labels-reads.Learnt, exp
 abbrev read-otherwise-claims : ℕ → read-otherwise-lts.Claims
 read-otherwise-claims t = (expect-word-reads.Asked, expect-word-reads.Learnt, read-actions-below t, read-actions.Post)
 
-read-action-look-requires : (t : ℕ) → read-action-lts.Need-look-requires (read-action-claims t) (read-action-at t) read-action.Post
-read-action-look-requires t c κs = omega arith
-
 read-action-over-requires : (t : ℕ) → read-action-lts.Need-over-requires (read-action-claims t) (read-action-at t) read-action.Post
 read-action-over-requires t c κs = search needs
 
 read-action-returns : (t : ℕ) → read-action-lts.Need-returns (read-action-claims t) (read-action-at t) read-action.Post
 unfolding anAction
-read-action-returns t c = record { reads = record { low = omega arith; high = omega arith; tells = λ k h. yes _ _ _ (c .before .before .before .before .look .ensures) (c .before .before .if1 .taken) (above _ _ _ (c .before .if2 .taken) (overs (c .before .before .before .before .look .ensures) (c .over .ensures))) }; past = λ e. absurd (omega arith) }
+read-action-returns t c = record { reads = record { low = omega arith; high = omega arith; tells = λ k h. yes _ _ _ (c .before .before .before .before .before .pre .1) (c .before .before .if1 .taken) (above _ _ _ (c .before .if2 .taken) (overs (c .before .before .before .before .before .pre .1) (c .over .ensures))) }; past = λ e. absurd (omega arith) }
 
 read-action-sub-read-cycle : (t : ℕ) → read-action-lts.Need-sub-read-cycle (read-action-claims t) (read-action-at t) read-action.Post
 read-action-sub-read-cycle t c = omega arith
@@ -182,14 +179,14 @@ read-action-read-cycle-requires t c κs = omega arith
 
 read-action-returns-2 : (t : ℕ) → read-action-lts.Need-returns-2 (read-action-claims t) (read-action-at t) read-action.Post
 unfolding anAction
-read-action-returns-2 t c = record { reads = record { low = omega arith; high = omega arith; tells = λ k h. yes _ _ _ (c .before .before .before .before .look .ensures) (c .before .before .if1 .taken) (under _ _ _ (c .before .if2 .left) (passes _ (c .before .before .before .before .look .ensures) (omega arith) (c .read-cycle .ensures .tells k (omega (arith, c .before .before .before .before .look .ensures .moves (omega arith)))))) }; past = λ e. omega (arith, c .before .before .before .before .look .ensures .moves (omega arith)) }
+read-action-returns-2 t c = record { reads = record { low = omega arith; high = omega arith; tells = λ k h. yes _ _ _ (c .before .before .before .before .before .pre .1) (c .before .before .if1 .taken) (under _ _ _ (c .before .if2 .left) (passes _ (c .before .before .before .before .before .pre .1) (omega arith) (c .read-cycle .ensures .tells k (omega (arith, c .before .before .before .before .before .pre .1 .moves (omega arith)))))) }; past = λ e. omega (arith, c .before .before .before .before .before .pre .1 .moves (omega arith)) }
 
 read-action-over-requires-2 : (t : ℕ) → read-action-lts.Need-over-requires-2 (read-action-claims t) (read-action-at t) read-action.Post
 read-action-over-requires-2 t c κs = search needs
 
 read-action-returns-3 : (t : ℕ) → read-action-lts.Need-returns-3 (read-action-claims t) (read-action-at t) read-action.Post
 unfolding anAction
-read-action-returns-3 t c = record { reads = record { low = omega arith; high = omega arith; tells = λ k h. no _ _ _ (c .before .before .before .before .before .before .look .ensures) (c .before .before .before .before .if1 .left) (yes _ _ _ (c .before .before .before .before .before .before .look .ensures) (c .before .before .if3 .taken) (above _ _ _ (c .before .if4 .taken) (overs (c .before .before .before .before .before .before .look .ensures) (c .over2 .ensures)))) }; past = λ e. absurd (omega arith) }
+read-action-returns-3 t c = record { reads = record { low = omega arith; high = omega arith; tells = λ k h. no _ _ _ (c .before .before .before .before .before .before .before .pre .1) (c .before .before .before .before .if1 .left) (yes _ _ _ (c .before .before .before .before .before .before .before .pre .1) (c .before .before .if3 .taken) (above _ _ _ (c .before .if4 .taken) (overs (c .before .before .before .before .before .before .before .pre .1) (c .over2 .ensures)))) }; past = λ e. absurd (omega arith) }
 
 read-action-sub-read-choice : (t : ℕ) → read-action-lts.Need-sub-read-choice (read-action-claims t) (read-action-at t) read-action.Post
 read-action-sub-read-choice t c = omega arith
@@ -199,14 +196,14 @@ read-action-read-choice-requires t c κs = omega arith
 
 read-action-returns-4 : (t : ℕ) → read-action-lts.Need-returns-4 (read-action-claims t) (read-action-at t) read-action.Post
 unfolding anAction
-read-action-returns-4 t c = record { reads = record { low = omega arith; high = omega arith; tells = λ k h. no _ _ _ (c .before .before .before .before .before .before .look .ensures) (c .before .before .before .before .if1 .left) (yes _ _ _ (c .before .before .before .before .before .before .look .ensures) (c .before .before .if3 .taken) (under _ _ _ (c .before .if4 .left) (passes _ (c .before .before .before .before .before .before .look .ensures) (omega arith) (c .read-choice .ensures .tells k (omega (arith, c .before .before .before .before .before .before .look .ensures .moves (omega arith))))))) }; past = λ e. omega (arith, c .before .before .before .before .before .before .look .ensures .moves (omega arith)) }
+read-action-returns-4 t c = record { reads = record { low = omega arith; high = omega arith; tells = λ k h. no _ _ _ (c .before .before .before .before .before .before .before .pre .1) (c .before .before .before .before .if1 .left) (yes _ _ _ (c .before .before .before .before .before .before .before .pre .1) (c .before .before .if3 .taken) (under _ _ _ (c .before .if4 .left) (passes _ (c .before .before .before .before .before .before .before .pre .1) (omega arith) (c .read-choice .ensures .tells k (omega (arith, c .before .before .before .before .before .before .before .pre .1 .moves (omega arith))))))) }; past = λ e. omega (arith, c .before .before .before .before .before .before .before .pre .1 .moves (omega arith)) }
 
 read-action-read-plain-requires : (t : ℕ) → read-action-lts.Need-read-plain-requires (read-action-claims t) (read-action-at t) read-action.Post
-read-action-read-plain-requires t c κs = omega arith
+read-action-read-plain-requires t c κs = c .before .before .before .before .before .pre .1
 
 read-action-returns-5 : (t : ℕ) → read-action-lts.Need-returns-5 (read-action-claims t) (read-action-at t) read-action.Post
 unfolding anAction
-read-action-returns-5 t c = record { reads = record { low = omega arith; high = omega arith; tells = λ k h. no _ _ _ (c .before .before .before .before .before .look .ensures) (c .before .before .before .if1 .left) (no _ _ _ (c .before .before .before .before .before .look .ensures) (c .before .if3 .left) (ends _ (c .read-plain .ensures .reads .tells (suc k) (omega arith)))) }; past = λ e. c .read-plain .ensures .past e }
+read-action-returns-5 t c = record { reads = record { low = omega arith; high = omega arith; tells = λ k h. no _ _ _ (c .before .before .before .before .before .before .pre .1) (c .before .before .before .if1 .left) (no _ _ _ (c .before .before .before .before .before .before .pre .1) (c .before .if3 .left) (ends _ (c .read-plain .ensures .reads .tells (suc k) (omega arith)))) }; past = λ e. c .read-plain .ensures .past e }
 
 abbrev read-actions-Inv-loop : read-actions-lts.InvT-loop
 read-actions-Inv-loop text at left i₀ i = (at ≤ i) × (i ≤ length text) × ((r : Out) → Reads text i i (λ k. actions k left) r → Reads text at at (λ k. actions k left) r)
@@ -227,7 +224,7 @@ read-actions-returns : (t : ℕ) → read-actions-lts.Need-returns (read-actions
 read-actions-returns t c = c .before .before .before .loop .inv .2 _ (record { low = omega arith; high = omega arith; tells = fueled (λ k. actions k (c .before .before .before .before .before .args .left)) (omega arith) (λ j h. row-ends j _ (c .before .before .look .ensures) (sym (c .before .is-closing .ensures) ∙ c .if1 .taken) refl refl) })
 
 read-actions-read-action-requires : (t : ℕ) → read-actions-lts.Need-read-action-requires (read-actions-claims t) (read-actions-at t) read-actions.Post read-actions-Inv-loop read-actions-μ-loop
-read-actions-read-action-requires t c κs = omega arith
+read-actions-read-action-requires t c κs = (omega arith, c .before .before .look .ensures)
 
 read-actions-returns-2 : (t : ℕ) → read-actions-lts.Need-returns-2 (read-actions-claims t) (read-actions-at t) read-actions.Post read-actions-Inv-loop read-actions-μ-loop
 read-actions-returns-2 t c = c .before .before .before .before .before .before .loop .inv .2 _ (record { low = omega arith; high = omega arith; tells = fueled (λ k. actions k (c .before .before .before .before .before .before .before .before .args .left)) (omega arith) (λ j h. row-stops j _ (c .before .before .before .before .before .look .ensures) (sym (c .before .before .before .before .is-closing .ensures) ∙ c .before .before .before .if1 .left) (c .before .before .read-action .ensures .reads .tells j (omega arith)) (c .if2 .taken)) })
@@ -370,7 +367,6 @@ pub +read-action+read-actions+read-alternatives+read-choice+read-cycle+read-labe
     μ-read-labelled
     μ-read-otherwise
     (λ t. read-action-lts.spec (read-action-claims t) (read-action-at t) read-action.Post
-    (read-action-look-requires t)
     (read-action-over-requires t)
     (read-action-returns t)
     (read-action-sub-read-cycle t)

@@ -14,12 +14,12 @@ returns : tie.Need-returns
 unfolding nameOrString
 returns c = record { reads = record { low = omega arith; high = omega arith; tells = λ k h. yes _ _ _ (c .before .before .look .ensures) (c .if1 .taken) (passed (c .before .before .look .ensures) (omega arith) refl refl) }; past = λ e. omega (arith, c .before .before .look .ensures .moves (omega arith)) }
 
-read-name-requires : tie.Need-read-name-requires
-read-name-requires c κs = search needs
+check-name-requires : tie.Need-check-name-requires
+check-name-requires c κs = search needs
 
 returns-2 : tie.Need-returns-2
 unfolding nameOrString
-returns-2 c = record { reads = record { low = omega arith; high = omega arith; tells = λ k h. no _ _ _ (c .before .before .before .look .ensures) (c .before .if1 .left) (c .read-name .ensures .reads .tells k h) }; past = λ e. c .read-name .ensures .past e }
+returns-2 c = let named = c .check-name .ensures _ _ (c .before .before .before .look .ensures) in record { reads = record { low = omega arith; high = omega arith; tells = λ k h. no _ _ _ (c .before .before .before .look .ensures) (c .before .if1 .left) (named .reads .tells k h) }; past = named .past }
 
 pub name-or-string-spec : {M : Type 1} → statement M
-name-or-string-spec = tie.close (tie.spec look-requires returns read-name-requires returns-2)
+name-or-string-spec = tie.close (tie.spec look-requires returns check-name-requires returns-2)

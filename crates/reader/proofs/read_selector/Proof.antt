@@ -18,7 +18,7 @@ unfolding aSelector
 returns c = record { low = omega arith; high = omega arith; tells = λ k h. yes _ _ _ (c .before .before .before .look .ensures) (c .before .if1 .taken) (passes _ (c .before .before .before .look .ensures) (omega arith) (ends _ (c .read-name .ensures .reads .tells k (omega arith)))) }
 
 with-constant-requires : tie.Need-with-constant-requires
-with-constant-requires c κs = search needs
+with-constant-requires c κs = c .before .before .before .before .look .ensures
 
 returns-2 : tie.Need-returns-2
 unfolding aSelector

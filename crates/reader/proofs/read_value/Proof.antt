@@ -10,12 +10,12 @@ use Rattle.reader.proofs.read_value.Tie as tie
 look-requires : tie.Need-look-requires
 look-requires c κs = search needs
 
-read-name-requires : tie.Need-read-name-requires
-read-name-requires c κs = search needs
+check-name-requires : tie.Need-check-name-requires
+check-name-requires c κs = search needs
 
 returns : tie.Need-returns
 unfolding aValue
-returns c = record { low = omega arith; high = omega arith; tells = λ k h. yes _ _ _ (c .before .before .before .look .ensures) (c .before .if1 .taken) (ends _ (c .read-name .ensures .reads .tells k h)) }
+returns c = let named = c .check-name .ensures _ _ (c .before .before .before .look .ensures) in record { low = omega arith; high = omega arith; tells = λ k h. yes _ _ _ (c .before .before .before .look .ensures) (c .before .if1 .taken) (ends _ (named .reads .tells k h)) }
 
 returns-2 : tie.Need-returns-2
 unfolding aValue
@@ -27,4 +27,4 @@ returns-3 c = record { low = omega arith; high = omega arith; tells = λ k h. no
 
 pub read-value-spec : {M : Type 1} → statement M
 read-value-spec =
-    tie.close (tie.spec look-requires read-name-requires returns returns-2 returns-3)
+    tie.close (tie.spec look-requires check-name-requires returns returns-2 returns-3)
