@@ -1,21 +1,22 @@
 -- Laws of the store of the numbers.
-use mathlib.Core.Bool.{true, false, _||_, or-false}
+use mathlib.Core.Bool.{Bool, true, false, _||_, _&&_, or-false}
 use mathlib.Core.List.{List, [], _∷_}
 use mathlib.Core.Path.{_≡_, refl, sym, ap, _∙_}
 use native.Mathlib.Nat.{zero-add, mod-eq-of-lt}
+use native.Mathlib.Decide.{decLt}
 use native.Mathlib.Omega.{arith}
-use Prim.Native.Nat.{ℕ, zero, suc, _+_, _*_, _/_, _%_, _^_, _≤_, _<_}
+use Prim.Native.Nat.{ℕ, zero, suc, _+_, _-_, _*_, _/_, _%_, _^_, _≤_, _<_}
 use lib.Bits.{bitOr}
 use lib.Dec.{eqb}
 use lib.ListN.{length, getD, set, replicate, length-set, length-replicate, getD-replicate, List·getD-eq-default}
 use lib.Pow.{pow-lt}
 use lib.Seq.{ext-getD, getD-set-same, getD-set-other}
 use borrow.Author.Tests.{eq-eqb, ne-eqb, eqb-true, eqb-false}
-use Rattle.base.specs.Bools.{split, or₂}
+use Rattle.base.specs.Bools.{split, and, or₂}
 use Rattle.verdict.specs.Told.{bit}
 use Rattle.verdict.proofs.Sets.{bit-or, bit-one, bit-zero}
 use Rattle.meter.specs.Makes.{half, cap}
-use Rattle.meter.specs.Steps.{flagOf, calledOf}
+use Rattle.meter.specs.Steps.{flagOf, calledOf, ZeroIn, NoneCalled}
 use Rattle.meter.specs.Store.{atCap, numberIn, numbersFrom, numbersOf, calledNumbers}
 
 -- The numbers one by one
@@ -140,6 +141,56 @@ cleared-numbers ws e = ext-getD 0 (numbersOf ws) (replicate 4353 0) (length-numb
     none : (i : ℕ) → i < 4353 → getD (numbersOf ws) i 0 ≡ getD (replicate 4353 0) i 0
     none i h = number-word ws i h (no-bit i h) ∙ zero-word i (omega arith) ∙ sym (getD-replicate 4353 i 0 0 h)
 
+-- Numbers whose bits stand in one word, where that word and theirs up to a place are 0
+pub record ClearUpto (ws : List ℕ) (i j : ℕ) : Type 0 where
+  pub bits : getD ws (4353 + i / 32) 0 ≡ 0
+  pub words : (k : ℕ) → k < j → getD ws (i + k) 0 ≡ 0
+
+pub clear-first : (ws : List ℕ) (i : ℕ) → eqb (getD ws (4353 + i / 32) 0) 0 ≡ true → ClearUpto ws i 0
+clear-first ws i e = record { bits = eqb-true (getD ws (4353 + i / 32) 0) 0 e; words = λ k l. absurd (omega arith) }
+
+pub clear-next : (ws : List ℕ) (i j : ℕ) (b : Bool) → (b ≡ true → ClearUpto ws i j) → (b && eqb (getD ws (i + j) 0) 0) ≡ true → ClearUpto ws i (j + 1)
+clear-next ws i j b f e =
+    let x = and b (eqb (getD ws (i + j) 0) 0) e in
+    let c = f (x .0) in
+    record {
+      bits = c .bits;
+      words = λ k l. elim (decLt k j) [
+        | yes y ↦ c .words k y
+        | no y ↦ let d : k ≡ j = omega arith in rw d (eqb-true (getD ws (i + j) 0) 0 (x .1))
+      ];
+    }
+
+pub clear-all : (ws : List ℕ) (i : ℕ) → i + 32 ≤ 4353 → i % 32 ≡ 0 → ClearUpto ws i 32 → ZeroIn (numbersOf ws) i (i + 32)
+unfolding atCap
+clear-all ws i h d c = record {
+  zero = λ k x y.
+      let q : k / 32 ≡ i / 32 = omega arith in
+      let e : i + (k - i) ≡ k = omega arith in
+      let z : getD ws k 0 ≡ 0 = rw e at (c .words (k - i) (omega arith)) in
+      let no-bit : atCap ws k ≡ false = ap (λ (n : ℕ). bit (getD ws (4353 + n) 0) (k % 32)) q ∙ ap (λ (n : ℕ). bit n (k % 32)) (c .bits) ∙ bit-zero (k % 32) in
+      number-word ws k (omega arith) no-bit ∙ z;
+}
+
+-- Numbers that are 0, one behind the other
+
+pub zero-none : (ns : List ℕ) (i : ℕ) → ZeroIn ns i i
+zero-none ns i = record { zero = λ k x y. absurd (omega arith) }
+
+pub zero-one : (ns : List ℕ) (i : ℕ) → getD ns i 0 ≡ 0 → ZeroIn ns i (i + 1)
+zero-one ns i e = record { zero = λ k x y. let d : k ≡ i = omega arith in rw d e }
+
+pub zero-less : (ns : List ℕ) (i m n : ℕ) → m ≤ n → ZeroIn ns i n → ZeroIn ns i m
+zero-less ns i m n h z = record { zero = λ k x y. z .zero k x (omega arith) }
+
+pub zero-more : {ns : List ℕ} {i m n : ℕ} → ZeroIn ns i m → ZeroIn ns m n → ZeroIn ns i n
+zero-more {m = m} a b = record {
+  zero = λ k x y. elim (decLt k m) [
+    | yes l ↦ a .zero k x l
+    | no l ↦ b .zero k (omega arith) y
+  ];
+}
+
 -- The first half, where it is lent
 
 pub called-all : (ws : List ℕ) → length ws ≡ 4490 → calledNumbers ws ≡ numbersOf ws
@@ -169,3 +220,9 @@ module _ (ws : List ℕ) where
   pub called-own : (rows : List ℕ) (i : ℕ) → (length ws ≡ 4490 → ⊥) → calledOf (calledNumbers ws) rows i ≡ getD rows i 0
   unfolding calledOf
   called-own rows i n = rw (called-none ws n) refl
+
+  pub none-first : (rows : List ℕ) (i n : ℕ) → length ws ≡ 4490 → ZeroIn (numbersOf ws) i n → NoneCalled (calledNumbers ws) rows i n
+  none-first rows i n e z = record { zero = λ k x y. called-first rows k e ∙ z .zero k x y }
+
+  pub none-own : (rows : List ℕ) (i n : ℕ) → (length ws ≡ 4490 → ⊥) → ZeroIn rows i n → NoneCalled (calledNumbers ws) rows i n
+  none-own rows i n e z = record { zero = λ k x y. called-own rows k e ∙ z .zero k x y }

@@ -11,7 +11,7 @@ use Rattle.base.specs.Bools.{never}
 use Rattle.machine.specs.Decode.{choice}
 use Rattle.meter.specs.Makes.{half, cap}
 use Rattle.meter.specs.Shaped.{startOf, endOf, InRule}
-use Rattle.meter.specs.Steps.{rowOf, left, Kept, Steps, Both, this, that, ValueAt, Values, values, AskedAt, AskedBelow, asked-below, AskedFrom, asked-from, Settled}
+use Rattle.meter.specs.Steps.{rowOf, calledOf, left, Kept, Steps, Both, this, that, ValueAt, value-at, Values, values, NoneCalled, AskedAt, AskedBelow, asked-below, AskedFrom, asked-from, Settled}
 use Rattle.meter.proofs.Raising.{stays, seq, covers}
 
 -- The values of a rule
@@ -36,6 +36,24 @@ values-next {T} {S} {called} {c} {k} {q} {p = p} u h x e = rw e (record { from =
     split {rows} {i} {v} (values {p = o} y l m) = elim (decLt o p) [
       | yes z ↦ this (values y z m)
       | no z ↦ let f : o ≡ p = omega arith in let n : ValueAt T called c k p rows i v = rw f at m in that n
+    ]
+
+-- places without a number set no value
+pub values-past : {T S called : List ℕ} {c k q to p n : ℕ} {rows after : List ℕ} {b : Bool} → ValuesUpto T S called c k q to p rows after b → p ≤ n → n ≤ to → NoneCalled called after p n
+    → ValuesUpto T S called c k q to n rows after b
+values-past {T} {S} {called} {c} {k} {q} {to} {p} {n} {rows} {after} {b} u h l z = record {
+  from = omega (arith, u .from);
+  upto = l;
+  is-end = u .is-end;
+  steps = record { kept = u .steps .kept; grows = u .steps .grows; same = u .steps .same; less = u .steps .less; all = λ e {i} {v} m d. one e m d };
+}
+  where
+    one : b ≡ false → {i v : ℕ} → Values T S called c k q n rows i v → i < half → min v cap ≤ rowOf rows i
+    one e (values {p = o} y x (value-at d f)) w = elim (decLt o p) [
+      | yes g ↦ u .steps .all e (values y g (value-at d f)) w
+      | no g ↦
+          let r : calledOf called rows o ≡ 0 = rw (u .steps .same e) at (z .zero o (omega arith) x) in
+          absurd (omega (arith, f, r))
     ]
 
 pub values-all : {T S called : List ℕ} {c k q to p : ℕ} {rows after : List ℕ} {b : Bool} → ValuesUpto T S called c k q to p rows after b → to ≤ p → Steps T S (Values T S called c k q (endOf (length T) S q)) called rows after b
@@ -179,8 +197,8 @@ settling-next {T} {S} {called} {rows} {mid} {after} {a} {b} u x = record {
         rw q (x .all e n h)
 
 -- what goes before a sweep
-pub settling-hurried : {T S called rows mid after : List ℕ} {a b : Bool} → Settling T S called rows mid a → Steps T S (AskedFrom T S called (length S)) called mid after b → Settling T S called rows after true
-settling-hurried u x = record { kept = x .kept; grows = λ i. omega (arith, u .grows i, x .grows i); done = λ e. never (sym e) }
+pub settling-rounds : {T S called rows mid after : List ℕ} {a b : Bool} → Settling T S called rows mid a → Steps T S (AskedFrom T S called (length S)) called mid after b → Settling T S called rows after true
+settling-rounds u x = record { kept = x .kept; grows = λ i. omega (arith, u .grows i, x .grows i); done = λ e. never (sym e) }
 
 pub no-more-left : {T S called rows after : List ℕ} {q : ℕ} {b : Bool} → Steps T S (AskedFrom T S called q) called rows after b → left after ≤ left rows
 no-more-left {rows = rows} {after = after} {b = b} x = go b (x .less) (x .same)

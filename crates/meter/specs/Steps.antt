@@ -156,6 +156,14 @@ pub data AskedBelow (T S called : List ℕ) (r m : ℕ) (rows : List ℕ) (i v :
 pub data AskedFrom (T S called : List ℕ) (q : ℕ) (rows : List ℕ) (i v : ℕ) : Type 0 where
   asked-from : {r l : ℕ} → q ≤ r → r < length S → InRule T S r l → AskedAt T S called r l rows i v → AskedFrom T S called q rows i v
 
+-- the numbers from one place to another are 0
+pub record ZeroIn (ns : List ℕ) (from to : ℕ) : Type 0 where
+  pub zero : (i : ℕ) → from ≤ i → i < to → getD ns i 0 ≡ 0
+
+-- those of the called rules
+pub record NoneCalled (called rows : List ℕ) (from to : ℕ) : Type 0 where
+  pub zero : (i : ℕ) → from ≤ i → i < to → calledOf called rows i ≡ 0
+
 -- the greatest number from an index on
 pub record Greatest (rows : List ℕ) (from q : ℕ) : Type 0 where
   pub most : (i : ℕ) → from ≤ i → getD rows i 0 ≤ q

@@ -7,7 +7,7 @@ ghost use mathlib.Core.Option.{none, some};
 ghost use Prim.Native.Nat.{_+_, _*_, _-_, _<_, _≤_, min};
 ghost use lib.ListN.{length, getD, set, replicate};
 ghost use Rattle.machine.specs.Bytes.{tableOf};
-ghost use Rattle.meter.specs.Steps.{flagOf, calledOf, Kept, Here, Steps, IsBelow, Raised, LabelRaised, MakesAt, RaisedTwo, WaysRaised, Visited, TokenVisited, ValueAt, ValueHere, CallsHere, Values, Behind, ChoiceAt, AskedAt, AskedBelow, AskedFrom, Greatest, Begun, Settled};
+ghost use Rattle.meter.specs.Steps.{flagOf, calledOf, Kept, Here, Steps, IsBelow, Raised, LabelRaised, MakesAt, RaisedTwo, WaysRaised, Visited, TokenVisited, ValueAt, ValueHere, CallsHere, Values, Behind, ChoiceAt, AskedAt, AskedBelow, AskedFrom, Greatest, ZeroIn, NoneCalled, Begun, Settled};
 ghost use Rattle.machine.specs.Decode.{callRule, choice, decodeOne, decodeTwo, decode};
 ghost use Rattle.meter.specs.Shaped.{Rising, Between, indexOf, endOf, InRule, Fits, Shaped};
 ghost use Rattle.meter.specs.Found.{Found};
@@ -28,6 +28,8 @@ const CAP: u64 = 4294967296;
 
 // The store of a half: a word for each number, then a bit for each, set where the number is CAP.
 const WORD_BITS: usize = 32;
+
+const LAST_WORD: usize = HALF - WORD_BITS;
 
 pub const ROWS: usize = 4490;
 
@@ -319,6 +321,69 @@ fn raise_value(
     raise(rows, way, here.number + m + 3)
 }
 
+// The numbers from i on whose bits stand in one word are 0.
+fn is_clear(rows: &[u32], i: usize) -> bool
+    requires { ⌜ (length (now rows) ≡ 4490) × (i + 32 ≤ 4353) ⌝ }
+    ensures { λ b. ⌜ (b ≡ true → ZeroIn (numbersOf (now (rows .entry))) i (i + 32)) ⌝ }
+{
+    if i % WORD_BITS != 0 {
+        return false;
+    }
+    let mut clear = rows[HALF + i / WORD_BITS] == 0;
+    let mut j: usize = 0;
+    while j < WORD_BITS {
+        clear = clear & (rows[i + j] == 0);
+        j += 1;
+    }
+    clear
+}
+
+// Past numbers that are 0, from i on and before an end: as many at once as have their bits in one word, or one, or none.
+fn past_zeros(rows: &[u32], i: usize, to: usize) -> usize
+    requires { ⌜ (length (now rows) ≡ 4490) × (i < to) ⌝ }
+    ensures { λ n. ⌜ (i ≤ n) × (n ≤ to) × ZeroIn (numbersOf (now (rows .entry))) i n ⌝ }
+{
+    if i < LAST_WORD {
+        if is_clear(rows, i) {
+            if to < i + WORD_BITS {
+                return to;
+            }
+            return i + WORD_BITS;
+        }
+    }
+    if number(rows, i) == 0 {
+        return i + 1;
+    }
+    i
+}
+
+// The first place from i on, before an end, with a number; the end where none has one.
+fn next_numbered(rows: &[u32], i: usize, to: usize) -> usize
+    requires { ⌜ (length (now rows) ≡ 4490) × (i ≤ to) ⌝ }
+    ensures { λ n. ⌜ (i ≤ n) × (n ≤ to) × ZeroIn (numbersOf (now (rows .entry))) i n ⌝ }
+{
+    let mut at = i;
+    while at < to {
+        let next = past_zeros(rows, at, to);
+        if next == at {
+            return at;
+        }
+        at = next;
+    }
+    at
+}
+
+// The same among the numbers of called rules.
+fn next_called(called: &[u32], rows: &[u32], i: usize, to: usize) -> usize
+    requires { ⌜ (length (now rows) ≡ 4490) × (i ≤ to) ⌝ }
+    ensures { λ n. ⌜ (i ≤ n) × (n ≤ to) × NoneCalled (calledNumbers (now (called .entry))) (numbersOf (now (rows .entry))) i n ⌝ }
+{
+    if called.len() == ROWS {
+        return next_numbered(called, i, to);
+    }
+    next_numbered(rows, i, to)
+}
+
 // The location of the table of the choice at l; 0 where no choice stands.
 fn choice_at(table: &[u8], l: usize) -> usize
     requires { ⌜ (1 ≤ l) × (l < 10000) ⌝ }
@@ -352,7 +417,7 @@ fn raise_values(
     while p < to {
         let more = raise_value(table, starts, p, c, called, here, rows);
         changed = either(changed, more);
-        p += 1;
+        p = next_called(called, rows, p + 1, to);
     }
     changed
 }
@@ -576,7 +641,7 @@ struct Raisings {
 }
 
 // Rule q was raised since rule r was swept: rules are swept from the last on.
-fn is_news(s: Raisings, q: usize, r: usize) -> bool {
+fn is_changed(s: Raisings, q: usize, r: usize) -> bool {
     if is_due(s.now, q) {
         return true;
     }
@@ -587,12 +652,12 @@ fn is_news(s: Raisings, q: usize, r: usize) -> bool {
 }
 
 // The word at a location is that of a call, and the rule that is called was raised since rule r was swept.
-fn calls_news(table: &[u8], starts: &[usize], s: Raisings, r: usize, l: usize) -> bool
+fn calls_changed(table: &[u8], starts: &[usize], s: Raisings, r: usize, l: usize) -> bool
     requires { ⌜ Rising (now starts) × (1 ≤ l) × (l < length (tableOf (now table))) × (length (tableOf (now table)) ≤ 4096) ⌝ }
 {
     if loader::word_at(table, l) == CALL {
         let q = rule_at(starts, loader::word_at(table, l + 1));
-        return is_news(s, q, r);
+        return is_changed(s, q, r);
     }
     false
 }
@@ -627,13 +692,13 @@ fn upper(table: &[u8], starts: &[usize], i: usize) -> usize
 }
 
 // Rule r calls one that was raised since it was swept.
-fn has_news(table: &[u8], starts: &[usize], s: Raisings, r: usize) -> bool
+fn has_changed_call(table: &[u8], starts: &[usize], s: Raisings, r: usize) -> bool
     requires { ⌜ Rising (now starts) × (r < 1000) × (length (tableOf (now table)) ≤ 4096) ⌝ }
 {
     let to = upper(table, starts, r + 1);
     let mut l = place(starts, r);
     while l < to {
-        if calls_news(table, starts, s, r, l) {
+        if calls_changed(table, starts, s, r, l) {
             return true;
         }
         l += 1;
@@ -643,14 +708,14 @@ fn has_news(table: &[u8], starts: &[usize], s: Raisings, r: usize) -> bool
 
 // Rule r is to be swept: it was raised in the round before or, as long as the numbers of called rules rise, one that it calls was. Nothing depends on it but
 // the number of visits.
-fn is_stirred(table: &[u8], starts: &[usize], s: Raisings, r: usize, first: bool) -> bool
+fn is_pending(table: &[u8], starts: &[usize], s: Raisings, r: usize, first: bool) -> bool
     requires { ⌜ Rising (now starts) × (r < 1000) × (length (tableOf (now table)) ≤ 4096) ⌝ }
 {
     if is_due(s.before, r) {
         return true;
     }
     if first {
-        return has_news(table, starts, s, r);
+        return has_changed_call(table, starts, s, r);
     }
     false
 }
@@ -694,7 +759,7 @@ fn round(table: &[u8], starts: &[usize], called: &[u32], raised: Due, rows: &mut
             before: raised,
             now,
         };
-        let on = is_stirred(table, starts, s, r, first);
+        let on = is_pending(table, starts, s, r, first);
         let more = sweep_if(table, starts, r, called, rows, on);
         changed = either(changed, more);
         now = with_due(now, r, more);
@@ -717,7 +782,7 @@ fn less(left: usize, due: Due) -> usize
 }
 
 // Rounds until nothing is due, or many of them.
-fn hurry(table: &[u8], starts: &[usize], called: &[u32], rows: &mut [u32]) -> bool
+fn rounds(table: &[u8], starts: &[usize], called: &[u32], rows: &mut [u32]) -> bool
     requires { ⌜ Kept (tableOf (now table)) (now starts) (calledNumbers (now called)) (numbersOf (now rows)) × (length (now rows) ≡ 4490) ⌝ }
     ensures { λ b. ⌜ Steps (tableOf (now (table .entry))) (now (starts .entry)) (AskedFrom (tableOf (now (table .entry))) (now (starts .entry)) (calledNumbers (now (called .entry))) (length (now (starts .entry)))) (calledNumbers (now (called .entry))) (numbersOf (now (rows .entry))) (numbersOf (now (rows .exit))) b ⌝ }
 {
@@ -737,12 +802,12 @@ fn hurry(table: &[u8], starts: &[usize], called: &[u32], rows: &mut [u32]) -> bo
 }
 
 // Rounds, where they are due by now.
-fn hurry_if(table: &[u8], starts: &[usize], called: &[u32], late: bool, rows: &mut [u32]) -> bool
+fn rounds_if(table: &[u8], starts: &[usize], called: &[u32], late: bool, rows: &mut [u32]) -> bool
     requires { ⌜ Kept (tableOf (now table)) (now starts) (calledNumbers (now called)) (numbersOf (now rows)) × (length (now rows) ≡ 4490) ⌝ }
     ensures { λ b. ⌜ Steps (tableOf (now (table .entry))) (now (starts .entry)) (AskedFrom (tableOf (now (table .entry))) (now (starts .entry)) (calledNumbers (now (called .entry))) (length (now (starts .entry)))) (calledNumbers (now (called .entry))) (numbersOf (now (rows .entry))) (numbersOf (now (rows .exit))) b ⌝ }
 {
     if late {
-        return hurry(table, starts, called, rows);
+        return rounds(table, starts, called, rows);
     }
     false
 }
@@ -761,9 +826,9 @@ fn settle(table: &[u8], starts: &[usize], called: &[u32], rows: &mut [u32])
 {
     let mut changed = true;
     let mut up = false;
-    let mut early: usize = 3;
+    let mut early: usize = 5;
     while changed {
-        hurry_if(table, starts, called, early == 0, rows);
+        rounds_if(table, starts, called, early == 0, rows);
         changed = sweep(table, starts, called, up, rows);
         up = !up;
         early = before(early);

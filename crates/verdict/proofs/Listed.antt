@@ -8,7 +8,8 @@ use native.Mathlib.Numerals.{add-one}
 use lib.Dec.{eqb}
 use lib.ListN.{length, take, drop, getD, set, length-drop}
 use lib.Seq.{drop-cons, getD-drop, take-suc, take-suc-set}
-use borrow.Author.Tests.{eq-eqb, ne-eqb}
+use borrow.Author.Tests.{eq-eqb, ne-eqb, eqb-true, eqb-false}
+use Rattle.base.specs.Bools.{split}
 use Rattle.base.proofs.Laws.{neither}
 use Rattle.base.specs.Common.{if_then_else_, member}
 use Rattle.finishing.specs.Test.{some-below}
@@ -97,3 +98,11 @@ open-end cells facts m r i to h =
 -- one place more of which a property does not hold
 pub neither-one : (f : ℕ → Bool) (b : Bool) (j : ℕ) → (b ≡ false → (i : ℕ) → i < j → f i ≡ false) → (b || f j) ≡ false → (i : ℕ) → i < j + 1 → f i ≡ false
 neither-one f b j h e i l = elim (last j i (omega arith)) [ inl x ↦ h (neither b (f j) e .0) i x | inr x ↦ rw x (neither b (f j) e .1) ]
+
+-- facts as numbers: two are the same where rule and value are
+pub packed-same : (a b r v p q : ℕ) → p ≡ a + 65536 * b → a < 65536 → q ≡ r + 65536 * v → r < 65536 → eqb p q ≡ (eqb a r && eqb b v)
+packed-same a b r v p q e h f l = split (eqb a r)
+    (λ t. split (eqb b v)
+    (λ u. rw (t, u) (eq-eqb p q (omega (arith, e, f, eqb-true a r t, eqb-true b v u))))
+    (λ u. rw (t, u) (ne-eqb p q (λ d. eqb-false b v u (omega (arith, e, f, d, eqb-true a r t))))))
+    (λ t. rw t (ne-eqb p q (λ d. eqb-false a r t (omega (arith, e, f, d, h, l)))))

@@ -7,8 +7,8 @@ use mathlib.Core.List.{List}
 use native.Mathlib.Omega.{arith}
 use native.Mathlib.Decide.{decLt}
 use lib.Dec.{eqb}
-use lib.ListN.{length, getD, drop, length-drop}
-use lib.Seq.{getD-drop}
+use lib.ListN.{length, getD, take, drop, length-take, length-drop}
+use lib.Seq.{getD-drop, getD-take, length-take-le}
 use borrow.Author.Tests.{eq-eqb, eqb-true, le-ltb, not-false}
 use Rattle.base.specs.Bools.{never, or, and, or₁, both}
 use Rattle.program.specs.Program.{Rule, bodyOf}
@@ -16,7 +16,7 @@ use Rattle.finishing.specs.Finishing.{Gives, Passed}
 use Rattle.finishing.specs.Test.{Known, end, return, gives, quiets, loops, passes}
 use Rattle.finishing.proofs.Rounds.{values-in}
 use Rattle.finishing.proofs.Paths.{passes-sound, gives-sound}
-use Rattle.verdict.specs.Told.{member, knownIn, Tells, RuleTold, Laid, True, Exhausts, Apart, ClosedAt, alike, Same, GatheredTold, NotesTold, outside, Widens, Joined, Looks, TriedTold, LookedTold, SweepTold, LearntTold}
+use Rattle.verdict.specs.Told.{member, knownIn, Tells, RuleTold, Laid, True, Exhausts, Apart, ClosedAt, alike, Same, GatheredTold, NotesTold, outside, Widens, Joined, Looks, AskedTold, TriedTold, LookedTold, SweepTold, LearntTold}
 use Rattle.verdict.specs.declared.Rules.{Rules}
 use Rattle.verdict.specs.declared.Ways.{Ways}
 use Rattle.verdict.specs.declared.Learnt.{Learnt}
@@ -87,7 +87,7 @@ module _ (cells starts : List ℕ) (r : ℕ) (j : Learnt) (old : List ℕ) (vs :
   }
 
   pub look-told : (from to : ℕ) → r < 128 → GatheredTold cells from to old (j .count) r vs g
-      → TriedTold cells starts r j old from to (record { known = record { passed = qs; count = count }; at = g .next; end = w .next }) new
+      → TriedTold cells starts r j old from to (record { known = record { passed = qs; count = count }; given = w .given; at = g .next; end = w .next }) new
   look-told from to s gt = record {
     looks = record {
       widens = record { facts = notes .grows; sets = joined .grows s };
@@ -105,23 +105,60 @@ module _ (cells starts : List ℕ) (r : ℕ) (j : Learnt) (old : List ℕ) (vs :
     within = gt .within;
   }
 
--- a look after another at the same values
-pub tried-again : (cells starts : List ℕ) (r : ℕ) (j : Learnt) (old : List ℕ) (from to : ℕ) (t : Look) (mid : List ℕ) (u : Look) (new : List ℕ) → TriedTold cells starts r j old from to t mid → TriedTold cells starts r (t .known) mid from to u new → TriedTold cells starts r j old from to u new
-tried-again cells starts r j old from to t mid u new a b =
+-- nothing is to be asked for from a place to the same
+pub gather-nothing : (cells : List ℕ) (at : ℕ) (facts : List ℕ) (m r : ℕ) (vs : List ℕ) → GatheredTold cells at at facts m r vs (record { count = length vs; next = at })
+gather-nothing cells at facts m r vs = record {
+  after = omega arith;
+  within = omega arith;
+  further = λ h. absurd (omega arith);
+  few = omega arith;
+  all = λ i x y. absurd (omega arith);
+}
+
+-- the values beyond those to ask for are not needed
+pub gather-first : (cells : List ℕ) (from to : ℕ) (facts : List ℕ) (m r : ℕ) (vs : List ℕ) (g : Query) → GatheredTold cells from to facts m r vs g
+    → GatheredTold cells from to facts m r (take (g .count) vs) (record { count = length (take (g .count) vs); next = g .next })
+gather-first cells from to facts m r vs g t =
+    let n : length (take (g .count) vs) ≡ g .count = length-take-le (g .count) vs (t .few) in
+    record {
+      after = t .after;
+      within = t .within;
+      further = t .further;
+      few = omega arith;
+      all = λ i x y e. elim (t .all i x y e) [
+        | inl z ↦ inl z
+        | inr z ↦ inr (record { index = z .index; below = omega (arith, n, z .below); its = getD-take (g .count) vs (z .index) 0 (z .below) ∙ z .its })
+      ];
+    }
+
+pub take-most : (n : ℕ) (l : List ℕ) → length (take n l) ≤ n
+take-most n l = omega (arith, length-take n l)
+
+-- the place that a look says
+pub look-at : (cells starts : List ℕ) (r : ℕ) (j : Learnt) (old vs : List ℕ) (at : ℕ) (t : Look) (new : List ℕ) → AskedTold cells starts r j old vs at t new → t .at ≡ at
+look-at cells starts r j old vs at t new a =
+    let x = a .told at at (gather-nothing cells at old (j .count) r vs) in
+    omega (arith, x .looks .after, x .within)
+
+-- a look after one that brought values, whatever it asks for
+pub tried-more : (cells starts : List ℕ) (r : ℕ) (j : Learnt) (old : List ℕ) (from to : ℕ) (t : Look) (mid vs : List ℕ) (at : ℕ) (u : Look) (new : List ℕ) → t .at ≡ at → j .count < t .known .count
+    → TriedTold cells starts r j old from to t mid → AskedTold cells starts r (t .known) mid vs at u new → TriedTold cells starts r j old from to u new
+tried-more cells starts r j old from to t mid vs at u new e h a b =
+    let x = b .told at at (gather-nothing cells at mid (t .known .count) r vs) in
     let w = a .looks .widens in
-    let v = b .looks .widens in
+    let v = x .looks .widens in
     record {
       looks = record {
         widens = widens-trans j (t .known) (u .known) old mid new w v;
-        after = b .looks .after;
-        inside = b .looks .inside;
-        holds = λ prog l d x. b .looks .holds prog l d (a .looks .holds prog l d x);
-        ends = b .looks .ends;
-        passing = λ prog l d s. b .looks .passing prog l d (same-mid j (t .known) (u .known) old mid new w v s .1);
-        tried = λ prog l d s. b .looks .tried prog l d (same-mid j (t .known) (u .known) old mid new w v s .1);
+        after = omega (arith, e, a .looks .after, x .looks .after);
+        inside = x .looks .inside;
+        holds = λ prog l d y. x .looks .holds prog l d (a .looks .holds prog l d y);
+        ends = x .looks .ends;
+        passing = λ prog l d s. absurd (omega (arith, h, v .facts .more, s .count));
+        tried = λ prog l d s. absurd (omega (arith, h, v .facts .more, s .count));
       };
-      further = b .further;
-      within = b .within;
+      further = λ f. omega (arith, e, a .further f, x .looks .after);
+      within = omega (arith, e, a .within, x .within);
     }
 
 -- Looks one after the other

@@ -282,6 +282,10 @@ pub record TriedTold (cells starts : List ℕ) (r : ℕ) (j : Learnt) (old : Lis
   pub further : from < to → from < t .at
   pub within : t .at ≤ to
 
+-- one look for these values: it tried those up to at, if they are what is to be asked for up to there
+pub record AskedTold (cells starts : List ℕ) (r : ℕ) (j : Learnt) (old vs : List ℕ) (at : ℕ) (t : Look) (new : List ℕ) : Type 0 where
+  pub told : (from to : ℕ) → GatheredTold cells from to old (j .count) r vs (record { count = length vs; next = at }) → TriedTold cells starts r j old from to t new
+
 pub record LookedTold (cells starts : List ℕ) (r : ℕ) (j : Learnt) (old : List ℕ) (k : Learnt) (new : List ℕ) : Type 0 where
   pub widens : Widens j old k new
   pub holds : (prog : List Rule) → r < length prog → Laid cells starts prog → True prog (j .passed) old (j .count) → True prog (k .passed) new (k .count)

@@ -8,7 +8,7 @@ ghost use Prim.Native.Nat.{_*_};
 ghost use mathlib.Core.Bool.{not};
 ghost use Rattle.base.specs.Common.{member as listed};
 ghost use Rattle.finishing.specs.Test.{some-below};
-ghost use Rattle.verdict.specs.Told.{member, someIn, knownIn, Simple, Giving, Then, Either, Covers, Worth, Cycled, Calling, Placed, pastCell, takes, heads, LeafTold, ActTold, ActsTold, AltsTold, ValuedTold, Collected, RuleTold, rowOf, sought, GatheredTold, NotedTold, NotesTold, Joined, TriedTold, LookedTold, SweepTold, LearntTold, alike, Puts, Widened, Closure, Arrows, Verdict};
+ghost use Rattle.verdict.specs.Told.{member, someIn, knownIn, Simple, Giving, Then, Either, Covers, Worth, Cycled, Calling, Placed, pastCell, takes, heads, LeafTold, ActTold, ActsTold, AltsTold, ValuedTold, Collected, RuleTold, rowOf, sought, GatheredTold, NotedTold, NotesTold, Joined, AskedTold, TriedTold, LookedTold, SweepTold, LearntTold, alike, Puts, Widened, Closure, Arrows, Verdict};
 use base::cell;
 use base::number;
 use base::wide;
@@ -427,15 +427,23 @@ fn holds(cells: &[u16], from: usize, to: usize, v: u16) -> bool
     false
 }
 
+// A fact as one number, so that several are compared at once.
+fn packed(r: u16, v: u16) -> usize
+    ensures { λ n. ⌜ (n ≡ r + 65536 * v) × (r < 65536) ⌝ }
+{
+    wide(r) + 65536 * wide(v)
+}
+
 // Rule r is known to return v.
 fn told(facts: &[u16], m: usize, r: u16, v: u16) -> bool
     requires { ⌜ 2 * m ≤ length (now facts) ⌝ }
     ensures { λ b. ⌜ b ≡ someIn (now (facts .entry)) m r (λ u. eqb u v) ⌝ }
 {
+    let fact = packed(r, v);
     let mut some = false;
     let mut i = 0;
     while i < m {
-        some = some | ((facts[2 * i] == r) & (facts[2 * i + 1] == v));
+        some = some | (packed(facts[2 * i], facts[2 * i + 1]) == fact);
         i += 1;
     }
     some
@@ -687,9 +695,11 @@ fn grown(facts: &mut [u16], m: usize, r: u16, wanted: &[u16], n: usize, given: R
     k
 }
 
-// What looks at a rule brought: what is known then, the cell up to which its values were tried, and the rule's end.
+// What looks at a rule brought: what is known then, the values of the last look's that it returns (a bit for each), the cell up to which its values were tried,
+// and the rule's end.
 pub struct Look {
     pub known: Learnt,
+    pub given: Rules,
     pub at: usize,
     pub end: usize,
 }
@@ -706,8 +716,66 @@ fn joined(ps: Rules, r: usize, on: bool) -> Rules
     ps
 }
 
-// One look at rule r: it may be passed, and may return values that stand from one place to another, as many as can be asked for at once.
+// One look at rule r: it may be passed, and may return values asked for, which are those that stand up to a place.
 fn tried(
+    cells: &[u16],
+    starts: &[u16],
+    r: u16,
+    k: Learnt,
+    facts: &mut [u16],
+    wanted: &[u16],
+    at: usize,
+) -> Look
+    requires { ⌜ (length (now wanted) ≤ 128) × (2 * k .count ≤ length (now facts)) × (r < 128) ⌝ }
+    ensures { λ t. ⌜ AskedTold (now (cells .entry)) (now (starts .entry)) r k (now (facts .entry)) (now (wanted .entry)) at t (now (facts .exit)) ⌝ }
+{
+    let w = rule(cells, starts, wide(r), k, facts, wanted);
+    let ps = k.passed;
+    let given = w.given;
+    let count = grown(facts, k.count, r, wanted, wanted.len(), given);
+    Look {
+        known: Learnt {
+            passed: joined(ps, wide(r), w.end | w.ret),
+            count,
+        },
+        given,
+        at,
+        end: w.next,
+    }
+}
+
+// The first n values without those of a set; how many are left.
+fn without(wanted: &mut [u16], n: usize, given: Rules) -> usize
+    requires { ⌜ n ≤ length (now wanted) ⌝ }
+    ensures { λ k. ⌜ k ≤ n ⌝ }
+{
+    let mut k = 0;
+    let mut j = 0;
+    while j < n {
+        if !has(given, j) {
+            wanted[k] = wanted[j];
+            k += 1;
+        }
+        j += 1;
+    }
+    k
+}
+
+// The facts that there were before a look at rule r, where a further one may bring more: it brought some, and the rule calls itself. Else all that there are.
+fn facts_before(cells: &[u16], from: usize, to: usize, r: u16, had: usize, count: usize) -> usize
+    ensures { λ n. ⌜ (had ≤ count → had ≤ n) ⌝ }
+{
+    if had < count {
+        if calls(cells, from, to, wide(r)) {
+            return had;
+        }
+    }
+    count
+}
+
+// Rule r looked at for the values that stand from one place to another, as many as can be asked for at once; where it calls itself, until a look brings no value
+// more: what one value opens may return the next.
+fn tried_to_fixpoint(
     cells: &[u16],
     starts: &[u16],
     r: u16,
@@ -721,43 +789,14 @@ fn tried(
 {
     let mut wanted = [0u16; MOST_WANTED];
     let g = gathered(cells, from, to, facts, k.count, r, &mut wanted);
-    let w = rule(cells, starts, wide(r), k, facts, &wanted);
-    let ps = k.passed;
-    let given = w.given;
-    let count = grown(facts, k.count, r, &wanted, g.count, given);
-    Look {
-        known: Learnt {
-            passed: joined(ps, wide(r), w.end | w.ret),
-            count,
-        },
-        at: g.next,
-        end: w.next,
-    }
-}
-
-fn chosen(on: bool, a: usize, b: usize) -> usize {
-    if on { a } else { b }
-}
-
-// The same, and where the rule calls itself until a look brings no value more: what one value opens may return the next.
-fn pressed(
-    cells: &[u16],
-    starts: &[u16],
-    r: u16,
-    k: Learnt,
-    facts: &mut [u16],
-    from: usize,
-    to: usize,
-) -> Look
-    requires { ⌜ (from ≤ to) × (to ≤ length (now cells)) × (2 * k .count ≤ length (now facts)) × (r < 128) ⌝ }
-    ensures { λ t. ⌜ TriedTold (now (cells .entry)) (now (starts .entry)) r k (now (facts .entry)) from to t (now (facts .exit)) ⌝ }
-{
-    let itself = calls(cells, from, to, wide(r));
-    let mut had = chosen(itself, k.count, facts.len());
-    let mut t = tried(cells, starts, r, k, facts, from, to);
+    let at = g.next;
+    let mut n = g.count;
+    let mut t = tried(cells, starts, r, k, facts, &wanted[..n], at);
+    let mut had = facts_before(cells, from, to, r, k.count, t.known.count);
     while had < t.known.count {
+        n = without(&mut wanted, n, t.given);
         had = t.known.count;
-        t = tried(cells, starts, r, t.known, facts, from, to);
+        t = tried(cells, starts, r, t.known, facts, &wanted[..n], at);
     }
     t
 }
@@ -784,9 +823,9 @@ fn looked(cells: &[u16], starts: &[u16], r: u16, k: Learnt, facts: &mut [u16]) -
 {
     let at = ahead(cells, 0, number(starts, wide(r)));
     let to = bound(cells, starts, wide(r), at);
-    let mut t = pressed(cells, starts, r, k, facts, at, to);
+    let mut t = tried_to_fixpoint(cells, starts, r, k, facts, at, to);
     while t.at < t.end {
-        t = pressed(cells, starts, r, t.known, facts, t.at, t.end);
+        t = tried_to_fixpoint(cells, starts, r, t.known, facts, t.at, t.end);
     }
     t.known
 }
@@ -912,7 +951,7 @@ fn less(left: usize, due: Rules) -> usize
 }
 
 // Rounds until nothing is due, or many of them.
-fn hurried(cells: &[u16], starts: &[u16], n: usize, k: Learnt, facts: &mut [u16]) -> Learnt
+fn rounds(cells: &[u16], starts: &[u16], n: usize, k: Learnt, facts: &mut [u16]) -> Learnt
     requires { ⌜ (2 * k .count ≤ length (now facts)) × (n ≤ 128) ⌝ }
     ensures { λ j. ⌜ SweepTold (now (cells .entry)) (now (starts .entry)) n n k (now (facts .entry)) j (now (facts .exit)) ⌝ }
 {
@@ -944,7 +983,7 @@ fn swept(
     ensures { λ j. ⌜ SweepTold (now (cells .entry)) (now (starts .entry)) n 0 k (now (facts .entry)) j (now (facts .exit)) ⌝ }
 {
     if late {
-        let m = hurried(cells, starts, n, k, facts);
+        let m = rounds(cells, starts, n, k, facts);
         return sweep(cells, starts, n, m, facts);
     }
     sweep(cells, starts, n, k, facts)

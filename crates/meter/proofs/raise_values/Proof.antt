@@ -1,6 +1,6 @@
 use Rattle.meter.specs.Store.{numbersOf, calledNumbers}
 use lib.ListN.{length}
-use Rattle.meter.proofs.Sweeps.{ValuesUpto, values-first, values-next, values-all}
+use Rattle.meter.proofs.Sweeps.{ValuesUpto, values-first, values-next, values-past, values-all}
 use Rattle.meter.proofs.Laws.{start-end, is-end}
 use Rattle.machine.specs.Bytes.{tableOf}
 use borrow.Author.Needs.{needs}
@@ -44,17 +44,19 @@ raise-value-requires c κs = (c .before .before .loop .inv .0 .steps .kept, reco
 either-requires : tie.Need-either-requires Inv-loop μ-loop
 either-requires c κs = search needs
 
--- src/lib.rt:287:9
-add-p : tie.Need-add-p Inv-loop μ-loop
-add-p c = omega arith
+add-next-called : tie.Need-add-next-called Inv-loop μ-loop
+add-next-called c = omega arith
+
+next-called-requires : tie.Need-next-called-requires Inv-loop μ-loop
+next-called-requires c κs = (search needs, omega arith)
 
 -- src/lib.rt:284:5
 loop-less : tie.Need-loop-less Inv-loop μ-loop
-loop-less c = omega arith
+loop-less c = omega (arith, c .next-called .ensures .0, c .next-called .ensures .1)
 
 -- src/lib.rt:284:5
 loop-again : tie.Need-loop-again Inv-loop μ-loop
-loop-again c = (values-next (c .before .before .before .before .before .before .loop .inv .0) (search needs) (c .before .before .before .raise-value .ensures) (c .either .ensures), search needs)
+loop-again c = (values-past (values-next (c .before .before .before .before .before .before .before .before .loop .inv .0) (search needs) (c .before .before .before .before .before .raise-value .ensures) (c .before .before .either .ensures)) (c .next-called .ensures .0) (c .next-called .ensures .1) (c .next-called .ensures .2), search needs)
 
 -- src/lib.rt:269:1
 same-length : tie.Need-same-length Inv-loop μ-loop
@@ -77,7 +79,8 @@ raise-values-spec =
     loop-holds
     raise-value-requires
     either-requires
-    add-p
+    add-next-called
+    next-called-requires
     loop-less
     loop-again
     same-length

@@ -23,8 +23,8 @@ loop-holds c = (omega arith, c .before .before .before .before .pre .1, none-ask
 sub-r : tie.Need-sub-r Inv-loop μ-loop
 sub-r c = omega arith
 
-is-stirred-requires : tie.Need-is-stirred-requires Inv-loop μ-loop
-is-stirred-requires c κs = (c .before .loop .inv .2 .kept .shaped .rising, omega (arith, c .before .loop .inv .0, c .before .loop .inv .2 .kept .shaped .few, c .loop-test .taken), c .before .loop .inv .2 .kept .shaped .short)
+is-pending-requires : tie.Need-is-pending-requires Inv-loop μ-loop
+is-pending-requires c κs = (c .before .loop .inv .2 .kept .shaped .rising, omega (arith, c .before .loop .inv .0, c .before .loop .inv .2 .kept .shaped .few, c .loop-test .taken), c .before .loop .inv .2 .kept .shaped .short)
 
 sweep-if-requires : tie.Need-sweep-if-requires Inv-loop μ-loop
 sweep-if-requires c κs = (c .before .before .before .loop .inv .2 .kept, omega (arith, c .before .before .before .loop .inv .0, c .before .before .loop-test .taken), c .before .before .before .loop .inv .1)
@@ -55,7 +55,7 @@ round-spec =
     μ-loop
     loop-holds
     sub-r
-    is-stirred-requires
+    is-pending-requires
     sweep-if-requires
     either-requires
     with-due-requires

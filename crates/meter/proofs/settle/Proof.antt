@@ -1,7 +1,7 @@
 use Rattle.meter.specs.Store.{numbersOf, calledNumbers}
 use mathlib.Core.Path.{_≡_}
 use lib.ListN.{length}
-use Rattle.meter.proofs.Sweeps.{Settling, todo, settling-first, settling-hurried, settling-next, todo-less, settled}
+use Rattle.meter.proofs.Sweeps.{Settling, todo, settling-first, settling-rounds, settling-next, todo-less, settled}
 use Rattle.machine.specs.Bytes.{tableOf}
 use borrow.Author.Needs.{needs}
 use Rattle.meter.proofs.settle.Statement.{statement}
@@ -17,20 +17,20 @@ abbrev μ-loop : tie.MeasureT-loop
 loop-holds : tie.Need-loop-holds Inv-loop μ-loop
 loop-holds c = (settling-first (c .before .before .before .before .pre .0), search needs)
 
-hurry-if-requires : tie.Need-hurry-if-requires Inv-loop μ-loop
-hurry-if-requires c κs = (c .before .before .loop .inv .0 .kept, c .before .before .loop .inv .1)
+rounds-if-requires : tie.Need-rounds-if-requires Inv-loop μ-loop
+rounds-if-requires c κs = (c .before .before .loop .inv .0 .kept, c .before .before .loop .inv .1)
 
 sweep-requires : tie.Need-sweep-requires Inv-loop μ-loop
-sweep-requires c κs = (c .before .before .before .hurry-if .ensures .kept, search needs)
+sweep-requires c κs = (c .before .before .before .rounds-if .ensures .kept, search needs)
 
 before-requires : tie.Need-before-requires Inv-loop μ-loop
 before-requires c κs = tt
 
 loop-less : tie.Need-loop-less Inv-loop μ-loop
-loop-less c = todo-less (c .before .before .before .before .before .before .before .before .before .loop-test .taken) (c .before .before .before .before .before .before .before .hurry-if .ensures) (c .before .before .before .sweep .ensures)
+loop-less c = todo-less (c .before .before .before .before .before .before .before .before .before .loop-test .taken) (c .before .before .before .before .before .before .before .rounds-if .ensures) (c .before .before .before .sweep .ensures)
 
 loop-again : tie.Need-loop-again Inv-loop μ-loop
-loop-again c = (settling-next (settling-hurried (c .before .before .before .before .before .before .before .before .before .before .loop .inv .0) (c .before .before .before .before .before .before .before .hurry-if .ensures)) (c .before .before .before .sweep .ensures), search needs)
+loop-again c = (settling-next (settling-rounds (c .before .before .before .before .before .before .before .before .before .before .loop .inv .0) (c .before .before .before .before .before .before .before .rounds-if .ensures)) (c .before .before .before .sweep .ensures), search needs)
 
 -- src/lib.rt:424:1
 same-length : tie.Need-same-length Inv-loop μ-loop
@@ -43,4 +43,4 @@ returns c = settled (c .before .loop .inv .0) (c .loop-test .left)
 pub settle-spec : {M : Type 1} → statement M
 settle-spec =
     tie.close
-    (tie.spec Inv-loop μ-loop loop-holds hurry-if-requires sweep-requires before-requires loop-less loop-again same-length returns)
+    (tie.spec Inv-loop μ-loop loop-holds rounds-if-requires sweep-requires before-requires loop-less loop-again same-length returns)

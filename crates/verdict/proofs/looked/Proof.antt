@@ -32,39 +32,39 @@ wide-requires-2 c κs = search needs
 bound-requires : tie.Need-bound-requires Inv-loop μ-loop
 bound-requires c κs = search needs
 
-pressed-requires : tie.Need-pressed-requires Inv-loop μ-loop
-pressed-requires c κs = search needs
+tried-to-fixpoint-requires : tie.Need-tried-to-fixpoint-requires Inv-loop μ-loop
+tried-to-fixpoint-requires c κs = search needs
 
 loop-holds : tie.Need-loop-holds Inv-loop μ-loop
 loop-holds c = (refl, λ j old x. x)
 
-pressed-requires-2 : tie.Need-pressed-requires-2 Inv-loop μ-loop
-pressed-requires-2 c κs =
+tried-to-fixpoint-requires-2 : tie.Need-tried-to-fixpoint-requires-2 Inv-loop μ-loop
+tried-to-fixpoint-requires-2 c κs =
     let l = c .before .before .before .loop in
-    let x = l .inv .1 (c .before .before .before .before .before .before .before .before .before .before .before .before .before .before .before .before .args .k) (c .before .before .before .before .before .before .before .before .before .before .before .before .before .before .before .before .args .facts .now) (c .before .before .before .before .before .before .pressed .ensures .looks) in
+    let x = l .inv .1 (c .before .before .before .before .before .before .before .before .before .before .before .before .before .before .before .before .args .k) (c .before .before .before .before .before .before .before .before .before .before .before .before .before .before .before .before .args .facts .now) (c .before .before .before .before .before .before .tried-to-fixpoint .ensures .looks) in
     (omega arith, x .inside, x .widens .facts .room, c .before .before .before .before .before .before .before .before .before .before .before .before .before .before .before .before .pre .1)
 
 loop-less : tie.Need-loop-less Inv-loop μ-loop
 loop-less c =
     let l = c .before .before .before .before .before .before .loop in
-    let x = l .inv .1 (c .before .before .before .before .before .before .before .before .before .before .before .before .before .before .before .before .before .before .before .args .k) (c .before .before .before .before .before .before .before .before .before .before .before .before .before .before .before .before .before .before .before .args .facts .now) (c .before .before .before .before .before .before .before .before .before .pressed .ensures .looks) in
-    omega (arith, c .before .before .pressed2 .ensures .further (c .before .before .before .before .if1 .taken), x .inside, c .before .before .before .before .if1 .taken)
+    let x = l .inv .1 (c .before .before .before .before .before .before .before .before .before .before .before .before .before .before .before .before .before .before .before .args .k) (c .before .before .before .before .before .before .before .before .before .before .before .before .before .before .before .before .before .before .before .args .facts .now) (c .before .before .before .before .before .before .before .before .before .tried-to-fixpoint .ensures .looks) in
+    omega (arith, c .before .before .tried-to-fixpoint2 .ensures .further (c .before .before .before .before .if1 .taken), x .inside, c .before .before .before .before .if1 .taken)
 
 loop-again : tie.Need-loop-again Inv-loop μ-loop
 loop-again c =
     let a = c .before .before .before .before .before .before .before .before .before .before .before .before .before .before .before .before .before .before .before .args in
     let l = c .before .before .before .before .before .before .loop in
-    let u = c .before .before .pressed2 in
+    let u = c .before .before .tried-to-fixpoint2 in
     (omega (arith, u .kept .1 .1 .1 .1 .0), λ j old x. looks-next (a .cells .now) (a .starts .now) (a .r) j old (c .before .before .before .before .before .before .before .before .before .before .before .before .before .ahead .result) (l .t) (l .facts) (u .result) (u .last .1 .1 .1 .1 .0) (l .inv .1 j old x) (u .ensures .looks))
 
 same-length : tie.Need-same-length Inv-loop μ-loop
-same-length c = omega (arith, c .before .before .before .before .before .before .pressed .kept .1 .1 .1 .1 .0)
+same-length c = omega (arith, c .before .before .before .before .before .before .tried-to-fixpoint .kept .1 .1 .1 .1 .0)
 
 returns : tie.Need-returns Inv-loop μ-loop
 returns c =
     let a = c .before .before .before .before .before .before .before .before .before .before .before .before .before .before .before .before .args in
     let l = c .before .before .before .loop in
-    looks-done (a .cells .now) (a .starts .now) (a .r) (a .k) (a .facts .now) (c .before .before .before .before .before .before .before .before .before .before .before .number .result) (c .before .before .before .before .before .before .before .before .before .before .ahead .result) (l .t) (l .facts) (rw (c .before .before .before .before .before .before .before .before .before .before .before .before .wide .ensures .0) at (c .before .before .before .before .before .before .before .before .before .before .before .number .ensures .0)) (c .before .before .before .before .before .before .before .before .before .before .ahead .ensures .1 .1) (omega arith) (l .inv .1 (a .k) (a .facts .now) (c .before .before .before .before .before .before .pressed .ensures .looks))
+    looks-done (a .cells .now) (a .starts .now) (a .r) (a .k) (a .facts .now) (c .before .before .before .before .before .before .before .before .before .before .before .number .result) (c .before .before .before .before .before .before .before .before .before .before .ahead .result) (l .t) (l .facts) (rw (c .before .before .before .before .before .before .before .before .before .before .before .before .wide .ensures .0) at (c .before .before .before .before .before .before .before .before .before .before .before .number .ensures .0)) (c .before .before .before .before .before .before .before .before .before .before .ahead .ensures .1 .1) (omega arith) (l .inv .1 (a .k) (a .facts .now) (c .before .before .before .before .before .before .tried-to-fixpoint .ensures .looks))
 
 pub looked-spec : {M : Type 1} → statement M
 looked-spec =
@@ -77,9 +77,9 @@ looked-spec =
     ahead-requires
     wide-requires-2
     bound-requires
-    pressed-requires
+    tried-to-fixpoint-requires
     loop-holds
-    pressed-requires-2
+    tried-to-fixpoint-requires-2
     loop-less
     loop-again
     same-length

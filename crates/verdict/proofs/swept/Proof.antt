@@ -4,11 +4,11 @@ use Rattle.verdict.proofs.Looking.{sweep-after}
 use Rattle.verdict.proofs.swept.Statement.{statement}
 use Rattle.verdict.proofs.swept.Tie as tie
 
-hurried-requires : tie.Need-hurried-requires
-hurried-requires c κs = search needs
+rounds-requires : tie.Need-rounds-requires
+rounds-requires c κs = search needs
 
 sweep-requires : tie.Need-sweep-requires
-sweep-requires c κs = (c .before .before .before .hurried .ensures .widens .facts .room, c .before .before .before .before .before .before .before .before .before .pre .1)
+sweep-requires c κs = (c .before .before .before .rounds .ensures .widens .facts .room, c .before .before .before .before .before .before .before .before .before .pre .1)
 
 same-length : tie.Need-same-length
 same-length c = search needs
@@ -16,7 +16,7 @@ same-length c = search needs
 returns : tie.Need-returns
 returns c =
     let a = c .before .before .before .before .before .before .before .before .before .before .before .before .args in
-    let h = c .before .before .before .before .before .before .hurried in
+    let h = c .before .before .before .before .before .before .rounds in
     let s = c .before .before .sweep in
     sweep-after (a .cells .now) (a .starts .now) (a .n) 0 (a .k) (a .facts .now) (h .result) (h .last .1 .1 .1 .1 .0) (s .result) (s .last .1 .1 .1 .1 .0) (h .ensures) (s .ensures)
 
@@ -30,4 +30,4 @@ returns-2 : tie.Need-returns-2
 returns-2 c = c .before .before .sweep2 .ensures
 
 pub swept-spec : {M : Type 1} → statement M
-swept-spec = tie.close (tie.spec hurried-requires sweep-requires same-length returns sweep-requires-2 same-length-2 returns-2)
+swept-spec = tie.close (tie.spec rounds-requires sweep-requires same-length returns sweep-requires-2 same-length-2 returns-2)

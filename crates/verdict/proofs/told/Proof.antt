@@ -9,39 +9,46 @@ use lib.ListN.{getD}
 use Rattle.finishing.specs.Test.{some-below}
 use Rattle.verdict.specs.Told.{someIn}
 use Rattle.verdict.proofs.Table.{below-next}
+use Rattle.verdict.proofs.Listed.{packed-same}
 use Rattle.verdict.proofs.told.Statement.{statement}
 use Rattle.verdict.proofs.told.Tie as tie
 
 abbrev Inv-loop : tie.InvT-loop
-Inv-loop facts m r v some₀ i₀ some i = (i ≤ m) × (some ≡ someIn facts i r (λ u. eqb u v))
+Inv-loop facts m r v fact some₀ i₀ some i = (i ≤ m) × (some ≡ someIn facts i r (λ u. eqb u v))
 
 abbrev μ-loop : tie.MeasureT-loop
-μ-loop facts m r v some₀ i₀ some i = m - i
+μ-loop facts m r v fact some₀ i₀ some i = m - i
+
+packed-requires : tie.Need-packed-requires Inv-loop μ-loop
+packed-requires c κs = tt
 
 loop-holds : tie.Need-loop-holds Inv-loop μ-loop
 unfolding someIn some-below
 loop-holds c = (omega arith, refl)
 
-mul-some : tie.Need-mul-some Inv-loop μ-loop
-mul-some c = omega arith
+mul-packed : tie.Need-mul-packed Inv-loop μ-loop
+mul-packed c = omega arith
 
-mul-some-2 : tie.Need-mul-some-2 Inv-loop μ-loop
-mul-some-2 c = search needs
+mul-packed-2 : tie.Need-mul-packed-2 Inv-loop μ-loop
+mul-packed-2 c = search needs
 
-shared-slice-read-some : tie.Need-shared-slice-read-some Inv-loop μ-loop
-shared-slice-read-some c = omega arith
+shared-slice-read-packed : tie.Need-shared-slice-read-packed Inv-loop μ-loop
+shared-slice-read-packed c = omega arith
 
-mul-some-3 : tie.Need-mul-some-3 Inv-loop μ-loop
-mul-some-3 c = omega arith
+mul-packed-3 : tie.Need-mul-packed-3 Inv-loop μ-loop
+mul-packed-3 c = omega arith
 
-add-some : tie.Need-add-some Inv-loop μ-loop
-add-some c = omega arith
+add-packed : tie.Need-add-packed Inv-loop μ-loop
+add-packed c = omega arith
 
-mul-some-4 : tie.Need-mul-some-4 Inv-loop μ-loop
-mul-some-4 c = search needs
+mul-packed-4 : tie.Need-mul-packed-4 Inv-loop μ-loop
+mul-packed-4 c = search needs
 
-shared-slice-read-some-2 : tie.Need-shared-slice-read-some-2 Inv-loop μ-loop
-shared-slice-read-some-2 c = omega arith
+shared-slice-read-packed-2 : tie.Need-shared-slice-read-packed-2 Inv-loop μ-loop
+shared-slice-read-packed-2 c = omega arith
+
+packed-requires-2 : tie.Need-packed-requires-2 Inv-loop μ-loop
+packed-requires-2 c κs = tt
 
 add-i : tie.Need-add-i Inv-loop μ-loop
 add-i c = omega arith
@@ -51,12 +58,17 @@ loop-less c = omega arith
 
 loop-again : tie.Need-loop-again Inv-loop μ-loop
 unfolding someIn
-loop-again c = (omega arith, below-next (c .before .before .before .loop .i) (λ i. eqb (getD (c .before .before .before .before .args .facts .now) (2 * i) 0) (c .before .before .before .before .args .r) && eqb (getD (c .before .before .before .before .args .facts .now) (2 * i + 1) 0) (c .before .before .before .before .args .v)) (c .before .before .before .loop .some) (eqb (getD (c .before .before .before .before .args .facts .now) (2 * c .before .before .before .loop .i) 0) (c .before .before .before .before .args .r) && eqb (getD (c .before .before .before .before .args .facts .now) (2 * c .before .before .before .loop .i + 1) 0) (c .before .before .before .before .args .v)) (c .before .before .before .loop .inv .1) refl)
+loop-again c =
+    let a = c .before .before .before .before .before .before .before .args in
+    let l = c .before .before .before .before .loop in
+    let p = c .packed2 in
+    let q = c .before .before .before .before .before .packed in
+    (omega arith, below-next (l .i) (λ i. eqb (getD (a .facts .now) (2 * i) 0) (a .r) && eqb (getD (a .facts .now) (2 * i + 1) 0) (a .v)) (l .some) (eqb (p .result) (q .result)) (l .inv .1) (packed-same (getD (a .facts .now) (2 * l .i) 0) (getD (a .facts .now) (2 * l .i + 1) 0) (a .r) (a .v) (p .result) (q .result) (p .ensures .0) (p .ensures .1) (q .ensures .0) (q .ensures .1)))
 
 returns : tie.Need-returns Inv-loop μ-loop
 returns c =
-    let e : c .before .loop .i ≡ c .before .before .args .m = omega arith in
+    let e : c .before .loop .i ≡ c .before .before .before .before .args .m = omega arith in
     rw e at (c .before .loop .inv .1)
 
 pub told-spec : {M : Type 1} → statement M
-told-spec = tie.close (tie.spec Inv-loop μ-loop loop-holds mul-some mul-some-2 shared-slice-read-some mul-some-3 add-some mul-some-4 shared-slice-read-some-2 add-i loop-less loop-again returns)
+told-spec = tie.close (tie.spec Inv-loop μ-loop packed-requires loop-holds mul-packed mul-packed-2 shared-slice-read-packed mul-packed-3 add-packed mul-packed-4 shared-slice-read-packed-2 packed-requires-2 add-i loop-less loop-again returns)

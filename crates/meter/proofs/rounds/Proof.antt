@@ -1,4 +1,4 @@
--- `meter::hurry` meets its contract.
+-- `meter::rounds` meets its contract.
 use mathlib.Core.Path.{_≡_}
 use Prim.Native.Nat.{_≤_, _-_}
 use lib.ListN.{length}
@@ -8,8 +8,8 @@ use Rattle.machine.specs.Bytes.{tableOf}
 use Rattle.meter.specs.Steps.{Steps, AskedFrom}
 use Rattle.meter.specs.Store.{numbersOf, calledNumbers}
 use Rattle.meter.proofs.Sweeps.{none-asked, then-swept}
-use Rattle.meter.proofs.hurry.Statement.{statement}
-use Rattle.meter.proofs.hurry.Tie as tie
+use Rattle.meter.proofs.rounds.Statement.{statement}
+use Rattle.meter.proofs.rounds.Tie as tie
 
 abbrev Inv-loop : tie.InvT-loop
 Inv-loop table starts called rows₀ changed₀ due₀ left₀ rows changed due left = (length rows ≡ 4490) × Steps (tableOf table) starts (AskedFrom (tableOf table) starts (calledNumbers called) (length starts)) (calledNumbers called) (numbersOf rows₀) (numbersOf rows) changed
@@ -41,8 +41,8 @@ same-length c = search needs
 returns : tie.Need-returns Inv-loop μ-loop
 returns c = c .before .loop .inv .1
 
-pub hurry-spec : {M : Type 1} → statement M
-hurry-spec =
+pub rounds-spec : {M : Type 1} → statement M
+rounds-spec =
     tie.close
     (tie.spec
     Inv-loop

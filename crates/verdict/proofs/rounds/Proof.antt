@@ -1,11 +1,11 @@
--- `verdict::hurried` meets its contract: rounds, not too many.
+-- `verdict::rounds` meets its contract: rounds, not too many.
 use mathlib.Core.Path.{_≡_, refl}
 use native.Mathlib.Omega.{arith}
 use lib.ListN.{length}
 use Rattle.verdict.specs.Told.{SweepTold}
 use Rattle.verdict.proofs.Looking.{sweep-start, sweep-after}
-use Rattle.verdict.proofs.hurried.Statement.{statement}
-use Rattle.verdict.proofs.hurried.Tie as tie
+use Rattle.verdict.proofs.rounds.Statement.{statement}
+use Rattle.verdict.proofs.rounds.Tie as tie
 
 abbrev Inv-loop : tie.InvT-loop
 Inv-loop cells starts n facts₀ j₀ due₀ left₀ facts j due left = (length facts ≡ length facts₀) × SweepTold cells starts n n j₀ facts₀ j facts
@@ -38,8 +38,8 @@ same-length c = omega arith
 returns : tie.Need-returns Inv-loop μ-loop
 returns c = c .before .loop .inv .1
 
-pub hurried-spec : {M : Type 1} → statement M
-hurried-spec =
+pub rounds-spec : {M : Type 1} → statement M
+rounds-spec =
     tie.close
     (tie.spec
     Inv-loop

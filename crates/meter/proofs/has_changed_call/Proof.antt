@@ -1,8 +1,8 @@
--- `meter::has_news` meets its contract.
+-- `meter::has_changed_call` meets its contract.
 use Prim.Native.Nat.{_-_, _≤_}
 use native.Mathlib.Omega.{arith}
-use Rattle.meter.proofs.has_news.Statement.{statement}
-use Rattle.meter.proofs.has_news.Tie as tie
+use Rattle.meter.proofs.has_changed_call.Statement.{statement}
+use Rattle.meter.proofs.has_changed_call.Tie as tie
 
 abbrev Inv-loop : tie.InvT-loop
 Inv-loop table starts s r to l₀ l = 1 ≤ l
@@ -22,8 +22,8 @@ place-requires c κs = tt
 loop-holds : tie.Need-loop-holds Inv-loop μ-loop
 loop-holds c = c .place .ensures
 
-calls-news-requires : tie.Need-calls-news-requires Inv-loop μ-loop
-calls-news-requires c κs = (c .before .before .before .before .before .before .pre .0, c .before .loop .inv, omega (arith, c .loop-test .taken, c .before .before .before .upper .ensures), c .before .before .before .before .before .before .pre .2)
+calls-changed-requires : tie.Need-calls-changed-requires Inv-loop μ-loop
+calls-changed-requires c κs = (c .before .before .before .before .before .before .pre .0, c .before .loop .inv, omega (arith, c .loop-test .taken, c .before .before .before .upper .ensures), c .before .before .before .before .before .before .pre .2)
 
 returns : tie.Need-returns Inv-loop μ-loop
 returns c = tt
@@ -40,8 +40,8 @@ loop-again c = omega (arith, c .before .before .before .loop .inv)
 returns-2 : tie.Need-returns-2 Inv-loop μ-loop
 returns-2 c = tt
 
-pub has-news-spec : {M : Type 1} → statement M
-has-news-spec =
+pub has-changed-call-spec : {M : Type 1} → statement M
+has-changed-call-spec =
     tie.close
     (tie.spec
     Inv-loop
@@ -50,7 +50,7 @@ has-news-spec =
     upper-requires
     place-requires
     loop-holds
-    calls-news-requires
+    calls-changed-requires
     returns
     add-l
     loop-less

@@ -1,8 +1,8 @@
--- `meter::calls_news` meets its contract.
+-- `meter::calls_changed` meets its contract.
 use borrow.Author.Needs.{needs}
 use native.Mathlib.Omega.{arith}
-use Rattle.meter.proofs.calls_news.Statement.{statement}
-use Rattle.meter.proofs.calls_news.Tie as tie
+use Rattle.meter.proofs.calls_changed.Statement.{statement}
+use Rattle.meter.proofs.calls_changed.Tie as tie
 
 word-at-requires : tie.Need-word-at-requires
 word-at-requires c κs = search needs
@@ -16,8 +16,8 @@ word-at-requires-2 c κs = search needs
 rule-at-requires : tie.Need-rule-at-requires
 rule-at-requires c κs = search needs
 
-is-news-requires : tie.Need-is-news-requires
-is-news-requires c κs = search needs
+is-changed-requires : tie.Need-is-changed-requires
+is-changed-requires c κs = search needs
 
 returns : tie.Need-returns
 returns c = search needs
@@ -25,14 +25,14 @@ returns c = search needs
 returns-2 : tie.Need-returns-2
 returns-2 c = search needs
 
-pub calls-news-spec : {M : Type 1} → statement M
-calls-news-spec =
+pub calls-changed-spec : {M : Type 1} → statement M
+calls-changed-spec =
     tie.close
     (tie.spec
     word-at-requires
     add-word-at
     word-at-requires-2
     rule-at-requires
-    is-news-requires
+    is-changed-requires
     returns
     returns-2)
