@@ -61,15 +61,7 @@ pub record Spelt (text : List ℕ) (at : ℕ) (is : Found) (w : WordAt) : Type 0
   pub some : 0 < w .len
   pub inside : at + w .len ≤ length text
 
--- past one blank or one comment at `at`, or still there
-pub record SkippedOne (text : List ℕ) (at r : ℕ) : Type 0 where
-  pub low : at ≤ r
-  pub high : r ≤ length text
-  pub same : wordsAt text at ≡ wordsAt text r
-  pub solid : r ≡ at → blank (getD text at 0) ≡ false
-  pub plain : r ≡ at → getD text at 0 ≡ 37 → ⊥
-
--- past all of them
+-- past all blanks and comments from `at` on
 pub record Skipped (text : List ℕ) (at r : ℕ) : Type 0 where
   pub low : at ≤ r
   pub high : r ≤ length text

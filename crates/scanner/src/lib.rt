@@ -5,7 +5,7 @@ ghost use lib.ListN.{length, take, drop, getD};
 ghost use Rattle.base.specs.Common.{same};
 ghost use Rattle.words.specs.Words.{blank, symbol, digit, letter, nameByte, stringByte, kindOf, reserved, stringHere, wordHere};
 ghost use Rattle.scanner.specs.Next.{Next};
-ghost use Rattle.scanner.specs.Scanning.{inClass, Ran, brackets, heads, others, nameHere, numberHere, greaterHere, symbolHere, wordFound, Spelt, SkippedOne, Skipped};
+ghost use Rattle.scanner.specs.Scanning.{inClass, Ran, brackets, heads, others, nameHere, numberHere, greaterHere, symbolHere, wordFound, Spelt, Skipped};
 use base::byte_word;
 
 // A word of a text: its kind (crates/words has the numbers), the place and the number of its bytes, the place past it.
@@ -317,27 +317,17 @@ fn skip(text: &[u8], at: usize) -> usize
 {
     let mut i = at;
     while i < text.len() {
-        let n = skip_one(text, i);
-        if n == i {
-            return i;
+        let b = text[i];
+        if is_blank(b) {
+            i += 1;
+        } else {
+            if b != b'%' {
+                return i;
+            }
+            i = i + 1 + run_of(text, i + 1, Class::Line);
         }
-        i = n;
     }
     i
-}
-
-fn skip_one(text: &[u8], at: usize) -> usize
-    requires { ⌜ at < length (now text) ⌝ }
-    ensures { λ r. ⌜ SkippedOne (now (text .entry)) at r ⌝ }
-{
-    let b = text[at];
-    if b == b'%' {
-        return at + 1 + run_of(text, at + 1, Class::Line);
-    }
-    if is_blank(b) {
-        return at + 1;
-    }
-    at
 }
 
 // The first word from `at` on. Past the end of the text it is the end, at `at`.
