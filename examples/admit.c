@@ -2,13 +2,11 @@
  *
  *   cc -std=c99 examples/admit.c $(pkg-config --cflags --libs sst) -o admit
  *
- * A footnote style has no business erasing bookmarks: one that does is turned away with 48, naming the location of the operation. Its table
- * stays where it was loaded, so that it can be looked at. A walk of a table that was admitted writes no event of an operation outside the set.
+ * A footnote style has no business erasing bookmarks: one that does is turned away with SST_NOT_GRANTED, naming the location of the
+ * operation. Its table stays where it was loaded, so that it can be looked at. A walk of a table that was admitted writes no event of an
+ * operation outside the set.
  */
-#include <stdio.h>
-#include <string.h>
-
-#include "sst.h"
+#include "helpers.h"
 
 #define DECLARATIONS                                         \
     "input: note; output: notePlaced; type Fit: fits full;\n" \
@@ -18,25 +16,18 @@
 static const char modest[] = DECLARATIONS "rules Footnote: note [ RoomForNote | fits: | full: TurnPage ] PlaceNote .notePlaced; end";
 static const char greedy[] = DECLARATIONS "rules Footnote: note [ RoomForNote | fits: | full: TurnPage EraseBookmark ] PlaceNote .notePlaced; end";
 
-/* Operations are numbered from these on, in the order of their declarations. */
-enum operation { PLACE_NOTE = 256, TURN_PAGE, ERASE_BOOKMARK, ROOM_FOR_NOTE = 768 };
+/* Each kind of operations is numbered from its first on, in the order of their declarations. */
+enum operation { PLACE_NOTE = SST_UPDATE, TURN_PAGE, ERASE_BOOKMARK, ROOM_FOR_NOTE = SST_CHOICE };
 
-#define FIRST_OPERATION 256
-#define SET_BYTES 128
 #define FILE_WORDS 64
 
 static uint8_t table[SST_TABLE_BYTES];
-static uint8_t set[SET_BYTES];
+static uint8_t set[SST_SET_BYTES];
 
-static unsigned get_word(const uint8_t *bytes, size_t i)
-{
-    return (unsigned)bytes[2 * i] << 8 | bytes[2 * i + 1];
-}
-
-/* A bit for each operation, the highest of the first byte for 256. */
+/* A bit for each operation, the highest of the first byte for SST_UPDATE. */
 static void grant(unsigned operation)
 {
-    unsigned bit = operation - FIRST_OPERATION;
+    unsigned bit = operation - SST_UPDATE;
     set[bit / 8] |= (uint8_t)(128 >> bit % 8);
 }
 
@@ -59,17 +50,18 @@ static const char *name_of(unsigned operation)
 /* What a publisher sends: the file of a program; answers its bytes. */
 static size_t send(const char *text, uint8_t *file, size_t file_bytes)
 {
-    uint64_t start, len, words, finishing, figure, figure_number;
-    sst_process((const uint8_t *)text, strlen(text), table, sizeof table, &start, &len, &words, &finishing, &figure, &figure_number);
-    sst_write_file(table, 2 * (size_t)words, finishing, file, file_bytes, &words);
+    struct translation told;
+    uint64_t words;
+    translate(text, table, sizeof table, &told);
+    sst_write_file(table, 2 * (size_t)told.words, told.finishing, file, file_bytes, &words);
     return 2 * (size_t)words;
 }
 
 static void show(const char *call, unsigned number, uint64_t location)
 {
     printf("  %s answered %u", call, number);
-    if (number == 48)
-        printf(": %s at location %lu", name_of(get_word(table, (size_t)location - 1)), (unsigned long)location);
+    if (number == SST_NOT_GRANTED)
+        printf(": %s at location %lu", name_of(sst_get_word(table, (size_t)location - 1)), (unsigned long)location);
     printf("\n");
 }
 
@@ -92,13 +84,13 @@ int main(void)
     grant(TURN_PAGE);
     grant(ROOM_FOR_NOTE);
     bytes = send(modest, file, sizeof file);
-    receive("a style that turns pages", file, bytes, SET_BYTES);
-    receive("the same", file, bytes, (ROOM_FOR_NOTE - FIRST_OPERATION) / 8);
+    receive("a style that turns pages", file, bytes, SST_SET_BYTES);
+    receive("the same", file, bytes, (ROOM_FOR_NOTE - SST_UPDATE) / 8);
     receive("the same", file, bytes, 0);
-    receive("the same with its last byte missing", file, bytes - 1, SET_BYTES);
+    receive("the same with its last byte missing", file, bytes - 1, SST_SET_BYTES);
     bytes = send(greedy, file, sizeof file);
-    receive("a style that erases bookmarks", file, bytes, SET_BYTES);
+    receive("a style that erases bookmarks", file, bytes, SST_SET_BYTES);
     grant(ERASE_BOOKMARK);
-    receive("the same, with the right to", file, bytes, SET_BYTES);
+    receive("the same, with the right to", file, bytes, SST_SET_BYTES);
     return 0;
 }

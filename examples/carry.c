@@ -3,9 +3,7 @@
  *
  *   cc -std=c99 examples/carry.c $(pkg-config --cflags --libs sst-carry) -o carry
  */
-#include <stdio.h>
-#include <string.h>
-
+#include "helpers.h"
 #include "sst-carry.h"
 
 #define SECTIONS                                  \
@@ -34,17 +32,15 @@ static const char renumbered[] = "input: chapter;\n" SECTIONS "rules\n" BOOK_AND
 
 enum token { LINE, NOTE, NOTE_LINE, END_OF_BOOK };
 
-/* Operations in the order of their declaration: updates from 256, choice operations from 768. */
-enum operation { PLACE = 256, PLACE_NOTE = 257, TURN_PAGE = 258, ROOM_FOR_LINE = 768, ROOM_FOR_NOTE = 769 };
+/* Operations of each kind in the order of their declarations. */
+enum operation { PLACE = SST_UPDATE, PLACE_NOTE, TURN_PAGE, ROOM_FOR_LINE = SST_CHOICE, ROOM_FOR_NOTE };
 enum fit { FITS, FULL };
-enum event_kind { OUTPUT_EVENT = 1, OPERATION_EVENT = 3 };
-enum number { FINISHED = 0, WAITS = 22 };
 
 #define LINES_A_PAGE 3
 #define NOTE_LINES 4
 #define BUDGET 1000
 #define ALL_QUESTIONS 100
-#define EVENT_WORDS 3
+#define EVENTS 8
 
 struct rules {
     const char *text;
@@ -59,28 +55,16 @@ struct book {
 };
 
 static const uint16_t words_of_book[] = {LINE, LINE, NOTE, NOTE_LINE, NOTE_LINE, NOTE_LINE, NOTE_LINE, LINE, END_OF_BOOK};
-#define TOKENS (sizeof words_of_book / sizeof words_of_book[0])
+#define TOKENS COUNT(words_of_book)
 
 static uint8_t tokens[2 * TOKENS];
 
-static void put_word(uint8_t *bytes, size_t i, unsigned word)
+static void ship(struct rules *rules, const char *name, const char *text)
 {
-    bytes[2 * i] = (uint8_t)(word >> 8);
-    bytes[2 * i + 1] = (uint8_t)(word & 255);
-}
-
-static unsigned get_word(const uint8_t *bytes, size_t i)
-{
-    return (unsigned)bytes[2 * i] << 8 | bytes[2 * i + 1];
-}
-
-static void translate(struct rules *rules, const char *name, const char *text)
-{
-    uint64_t start, len, words, finishing, figure, figure_number;
-    unsigned number = sst_process((const uint8_t *)text, strlen(text), rules->table, sizeof rules->table, &start, &len, &words,
-                                  &finishing, &figure, &figure_number);
+    struct translation told;
+    unsigned number = translate(text, rules->table, sizeof rules->table, &told);
     rules->text = text;
-    printf("%s: number %u, %lu words, finishing %s\n", name, number, (unsigned long)words, finishing ? "yes" : "no");
+    printf("%s: number %u, %lu words, finishing %s\n", name, number, (unsigned long)told.words, told.finishing ? "yes" : "no");
 }
 
 static void begin(struct book *book)
@@ -120,16 +104,17 @@ static void operate(struct book *book, unsigned operation)
 /* Walks on until so many questions have been asked, or to the end. Answers the number of the last call. */
 static unsigned walk_on(struct book *book, const struct rules *rules, unsigned questions)
 {
-    uint8_t events[2 * EVENT_WORDS * 8];
-    uint64_t written, steps, i;
-    unsigned number = WAITS;
-    while (number == WAITS && questions > 0) {
+    uint8_t events[SST_EVENT_BYTES * EVENTS];
+    uint64_t written, steps;
+    unsigned number = SST_WAITS;
+    size_t i;
+    while (number == SST_WAITS && questions > 0) {
         number = sst_paused(rules->table, sizeof rules->table, tokens, sizeof tokens, book->given, book->answer, BUDGET, book->walk,
                             sizeof book->walk, events, sizeof events, &written, &steps);
         book->given = 0;
-        for (i = 0; i < written; i++)
-            if (get_word(events, (size_t)(EVENT_WORDS * i)) == OPERATION_EVENT)
-                operate(book, get_word(events, (size_t)(EVENT_WORDS * i + 1)));
+        for (i = 0; i < (size_t)written; i++)
+            if (event_at(events, i).kind == SST_EVENT_OPERATION)
+                operate(book, event_at(events, i).value);
         questions--;
     }
     return number;
@@ -149,7 +134,7 @@ static void update(struct book *book, const struct rules *old, const struct rule
     unsigned before = sst_location(book->walk, sizeof book->walk);
     unsigned number = sst_carry((const uint8_t *)old->text, strlen(old->text), (const uint8_t *)new->text, strlen(new->text), book->walk,
                                 sizeof book->walk, &text, &start, &len);
-    if (number == 0) {
+    if (number == SST_OK) {
         printf("  carried from location %u to %u, %lu tokens read\n", before, sst_location(book->walk, sizeof book->walk),
                (unsigned long)sst_read(book->walk, sizeof book->walk));
         return;
@@ -162,13 +147,11 @@ int main(void)
 {
     static struct rules old, new, other;
     struct book book;
-    size_t i;
 
-    for (i = 0; i < TOKENS; i++)
-        put_word(tokens, i, words_of_book[i]);
-    translate(&old, "shipped", shipped);
-    translate(&new, "mended", mended);
-    translate(&other, "renumbered", renumbered);
+    put_words(tokens, words_of_book, TOKENS);
+    ship(&old, "shipped", shipped);
+    ship(&new, "mended", mended);
+    ship(&other, "renumbered", renumbered);
 
     printf("An update in the middle of a line\n");
     begin(&book);

@@ -3,11 +3,9 @@
  *   cc -std=c99 examples/figures.c $(pkg-config --cflags --libs sst-desk) -o figures
  *
  * Figures begin as zeros, and each book is added by one call, which walks it and counts. They can be kept and added to later: bytes that are no
- * figures are refused with 21. `make figures` prints a longer report on books in files.
+ * figures are refused with SST_REFUSED. `make figures` prints a longer report on books in files.
  */
-#include <stdio.h>
-#include <string.h>
-
+#include "helpers.h"
 #include "sst-desk.h"
 
 static const char text[] =
@@ -18,30 +16,20 @@ static const char text[] =
     "end";
 
 /* The tokens, by their order in the text. */
-enum token { WORD, NOTE, MARK };
+enum token { A_WORD, A_NOTE, A_MARK };
 
 #define RULES 2
 #define BUDGET 1000
 
-static const uint8_t plain[] = {0, WORD, 0, WORD, 0, WORD};
-static const uint8_t noted[] = {0, WORD, 0, NOTE, 0, MARK, 0, WORD};
+static const uint8_t plain[] = {WORD(A_WORD), WORD(A_WORD), WORD(A_WORD)};
+static const uint8_t noted[] = {WORD(A_WORD), WORD(A_NOTE), WORD(A_MARK), WORD(A_WORD)};
 
 static uint8_t table[SST_TABLE_BYTES];
 static uint8_t figures[SST_FIGURES_BYTES];
 
-static uint64_t number_at(const uint8_t *bytes)
-{
-    uint64_t n = 0;
-    int i;
-
-    for (i = 0; i < 8; i++)
-        n = n << 8 | bytes[i];
-    return n;
-}
-
 static void add(const char *name, const uint8_t *tokens, size_t tokens_len)
 {
-    uint8_t events[60], none[1] = {0};
+    uint8_t events[10 * SST_EVENT_BYTES], none[1] = {0};
     uint64_t written, steps;
     uint16_t number = sst_add_book(table, sizeof table, tokens, tokens_len, none, 0, BUDGET, 0, figures, sizeof figures, events, sizeof events,
                                    &written, &steps);
@@ -65,29 +53,29 @@ static void report_rules(size_t table_words)
     uint64_t rules, l;
     size_t i;
 
-    if (sst_rules((const uint8_t *)text, strlen(text), rows, sizeof rows, &rules) != 0)
+    if (sst_rules((const uint8_t *)text, strlen(text), rows, sizeof rows, &rules) != SST_OK)
         return;
     for (i = 0; i < rules; i++) {
         const uint8_t *row = rows + i * SST_RULE_BYTES;
-        uint64_t end = i + 1 < rules ? number_at(row + SST_RULE_BYTES + 16) : table_words + 1, sum = 0;
+        uint64_t end = i + 1 < rules ? sst_get_64(row + SST_RULE_BYTES + 16) : table_words + 1, sum = 0;
 
-        for (l = number_at(row + 16); l < end; l++)
-            sum += number_at(figures + 8 * (l - 1));
-        printf("%.*s: %u steps\n", (int)number_at(row + 8), text + number_at(row), (unsigned)sum);
+        for (l = sst_get_64(row + 16); l < end; l++)
+            sum += sst_get_64(figures + 8 * (l - 1));
+        printf("%.*s: %u steps\n", (int)sst_get_64(row + 8), text + sst_get_64(row), (unsigned)sum);
     }
 }
 
 int main(void)
 {
-    uint64_t start, len, words, finishing, figure, figure_number;
+    size_t words = translate_rules(text, table, sizeof table);
 
-    if (sst_process((const uint8_t *)text, strlen(text), table, sizeof table, &start, &len, &words, &finishing, &figure, &figure_number) != 0)
+    if (words == 0)
         return 1;
     report();
     add("plain", plain, sizeof plain);
     add("noted", noted, sizeof noted);
     report();
-    report_rules((size_t)words);
+    report_rules(words);
     figures[0] = 1;
     puts("with a count changed:");
     add("plain", plain, sizeof plain);

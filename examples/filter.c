@@ -5,10 +5,7 @@
  * The scanner knows letters, digits and a few signs. Which characters these are is the publisher's: entries of first byte, last byte and
  * token, with every byte value in one entry and no more. One walk scans one syntax token, from where the walk before it stopped reading.
  */
-#include <stdio.h>
-#include <string.h>
-
-#include "sst.h"
+#include "helpers.h"
 
 static const char scanner[] = "% A scanner for identifiers, integers, ';', '+', and '-'\n"
                               "input: letter digit blank illegalChar;\n"
@@ -33,15 +30,9 @@ static const char scanner[] = "% A scanner for identifiers, integers, ';', '+', 
 enum token { LETTER, DIGIT, BLANK, ILLEGAL, SEMICOLON, PLUS, MINUS };
 static const char *const output_names[] = {"identifier", "integer", "", "", "semicolon", "plus", "minus"};
 
-/* The first word of an event. */
-enum event_kind { OUTPUT_EVENT = 1, ERROR_EVENT = 2, OPERATION_EVENT = 3 };
-
-#define ENTRY_BYTES 4
-#define MOST_ENTRIES 64
 #define TABLE_WORDS 128
 #define LONGEST_TEXT 64
 #define EVENTS (LONGEST_TEXT + 2)
-#define WORDS_OF_AN_EVENT 3
 #define BUDGET 10000
 
 struct entry {
@@ -52,7 +43,7 @@ struct entry {
 struct filter {
     const char *name;
     size_t entry_count;
-    struct entry entries[MOST_ENTRIES];
+    struct entry entries[SST_FILTER_ENTRIES];
 };
 
 static const struct filter filters[] = {
@@ -70,31 +61,24 @@ static const struct filter filters[] = {
     {"the minus sign forgotten", 2, {{0, 44, ILLEGAL}, {46, 255, LETTER}}},
 };
 
-#define COUNT(list) (sizeof(list) / sizeof((list)[0]))
-
 static const char text[] = "left_margin + 12 -\n gap2;";
 
 static uint8_t table[2 * TABLE_WORDS];
 static uint8_t tokens[2 * LONGEST_TEXT];
 static uint8_t walk[SST_WALK_BYTES];
-static uint8_t events[2 * WORDS_OF_AN_EVENT * EVENTS];
-
-static unsigned get_word(const uint8_t *bytes, size_t i)
-{
-    return (unsigned)bytes[2 * i] << 8 | bytes[2 * i + 1];
-}
+static uint8_t events[SST_EVENT_BYTES * EVENTS];
 
 /* The bytes of a filter's entries; answers how many. */
 static size_t put_entries(uint8_t *bytes, const struct filter *filter)
 {
     size_t i;
     for (i = 0; i < filter->entry_count; i++) {
-        bytes[ENTRY_BYTES * i] = filter->entries[i].first;
-        bytes[ENTRY_BYTES * i + 1] = filter->entries[i].last;
-        bytes[ENTRY_BYTES * i + 2] = (uint8_t)(filter->entries[i].token >> 8);
-        bytes[ENTRY_BYTES * i + 3] = (uint8_t)(filter->entries[i].token & 255);
+        uint8_t *entry = bytes + SST_FILTER_ENTRY_BYTES * i;
+        entry[0] = filter->entries[i].first;
+        entry[1] = filter->entries[i].last;
+        sst_put_word(entry, 1, filter->entries[i].token);
     }
-    return ENTRY_BYTES * filter->entry_count;
+    return SST_FILTER_ENTRY_BYTES * filter->entry_count;
 }
 
 /* The events of a walk; answers how many characters it saved. */
@@ -102,15 +86,15 @@ static size_t show_events(uint64_t written)
 {
     size_t i, saved = 0;
     for (i = 0; i < (size_t)written; i++) {
-        unsigned kind = get_word(events, WORDS_OF_AN_EVENT * i), value = get_word(events, WORDS_OF_AN_EVENT * i + 1);
-        switch (kind) {
-        case OUTPUT_EVENT:
-            printf(" output %s", output_names[value]);
+        struct event event = event_at(events, i);
+        switch (event.kind) {
+        case SST_EVENT_OUTPUT:
+            printf(" output %s", output_names[event.value]);
             break;
-        case ERROR_EVENT:
+        case SST_EVENT_ERROR:
             printf(" error badChar");
             break;
-        case OPERATION_EVENT:
+        case SST_EVENT_OPERATION:
             saved++;
             printf(" BufferSave");
             break;
@@ -137,7 +121,7 @@ static void scan(size_t words, size_t token_count)
         if (saved > 0)
             printf(", saved \"%.*s\"", (int)saved, text + at - saved);
         printf("\n");
-        if (number != 0)
+        if (number != SST_OK)
             return;
     }
 }
@@ -147,32 +131,30 @@ static void show_tokens(uint64_t written)
     size_t i;
     printf("  tokens");
     for (i = 0; i < (size_t)written; i++)
-        printf(" %u", get_word(tokens, i));
+        printf(" %u", (unsigned)sst_get_word(tokens, i));
     printf("\n");
 }
 
 int main(void)
 {
-    uint8_t filter[ENTRY_BYTES * MOST_ENTRIES];
-    uint64_t start, len, words, finishing, figure, figure_number, at, written;
-    size_t i, filter_bytes;
-    uint16_t number = sst_process((const uint8_t *)scanner, strlen(scanner), table, sizeof table, &start, &len, &words, &finishing, &figure, &figure_number);
+    uint8_t filter[SST_FILTER_ENTRY_BYTES * SST_FILTER_ENTRIES];
+    uint64_t at, written;
+    size_t i, filter_bytes, words = translate_rules(scanner, table, sizeof table);
+    uint16_t number;
 
-    if (number != 0) {
-        printf("refused %u\n", (unsigned)number);
+    if (words == 0)
         return 1;
-    }
     printf("%s\n", text);
     for (i = 0; i < COUNT(filters); i++) {
         printf("%s\n", filters[i].name);
         filter_bytes = put_entries(filter, &filters[i]);
         number = sst_filter(filter, filter_bytes, (const uint8_t *)text, strlen(text), tokens, sizeof tokens, &at, &written);
-        if (number != 0) {
+        if (number != SST_OK) {
             printf("  refused %u, naming %lu\n", (unsigned)number, (unsigned long)at);
             continue;
         }
         show_tokens(written);
-        scan((size_t)words, (size_t)written);
+        scan(words, (size_t)written);
     }
     return 0;
 }

@@ -4,9 +4,7 @@
  *
  * The table that is linked is compared with that of the one text. `make link` does the same with files.
  */
-#include <stdio.h>
-#include <string.h>
-
+#include "helpers.h"
 #include "sst-desk.h"
 
 #define SECTIONS "input: word mark; output: set; type Kind: plain noted;\n"
@@ -28,12 +26,12 @@ static uint8_t table[SST_TABLE_BYTES];
 static uint8_t whole[SST_TABLE_BYTES];
 
 /* Translates a part; its object is written at a place of `objects`. The place behind it, or 0 where it is refused. */
-static size_t translate(const char *part, size_t at)
+static size_t translate_part(const char *part, size_t at)
 {
     uint64_t text, start, len, words;
     uint16_t number = sst_part((const uint8_t *)common, strlen(common), (const uint8_t *)part, strlen(part), objects + at, OBJECT_BYTES, &text, &start, &len, &words);
 
-    if (number != 0) {
+    if (number != SST_OK) {
         printf("part refused: %u at %.*s\n", (unsigned)number, (int)len, (text == 0 ? common : part) + start);
         return 0;
     }
@@ -46,11 +44,11 @@ static size_t link_two(const char *name, const char *first, const char *second)
     const char *texts[3] = {common, first, second};
     uint64_t text, start, len, words, finishing, figure, figure_number;
     uint16_t number;
-    size_t end = translate(first, 0);
+    size_t end = translate_part(first, 0);
 
-    end = translate(second, end);
+    end = translate_part(second, end);
     number = sst_link((const uint8_t *)common, strlen(common), objects, end, table, sizeof table, &text, &start, &len, &words, &finishing, &figure, &figure_number);
-    if (number != 0) {
+    if (number != SST_OK) {
         printf("%s: %u at %.*s in text %u\n", name, (unsigned)number, (int)len, texts[text] + start, (unsigned)text);
         return 0;
     }
@@ -61,16 +59,17 @@ static size_t link_two(const char *name, const char *first, const char *second)
 int main(void)
 {
     uint64_t text, start, len, words, finishing, figure, figure_number;
+    struct translation told;
     size_t linked = link_two("two parts", page, note);
 
-    sst_process((const uint8_t *)one, strlen(one), whole, sizeof whole, &start, &len, &words, &finishing, &figure, &figure_number);
-    printf("the table of the one text: %s\n", linked == words && memcmp(table, whole, sizeof table) == 0 ? "the same" : "another");
+    translate(one, whole, sizeof whole, &told);
+    printf("the table of the one text: %s\n", linked == told.words && memcmp(table, whole, sizeof table) == 0 ? "the same" : "another");
     link_two("a choice rule missing", page, lacking);
     link_two("the same part twice", note, note);
     link_two("the other order", note, page);
 
     /* An object changed after it was written is refused, or is that of another program that may be linked. */
-    translate(page, 0);
+    translate_part(page, 0);
     objects[1] ^= 1;
     printf("a changed mark: %u\n",
            (unsigned)sst_link((const uint8_t *)common, strlen(common), objects, OBJECT_BYTES, table, sizeof table, &text, &start, &len, &words, &finishing, &figure,

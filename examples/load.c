@@ -9,14 +9,9 @@
  *     M: {[ | blank: | illegalChar: #badChar | *: > ]};
  *   end
  *
- * as `make table` writes it. A walk on a table that was loaded never answers 37, whoever wrote the file.
+ * as `make table` writes it. A walk on a table that was loaded never answers SST_BAD_TABLE, whoever wrote the file.
  */
-#include <stdio.h>
-#include <string.h>
-
-#include "sst.h"
-
-#define WORD(w) (w) >> 8, (w) & 255
+#include "helpers.h"
 
 static const uint8_t scanner[] = {
     'H', 'D', WORD(2), WORD(18), WORD(1), /* 18 words, claimed to be finishing */
@@ -33,7 +28,7 @@ struct damage {
 };
 
 #define FILE_BYTES sizeof scanner
-#define TABLE_WORDS 4096
+#define TABLE_WORDS (SST_TABLE_BYTES / 2)
 
 static const struct damage damages[] = {
     {"the last byte missing", 0, 'H', FILE_BYTES - 1, TABLE_WORDS},
@@ -44,31 +39,27 @@ static const struct damage damages[] = {
     {"the last return made an instruction that is none", 47, 14, FILE_BYTES, TABLE_WORDS},
 };
 
-#define COUNT(list) (sizeof(list) / sizeof((list)[0]))
-
-static uint8_t table[2 * TABLE_WORDS];
+static uint8_t table[SST_TABLE_BYTES];
 static uint8_t walk[SST_WALK_BYTES];
-
-static unsigned get_word(const uint8_t *bytes, size_t i)
-{
-    return (unsigned)bytes[2 * i] << 8 | bytes[2 * i + 1];
-}
 
 /* Walks the table that was loaded over a few tokens. */
 static void walk_table(size_t words)
 {
     static const uint8_t tokens[] = {WORD(2), WORD(3), WORD(3), WORD(0)}; /* blank, illegalChar twice, a */
     static const uint8_t answers[1];                                      /* none are wanted */
-    static uint8_t events[6 * 8];
-    uint64_t written, steps, i;
+    static uint8_t events[8 * SST_EVENT_BYTES];
+    uint64_t written, steps;
     uint16_t number;
+    size_t i;
 
     sst_fresh(walk, sizeof walk, 0);
     number = sst_whole(table, 2 * words, tokens, sizeof tokens, answers, 0, 100, walk, sizeof walk, events, sizeof events, &written, &steps);
     printf("walk answered %u after %lu steps, tokens read %lu\n", (unsigned)number, (unsigned long)steps,
            (unsigned long)sst_read(walk, sizeof walk));
-    for (i = 0; i < written; i++)
-        printf("  %s %u\n", get_word(events, 3 * i) == 2 ? "error" : "event", get_word(events, 3 * i + 1));
+    for (i = 0; i < (size_t)written; i++) {
+        struct event event = event_at(events, i);
+        printf("  %s %u\n", event.kind == SST_EVENT_ERROR ? "error" : "event", (unsigned)event.value);
+    }
 }
 
 /* Loads a copy of the file with one byte changed. */
@@ -82,7 +73,7 @@ static void load_damaged(const struct damage *damage)
     file[damage->at] = damage->value;
     number = sst_load(file, damage->bytes, table, 2 * damage->words, &words, &verdict);
     printf("%s: answered %u, words %lu, first word of the table %u\n", damage->name, (unsigned)number, (unsigned long)words,
-           get_word(table, 0));
+           (unsigned)sst_get_word(table, 0));
 }
 
 int main(void)
@@ -93,7 +84,7 @@ int main(void)
 
     printf("answered %u, words %lu, finishing by the sender's claim: %s\n", (unsigned)number, (unsigned long)words,
            verdict ? "yes" : "no");
-    if (number != 0)
+    if (number != SST_OK)
         return 1;
     walk_table((size_t)words);
     for (i = 0; i < COUNT(damages); i++)

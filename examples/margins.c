@@ -3,10 +3,7 @@
  *
  *   cc -std=c99 examples/margins.c $(pkg-config --cflags --libs sst) -o margins
  */
-#include <stdio.h>
-#include <string.h>
-
-#include "sst.h"
+#include "helpers.h"
 
 static const char text[] = "input output: gutter indent ratio depth grade;\n"
                            "input: plus '+' minus '-' times '*' over '/' power '^' open '(' close ')'\n"
@@ -33,16 +30,10 @@ static const char *const styles[] = {
     "margin gutter + * ratio ; end",
 };
 
-#define COUNT(list) (sizeof(list) / sizeof((list)[0]))
 #define TOKENS 32
 #define BUDGET 1000
 
 static uint8_t table[SST_TABLE_BYTES];
-
-static unsigned get_word(const uint8_t *bytes, size_t i)
-{
-    return (unsigned)bytes[2 * i] << 8 | bytes[2 * i + 1];
-}
 
 /* The tokens of a style sheet's words, which single spaces part; how many bytes they are. */
 static size_t put_tokens(uint8_t *tokens, const char *style)
@@ -52,8 +43,8 @@ static size_t put_tokens(uint8_t *tokens, const char *style)
         size_t length = strcspn(style, " "), i = 0;
         while (strlen(inputs[i]) != length || memcmp(inputs[i], style, length) != 0)
             i++;
-        tokens[bytes++] = 0;
-        tokens[bytes++] = (uint8_t)i;
+        sst_put_word(tokens, bytes / 2, (uint16_t)i);
+        bytes += 2;
         style += length + (style[length] == ' ');
     }
     return bytes;
@@ -61,7 +52,7 @@ static size_t put_tokens(uint8_t *tokens, const char *style)
 
 static void walk_style(const char *style)
 {
-    static uint8_t tokens[2 * TOKENS], walk[SST_WALK_BYTES], events[6 * TOKENS];
+    static uint8_t tokens[2 * TOKENS], walk[SST_WALK_BYTES], events[SST_EVENT_BYTES * TOKENS];
     static const uint8_t none[1] = {0};
     uint64_t written, steps;
     size_t i, bytes = put_tokens(tokens, style);
@@ -70,23 +61,24 @@ static void walk_style(const char *style)
     sst_fresh(walk, sizeof walk, 0);
     number = sst_whole(table, sizeof table, tokens, bytes, none, 0, BUDGET, walk, sizeof walk, events, sizeof events, &written, &steps);
     printf("%s\n  answered %u:", style, number);
-    for (i = 0; i < (size_t)written; i++)
-        printf(" %s", get_word(events, 3 * i) == 1 ? outputs[get_word(events, 3 * i + 1)] : "(width missing)");
+    for (i = 0; i < (size_t)written; i++) {
+        struct event event = event_at(events, i);
+        printf(" %s", event.kind == SST_EVENT_OUTPUT ? outputs[event.value] : "(width missing)");
+    }
     printf("\n");
 }
 
 int main(void)
 {
-    uint64_t start, len, words, finishing, figure, figure_number;
+    struct translation told;
     size_t i;
-    unsigned number = sst_process((const uint8_t *)text, strlen(text), table, sizeof table, &start, &len, &words, &finishing, &figure,
-                                  &figure_number);
+    unsigned number = translate(text, table, sizeof table, &told);
 
-    if (number != 0) {
-        printf("refused %u: \"%.*s\"\n", number, (int)len, text + start);
+    if (number != SST_OK) {
+        printf("refused %u: \"%.*s\"\n", number, (int)told.len, text + told.start);
         return 1;
     }
-    printf("words %lu, finishing %s\n", (unsigned long)words, finishing ? "yes" : "no");
+    printf("words %lu, finishing %s\n", (unsigned long)told.words, told.finishing ? "yes" : "no");
     for (i = 0; i < COUNT(styles); i++)
         walk_style(styles[i]);
     return 0;

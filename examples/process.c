@@ -2,10 +2,7 @@
  *
  *   cc -std=c99 examples/process.c $(pkg-config --cflags --libs sst) -o process
  */
-#include <stdio.h>
-#include <string.h>
-
-#include "sst.h"
+#include "helpers.h"
 
 #define TABLE_WORDS 64
 #define EVENTS 16
@@ -53,43 +50,24 @@ static const struct program programs[] = {
     {"P2 in a table of 17 words", scanner, 17, 0, {{0, 0, {0}, 0, {0}}}},
 };
 
-#define COUNT(list) (sizeof(list) / sizeof((list)[0]))
-
 static uint8_t table[2 * TABLE_WORDS];
 static uint8_t walk[SST_WALK_BYTES];
-static uint8_t events[6 * EVENTS];
-
-static void put_words(uint8_t *bytes, const uint16_t *words, size_t count)
-{
-    size_t i;
-    for (i = 0; i < count; i++) {
-        bytes[2 * i] = (uint8_t)(words[i] >> 8);
-        bytes[2 * i + 1] = (uint8_t)(words[i] & 255);
-    }
-}
-
-static unsigned get_word(const uint8_t *bytes, size_t i)
-{
-    return (unsigned)bytes[2 * i] << 8 | bytes[2 * i + 1];
-}
-
-/* The first word of an event; a walk without repairs writes no other than these and those of operations. */
-enum event_kind { OUTPUT_EVENT = 1, ERROR_EVENT = 2 };
+static uint8_t events[SST_EVENT_BYTES * EVENTS];
 
 static void show_events(uint64_t written)
 {
     size_t i;
     for (i = 0; i < (size_t)written; i++) {
-        unsigned kind = get_word(events, 3 * i), value = get_word(events, 3 * i + 1), parameter = get_word(events, 3 * i + 2);
-        switch (kind) {
-        case OUTPUT_EVENT:
-            printf("    output %u\n", value);
+        struct event event = event_at(events, i);
+        switch (event.kind) {
+        case SST_EVENT_OUTPUT:
+            printf("    output %u\n", (unsigned)event.value);
             break;
-        case ERROR_EVENT:
-            printf("    error %u\n", value);
+        case SST_EVENT_ERROR:
+            printf("    error %u\n", (unsigned)event.value);
             break;
         default:
-            printf("    operation %u, parameter %u\n", value, parameter);
+            printf("    operation %u, parameter %u\n", (unsigned)event.value, (unsigned)event.parameter);
         }
     }
 }
@@ -110,41 +88,40 @@ static void walk_table(size_t words, const struct walk_case *given)
     show_events(written);
 }
 
-/* The line of a place in a text, from 1. */
-static unsigned line_of(const char *text, uint64_t place)
+static void show_table(const struct translation *told)
 {
-    unsigned line = 1;
-    uint64_t i;
-    for (i = 0; i < place; i++)
-        line += text[i] == '\n';
-    return line;
+    size_t i;
+    printf("  words %lu, finishing %s", (unsigned long)told->words, told->finishing ? "yes" : "no");
+    if (told->figure_number == SST_NO_FIGURE)
+        printf(", no figure: %lu", (unsigned long)told->figure_number);
+    else if (told->figure != 0)
+        printf(", figure %lu", (unsigned long)told->figure);
+    printf(":");
+    for (i = 0; i < (size_t)told->words; i++)
+        printf(" %u", (unsigned)sst_get_word(table, i));
+    printf("\n");
+}
+
+static void run(const struct program *program)
+{
+    struct translation told;
+    size_t i;
+    unsigned number = translate(program->text, table, 2 * program->table_words, &told);
+    printf("%s\n", program->name);
+    if (number != SST_OK) {
+        printf("  refused %u line %u, at %lu: \"%.*s\"\n", number, line_of(program->text, told.start), (unsigned long)told.start,
+               (int)told.len, program->text + told.start);
+        return;
+    }
+    show_table(&told);
+    for (i = 0; i < program->walk_count; i++)
+        walk_table((size_t)told.words, &program->walks[i]);
 }
 
 int main(void)
 {
-    size_t i, k;
-    for (i = 0; i < COUNT(programs); i++) {
-        const struct program *program = &programs[i];
-        uint64_t start, len, words, finishing, figure, figure_number;
-        unsigned number = sst_process((const uint8_t *)program->text, strlen(program->text), table, 2 * program->table_words, &start,
-                                      &len, &words, &finishing, &figure, &figure_number);
-        printf("%s\n", program->name);
-        if (number != 0) {
-            printf("  refused %u line %u, at %lu: \"%.*s\"\n", number, line_of(program->text, start), (unsigned long)start, (int)len,
-                   program->text + start);
-            continue;
-        }
-        printf("  words %lu, finishing %s", (unsigned long)words, finishing ? "yes" : "no");
-        if (figure_number != 0)
-            printf(", no figure: %lu", (unsigned long)figure_number);
-        else if (figure != 0)
-            printf(", figure %lu", (unsigned long)figure);
-        printf(":");
-        for (k = 0; k < (size_t)words; k++)
-            printf(" %u", get_word(table, k));
-        printf("\n");
-        for (k = 0; k < program->walk_count; k++)
-            walk_table((size_t)words, &program->walks[k]);
-    }
+    size_t i;
+    for (i = 0; i < COUNT(programs); i++)
+        run(&programs[i]);
     return 0;
 }

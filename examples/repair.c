@@ -5,10 +5,7 @@
  * A repair writes an event of its own, so that the reader can note where a chapter was mended. Where an input choice has no label for the
  * present token and no otherwise, a repair takes its first alternative: the rules below put the one first that closes what is open.
  */
-#include <stdio.h>
-#include <string.h>
-
-#include "sst.h"
+#include "helpers.h"
 
 static const char rules[] = "input: text open '<em>' close '</em>' chapterEnd;\n"
                             "output: run emphasisOn emphasisOff chapterDone;\n"
@@ -23,14 +20,10 @@ enum token { TEXT, OPEN, CLOSE, CHAPTER_END };
 static const char *const token_names[] = {"text", "<em>", "</em>", "chapterEnd"};
 static const char *const output_names[] = {"run", "emphasisOn", "emphasisOff", "chapterDone"};
 
-/* The first word of an event. */
-enum event_kind { OUTPUT_EVENT = 1, REPAIR_EVENT = 4 };
-
 #define TABLE_WORDS 64
 #define TOKENS 6
 #define EVENTS 16
 #define BUDGET 1000
-#define WORDS_OF_AN_EVENT 3
 
 /* The tokens are words, high byte first. */
 struct chapter {
@@ -50,17 +43,10 @@ static const struct chapter chapters[] = {
 struct walked {
     uint16_t number, left;
     uint64_t events, read;
-    uint8_t buffer[2 * WORDS_OF_AN_EVENT * EVENTS];
+    uint8_t buffer[SST_EVENT_BYTES * EVENTS];
 };
 
-#define COUNT(list) (sizeof(list) / sizeof((list)[0]))
-
 static uint8_t table[2 * TABLE_WORDS];
-
-static unsigned get_word(const uint8_t *bytes, size_t i)
-{
-    return (unsigned)bytes[2 * i] << 8 | bytes[2 * i + 1];
-}
 
 static void walk_chapter(struct walked *walked, const struct chapter *chapter, size_t words, uint16_t allowance)
 {
@@ -78,17 +64,16 @@ static void walk_chapter(struct walked *walked, const struct chapter *chapter, s
 /* The event at index i in words; nothing past the last one. */
 static void describe(char *line, size_t size, const struct walked *walked, size_t i)
 {
-    unsigned kind, value;
+    struct event event;
 
     line[0] = '\0';
     if (i >= walked->events)
         return;
-    kind = get_word(walked->buffer, WORDS_OF_AN_EVENT * i);
-    value = get_word(walked->buffer, WORDS_OF_AN_EVENT * i + 1);
-    if (kind == REPAIR_EVENT)
-        snprintf(line, size, "repaired %s", token_names[value]);
-    else if (kind == OUTPUT_EVENT)
-        snprintf(line, size, "output %s", output_names[value]);
+    event = event_at(walked->buffer, i);
+    if (event.kind == SST_EVENT_REPAIR)
+        snprintf(line, size, "repaired %s", token_names[event.value]);
+    else if (event.kind == SST_EVENT_OUTPUT)
+        snprintf(line, size, "output %s", output_names[event.value]);
 }
 
 static void show(const struct walked *strict, const struct walked *mending)
@@ -112,17 +97,13 @@ static void show(const struct walked *strict, const struct walked *mending)
 int main(void)
 {
     static struct walked strict, mending;
-    uint64_t start, len, words, finishing, figure, figure_number;
-    size_t i;
-    uint16_t number = sst_process((const uint8_t *)rules, strlen(rules), table, sizeof table, &start, &len, &words, &finishing, &figure, &figure_number);
+    size_t i, words = translate_rules(rules, table, sizeof table);
 
-    if (number != 0) {
-        printf("refused %u\n", (unsigned)number);
+    if (words == 0)
         return 1;
-    }
     for (i = 0; i < COUNT(chapters); i++) {
-        walk_chapter(&strict, &chapters[i], (size_t)words, 0);
-        walk_chapter(&mending, &chapters[i], (size_t)words, 2);
+        walk_chapter(&strict, &chapters[i], words, 0);
+        walk_chapter(&mending, &chapters[i], words, 2);
         printf("%s\n  %-24s%s\n", chapters[i].name, "no allowance", "an allowance of 2");
         show(&strict, &mending);
     }

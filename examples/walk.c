@@ -12,12 +12,7 @@
  *            | *: > ] };
  *   end
  */
-#include <stdio.h>
-
-#include "sst.h"
-
-/* A word, high byte first. */
-#define WORD(x) (x) >> 8, (x) & 255
+#include "helpers.h"
 
 static const uint8_t table[] = {
     WORD(7), WORD(24),    /*  1 input choice, its table at 26 */
@@ -46,26 +41,20 @@ static const uint8_t tokens[] = {WORD(1), WORD(1), WORD(1)};
 static const int values[] = {5, -3, 0};
 
 static uint8_t walk[SST_WALK_BYTES];
-static uint8_t events[6]; /* room for one */
+static uint8_t events[SST_EVENT_BYTES]; /* room for one */
 
-/* The first word of an event; a walk without repairs writes no other. */
-enum event_kind { OUTPUT_EVENT = 1, ERROR_EVENT, OPERATION_EVENT };
+/* The kinds of events; a walk without repairs writes no other. */
 static const char *const event_kinds[] = {"", "output", "error", "operation"};
-
-static unsigned get_word(const uint8_t *bytes, size_t i)
-{
-    return (unsigned)bytes[2 * i] << 8 | bytes[2 * i + 1];
-}
 
 static void show(unsigned number, uint64_t written, uint64_t steps)
 {
     size_t i;
     printf("answered %u, steps %lu\n", number, (unsigned long)steps);
     for (i = 0; i < (size_t)written; i++) {
-        unsigned kind = get_word(events, 3 * i);
-        printf("  %s %u", event_kinds[kind], get_word(events, 3 * i + 1));
-        if (kind == OPERATION_EVENT)
-            printf(", parameter %u", get_word(events, 3 * i + 2));
+        struct event event = event_at(events, i);
+        printf("  %s %u", event_kinds[event.kind], (unsigned)event.value);
+        if (event.kind == SST_EVENT_OPERATION)
+            printf(", parameter %u", (unsigned)event.parameter);
         printf("\n");
     }
 }
@@ -82,13 +71,13 @@ int main(void)
                             &written, &steps);
         show(number, written, steps);
         all += steps;
-        given = number == 22;
+        given = number == SST_WAITS;
         if (given) {
             int value = values[sst_used(walk, sizeof walk)];
             answer = value < 0 ? 0 : value > 0 ? 1 : 2;
             printf("  the answer for %d is %u\n", value, (unsigned)answer);
         }
-    } while (number == 22 || number == 35 || number == 36);
+    } while (number == SST_WAITS || number == SST_EVENTS_FULL || number == SST_BUDGET_SPENT);
 
     printf("phase %u, reason %u, location %u, tokens read %lu, answers used %lu, steps %lu\n", (unsigned)sst_phase(walk, sizeof walk),
            (unsigned)sst_reason(walk, sizeof walk), (unsigned)sst_location(walk, sizeof walk),
@@ -101,11 +90,11 @@ int main(void)
     /* The same at once, with room for all events. */
     {
         static const uint8_t answers[] = {WORD(1), WORD(0), WORD(2)};
-        static uint8_t room[60];
+        static uint8_t room[10 * SST_EVENT_BYTES];
         sst_fresh(walk, sizeof walk, 0);
         number = sst_whole(table, sizeof table, tokens, sizeof tokens, answers, sizeof answers, 1000, walk, sizeof walk, room,
                            sizeof room, &written, &steps);
         printf("whole: answered %u, steps %lu, events %lu\n", (unsigned)number, (unsigned long)steps, (unsigned long)written);
     }
-    return number != 0;
+    return number != SST_OK;
 }

@@ -3,11 +3,12 @@
 #define INPUT_H
 
 #include <stdio.h>
+#include <string.h>
 
 #include "sst.h"
 
-/* One byte more than a text may have: an over-long text is refused with 9 whatever follows. */
-#define TEXT_BYTES 32769
+/* One byte more than a text may have: an over-long text is refused with SST_OVER_LIMIT whatever follows. */
+#define TEXT_BYTES (SST_TEXT_BYTES + 1)
 
 enum status { DONE, REFUSED, FAILED };
 
@@ -30,6 +31,15 @@ static long read_bytes(const char *path, uint8_t *bytes, size_t room)
     bad = ferror(in);
     fclose(in);
     return bad ? -1 : (long)count;
+}
+
+/* Whether a tool is asked for its version alone, which is told. */
+static int tells_version(int argc, char **argv, const char *tool)
+{
+    if (argc != 2 || strcmp(argv[1], "--version") != 0)
+        return 0;
+    printf("%s %s\n", tool, SST_VERSION);
+    return 1;
 }
 
 static inline enum status refused(uint16_t number, const char *path)

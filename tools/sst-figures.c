@@ -1,5 +1,6 @@
 /* Figures over a shelf of books, for a release desk. This program is not proved: it calls the library and prints what it left.
  *
+ *   sst-figures --version
  *   sst-figures TEXT BOOK..   adds each book to empty figures over the program's table, and prints
  *
  *     book FILE number N steps S                       what the book's walk answered and did
@@ -20,7 +21,6 @@
  */
 #include <inttypes.h>
 #include <stdlib.h>
-#include <string.h>
 
 #include "input.h"
 #include "sst-desk.h"
@@ -29,11 +29,8 @@
 #define LARGEST_WORD 65535
 #define USUAL_BUDGET UINT64_C(1000000000)
 
-/* Numbers that walks answer. */
-enum { BUDGET_DONE = 36, EVENTS_FULL = 35 };
-
 /* Instructions with an operand of their own kind, those of one word, and the first operation. */
-enum { INPUT_CHOICE = 7, CHOICE = 11, INPUT_ANY = 4, RETURN = 9, END_CHOICE = 12, FIRST_OPERATION = 256 };
+enum { INPUT_CHOICE = 7, CHOICE = 11, INPUT_ANY = 4, RETURN = 9, END_CHOICE = 12, FIRST_OPERATION = SST_UPDATE };
 
 /* Words, high byte first, in a buffer that grows. */
 struct words {
@@ -76,8 +73,8 @@ static int add_word(struct words *w, uint64_t x)
         w->bytes = bytes;
         w->room = room;
     }
-    w->bytes[w->used++] = (uint8_t)(x / 256);
-    w->bytes[w->used++] = (uint8_t)(x % 256);
+    sst_put_word(w->bytes, w->used / 2, (uint16_t)x);
+    w->used += 2;
     return 1;
 }
 
@@ -178,7 +175,7 @@ static const uint8_t *bytes_of(const struct words *w)
 /* The events that a book's walk writes, found by a walk of its own. */
 static uint64_t count_events(const struct book *b)
 {
-    uint8_t walk[SST_WALK_BYTES], events[6 * 1024];
+    uint8_t walk[SST_WALK_BYTES], events[SST_EVENT_BYTES * 1024];
     uint64_t written, steps, all = 0, left = b->budget;
     uint16_t number;
 
@@ -188,45 +185,35 @@ static uint64_t count_events(const struct book *b)
                            sizeof walk, events, sizeof events, &written, &steps);
         all += written;
         left -= steps;
-    } while (number == EVENTS_FULL);
+    } while (number == SST_EVENTS_FULL);
     return all;
 }
 
 static enum status add_book(const char *path, const struct book *b)
 {
     uint64_t written, steps, count = count_events(b);
-    uint8_t *events = malloc((size_t)(6 * count + 1));
+    uint8_t *events = malloc((size_t)(SST_EVENT_BYTES * count + 1));
     uint16_t number;
 
     if (!events)
         return failed(path);
     number = sst_add_book(table, sizeof table, bytes_of(&b->tokens), b->tokens.used, bytes_of(&b->answers), b->answers.used, b->budget,
-                          b->allowance, figures, sizeof figures, events, (size_t)(6 * count), &written, &steps);
+                          b->allowance, figures, sizeof figures, events, (size_t)(SST_EVENT_BYTES * count), &written, &steps);
     free(events);
-    printf("book %s number %u steps %" PRIu64 "%s\n", path, (unsigned)number, steps, number == BUDGET_DONE ? ", its budget is done" : "");
-    return number == 21 || number == 46 ? REFUSED : DONE;
+    printf("book %s number %u steps %" PRIu64 "%s\n", path, (unsigned)number, steps, number == SST_BUDGET_SPENT ? ", its budget is done" : "");
+    return number == SST_REFUSED || number == SST_PAST_64_BITS ? REFUSED : DONE;
 }
 
 /* The report */
 
 static unsigned word_at(size_t location)
 {
-    return (unsigned)table[2 * location - 2] << 8 | table[2 * location - 1];
-}
-
-static uint64_t number_at(const uint8_t *bytes)
-{
-    uint64_t n = 0;
-    int i;
-
-    for (i = 0; i < 8; i++)
-        n = n << 8 | bytes[i];
-    return n;
+    return sst_get_word(table, location - 1);
 }
 
 static uint64_t count_at(size_t location)
 {
-    return number_at(figures + 8 * (location - 1));
+    return sst_get_64(figures + 8 * (location - 1));
 }
 
 static unsigned long line_of(uint64_t start)
@@ -249,12 +236,12 @@ static uint16_t find_rules(size_t text_len)
     rule_count = (size_t)count;
     for (i = 0; i < rule_count; i++) {
         const uint8_t *row = rows + i * SST_RULE_BYTES;
-        uint64_t start = number_at(row);
+        uint64_t start = sst_get_64(row);
         rules[i].name = text + start;
-        rules[i].name_len = (int)number_at(row + 8);
+        rules[i].name_len = (int)sst_get_64(row + 8);
         rules[i].line = line_of(start);
-        rules[i].location = (size_t)number_at(row + 16);
-        rules[i].end = i + 1 < rule_count ? (size_t)number_at(row + SST_RULE_BYTES + 16) : table_words + 1;
+        rules[i].location = (size_t)sst_get_64(row + 16);
+        rules[i].end = i + 1 < rule_count ? (size_t)sst_get_64(row + SST_RULE_BYTES + 16) : table_words + 1;
     }
     return number;
 }
@@ -369,12 +356,12 @@ static enum status report(void)
 {
     uint64_t books, total, covered, mean, rest, together;
 
-    if (sst_shelf(figures, sizeof figures, &books, &total, &covered, &mean, &rest) != 0)
+    if (sst_shelf(figures, sizeof figures, &books, &total, &covered, &mean, &rest) != SST_OK)
         return REFUSED;
     printf("books %" PRIu64 " steps %" PRIu64 " mean %" PRIu64 " remainder %" PRIu64 "\n", books, total, mean, rest);
     printf("locations executed %" PRIu64 " of %lu\n", covered, (unsigned long)find_instructions());
     print_rules(total);
-    if (sst_rules_total(figures, sizeof figures, rows, rule_count * SST_RULE_BYTES, table_words + 1, &together) != 0)
+    if (sst_rules_total(figures, sizeof figures, rows, rule_count * SST_RULE_BYTES, table_words + 1, &together) != SST_OK)
         return REFUSED;
     if (together == total)
         printf("rules together %" PRIu64 "\n", together);
@@ -393,6 +380,8 @@ int main(int argc, char **argv)
     long count;
     int i;
 
+    if (tells_version(argc, argv, "sst-figures"))
+        return DONE;
     if (argc < 2) {
         fprintf(stderr, "sst-figures TEXT BOOK..\n");
         return FAILED;
@@ -402,9 +391,9 @@ int main(int argc, char **argv)
         return failed(argv[1]);
     number = sst_process(text, (size_t)count, table, sizeof table, &start, &len, &words, &finishing, &figure, &figure_number);
     table_words = (size_t)words;
-    if (number == 0)
+    if (number == SST_OK)
         number = find_rules((size_t)count);
-    if (number != 0)
+    if (number != SST_OK)
         return refused(number, argv[1]);
     for (i = 2; i < argc; i++) {
         status = read_book(argv[i], &book);

@@ -2,11 +2,10 @@
  *
  *   sst-file write TEXT FILE   translates a program and writes its table file
  *   sst-file check FILE        says what the loader says of a file: its number, the words of the table, the sender's verdict
+ *   sst-file --version
  *
  * Status 0 where a file was written or taken, 1 where it was refused, 2 where a file could not be read or written.
  */
-#include <string.h>
-
 #include "input.h"
 
 static uint8_t text[TEXT_BYTES];
@@ -33,10 +32,10 @@ static enum status write_file(const char *from, const char *to)
     if (count < 0)
         return failed(from);
     number = sst_process(text, (size_t)count, table, sizeof table, &start, &len, &words, &finishing, &figure, &figure_number);
-    if (number != 0)
+    if (number != SST_OK)
         return refused(number, from);
     number = sst_write_file(table, 2 * (size_t)words, finishing, file, SST_FILE_BYTES, &file_words);
-    if (number != 0) {
+    if (number != SST_OK) {
         printf("not written: %u\n", (unsigned)number);
         return REFUSED;
     }
@@ -56,11 +55,13 @@ static enum status check_file(const char *path)
         return failed(path);
     number = sst_load(file, (size_t)count, table, sizeof table, &words, &verdict);
     printf("number %u words %lu verdict %lu\n", (unsigned)number, (unsigned long)words, (unsigned long)verdict);
-    return number == 0 ? DONE : REFUSED;
+    return number == SST_OK ? DONE : REFUSED;
 }
 
 int main(int argc, char **argv)
 {
+    if (tells_version(argc, argv, "sst-file"))
+        return DONE;
     if (argc == 4 && strcmp(argv[1], "write") == 0)
         return write_file(argv[2], argv[3]);
     if (argc == 3 && strcmp(argv[1], "check") == 0)

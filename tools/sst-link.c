@@ -3,6 +3,7 @@
  *
  *   sst-link COMMON PART..          prints the table of the whole as sst-list prints that of one text
  *   sst-link -o FILE COMMON PART..  writes its table file
+ *   sst-link --version
  *
  * Each part is translated with the common part, then all are linked in the order given. What is refused is told by one line,
  *
@@ -12,17 +13,14 @@
  */
 #include <inttypes.h>
 #include <stdlib.h>
-#include <string.h>
 
 #include "input.h"
 #include "sst-desk.h"
 
-#define MOST_PARTS 16
 #define FIRST_ROOM 65536
-#define TOO_SHORT 20
 
-/* The common part, then the parts; one part more than may be linked, so that linking tells 9. */
-#define MOST_TEXTS (MOST_PARTS + 2)
+/* The common part, then the parts; one part more than may be linked, so that linking tells SST_OVER_LIMIT. */
+#define MOST_TEXTS (SST_PARTS + 2)
 
 struct text {
     const char *path;
@@ -82,12 +80,12 @@ static enum status translate(const struct text *part, struct buffer *objects)
     for (;;) {
         number = sst_part(texts[0].bytes, texts[0].len, part->bytes, part->len, objects->bytes + objects->used, objects->room - objects->used, &text, &start, &len,
                           &words);
-        if (number != TOO_SHORT)
+        if (number != SST_TOO_SHORT)
             break;
         if (!make_room(objects, 2 * objects->room))
             return failed(part->path);
     }
-    if (number != 0)
+    if (number != SST_OK)
         return shown(number, text == 0 ? &texts[0] : part, start, len);
     objects->used += 2 * (size_t)words;
     return DONE;
@@ -102,7 +100,7 @@ static void list(uint64_t words, uint64_t finishing, uint64_t figure, uint64_t f
     if (finishing && figure_number == 0)
         printf("%" PRIu64 "\n", figure);
     for (i = 0; i < words; i++)
-        printf("%" PRIu64 " %u\n", i + 1, 256u * table[2 * i] + table[2 * i + 1]);
+        printf("%" PRIu64 " %u\n", i + 1, (unsigned)sst_get_word(table, (size_t)i));
 }
 
 static enum status write_file(const char *path, uint64_t words, uint64_t finishing)
@@ -112,7 +110,7 @@ static enum status write_file(const char *path, uint64_t words, uint64_t finishi
     size_t bytes = 2 * (size_t)file_words;
     FILE *out;
 
-    if (number != 0) {
+    if (number != SST_OK) {
         printf("not written: %u\n", (unsigned)number);
         return REFUSED;
     }
@@ -135,7 +133,7 @@ static enum status link_all(const struct buffer *objects, const char *out)
     uint16_t number = sst_link(texts[0].bytes, texts[0].len, objects->bytes, objects->used, table, sizeof table, &text, &start, &len, &words, &finishing, &figure,
                                &figure_number);
 
-    if (number != 0)
+    if (number != SST_OK)
         return shown(number, &texts[text], start, len);
     if (out)
         return write_file(out, words, finishing);
@@ -172,6 +170,8 @@ int main(int argc, char **argv)
 {
     const char *out = 0;
 
+    if (tells_version(argc, argv, "sst-link"))
+        return DONE;
     if (argc > 2 && strcmp(argv[1], "-o") == 0) {
         out = argv[2];
         argc -= 2;
