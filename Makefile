@@ -3,8 +3,9 @@
 # make load FILE=..        say what the loader says of a table file: number, words, the sender's verdict
 # make figures FILE=.. BOOKS=".."   figures over a shelf of books: executions by rule, and what was never executed
 # make link COMMON=.. PARTS=".."    translate parts of a program separately, link them and print the table; OUT=.. writes its table file
+# make sst                 build target/bin/sst, one command for author, engineer and release desk: target/bin/sst --help
 # make build               prove libraries and lister: target/lib/libsst.a, target/lib/libsst-carry.a, target/lib/libsst-desk.a, target/bin/lister
-# make install PREFIX=..   put libraries, headers, pkg-config files, lister and its page below PREFIX (/usr/local); DESTDIR=.. for a package
+# make install PREFIX=..   put libraries, headers, pkg-config files, sst, lister and its page below PREFIX (/usr/local); DESTDIR=.. for a package
 # make test                every check and test
 FILE ?= examples/scanner.ssl
 OUT ?= $(FILE:.ssl=.sst)
@@ -15,7 +16,7 @@ PREFIX ?= /usr/local
 DESTDIR ?=
 SOURCES = crates.txt $(shell find crates -name '*.rt' -o -name '*.antt')
 
-.PHONY: list table load figures link build install test
+.PHONY: list table load figures link sst build install test
 .NOTPARALLEL:
 
 list:
@@ -39,6 +40,14 @@ target/bin/sst-file target/bin/sst-figures target/bin/sst-link: target/bin/%: to
 	@mkdir -p target/bin
 	@$(CC) -std=c99 -Wall -Wextra -pedantic -O2 -Iinclude $< -Ltarget/lib -lsst-desk -lsst -o $@
 
+sst: target/bin/sst
+
+target/bin/sst: target/lib/libsst.a tools/sst/Cargo.toml $(shell find tools/sst/src reference/src reference/c -type f)
+	@mkdir -p target/bin
+	@CARGO_TARGET_DIR=$(CURDIR)/target/reference SST_LIB_DIR=$(CURDIR)/target/lib \
+		cargo build --quiet --offline --release --manifest-path tools/sst/Cargo.toml
+	@cp target/reference/release/sst $@
+
 build: target/lib/libsst.a target/bin/lister
 
 target/lib/libsst.a: $(SOURCES)
@@ -48,7 +57,7 @@ target/bin/lister: $(SOURCES)
 	@scripts/progress target/list.log rt check lister
 	@touch $@
 
-install: build
+install: build sst
 	@PREFIX="$(PREFIX)" DESTDIR="$(DESTDIR)" scripts/install
 
 test:

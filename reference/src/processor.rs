@@ -11,21 +11,23 @@ pub mod marks;
 mod operators;
 pub mod parts;
 
+pub use operators::uses;
+
 use crate::quiet::{Figure, figure};
 use crate::verdict::finishing;
 use std::collections::{HashMap, HashSet};
 
 pub const MAX_TEXT: usize = 32_768;
 pub const MAX_TABLE: usize = 4_096;
-const MAX_DEPTH: usize = 32;
-const MAX_LABELS: usize = 64;
-const MAX_RULES: usize = 128;
-const MAX_NAMES: usize = 512;
-const MAX_KIND: usize = 256;
-const MAX_BYTES: usize = 32;
-const MAX_VALUE: u128 = 65_535;
+pub const MAX_DEPTH: usize = 32;
+pub const MAX_LABELS: usize = 64;
+pub const MAX_RULES: usize = 128;
+pub const MAX_NAMES: usize = 512;
+pub const MAX_KIND: usize = 256;
+pub const MAX_BYTES: usize = 32;
+pub const MAX_VALUE: u128 = 65_535;
 /// The levels of operators.
-const LEVELS: std::ops::RangeInclusive<u16> = 1..=15;
+pub const LEVELS: std::ops::RangeInclusive<u16> = 1..=15;
 
 /// What a text is answered with.
 #[derive(Clone, PartialEq, Eq, Debug)]
@@ -140,7 +142,7 @@ pub fn listing(text: &[u8]) -> String {
 
 /// The sort of a word; of a sign or reserved word, its first spelling.
 #[derive(Clone, Copy, PartialEq, Eq, Debug)]
-enum Sort {
+pub enum Sort {
     Name,
     Number,
     Quoted,
@@ -151,10 +153,10 @@ enum Sort {
 }
 
 #[derive(Clone, Copy, PartialEq, Eq, Debug)]
-struct Word {
-    sort: Sort,
-    start: usize,
-    len: usize,
+pub struct Word {
+    pub sort: Sort,
+    pub start: usize,
+    pub len: usize,
 }
 
 const RESERVED: [(&str, &str); 11] = [
@@ -195,7 +197,7 @@ const SIGNS: [(&str, &str); 20] = [
     ("^", "^"),
 ];
 
-fn words(text: &[u8]) -> Vec<Word> {
+pub fn words(text: &[u8]) -> Vec<Word> {
     let run = |from: usize, good: &dyn Fn(u8) -> bool| text[from..].iter().take_while(|byte| good(**byte)).count();
     let mut out = Vec::new();
     let mut at = 0;
@@ -235,10 +237,10 @@ fn words(text: &[u8]) -> Vec<Word> {
 
 // ---------------------------------------------------------------- the tree; a `usize` is a word's index
 
-type At = usize;
+pub type At = usize;
 
 #[derive(Clone, Copy, PartialEq, Eq, Debug)]
-enum Head {
+pub enum Head {
     Tokens { input: bool, output: bool },
     Errors,
     Type(At),
@@ -246,74 +248,74 @@ enum Head {
 }
 
 #[derive(Debug)]
-struct Section {
-    head: Head,
-    entries: Vec<Entry>,
+pub struct Section {
+    pub head: Head,
+    pub entries: Vec<Entry>,
 }
 
 /// An entry, perhaps broken off.
 #[derive(Debug, Default)]
-struct Entry {
-    name: At,
-    string: Option<At>,
-    equals: bool,
-    number: Option<At>,
-    opened: bool,
-    parameter: Option<At>,
-    closed: bool,
-    arrow: bool,
-    result: Option<At>,
+pub struct Entry {
+    pub name: At,
+    pub string: Option<At>,
+    pub equals: bool,
+    pub number: Option<At>,
+    pub opened: bool,
+    pub parameter: Option<At>,
+    pub closed: bool,
+    pub arrow: bool,
+    pub result: Option<At>,
 }
 
 /// The four kinds of operations.
 #[derive(Clone, Copy, PartialEq, Eq, Debug)]
-struct Kind {
-    chooses: bool,
-    with: bool,
+pub struct Kind {
+    pub chooses: bool,
+    pub with: bool,
 }
 
 impl Entry {
     /// The operation's kind, if that is settled.
-    fn kind(&self) -> Option<Kind> {
+    pub fn kind(&self) -> Option<Kind> {
         (self.opened == self.closed).then_some(Kind { chooses: self.arrow, with: self.opened })
     }
 }
 
 /// A section of operators, from its first word to its last.
 #[derive(Debug)]
-struct Operators {
-    name: At,
-    entries: Vec<Operator>,
-    from: At,
-    to: At,
+pub struct Operators {
+    pub name: At,
+    pub entries: Vec<Operator>,
+    pub from: At,
+    pub to: At,
 }
 
 #[derive(Debug)]
-struct Operator {
-    input: At,
-    level: u16,
-    left: bool,
-    output: At,
+pub struct Operator {
+    pub input: At,
+    pub level: u16,
+    pub left: bool,
+    pub output: At,
 }
 
 /// `^NAME @rule`.
 #[derive(Clone, Copy, Debug)]
-struct Use {
-    sign: At,
-    section: At,
-    rule: At,
+pub struct Use {
+    pub sign: At,
+    pub section: At,
+    pub rule: At,
 }
 
 #[derive(Debug)]
-struct Body {
-    name: At,
-    of: Option<At>,
-    nodes: Vec<Node>,
-    end: At,
+pub struct Body {
+    pub name: At,
+    pub of: Option<At>,
+    pub nodes: Vec<Node>,
+    pub end: At,
 }
 
 #[derive(Debug)]
-enum Node {
+pub enum Node {
     Bare { word: At, given: Option<(At, At)> },
     Any,
     Emit(At),
@@ -327,27 +329,27 @@ enum Node {
 }
 
 #[derive(Debug)]
-enum Selector {
+pub enum Selector {
     Token,
     Rule(At),
     Operation { word: At, given: Option<(At, At)> },
 }
 
 #[derive(Debug)]
-struct Alternative {
-    otherwise: bool,
-    labels: Vec<At>,
-    nodes: Vec<Node>,
+pub struct Alternative {
+    pub otherwise: bool,
+    pub labels: Vec<At>,
+    pub nodes: Vec<Node>,
 }
 
 #[derive(Debug, Default)]
-struct Tree {
-    sections: Vec<Section>,
-    operators: Vec<Operators>,
+pub struct Tree {
+    pub sections: Vec<Section>,
+    pub operators: Vec<Operators>,
     /// Of a common part: how many names its sections declare; the names of its choice rules, and their types.
-    declared: usize,
-    list: Vec<(At, At)>,
-    bodies: Vec<Body>,
+    pub declared: usize,
+    pub list: Vec<(At, At)>,
+    pub bodies: Vec<Body>,
 }
 
 /// The word at which reading stops, with its number.
@@ -1165,7 +1167,7 @@ impl<'a> Names<'a> {
 }
 
 /// Whether a list goes past its end.
-fn past_all(nodes: &[Node]) -> bool {
+pub fn past_all(nodes: &[Node]) -> bool {
     nodes.iter().all(|node| match node {
         Node::Exit(_) | Node::Return { .. } => false,
         Node::Cycle(nodes) => left(nodes),
@@ -1175,7 +1177,7 @@ fn past_all(nodes: &[Node]) -> bool {
 }
 
 /// Whether some `>` here belongs to the cycle around.
-fn left(nodes: &[Node]) -> bool {
+pub fn left(nodes: &[Node]) -> bool {
     nodes.iter().any(|node| match node {
         Node::Exit(_) => true,
         Node::Choice { alternatives, .. } => alternatives.iter().any(|alternative| left(&alternative.nodes)),
@@ -1237,6 +1239,33 @@ pub fn written_out(text: &[u8]) -> Option<Vec<u8>> {
     let mut parser = Parser::new(text, &words);
     parser.program().ok()?;
     operators::write_out(text, &words, &parser.tree, parser.names).ok()
+}
+
+/// A text as it was read: its words, its tree as far as it goes, and the values of the entries. All of it is there where no word is refused
+/// with 1, 2 or 9.
+pub struct Outline {
+    pub words: Vec<Word>,
+    pub tree: Tree,
+    pub values: Vec<Vec<Option<u16>>>,
+}
+
+pub fn outline(text: &[u8]) -> Outline {
+    let words = words(text);
+    let mut parser = Parser::new(text, &words);
+    _ = parser.program();
+    let tree = parser.tree;
+    let values = values(text, &words, &tree.sections, &mut Vec::new());
+    Outline { words, tree, values }
+}
+
+/// The rules made for the operators of an accepted text, in the table's order: the first use of each, and its level.
+pub fn made(text: &[u8], outline: &Outline) -> Vec<(Use, u16)> {
+    operators::first_uses(text, &outline.words, &outline.tree)
+}
+
+/// How many words the table of a program has, be it too long or not.
+pub fn table_words(program: &Program) -> usize {
+    assemble(program).0.len()
 }
 
 // ---------------------------------------------------------------- the table

@@ -115,7 +115,7 @@ fn levels(section: &Operators) -> Levels<'_> {
 }
 
 /// All uses in text order.
-fn uses(tree: &Tree) -> Vec<Use> {
+pub fn uses(tree: &Tree) -> Vec<Use> {
     let mut out = Vec::new();
     tree.bodies.iter().for_each(|body| collect(&body.nodes, &mut out));
     out
