@@ -166,7 +166,7 @@ pub fn build_actions(
             };
             return Built { done, past, exits };
         }
-        let a = build_action(text, rows, scope, i, cells, c);
+        let a = build_action(text, rows, scope, i, w, cells, c);
         let d = a.done;
         if d.fault != 0 {
             return a;
@@ -178,25 +178,26 @@ pub fn build_actions(
     }
 }
 
+// An action, whose first word is w.
 fn build_action(
     text: &[u8],
     rows: &[u16],
     scope: Scope,
     at: usize,
+    w: WordAt,
     cells: &mut [u16],
     count: usize,
 ) -> Built
-    requires { ⌜ (at ≤ length (now text)) × Kept (now text) (now rows) (scope .n) ⌝ }
+    requires { ⌜ (at ≤ length (now text)) × Next (now text) at w × Kept (now text) (now rows) (scope .n) ⌝ }
     ensures { λ r. ⌜ ActDone (now (text .entry)) (now (rows .entry)) (scope .n) at (scope .inside) (scope .class) (now (cells .entry)) count (now (cells .exit)) r ⌝ }
 {
-    let w = look(text, at);
     if w.kind == words::DO {
         return build_cycle(text, rows, scope, w.next, cells, count);
     }
     if w.kind == words::IF {
         return build_choice(text, rows, scope, w.next, cells, count);
     }
-    resolver::resolve_plain(text, rows, scope, at, cells, count)
+    resolver::resolve_plain(text, rows, scope, at, w, cells, count)
 }
 
 // The rest of a cycle after its brace.

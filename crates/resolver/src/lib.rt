@@ -9,6 +9,7 @@ ghost use Rattle.program.specs.Program.{Plain, emit, error};
 ghost use Rattle.resolver.specs.Parts.{Lies, Went, Stopped, RestDone, NameIn, Sends, MatchDone, UpdateDone, NamedDone, SentDone, callOf, GivenDone, GiveDone, AnyDone, ExitDone, RankedDone};
 ghost use Rattle.resolver.specs.Parts.{operationCells, Misfit, ValueDone, OperandDone, Chose, Balked, ChoiceDone, byRuleOf, WithDone, ByOperationDone, Mislabel, LabelDone};
 ghost use Rattle.resolver.specs.Resolved.{Appends, PlainDone, SelectorDone, LabelsDone};
+ghost use Rattle.scanner.specs.Next.{Next};
 ghost use Rattle.symbols.specs.Index.{Kept};
 ghost use Rattle.symbols.specs.Rows.{held};
 ghost use Rattle.symbols.specs.Search.{part};
@@ -533,20 +534,20 @@ fn resolve_exit(w: WordAt, inside: bool, cells: &mut [u16], count: usize) -> Bui
     stopped(base::NO_CYCLE, w.start, w.len)
 }
 
-// A plain action, and what it means there.
+// A plain action, whose first word is w, and what it means there.
 pub fn resolve_plain(
     text: &[u8],
     rows: &[u16],
     scope: Scope,
     at: usize,
+    w: WordAt,
     cells: &mut [u16],
     count: usize,
 ) -> Built
-    requires { ⌜ (at ≤ length (now text)) × Kept (now text) (now rows) (scope .n) ⌝ }
+    requires { ⌜ (at ≤ length (now text)) × Next (now text) at w × Kept (now text) (now rows) (scope .n) ⌝ }
     ensures { λ r. ⌜ PlainDone (now (text .entry)) (now (rows .entry)) (scope .n) at (scope .inside) (scope .class) (now (cells .entry)) count (now (cells .exit)) r ⌝ }
 {
     let n = scope.n;
-    let w = scanner::next_word(text, at);
     let kind = w.kind;
     match kind {
         words::NAME => resolve_named(text, rows, n, w, cells, count),

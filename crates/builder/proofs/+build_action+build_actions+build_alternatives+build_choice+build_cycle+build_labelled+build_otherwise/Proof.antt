@@ -167,7 +167,7 @@ build-otherwise-below t =
     build-otherwise.Pre
 
 abbrev build-action-claims : ℕ → build-action-lts.Claims
-build-action-claims t = (look-reads.Asked, look-reads.Learnt, build-cycle-below t, build-cycle.Post, build-choice-below t, build-choice.Post, resolve-plain-reads.Asked, resolve-plain-reads.Learnt)
+build-action-claims t = (build-cycle-below t, build-cycle.Post, build-choice-below t, build-choice.Post, resolve-plain-reads.Asked, resolve-plain-reads.Learnt)
 
 abbrev build-actions-claims : ℕ → build-actions-lts.Claims
 build-actions-claims t = (look-reads.Asked, look-reads.Learnt, is-closing-reads.Asked, is-closing-reads.Learnt, put-reads.Asked, put-reads.Learnt, build-action-below t, build-action.Post, both-reads.Asked, both-reads.Learnt, either-reads.Asked, either-reads.Learnt)
@@ -187,35 +187,32 @@ build-labelled-claims t = (resolve-labels-reads.Asked, resolve-labels-reads.Lear
 abbrev build-otherwise-claims : ℕ → build-otherwise-lts.Claims
 build-otherwise-claims t = (look-reads.Asked, look-reads.Learnt, put-reads.Asked, put-reads.Learnt, build-actions-below t, build-actions.Post)
 
-build-action-look-requires : (t : ℕ) → build-action-lts.Need-look-requires (build-action-claims t) (build-action-at t) build-action.Post
-build-action-look-requires t c κs = search needs
-
 build-action-build-cycle-requires : (t : ℕ) → build-action-lts.Need-build-cycle-requires (build-action-claims t) (build-action-at t) build-action.Post
-build-action-build-cycle-requires t c κs = (omega (arith, c .before .before .before .look .ensures .moves (omega (arith, c .before .if1 .taken)), c .before .before .before .look .ensures .high (omega arith)), (omega (arith, c .before .before .before .look .ensures .moves (omega (arith, c .before .if1 .taken)), c .before .before .before .look .ensures .high (omega arith)), c .before .before .before .before .before .before .before .pre .1 .1))
+build-action-build-cycle-requires t c κs = (omega (arith, c .before .before .before .before .before .before .pre .1 .1 .moves (omega (arith, c .before .if1 .taken)), c .before .before .before .before .before .before .pre .1 .1 .high (c .before .before .before .before .before .before .pre .1 .0)), (omega (arith, c .before .before .before .before .before .before .pre .1 .1 .moves (omega (arith, c .before .if1 .taken)), c .before .before .before .before .before .before .pre .1 .1 .high (c .before .before .before .before .before .before .pre .1 .0)), c .before .before .before .before .before .before .pre .1 .2))
 
 build-action-same-length : (t : ℕ) → build-action-lts.Need-same-length (build-action-claims t) (build-action-at t) build-action.Post
 build-action-same-length t c = c .before .before .build-cycle .ensures .kept .same
 
 build-action-returns : (t : ℕ) → build-action-lts.Need-returns (build-action-claims t) (build-action-at t) build-action.Post
-build-action-returns t c = act-cycle (c .before .before .before .before .before .before .look .ensures) (c .before .before .before .before .if1 .taken) (c .before .before .build-cycle .ensures)
+build-action-returns t c = act-cycle (c .before .before .before .before .before .before .before .before .before .pre .1 .1) (c .before .before .before .before .if1 .taken) (c .before .before .build-cycle .ensures)
 
 build-action-build-choice-requires : (t : ℕ) → build-action-lts.Need-build-choice-requires (build-action-claims t) (build-action-at t) build-action.Post
-build-action-build-choice-requires t c κs = (omega (arith, c .before .before .before .before .before .look .ensures .moves (omega (arith, c .before .if2 .taken)), c .before .before .before .before .before .look .ensures .high (omega arith)), (omega (arith, c .before .before .before .before .before .look .ensures .moves (omega (arith, c .before .if2 .taken)), c .before .before .before .before .before .look .ensures .high (omega arith)), c .before .before .before .before .before .before .before .before .before .pre .1 .1))
+build-action-build-choice-requires t c κs = (omega (arith, c .before .before .before .before .before .before .before .before .pre .1 .1 .moves (omega (arith, c .before .if2 .taken)), c .before .before .before .before .before .before .before .before .pre .1 .1 .high (c .before .before .before .before .before .before .before .before .pre .1 .0)), (omega (arith, c .before .before .before .before .before .before .before .before .pre .1 .1 .moves (omega (arith, c .before .if2 .taken)), c .before .before .before .before .before .before .before .before .pre .1 .1 .high (c .before .before .before .before .before .before .before .before .pre .1 .0)), c .before .before .before .before .before .before .before .before .pre .1 .2))
 
 build-action-same-length-2 : (t : ℕ) → build-action-lts.Need-same-length-2 (build-action-claims t) (build-action-at t) build-action.Post
 build-action-same-length-2 t c = c .before .before .build-choice .ensures .kept .same
 
 build-action-returns-2 : (t : ℕ) → build-action-lts.Need-returns-2 (build-action-claims t) (build-action-at t) build-action.Post
-build-action-returns-2 t c = act-choice (c .before .before .before .before .before .before .before .before .look .ensures) (c .before .before .before .before .if2 .taken) (c .before .before .build-choice .ensures)
+build-action-returns-2 t c = act-choice (c .before .before .before .before .before .before .before .before .before .before .before .pre .1 .1) (c .before .before .before .before .if2 .taken) (c .before .before .build-choice .ensures)
 
 build-action-resolve-plain-requires : (t : ℕ) → build-action-lts.Need-resolve-plain-requires (build-action-claims t) (build-action-at t) build-action.Post
-build-action-resolve-plain-requires t c κs = (omega arith, c .before .before .before .before .before .before .before .before .before .pre .1 .1)
+build-action-resolve-plain-requires t c κs = (c .before .before .before .before .before .before .before .before .pre .1 .0, c .before .before .before .before .before .before .before .before .pre .1 .1, c .before .before .before .before .before .before .before .before .pre .1 .2)
 
 build-action-same-length-3 : (t : ℕ) → build-action-lts.Need-same-length-3 (build-action-claims t) (build-action-at t) build-action.Post
 build-action-same-length-3 t c = c .before .before .resolve-plain .ensures .same
 
 build-action-returns-3 : (t : ℕ) → build-action-lts.Need-returns-3 (build-action-claims t) (build-action-at t) build-action.Post
-build-action-returns-3 t c = act-plain (c .before .before .before .before .before .before .before .before .look .ensures) (c .before .before .before .before .before .before .if1 .left) (c .before .before .before .before .if2 .left) (c .before .before .resolve-plain .ensures)
+build-action-returns-3 t c = act-plain (c .before .before .before .before .before .before .before .before .before .before .before .pre .1 .1) (c .before .before .before .before .before .before .if1 .left) (c .before .before .before .before .if2 .left) (c .before .before .resolve-plain .ensures)
 
 abbrev build-actions-Inv-loop : build-actions-lts.InvT-loop
 build-actions-Inv-loop text rows scope at cells₀ count i₀ c₀ past₀ exits₀ cells i c past exits =
@@ -244,7 +241,7 @@ build-actions-returns : (t : ℕ) → build-actions-lts.Need-returns (build-acti
 build-actions-returns t c = c .before .before .before .before .before .before .before .loop .inv .3 _ _ (acts-stop (c .before .before .before .before .before .before .before .loop .inv .1) (c .before .before .before .before .before .before .look .ensures) (sym (c .before .before .before .before .before .is-closing .ensures) ∙ c .before .before .before .before .if1 .taken) (c .before .before .put .ensures) refl refl refl refl)
 
 build-actions-build-action-requires : (t : ℕ) → build-actions-lts.Need-build-action-requires (build-actions-claims t) (build-actions-at t) build-actions.Post build-actions-Inv-loop build-actions-μ-loop
-build-actions-build-action-requires t c κs = (omega (arith, c .before .before .before .before .loop .inv .2), (omega (arith, c .before .before .before .before .loop .inv .2), c .before .before .before .before .before .before .before .before .pre .1 .1))
+build-actions-build-action-requires t c κs = (omega (arith, c .before .before .before .before .loop .inv .2), (omega (arith, c .before .before .before .before .loop .inv .2), c .before .before .before .look .ensures, c .before .before .before .before .before .before .before .before .pre .1 .1))
 
 build-actions-same-length-2 : (t : ℕ) → build-actions-lts.Need-same-length-2 (build-actions-claims t) (build-actions-at t) build-actions.Post build-actions-Inv-loop build-actions-μ-loop
 build-actions-same-length-2 t c = c .before .before .before .before .before .build-action .ensures .kept .same ∙ c .before .before .before .before .before .before .before .before .before .before .loop .inv .2
@@ -437,7 +434,6 @@ pub +build-action+build-actions+build-alternatives+build-choice+build-cycle+buil
     μ-build-labelled
     μ-build-otherwise
     (λ t. build-action-lts.spec (build-action-claims t) (build-action-at t) build-action.Post
-    (build-action-look-requires t)
     (build-action-build-cycle-requires t)
     (build-action-same-length t)
     (build-action-returns t)
