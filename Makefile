@@ -5,7 +5,7 @@
 # make link COMMON=.. PARTS=".."    translate parts of a program separately, link them and print the table; OUT=.. writes its table file
 # make sst                 build target/bin/sst, one command for author, engineer and release desk: target/bin/sst --help
 # make build               prove libraries and lister: target/lib/libsst.a, target/lib/libsst-carry.a, target/lib/libsst-desk.a, target/bin/lister
-# make install PREFIX=..   put libraries, headers, pkg-config files, sst, lister and its page below PREFIX (/usr/local); DESTDIR=.. for a package
+# make install PREFIX=..   put libraries, headers, pkg-config files, sst, lister and their pages below PREFIX (/usr/local); DESTDIR=.. for a package
 # make test                every check and test
 FILE ?= examples/scanner.ssl
 OUT ?= $(FILE:.ssl=.sst)

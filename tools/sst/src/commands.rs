@@ -2,7 +2,7 @@
 
 use crate::arguments::{Arguments, Opt, parse};
 use crate::session::{Done, Session, Status, Trouble};
-use crate::{bound, check, figures, header, list, load, table, verify, walk, why};
+use crate::{bound, certify, check, figures, header, list, load, table, verify, walk, why};
 use std::ffi::OsString;
 
 struct Command {
@@ -21,7 +21,7 @@ const fn with(name: &'static str, value: &'static str, about: &'static str) -> O
     Opt { name, value: Some(value), about }
 }
 
-const COMMANDS: [Command; 11] = [
+const COMMANDS: [Command; 12] = [
     Command {
         name: "check",
         arguments: "FILE..",
@@ -119,6 +119,13 @@ const COMMANDS: [Command; 11] = [
         about: "walks a shelf of books and prints how often each rule was executed, and which actions never were",
         options: &[with("lcov", "OUT", "writes the lines' counts for coverage tools")],
         run: figures::run,
+    },
+    Command {
+        name: "certify",
+        arguments: "FILE",
+        about: "prints what a release note rests on: digests, verdict, Q, theorems, toolchain and commit",
+        options: &[with("output", "NOTE", "writes it there; also -o")],
+        run: certify::run,
     },
 ];
 

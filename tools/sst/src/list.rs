@@ -40,7 +40,9 @@ pub fn run(session: &mut Session, arguments: &Arguments) -> Done {
 fn lister(session: &mut Session, source: &Source, answer: &Answer) -> Done {
     if answer.number != 0 {
         session.out(&format!("refused {} line {}\n", answer.number, place(source.text, answer.start).line))?;
-        session.err(&format!("at: {}\n", shown_word(source, answer)));
+        let word = &source.text[answer.start..answer.start + answer.len];
+        let shown: &[u8] = if word.is_empty() { b"the end of the text" } else { word };
+        session.err_bytes(&[b"at: ", shown, b"\n"].concat());
         return Ok(Status::No);
     }
     let verdict = if answer.finishing { "yes" } else { "no" };
@@ -52,13 +54,6 @@ fn lister(session: &mut Session, source: &Source, answer: &Answer) -> Done {
         session.out(&format!("{} {word}\n", i + 1))?;
     }
     Ok(Status::Yes)
-}
-
-fn shown_word(source: &Source, answer: &Answer) -> String {
-    if answer.len == 0 {
-        return "the end of the text".to_string();
-    }
-    String::from_utf8_lossy(&source.text[answer.start..answer.start + answer.len]).into_owned()
 }
 
 /// A line of the table, with those of a choice's labels below it.

@@ -60,9 +60,15 @@ impl Session<'_> {
         self.streams.out.write_all(text.as_bytes()).map_err(|error| unwritten(&error))
     }
 
-    /// A message; that it cannot be shown is no trouble of its own.
+    /// A message, behind the part of the result that came before it; that it cannot be shown is no trouble of its own.
     pub fn err(&mut self, text: &str) {
-        _ = self.streams.err.write_all(text.as_bytes());
+        self.err_bytes(text.as_bytes());
+    }
+
+    /// The same with bytes of a text as they are.
+    pub fn err_bytes(&mut self, bytes: &[u8]) {
+        _ = self.streams.out.flush();
+        _ = self.streams.err.write_all(bytes);
     }
 
     /// Says why a command stopped early.

@@ -167,7 +167,7 @@ fn each_subcommand_on_each_text() {
 #[test]
 fn help() {
     let mut found = ran(&["--help"], None, "");
-    for name in ["check", "why", "list", "run", "header", "table", "verify", "bound", "load", "admit", "figures"] {
+    for name in ["check", "why", "list", "run", "header", "table", "verify", "bound", "load", "admit", "figures", "certify"] {
         found.push_str(&ran(&[name, "--help"], None, ""));
     }
     compare("help", &found);

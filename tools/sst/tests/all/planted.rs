@@ -54,7 +54,7 @@ fn disagrees(plant: Plant, arguments: &[&str], text: &[u8]) {
 #[test]
 fn a_difference_is_told() {
     let (good, bad) = (b"input: a; rules M: { ? } a; end", b"rules M: > ; end");
-    let commands: [&[&str]; 9] = [
+    let commands: [&[&str]; 10] = [
         &["check", "-"],
         &["why", "-"],
         &["list", "-"],
@@ -64,6 +64,7 @@ fn a_difference_is_told() {
         &["table", "-", "-o", "target/sst-tests/planted.sst"],
         &["bound", "-", "1", "1"],
         &["figures", "-"],
+        &["certify", "-"],
     ];
     for arguments in commands {
         for plant in [Plant::Number, Plant::Words, Plant::Table, Plant::Verdict, Plant::Figure, Plant::FigureNumber] {

@@ -81,3 +81,20 @@ fn headers_compile() {
         assert!(compiled.status.success(), "{path}: {}", String::from_utf8_lossy(&compiled.stderr));
     }
 }
+
+#[test]
+fn certificates_have_the_files_digests() {
+    for path in examples() {
+        let line = format!(
+            "\"$S\" table --not-finishing {path} -o target/sst-tests/digest.sst >/dev/null; \"$S\" certify {path}; \
+             sha256sum <{path}; sha256sum <target/sst-tests/digest.sst"
+        );
+        let output = shell(&line);
+        let text = String::from_utf8_lossy(&output.stdout);
+        let digests: Vec<&str> = text.lines().filter_map(|line| line.strip_suffix("  -")).collect();
+        let certified = text.starts_with(&format!("Certificate of {path}\n"));
+        assert_eq!(certified, !path.contains("footnote.") && !path.contains("changed-over"), "{text}");
+        assert!(!certified || digests.iter().all(|digest| text.contains(&format!("SHA-256 {digest}"))), "{text}");
+        assert!(!certified || text.contains("Pagination finishes."), "{text}");
+    }
+}
