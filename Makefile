@@ -5,18 +5,21 @@
 # make link COMMON=.. PARTS=".."    translate parts of a program separately, link them and print the table; OUT=.. writes its table file
 # make sst                 build target/bin/sst, one command for author, engineer and release desk: target/bin/sst --help
 # make build               prove libraries and lister: target/lib/libsst.a, target/lib/libsst-carry.a, target/lib/libsst-desk.a, target/bin/lister
-# make install PREFIX=..   put libraries, headers, pkg-config files, sst, lister and their pages below PREFIX (/usr/local); DESTDIR=.. for a package
+# make library TARGET=..   the libraries for another processor: aarch64, armv7, thumbv7em or riscv64, at target/lib/TARGET/ (docs/DEVICE.md)
+# make install PREFIX=..   put libraries, headers, pkg-config files, sst, lister and their pages below PREFIX (/usr/local); DESTDIR=.. for a package;
+#                          TARGET=.. the libraries for that processor, without the commands
 # make test                every check and test
 FILE ?= examples/scanner.ssl
 OUT ?= $(FILE:.ssl=.sst)
 BOOKS ?=
 COMMON ?= examples/pages/common.ssl
 PARTS ?= examples/pages/book.ssl examples/pages/line.ssl examples/pages/blank.ssl
+TARGET ?= x86-64
 PREFIX ?= /usr/local
 DESTDIR ?=
 SOURCES = crates.txt $(shell find crates -name '*.rt' -o -name '*.antt')
 
-.PHONY: list table load figures link sst build install test
+.PHONY: list table load figures link sst build library install test
 .NOTPARALLEL:
 
 list:
@@ -57,8 +60,20 @@ target/bin/lister: $(SOURCES)
 	@scripts/progress target/list.log rt check lister
 	@touch $@
 
+ifeq ($(TARGET),x86-64)
+library: target/lib/libsst.a
 install: build sst
-	@PREFIX="$(PREFIX)" DESTDIR="$(DESTDIR)" scripts/install
+else
+library: target/lib/$(TARGET)/libsst-desk.a
+install: library
+endif
+
+# the last of the three that are made
+target/lib/%/libsst-desk.a: target/lib/libsst.a scripts/compile-for
+	@scripts/compile-for $*
+
+install:
+	@TARGET="$(TARGET)" PREFIX="$(PREFIX)" DESTDIR="$(DESTDIR)" scripts/install
 
 test:
 	@scripts/test

@@ -35,11 +35,11 @@ extern "C" {
  * from there on calls over the new table do what the new rules say from the same places, none answers SST_BAD_TABLE,
  * and where sst_process told the figure Q of the new text they do no more than 65 * Q * (n + r + 1) steps in all, n
  * being the number of tokens and r the repairs left. Carrying such a walk to its own text changes no byte. */
-uint16_t sst_carry(const uint8_t *old_text, size_t old_len, const uint8_t *new_text, size_t new_len, uint8_t *walk,
-                   size_t walk_len, uint64_t *text, uint64_t *start, uint64_t *len);
+uint16_t sst_carry(const uint8_t *old_text, sst_size old_len, const uint8_t *new_text, sst_size new_len, uint8_t *walk,
+                   sst_size walk_len, uint64_t *text, uint64_t *start, uint64_t *len);
 
 /* The stack that it takes at most, in bytes, as in sst.h. Its code and constants are 49 KB. */
-#define SST_STACK_CARRY 60416
+#define SST_STACK_CARRY 64512
 
 #ifdef __cplusplus
 }

@@ -38,15 +38,16 @@ extern "C" {
  * that are no figures; SST_PAST_64_BITS where the number of books or the grand total would pass 64 bits; with both,
  * figures and event buffer are unchanged; else what the book's own call of sst_whole answers: it is added, be it
  * finished or not. */
-uint16_t sst_add_book(const uint8_t *table, size_t table_len, const uint8_t *tokens, size_t tokens_len,
-                      const uint8_t *answers, size_t answers_len, uint64_t budget, uint16_t allowance, uint8_t *figures,
-                      size_t figures_len, uint8_t *events, size_t events_len, uint64_t *written, uint64_t *steps);
+uint16_t sst_add_book(const uint8_t *table, sst_size table_len, const uint8_t *tokens, sst_size tokens_len,
+                      const uint8_t *answers, sst_size answers_len, uint64_t budget, uint16_t allowance,
+                      uint8_t *figures, sst_size figures_len, uint8_t *events, sst_size events_len, uint64_t *written,
+                      uint64_t *steps);
 
 /* What figures say of the whole shelf. Read: figures, any bytes. `*books` becomes the number of books, `*total` the
  * grand total of steps, `*covered` how many locations were executed at all, `*mean` and `*rest` the mean steps a book,
  * whole part and remainder (both 0 for an empty shelf). Answers SST_OK; SST_REFUSED for bytes that are no figures, and
  * then all five are 0. */
-uint16_t sst_shelf(const uint8_t *figures, size_t figures_len, uint64_t *books, uint64_t *total, uint64_t *covered,
+uint16_t sst_shelf(const uint8_t *figures, sst_size figures_len, uint64_t *books, uint64_t *total, uint64_t *covered,
                    uint64_t *mean, uint64_t *rest);
 
 /* Maps a program's rules. Read: text, any bytes. Lent: rows, written from its start with SST_RULE_BYTES bytes for each
@@ -58,21 +59,21 @@ uint16_t sst_shelf(const uint8_t *figures, size_t figures_len, uint64_t *books, 
  * the table. `*rules` becomes the number of rules, those among them, 0 on a refusal. Answers SST_OK for a text that
  * sst_process accepts with a table of SST_TABLE_BYTES bytes, else the number that it gives there; then SST_TOO_SHORT
  * where rows has no room for all of them. Room for SST_RULES rules is never too little. */
-uint16_t sst_rules(const uint8_t *text, size_t text_len, uint8_t *rows, size_t rows_len, uint64_t *rules);
+uint16_t sst_rules(const uint8_t *text, sst_size text_len, uint8_t *rows, sst_size rows_len, uint64_t *rules);
 
 /* The second way of a report, rule by rule. How often the words of one rule were executed: those from location `from`
  * on, up to location `to` and without it, which are the locations of its row and of the next one (the location behind
  * the table's last word, for the last rule). Read: figures, any bytes. `*total` becomes the sum of their counts.
  * Answers SST_OK; SST_REFUSED for bytes that are no figures, and then `*total` is 0. */
-uint16_t sst_rule_total(const uint8_t *figures, size_t figures_len, uint64_t from, uint64_t to, uint64_t *total);
+uint16_t sst_rule_total(const uint8_t *figures, sst_size figures_len, uint64_t from, uint64_t to, uint64_t *total);
 
 /* All rules together: the sum of what sst_rule_total gives for each row. Read: figures, any bytes; rows, whole rows of
  * SST_RULE_BYTES bytes as sst_rules writes them, for all rules and no more (a part of a row at the end counts for
  * nothing); `end`, the location behind the table's last word. For figures over the table of an accepted program and the
  * rows of its text `*total` is the grand total that sst_shelf tells. Answers SST_OK; SST_REFUSED for bytes that are no
  * figures; SST_PAST_64_BITS for a sum past 64 bits, as of rows that overlap; then `*total` is 0. */
-uint16_t sst_rules_total(const uint8_t *figures, size_t figures_len, const uint8_t *rows, size_t rows_len, uint64_t end,
-                         uint64_t *total);
+uint16_t sst_rules_total(const uint8_t *figures, sst_size figures_len, const uint8_t *rows, sst_size rows_len,
+                         uint64_t end, uint64_t *total);
 
 /* Parts translated separately. A program is split into a common part, its sections, then `rules`, a line `NAME >>
  * type;` for each choice rule, `end`; and 1 to SST_PARTS further parts, each `rules`, one rule or more, `end`. Texts
@@ -83,8 +84,8 @@ uint16_t sst_rules_total(const uint8_t *figures, size_t figures_len, const uint8
  * zeros alone on a refusal. Answers SST_OK, and `*words` is the number of the object's words; or a number of a text,
  * its text in `*text` (0 the common part, 1 the part), the part of that text at fault in `*start` and `*len`, and
  * `*words` is 0. SST_TOO_SHORT is for an object that does not fit, at the end of the part: lend more. */
-uint16_t sst_part(const uint8_t *common, size_t common_len, const uint8_t *part, size_t part_len, uint8_t *object,
-                  size_t object_len, uint64_t *text, uint64_t *start, uint64_t *len, uint64_t *words);
+uint16_t sst_part(const uint8_t *common, sst_size common_len, const uint8_t *part, sst_size part_len, uint8_t *object,
+                  sst_size object_len, uint64_t *text, uint64_t *start, uint64_t *len, uint64_t *words);
 
 /* Links parts of one common part. Read: common; objects, those of the parts one behind the other in the order in which
  * they are linked, any bytes. Lent: table, as with sst_process. Answers SST_OK with the table, verdict and figure of
@@ -104,18 +105,18 @@ uint16_t sst_part(const uint8_t *common, size_t common_len, const uint8_t *part,
  *
  * Whoever wrote the objects, a table that is answered with SST_OK is that of a program as sst_process accepts it:
  * sst_load takes it, no walk answers SST_BAD_TABLE, and with `*finishing` 1 every walk ends. */
-uint16_t sst_link(const uint8_t *common, size_t common_len, const uint8_t *objects, size_t objects_len, uint8_t *table,
-                  size_t table_len, uint64_t *text, uint64_t *start, uint64_t *len, uint64_t *words,
+uint16_t sst_link(const uint8_t *common, sst_size common_len, const uint8_t *objects, sst_size objects_len,
+                  uint8_t *table, sst_size table_len, uint64_t *text, uint64_t *start, uint64_t *len, uint64_t *words,
                   uint64_t *finishing, uint64_t *figure, uint64_t *figure_number);
 
 /* The stack that an entry takes at most, in bytes, as in sst.h: no device calls sst_part. */
 #define SST_STACK_ADD_BOOK 67584
 #define SST_STACK_SHELF 66560
-#define SST_STACK_RULES 46080
+#define SST_STACK_RULES 49152
 #define SST_STACK_RULE_TOTAL 66560
 #define SST_STACK_RULES_TOTAL 66560
-#define SST_STACK_PART 299008
-#define SST_STACK_LINK 94208
+#define SST_STACK_PART 301056
+#define SST_STACK_LINK 66560
 
 #ifdef __cplusplus
 }

@@ -42,6 +42,14 @@ extern "C" {
 #define SST_STRING(x) SST_STRING_OF(x)
 #define SST_VERSION SST_STRING(SST_VERSION_MAJOR) "." SST_STRING(SST_VERSION_MINOR) "." SST_STRING(SST_VERSION_PATCH)
 
+/* A length in bytes: size_t, but 64 bits wide also where pointers are of 32 bits, since that is how the library takes
+ * it. */
+#if SIZE_MAX < UINT64_MAX
+typedef uint64_t sst_size;
+#else
+typedef size_t sst_size;
+#endif
+
 /* What every entry answers where all is well: accepted, loaded, written, admitted; of a walk: it has stopped, returned
  * with nothing pending. */
 #define SST_OK 0
@@ -164,7 +172,7 @@ static inline uint64_t sst_get_64(const uint8_t *bytes)
  * again while it answers SST_BUDGET_SPENT. Where Q is above 4,294,967,295 `*figure_number` becomes SST_NO_FIGURE and
  * `*figure` 0; that is no refusal: the answer is SST_OK, and table and verdict are as without it. Both are 0 for a
  * program that is not finishing and on a refusal. Answers SST_OK or a number of a text. */
-uint16_t sst_process(const uint8_t *text, size_t text_len, uint8_t *table, size_t table_len, uint64_t *start,
+uint16_t sst_process(const uint8_t *text, sst_size text_len, uint8_t *table, sst_size table_len, uint64_t *start,
                      uint64_t *len, uint64_t *words, uint64_t *finishing, uint64_t *figure, uint64_t *figure_number);
 
 /* Loads a table file. Read: file, any bytes. Lent: table, every whole word of which is written: the file's table and
@@ -172,7 +180,7 @@ uint16_t sst_process(const uint8_t *text, size_t text_len, uint8_t *table, size_
  * table's words, `*verdict` the file's verdict word, 1 for "finishing" and 0 for not, which is what the sender claims:
  * nothing here has tested it (both 0 where it is not loaded). Answers SST_OK, SST_BAD_FORM, SST_TOO_SHORT,
  * SST_NOT_TAKEN. Up to 4,096 words are loaded, so a table of SST_TABLE_BYTES bytes is never too short. */
-uint16_t sst_load(const uint8_t *file, size_t file_bytes, uint8_t *table, size_t table_bytes, uint64_t *words,
+uint16_t sst_load(const uint8_t *file, sst_size file_bytes, uint8_t *table, sst_size table_bytes, uint64_t *words,
                   uint64_t *verdict);
 
 /* Writes the file of a table and a verdict. Read: table, all of whose whole words are the table, so `table_bytes` is
@@ -180,8 +188,8 @@ uint16_t sst_load(const uint8_t *file, size_t file_bytes, uint8_t *table, size_t
  * words and then zeros, or zeros alone where it is not written; an odd last byte is kept. `*words` becomes the number
  * of the file's words (0 where it is not written). Answers SST_OK, SST_BAD_FORM, SST_TOO_SHORT, SST_NOT_TAKEN. A buffer
  * of SST_FILE_BYTES bytes is never too short. What is written, sst_load takes. */
-uint16_t sst_write_file(const uint8_t *table, size_t table_bytes, uint64_t verdict, uint8_t *file, size_t file_bytes,
-                        uint64_t *words);
+uint16_t sst_write_file(const uint8_t *table, sst_size table_bytes, uint64_t verdict, uint8_t *file,
+                        sst_size file_bytes, uint64_t *words);
 
 /* Whether a table is admitted for a publisher. Read: table, any bytes (words past 4,096 count for nothing, and what
  * stands behind a loaded table changes nothing); set, the operations that the publisher was granted: a bit for each
@@ -189,13 +197,15 @@ uint16_t sst_write_file(const uint8_t *table, size_t table_bytes, uint64_t verdi
  * nothing, and bytes past SST_SET_BYTES count for nothing. `*location` becomes the location that SST_NOT_GRANTED names,
  * else 0. Answers SST_OK where every operation at a location that can be reached is granted: then no walk from
  * sst_fresh writes an event of any other; SST_NOT_TAKEN for a table that sst_load would not take; SST_NOT_GRANTED. */
-uint16_t sst_admit(const uint8_t *table, size_t table_bytes, const uint8_t *set, size_t set_bytes, uint64_t *location);
+uint16_t sst_admit(const uint8_t *table, sst_size table_bytes, const uint8_t *set, sst_size set_bytes,
+                   uint64_t *location);
 
 /* Loads a table file and admits its table in one call: file, table, `*words` and `*verdict` as with sst_load, set and
  * `*location` as with sst_admit. With SST_NOT_GRANTED the loaded table stays, and `*words` and `*verdict` are those of
  * the file. Answers what sst_load does, and SST_NOT_GRANTED. */
-uint16_t sst_load_admitted(const uint8_t *file, size_t file_bytes, const uint8_t *set, size_t set_bytes, uint8_t *table,
-                           size_t table_bytes, uint64_t *words, uint64_t *verdict, uint64_t *location);
+uint16_t sst_load_admitted(const uint8_t *file, sst_size file_bytes, const uint8_t *set, sst_size set_bytes,
+                           uint8_t *table, sst_size table_bytes, uint64_t *words, uint64_t *verdict,
+                           uint64_t *location);
 
 /* Turns a text into input tokens by a character filter. Read: filter, entries of SST_FILTER_ENTRY_BYTES bytes (first
  * byte, last byte, token, high byte first; docs/LAYOUT.md), up to three bytes behind the last whole one count for
@@ -203,29 +213,29 @@ uint16_t sst_load_admitted(const uint8_t *file, size_t file_bytes, const uint8_t
  * the entry that has it; what stands behind is kept, and on a refusal all of it. `*at` becomes the entry
  * (SST_RANGE_REVERSED) or the byte (SST_BYTE_TWICE, SST_BYTE_MISSING) that the number names, else 0; `*written` the
  * number of tokens, 0 on a refusal. Answers SST_OK or a number of a character filter. */
-uint16_t sst_filter(const uint8_t *filter, size_t filter_len, const uint8_t *text, size_t text_len, uint8_t *tokens,
-                    size_t tokens_len, uint64_t *at, uint64_t *written);
+uint16_t sst_filter(const uint8_t *filter, sst_size filter_len, const uint8_t *text, sst_size text_len, uint8_t *tokens,
+                    sst_size tokens_len, uint64_t *at, uint64_t *written);
 
 /* Writes a fresh walk. `allowance` is how many tokens it may repair: where the token that is required differs or is
  * absent, the event SST_EVENT_REPAIR, that token, 0 is written, one repair less is left, and the walk goes on, the
  * present token unread. With 0 it stops with SST_TOKEN_DIFFERS there. Lent: walk, SST_WALK_BYTES bytes. Answers SST_OK;
  * SST_REFUSED where the length is another, and then nothing is written. */
-uint16_t sst_fresh(uint8_t *walk, size_t walk_len, uint16_t allowance);
+uint16_t sst_fresh(uint8_t *walk, sst_size walk_len, uint16_t allowance);
 
 /* A whole call: up to `budget` steps, with all the operations' answers as words. Read: table (words past 4,096 count
  * for nothing), tokens, answers. Lent: walk, read and written; events, written from its start with SST_EVENT_WORDS
  * words an event, the rest kept. `*written` becomes the number of events, `*steps` the number of steps of this call.
  * Answers SST_OK or a number of a walk but SST_WAITS. */
-uint16_t sst_whole(const uint8_t *table, size_t table_len, const uint8_t *tokens, size_t tokens_len,
-                   const uint8_t *answers, size_t answers_len, uint64_t budget, uint8_t *walk, size_t walk_len,
-                   uint8_t *events, size_t events_len, uint64_t *written, uint64_t *steps);
+uint16_t sst_whole(const uint8_t *table, sst_size table_len, const uint8_t *tokens, sst_size tokens_len,
+                   const uint8_t *answers, sst_size answers_len, uint64_t budget, uint8_t *walk, sst_size walk_len,
+                   uint8_t *events, sst_size events_len, uint64_t *written, uint64_t *steps);
 
 /* A paused call: as sst_whole, but an operation that wants an answer is handed out: its event is written, and the walk
  * waits. The answer is given to the next call: `given` 1 and the answer; `given` 0 otherwise (any other value counts as
  * 1). Answers SST_OK or a number of a walk; SST_UNANSWERED only where sst_whole had stopped the walk with it. */
-uint16_t sst_paused(const uint8_t *table, size_t table_len, const uint8_t *tokens, size_t tokens_len, uint16_t given,
-                    uint16_t answer, uint64_t budget, uint8_t *walk, size_t walk_len, uint8_t *events,
-                    size_t events_len, uint64_t *written, uint64_t *steps);
+uint16_t sst_paused(const uint8_t *table, sst_size table_len, const uint8_t *tokens, sst_size tokens_len,
+                    uint16_t given, uint16_t answer, uint64_t budget, uint8_t *walk, sst_size walk_len, uint8_t *events,
+                    sst_size events_len, uint64_t *written, uint64_t *steps);
 
 /* Two books over one table. A screen is SST_SCREEN_BYTES bytes: for each book its SST_BOOK_BYTES, its walk and its
  * steps left, 64 bits, high byte first, in one piece (docs/LAYOUT.md). A book's turns and refills see and write its own
@@ -234,25 +244,25 @@ uint16_t sst_paused(const uint8_t *table, size_t table_len, const uint8_t *token
 /* Writes two fresh walks with their repair allowances, and 0 steps left to each book: turns answer SST_BUDGET_SPENT
  * until its first refill. Lent: screen. Answers SST_OK; SST_REFUSED where the length is another, and then nothing is
  * written. */
-uint16_t sst_screen_fresh(uint8_t *screen, size_t screen_len, uint16_t allowance_0, uint16_t allowance_1);
+uint16_t sst_screen_fresh(uint8_t *screen, sst_size screen_len, uint16_t allowance_0, uint16_t allowance_1);
 
 /* Sets the steps left to book 0 or 1 to any number; what was left is lost. Lent: screen, of which that book's counter
  * is written and nothing is read: its walk may be any bytes. Answers SST_OK; SST_REFUSED for another book and another
  * length, and then nothing is written. */
-uint16_t sst_refill(uint8_t *screen, size_t screen_len, uint16_t book, uint64_t left);
+uint16_t sst_refill(uint8_t *screen, sst_size screen_len, uint16_t book, uint64_t left);
 
 /* A turn of book 0 or 1: the call sst_whole of that book's walk, its budget the steps left to it, which fall by
  * `*steps`. Lent: screen, of which the book's walk and counter are read and written; events, `*written` and `*steps` as
  * with sst_whole. Answers what sst_whole does, and SST_REFUSED also for another book and another length. With
  * SST_REFUSED nothing is touched, and `*written` and `*steps` are 0. */
-uint16_t sst_turn_whole(const uint8_t *table, size_t table_len, const uint8_t *tokens, size_t tokens_len,
-                        const uint8_t *answers, size_t answers_len, uint16_t book, uint8_t *screen, size_t screen_len,
-                        uint8_t *events, size_t events_len, uint64_t *written, uint64_t *steps);
+uint16_t sst_turn_whole(const uint8_t *table, sst_size table_len, const uint8_t *tokens, sst_size tokens_len,
+                        const uint8_t *answers, sst_size answers_len, uint16_t book, uint8_t *screen,
+                        sst_size screen_len, uint8_t *events, sst_size events_len, uint64_t *written, uint64_t *steps);
 
 /* The same with the call sst_paused. */
-uint16_t sst_turn_paused(const uint8_t *table, size_t table_len, const uint8_t *tokens, size_t tokens_len,
-                         uint16_t given, uint16_t answer, uint16_t book, uint8_t *screen, size_t screen_len,
-                         uint8_t *events, size_t events_len, uint64_t *written, uint64_t *steps);
+uint16_t sst_turn_paused(const uint8_t *table, sst_size table_len, const uint8_t *tokens, sst_size tokens_len,
+                         uint16_t given, uint16_t answer, uint16_t book, uint8_t *screen, sst_size screen_len,
+                         uint8_t *events, sst_size events_len, uint64_t *written, uint64_t *steps);
 
 /* The parts of a walk; nothing is written. */
 
@@ -261,34 +271,34 @@ uint16_t sst_turn_paused(const uint8_t *table, size_t table_len, const uint8_t *
 #define SST_WAITING 1                   /* waiting for an answer */
 #define SST_STOPPED 2                   /* stopped */
 #define SST_NO_WALK 3                   /* bytes that are no walk */
-uint16_t sst_phase(const uint8_t *walk, size_t walk_len);
+uint16_t sst_phase(const uint8_t *walk, sst_size walk_len);
 
 /* The number that a stopped walk answers; SST_NO_REASON for a walk that has not stopped and for bytes that are no
  * walk. */
 #define SST_NO_REASON 65535
-uint16_t sst_reason(const uint8_t *walk, size_t walk_len);
+uint16_t sst_reason(const uint8_t *walk, sst_size walk_len);
 
 /* The location of the next instruction; 0 for bytes that are no walk. */
-uint16_t sst_location(const uint8_t *walk, size_t walk_len);
+uint16_t sst_location(const uint8_t *walk, sst_size walk_len);
 
 /* Tokens read; 0 for bytes that are no walk. */
-uint64_t sst_read(const uint8_t *walk, size_t walk_len);
+uint64_t sst_read(const uint8_t *walk, sst_size walk_len);
 
 /* Answers used, up to 2^64 - 1; 0 for bytes that are no walk. */
-uint64_t sst_used(const uint8_t *walk, size_t walk_len);
+uint64_t sst_used(const uint8_t *walk, sst_size walk_len);
 
 /* Repairs left; 0 for bytes that are no walk. */
-uint16_t sst_allowance(const uint8_t *walk, size_t walk_len);
+uint16_t sst_allowance(const uint8_t *walk, sst_size walk_len);
 
 /* The stack that an entry takes at most, in bytes, on x86-64: measured with a painted stack over texts and tables at
  * all limits, rounded up; the tests hold these figures against what is measured. docs/DEVICE.md has other processors.
  * Code and constants, measured likewise: sst_process brings 56 KB, all entries of walks and screens together 10 KB,
  * each of the others 2 to 3 KB, all entries together 72 KB. */
-#define SST_STACK_PROCESS 86016
+#define SST_STACK_PROCESS 51200
 #define SST_STACK_LOAD 13312
 #define SST_STACK_WRITE_FILE 13312
 #define SST_STACK_ADMIT 13312
-#define SST_STACK_LOAD_ADMITTED 26624
+#define SST_STACK_LOAD_ADMITTED 14336
 #define SST_STACK_FILTER 2048
 #define SST_STACK_FRESH 1024
 #define SST_STACK_WHOLE 3072
