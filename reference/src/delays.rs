@@ -1,6 +1,6 @@
 //! Programs made to keep a processor busy: each is the worst that was found for one loop inside another. None is longer than a text may be.
 
-use crate::programs::{Text, chained, filled};
+use crate::programs::{OPERATORS, TOKENS, Text, chained, filled};
 
 /// The longest text.
 const BYTES: usize = 32_768;
@@ -12,13 +12,13 @@ pub fn all() -> Vec<Text> {
     let text = |name, text: String| Text { name, text: filled(text, BYTES) };
     let short: Vec<String> = (0..510).map(short).collect();
     let none: [String; 0] = [];
-    let strings = chained("'", "'", 510);
+    let strings = chained(TOKENS, "'", "'", 510);
     vec![
         text("entries", entries(&short, &none)),
-        text("entries, chosen", entries(&chained("N", "", 510), &strings)),
+        text("entries, chosen", entries(&chained(TOKENS, "N", "", 510), &strings)),
         text("entries, knotted", entries(&knotted(255), &none)),
         text("matches, knotted", knotted_matches()),
-        text("uses, chosen", uses(&chained("N", "", 110), 370)),
+        text("uses, chosen", uses(&chained(OPERATORS, "N", "", 110), 370)),
         text("uses, knotted", uses(&knotted(110), 370)),
         text("uses", uses(&short[..110], 2_900)),
         text("levels", levels(&short)),
@@ -38,8 +38,8 @@ fn short(i: usize) -> String {
     if i < 26 { letter(i).to_string() } else { format!("{}{}", letter(i / 26 - 1), letter(i)) }
 }
 
-/// Names that any hash `h * key + byte` of 16 bits with an odd key takes together: they differ by sums of (key² - 1)⁶ times powers of the key, and
-/// 8 divides key² - 1.
+/// Names that any hash `h * key + byte` of 16 bits with an odd key takes together, which is why the library's has 48: they differ by sums of (key² - 1)⁶ times
+/// powers of the key, and 8 divides key² - 1.
 fn knotted(count: usize) -> Vec<String> {
     const KNOT: [i32; 13] = [1, 0, -6, 0, 15, 0, -20, 0, 15, 0, -6, 0, 1];
     const KNOTS: usize = 19;

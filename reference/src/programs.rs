@@ -113,25 +113,29 @@ fn matches(head: &str, bytes: usize, names: &[String], strings: &[String], most:
 fn chosen(bytes: usize, with_strings: bool, most: usize) -> String {
     let entry = if with_strings { 10 } else { 5 };
     let tokens = (bytes / 2 / entry).clamp(2, 510);
-    let names = chained("N", "", tokens);
+    let names = chained(TOKENS, "N", "", tokens);
     if with_strings {
-        return matches("input output", bytes, &names, &chained("'", "'", tokens), most);
+        return matches("input output", bytes, &names, &chained(TOKENS, "'", "'", tokens), most);
     }
     matches("input", bytes, &names, &[], most)
 }
 
-/// So many words of three letters or digits between these, all in the first chain of the library's index. The hash is a copy of the one in
-/// `crates/symbols/specs/Index.antt` and serves to choose names only: were that one another, these would be names like any.
-pub fn chained(before: &str, behind: &str, count: usize) -> Vec<String> {
+/// What the hash of a token begins with, and that of a section of operators.
+pub const TOKENS: u64 = 1;
+pub const OPERATORS: u64 = 600;
+
+/// So many words of three letters or digits between these, all in the first chain of the library's index where they are of the class. The hash is a copy
+/// of the one in `crates/symbols/specs/Index.antt` and serves to choose names only: were that one another, these would be names like any.
+pub fn chained(class: u64, before: &str, behind: &str, count: usize) -> Vec<String> {
     let letters: Vec<char> = ('a'..='z').chain('A'..='Z').chain('0'..='9').chain(['_']).collect();
-    let hash = |hash: u32, part: &str| part.bytes().fold(hash, |hash, byte| (hash * 33 + u32::from(byte)) % 65_536);
+    let hash = |hash: u64, part: &str| part.bytes().fold(hash, |hash, byte| (hash * 33 + u64::from(byte)) % (1 << 48));
     let mut words = Vec::new();
     // Two beginnings, since one has fewer than 510 such words.
     for more in ["", "N"] {
         for (a, b) in letters.iter().flat_map(|a| letters.iter().map(move |b| (a, b))) {
             let start = format!("{before}{more}{a}{b}");
-            let started = hash(0, &start);
-            let fits = |c: &&char| hash((started * 33 + u32::from(**c)) % 65_536, behind) % 511 == 0;
+            let started = hash(class, &start);
+            let fits = |c: &&char| hash(started, &format!("{c}{behind}")) % 511 == 0;
             words.extend(letters.iter().filter(fits).map(|c| format!("{start}{c}{behind}")));
         }
     }
