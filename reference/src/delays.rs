@@ -21,6 +21,7 @@ pub fn all() -> Vec<Text> {
         text("uses, chosen", uses(&chained(OPERATORS, "N", "", 110), 370)),
         text("uses, knotted", uses(&knotted(110), 370)),
         text("uses", uses(&short[..110], 2_900)),
+        text("uses, mapped", uses(&short[..110], 900)),
         text("levels", levels(&short)),
         text("one name", one_name()),
         text("zigzag", zigzag()),
