@@ -27,6 +27,7 @@ pub fn all() -> Vec<Text> {
         text("zigzag", zigzag()),
         text("zigzag, crossed", zigzag_crossed()),
         text("zigzag, labels", zigzag_by_labels()),
+        text("zigzag, reached", zigzag_reached()),
         text("ring back", ring_back(9, 63)),
         text("rule of results", one_rule_of_results()),
     ]
@@ -147,8 +148,8 @@ fn zigzag_order(count: usize) -> Vec<usize> {
     (0..count).map(|i| if i % 2 == 0 { i / 2 } else { count - 1 - i / 2 }).collect()
 }
 
-/// A zigzag of rules that each call the next, or one further on by so much; all call a rule with many results.
-fn zigzag_of(count: usize, calls: usize, results: usize, call: &str, further: Option<usize>) -> String {
+/// A zigzag of rules that each call the next, or one further on by so much; all call a rule with these results.
+fn zigzag_of(count: usize, calls: usize, results: &str, call: &str, further: Option<usize>) -> String {
     let order = zigzag_order(count);
     let mut rules = vec![String::new(); count];
     let mut left = calls;
@@ -159,22 +160,26 @@ fn zigzag_of(count: usize, calls: usize, results: usize, call: &str, further: Op
         let next = further.map_or(called(1), |step| format!("[c|v:{}|w:{}|*:]", called(1), called(step)));
         rules[*rule] = format!("R{rule}:{next}{};\n", call.repeat(here));
     }
-    let q = format!("Q>>T:{};\n", ">>v".repeat(results));
-    format!("type T:v w;\nmechanism m:c>>T;\nrules {}{q}end\n", rules.concat())
+    format!("type T:v w;\nmechanism m:c>>T;\nrules {}Q>>T:{results};\nend\n", rules.concat())
 }
 
 fn zigzag() -> String {
-    zigzag_of(126, 371, 610, "[@Q|*:]", None)
+    zigzag_of(126, 371, &">>v".repeat(610), "[@Q|*:]", None)
 }
 
 /// The same with a choice of two rules to call, so that a rule's number rises again and again.
 fn zigzag_crossed() -> String {
-    zigzag_of(126, 180, 320, "[@Q|*:]", Some(7))
+    zigzag_of(126, 180, &">>v".repeat(320), "[@Q|*:]", Some(7))
 }
 
-/// The same with labels in the choices.
+/// The same with results that can all be reached, so that each has a number that rises.
+fn zigzag_reached() -> String {
+    zigzag_of(126, 180, &format!("{}>>v", "[c|v:>>v|*:]".repeat(80)), "[@Q|*:]", Some(7))
+}
+
+/// A zigzag with labels in the choices.
 fn zigzag_by_labels() -> String {
-    zigzag_of(126, 206, 610, "[@Q|w:|*:]", None)
+    zigzag_of(126, 206, &">>v".repeat(610), "[@Q|w:|*:]", None)
 }
 
 /// Rules in a ring, each called by the one behind it, that return so many values; a value more once round the ring.

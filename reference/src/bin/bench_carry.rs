@@ -1,10 +1,8 @@
-//! Times the library's carrying of a walk against its processing of the two texts, and holds its stack against the processor's.
+//! Times the library's carrying of a walk against its processing of the two texts.
 //!
 //! bench_carry [repetitions]
-//! bench_carry stack
 //!
-//! A text is carried to itself, so that all its rules in progress are compared to their ends. `stack` measures the stack alone, and fails
-//! where carrying needs more than processing does over the same texts.
+//! A text is carried to itself, so that all its rules in progress are compared to their ends.
 #![forbid(unsafe_code)]
 
 use std::hint::black_box;
@@ -14,7 +12,6 @@ use reference::carry::Carrier;
 use reference::ffi;
 use reference::programs::{self, Text};
 use reference::quiet::Measurer;
-use reference::stack;
 use reference::timing;
 use reference::walker::Walk;
 
@@ -67,27 +64,10 @@ fn times(library: Library, repetitions: usize) {
     }
 }
 
-/// The stack of both, over the same texts; an error where carrying needs more, or nothing can be measured.
-fn stacks((processor, carrier): Library) -> Result<(), ExitCode> {
-    let texts = stack::texts();
-    let (mut table, walk) = (vec![0; LARGEST], deep().encode());
-    let processes = stack::deepest(&texts, |text| _ = black_box(processor.measure(text, &mut table)));
-    let carries = stack::deepest(&texts, |text| _ = black_box(carrier.carry(text, text, &mut walk.clone())));
-    let (Some(processes), Some(carries)) = (processes, carries) else {
-        println!("the stack could not be measured");
-        return Err(ExitCode::FAILURE);
-    };
-    println!("largest stack of processing: {} bytes, {}", processes.0, processes.1);
-    println!("largest stack of carrying: {} bytes, {}", carries.0, carries.1);
-    if carries.0 <= processes.0 { Ok(()) } else { Err(ExitCode::FAILURE) }
-}
-
 fn bench() -> Result<(), ExitCode> {
     let library = (timing::linked(ffi::measurer())?, timing::linked(ffi::carrier())?);
-    if std::env::args().nth(1).as_deref() != Some("stack") {
-        times(library, timing::repetitions("bench_carry", 15)?);
-    }
-    stacks(library)
+    times(library, timing::repetitions("bench_carry", 15)?);
+    Ok(())
 }
 
 fn main() -> ExitCode {
