@@ -2,7 +2,7 @@
 
 use crate::arguments::{Arguments, Opt, parse};
 use crate::session::{Done, Session, Status, Trouble};
-use crate::{bound, certify, check, figures, header, list, load, table, verify, walk, why};
+use crate::{bound, certify, check, figures, header, link, list, load, table, verify, walk, why};
 use std::ffi::OsString;
 
 struct Command {
@@ -21,7 +21,7 @@ const fn with(name: &'static str, value: &'static str, about: &'static str) -> O
     Opt { name, value: Some(value), about }
 }
 
-const COMMANDS: [Command; 12] = [
+const COMMANDS: [Command; 13] = [
     Command {
         name: "check",
         arguments: "FILE..",
@@ -80,6 +80,17 @@ const COMMANDS: [Command; 12] = [
             flag("not-finishing", "writes it also where the program is not finishing"),
         ],
         run: table::run,
+    },
+    Command {
+        name: "link",
+        arguments: "COMMON PART..",
+        about: "translates the parts of a program separately and links them in that order",
+        options: &[
+            flag("list", "prints the table as the lister does that of one text"),
+            with("output", "OUT", "writes the table file; also -o"),
+            flag("not-finishing", "writes it also where the program is not finishing"),
+        ],
+        run: link::run,
     },
     Command {
         name: "verify",

@@ -21,6 +21,7 @@ mod held;
 mod input;
 mod known;
 mod layout;
+mod link;
 mod list;
 mod load;
 mod message;

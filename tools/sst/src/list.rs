@@ -45,6 +45,11 @@ fn lister(session: &mut Session, source: &Source, answer: &Answer) -> Done {
         session.err_bytes(&[b"at: ", shown, b"\n"].concat());
         return Ok(Status::No);
     }
+    lines(session, answer)
+}
+
+/// What it prints for a program that is accepted.
+pub fn lines(session: &mut Session, answer: &Answer) -> Done {
     let verdict = if answer.finishing { "yes" } else { "no" };
     session.out(&format!("table {} finishing {verdict}\n", answer.table.len()))?;
     if let Figure::Most(most) = answer.figure {

@@ -1,5 +1,6 @@
 //! A text with its words, its tree and what it declares.
 
+use crate::place::{place, quoted};
 use reference::processor::{Alternative, At, Node, Outline, Selector, Word, outline};
 
 pub struct Source<'a> {
@@ -7,11 +8,28 @@ pub struct Source<'a> {
     pub name: &'a str,
     pub text: &'a [u8],
     pub outline: Outline,
+    frame: Frame<'a>,
+}
+
+/// What stands around a part that is read by itself: the sections of its common part before it, and behind it a rule a line for each
+/// that the common part lists.
+#[derive(Clone, Copy, Default)]
+pub struct Frame<'a> {
+    pub name: &'a str,
+    /// Where the part begins and ends.
+    pub front: usize,
+    pub end: usize,
+    /// The lines of the list in the common part.
+    pub listed: &'a [usize],
 }
 
 impl<'a> Source<'a> {
     pub fn new(name: &'a str, text: &'a [u8]) -> Source<'a> {
-        Source { name, text, outline: outline(text) }
+        Source::framed(name, text, Frame { end: text.len() + 1, ..Frame::default() })
+    }
+
+    pub fn framed(name: &'a str, text: &'a [u8], frame: Frame<'a>) -> Source<'a> {
+        Source { name, text, outline: outline(text), frame }
     }
 
     pub fn word(&self, at: At) -> Word {
@@ -30,13 +48,21 @@ impl<'a> Source<'a> {
         words.iter().position(|word| word.start == start).unwrap_or(words.len() - 1)
     }
 
-    pub fn line(&self, at: At) -> usize {
-        crate::place::place(self.text, self.word(at).start).line
+    /// The line of a word, with its file where that is another one.
+    pub fn line(&self, at: At) -> String {
+        let Frame { name, front, end, listed } = self.frame;
+        let start = self.word(at).start;
+        let line = |from: usize| place(&self.text[from..], start - from).line;
+        if start >= end {
+            let own = listed.get(line(end) - 1);
+            return own.map_or_else(|| name.to_string(), |own| format!("{own} of {name}"));
+        }
+        if start < front { format!("{} of {name}", line(0)) } else { line(front).to_string() }
     }
 
     /// A word as it is quoted in messages.
     pub fn quoted(&self, at: At) -> String {
-        crate::place::quoted(self.spelling(at))
+        quoted(self.spelling(at))
     }
 }
 

@@ -90,9 +90,13 @@ pub fn other_class(known: &Known, at: At) -> Option<Explained> {
     }
     let wanted = wanted(known, at)?;
     let found = known.anywhere(spelling);
+    if found.is_empty() {
+        let sentence = format!("{} is not listed in the common part, so that it has no type", source.quoted(at));
+        return Some(Explained::new(sentence).note(format!("{} is wanted here", wanted_words(known, wanted))));
+    }
     let is: Vec<String> = found.iter().map(|declared| described(known, declared)).collect();
     let sentence = format!("{} is {}; {} is wanted here", source.quoted(at), either(&is, "and"), wanted_words(known, wanted));
-    let lines: Vec<String> = found.iter().map(|declared| source.line(declared.name).to_string()).collect();
+    let lines: Vec<String> = found.iter().map(|declared| source.line(declared.name)).collect();
     let declared = Explained::new(sentence).note(format!("declared in line {}", either(&lines, "and")));
     Some(declared.notes(found.iter().find_map(|declared| instead(known, declared, wanted, at))))
 }

@@ -70,7 +70,11 @@ fn name(known: &Known, at: At) -> Option<Explained> {
         return Some(Explained::new(format!("this is name {} that the text declares; {MAX_NAMES} are the most", MAX_NAMES + 1)));
     }
     let sentence = format!("{} would get a value above {MAX_VALUE}, the greatest", source.quoted(at));
-    entry.map(|_| Explained::new(sentence).note("an entry gets the value after the greatest of its class; set one with `=`"))
+    entry.map(|_| {
+        Explained::new(sentence).note(
+            "an entry gets the value after the one before it, the first of a section the one after the greatest of its class",
+        )
+    })
 }
 
 /// How many rules' names stand up to a word: behind `rules` and behind each semicolon there.

@@ -14,7 +14,7 @@ use crate::message::{Level, Message};
 use crate::source::Source;
 use reference::processor::At;
 
-pub use nearest::nearest;
+pub use nearest::{near as nearest_of, nearest};
 
 /// A sentence, and what stands below it.
 pub struct Explained {

@@ -69,7 +69,7 @@ fn by_value(known: &Known, later: &Declaration, earlier: &[&Declaration]) -> Opt
     let sentence =
         format!("{} gets the value {value}, which {} already has", source.quoted(later.name), source.quoted(first.name));
     let place = format!("{} is declared in line {}", source.quoted(first.name), source.line(first.name));
-    let counted = "where no value is set, an entry gets the value after the one before it";
+    let counted = "where none is set, an entry gets the value after the one before it, the first of a section the one after the greatest of its class";
     let set = source.word(later.name + 1).sort == reference::processor::Sort::Sign("=")
         || later.string.is_some_and(|string| source.word(string + 1).sort == reference::processor::Sort::Sign("="));
     Some(Explained::new(sentence).note(place).notes((!set).then(|| counted.to_string())))

@@ -1,6 +1,7 @@
 //! Table files: written and verified, and refused with any byte changed.
 
 use crate::{examples, folder, sst};
+use reference::parts::worked;
 use sst::Status;
 
 #[test]
@@ -79,4 +80,38 @@ fn files_that_are_none() {
         assert_eq!(ended.status, Status::No);
         assert!(ended.err.starts_with("<stdin>: refused 40: no table file: it has "), "{at}: {}", ended.err);
     }
+}
+
+/// Links texts that are written to files first; the place that is shown must be the one that was marked.
+fn links(number: u16, texts: &[&str]) {
+    let (texts, fault) = worked::example(number, texts, b"");
+    let path = |i: usize| format!("{}/part-{i}.ssl", folder());
+    texts.iter().enumerate().for_each(|(i, text)| std::fs::write(path(i), text).expect("a part"));
+    let paths: Vec<String> = (0..texts.len()).map(path).collect();
+    let arguments: Vec<&str> = ["link"].into_iter().chain(paths.iter().map(String::as_str)).collect();
+    let ended = sst(&arguments, b"");
+    let shown = || {
+        format!(
+            "{number} {:?}\n{}{}",
+            texts.iter().map(|text| String::from_utf8_lossy(text)).collect::<Vec<_>>(),
+            ended.out,
+            ended.err
+        )
+    };
+    let Some(fault) = fault else { return assert!(ended.status <= Status::No, "{}", shown()) };
+    let before = &texts[fault.text][..fault.start];
+    let line = 1 + before.iter().filter(|byte| **byte == b'\n').count();
+    let column = 1 + before.iter().rev().take_while(|byte| **byte != b'\n').count();
+    let place = format!("{}:{line}:{column}: fault {number}: ", path(fault.text));
+    assert!(ended.status == Status::No && ended.err.starts_with(&place), "{}", shown());
+    assert!(!ended.err.contains(" is ;") && !ended.err.contains("``"), "{}", shown());
+}
+
+#[test]
+fn worked_examples_of_parts() {
+    worked::PARTS.iter().for_each(|(number, common, part)| links(*number, &[common, part]));
+    for (number, rules) in worked::RULES {
+        links(*number, &[worked::COMMON, &format!("rules {rules} end")]);
+    }
+    worked::LINKS.iter().filter(|(_, texts)| (2..=17).contains(&texts.len())).for_each(|(number, texts)| links(*number, texts));
 }

@@ -17,8 +17,10 @@ const RUNS: [(&str, &[&str]); 10] = [
     ("table-not-finishing", &["table", "--not-finishing", "@", "-o", "target/sst-tests/golden-all.sst"]),
 ];
 
+const COMMON: &str = "examples/pages/common.ssl";
+
 /// Runs of their own, with what they read from standard input: walks that come somewhere, figures, table files.
-const OTHERS: [(&[&str], &str); 18] = [
+const OTHERS: [(&[&str], &str); 27] = [
     (&["run", "examples/pages.ssl", "chapter", "line", "blankLine", "endOfBook", "--", "fits", "full"], ""),
     (&["run", "--quiet", "--book", "examples/shelf/torn.book", "examples/pages.ssl"], ""),
     (&["run", "--quiet", "examples/pages.ssl", "line", "--", "1"], ""),
@@ -34,6 +36,25 @@ const OTHERS: [(&[&str], &str); 18] = [
     (&["figures", "examples/footnote.ssl", "target/sst-tests/flat.book"], ""),
     (&["figures", "examples/pages.ssl", "examples/shelf/novel.book", "examples/shelf/poem.book", "examples/shelf/torn.book"], ""),
     (&["figures", "examples/pages.ssl"], ""),
+    (&["link", COMMON, "examples/pages/book.ssl", "examples/pages/line.ssl", "examples/pages/blank.ssl"], ""),
+    (&["link", COMMON, "examples/pages/book.ssl"], ""),
+    (
+        &[
+            "link",
+            COMMON,
+            "examples/pages/book.ssl",
+            "examples/pages/line.ssl",
+            "examples/pages/blank.ssl",
+            "examples/pages/line.ssl",
+        ],
+        "",
+    ),
+    (&["link", COMMON, "examples/pages/book.ssl", "-"], "rules\nLine: plcaed;\nend"),
+    (&["link", COMMON, "examples/pages/book.ssl", "-"], "rules\nLine: placed;\nend"),
+    (&["link", COMMON, "examples/pages/book.ssl", "-"], "rules\nLine: {\nline;\nend"),
+    (&["link", COMMON, "-"], "rules Line >> Fit: >> fits; end"),
+    (&["link", COMMON, "examples/pages/book.ssl", "-"], "rules Line: @Lime; Blank >> Fit: >> full; end"),
+    (&["link", "-", "examples/pages/book.ssl"], "input: line line; rules end"),
     (&["load", "-"], "HD\0\x02\0\x01\0\x01TW\0\x01\0\x09"),
     (&["load", "-"], "HD\0\x02\0\x01\0\x01TW\0\x01\0\0"),
     (&["load", "-"], "HD\0\x02\0\x01\0\x01TW\0\x01\0\0\0"),
@@ -167,7 +188,9 @@ fn each_subcommand_on_each_text() {
 #[test]
 fn help() {
     let mut found = ran(&["--help"], None, "");
-    for name in ["check", "why", "list", "run", "header", "table", "verify", "bound", "load", "admit", "figures", "certify"] {
+    for name in
+        ["check", "why", "list", "run", "header", "table", "link", "verify", "bound", "load", "admit", "figures", "certify"]
+    {
         found.push_str(&ran(&[name, "--help"], None, ""));
     }
     compare("help", &found);
@@ -179,6 +202,9 @@ fn the_listers_lines() {
         let listing = std::fs::read_to_string(path.replace(".ssl", ".listing")).expect("a listing");
         assert_eq!(sst(&["list", &path], b"").out, listing, "{path}");
     }
+    let parts = ["examples/pages/common.ssl", "examples/pages/book.ssl", "examples/pages/line.ssl", "examples/pages/blank.ssl"];
+    let linked = sst(&[&["link", "--list"], &parts[..]].concat(), b"");
+    assert_eq!(linked.out, sst(&["list", "examples/pages.ssl"], b"").out);
     let ended = sst(&["list", "-"], b"rules M:\n> ; end");
     assert_eq!((ended.out.as_str(), ended.err.as_str()), ("refused 7 line 2\n", "at: >\n"));
 }
