@@ -2,7 +2,7 @@
 
 use crate::arguments::{Arguments, Opt, parse};
 use crate::session::{Done, Session, Status, Trouble};
-use crate::{bound, certify, check, figures, header, link, list, load, table, verify, walk, why};
+use crate::{bound, certify, chart, check, figures, header, link, list, load, table, verify, walk, why};
 use std::ffi::OsString;
 
 struct Command {
@@ -21,7 +21,7 @@ const fn with(name: &'static str, value: &'static str, about: &'static str) -> O
     Opt { name, value: Some(value), about }
 }
 
-const COMMANDS: [Command; 13] = [
+const COMMANDS: [Command; 14] = [
     Command {
         name: "check",
         arguments: "FILE..",
@@ -46,6 +46,16 @@ const COMMANDS: [Command; 13] = [
         about: "prints the table as the lister does",
         options: &[flag("names", "the table beside the rules, with names for numbers and places in the text")],
         run: list::run,
+    },
+    Command {
+        name: "chart",
+        arguments: "FILE",
+        about: "draws a syntax chart of each rule, as SVG",
+        options: &[
+            with("output", "OUT", "writes it there; also -o"),
+            with("figures", "REPORT", "what `sst figures` printed: never executed is pale, often executed is dark"),
+        ],
+        run: chart::run,
     },
     Command {
         name: "run",
@@ -128,7 +138,10 @@ const COMMANDS: [Command; 13] = [
         name: "figures",
         arguments: "FILE BOOK..",
         about: "walks a shelf of books and prints how often each rule was executed, and which actions never were",
-        options: &[with("lcov", "OUT", "writes the lines' counts for coverage tools")],
+        options: &[
+            with("lcov", "OUT", "writes the lines' counts for coverage tools"),
+            flag("counts", "how often each instruction was executed too"),
+        ],
         run: figures::run,
     },
     Command {

@@ -41,6 +41,7 @@ pub fn run(session: &mut Session, arguments: &Arguments) -> Done {
     }
     let names = Names { known: &known, layout: &layout, table: &answer.table };
     shelf.report(session, &names)?;
+    shelf.instructions(session, &names, arguments.has("counts"))?;
     if let Some(out) = arguments.value("lcov") {
         input::write(out, lcov(&shelf, &layout).as_bytes())?;
     }
@@ -91,17 +92,19 @@ impl Shelf<'_> {
             let share = format!("{}.{}%", tenths / 10, tenths % 10);
             session.out(&format!("rule {}, line {}: {}, {share}\n", rule.name, rule.line, counted(total, "execution")))?;
         }
-        self.never(session, names)
+        Ok(())
     }
 
-    /// Actions that no book came to.
-    fn never(&self, session: &mut Session, names: &Names) -> Result<(), Trouble> {
+    /// Instructions that no book came to, and the counts of the others where they are wanted.
+    fn instructions(&self, session: &mut Session, names: &Names, counts: bool) -> Result<(), Trouble> {
         for spot in names.layout.spots.iter().filter(|spot| !matches!(spot.what, What::Labels | What::Constant)) {
-            if self.count(spot.location) == 0 {
-                let at = place(names.known.source.text, spot.start);
-                let rule = &names.layout.rules[spot.rule].name;
-                let (line, column, location) = (at.line, at.column, spot.location);
-                session.out(&format!("never {line}:{column} {}, rule {rule}, location {location}\n", names.told(spot)))?;
+            let at = place(names.known.source.text, spot.start);
+            let rule = &names.layout.rules[spot.rule].name;
+            let told = format!("{}:{} {}, rule {rule}, location {}", at.line, at.column, names.told(spot), spot.location);
+            match self.count(spot.location) {
+                0 => session.out(&format!("never {told}\n"))?,
+                count if counts => session.out(&format!("count {told}: {}\n", counted(count, "execution")))?,
+                _ => {}
             }
         }
         Ok(())

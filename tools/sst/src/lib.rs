@@ -10,6 +10,7 @@ mod ask;
 mod book;
 mod bound;
 mod certify;
+mod chart;
 mod check;
 mod commands;
 mod digest;

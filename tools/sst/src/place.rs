@@ -109,6 +109,11 @@ fn width(sign: char) -> usize {
     }
 }
 
+/// The columns that a text takes, control characters being shown by their numbers.
+pub fn columns(text: &str) -> usize {
+    text.chars().map(|sign| if sign.is_control() { 4 } else { width(sign) }).sum()
+}
+
 /// The most characters of a quoted word.
 const MOST_QUOTED: usize = 48;
 

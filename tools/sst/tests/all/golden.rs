@@ -17,10 +17,18 @@ const RUNS: [(&str, &[&str]); 10] = [
     ("table-not-finishing", &["table", "--not-finishing", "@", "-o", "target/sst-tests/golden-all.sst"]),
 ];
 
+/// Figures of examples/recipes.ssl, cut to what a chart reads.
+const RECIPES: &str = "rule Book, line 9: 1,200 executions, 96.0%
+rule Amount, line 16: 50 executions, 4.0%
+rule Ingredient, line 22: 0 executions, 0.0%
+count 12:20 .lineEnd, rule Book, location 9: 1 execution
+never 13:22 .bookEnd, rule Book, location 13
+";
+
 const COMMON: &str = "examples/pages/common.ssl";
 
 /// Runs of their own, with what they read from standard input: walks that come somewhere, figures, table files.
-const OTHERS: [(&[&str], &str); 27] = [
+const OTHERS: [(&[&str], &str); 32] = [
     (&["run", "examples/pages.ssl", "chapter", "line", "blankLine", "endOfBook", "--", "fits", "full"], ""),
     (&["run", "--quiet", "--book", "examples/shelf/torn.book", "examples/pages.ssl"], ""),
     (&["run", "--quiet", "examples/pages.ssl", "line", "--", "1"], ""),
@@ -36,6 +44,11 @@ const OTHERS: [(&[&str], &str); 27] = [
     (&["figures", "examples/footnote.ssl", "target/sst-tests/flat.book"], ""),
     (&["figures", "examples/pages.ssl", "examples/shelf/novel.book", "examples/shelf/poem.book", "examples/shelf/torn.book"], ""),
     (&["figures", "examples/pages.ssl"], ""),
+    (&["figures", "--counts", "examples/pages.ssl", "examples/shelf/poem.book"], ""),
+    (&["chart", "examples/margins.ssl"], ""),
+    (&["chart", "--figures", "-", "examples/recipes.ssl"], RECIPES),
+    (&["chart", "--figures", "-", "examples/pages.ssl"], RECIPES),
+    (&["chart", "examples/pages.ssl", "-o", "target/sst-tests/golden.svg"], ""),
     (&["link", COMMON, "examples/pages/book.ssl", "examples/pages/line.ssl", "examples/pages/blank.ssl"], ""),
     (&["link", COMMON, "examples/pages/book.ssl"], ""),
     (
@@ -188,9 +201,10 @@ fn each_subcommand_on_each_text() {
 #[test]
 fn help() {
     let mut found = ran(&["--help"], None, "");
-    for name in
-        ["check", "why", "list", "run", "header", "table", "link", "verify", "bound", "load", "admit", "figures", "certify"]
-    {
+    for name in [
+        "check", "why", "list", "chart", "run", "header", "table", "link", "verify", "bound", "load", "admit", "figures",
+        "certify",
+    ] {
         found.push_str(&ran(&[name, "--help"], None, ""));
     }
     compare("help", &found);

@@ -54,11 +54,12 @@ fn disagrees(plant: Plant, arguments: &[&str], text: &[u8]) {
 #[test]
 fn a_difference_is_told() {
     let (good, bad) = (b"input: a; rules M: { ? } a; end", b"rules M: > ; end");
-    let commands: [&[&str]; 10] = [
+    let commands: [&[&str]; 11] = [
         &["check", "-"],
         &["why", "-"],
         &["list", "-"],
         &["list", "--names", "-"],
+        &["chart", "-"],
         &["header", "-"],
         &["run", "-"],
         &["table", "-", "-o", "target/sst-tests/planted.sst"],
