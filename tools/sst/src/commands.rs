@@ -2,7 +2,7 @@
 
 use crate::arguments::{Arguments, Opt, parse};
 use crate::session::{Done, Session, Status, Trouble};
-use crate::{bound, certify, chart, check, figures, header, link, list, load, table, verify, walk, why};
+use crate::{bound, carry, certify, chart, check, figures, header, link, list, load, part, table, verify, walk, why};
 use std::ffi::OsString;
 
 struct Command {
@@ -21,7 +21,7 @@ const fn with(name: &'static str, value: &'static str, about: &'static str) -> O
     Opt { name, value: Some(value), about }
 }
 
-const COMMANDS: [Command; 14] = [
+const COMMANDS: [Command; 16] = [
     Command {
         name: "check",
         arguments: "FILE..",
@@ -92,6 +92,13 @@ const COMMANDS: [Command; 14] = [
         run: table::run,
     },
     Command {
+        name: "part",
+        arguments: "COMMON PART -o OUT",
+        about: "translates one part of a program with its common part and writes its object",
+        options: &[with("output", "OUT", "the file that is written; also -o")],
+        run: part::run,
+    },
+    Command {
         name: "link",
         arguments: "COMMON PART..",
         about: "translates the parts of a program separately and links them in that order",
@@ -143,6 +150,16 @@ const COMMANDS: [Command; 14] = [
             flag("counts", "how often each instruction was executed too"),
         ],
         run: figures::run,
+    },
+    Command {
+        name: "carry",
+        arguments: "OLD NEW",
+        about: "says for each rule of a text whether a reading position in it is carried to a new text, and why not",
+        options: &[
+            with("walk", "FILE", "the bytes of a walk over the old text's table, which is carried"),
+            with("output", "OUT", "writes the carried walk there; also -o"),
+        ],
+        run: carry::run,
     },
     Command {
         name: "certify",

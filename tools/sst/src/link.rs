@@ -99,11 +99,7 @@ fn library(texts: &[Input]) -> Answered {
     for (number, part) in (1..).zip(&texts[1..]) {
         match object(common, &part.bytes) {
             Ok(object) => objects.extend(object),
-            Err(Translated { number: fault, text, start, len, .. }) => {
-                let text = if text == 0 { 0 } else { number };
-                let linked = Linked { number: fault, text, start, len, ..Linked::default() };
-                return Answered { linked, table: Vec::new(), translated: false };
-            }
+            Err(refused) => return untranslated(&refused, number),
         }
     }
     let mut bytes = vec![0; 2 * MAX_TABLE];
@@ -112,8 +108,23 @@ fn library(texts: &[Input]) -> Answered {
     Answered { linked, table: words.take(linked.words as usize).collect(), translated: true }
 }
 
+/// The answer where a part, by its number, is not translated.
+fn untranslated(refused: &Translated, part: u64) -> Answered {
+    let Translated { number, text, start, len, .. } = *refused;
+    let text = if text == 0 { 0 } else { part };
+    let linked = Linked { number, text, start, len, ..Linked::default() };
+    Answered { linked, table: Vec::new(), translated: false }
+}
+
+/// Shows why the only part of these texts is not translated.
+pub fn refusal(session: &mut Session, texts: &[Input], refused: &Translated) -> Done {
+    let (message, text) = untranslated(refused, 1).explained(texts);
+    message.show(session, &Source::new(&text.name, &text.bytes));
+    Ok(Status::No)
+}
+
 /// The object of a part, in as many bytes as it needs.
-fn object(common: &[u8], part: &[u8]) -> Result<Vec<u8>, Translated> {
+pub fn object(common: &[u8], part: &[u8]) -> Result<Vec<u8>, Translated> {
     let mut room = FIRST_ROOM;
     loop {
         let mut object = vec![0; room];

@@ -28,7 +28,7 @@ never 13:22 .bookEnd, rule Book, location 13
 const COMMON: &str = "examples/pages/common.ssl";
 
 /// Runs of their own, with what they read from standard input: walks that come somewhere, figures, table files.
-const OTHERS: [(&[&str], &str); 32] = [
+const OTHERS: [(&[&str], &str); 40] = [
     (&["run", "examples/pages.ssl", "chapter", "line", "blankLine", "endOfBook", "--", "fits", "full"], ""),
     (&["run", "--quiet", "--book", "examples/shelf/torn.book", "examples/pages.ssl"], ""),
     (&["run", "--quiet", "examples/pages.ssl", "line", "--", "1"], ""),
@@ -68,6 +68,14 @@ const OTHERS: [(&[&str], &str); 32] = [
     (&["link", COMMON, "-"], "rules Line >> Fit: >> fits; end"),
     (&["link", COMMON, "examples/pages/book.ssl", "-"], "rules Line: @Lime; Blank >> Fit: >> full; end"),
     (&["link", "-", "examples/pages/book.ssl"], "input: line line; rules end"),
+    (&["part", COMMON, "examples/pages/line.ssl", "-o", "target/sst-tests/golden.object"], ""),
+    (&["part", COMMON, "-", "-o", "target/sst-tests/none.object"], "rules\nLine: plcaed;\nend"),
+    (&["part", "-", "examples/pages/line.ssl", "-o", "target/sst-tests/none.object"], "input: line line; rules end"),
+    (&["carry", "examples/pages.ssl", "examples/pages.ssl"], ""),
+    (&["carry", "examples/footnote.ssl", "examples/footnote-mended.ssl"], ""),
+    (&["carry", "examples/optional-item.ssl", "examples/optional-item-changed-over.ssl"], ""),
+    (&["carry", "examples/pages.ssl", "-"], "rules M: > ; end"),
+    (&["carry", "examples/pages.ssl", "examples/pages.ssl", "--walk", "-"], "no walk"),
     (&["load", "-"], "HD\0\x02\0\x01\0\x01TW\0\x01\0\x09"),
     (&["load", "-"], "HD\0\x02\0\x01\0\x01TW\0\x01\0\0"),
     (&["load", "-"], "HD\0\x02\0\x01\0\x01TW\0\x01\0\0\0"),
@@ -202,8 +210,8 @@ fn each_subcommand_on_each_text() {
 fn help() {
     let mut found = ran(&["--help"], None, "");
     for name in [
-        "check", "why", "list", "chart", "run", "header", "table", "link", "verify", "bound", "load", "admit", "figures",
-        "certify",
+        "check", "why", "list", "chart", "carry", "part", "run", "header", "table", "link", "verify", "bound", "load", "admit",
+        "figures", "certify",
     ] {
         found.push_str(&ran(&[name, "--help"], None, ""));
     }

@@ -1,5 +1,6 @@
 //! Tests of the command as its users meet it.
 
+mod carried;
 mod charts;
 mod files;
 mod generated;

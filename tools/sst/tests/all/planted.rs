@@ -54,12 +54,13 @@ fn disagrees(plant: Plant, arguments: &[&str], text: &[u8]) {
 #[test]
 fn a_difference_is_told() {
     let (good, bad) = (b"input: a; rules M: { ? } a; end", b"rules M: > ; end");
-    let commands: [&[&str]; 11] = [
+    let commands: [&[&str]; 12] = [
         &["check", "-"],
         &["why", "-"],
         &["list", "-"],
         &["list", "--names", "-"],
         &["chart", "-"],
+        &["carry", "-", "examples/pages.ssl"],
         &["header", "-"],
         &["run", "-"],
         &["table", "-", "-o", "target/sst-tests/planted.sst"],
