@@ -6,7 +6,7 @@
 # make sst                 build target/bin/sst, one command for author, engineer and release desk: target/bin/sst --help
 # make build               prove libraries and lister: target/lib/libsst.a, target/lib/libsst-carry.a, target/lib/libsst-desk.a, target/bin/lister
 # make library TARGET=..   the libraries for another processor: aarch64, armv7, thumbv7em or riscv64, at target/lib/TARGET/ (docs/DEVICE.md)
-# make install PREFIX=..   put libraries, headers, pkg-config files, sst, lister and their pages below PREFIX (/usr/local); DESTDIR=.. for a package;
+# make install PREFIX=..   put libraries, headers, pkg-config files, sst, lister, their pages and documents below PREFIX (/usr/local); DESTDIR=.. for a package;
 #                          TARGET=.. the libraries for that processor, without the commands
 # make test                every check and test
 FILE ?= examples/scanner.ssl

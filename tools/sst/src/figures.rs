@@ -17,6 +17,7 @@ use reference::ffi::Library;
 use reference::figures::Figures;
 use reference::side::{Inputs, Reference, Side};
 use reference::walker::{ROOM, WALK_BYTES};
+use std::ffi::OsStr;
 
 const FIGURES_BYTES: usize = 33_296;
 
@@ -34,10 +35,11 @@ pub fn run(session: &mut Session, arguments: &Arguments) -> Done {
     let layout = layout(&known, &answer.table)?;
     let table = answer.table.iter().flat_map(|word| word.to_be_bytes()).collect();
     let mut shelf = Shelf { known: &known, table, figures: vec![0; FIGURES_BYTES] };
-    for path in books {
-        let file = input::read(session, path)?;
-        let book = book::read(&known, &file.name, &file.bytes)?;
-        shelf.add(session, &file.name, &book)?;
+    for (i, path) in (1..).zip(books) {
+        session.progress(&format!("book {i} of {}: {}", books.len(), path.to_string_lossy()));
+        let told = shelf.read(session, path);
+        session.progress("");
+        session.out(&told?)?;
     }
     let names = Names { known: &known, layout: &layout, table: &answer.table };
     shelf.report(session, &names)?;
@@ -55,7 +57,13 @@ struct Shelf<'a> {
 }
 
 impl Shelf<'_> {
-    fn add(&mut self, session: &mut Session, name: &str, book: &Book) -> Result<(), Trouble> {
+    fn read(&mut self, session: &mut Session, path: &OsStr) -> Result<String, Trouble> {
+        let file = input::read(session, path)?;
+        self.add(&file.name, &book::read(self.known, &file.name, &file.bytes)?)
+    }
+
+    /// Adds a book, and tells how its walk ended.
+    fn add(&mut self, name: &str, book: &Book) -> Result<String, Trouble> {
         let tokens: Vec<u8> = book.tokens.iter().flat_map(|word| word.to_be_bytes()).collect();
         let answers = answers(self.known, &self.table, &tokens, book)?;
         let inputs = Inputs { table: &self.table, tokens: &tokens, answers: &answers };
@@ -70,7 +78,7 @@ impl Shelf<'_> {
             return Err(Trouble::Refused(format!("{name}: refused {}: the sums would pass 64 bits", done.number)));
         }
         let steps = counted(done.steps, "step");
-        session.out(&format!("book {name}: {steps}, number {}: {}\n", done.number, meaning(done.number)))
+        Ok(format!("book {name}: {steps}, number {}: {}\n", done.number, meaning(done.number)))
     }
 
     /// How often a location was executed.

@@ -47,6 +47,8 @@ pub struct Streams<'a> {
     pub err: &'a mut dyn Write,
     /// Whether messages are coloured.
     pub colours: bool,
+    /// Whether messages go to a terminal.
+    pub terminal: bool,
 }
 
 pub struct Session<'a> {
@@ -69,6 +71,13 @@ impl Session<'_> {
     pub fn err_bytes(&mut self, bytes: &[u8]) {
         _ = self.streams.out.flush();
         _ = self.streams.err.write_all(bytes);
+    }
+
+    /// What is being done, on a terminal's last line; the next one takes its place, an empty one clears it.
+    pub fn progress(&mut self, text: &str) {
+        if self.streams.terminal {
+            self.err(&format!("\r\x1b[K{text}"));
+        }
     }
 
     /// Says why a command stopped early.

@@ -31,11 +31,16 @@ fn root() {
     ROOT.call_once(|| std::env::set_current_dir(concat!(env!("CARGO_MANIFEST_DIR"), "/../..")).expect("the repository"));
 }
 
-fn sst_with(second: &dyn Measurer, arguments: &[&str], mut input: &[u8]) -> Ended {
+fn sst_with(second: &dyn Measurer, arguments: &[&str], input: &[u8]) -> Ended {
+    sst_at(second, arguments, input, false)
+}
+
+/// The same with messages that go to a terminal.
+fn sst_at(second: &dyn Measurer, arguments: &[&str], mut input: &[u8], terminal: bool) -> Ended {
     root();
     let arguments: Vec<OsString> = arguments.iter().map(OsString::from).collect();
     let (mut out, mut err) = (Vec::new(), Vec::new());
-    let streams = Streams { input: &mut input, out: &mut out, err: &mut err, colours: false };
+    let streams = Streams { input: &mut input, out: &mut out, err: &mut err, colours: false, terminal };
     let status = run(&arguments, second, streams);
     let text = |bytes: &[u8]| String::from_utf8(bytes.to_vec()).expect("messages are UTF-8");
     Ended { status, out: text(&out), err: text(&err) }

@@ -1,6 +1,7 @@
 //! The command as a process: streams that are closed or full, files that cannot be read, and statuses.
 
-use crate::{examples, root};
+use crate::{examples, root, sst_at};
+use reference::side::Reference;
 use std::process::{Command, Output};
 
 /// Runs a line of a shell; `$S` is the command.
@@ -77,6 +78,17 @@ fn no_colours_off_a_terminal() {
     root();
     let output = shell("printf 'rules M: > ; end' | \"$S\" check -");
     assert!(!output.stderr.contains(&0x1b));
+}
+
+#[test]
+fn progress_on_a_terminal() {
+    let arguments = ["figures", "examples/pages.ssl", "examples/shelf/novel.book", "none.book"];
+    let shown = sst_at(&Reference, &arguments, b"", true);
+    let lines = "\r\x1b[Kbook 1 of 2: examples/shelf/novel.book\r\x1b[K\r\x1b[Kbook 2 of 2: none.book\r\x1b[Ksst: none.book ";
+    assert!(shown.err.starts_with(lines), "{:?}", shown.err);
+    let quiet = sst_at(&Reference, &arguments, b"", false);
+    assert!(quiet.err.starts_with("sst: none.book "), "{:?}", quiet.err);
+    assert_eq!(quiet.out, shown.out);
 }
 
 #[test]
