@@ -38,7 +38,7 @@ extern "C" {
 uint16_t sst_carry(const uint8_t *old_text, sst_size old_len, const uint8_t *new_text, sst_size new_len, uint8_t *walk,
                    sst_size walk_len, uint64_t *text, uint64_t *start, uint64_t *len);
 
-/* The stack that it takes at most, in bytes, as in sst.h. Its code and constants are 49 KB. */
+/* The stack that it takes at most, in bytes, as in sst.h. Its code and constants are 50 KB. */
 #define SST_STACK_CARRY 64512
 
 #ifdef __cplusplus

@@ -292,7 +292,7 @@ uint16_t sst_allowance(const uint8_t *walk, sst_size walk_len);
 
 /* The stack that an entry takes at most, in bytes, on x86-64: measured with a painted stack over texts and tables at
  * all limits, rounded up; the tests hold these figures against what is measured. docs/DEVICE.md has other processors.
- * Code and constants, measured likewise: sst_process brings 56 KB, all entries of walks and screens together 10 KB,
+ * Code and constants, linked and measured by hand: sst_process brings 57 KB, all entries of walks and screens together 10 KB,
  * each of the others 2 to 3 KB, all entries together 72 KB. */
 #define SST_STACK_PROCESS 51200
 #define SST_STACK_LOAD 13312

@@ -1,4 +1,5 @@
-//! Tells `sst certify` which toolchain proved the libraries, and from which commit the command was built.
+//! Tells `sst` its version, which the header has, and `sst certify` which toolchain proved the libraries and from which commit the command was
+//! built.
 
 use std::process::Command;
 
@@ -9,8 +10,19 @@ fn line(program: &str, arguments: &[&str]) -> Option<String> {
     Some(text.lines().next().unwrap_or_default().to_string())
 }
 
+/// The header that has the one version.
+const HEADER: &str = "../../include/sst.h";
+
+/// The parts of the header's version, joined by points.
+fn version() -> String {
+    let header = std::fs::read_to_string(HEADER).unwrap_or_default();
+    let parts = header.lines().filter_map(|line| line.strip_prefix("#define SST_VERSION_")?.split_once(' '));
+    parts.map(|(_, number)| number).collect::<Vec<_>>().join(".")
+}
+
 fn main() {
-    for file in ["build.rs", "../../.git/HEAD", "../../.git/logs/HEAD"] {
+    println!("cargo::rustc-env=SST_VERSION={}", version());
+    for file in ["build.rs", HEADER, "../../.git/HEAD", "../../.git/logs/HEAD"] {
         println!("cargo::rerun-if-changed={file}");
     }
     let unknown = || "not known".to_string();

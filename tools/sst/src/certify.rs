@@ -56,7 +56,7 @@ fn page(source: &Source, answer: &Answer, file: &[u8]) -> String {
         figure(answer),
         theorems(answer),
         env!("SST_TOOLCHAIN"),
-        env!("CARGO_PKG_VERSION"),
+        env!("SST_VERSION"),
         env!("SST_COMMIT"),
         sentence(answer)
     )

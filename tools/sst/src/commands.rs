@@ -181,7 +181,7 @@ pub fn run(session: &mut Session, given: &[OsString]) -> Done {
             return Ok(Status::Yes);
         }
         Some("--version") => {
-            session.out(&format!("sst {}\n", env!("CARGO_PKG_VERSION")))?;
+            session.out(&format!("sst {}\n", env!("SST_VERSION")))?;
             return Ok(Status::Yes);
         }
         _ => {}
