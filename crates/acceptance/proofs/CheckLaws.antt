@@ -3,7 +3,7 @@ use mathlib.Core.Bool.{Bool, true, false}
 use mathlib.Core.Path.{◌≡◌, refl}
 use Prim.Native.Nat.{ℕ}
 use native.Mathlib.Omega.{arith}
-use Rattle.names.specs.Known.{Checked, good, wrong, ◌>>=◌, faultIf}
+use Rattle.names.specs.Known.{Checked, good, wrong, ◌>>=◌, fault_if}
 use Rattle.words.specs.Words.{Word}
 
 -- whatever m gives has P
@@ -24,7 +24,7 @@ next P Q (good a) f q h = h a (q a refl)
 next P Q (wrong n w) f q h = never P n w
 
 -- past a test that did not hold
-pub passed : {B : Type 0} (P : B → Type 0) (t : Bool) (n : ℕ) (w : Word) (f : Unit {0} → Checked B) → (t ≡ false → Yields P (f tt)) → Yields P (◌>>=◌ (faultIf t n w) f)
+pub passed : {B : Type 0} (P : B → Type 0) (t : Bool) (n : ℕ) (w : Word) (f : Unit {0} → Checked B) → (t ≡ false → Yields P (f tt)) → Yields P (◌>>=◌ (fault_if t n w) f)
 passed P true n w f h = never P n w
 passed P false n w f h = h refl
 

@@ -6,19 +6,19 @@ use Prim.Native.Nat.{ℕ}
 use native.Mathlib.Omega.{arith}
 use Rattle.acceptance.proofs.Refusals.{refusal-shown}
 use Rattle.acceptance.specs.Answers.{RefusalNumber}
-use Rattle.acceptance.specs.Shown.{ShownBy, a_byte, too-early, a_word, ShownAt, at-word, over-long, too_short}
+use Rattle.acceptance.specs.Shown.{ShownBy, a_byte, too_early, a_word, ShownAt, at_word, over_long, too_short}
 use Rattle.processor.specs.Process.{Part, refused, process}
 use Rattle.words.specs.Words.{Word}
 
 by_word : {text : List ℕ} {n : ℕ} {w : Word} → ShownBy text n w → RefusalNumber n
 by_word (a_byte o k one) = inl (inl (omega arith, omega arith))
-by_word (too-early o e) = inl (inl (omega arith, omega arith))
+by_word (too_early o e) = inl (inl (omega arith, omega arith))
 by_word (a_word (inl h) s) = inl (inl (omega (arith, h.0), h.1))
 by_word (a_word (inr h) s) = inl (inr h)
 
 by_part : {text : List ℕ} {n : ℕ} {at : Part} → ShownAt text n at → RefusalNumber n
-by_part (at-word b) = by_word b
-by_part (over-long h) = inl (inl (omega arith, omega arith))
+by_part (at_word b) = by_word b
+by_part (over_long h) = inl (inl (omega arith, omega arith))
 by_part too_short = inr refl
 
 -- a refusal's number is one of 1 to 9, or 45, or 20

@@ -12,15 +12,16 @@ use borrow.Author.Tests.{eqb-true, eqb-false}
 use native.Mathlib.Omega.{arith}
 use Rattle.acceptance.proofs.Shape.{Each}
 use Rattle.acceptance.proofs.WordsOf.{Row, ends, breaks, more, row}
-use Rattle.acceptance.specs.Shown.{WordOf, Shown, ShownBy, a_byte, too-early, a_word}
+use Rattle.acceptance.specs.Shown.{WordOf, Shown, ShownBy, a_byte, too_early, a_word}
 use Rattle.base.specs.Bools.{and}
-use Rattle.base.specs.Common.{if◌then◌else◌, bytes, same}
+use Rattle.std.specs.Prelude.{if◌then◌else◌}
+use Rattle.base.specs.Common.{bytes, same}
 use Rattle.base.specs.Tree.{plain, cycle, choice, done, ◌▸◌, nil, alternative, absent, otherwise}
-use Rattle.syntax.specs.Actions.{aConstant, aValue, aRanked, aPlain, aSelector, aLabel, someLabels, closes, aCycle, aChoice, anAction, anOtherwise, anAlternative, actions, alternatives}
-use Rattle.syntax.specs.Parse.{aRule, someRules, program, end_of}
-use Rattle.syntax.specs.Reading.{Read, got, fault, Reader, onward, ◌>>=◌, ◌>>◌, pure, peek, pass, refuse, over, within, on◌then◌else◌, expect, longest, short, aName, oneName, nameOrString, small, a_number, optional}
-use Rattle.syntax.specs.Sections.{aSpelling, aCount, anEntry, entries, kindAhead, isFull, aParameter, numbered, anOperation, someOperations, spells, ranking, aLevel, aSide, anOperator, someOperators, operatorSection, mechanismSection, otherSection, Sofar, nothing, after as afterSection, tokenSection, aSection, Sections, someSections}
-use Rattle.syntax.specs.Written.{Plain, named, any, exit, emit, error as anError, call, give, ranked, Selector, byToken, byRule, byOperation, Act, Acts, Alts, Other, Choices, Constant, Entry, Operation, Operator, Section, inputs, outputs, both, errors, values, operations, operators, Rule, Program}
+use Rattle.syntax.specs.Actions.{a_constant, a_value, a_ranked, a_plain, a_selector, a_label, some_labels, closes, a_cycle, a_choice, an_action, an_otherwise, an_alternative, actions, alternatives}
+use Rattle.syntax.specs.Parse.{a_rule, some_rules, program, end_of}
+use Rattle.syntax.specs.Reading.{Read, got, fault, Reader, onward, ◌>>=◌, ◌>>◌, pure, peek, pass, refuse, over, within, on◌then◌else◌, expect, longest, short, a_name, one_name, name_or_string, small, a_number, optional}
+use Rattle.syntax.specs.Sections.{a_spelling, a_count, an_entry, entries, kind_ahead, is_full, a_parameter, numbered, an_operation, some_operations, spells, ranking, a_level, a_side, an_operator, some_operators, operator_section, mechanism_section, other_section, Sofar, nothing, after as after_section, token_section, a_section, Sections, some_sections}
+use Rattle.syntax.specs.Written.{Plain, named, any, exit, emit, error as an_error, call, give, ranked, Selector, by_token, by_rule, by_operation, Act, Acts, Alts, Other, Choices, Constant, Entry, Operation, Operator, Section, inputs, outputs, both, errors, values, operations, operators, Rule, Program}
 use Rattle.words.specs.Words.{Word, bad, last, twice, name, number, string, input, output, error, type, mechanism, rules, end, value, words}
 
 module _ (text : List ℕ) where
@@ -42,15 +43,15 @@ module _ (text : List ℕ) where
   PlainShown (any w) = Unit {0}
   PlainShown (exit w) = Is w
   PlainShown (emit w) = Is w
-  PlainShown (anError w) = Is w
+  PlainShown (an_error w) = Is w
   PlainShown (call w) = Is w
   PlainShown (give w v) = Is w × May v
   PlainShown (ranked s w o) = Is s × Is w × Is o
 
   abbrev pub SelectorShown : Selector → Type 0
-  SelectorShown byToken = Unit {0}
-  SelectorShown (byRule w) = Is w
-  SelectorShown (byOperation w c) = Is w × ConstantShown c
+  SelectorShown by_token = Unit {0}
+  SelectorShown (by_rule w) = Is w
+  SelectorShown (by_operation w c) = Is w × ConstantShown c
 
   unfoldable mutual
     pub ActShown : Act → Type 0
@@ -148,7 +149,7 @@ module _ (text : List ℕ) where
   passes : {ws : List Word} → Rest ws → Is (peek ws) → Gives ws pass Is
   unfolding pass peek end_of
   passes (ends {w} g e) s = absurd (s.not_end (let z : w.kind ≡ last = cc in z))
-  passes (breaks g e n) s = absurd (s.not-bad e)
+  passes (breaks g e n) s = absurd (s.not_bad e)
   passes (more {w} {ws} g b l n r) s = record {
     says = λ n w e. no-fault e;
     leaves = λ a rest e. (let d : w ≡ a = cc in let c : ws ≡ rest = cc in let q : Rest ws × Is w = (r, s) in rw (d, c) at q);
@@ -159,7 +160,7 @@ module _ (text : List ℕ) where
   unfolding peek end_of
   is_word k b l (ends {w} g e) d = absurd (eqb-false k last l (let z : k ≡ last = cc in z))
   is_word k b l (breaks g e n) d = absurd (eqb-false k bad b (let z : k ≡ bad = cc in z))
-  is_word k b l (more g nb nl n r) d = record { word = g; not-bad = nb; not_end = nl; some = n }
+  is_word k b l (more g nb nl n r) d = record { word = g; not_bad = nb; not_end = nl; some = n }
 
   refuses : {A : Type 0} {ws : List Word} {P : List Word → A → Type 0} → Rest ws → Reads {A = A} ws refuse P
   unfolding refuse peek end_of
@@ -167,7 +168,7 @@ module _ (text : List ℕ) where
     where
       go : (n : ℕ) (v : Word) (t : Bool) → eqb w.kind bad ≡ t → ◌≡◌ {A = Read A} (fault (if t then 1 else 2) w) (fault n v) → ShownBy text n v
       go n v true x d = let z : last ≡ bad = (let y = eqb-true w.kind bad x in cc) in absurd (omega arith)
-      go n v false x d = this d (too-early g e)
+      go n v false x d = this d (too_early g e)
   refuses {A} (breaks {w} g e k) = record { says = λ n v d. go n v (eqb w.kind bad) refl d; leaves = λ a rest d. no-got d }
     where
       go : (n : ℕ) (v : Word) (t : Bool) → eqb w.kind bad ≡ t → ◌≡◌ {A = Read A} (fault (if t then 1 else 2) w) (fault n v) → ShownBy text n v
@@ -177,7 +178,7 @@ module _ (text : List ℕ) where
     where
       go : (n : ℕ) (v : Word) (t : Bool) → eqb w.kind bad ≡ t → ◌≡◌ {A = Read A} (fault (if t then 1 else 2) w) (fault n v) → ShownBy text n v
       go n v true x d = absurd (nb (eqb-true w.kind bad x))
-      go n v false x d = this d (a_word (inl (omega arith, omega arith)) (record { word = g; not-bad = nb; not_end = nl; some = k }))
+      go n v false x d = this d (a_word (inl (omega arith, omega arith)) (record { word = g; not_bad = nb; not_end = nl; some = k }))
 
   nine : {A : Type 0} {v : Word} {ws : List Word} {P : List Word → A → Type 0} → Is v → Reads {A = A} ws (λ _. fault 9 v) P
   nine s = record { says = λ n w e. this e (a_word (inl (omega arith, omega arith)) s); leaves = λ a rest e. no-got e }
@@ -225,16 +226,16 @@ module _ (text : List ℕ) where
   unfolding short
   shorts r s = by (λ ws. ltb longest (length (peek ws).text)) (λ _. overs s) (λ _. passes r s)
 
-  names : {ws : List Word} → Rest ws → Gives ws aName Is
-  unfolding aName
+  names : {ws : List Word} → Rest ws → Gives ws a_name Is
+  unfolding a_name
   names r = on-kind name refl refl r (λ s. shorts r s) (refuses r)
 
-  one_name : {ws : List Word} (left : ℕ) → Rest ws → Gives ws (oneName left) Is
-  unfolding oneName
-  one_name left r = on-kind name refl refl r (λ s. limited left s (shorts r s)) (refuses r)
+  one_name_lem : {ws : List Word} (left : ℕ) → Rest ws → Gives ws (one_name left) Is
+  unfolding one_name
+  one_name_lem left r = on-kind name refl refl r (λ s. limited left s (shorts r s)) (refuses r)
 
-  names-strings : {ws : List Word} → Rest ws → Gives ws nameOrString Is
-  unfolding nameOrString
+  names-strings : {ws : List Word} → Rest ws → Gives ws name_or_string Is
+  unfolding name_or_string
   names-strings r = on-kind string refl refl r (λ s. passes r s) (names r)
 
   -- a number that is read off the next word, or past a limit
@@ -262,25 +263,25 @@ module _ (text : List ℕ) where
   numbers r = on-kind number refl refl r (λ s. smalls r s) (refuses r)
 
   -- `>>` and a name, or nothing
-  typed : {ws : List Word} → Rest ws → Gives ws (optional twice aName) May
+  typed : {ws : List Word} → Rest ws → Gives ws (optional twice a_name) May
   unfolding optional
   typed r = on-kind twice refl refl r (λ s. bind (passes r s) (λ ws₁ w q. bind (names q.0) (λ ws₂ a u. gives (u.0, u.1)))) (gives (r, tt))
 
   -- Sections
 
-  spellings : {ws : List Word} (strings : Bool) → Rest ws → Gives ws (aSpelling strings) Any
-  unfolding aSpelling
+  spellings : {ws : List Word} (strings : Bool) → Rest ws → Gives ws (a_spelling strings) Any
+  unfolding a_spelling
   spellings false r = gives (r, tt)
   spellings true r = on-kind string refl refl r (λ s. bind (passes r s) (λ ws₁ w q. gives (q.0, tt))) (gives (r, tt))
 
-  counts : {ws : List Word} (w : Word) (v : ℕ) → Is w → Rest ws → Gives ws (aCount w v) Any
-  unfolding aCount
+  counts : {ws : List Word} (w : Word) (v : ℕ) → Is w → Rest ws → Gives ws (a_count w v) Any
+  unfolding a_count
   counts w v i r = on-kind (code "=") refl refl r (λ s. bind (passes r s) (λ ws₁ w q. numbers q.0)) (by (λ _. ltb 65535 v) (λ _. nine i) (λ _. gives (r, tt)))
 
-  entry : {ws : List Word} (left : ℕ) (strings : Bool) (v : ℕ) → Rest ws → Gives ws (anEntry left strings v) EntryShown
-  unfolding anEntry
+  entry : {ws : List Word} (left : ℕ) (strings : Bool) (v : ℕ) → Rest ws → Gives ws (an_entry left strings v) EntryShown
+  unfolding an_entry
   entry left strings v r =
-      bind (one_name left r) (λ ws₁ w q. bind (spellings strings q.0) (λ ws₂ s u. bind (counts w v q.1 u.0) (λ ws₃ n x. gives (x.0, q.1))))
+      bind (one_name_lem left r) (λ ws₁ w q. bind (spellings strings q.0) (λ ws₂ s u. bind (counts w v q.1 u.0) (λ ws₃ n x. gives (x.0, q.1))))
 
   all-entries : {ws : List Word} (k left : ℕ) (strings : Bool) (v : ℕ) → Rest ws → Gives ws (entries k left strings v) (Each EntryShown)
   unfolding entries Each
@@ -290,8 +291,8 @@ module _ (text : List ℕ) where
       bind (on-kind (code ";") refl refl q.0 (λ s. bind (passes q.0 s) (λ ws₂ w u. gives (u.0, tt))) (all-entries k (left - 1) strings (e.value + 1) q.0))
       (λ ws₃ es x. gives (x.0, (q.1, x.1))))
 
-  parameters : {ws : List Word} → Rest ws → Gives ws aParameter May
-  unfolding aParameter
+  parameters : {ws : List Word} → Rest ws → Gives ws a_parameter May
+  unfolding a_parameter
   parameters r =
       on-kind (code "(") refl refl r
       (λ s. bind (passes r s) (λ ws₁ w q. bind (names q.0) (λ ws₂ t u. bind (expects (code ")") refl refl u.0) (λ ws₃ c x. gives (x.0, u.1)))))
@@ -301,13 +302,13 @@ module _ (text : List ℕ) where
   unfolding numbered
   number-given w seen i r = bind (parameters r) (λ ws₁ t q. bind (typed q.0) (λ ws₂ g u. gives (u.0, (i, q.1, u.1))))
 
-  operation : {ws : List Word} (left : ℕ) (seen : List ℕ) → Rest ws → Gives ws (anOperation left seen) OperationShown
-  unfolding anOperation
+  operation : {ws : List Word} (left : ℕ) (seen : List ℕ) → Rest ws → Gives ws (an_operation left seen) OperationShown
+  unfolding an_operation
   operation left seen r =
-      bind (one_name left r) (λ ws₁ w q. picks (λ ws. isFull (kindAhead ws) seen) (λ _. nine q.1) (λ _. number-given w seen q.1 q.0))
+      bind (one_name_lem left r) (λ ws₁ w q. picks (λ ws. is_full (kind_ahead ws) seen) (λ _. nine q.1) (λ _. number-given w seen q.1 q.0))
 
-  all-operations : {ws : List Word} (k left : ℕ) (seen : List ℕ) → Rest ws → Gives ws (someOperations k left seen) (Each OperationShown)
-  unfolding someOperations Each
+  all-operations : {ws : List Word} (k left : ℕ) (seen : List ℕ) → Rest ws → Gives ws (some_operations k left seen) (Each OperationShown)
+  unfolding some_operations Each
   all-operations zero left seen r = refuses r
   all-operations (suc k) left seen r =
       bind (operation left seen r) (λ ws₁ o q.
@@ -319,8 +320,8 @@ module _ (text : List ℕ) where
       → Gives ws (◌>>◌ (expect (code ":")) (◌>>=◌ (entries k left strings v) (λ es. pure (make es)))) SectionShown
   section-of k left strings v make f r = bind (expects (code ":") refl refl r) (λ ws₁ w q. bind (all-entries k left strings v q.0) (λ ws₂ es u. gives (u.0, f es u.1)))
 
-  token-section : {ws : List Word} (k : ℕ) (s : Sofar) → Rest ws → Gives ws (tokenSection k s) SectionShown
-  unfolding tokenSection
+  token-section : {ws : List Word} (k : ℕ) (s : Sofar) → Rest ws → Gives ws (token_section k s) SectionShown
+  unfolding token_section
   token-section k s r =
       on-kind output refl refl r (λ i. bind (passes r i) (λ ws₁ w q. section-of k s.left true (max s.input s.output) both (λ es h. h) q.0))
       (section-of k s.left true s.input inputs (λ es h. h) r)
@@ -329,8 +330,8 @@ module _ (text : List ℕ) where
   unfolding ranking
   ranks r s = measured (λ n. eqb n 0 || ltb 15 n) r s
 
-  levels : {ws : List Word} → Rest ws → Gives ws aLevel Any
-  unfolding aLevel
+  levels : {ws : List Word} → Rest ws → Gives ws a_level Any
+  unfolding a_level
   levels r = on-kind number refl refl r (λ s. ranks r s) (refuses r)
 
   -- a word that is spelt so is a name
@@ -338,84 +339,84 @@ module _ (text : List ℕ) where
   unfolding spells
   spells-name {ws} b r e = is_word name refl refl r (eqb-true (peek ws).kind name (and (eqb (peek ws).kind name) (same (peek ws).text b) e).0)
 
-  sides : {ws : List Word} → Rest ws → Gives ws aSide Any
-  unfolding aSide
+  sides : {ws : List Word} → Rest ws → Gives ws a_side Any
+  unfolding a_side
   sides {ws} r = go (spells (bytes "left") ws) (spells (bytes "right") ws) refl refl
     where
       one : {A : Type 0} (a : A) → Is (peek ws) → Gives ws (◌>>◌ pass (pure a)) Any
       one a s = bind (passes r s) (λ ws₁ w q. gives (q.0, tt))
 
-      go : (a b : Bool) → spells (bytes "left") ws ≡ a → spells (bytes "right") ws ≡ b → Gives ws aSide Any
+      go : (a b : Bool) → spells (bytes "left") ws ≡ a → spells (bytes "right") ws ≡ b → Gives ws a_side Any
       go true b e f = alike {m = ◌>>◌ pass (pure false)} (rw e refl) (one false (spells-name (bytes "left") r e))
       go false true e f = alike {m = ◌>>◌ pass (pure true)} (rw (e, f) refl) (one true (spells-name (bytes "right") r f))
       go false false e f = alike {m = refuse} (rw (e, f) refl) (refuses r)
 
-  an-operator : {ws : List Word} → Rest ws → Gives ws anOperator OperatorShown
-  unfolding anOperator
-  an-operator r = bind (names-strings r) (λ ws₁ t q. bind (levels q.0) (λ ws₂ l u. bind (sides u.0) (λ ws₃ s x. bind (names-strings x.0) (λ ws₄ o y. gives (y.0, (q.1, y.1))))))
+  an_operator : {ws : List Word} → Rest ws → Gives ws an_operator OperatorShown
+  unfolding an_operator
+  an_operator r = bind (names-strings r) (λ ws₁ t q. bind (levels q.0) (λ ws₂ l u. bind (sides u.0) (λ ws₃ s x. bind (names-strings x.0) (λ ws₄ o y. gives (y.0, (q.1, y.1))))))
 
-  all-operators : {ws : List Word} (k : ℕ) → Rest ws → Gives ws (someOperators k) (Each OperatorShown)
-  unfolding someOperators Each
+  all-operators : {ws : List Word} (k : ℕ) → Rest ws → Gives ws (some_operators k) (Each OperatorShown)
+  unfolding some_operators Each
   all-operators zero r = refuses r
   all-operators (suc k) r =
-      bind (an-operator r) (λ ws₁ o q.
+      bind (an_operator r) (λ ws₁ o q.
       bind (on-kind (code ";") refl refl q.0 (λ s. bind (passes q.0 s) (λ ws₂ w u. gives (u.0, tt))) (all-operators k q.0))
       (λ ws₃ os x. gives (x.0, (q.1, x.1))))
 
-  operator-section : {ws : List Word} (k : ℕ) (s : Sofar) → Rest ws → Gives ws (operatorSection k s) SectionShown
-  unfolding operatorSection
+  operator-section : {ws : List Word} (k : ℕ) (s : Sofar) → Rest ws → Gives ws (operator_section k s) SectionShown
+  unfolding operator_section
   operator-section k s r =
-      bind (one_name s.left r) (λ ws₁ w q. bind (expects (code ":") refl refl q.0) (λ ws₂ c u. bind (all-operators k u.0) (λ ws₃ os x. gives (x.0, (q.1, x.1)))))
+      bind (one_name_lem s.left r) (λ ws₁ w q. bind (expects (code ":") refl refl q.0) (λ ws₂ c u. bind (all-operators k u.0) (λ ws₃ os x. gives (x.0, (q.1, x.1)))))
 
-  mechanism-section : {ws : List Word} (k : ℕ) (s : Sofar) → Rest ws → Gives ws (mechanismSection k s) SectionShown
-  unfolding mechanismSection
+  mechanism-section : {ws : List Word} (k : ℕ) (s : Sofar) → Rest ws → Gives ws (mechanism_section k s) SectionShown
+  unfolding mechanism_section
   mechanism-section k s r =
       bind (expects mechanism refl refl r) (λ ws₁ h q. bind (names q.0) (λ ws₂ w u. bind (expects (code ":") refl refl u.0) (λ ws₃ c x.
       bind (all-operations k s.left s.seen x.0) (λ ws₄ os y. gives (y.0, y.1)))))
 
-  other-section : {ws : List Word} (k : ℕ) (s : Sofar) → Rest ws → Gives ws (otherSection k s) SectionShown
-  unfolding otherSection
+  other-section : {ws : List Word} (k : ℕ) (s : Sofar) → Rest ws → Gives ws (other_section k s) SectionShown
+  unfolding other_section
   other-section k s r =
       picks (λ ws. spells (bytes "operators") ws) (λ e. bind (passes r (spells-name (bytes "operators") r e)) (λ ws₁ w q. operator-section k s q.0))
       (λ _. mechanism-section k s r)
 
-  section : {ws : List Word} (k : ℕ) (s : Sofar) → Rest ws → Gives ws (aSection k s) SectionShown
-  unfolding aSection
+  section : {ws : List Word} (k : ℕ) (s : Sofar) → Rest ws → Gives ws (a_section k s) SectionShown
+  unfolding a_section
   section k s r =
       on-kind input refl refl r (λ i. bind (passes r i) (λ ws₁ w q. token-section k s q.0))
       (on-kind output refl refl r (λ i. bind (passes r i) (λ ws₁ w q. section-of k s.left true s.output outputs (λ es h. h) q.0))
       (on-kind error refl refl r (λ i. bind (passes r i) (λ ws₁ w q. section-of k s.left false s.error errors (λ es h. h) q.0))
-      (on-kind type refl refl r (λ i. bind (passes r i) (λ ws₁ h q. bind (one_name s.left q.0) (λ ws₂ w u. section-of k (s.left - 1) false 0 (values w) (λ es x. (u.1, x)) u.0)))
+      (on-kind type refl refl r (λ i. bind (passes r i) (λ ws₁ h q. bind (one_name_lem s.left q.0) (λ ws₂ w u. section-of k (s.left - 1) false 0 (values w) (λ es x. (u.1, x)) u.0)))
       (other-section k s r))))
 
-  sections : {ws : List Word} (k : ℕ) (s : Sofar) → Rest ws → Gives ws (someSections k s) (λ x. Each SectionShown x.sections)
-  unfolding someSections Each
+  sections : {ws : List Word} (k : ℕ) (s : Sofar) → Rest ws → Gives ws (some_sections k s) (λ x. Each SectionShown x.sections)
+  unfolding some_sections Each
   sections zero s r = refuses r
   sections (suc k) s r =
       on-kind rules refl refl r (λ _. gives (r, tt))
-      (bind (section k s r) (λ ws₁ x q. bind (sections k (afterSection s x) q.0) (λ ws₂ xs u. gives (u.0, (q.1, u.1)))))
+      (bind (section k s r) (λ ws₁ x q. bind (sections k (after_section s x) q.0) (λ ws₂ xs u. gives (u.0, (q.1, u.1)))))
 
   -- Actions
 
-  constants : {ws : List Word} → Rest ws → Gives ws aConstant ConstantShown
-  unfolding aConstant
+  constants : {ws : List Word} → Rest ws → Gives ws a_constant ConstantShown
+  unfolding a_constant
   constants r =
       on-kind (code "(") refl refl r
       (λ s. bind (passes r s) (λ ws₁ paren q. bind (names-strings q.0) (λ ws₂ c u. bind (expects (code ")") refl refl u.0) (λ ws₃ close x. gives (x.0, (q.1, u.1))))))
       (gives (r, tt))
 
-  given-values : {ws : List Word} → Rest ws → Gives ws aValue May
-  unfolding aValue
+  given-values : {ws : List Word} → Rest ws → Gives ws a_value May
+  unfolding a_value
   given-values r =
       on-kind name refl refl r (λ _. bind (names r) (λ ws₁ v q. gives (q.0, q.1)))
       (on-kind string refl refl r (λ s. bind (passes r s) (λ ws₁ v q. gives (q.0, q.1))) (gives (r, tt)))
 
-  a-ranked : {ws : List Word} (s : Word) → Is s → Rest ws → Gives ws (aRanked s) PlainShown
-  unfolding aRanked
+  a-ranked : {ws : List Word} (s : Word) → Is s → Rest ws → Gives ws (a_ranked s) PlainShown
+  unfolding a_ranked
   a-ranked s i r = bind (names r) (λ ws₁ w q. bind (expects (code "@") refl refl q.0) (λ ws₂ at u. bind (names u.0) (λ ws₃ o x. gives (x.0, (i, q.1, x.1)))))
 
-  plains : {ws : List Word} → Rest ws → Gives ws aPlain PlainShown
-  unfolding aPlain
+  plains : {ws : List Word} → Rest ws → Gives ws a_plain PlainShown
+  unfolding a_plain
   plains r =
       on-kind name refl refl r (λ _. bind (names r) (λ ws₁ w q. bind (constants q.0) (λ ws₂ c u. gives (u.0, (q.1, u.1)))))
       (on-kind string refl refl r (λ s. bind (passes r s) (λ ws₁ w q. bind (constants q.0) (λ ws₂ c u. gives (u.0, (q.1, u.1)))))
@@ -428,18 +429,18 @@ module _ (text : List ℕ) where
       (on-kind (code "^") refl refl r (λ s. bind (passes r s) (λ ws₁ w q. a-ranked w q.1 q.0))
       (refuses r)))))))))
 
-  selectors : {ws : List Word} → Rest ws → Gives ws aSelector SelectorShown
-  unfolding aSelector
+  selectors : {ws : List Word} → Rest ws → Gives ws a_selector SelectorShown
+  unfolding a_selector
   selectors r =
       on-kind (code "@") refl refl r (λ s. bind (passes r s) (λ ws₁ w q. bind (names q.0) (λ ws₂ v u. gives (u.0, u.1))))
       (on-kind name refl refl r (λ _. bind (names r) (λ ws₁ w q. bind (constants q.0) (λ ws₂ c u. gives (u.0, (q.1, u.1))))) (gives (r, tt)))
 
-  label : {ws : List Word} (room : ℕ) → Rest ws → Gives ws (aLabel room) Is
-  unfolding aLabel
+  label : {ws : List Word} (room : ℕ) → Rest ws → Gives ws (a_label room) Is
+  unfolding a_label
   label room r = on-kind string refl refl r (λ s. limited room s (passes r s)) (on-kind name refl refl r (λ s. limited room s (shorts r s)) (refuses r))
 
-  labels : {ws : List Word} (k room : ℕ) → Rest ws → Gives ws (someLabels k room) (Each Is)
-  unfolding someLabels Each
+  labels : {ws : List Word} (k room : ℕ) → Rest ws → Gives ws (some_labels k room) (Each Is)
+  unfolding some_labels Each
   labels zero room r = refuses r
   labels (suc k) room r =
       bind (label room r) (λ ws₁ w q.
@@ -453,28 +454,28 @@ module _ (text : List ℕ) where
   abbrev ChoicesReader : Reader Choices → Type 0
   ChoicesReader m = (ws : List Word) → Rest ws → Gives ws m ChoicesShown
 
-  cycles : {ws : List Word} {inner : Reader Acts} → ActsReader inner → Rest ws → Gives ws (aCycle inner) ActShown
-  unfolding aCycle ActShown
+  cycles : {ws : List Word} {inner : Reader Acts} → ActsReader inner → Rest ws → Gives ws (a_cycle inner) ActShown
+  unfolding a_cycle ActShown
   cycles {ws} p r = bind (p ws r) (λ ws₁ b q. bind (expects (code "}") refl refl q.0) (λ ws₂ c u. gives (u.0, q.1)))
 
-  choices : {ws : List Word} {inner : Reader Choices} → ChoicesReader inner → Rest ws → Gives ws (aChoice inner) ActShown
-  unfolding aChoice ActShown
+  choices : {ws : List Word} {inner : Reader Choices} → ChoicesReader inner → Rest ws → Gives ws (a_choice inner) ActShown
+  unfolding a_choice ActShown
   choices p r = bind (selectors r) (λ ws₁ s q. bind (expects (code "|") refl refl q.0) (λ ws₂ b u. bind (p ws₂ u.0) (λ ws₃ c x. gives (x.0, (q.1, x.1.0, x.1.1)))))
 
   action : {ws : List Word} (inner : ℕ → Reader Acts) (choose : ℕ → Reader Choices) (left : ℕ) → ((n : ℕ) → ActsReader (inner n)) → ((n : ℕ) → ChoicesReader (choose n)) → Rest ws
-      → Gives ws (anAction inner choose left) ActShown
-  unfolding anAction ActShown
+      → Gives ws (an_action inner choose left) ActShown
+  unfolding an_action ActShown
   action inner choose left p q r =
       on-kind (code "{") refl refl r (λ s. limited left s (bind (passes r s) (λ ws₁ w u. cycles (p (left - 1)) u.0)))
       (on-kind (code "[") refl refl r (λ s. limited left s (bind (passes r s) (λ ws₁ w u. choices (q (left - 1)) u.0))) (bind (plains r) (λ ws₁ x u. gives (u.0, u.1))))
 
-  otherwises : {ws : List Word} {inner : Reader Acts} → ActsReader inner → Rest ws → Gives ws (anOtherwise inner) ChoicesShown
-  unfolding anOtherwise ActShown
+  otherwises : {ws : List Word} {inner : Reader Acts} → ActsReader inner → Rest ws → Gives ws (an_otherwise inner) ChoicesShown
+  unfolding an_otherwise ActShown
   otherwises p r = bind (expects (code ":") refl refl r) (λ ws₁ c q. bind (p ws₁ q.0) (λ ws₂ b u. bind (expects (code "]") refl refl u.0) (λ ws₃ d x. gives (x.0, (tt, u.1)))))
 
   one-alternative : {ws : List Word} (k room : ℕ) (inner : Reader Acts) (others : ℕ → Reader Choices) → ActsReader inner → ((n : ℕ) → ChoicesReader (others n)) → Rest ws
-      → Gives ws (anAlternative k room inner others) ChoicesShown
-  unfolding anAlternative ActShown
+      → Gives ws (an_alternative k room inner others) ChoicesShown
+  unfolding an_alternative ActShown
   one-alternative k room inner others p q r =
       bind (labels k room r) (λ ws₁ ls u. bind (expects (code ":") refl refl u.0) (λ ws₂ c x. bind (p ws₂ x.0) (λ ws₃ b y.
       bind (on-kind (code "|") refl refl y.0 (λ s. bind (passes y.0 s) (λ ws₄ w z. q (room - length ls) ws₄ z.0))
@@ -499,18 +500,18 @@ module _ (text : List ℕ) where
 
   -- Rules
 
-  a-rule : {ws : List Word} (k left : ℕ) → Rest ws → Gives ws (aRule k left) RuleShown
-  unfolding aRule
-  a-rule k left r =
-      bind (one_name left r) (λ ws₁ w q. bind (typed q.0) (λ ws₂ g u. bind (expects (code ":") refl refl u.0) (λ ws₃ c x.
+  a_rule : {ws : List Word} (k left : ℕ) → Rest ws → Gives ws (a_rule k left) RuleShown
+  unfolding a_rule
+  a_rule k left r =
+      bind (one_name_lem left r) (λ ws₁ w q. bind (typed q.0) (λ ws₂ g u. bind (expects (code ":") refl refl u.0) (λ ws₃ c x.
       bind (all-actions k 32 ws₃ x.0) (λ ws₄ b y. bind (expects (code ";") refl refl y.0) (λ ws₅ e z.
       gives (z.0, record { rule = q.1; gives = u.1; body = y.1; closing = z.1 }))))))
 
-  all-rules : {ws : List Word} (k left : ℕ) → Rest ws → Gives ws (someRules k left) (Each RuleShown)
-  unfolding someRules Each
+  all-rules : {ws : List Word} (k left : ℕ) → Rest ws → Gives ws (some_rules k left) (Each RuleShown)
+  unfolding some_rules Each
   all-rules zero left r = refuses r
   all-rules (suc k) left r =
-      bind (a-rule k left r) (λ ws₁ x q. bind (on-kind name refl refl q.0 (λ _. all-rules k (left - 1) q.0) (gives (q.0, tt))) (λ ws₂ xs u. gives (u.0, (q.1, u.1))))
+      bind (a_rule k left r) (λ ws₁ x q. bind (on-kind name refl refl q.0 (λ _. all-rules k (left - 1) q.0) (gives (q.0, tt))) (λ ws₂ xs u. gives (u.0, (q.1, u.1))))
 
   -- the end of the text, behind which nothing is read
   ended : {A : Type 0} {ws : List Word} (a : A) {P : List Word → A → Type 0} → Rest ws → ((rest : List Word) → P rest a) → Reads ws (◌>>◌ (expect last) (pure a)) P

@@ -71,4 +71,4 @@ SectionOk (operators w os) = NotEmpty os × Each Ranked os
 pub record WrittenOk (p : Program) : Type 0 where
   pub sections : Each SectionOk p.sections
   pub rules : Each (λ r. ShapedAll r.body) p.rules
-  pub some-rule : NotEmpty p.rules
+  pub some_rule : NotEmpty p.rules

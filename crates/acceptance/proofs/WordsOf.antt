@@ -10,9 +10,10 @@ use lib.Seq.{drop-drop}
 use native.Mathlib.Numerals.{add-one}
 use borrow.Author.Tests.{eqb-true, eqb-false}
 use Rattle.acceptance.specs.Shown.{WordOf}
-use Rattle.base.specs.Common.{if◌then◌else◌, same}
+use Rattle.std.specs.Prelude.{if◌then◌else◌}
+use Rattle.base.specs.Common.{same}
 use Rattle.syntax.specs.Parse.{end_of}
-use Rattle.words.specs.Words.{Word, Spelling, Found, bad, last, reserved, kind_of, letter, digit, nameByte, stringByte, symbol, run, blank, stringHere, wordHere, wordsFrom, words}
+use Rattle.words.specs.Words.{Word, Spelling, Found, bad, last, reserved, kind_of, letter, digit, name_byte, string_byte, symbol, run, blank, string_here, word_here, words_from, words}
 
 -- What is found at a byte
 
@@ -32,9 +33,9 @@ plain k n e d h = record { some = h; not_end = eqb-false k last e; bad-one = λ 
 nothing : Sound (record { kind = bad; size = 1 })
 nothing = record { some = omega arith; not_end = λ z. absurd (eqb-false bad last refl z); bad-one = λ _. refl }
 
-string-sound : (s : List ℕ) → Sound (stringHere s)
-unfolding stringHere
-string-sound s = one_of (leb 1 (run stringByte s) && leb (run stringByte s) 32 && eqb (get_or s (run stringByte s) 0) 39) _ _ (λ _. plain 259 _ refl refl (omega arith)) nothing
+string-sound : (s : List ℕ) → Sound (string_here s)
+unfolding string_here
+string-sound s = one_of (leb 1 (run string_byte s) && leb (run string_byte s) 32 && eqb (get_or s (run string_byte s) 0) 39) _ _ (λ _. plain 259 _ refl refl (omega arith)) nothing
 
 -- no spelling means the end or a bad word
 apart : List Spelling → Bool
@@ -57,10 +58,10 @@ symbol-sound : (b : ℕ) → symbol b ≡ true → Sound (record { kind = b; siz
 unfolding symbol
 symbol-sound b e = record { some = omega arith; not_end = λ z. absurd (false≢true (sym (ap symbol z) ∙ e)); bad-one = λ _. refl }
 
-here-sound : (b : ℕ) (s : List ℕ) → Sound (wordHere b s)
-unfolding wordHere reserved apart
+here-sound : (b : ℕ) (s : List ℕ) → Sound (word_here b s)
+unfolding word_here reserved apart
 here-sound b s =
-    one_of (letter b) _ _ (λ _. known _ (take (suc (run nameByte s)) (b ∷ s)) reserved refl (omega arith))
+    one_of (letter b) _ _ (λ _. known _ (take (suc (run name_byte s)) (b ∷ s)) reserved refl (omega arith))
     (one_of (digit b) _ _ (λ _. plain 258 _ refl refl (omega arith))
     (one_of (eqb b 39) _ _ (λ _. string-sound s)
     (one_of (eqb b 62 && eqb (get_or s 0 0) 62) _ _ (λ _. plain 256 2 refl refl (omega arith))
@@ -96,19 +97,19 @@ module _ (text : List ℕ) where
   stands : (k at n b : ℕ) (s : List ℕ) → drop at text ≡ b ∷ s → at + suc (length s) ≡ length text → Stands text (record { kind = k; start = at; text = take n (b ∷ s) })
   stands k at n b s d h = record { inside = simp length-take (omega arith); spelt = rw d (take-taken n (b ∷ s)) }
 
-  rows : (skip at : ℕ) (s : List ℕ) → drop at text ≡ s → at + length s ≡ length text → Row text (Stands text) (wordsFrom skip at s)
-  unfolding wordsFrom end_of
+  rows : (skip at : ℕ) (s : List ℕ) → drop at text ≡ s → at + length s ≡ length text → Row text (Stands text) (words_from skip at s)
+  unfolding words_from end_of
   rows skip at [] d h = ends {w = record { kind = last; start = at; text = [] }} (record { inside = omega arith; spelt = refl }) (ap (λ (n : ℕ). record { kind = last; start = n; text = [] }) (omega arith))
   rows (suc n) at (b ∷ s) d h = rows n (suc at) s (next-byte at b s d) (omega arith)
   rows zero at (b ∷ s) d h =
       either (blank b) (λ _. rows 0 (suc at) s (next-byte at b s d) (omega arith)) (λ _.
       either (eqb b 37) (λ _. rows (run (λ c. not (eqb c 10)) s) (suc at) s (next-byte at b s d) (omega arith)) (λ _.
-      either (eqb (wordHere b s).kind bad)
-      (λ e. breaks (stands (wordHere b s).kind at (wordHere b s).size b s d h) (eqb-true (wordHere b s).kind bad e) (let x = sound.bad-one (eqb-true (wordHere b s).kind bad e) in simp length-take (omega arith)))
-      (λ e. more (stands (wordHere b s).kind at (wordHere b s).size b s d h) (eqb-false (wordHere b s).kind bad e) sound.not_end (let x = sound.some in simp length-take (omega arith))
-      (rows ((wordHere b s).size - 1) (suc at) s (next-byte at b s d) (omega arith)))))
+      either (eqb (word_here b s).kind bad)
+      (λ e. breaks (stands (word_here b s).kind at (word_here b s).size b s d h) (eqb-true (word_here b s).kind bad e) (let x = sound.bad-one (eqb-true (word_here b s).kind bad e) in simp length-take (omega arith)))
+      (λ e. more (stands (word_here b s).kind at (word_here b s).size b s d h) (eqb-false (word_here b s).kind bad e) sound.not_end (let x = sound.some in simp length-take (omega arith))
+      (rows ((word_here b s).size - 1) (suc at) s (next-byte at b s d) (omega arith)))))
     where
-      sound : Sound (wordHere b s)
+      sound : Sound (word_here b s)
       sound = here-sound b s
 
   -- each is one of all

@@ -12,9 +12,9 @@ pub record TableOf (text : List ℕ) (room : ℕ) (words : List ℕ) (verdict : 
   pub means : understood text ≡ meaning prog
   pub accepts : Accepted prog
   pub words_are : words ≡ table prog
-  pub verdict-is : verdict ≡ finishing prog
+  pub verdict_is : verdict ≡ finishing prog
   pub fits : length words ≤ room
-  pub within-4096 : length words ≤ 4096
+  pub within_4096 : length words ≤ 4096
   -- "Words of 16 bits"
   pub small : (i : ℕ) → get_or words i 0 < 65536
   -- every rule stands at a location of the table

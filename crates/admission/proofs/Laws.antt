@@ -11,14 +11,15 @@ use lib.Dec.{eqb}
 use lib.ListN.{length, get_or, get_or-eq_default}
 use borrow.Author.Tests.{eq-eqb, ne_eqb, le-leb, not-false}
 use Rattle.base.specs.Bools.{never}
-use Rattle.base.specs.Common.{if◌then◌else◌, member}
+use Rattle.std.specs.Prelude.{if◌then◌else◌}
+use Rattle.base.specs.Common.{member}
 use Rattle.machine.proofs.Decoded.{of-operation, of_two, of_word}
 use Rattle.machine.proofs.Lengths.{length-rule, length_none, length-operation, length-between, length_above}
-use Rattle.machine.specs.Decode.{fetch, inputAny, return, endChoice, decodeOperation, decodeTwo, decode_one, decodeWord, decodeAt, decode}
-use Rattle.machine.specs.Lengths.{lengthRule, length_of}
-use Rattle.rights.specs.Rights.{bit_of, granted, operationOf, allows, right, lowest, denied, says, admit}
+use Rattle.machine.specs.Decode.{fetch, input_any, return, end_choice, decode_operation, decode_two, decode_one, decode_word, decode_at, decode}
+use Rattle.machine.specs.Lengths.{length_rule, length_of}
+use Rattle.rights.specs.Rights.{bit_of, granted, operation_of, allows, right, lowest, denied, says, admit}
 use Rattle.loading.specs.Taking.{reached, taken}
-use Rattle.admission.specs.Flags.{Flagged, AllFlagged, wrongAt}
+use Rattle.admission.specs.Flags.{Flagged, AllFlagged, wrong_at}
 use Rattle.loader.proofs.Visits.{decode-none, decode-one}
 
 -- The set
@@ -53,80 +54,80 @@ grants-past set op a h = rw (le-leb 256 op a, get_or-eq_default set 0 h) (sym (z
 
 -- The operation
 
-operation-one : (i : ℕ) → operationOf (decodeOperation i) ≡ some i
-unfolding operationOf
-operation-one i = of-operation (λ j. operationOf j ≡ some i) i (λ _. refl) (λ _. refl) (λ _. refl) (λ _. refl)
+operation-one : (i : ℕ) → operation_of (decode_operation i) ≡ some i
+unfolding operation_of
+operation-one i = of-operation (λ j. operation_of j ≡ some i) i (λ _. refl) (λ _. refl) (λ _. refl) (λ _. refl)
 
-two_none : (l i x : ℕ) → operationOf (decodeTwo l i x) ≡ none
-unfolding operationOf
-two_none l i x = of_two (λ j. operationOf j ≡ none) l i x (λ _ _. refl) (λ _ _. refl) (λ _. refl) (λ _. refl) (λ _. refl) (λ _ _ _. refl) (λ _. refl) (λ _. refl) (λ _ _ _. refl) refl
+two_none : (l i x : ℕ) → operation_of (decode_two l i x) ≡ none
+unfolding operation_of
+two_none l i x = of_two (λ j. operation_of j ≡ none) l i x (λ _ _. refl) (λ _ _. refl) (λ _. refl) (λ _. refl) (λ _. refl) (λ _ _ _. refl) (λ _. refl) (λ _. refl) (λ _ _ _. refl) refl
 
 -- an instruction of one word below 256 is 4, 9 or 12
-one_none : (i : ℕ) → i < 256 → length_of i ≡ 1 → operationOf (decode_one i) ≡ none
-unfolding operationOf decode_one lengthRule
+one_none : (i : ℕ) → i < 256 → length_of i ≡ 1 → operation_of (decode_one i) ≡ none
+unfolding operation_of decode_one length_rule
 one_none i h e = elim (dec_le 1 i) [
   | no z ↦ (let d = length_none i (omega arith) in absurd (omega arith))
   | yes a ↦ elim (dec_le i 13) [ no z ↦ (let d = length-between i (omega arith) (omega arith) in absurd (omega arith)) | yes b ↦ inner a b ]
 ]
   where
     go : (p q r : Bool) → ◌≡◌ {A = ℕ} (if p || q || r then 1 else 2) 1
-        → operationOf (if p then inputAny else (if q then return else (if r then endChoice else decodeOperation i))) ≡ none
+        → operation_of (if p then input_any else (if q then return else (if r then end_choice else decode_operation i))) ≡ none
     go true q r d = refl
     go false true r d = refl
     go false false true d = refl
     go false false false d = absurd (omega arith)
 
-    inner : 1 ≤ i → i ≤ 13 → operationOf (if eqb i 4 then inputAny else (if eqb i 9 then return else (if eqb i 12 then endChoice else decodeOperation i))) ≡ none
+    inner : 1 ≤ i → i ≤ 13 → operation_of (if eqb i 4 then input_any else (if eqb i 9 then return else (if eqb i 12 then end_choice else decode_operation i))) ≡ none
     inner a b = go (eqb i 4) (eqb i 9) (eqb i 12) (sym (rule i) ∙ sym (length-rule i a b) ∙ e)
       where
-        rule : (k : ℕ) → lengthRule k ≡ (if eqb k 4 || eqb k 9 || eqb k 12 then 1 else 2)
+        rule : (k : ℕ) → length_rule k ≡ (if eqb k 4 || eqb k 9 || eqb k 12 then 1 else 2)
         rule k = refl
 
-word_none : (l i : ℕ) (o : Option ℕ) → i < 256 → operationOf (decodeWord l i o) ≡ none
-unfolding operationOf
-word_none l i o h = of_word (λ j. operationOf j ≡ none) l i o refl (λ e. one_none i h e) (λ x _. two_none l i x)
+word_none : (l i : ℕ) (o : Option ℕ) → i < 256 → operation_of (decode_word l i o) ≡ none
+unfolding operation_of
+word_none l i o h = of_word (λ j. operation_of j ≡ none) l i o refl (λ e. one_none i h e) (λ x _. two_none l i x)
 
 module _ (T set : List ℕ) (l i : ℕ) (here : fetch T l ≡ some i) where
   right-low : i < 256 → right T set l ≡ true
-  unfolding right decode decodeAt allows
+  unfolding right decode decode_at allows
   right-low h = rw (here, word_none l i (fetch T (suc l)) h)
 
   right-above : 1279 < i → right T set l ≡ true
-  unfolding right operationOf allows
+  unfolding right operation_of allows
   right-above h = rw (decode-none T l i here (length_above i (omega arith)))
 
   right-operation : 256 ≤ i → i ≤ 1279 → right T set l ≡ granted set i
-  unfolding right operationOf allows decode_one
+  unfolding right operation_of allows decode_one
   right-operation a b =
       rw (decode-one T l i here (length-operation i a b), ne_eqb i 4 (λ e. omega arith), ne_eqb i 9 (λ e. omega arith), ne_eqb i 12 (λ e. omega arith), operation-one i)
 
 -- The ways out of `is_wrong`
 
 module _ (T set seen : List ℕ) (l : ℕ) (f : Flagged T seen l) where
-  pub wrong-unseen : get_or seen (l - 1) 0 ≡ 0 → false ≡ wrongAt T set l
-  unfolding wrongAt
+  pub wrong-unseen : get_or seen (l - 1) 0 ≡ 0 → false ≡ wrong_at T set l
+  unfolding wrong_at
   wrong-unseen e = go (member l (reached T)) (sym f.flag ∙ eq-eqb (get_or seen (l - 1) 0) 0 e)
     where
       go : (b : Bool) → not b ≡ true → false ≡ (b && not (right T set l))
       go true d = never d
       go false d = refl
 
-  pub wrong-right : right T set l ≡ true → false ≡ wrongAt T set l
-  unfolding wrongAt
+  pub wrong-right : right T set l ≡ true → false ≡ wrong_at T set l
+  unfolding wrong_at
   wrong-right e = rw e (go (member l (reached T)))
     where
       go : (b : Bool) → false ≡ (b && false)
       go true = refl
       go false = refl
 
-  pub wrong-low : (i : ℕ) → fetch T l ≡ some i → i < 256 → false ≡ wrongAt T set l
+  pub wrong-low : (i : ℕ) → fetch T l ≡ some i → i < 256 → false ≡ wrong_at T set l
   wrong-low i h u = wrong-right (right-low T set l i h u)
 
-  pub wrong-above : (i : ℕ) → fetch T l ≡ some i → 1279 < i → false ≡ wrongAt T set l
+  pub wrong-above : (i : ℕ) → fetch T l ≡ some i → 1279 < i → false ≡ wrong_at T set l
   wrong-above i h u = wrong-right (right-above T set l i h u)
 
-  pub wrong-operation : (i : ℕ) (g : Bool) → fetch T l ≡ some i → (get_or seen (l - 1) 0 ≡ 0 → ⊥) → 256 ≤ i → i ≤ 1279 → g ≡ granted set i → not g ≡ wrongAt T set l
-  unfolding wrongAt
+  pub wrong-operation : (i : ℕ) (g : Bool) → fetch T l ≡ some i → (get_or seen (l - 1) 0 ≡ 0 → ⊥) → 256 ≤ i → i ≤ 1279 → g ≡ granted set i → not g ≡ wrong_at T set l
+  unfolding wrong_at
   wrong-operation i g h ne a b e =
       let m : member l (reached T) ≡ true = not-false (member l (reached T)) (sym f.flag ∙ ne_eqb (get_or seen (l - 1) 0) 0 ne) in
       rw (m, right-operation T set l i h a b, ← e)
@@ -145,15 +146,15 @@ flagged-at T seen size (suc i) a h u =
       flag = rw e (a.flags i (omega (arith, a.size_is)));
     }
 
-pub lowest-on : (T set : List ℕ) (size l r : ℕ) → l ≤ size → wrongAt T set l ≡ false → lowest T set (size + 1 - l) l ≡ r → lowest T set (size + 1 - (l + 1)) (l + 1) ≡ r
-unfolding lowest wrongAt
+pub lowest-on : (T set : List ℕ) (size l r : ℕ) → l ≤ size → wrong_at T set l ≡ false → lowest T set (size + 1 - l) l ≡ r → lowest T set (size + 1 - (l + 1)) (l + 1) ≡ r
+unfolding lowest wrong_at
 lowest-on T set size l r h w e =
     let a : size + 1 - l ≡ suc (size + 1 - suc l) = omega arith in
     let b : l + 1 ≡ suc l = omega arith in
     rw b (rw (a, w) at e)
 
-pub lowest-here : (T set : List ℕ) (size l r : ℕ) → l ≤ size → wrongAt T set l ≡ true → lowest T set (size + 1 - l) l ≡ r → l ≡ r
-unfolding lowest wrongAt
+pub lowest-here : (T set : List ℕ) (size l r : ℕ) → l ≤ size → wrong_at T set l ≡ true → lowest T set (size + 1 - l) l ≡ r → l ≡ r
+unfolding lowest wrong_at
 lowest-here T set size l r h w e = let a : size + 1 - l ≡ suc (size + 1 - (l + 1)) = omega arith in rw (a, w) at e
 
 pub lowest-end : (T set : List ℕ) (size l r : ℕ) → size < l → lowest T set (size + 1 - l) l ≡ r → 0 ≡ r

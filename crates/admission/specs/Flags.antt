@@ -5,8 +5,8 @@ use Rattle.loading.specs.Taking.{reached}
 use Rattle.rights.specs.Rights.{right}
 
 -- an operation at l is reached and not granted
-unfoldable pub wrongAt : List ℕ → List ℕ → ℕ → Bool
-wrongAt T set l = member l (reached T) && not (right T set l)
+unfoldable pub wrong_at : List ℕ → List ℕ → ℕ → Bool
+wrong_at T set l = member l (reached T) && not (right T set l)
 
 -- the flag of location l is right
 pub record Flagged (T seen : List ℕ) (l : ℕ) : Type 0 where
@@ -24,5 +24,5 @@ pub record AllFlagged (T seen : List ℕ) (size : ℕ) : Type 0 where
 
 -- all of this file computes where this is unfolded
 unfoldable pub opened : Unit {0}
-unfolding wrongAt
+unfolding wrong_at
 opened = tt

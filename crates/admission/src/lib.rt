@@ -1,9 +1,9 @@
 // Rights over the operations: whether a table is admitted for the publisher who holds a granted set.
 ghost use Rattle.std.specs.Prelude.{◌≡◌, ◌-◌, ◌^◌, ◌<◌, ◌≤◌};
-ghost use Rattle.loading.specs.File.{load, lentBytes};
+ghost use Rattle.loading.specs.File.{load, lent_bytes};
 ghost use Rattle.machine.specs.Bytes.{count, table_of};
-ghost use Rattle.rights.specs.Rights.{granted, denied, says, admit, admitLoaded, tells};
-ghost use Rattle.admission.specs.Flags.{Flagged, AllFlagged, wrongAt};
+ghost use Rattle.rights.specs.Rights.{granted, denied, says, admit, admit_loaded, tells};
+ghost use Rattle.admission.specs.Flags.{Flagged, AllFlagged, wrong_at};
 
 use base::TABLE_WORDS;
 use machine::FIRST_OPERATION;
@@ -75,7 +75,7 @@ fn grants(set: &[u8], op: usize) -> bool
 // Whether an operation stands at l that can be reached and is not granted.
 fn is_wrong(table: &[u8], set: &[u8], seen: &[u8], l: usize) -> bool
     requires { Flagged (table_of table.now) seen.now l }
-    ensures { result ≡ wrongAt (table_of table.now) set.now l }
+    ensures { result ≡ wrong_at (table_of table.now) set.now l }
 {
     if seen[l - 1] == 0 {
         return false;
@@ -132,8 +132,8 @@ pub fn admits(table: &[u8], set: &[u8]) -> Admission
 
 // A file is loaded into the lent table, and its table admitted or turned away; it stays there where an operation is not granted.
 pub fn load_admitted(file: &[u8], set: &[u8], table: &mut [u8]) -> Outcome
-    ensures location_value { tells result.number result.words result.verdict result.location ≡ admitLoaded set.now (load file.now (count table.old)) }
-    ensures lent { table.new ≡ lentBytes (load file.now (count table.old)) table.old }
+    ensures location_value { tells result.number result.words result.verdict result.location ≡ admit_loaded set.now (load file.now (count table.old)) }
+    ensures lent { table.new ≡ lent_bytes (load file.now (count table.old)) table.old }
 {
     let a = loader::load(file, table);
     if a.number != 0 {

@@ -10,14 +10,14 @@ use Rattle.base.specs.Bools.{never}
 use Rattle.events.specs.Events.{Reason, outside, Io}
 use Rattle.machine.specs.Walk.{going, waiting, stopped, Walk, fresh}
 use Rattle.ownwalk.specs.OwnWalk as rules
-use Rattle.ownwalk.specs.OwnWalk.{Own, on, choosing, own, owns, ownStart}
+use Rattle.ownwalk.specs.OwnWalk.{Own, on, choosing, own, owns, own_start}
 use Rattle.program.proofs.Places.{place-first}
 use Rattle.program.specs.Accepted.{Accepted}
-use Rattle.program.specs.Program.{Rule, ruleOf, body_of}
+use Rattle.program.specs.Program.{Rule, rule_of, body_of}
 use Rattle.program.specs.Table.{place, table}
-use Rattle.agreement.specs.Demand.{eventsOf}
+use Rattle.agreement.specs.Demand.{events_of}
 use Rattle.agreement.proofs.Single.{one, runs}
-use Rattle.agreement.proofs.Lay.{goingAt, inside, At, pend-nil, Rel, rel-on, rel-choosing, rel-stopped}
+use Rattle.agreement.proofs.Lay.{going_at, inside, At, pend-nil, Rel, rel-on, rel-choosing, rel-stopped}
 use Rattle.agreement.proofs.Laid.{program-laid}
 use Rattle.agreement.proofs.Sim.{weight, Running, running-on, running-choosing, Move, no_step, one-step, two_steps, three-steps, move}
 
@@ -31,30 +31,30 @@ not-outside r h e = let z : inside outside ≡ true = rw e at h in never z
 
 -- What follows from it
 
-unfoldable pub ioOf : Own → Io
-ioOf (on q k ps io) = io
-ioOf (choosing v al o q k ps io) = io
-ioOf (rules.stopped r io) = io
-ioOf (rules.nowhere io) = io
+unfoldable pub io_of : Own → Io
+io_of (on q k ps io) = io
+io_of (choosing v al o q k ps io) = io
+io_of (rules.stopped r io) = io
+io_of (rules.nowhere io) = io
 
-running-io : {s : Own} {io : Io} → Running s io → ioOf s ≡ io
-unfolding ioOf
+running-io : {s : Own} {io : Io} → Running s io → io_of s ≡ io
+unfolding io_of
 running-io running-on = refl
 running-io running-choosing = refl
 
-pub same-io : {s : Own} {w : Walk} → Same s w → ioOf s ≡ w.io
-unfolding ioOf
+pub same-io : {s : Own} {w : Walk} → Same s w → io_of s ≡ w.io
+unfolding io_of
 same-io (both-going h e) = running-io h
-same-io (both_stopped r h e f) = ap ioOf e
+same-io (both_stopped r h e f) = ap io_of e
 
-pub events-io : (s : Own) → eventsOf s ≡ (ioOf s).events
-unfolding eventsOf ioOf
+pub events-io : (s : Own) → events_of s ≡ (io_of s).events
+unfolding events_of io_of
 events-io (on q k ps io) = refl
 events-io (choosing v al o q k ps io) = refl
 events-io (rules.stopped r io) = refl
 events-io (rules.nowhere io) = refl
 
-pub same-events : {s : Own} {w : Walk} → Same s w → eventsOf s ≡ w.io.events
+pub same-events : {s : Own} {w : Walk} → Same s w → events_of s ≡ w.io.events
 same-events {s} h = events-io s ∙ ap (λ (io : Io). io.events) (same-io h)
 
 -- the walk over the table has stopped: so have the rules, for the same reason
@@ -82,16 +82,16 @@ never-outside (both_stopped r h e f) g = h cc
 -- Steps of both
 
 module _ (T : List ℕ) (start : ℕ → ℕ) (prog : List Rule) (tokens answers : List ℕ)
-    (laid : (r : ℕ) → r < length prog → At T start prog (ruleOf prog r).valued (body_of prog r) [] (start r)) where
+    (laid : (r : ℕ) → r < length prog → At T start prog (rule_of prog r).valued (body_of prog r) [] (start r)) where
   -- at the place of s; on the way through its next step, with one instruction or two to come; at the place of s but for a jump
   pub data Near (s : Own) (m : Walk) : Type 0 where
     near : Rel T start prog s m → Near s m
-    half : (io : Io) (l : ℕ) (rs : List ℕ) (w p : ℕ) → Running s io → m ≡ goingAt l rs w p io
+    half : (io : Io) (l : ℕ) (rs : List ℕ) (w p : ℕ) → Running s io → m ≡ going_at l rs w p io
         → Rel T start prog (own prog tokens answers s) (one T tokens answers m) → Near s m
-    early : (io : Io) (l : ℕ) (rs : List ℕ) (w p : ℕ) (io' : Io) (l' : ℕ) → Running s io → m ≡ goingAt l rs w p io
-        → Running (own prog tokens answers s) io' → one T tokens answers m ≡ goingAt l' rs w p io'
-        → Rel T start prog (own prog tokens answers s) (one T tokens answers (goingAt l' rs w p io')) → Near s m
-    late : (io : Io) (l : ℕ) (rs : List ℕ) (w p : ℕ) → Running s io → m ≡ goingAt l rs w p io → Rel T start prog s (one T tokens answers m) → Near s m
+    early : (io : Io) (l : ℕ) (rs : List ℕ) (w p : ℕ) (io' : Io) (l' : ℕ) → Running s io → m ≡ going_at l rs w p io
+        → Running (own prog tokens answers s) io' → one T tokens answers m ≡ going_at l' rs w p io'
+        → Rel T start prog (own prog tokens answers s) (one T tokens answers (going_at l' rs w p io')) → Near s m
+    late : (io : Io) (l : ℕ) (rs : List ℕ) (w p : ℕ) → Running s io → m ≡ going_at l rs w p io → Rel T start prog s (one T tokens answers m) → Near s m
 
   pub near_same : {s : Own} {m : Walk} → Near s m → Same s m
   near_same (near (rel-on a p)) = both-going running-on refl
@@ -148,34 +148,34 @@ module _ (T : List ℕ) (start : ℕ → ℕ) (prog : List Rule) (tokens answers
       go ih (no_step h₁ v) = let r = ih m h₁ in (r.0, omega arith, r.2)
       go ih (one-step h₁) = let r = ih (one T tokens answers m) h₁ in (suc r.0, omega arith, r.2)
       go ih (two_steps io l rs w p d e h₁) =
-          let r = ih (one T tokens answers (goingAt l rs w p io)) h₁ in
+          let r = ih (one T tokens answers (going_at l rs w p io)) h₁ in
           (suc (suc r.0), omega arith, rw e r.2)
       go ih (three-steps io l rs w p io' l' d e d' e' h₁) =
-          let r = ih (one T tokens answers (goingAt l' rs w p io')) h₁ in
+          let r = ih (one T tokens answers (going_at l' rs w p io')) h₁ in
           (suc (suc (suc r.0)), omega arith, rw (e, e') r.2)
 
 -- From the first rule's start
 
-begin : (prog : List Rule) (more : List ℕ) (allowance : ℕ) → Accepted prog → Rel (table prog ++ more) (place 1 prog) prog (ownStart prog allowance) (fresh allowance)
-unfolding ownStart fresh
+begin : (prog : List Rule) (more : List ℕ) (allowance : ℕ) → Accepted prog → Rel (table prog ++ more) (place 1 prog) prog (own_start prog allowance) (fresh allowance)
+unfolding own_start fresh
 begin prog more allowance a =
-    let p = rw (place-first 1 prog, a.first) at (program-laid prog more a 0 a.some-rule) in
+    let p = rw (place-first 1 prog, a.first) at (program-laid prog more a 0 a.some_rule) in
     rel-on p pend-nil
 
 -- after any number of instructions both have read and written the same, and have stopped for the same reason or not
 pub agree : (prog : List Rule) (more tokens answers : List ℕ) (allowance : ℕ) → Accepted prog → (k : ℕ)
-    → (j : ℕ) × Same (owns prog tokens answers j (ownStart prog allowance)) (runs (table prog ++ more) tokens answers k (fresh allowance))
+    → (j : ℕ) × Same (owns prog tokens answers j (own_start prog allowance)) (runs (table prog ++ more) tokens answers k (fresh allowance))
 agree prog more tokens answers allowance a k =
     let T = table prog ++ more in
     let laid = program-laid prog more a in
-    let r = all T (place 1 prog) prog tokens answers laid k (ownStart prog allowance) (fresh allowance) (near (begin prog more allowance a)) in
+    let r = all T (place 1 prog) prog tokens answers laid k (own_start prog allowance) (fresh allowance) (near (begin prog more allowance a)) in
     (r.0, near_same T (place 1 prog) prog tokens answers laid r.1)
 
 -- and so after any number of steps of the rules, with at most three times as many instructions
 pub agree-stop : (prog : List Rule) (more tokens answers : List ℕ) (allowance : ℕ) → Accepted prog → (j : ℕ)
-    → (k : ℕ) × (k ≤ 3 * j) × Same (owns prog tokens answers j (ownStart prog allowance)) (runs (table prog ++ more) tokens answers k (fresh allowance))
+    → (k : ℕ) × (k ≤ 3 * j) × Same (owns prog tokens answers j (own_start prog allowance)) (runs (table prog ++ more) tokens answers k (fresh allowance))
 agree-stop prog more tokens answers allowance a j =
     let T = table prog ++ more in
     let laid = program-laid prog more a in
-    let r = ahead T (place 1 prog) prog tokens answers laid j (ownStart prog allowance) (fresh allowance) (begin prog more allowance a) in
+    let r = ahead T (place 1 prog) prog tokens answers laid j (own_start prog allowance) (fresh allowance) (begin prog more allowance a) in
     (r.0, r.1, near_same T (place 1 prog) prog tokens answers laid (near r.2))

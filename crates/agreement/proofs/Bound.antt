@@ -9,13 +9,14 @@ use lib.Dec.{ltb}
 use borrow.Author.Tests.{ltb-true}
 use Rattle.base.specs.Bools.{split}
 use lib.ListN.{length}
-use Rattle.base.specs.Common.{if◌then◌else◌, member, given}
+use Rattle.std.specs.Prelude.{if◌then◌else◌}
+use Rattle.base.specs.Common.{member, given}
 use Rattle.base.specs.Tree.{plain, cycle, choice, done, ◌▸◌, nil, alternative, absent, otherwise}
-use Rattle.events.specs.Events.{Event, output, signal, operation, operationWith, Reason, differs, missing, unlabelled, deep, Io, present, took, wrote, answered, mends, spent, repaired, is}
-use Rattle.finishing.specs.Finishing.{Way, toEnd, toExit, toBack, toGive, toCall, Away, away-exit, away-back, away-give, away-call, far-back, far-give, far_call, Path, path-emit, path-error, path-update, path-updateWith, path-call, path-calls, path-exit, path-back, path-give, path-out, path-in, path-selects, path-labelled, path-otherwise, path-named, path-unnamed, Paths, paths-done, paths-here, paths-later, PathsSome, paths-this, paths-that, PathsFor, for-this, for-that, opens-operation, opens-operationWith, OpensElse, else-token, else-opens, by-give, named, Gives, gives, Passed, passed}
-use Rattle.ownwalk.specs.OwnWalk.{Context, inCycle, inAlternative, inOtherwise, Pending, before, beforeChoice, Own, on, choosing, stopped, nowhere, labelled, labelledBy, chosen, repairedFirst, unmatched, ended, left, gaveBack, nextAnswer, asked, entered, ownPlain, ownChoice, own}
+use Rattle.events.specs.Events.{Event, output, signal, operation, operation_with, Reason, differs, missing, unlabelled, deep, Io, present, took, wrote, answered, mends, spent, repaired, is}
+use Rattle.finishing.specs.Finishing.{Way, to_end, to_exit, to_back, to_give, to_call, Away, away_exit, away_back, away_give, away_call, far_back, far_give, far_call, Path, path_emit, path_error, path_update, path_update_with, path_call, path_calls, path_exit, path_back, path_give, path_out, path_in, path_selects, path_labelled, path_otherwise, path_named, path_unnamed, Paths, paths_done, paths_here, paths_later, PathsSome, paths_this, paths_that, PathsFor, for_this, for_that, opens_operation, opens_operation_with, OpensElse, else_token, else_opens, by_give, named, Gives, gives, Passed, passed}
+use Rattle.ownwalk.specs.OwnWalk.{Context, in_cycle, in_alternative, in_otherwise, Pending, before, before_choice, Own, on, choosing, stopped, nowhere, labelled, labelled_by, chosen, repaired_first, unmatched, ended, left, gave_back, next_answer, asked, entered, own_plain, own_choice, own}
 use Rattle.program.proofs.Bounds.{SmallPlain, SmallSelector}
-use Rattle.program.specs.Program.{Plain, match, any, emit, error, exit, call, back, give, update, updateWith, Selector, byToken, byRule, byOperation, byOperationWith, Act, Acts, Alts, Other, Rule, body_of}
+use Rattle.program.specs.Program.{Plain, match, any, emit, error, exit, call, back, give, update, update_with, Selector, by_token, by_rule, by_operation, by_operation_with, Act, Acts, Alts, Other, Rule, body_of}
 
 -- the rules' own walk goes no further
 pub data Over : Own → Type 0 where
@@ -41,35 +42,35 @@ Uses s t = read_of s + left_of t < read_of t + left_of s
 
 -- The weight of a tree, where a call weighs c and some
 
-unfoldable pub weighPlain : ℕ → Plain → ℕ
-weighPlain c (match t) = 1
-weighPlain c any = 1
-weighPlain c (emit t) = 1
-weighPlain c (error t) = 1
-weighPlain c exit = 1
-weighPlain c (call r) = 2 + c
-weighPlain c back = 1
-weighPlain c (give v) = 1
-weighPlain c (update op) = 1
-weighPlain c (updateWith op v) = 1
+unfoldable pub weigh_plain : ℕ → Plain → ℕ
+weigh_plain c (match t) = 1
+weigh_plain c any = 1
+weigh_plain c (emit t) = 1
+weigh_plain c (error t) = 1
+weigh_plain c exit = 1
+weigh_plain c (call r) = 2 + c
+weigh_plain c back = 1
+weigh_plain c (give v) = 1
+weigh_plain c (update op) = 1
+weigh_plain c (update_with op v) = 1
 
 unfoldable mutual
   pub weigh : ℕ → Act → ℕ
-  weigh c (plain p) = weighPlain c p
+  weigh c (plain p) = weigh_plain c p
   weigh c (cycle b) = 2 * weighs c b + 2
-  weigh c (choice s q o) = 4 + c + weighAlts c q + weighOther c o
+  weigh c (choice s q o) = 4 + c + weigh_alts c q + weigh_other c o
 
   pub weighs : ℕ → Acts → ℕ
   weighs c done = 0
   weighs c (a ▸ q) = weigh c a + weighs c q
 
-  pub weighAlts : ℕ → Alts → ℕ
-  weighAlts c nil = 0
-  weighAlts c (alternative ls b q) = weighs c b + weighAlts c q
+  pub weigh_alts : ℕ → Alts → ℕ
+  weigh_alts c nil = 0
+  weigh_alts c (alternative ls b q) = weighs c b + weigh_alts c q
 
-  pub weighOther : ℕ → Other → ℕ
-  weighOther c absent = 0
-  weighOther c (otherwise b) = weighs c b
+  pub weigh_other : ℕ → Other → ℕ
+  weigh_other c absent = 0
+  weigh_other c (otherwise b) = weighs c b
 
 -- Steps that come to an end, to a read or to a repair
 
@@ -88,13 +89,13 @@ ends_more (suc m) h (ends-step e) = ends-step (ends_more m (omega arith) e)
 -- what a labelled alternative takes, if there is one
 pub data Opt (step : Own → Own) (n : ℕ) (q : Acts) (k : List Context) (ps : List Pending) (io : Io) : Option Acts → Type 0 where
   opt_none : Opt step n q k ps io none
-  opt-some : {b : Acts} → Ends step n (on b (inAlternative q ∷ k) ps io) → Opt step n q k ps io (some b)
+  opt-some : {b : Acts} → Ends step n (on b (in_alternative q ∷ k) ps io) → Opt step n q k ps io (some b)
 
 opt-more : {step : Own → Own} {n : ℕ} {q : Acts} {k : List Context} {ps : List Pending} {io : Io} {f : Option Acts} (m : ℕ) → n ≤ m → Opt step n q k ps io f → Opt step m q k ps io f
 opt-more m h opt_none = opt_none
 opt-more m h (opt-some e) = opt-some (ends_more m h e)
 
-opt-if : {step : Own → Own} {n : ℕ} {q b : Acts} {k : List Context} {ps : List Pending} {io : Io} {f : Option Acts} (t : Bool) → (t ≡ true → Ends step n (on b (inAlternative q ∷ k) ps io))
+opt-if : {step : Own → Own} {n : ℕ} {q b : Acts} {k : List Context} {ps : List Pending} {io : Io} {f : Option Acts} (t : Bool) → (t ≡ true → Ends step n (on b (in_alternative q ∷ k) ps io))
     → Opt step n q k ps io f → Opt step n q k ps io (if t then some b else f)
 opt-if true h e = opt-some (h refl)
 opt-if false h e = e
@@ -134,9 +135,9 @@ module _ {step : Own → Own} where
   test-ends s t r io false e h = step-to s e (ends-over over-stopped)
 
   -- an input choice with no label for the token and no otherwise repairs or is over
-  first_ends : {n : ℕ} (s : Own) (al : Alts) (q : Acts) (k : List Context) (ps : List Pending) (io : Io) → step s ≡ repairedFirst al q k ps io → read_of s ≡ io.read → left_of s ≡ io.allowance
+  first_ends : {n : ℕ} (s : Own) (al : Alts) (q : Acts) (k : List Context) (ps : List Pending) (io : Io) → step s ≡ repaired_first al q k ps io → read_of s ≡ io.read → left_of s ≡ io.allowance
       → 0 < io.allowance → Ends step (suc n) s
-  unfolding repairedFirst repaired wrote spent read_of left_of
+  unfolding repaired_first repaired wrote spent read_of left_of
   first_ends s nil q k ps io e d g l = step-to s e (ends-over over-nowhere)
   first_ends s (alternative [] b al) q k ps io e d g l = step-to s e (ends-over over-nowhere)
   first_ends s (alternative (t ∷ ls) b al) q k ps io e d g l = ends_read {s = s} (rw (e, d, g) (omega arith))
@@ -174,7 +175,7 @@ module _ (prog : List Rule) where
   unfoldable mutual
     pub Tame : Act → Type 0
     Tame (plain p) = SmallPlain (length prog) p
-    Tame (cycle b) = (¬ (Paths prog toEnd b)) × Tames b
+    Tame (cycle b) = (¬ (Paths prog to_end b)) × Tames b
     Tame (choice s q o) = SmallSelector (length prog) s × TameAlts q × TameOther o
 
     pub Tames : Acts → Type 0
@@ -190,11 +191,11 @@ module _ (prog : List Rule) where
     TameOther (otherwise b) = Tames b
 
   gives-passed : {r v : ℕ} → Gives prog r v → Passed prog r
-  gives-passed (gives l x) = passed l by-give x
+  gives-passed (gives l x) = passed l by_give x
 
   for_some : {v : ℕ} {w : Way} {q : Alts} → PathsFor prog v w q → PathsSome prog w q
-  for_some (for-this e x) = paths-this x
-  for_some (for-that x) = paths-that (for_some x)
+  for_some (for_this e x) = paths_this x
+  for_some (for_that x) = paths_that (for_some x)
 
 module _ (prog : List Rule) (tokens answers : List ℕ) where
   abbrev pub EndsIn : ℕ → Own → Type 0
@@ -202,11 +203,11 @@ module _ (prog : List Rule) (tokens answers : List ℕ) where
 
   -- a return without a value and one with it take at most n
   abbrev pub Back : ℕ → List Pending → Type 0
-  Back n ps = ((io : Io) → EndsIn n (ended [] ps io)) × ((v : ℕ) (io : Io) → EndsIn n (gaveBack v ps io))
+  Back n ps = ((io : Io) → EndsIn n (ended [] ps io)) × ((v : ℕ) (io : Io) → EndsIn n (gave_back v ps io))
 
   -- the same where rule r returns quietly, with a value that it can return so
   abbrev pub BackOf : ℕ → ℕ → List Pending → Type 0
-  BackOf r n ps = (Passed prog r → (io : Io) → EndsIn n (ended [] ps io)) × ((v : ℕ) → Gives prog r v → (io : Io) → EndsIn n (gaveBack v ps io))
+  BackOf r n ps = (Passed prog r → (io : Io) → EndsIn n (ended [] ps io)) × ((v : ℕ) → Gives prog r v → (io : Io) → EndsIn n (gave_back v ps io))
 
   -- a call of r takes at most c, and n after it
   abbrev pub RuleEnds : ℕ → ℕ → Type 0
@@ -214,55 +215,55 @@ module _ (prog : List Rule) (tokens answers : List ℕ) where
 
   -- where a path has come to: what follows takes at most n
   unfoldable pub Goal : ℕ → Acts → List Context → List Pending → ℕ → Way → Type 0
-  Goal c q k ps n toEnd = (io : Io) → EndsIn n (on q k ps io)
-  Goal c q k ps n toExit = (io : Io) → EndsIn n (left k ps io)
-  Goal c q k ps n toBack = (io : Io) → EndsIn n (ended [] ps io)
-  Goal c q k ps n (toGive v) = (io : Io) → EndsIn n (gaveBack v ps io)
-  Goal c q k ps n (toCall r) = RuleEnds c r
+  Goal c q k ps n to_end = (io : Io) → EndsIn n (on q k ps io)
+  Goal c q k ps n to_exit = (io : Io) → EndsIn n (left k ps io)
+  Goal c q k ps n to_back = (io : Io) → EndsIn n (ended [] ps io)
+  Goal c q k ps n (to_give v) = (io : Io) → EndsIn n (gave_back v ps io)
+  Goal c q k ps n (to_call r) = RuleEnds c r
 
   module _ (c : ℕ) where
     goal-more : (n m : ℕ) (q : Acts) (k : List Context) (ps : List Pending) (w : Way) → Away w → n ≤ m → Goal c done k ps n w → Goal c q k ps m w
     unfolding Goal
-    goal-more n m q k ps toExit a h e = λ io. ends_more m h (e io)
-    goal-more n m q k ps toBack a h e = λ io. ends_more m h (e io)
-    goal-more n m q k ps (toGive v) a h e = λ io. ends_more m h (e io)
-    goal-more n m q k ps (toCall r) a h e = e
+    goal-more n m q k ps to_exit a h e = λ io. ends_more m h (e io)
+    goal-more n m q k ps to_back a h e = λ io. ends_more m h (e io)
+    goal-more n m q k ps (to_give v) a h e = λ io. ends_more m h (e io)
+    goal-more n m q k ps (to_call r) a h e = e
 
     -- from inside a cycle, an alternative, otherwise
-    pub cycle-goal : (b q : Acts) (k : List Context) (ps : List Pending) (n : ℕ) → ¬ (Paths prog toEnd b) → ((w : Way) → Path prog w (cycle b) → Goal c q k ps n w)
-        → (w : Way) → Paths prog w b → Goal c done (inCycle b q ∷ k) ps n w
+    pub cycle-goal : (b q : Acts) (k : List Context) (ps : List Pending) (n : ℕ) → ¬ (Paths prog to_end b) → ((w : Way) → Path prog w (cycle b) → Goal c q k ps n w)
+        → (w : Way) → Paths prog w b → Goal c done (in_cycle b q ∷ k) ps n w
     unfolding Goal left
-    cycle-goal b q k ps n quiet h toEnd p = absurd (quiet p)
-    cycle-goal b q k ps n quiet h toExit p = h toEnd (path-out p)
-    cycle-goal b q k ps n quiet h toBack p = h toBack (path-in far-back p)
-    cycle-goal b q k ps n quiet h (toGive v) p = h (toGive v) (path-in far-give p)
-    cycle-goal b q k ps n quiet h (toCall r) p = h (toCall r) (path-in far_call p)
+    cycle-goal b q k ps n quiet h to_end p = absurd (quiet p)
+    cycle-goal b q k ps n quiet h to_exit p = h to_end (path_out p)
+    cycle-goal b q k ps n quiet h to_back p = h to_back (path_in far_back p)
+    cycle-goal b q k ps n quiet h (to_give v) p = h (to_give v) (path_in far_give p)
+    cycle-goal b q k ps n quiet h (to_call r) p = h (to_call r) (path_in far_call p)
 
-    alternative-goal : (q : Acts) (k : List Context) (ps : List Pending) (n : ℕ) (w : Way) → Goal c q k ps n w → Goal c done (inAlternative q ∷ k) ps (n + 1) w
+    alternative-goal : (q : Acts) (k : List Context) (ps : List Pending) (n : ℕ) (w : Way) → Goal c q k ps n w → Goal c done (in_alternative q ∷ k) ps (n + 1) w
     unfolding Goal left own ended
-    alternative-goal q k ps n toEnd h = λ io. ends_more _ (omega arith) (ends-step (h io))
-    alternative-goal q k ps n toExit h = λ io. ends_more _ (omega arith) (h io)
-    alternative-goal q k ps n toBack h = λ io. ends_more _ (omega arith) (h io)
-    alternative-goal q k ps n (toGive v) h = λ io. ends_more _ (omega arith) (h io)
-    alternative-goal q k ps n (toCall r) h = h
+    alternative-goal q k ps n to_end h = λ io. ends_more _ (omega arith) (ends-step (h io))
+    alternative-goal q k ps n to_exit h = λ io. ends_more _ (omega arith) (h io)
+    alternative-goal q k ps n to_back h = λ io. ends_more _ (omega arith) (h io)
+    alternative-goal q k ps n (to_give v) h = λ io. ends_more _ (omega arith) (h io)
+    alternative-goal q k ps n (to_call r) h = h
 
-    otherwise-goal : (q : Acts) (k : List Context) (ps : List Pending) (n : ℕ) (w : Way) → Goal c q k ps n w → Goal c done (inOtherwise q ∷ k) ps (n + 1) w
+    otherwise-goal : (q : Acts) (k : List Context) (ps : List Pending) (n : ℕ) (w : Way) → Goal c q k ps n w → Goal c done (in_otherwise q ∷ k) ps (n + 1) w
     unfolding Goal left own ended
-    otherwise-goal q k ps n toEnd h = λ io. ends_more _ (omega arith) (ends-step (h io))
-    otherwise-goal q k ps n toExit h = λ io. ends_more _ (omega arith) (h io)
-    otherwise-goal q k ps n toBack h = λ io. ends_more _ (omega arith) (h io)
-    otherwise-goal q k ps n (toGive v) h = λ io. ends_more _ (omega arith) (h io)
-    otherwise-goal q k ps n (toCall r) h = h
+    otherwise-goal q k ps n to_end h = λ io. ends_more _ (omega arith) (ends-step (h io))
+    otherwise-goal q k ps n to_exit h = λ io. ends_more _ (omega arith) (h io)
+    otherwise-goal q k ps n to_back h = λ io. ends_more _ (omega arith) (h io)
+    otherwise-goal q k ps n (to_give v) h = λ io. ends_more _ (omega arith) (h io)
+    otherwise-goal q k ps n (to_call r) h = h
 
     -- of the first action of a list: to its end, and so to what follows, or away
-    first-goal : (a : Act) (q : Acts) (k : List Context) (ps : List Pending) (n : ℕ) → (Path prog toEnd a → (io : Io) → EndsIn (weighs c q + n) (on q k ps io))
+    first-goal : (a : Act) (q : Acts) (k : List Context) (ps : List Pending) (n : ℕ) → (Path prog to_end a → (io : Io) → EndsIn (weighs c q + n) (on q k ps io))
         → ((w : Way) → Away w → Path prog w a → Goal c done k ps n w) → (w : Way) → Path prog w a → Goal c q k ps (weighs c q + n) w
     unfolding Goal
-    first-goal a q k ps n he ha toEnd p = he p
-    first-goal a q k ps n he ha toExit p = goal-more n (weighs c q + n) q k ps toExit away-exit (omega arith) (ha toExit away-exit p)
-    first-goal a q k ps n he ha toBack p = goal-more n (weighs c q + n) q k ps toBack away-back (omega arith) (ha toBack away-back p)
-    first-goal a q k ps n he ha (toGive v) p = goal-more n (weighs c q + n) q k ps (toGive v) away-give (omega arith) (ha (toGive v) away-give p)
-    first-goal a q k ps n he ha (toCall r) p = ha (toCall r) away-call p
+    first-goal a q k ps n he ha to_end p = he p
+    first-goal a q k ps n he ha to_exit p = goal-more n (weighs c q + n) q k ps to_exit away_exit (omega arith) (ha to_exit away_exit p)
+    first-goal a q k ps n he ha to_back p = goal-more n (weighs c q + n) q k ps to_back away_back (omega arith) (ha to_back away_back p)
+    first-goal a q k ps n he ha (to_give v) p = goal-more n (weighs c q + n) q k ps (to_give v) away_give (omega arith) (ha (to_give v) away_give p)
+    first-goal a q k ps n he ha (to_call r) p = ha (to_call r) away_call p
 
     -- a choice by the value v: x for the labelled alternatives, y for otherwise
     pub choosing-ends : (n x y v : ℕ) (al : Alts) (o : Other) (q : Acts) (k : List Context) (ps : List Pending) → ((io : Io) → Opt (own prog tokens answers) (x + (n + 1)) q k ps io (labelled v al))
@@ -274,81 +275,81 @@ module _ (prog : List Rule) (tokens answers : List ℕ) where
         (λ e. ends_more (1 + x + y + n) (omega arith) (ho e io)))
 
     plain-ends : (p : Plain) (q : Acts) (k : List Context) (ps : List Pending) (n : ℕ) → SmallPlain (length prog) p → ((w : Way) → Path prog w (plain p) → Goal c q k ps n w) → (io : Io)
-        → EndsIn (weighPlain c p + n) (on (plain p ▸ q) k ps io)
-    unfolding weighPlain SmallPlain own ownPlain entered ended gaveBack Goal read_of left_of took repaired wrote spent mends
+        → EndsIn (weigh_plain c p + n) (on (plain p ▸ q) k ps io)
+    unfolding weigh_plain SmallPlain own own_plain entered ended gave_back Goal read_of left_of took repaired wrote spent mends
     plain-ends (match t) q k ps n ok h io =
         ends_more _ (omega arith)
         (required-ends {n = 0} (on (plain (match t) ▸ q) k ps io) (on q k ps (took io)) (on q k ps (repaired t io)) differs io (is t (present tokens io)) (mends io) refl (omega arith)
         (λ l. omega (arith, ltb-true 0 io.allowance l)))
     plain-ends any q k ps n ok h io =
         ends_more _ (omega arith) (read-ends {n = 0} (on (plain any ▸ q) k ps io) (on q k ps (took io)) missing io (given (present tokens io)) refl (omega arith))
-    plain-ends (emit t) q k ps n ok h io = ends_more _ (omega arith) (ends-step (h toEnd path-emit (wrote (output t) io)))
-    plain-ends (error t) q k ps n ok h io = ends_more _ (omega arith) (ends-step (h toEnd path-error (wrote (signal t) io)))
-    plain-ends exit q k ps n ok h io = ends_more _ (omega arith) (ends-step (h toExit path-exit io))
+    plain-ends (emit t) q k ps n ok h io = ends_more _ (omega arith) (ends-step (h to_end path_emit (wrote (output t) io)))
+    plain-ends (error t) q k ps n ok h io = ends_more _ (omega arith) (ends-step (h to_end path_error (wrote (signal t) io)))
+    plain-ends exit q k ps n ok h io = ends_more _ (omega arith) (ends-step (h to_exit path_exit io))
     plain-ends (call r) q k ps n ok h io =
         ends_more _ (omega arith)
         (test-ends (on (plain (call r) ▸ q) k ps io) (on (body_of prog r) [] (before q k ∷ ps) io) deep io (ltb (length ps) 64) refl
-        (h (toCall r) path-calls ok (before q k ∷ ps) n (λ p. h toEnd (path-call p), λ v g. h toEnd (path-call (gives-passed prog g))) io))
-    plain-ends back q k ps n ok h io = ends_more _ (omega arith) (ends-step (h toBack path-back io))
-    plain-ends (give v) q k ps n ok h io = ends_more _ (omega arith) (ends-step (h (toGive v) path-give io))
-    plain-ends (update op) q k ps n ok h io = ends_more _ (omega arith) (ends-step (h toEnd path-update (wrote (operation op) io)))
-    plain-ends (updateWith op v) q k ps n ok h io = ends_more _ (omega arith) (ends-step (h toEnd path-updateWith (wrote (operationWith op v) io)))
+        (h (to_call r) path_calls ok (before q k ∷ ps) n (λ p. h to_end (path_call p), λ v g. h to_end (path_call (gives-passed prog g))) io))
+    plain-ends back q k ps n ok h io = ends_more _ (omega arith) (ends-step (h to_back path_back io))
+    plain-ends (give v) q k ps n ok h io = ends_more _ (omega arith) (ends-step (h (to_give v) path_give io))
+    plain-ends (update op) q k ps n ok h io = ends_more _ (omega arith) (ends-step (h to_end path_update (wrote (operation op) io)))
+    plain-ends (update_with op v) q k ps n ok h io = ends_more _ (omega arith) (ends-step (h to_end path_update_with (wrote (operation_with op v) io)))
 
     mutual
-      unfolding weighs Tame SmallSelector own ownChoice Goal entered ended gaveBack read_of left_of chosen labelled
+      unfolding weighs Tame SmallSelector own own_choice Goal entered ended gave_back read_of left_of chosen labelled
 
       act-ends : (a : Act) (q : Acts) (k : List Context) (ps : List Pending) (n : ℕ) → Tame prog a → ((w : Way) → Path prog w a → Goal c q k ps n w) → (io : Io)
           → EndsIn (weigh c a + n) (on (a ▸ q) k ps io)
       act-ends (plain p) q k ps n ok h io = plain-ends p q k ps n ok h io
       act-ends (cycle b) q k ps n ok h io =
-          ends_more _ (omega arith) (ends-step (acts-ends b (inCycle b q ∷ k) ps n ok.1 (cycle-goal b q k ps n ok.0 h) io))
-      act-ends (choice byToken al o) q k ps n ok h io =
+          ends_more _ (omega arith) (ends-step (acts-ends b (in_cycle b q ∷ k) ps n ok.1 (cycle-goal b q k ps n ok.0 h) io))
+      act-ends (choice by_token al o) q k ps n ok h io =
           ends_more _ (omega arith)
-          (token-ends (on (choice byToken al o ▸ q) k ps io) al o q k ps io (labelledBy (present tokens io) al) refl refl refl
-          (other-ends o byToken al q k ps n differs ok.2 else-token h io (took io)))
-      act-ends (choice (byRule r) al o) q k ps n ok h io =
+          (token-ends (on (choice by_token al o ▸ q) k ps io) al o q k ps io (labelled_by (present tokens io) al) refl refl refl
+          (other-ends o by_token al q k ps n differs ok.2 else_token h io (took io)))
+      act-ends (choice (by_rule r) al o) q k ps n ok h io =
           ends_more _ (omega arith)
-          (test-ends (on (choice (byRule r) al o ▸ q) k ps io) (on (body_of prog r) [] (beforeChoice al o q k ∷ ps) io) deep io (ltb (length ps) 64) refl
-          (h (toCall r) path-selects ok.0 (beforeChoice al o q k ∷ ps) (2 + weighAlts c al + weighOther c o + n) (
+          (test-ends (on (choice (by_rule r) al o ▸ q) k ps io) (on (body_of prog r) [] (before_choice al o q k ∷ ps) io) deep io (ltb (length ps) 64) refl
+          (h (to_call r) path_selects ok.0 (before_choice al o q k ∷ ps) (2 + weigh_alts c al + weigh_other c o + n) (
             λ p io₁. ends-over over-nowhere,
-            λ v g. choosing-ends n (weighAlts c al) (weighOther c o) v al o q k ps (λ io₁. alts-ends al q k ps n v ok.1 (λ w p. h w (path-named g p)) io₁)
+            λ v g. choosing-ends n (weigh_alts c al) (weigh_other c o) v al o q k ps (λ io₁. alts-ends al q k ps n v ok.1 (λ w p. h w (path_named g p)) io₁)
                 (λ e io₁. unnamed-ends o r v al q k ps n unlabelled ok.2 g (unlabelled-unnamed v al e) h io₁ io₁),
           ) io))
-      act-ends (choice (byOperation op) al o) q k ps n ok h io =
+      act-ends (choice (by_operation op) al o) q k ps n ok h io =
           ends_more _ (omega arith)
-          (step-to (on (choice (byOperation op) al o ▸ q) k ps io) refl
-          (asked-ends (nextAnswer answers io) (operation op) al o q k ps io
-          (λ v. choosing-ends n (weighAlts c al) (weighOther c o) v al o q k ps (λ io₁. alts-ends al q k ps n v ok.1 (λ w p. h w (path-labelled opens-operation (for_some prog p))) io₁)
-          (λ e io₁. other-ends o (byOperation op) al q k ps n unlabelled ok.2 (else-opens opens-operation) h io₁ io₁))))
-      act-ends (choice (byOperationWith op u) al o) q k ps n ok h io =
+          (step-to (on (choice (by_operation op) al o ▸ q) k ps io) refl
+          (asked-ends (next_answer answers io) (operation op) al o q k ps io
+          (λ v. choosing-ends n (weigh_alts c al) (weigh_other c o) v al o q k ps (λ io₁. alts-ends al q k ps n v ok.1 (λ w p. h w (path_labelled opens_operation (for_some prog p))) io₁)
+          (λ e io₁. other-ends o (by_operation op) al q k ps n unlabelled ok.2 (else_opens opens_operation) h io₁ io₁))))
+      act-ends (choice (by_operation_with op u) al o) q k ps n ok h io =
           ends_more _ (omega arith)
-          (step-to (on (choice (byOperationWith op u) al o ▸ q) k ps io) refl
-          (asked-ends (nextAnswer answers io) (operationWith op u) al o q k ps io
-          (λ v. choosing-ends n (weighAlts c al) (weighOther c o) v al o q k ps (λ io₁. alts-ends al q k ps n v ok.1 (λ w p. h w (path-labelled opens-operationWith (for_some prog p))) io₁)
-          (λ e io₁. other-ends o (byOperationWith op u) al q k ps n unlabelled ok.2 (else-opens opens-operationWith) h io₁ io₁))))
+          (step-to (on (choice (by_operation_with op u) al o ▸ q) k ps io) refl
+          (asked-ends (next_answer answers io) (operation_with op u) al o q k ps io
+          (λ v. choosing-ends n (weigh_alts c al) (weigh_other c o) v al o q k ps (λ io₁. alts-ends al q k ps n v ok.1 (λ w p. h w (path_labelled opens_operation_with (for_some prog p))) io₁)
+          (λ e io₁. other-ends o (by_operation_with op u) al q k ps n unlabelled ok.2 (else_opens opens_operation_with) h io₁ io₁))))
 
       pub acts-ends : (q : Acts) (k : List Context) (ps : List Pending) (n : ℕ) → Tames prog q → ((w : Way) → Paths prog w q → Goal c done k ps n w) → (io : Io) → EndsIn (weighs c q + n) (on q k ps io)
-      acts-ends done k ps n ok h io = ends_more _ (omega arith) (h toEnd paths-done io)
+      acts-ends done k ps n ok h io = ends_more _ (omega arith) (h to_end paths_done io)
       acts-ends (a ▸ q) k ps n ok h io =
           ends_more _ (omega arith)
           (act-ends a q k ps (weighs c q + n) ok.0
-          (first-goal a q k ps n (λ p io₁. acts-ends q k ps n ok.1 (λ w p₁. h w (paths-later p p₁)) io₁) (λ w x p. h w (paths-here x p))) io)
+          (first-goal a q k ps n (λ p io₁. acts-ends q k ps n ok.1 (λ w p₁. h w (paths_later p p₁)) io₁) (λ w x p. h w (paths_here x p))) io)
 
       pub other-ends : (o : Other) (s : Selector) (al : Alts) (q : Acts) (k : List Context) (ps : List Pending) (n : ℕ) (r : Reason) → TameOther prog o → OpensElse s
-          → ((w : Way) → Path prog w (choice s al o) → Goal c q k ps n w) → (io io' : Io) → EndsIn (weighOther c o + (n + 1)) (chosen none o q k ps (stopped r io) io io')
+          → ((w : Way) → Path prog w (choice s al o) → Goal c q k ps n w) → (io io' : Io) → EndsIn (weigh_other c o + (n + 1)) (chosen none o q k ps (stopped r io) io io')
       other-ends absent s al q k ps n r ok op h io io' = ends-over over-stopped
-      other-ends (otherwise b) s al q k ps n r ok op h io io' = acts-ends b (inOtherwise q ∷ k) ps (n + 1) ok (λ w p. otherwise-goal q k ps n w (h w (path-otherwise op p))) io
+      other-ends (otherwise b) s al q k ps n r ok op h io io' = acts-ends b (in_otherwise q ∷ k) ps (n + 1) ok (λ w p. otherwise-goal q k ps n w (h w (path_otherwise op p))) io
 
       -- where no label names the value that rule r returns
       unnamed-ends : (o : Other) (r v : ℕ) (al : Alts) (q : Acts) (k : List Context) (ps : List Pending) (n : ℕ) (e : Reason) → TameOther prog o → Gives prog r v → named v al ≡ false
-          → ((w : Way) → Path prog w (choice (byRule r) al o) → Goal c q k ps n w) → (io io' : Io) → EndsIn (weighOther c o + (n + 1)) (chosen none o q k ps (stopped e io) io io')
+          → ((w : Way) → Path prog w (choice (by_rule r) al o) → Goal c q k ps n w) → (io io' : Io) → EndsIn (weigh_other c o + (n + 1)) (chosen none o q k ps (stopped e io) io io')
       unnamed-ends absent r v al q k ps n e ok g d h io io' = ends-over over-stopped
-      unnamed-ends (otherwise b) r v al q k ps n e ok g d h io io' = acts-ends b (inOtherwise q ∷ k) ps (n + 1) ok (λ w p. otherwise-goal q k ps n w (h w (path-unnamed g d p))) io
+      unnamed-ends (otherwise b) r v al q k ps n e ok g d h io io' = acts-ends b (in_otherwise q ∷ k) ps (n + 1) ok (λ w p. otherwise-goal q k ps n w (h w (path_unnamed g d p))) io
 
       pub alts-ends : (al : Alts) (q : Acts) (k : List Context) (ps : List Pending) (n v : ℕ) → TameAlts prog al → ((w : Way) → PathsFor prog v w al → Goal c q k ps n w) → (io : Io)
-          → Opt (own prog tokens answers) (weighAlts c al + (n + 1)) q k ps io (labelled v al)
+          → Opt (own prog tokens answers) (weigh_alts c al + (n + 1)) q k ps io (labelled v al)
       alts-ends nil q k ps n v ok h io = opt_none
       alts-ends (alternative ls b al) q k ps n v ok h io =
           opt-if (member v ls)
-          (λ e. ends_more _ (omega arith) (acts-ends b (inAlternative q ∷ k) ps (n + 1) ok.0 (λ w p. alternative-goal q k ps n w (h w (for-this e p))) io))
-          (opt-more _ (omega arith) (alts-ends al q k ps n v ok.1 (λ w p. h w (for-that p)) io))
+          (λ e. ends_more _ (omega arith) (acts-ends b (in_alternative q ∷ k) ps (n + 1) ok.0 (λ w p. alternative-goal q k ps n w (h w (for_this e p))) io))
+          (opt-more _ (omega arith) (alts-ends al q k ps n v ok.1 (λ w p. h w (for_that p)) io))

@@ -8,12 +8,12 @@ use lib.ListN.{length}
 use Rattle.agreement.proofs.Bound.{over-nowhere, weighs, ends-over, ends-step, ends_more, Tame, Tames, TameAlts, TameOther, BackOf, RuleEnds, Goal, acts-ends}
 use Rattle.base.specs.Tree.{plain, cycle, choice, done, ◌▸◌, nil, alternative, absent, otherwise}
 use Rattle.finishing.proofs.Bridge.{Calm, Calms, CalmAlts, CalmOther, Reach, reach-one, reach-more, bound-form}
-use Rattle.finishing.specs.Finishing.{Way, toEnd, toExit, toBack, toGive, toCall, by_end, by-back, Paths, gives, passed, Finishing}
+use Rattle.finishing.specs.Finishing.{Way, to_end, to_exit, to_back, to_give, to_call, by_end, by_back, Paths, gives, passed, Finishing}
 use Rattle.ownwalk.specs.OwnWalk.{Pending, left, own}
 use Rattle.program.proofs.AcceptedWords.{accepted-small}
 use Rattle.program.proofs.Bounds.{Small, Smalls, SmallAlts, SmallOther, SmallProgram, SmallRule}
 use Rattle.program.specs.Accepted.{Accepted}
-use Rattle.program.specs.Program.{Act, Acts, Alts, Other, Rule, ruleOf, body_of}
+use Rattle.program.specs.Program.{Act, Acts, Alts, Other, Rule, rule_of, body_of}
 
 -- Different numbers below n are at most n
 
@@ -68,7 +68,7 @@ total c [] = 0
 total c (b ∷ bs) = weighs c b.body + total c bs
 
 pub total-le : (c : ℕ) (bs : List Rule) (r : ℕ) → weighs c (body_of bs r) ≤ total c bs
-unfolding total weighs body_of ruleOf
+unfolding total weighs body_of rule_of
 total-le c [] r = omega arith
 total-le c (b ∷ bs) zero = omega arith
 total-le c (b ∷ bs) (suc r) = omega (arith, total-le c bs r)
@@ -99,7 +99,7 @@ module _ (prog : List Rule) where
     tame-other absent c s = tt
     tame-other (otherwise b) c s = tames b c s
 
-  reach-on : {v r s : ℕ} → Reach prog v r → r < length prog → Paths prog (toCall s) (body_of prog r) → Reach prog v s
+  reach-on : {v r s : ℕ} → Reach prog v r → r < length prog → Paths prog (to_call s) (body_of prog r) → Reach prog v s
   reach-on (reach-one l c) h d = reach-more l c (reach-one h d)
   reach-on (reach-more l c x) h d = reach-more l c (reach-on x h d)
 
@@ -109,14 +109,14 @@ module _ (prog : List Rule) (ok : Accepted prog) (fin : Finishing prog) where
   tame-rule r l = tames prog (body_of prog r) ((bound-form prog fin).0 r l) (accepted-small prog ok r l)
 
   module _ (tokens answers : List ℕ) where
-    rule-goal : (r i : ℕ) (ps : List Pending) (n : ℕ) → r < length prog → ((s : ℕ) → Paths prog (toCall s) (body_of prog r) → RuleEnds prog tokens answers (costs prog i) s)
+    rule-goal : (r i : ℕ) (ps : List Pending) (n : ℕ) → r < length prog → ((s : ℕ) → Paths prog (to_call s) (body_of prog r) → RuleEnds prog tokens answers (costs prog i) s)
         → BackOf prog tokens answers r n ps → (w : Way) → Paths prog w (body_of prog r) → Goal prog tokens answers (costs prog i) done [] ps (suc n) w
     unfolding Goal own left
-    rule-goal r i ps n l hc hp toEnd p = λ io. ends-step (hp.0 (passed l by_end p) io)
-    rule-goal r i ps n l hc hp toExit p = λ io. ends-over over-nowhere
-    rule-goal r i ps n l hc hp toBack p = λ io. ends_more _ (omega arith) (hp.0 (passed l by-back p) io)
-    rule-goal r i ps n l hc hp (toGive v) p = λ io. ends_more _ (omega arith) (hp.1 v (gives l p) io)
-    rule-goal r i ps n l hc hp (toCall s) p = hc s p
+    rule-goal r i ps n l hc hp to_end p = λ io. ends-step (hp.0 (passed l by_end p) io)
+    rule-goal r i ps n l hc hp to_exit p = λ io. ends-over over-nowhere
+    rule-goal r i ps n l hc hp to_back p = λ io. ends_more _ (omega arith) (hp.0 (passed l by_back p) io)
+    rule-goal r i ps n l hc hp (to_give v) p = λ io. ends_more _ (omega arith) (hp.1 v (gives l p) io)
+    rule-goal r i ps n l hc hp (to_call s) p = hc s p
 
     -- vs: rules met on the way, each of which comes to a call of r
     rule-ends : (i : ℕ) (vs : List ℕ) (r : ℕ) → Distinct (length prog) vs → ((v : ℕ) → Memᴰ v vs → Reach prog v r) → length prog ≤ length vs + i
@@ -129,7 +129,7 @@ module _ (prog : List Rule) (ok : Accepted prog) (fin : Finishing prog) where
         (rule-goal r i ps n l
         (λ s c. rule-ends i (r ∷ vs) s (distinct_cons l (λ m. (bound-form prog fin).1 r (reach r m)) d) (λ v m. met v s c m) (omega arith)) hp) io)
       where
-        met : (v s : ℕ) → Paths prog (toCall s) (body_of prog r) → Memᴰ v (r ∷ vs) → Reach prog v s
+        met : (v s : ℕ) → Paths prog (to_call s) (body_of prog r) → Memᴰ v (r ∷ vs) → Reach prog v s
         met v s c (Memᴰ.head e) = rw e (reach-one l c)
         met v s c (Memᴰ.tail m) = reach-on prog (reach v m) l c
 

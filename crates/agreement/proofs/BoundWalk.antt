@@ -9,27 +9,28 @@ use Prim.Native.Nat.{ℕ, zero, suc, ◌+◌, ◌*◌, ◌≤◌, ◌<◌}
 use lib.Dec.{ltb}
 use lib.ListN.{length, get_elem?}
 use borrow.Author.Tests.{ltb-true}
-use Rattle.agreement.proofs.Bound.{Over, over-stopped, over-nowhere, read_of, left_of, weigh, weighs, weighAlts, weighOther, ends-over, ends_read, ends-step, ends_more, Tame, Tames, TameAlts, TameOther, EndsIn, Back, Goal, cycle-goal, choosing-ends, acts-ends, other-ends, alts-ends}
+use Rattle.agreement.proofs.Bound.{Over, over-stopped, over-nowhere, read_of, left_of, weigh, weighs, weigh_alts, weigh_other, ends-over, ends_read, ends-step, ends_more, Tame, Tames, TameAlts, TameOther, EndsIn, Back, Goal, cycle-goal, choosing-ends, acts-ends, other-ends, alts-ends}
 use Rattle.agreement.proofs.BoundRules.{total, total-le, costs, tame-rule, any-rule}
-use Rattle.base.specs.Common.{if◌then◌else◌, member, given}
+use Rattle.std.specs.Prelude.{if◌then◌else◌}
+use Rattle.base.specs.Common.{member, given}
 use Rattle.base.specs.Tree.{plain, cycle, choice, done, ◌▸◌, nil, alternative, absent, otherwise}
-use Rattle.events.specs.Events.{Event, operation, operationWith, Reason, differs, missing, unlabelled, deep, Io, present, took, wrote, answered, mends, spent, repaired, is}
-use Rattle.finishing.specs.Finishing.{Way, toEnd, toExit, toBack, toGive, toCall, opens-operation, else-opens, Finishing}
-use Rattle.ownwalk.specs.OwnWalk.{Context, inCycle, inAlternative, inOtherwise, Pending, before, beforeChoice, Own, on, choosing, stopped, nowhere, labelled, labelledBy, chosen, repairedFirst, unmatched, ended, left, gaveBack, nextAnswer, asked, entered, ownPlain, ownChoice, own, owns, ownStart}
+use Rattle.events.specs.Events.{Event, operation, operation_with, Reason, differs, missing, unlabelled, deep, Io, present, took, wrote, answered, mends, spent, repaired, is}
+use Rattle.finishing.specs.Finishing.{Way, to_end, to_exit, to_back, to_give, to_call, opens_operation, else_opens, Finishing}
+use Rattle.ownwalk.specs.OwnWalk.{Context, in_cycle, in_alternative, in_otherwise, Pending, before, before_choice, Own, on, choosing, stopped, nowhere, labelled, labelled_by, chosen, repaired_first, unmatched, ended, left, gave_back, next_answer, asked, entered, own_plain, own_choice, own, owns, own_start}
 use Rattle.program.proofs.Bounds.{SmallPlain, SmallSelector}
 use Rattle.program.specs.Accepted.{Accepted}
-use Rattle.program.specs.Program.{Plain, match, any, emit, error, exit, call, back, give, update, updateWith, Selector, byToken, byRule, byOperation, byOperationWith, Act, Acts, Alts, Other, Rule, body_of}
+use Rattle.program.specs.Program.{Plain, match, any, emit, error, exit, call, back, give, update, update_with, Selector, by_token, by_rule, by_operation, by_operation_with, Act, Acts, Alts, Other, Rule, body_of}
 
 -- what a call of any rule takes at most, and all rules with such calls
-unfoldable pub callCost : List Rule → ℕ
-callCost prog = costs prog (length prog)
+unfoldable pub call_cost : List Rule → ℕ
+call_cost prog = costs prog (length prog)
 
-unfoldable pub allRules : List Rule → ℕ
-allRules prog = total (callCost prog) prog + 1
+unfoldable pub all_rules : List Rule → ℕ
+all_rules prog = total (call_cost prog) prog + 1
 
 -- steps between two reads or repairs, at most: all the rules, in each of 65 places
 unfoldable pub most : List Rule → ℕ
-most prog = 65 * allRules prog
+most prog = 65 * all_rules prog
 
 -- steps of the rules' own walk over tokens and an allowance that are t together, at most
 unfoldable pub budget : List Rule → ℕ → ℕ
@@ -39,26 +40,26 @@ budget prog t = most prog + (t + 1) * (most prog + 1)
 
 module _ (prog : List Rule) where
   -- the weight of what is around a place, and of what is behind the pending calls
-  weighAround : List Context → ℕ
-  weighAround [] = 1
-  weighAround (inCycle b r ∷ k) = 1 + weighs (callCost prog) b + weighs (callCost prog) r + weighAround k
-  weighAround (inAlternative r ∷ k) = 1 + weighs (callCost prog) r + weighAround k
-  weighAround (inOtherwise r ∷ k) = 1 + weighs (callCost prog) r + weighAround k
+  weigh_around : List Context → ℕ
+  weigh_around [] = 1
+  weigh_around (in_cycle b r ∷ k) = 1 + weighs (call_cost prog) b + weighs (call_cost prog) r + weigh_around k
+  weigh_around (in_alternative r ∷ k) = 1 + weighs (call_cost prog) r + weigh_around k
+  weigh_around (in_otherwise r ∷ k) = 1 + weighs (call_cost prog) r + weigh_around k
 
-  weighPending : List Pending → ℕ
-  weighPending [] = 0
-  weighPending (before q k ∷ ps) = weighs (callCost prog) q + weighAround k + weighPending ps
-  weighPending (beforeChoice al o q k ∷ ps) = 2 + weighAlts (callCost prog) al + weighOther (callCost prog) o + weighs (callCost prog) q + weighAround k + weighPending ps
+  weigh_pending : List Pending → ℕ
+  weigh_pending [] = 0
+  weigh_pending (before q k ∷ ps) = weighs (call_cost prog) q + weigh_around k + weigh_pending ps
+  weigh_pending (before_choice al o q k ∷ ps) = 2 + weigh_alts (call_cost prog) al + weigh_other (call_cost prog) o + weighs (call_cost prog) q + weigh_around k + weigh_pending ps
 
   -- a place of the program: tame, and no heavier than all rules
   pub data Fits : Acts → List Context → Type 0 where
-    fits-rule : {q : Acts} → Tames prog q → weighs (callCost prog) q + 1 ≤ allRules prog → Fits q []
-    fits-cycle : {q b r : Acts} {k : List Context} → Tames prog q → weighs (callCost prog) q ≤ weighs (callCost prog) b → Fits (cycle b ▸ r) k → Fits q (inCycle b r ∷ k)
-    fits-alternative : {q r : Acts} {k : List Context} (a : Act) → Tames prog q → weighs (callCost prog) q + 1 ≤ weigh (callCost prog) a → Fits (a ▸ r) k → Fits q (inAlternative r ∷ k)
-    fits-otherwise : {q r : Acts} {k : List Context} (a : Act) → Tames prog q → weighs (callCost prog) q + 1 ≤ weigh (callCost prog) a → Fits (a ▸ r) k → Fits q (inOtherwise r ∷ k)
+    fits-rule : {q : Acts} → Tames prog q → weighs (call_cost prog) q + 1 ≤ all_rules prog → Fits q []
+    fits-cycle : {q b r : Acts} {k : List Context} → Tames prog q → weighs (call_cost prog) q ≤ weighs (call_cost prog) b → Fits (cycle b ▸ r) k → Fits q (in_cycle b r ∷ k)
+    fits-alternative : {q r : Acts} {k : List Context} (a : Act) → Tames prog q → weighs (call_cost prog) q + 1 ≤ weigh (call_cost prog) a → Fits (a ▸ r) k → Fits q (in_alternative r ∷ k)
+    fits-otherwise : {q r : Acts} {k : List Context} (a : Act) → Tames prog q → weighs (call_cost prog) q + 1 ≤ weigh (call_cost prog) a → Fits (a ▸ r) k → Fits q (in_otherwise r ∷ k)
 
-  fits_le : {q : Acts} {k : List Context} → Fits q k → weighs (callCost prog) q + weighAround k ≤ allRules prog
-  unfolding weighAround weighs
+  fits_le : {q : Acts} {k : List Context} → Fits q k → weighs (call_cost prog) q + weigh_around k ≤ all_rules prog
+  unfolding weigh_around weighs
   fits_le (fits-rule o h) = h
   fits_le (fits-cycle o h f) = omega (arith, fits_le f)
   fits_le (fits-alternative a o h f) = omega (arith, fits_le f)
@@ -70,7 +71,7 @@ module _ (prog : List Rule) where
   fits-tame (fits-alternative a o h f) = o
   fits-tame (fits-otherwise a o h f) = o
 
-  fits-less : {q q₁ : Acts} {k : List Context} → Tames prog q₁ → weighs (callCost prog) q₁ ≤ weighs (callCost prog) q → Fits q k → Fits q₁ k
+  fits-less : {q q₁ : Acts} {k : List Context} → Tames prog q₁ → weighs (call_cost prog) q₁ ≤ weighs (call_cost prog) q → Fits q k → Fits q₁ k
   fits-less o l (fits-rule x h) = fits-rule o (omega arith)
   fits-less o l (fits-cycle x h f) = fits-cycle o (le_trans l h) f
   fits-less o l (fits-alternative a x h f) = fits-alternative a o (omega arith) f
@@ -79,16 +80,16 @@ module _ (prog : List Rule) where
   pub fits-rest : {a : Act} {q : Acts} {k : List Context} → Fits (a ▸ q) k → Fits q k
   unfolding Tame weighs
   fits-rest {a} {q} f =
-      let h : weighs (callCost prog) q ≤ weighs (callCost prog) (a ▸ q) = omega arith in
+      let h : weighs (call_cost prog) q ≤ weighs (call_cost prog) (a ▸ q) = omega arith in
       fits-less (fits-tame f).1 h f
 
   pub data Waits : List Pending → Type 0 where
     waits-nil : Waits []
     waits-before : {q : Acts} {k : List Context} {ps : List Pending} → Fits q k → Waits ps → Waits (before q k ∷ ps)
-    waits-choice : {al : Alts} {o : Other} {q : Acts} {k : List Context} {ps : List Pending} (s : Selector) → Fits (choice s al o ▸ q) k → Waits ps → Waits (beforeChoice al o q k ∷ ps)
+    waits-choice : {al : Alts} {o : Other} {q : Acts} {k : List Context} {ps : List Pending} (s : Selector) → Fits (choice s al o ▸ q) k → Waits ps → Waits (before_choice al o q k ∷ ps)
 
-  waits-le : {ps : List Pending} → Waits ps → weighPending ps ≤ length ps * allRules prog
-  unfolding weighPending weighs
+  waits-le : {ps : List Pending} → Waits ps → weigh_pending ps ≤ length ps * all_rules prog
+  unfolding weigh_pending weighs
   waits-le waits-nil = omega arith
   waits-le (waits-before f w) = omega (arith, fits_le f, waits-le w)
   waits-le (waits-choice s f w) = omega (arith, fits_le f, waits-le w)
@@ -111,101 +112,101 @@ module _ (prog : List Rule) where
 module _ (prog : List Rule) (ok : Accepted prog) (fin : Finishing prog) (tokens answers : List ℕ) where
   -- what follows a place takes, from the end of its list, from an exit, from a return
   record After (k : List Context) (ps : List Pending) (n : ℕ) : Type 0 where
-    at-end : (io : Io) → EndsIn prog tokens answers n (on done k ps io)
+    at_end : (io : Io) → EndsIn prog tokens answers n (on done k ps io)
     at_exit : (io : Io) → EndsIn prog tokens answers n (left k ps io)
     at_return : Back prog tokens answers n ps
 
   back_more : (n m : ℕ) (ps : List Pending) → n ≤ m → Back prog tokens answers n ps → Back prog tokens answers m ps
   back_more n m ps h r = (λ io. ends_more m h (r.0 io), λ v io. ends_more m h (r.1 v io))
 
-  rule-costs : (q : Acts) (k : List Context) (ps : List Pending) (n r : ℕ) → Goal prog tokens answers (callCost prog) q k ps n (toCall r)
-  unfolding callCost Goal
+  rule-costs : (q : Acts) (k : List Context) (ps : List Pending) (n r : ℕ) → Goal prog tokens answers (call_cost prog) q k ps n (to_call r)
+  unfolding call_cost Goal
   rule-costs q k ps n r = any-rule prog ok fin tokens answers r
 
-  after-goal : {k : List Context} {ps : List Pending} {n : ℕ} → After k ps n → (w : Way) → Goal prog tokens answers (callCost prog) done k ps n w
+  after-goal : {k : List Context} {ps : List Pending} {n : ℕ} → After k ps n → (w : Way) → Goal prog tokens answers (call_cost prog) done k ps n w
   unfolding Goal
-  after-goal a toEnd = a.at-end
-  after-goal a toExit = a.at_exit
-  after-goal a toBack = a.at_return.0
-  after-goal a (toGive v) = a.at_return.1 v
-  after-goal {k} {ps} {n} a (toCall r) = rule-costs done k ps n r
+  after-goal a to_end = a.at_end
+  after-goal a to_exit = a.at_exit
+  after-goal a to_back = a.at_return.0
+  after-goal a (to_give v) = a.at_return.1 v
+  after-goal {k} {ps} {n} a (to_call r) = rule-costs done k ps n r
 
-  list-ends : (q : Acts) (k : List Context) (ps : List Pending) (n : ℕ) → Tames prog q → After k ps n → (io : Io) → EndsIn prog tokens answers (weighs (callCost prog) q + n) (on q k ps io)
-  list-ends q k ps n o h = acts-ends prog tokens answers (callCost prog) q k ps n o (λ w p. after-goal h w)
+  list-ends : (q : Acts) (k : List Context) (ps : List Pending) (n : ℕ) → Tames prog q → After k ps n → (io : Io) → EndsIn prog tokens answers (weighs (call_cost prog) q + n) (on q k ps io)
+  list-ends q k ps n o h = acts-ends prog tokens answers (call_cost prog) q k ps n o (λ w p. after-goal h w)
 
   -- the same from in front of what is left of the list
-  next-goal : (q : Acts) {k : List Context} {ps : List Pending} {n : ℕ} → Tames prog q → After k ps n → (w : Way) → Goal prog tokens answers (callCost prog) q k ps (weighs (callCost prog) q + n) w
+  next-goal : (q : Acts) {k : List Context} {ps : List Pending} {n : ℕ} → Tames prog q → After k ps n → (w : Way) → Goal prog tokens answers (call_cost prog) q k ps (weighs (call_cost prog) q + n) w
   unfolding Goal
-  next-goal q {k} {ps} {n} o h toEnd = list-ends q k ps n o h
-  next-goal q o h toExit = λ io. ends_more _ (omega arith) (h.at_exit io)
-  next-goal q o h toBack = λ io. ends_more _ (omega arith) (h.at_return.0 io)
-  next-goal q o h (toGive v) = λ io. ends_more _ (omega arith) (h.at_return.1 v io)
-  next-goal q {k} {ps} {n} o h (toCall r) = rule-costs q k ps (weighs (callCost prog) q + n) r
+  next-goal q {k} {ps} {n} o h to_end = list-ends q k ps n o h
+  next-goal q o h to_exit = λ io. ends_more _ (omega arith) (h.at_exit io)
+  next-goal q o h to_back = λ io. ends_more _ (omega arith) (h.at_return.0 io)
+  next-goal q o h (to_give v) = λ io. ends_more _ (omega arith) (h.at_return.1 v io)
+  next-goal q {k} {ps} {n} o h (to_call r) = rule-costs q k ps (weighs (call_cost prog) q + n) r
 
   choose-ends : (al : Alts) (o : Other) (q : Acts) (k : List Context) (ps : List Pending) (n : ℕ) → TameAlts prog al → TameOther prog o → Tames prog q → After k ps n → (v : ℕ) (io : Io)
-      → EndsIn prog tokens answers (2 + weighAlts (callCost prog) al + weighOther (callCost prog) o + (weighs (callCost prog) q + n)) (choosing v al o q k ps io)
+      → EndsIn prog tokens answers (2 + weigh_alts (call_cost prog) al + weigh_other (call_cost prog) o + (weighs (call_cost prog) q + n)) (choosing v al o q k ps io)
   choose-ends al o q k ps n ca co cq h v =
-      let m = weighs (callCost prog) q + n in
-      choosing-ends prog tokens answers (callCost prog) m (weighAlts (callCost prog) al) (weighOther (callCost prog) o) v al o q k ps
-      (alts-ends prog tokens answers (callCost prog) al q k ps m v ca (λ w p. next-goal q cq h w))
-      (λ e io. other-ends prog tokens answers (callCost prog) o (byOperation 0) al q k ps m unlabelled co (else-opens opens-operation) (λ w p. next-goal q cq h w) io io)
+      let m = weighs (call_cost prog) q + n in
+      choosing-ends prog tokens answers (call_cost prog) m (weigh_alts (call_cost prog) al) (weigh_other (call_cost prog) o) v al o q k ps
+      (alts-ends prog tokens answers (call_cost prog) al q k ps m v ca (λ w p. next-goal q cq h w))
+      (λ e io. other-ends prog tokens answers (call_cost prog) o (by_operation 0) al q k ps m unlabelled co (else_opens opens_operation) (λ w p. next-goal q cq h w) io io)
 
-  past : {q : Acts} {k : List Context} (ps : List Pending) (n : ℕ) → Fits prog q k → Back prog tokens answers n ps → After k ps (weighAround prog k + n)
-  unfolding left own ended weighAround Tame
+  past : {q : Acts} {k : List Context} (ps : List Pending) (n : ℕ) → Fits prog q k → Back prog tokens answers n ps → After k ps (weigh_around prog k + n)
+  unfolding left own ended weigh_around Tame
   past ps n (fits-rule o h) hb = record {
-    at-end = λ io. ends_more _ (omega arith) (ends-step (hb.0 io));
+    at_end = λ io. ends_more _ (omega arith) (ends-step (hb.0 io));
     at_exit = λ io. ends-over over-nowhere;
     at_return = back_more n (1 + n) ps (omega arith) hb;
   }
   past ps n (fits-cycle {b = b} {r = r} {k = k} o h f) hb =
       let a = past ps n f hb in
       let t = fits-tame prog f in
-      let m = weighs (callCost prog) r + (weighAround prog k + n) in
+      let m = weighs (call_cost prog) r + (weigh_around prog k + n) in
       record {
-        at-end = λ io. ends_more _ (omega arith)
+        at_end = λ io. ends_more _ (omega arith)
             (ends-step
-            (acts-ends prog tokens answers (callCost prog) b (inCycle b r ∷ k) ps m t.0.1
-            (cycle-goal prog tokens answers (callCost prog) b r k ps m t.0.0 (λ w p. next-goal r t.1 a w)) io));
-        at_exit = λ io. ends_more _ (omega arith) (list-ends r k ps (weighAround prog k + n) t.1 a io);
+            (acts-ends prog tokens answers (call_cost prog) b (in_cycle b r ∷ k) ps m t.0.1
+            (cycle-goal prog tokens answers (call_cost prog) b r k ps m t.0.0 (λ w p. next-goal r t.1 a w)) io));
+        at_exit = λ io. ends_more _ (omega arith) (list-ends r k ps (weigh_around prog k + n) t.1 a io);
         at_return = back_more n _ ps (omega arith) hb;
       }
   past ps n (fits-alternative {r = r} {k = k} a₁ o h f) hb =
       let a = past ps n f hb in
       record {
-        at-end = λ io. ends_more _ (omega arith) (ends-step (list-ends r k ps (weighAround prog k + n) (fits-tame prog f).1 a io));
+        at_end = λ io. ends_more _ (omega arith) (ends-step (list-ends r k ps (weigh_around prog k + n) (fits-tame prog f).1 a io));
         at_exit = λ io. ends_more _ (omega arith) (a.at_exit io);
         at_return = back_more n _ ps (omega arith) hb;
       }
   past ps n (fits-otherwise {r = r} {k = k} a₁ o h f) hb =
       let a = past ps n f hb in
       record {
-        at-end = λ io. ends_more _ (omega arith) (ends-step (list-ends r k ps (weighAround prog k + n) (fits-tame prog f).1 a io));
+        at_end = λ io. ends_more _ (omega arith) (ends-step (list-ends r k ps (weigh_around prog k + n) (fits-tame prog f).1 a io));
         at_exit = λ io. ends_more _ (omega arith) (a.at_exit io);
         at_return = back_more n _ ps (omega arith) hb;
       }
 
-  waits-ends : {ps : List Pending} → Waits prog ps → Back prog tokens answers (weighPending prog ps) ps
-  unfolding weighPending ended gaveBack Tame
+  waits-ends : {ps : List Pending} → Waits prog ps → Back prog tokens answers (weigh_pending prog ps) ps
+  unfolding weigh_pending ended gave_back Tame
   waits-ends waits-nil = (λ io. ends-over over-stopped, λ v io. ends-over over-stopped)
   waits-ends (waits-before {q = q} {k = k} {ps = ps} f w) =
-      let m = weighAround prog k + weighPending prog ps in
-      let h : (io : Io) → EndsIn prog tokens answers (weighs (callCost prog) q + m) (on q k ps io) = list-ends q k ps m (fits-tame prog f) (past ps (weighPending prog ps) f (waits-ends w)) in
+      let m = weigh_around prog k + weigh_pending prog ps in
+      let h : (io : Io) → EndsIn prog tokens answers (weighs (call_cost prog) q + m) (on q k ps io) = list-ends q k ps m (fits-tame prog f) (past ps (weigh_pending prog ps) f (waits-ends w)) in
       (λ io. ends_more _ (omega arith) (h io), λ v io. ends_more _ (omega arith) (h io))
   waits-ends (waits-choice {al = al} {o = o} {q = q} {k = k} {ps = ps} s f w) =
       let t = fits-tame prog f in
-      let m = weighAround prog k + weighPending prog ps in
-      (λ io. ends-over over-nowhere, λ v io. ends_more _ (omega arith) (choose-ends al o q k ps m t.0.1 t.0.2 t.1 (past ps (weighPending prog ps) f (waits-ends w)) v io))
+      let m = weigh_around prog k + weigh_pending prog ps in
+      (λ io. ends-over over-nowhere, λ v io. ends_more _ (omega arith) (choose-ends al o q k ps m t.0.1 t.0.2 t.1 (past ps (weigh_pending prog ps) f (waits-ends w)) v io))
 
   good-ends : {s : Own} → Good prog (length tokens) s → EndsIn prog tokens answers (most prog) s
   unfolding most weighs Tame
   good-ends (good-over x) = ends-over x
   good-ends (good-on {q = q} {k = k} {ps = ps} {io = io} f w) =
-      ends_more _ (omega (arith, fits_le prog f, waits-le prog w.waits, mul-le-mul_right (allRules prog) w.few))
-      (list-ends q k ps (weighAround prog k + weighPending prog ps) (fits-tame prog f) (past ps (weighPending prog ps) f (waits-ends w.waits)) io)
+      ends_more _ (omega (arith, fits_le prog f, waits-le prog w.waits, mul-le-mul_right (all_rules prog) w.few))
+      (list-ends q k ps (weigh_around prog k + weigh_pending prog ps) (fits-tame prog f) (past ps (weigh_pending prog ps) f (waits-ends w.waits)) io)
   good-ends (good-choosing {v = v} {al = al} {o = o} {q = q} {k = k} {ps = ps} {io = io} s f w) =
       let t = fits-tame prog f in
-      ends_more _ (omega (arith, fits_le prog f, waits-le prog w.waits, mul-le-mul_right (allRules prog) w.few))
-      (choose-ends al o q k ps (weighAround prog k + weighPending prog ps) t.0.1 t.0.2 t.1 (past ps (weighPending prog ps) f (waits-ends w.waits)) v io)
+      ends_more _ (omega (arith, fits_le prog f, waits-le prog w.waits, mul-le-mul_right (all_rules prog) w.few))
+      (choose-ends al o q k ps (weigh_around prog k + weigh_pending prog ps) t.0.1 t.0.2 t.1 (past ps (weigh_pending prog ps) f (waits-ends w.waits)) v io)
 
 -- A step leads from such a state to such a state; it unreads nothing, and gives no allowance back
 
@@ -224,13 +225,13 @@ unfolding is
 is-given t none h = h
 is-given t (some u) h = refl
 
-picked : (prog : List Rule) (u : ℕ) (al : Alts) (b : Acts) → TameAlts prog al → labelled u al ≡ some b → Tames prog b × (weighs (callCost prog) b ≤ weighAlts (callCost prog) al)
+picked : (prog : List Rule) (u : ℕ) (al : Alts) (b : Acts) → TameAlts prog al → labelled u al ≡ some b → Tames prog b × (weighs (call_cost prog) b ≤ weigh_alts (call_cost prog) al)
 unfolding labelled Tame weighs
 picked prog u nil b o h = let z : ◌≡◌ {A = ℕ} 0 1 = cc in absurd (omega arith)
 picked prog u (alternative ls d al) b o h = go (member u ls) (λ e. picked prog u al b o.1 e) h
   where
-    go : (t : Bool) → (labelled u al ≡ some b → Tames prog b × (weighs (callCost prog) b ≤ weighAlts (callCost prog) al)) → (if t then some d else labelled u al) ≡ some b
-        → Tames prog b × (weighs (callCost prog) b ≤ weighs (callCost prog) d + weighAlts (callCost prog) al)
+    go : (t : Bool) → (labelled u al ≡ some b → Tames prog b × (weighs (call_cost prog) b ≤ weigh_alts (call_cost prog) al)) → (if t then some d else labelled u al) ≡ some b
+        → Tames prog b × (weighs (call_cost prog) b ≤ weighs (call_cost prog) d + weigh_alts (call_cost prog) al)
     go true ih e =
         let p : d ≡ b = cc in
         (rw p at o.0, rw p (omega arith))
@@ -274,8 +275,8 @@ module _ (prog : List Rule) (ok : Accepted prog) (fin : Finishing prog) (tokens 
   back-kept ps io (waits-before f w) h = on-kept io f (sits_on h w)
   back-kept ps io (waits-choice s f w) h = nowhere-kept io
 
-  gave_kept : (v : ℕ) (ps : List Pending) (io : Io) → Waits prog ps → Here io ps → Kept io.read io.allowance (gaveBack v ps io)
-  unfolding gaveBack read_of left_of
+  gave_kept : (v : ℕ) (ps : List Pending) (io : Io) → Waits prog ps → Here io ps → Kept io.read io.allowance (gave_back v ps io)
+  unfolding gave_back read_of left_of
   gave_kept v ps io waits-nil h = stopped-kept _ io
   gave_kept v ps io (waits-before f w) h = on-kept io f (sits_on h w)
   gave_kept v ps io (waits-choice s f w) h = record { good = good-choosing s f (sits_on h w); onward = le_refl _ }
@@ -311,21 +312,21 @@ module _ (prog : List Rule) (ok : Accepted prog) (fin : Finishing prog) (tokens 
   required-kept t io false false h f w = stopped-kept differs io
 
   -- an input choice with no label for the token and no otherwise
-  first-kept : (al : Alts) (o : Other) (q : Acts) (k : List Context) (ps : List Pending) (io : Io) → Fits prog (choice byToken al o ▸ q) k → Here io ps
-      → Kept io.read io.allowance (repairedFirst al q k ps io)
-  unfolding repairedFirst Tame weighs
+  first-kept : (al : Alts) (o : Other) (q : Acts) (k : List Context) (ps : List Pending) (io : Io) → Fits prog (choice by_token al o ▸ q) k → Here io ps
+      → Kept io.read io.allowance (repaired_first al q k ps io)
+  unfolding repaired_first Tame weighs
   first-kept nil o q k ps io f w = nowhere-kept io
   first-kept (alternative [] b al) o q k ps io f w = nowhere-kept io
   first-kept (alternative (t ∷ ls) b al) o q k ps io f w =
-      let h : weighs (callCost prog) b + 1 ≤ weigh (callCost prog) (choice byToken (alternative (t ∷ ls) b al) o) = omega arith in
-      repaired-kept t io (fits-alternative (choice byToken (alternative (t ∷ ls) b al) o) (fits-tame prog f).0.1.0 h f) w
+      let h : weighs (call_cost prog) b + 1 ≤ weigh (call_cost prog) (choice by_token (alternative (t ∷ ls) b al) o) = omega arith in
+      repaired-kept t io (fits-alternative (choice by_token (alternative (t ∷ ls) b al) o) (fits-tame prog f).0.1.0 h f) w
 
-  unmatched-kept : (al : Alts) (o : Other) (q : Acts) (k : List Context) (ps : List Pending) (io : Io) → Fits prog (choice byToken al o ▸ q) k → Here io ps
+  unmatched-kept : (al : Alts) (o : Other) (q : Acts) (k : List Context) (ps : List Pending) (io : Io) → Fits prog (choice by_token al o ▸ q) k → Here io ps
       → Kept io.read io.allowance (unmatched al q k ps io)
   unfolding unmatched
   unmatched-kept al o q k ps io f w = go (mends io)
     where
-      go : (b : Bool) → Kept io.read io.allowance (if b then repairedFirst al q k ps io else stopped differs io)
+      go : (b : Bool) → Kept io.read io.allowance (if b then repaired_first al q k ps io else stopped differs io)
       go true = first-kept al o q k ps io f w
       go false = stopped-kept differs io
 
@@ -335,7 +336,7 @@ module _ (prog : List Rule) (ok : Accepted prog) (fin : Finishing prog) (tokens 
   unfolding chosen Tame weighs
   other-kept s al absent q k ps x io io' n f w = n
   other-kept s al (otherwise b) q k ps x io io' n f w =
-      let h : weighs (callCost prog) b + 1 ≤ weigh (callCost prog) (choice s al (otherwise b)) = omega arith in
+      let h : weighs (call_cost prog) b + 1 ≤ weigh (call_cost prog) (choice s al (otherwise b)) = omega arith in
       on-kept io (fits-otherwise (choice s al (otherwise b)) (fits-tame prog f).0.2 h f) w
 
   chosen-kept : (s : Selector) (al : Alts) (o : Other) (q : Acts) (k : List Context) (ps : List Pending) (z : Own) (io io' : Io) (u : ℕ) (x : Option Acts) → Kept io.read io.allowance z → labelled u al ≡ x
@@ -345,15 +346,15 @@ module _ (prog : List Rule) (ok : Accepted prog) (fin : Finishing prog) (tokens 
   chosen-kept s al o q k ps z io io' u none n p y f w w' = other-kept s al o q k ps z io io' n f w
   chosen-kept s al o q k ps z io io' u (some b) n p y f w w' =
       let c = picked prog u al b (fits-tame prog f).0.1 p in
-      let h : weighs (callCost prog) b + 1 ≤ weigh (callCost prog) (choice s al o) = omega (arith, c.1) in
+      let h : weighs (call_cost prog) b + 1 ≤ weigh (call_cost prog) (choice s al o) = omega (arith, c.1) in
       record { good = good-on (fits-alternative (choice s al o) c.0 h f) w'; onward = y }
 
-  token-kept : (al : Alts) (o : Other) (q : Acts) (k : List Context) (ps : List Pending) (io : Io) (v : Option ℕ) → present tokens io ≡ v → Fits prog (choice byToken al o ▸ q) k → Here io ps
-      → Kept io.read io.allowance (chosen (labelledBy v al) o q k ps (unmatched al q k ps io) io (took io))
-  unfolding labelledBy took
-  token-kept al o q k ps io none e f w = other-kept byToken al o q k ps (unmatched al q k ps io) io (took io) (unmatched-kept al o q k ps io f w) f w
+  token-kept : (al : Alts) (o : Other) (q : Acts) (k : List Context) (ps : List Pending) (io : Io) (v : Option ℕ) → present tokens io ≡ v → Fits prog (choice by_token al o ▸ q) k → Here io ps
+      → Kept io.read io.allowance (chosen (labelled_by v al) o q k ps (unmatched al q k ps io) io (took io))
+  unfolding labelled_by took
+  token-kept al o q k ps io none e f w = other-kept by_token al o q k ps (unmatched al q k ps io) io (took io) (unmatched-kept al o q k ps io f w) f w
   token-kept al o q k ps io (some u) e f w =
-      chosen-kept byToken al o q k ps (unmatched al q k ps io) io (took io) u (labelled u al) (unmatched-kept al o q k ps io f w) refl (omega arith) f w (sits-took io w (rw e))
+      chosen-kept by_token al o q k ps (unmatched al q k ps io) io (took io) u (labelled u al) (unmatched-kept al o q k ps io f w) refl (omega arith) f w (sits-took io w (rw e))
 
   asked-kept : (s : Selector) (al : Alts) (o : Other) (q : Acts) (k : List Context) (ps : List Pending) (io : Io) (e : Event) (a : Option ℕ) → Fits prog (choice s al o ▸ q) k → Here io ps
       → Kept io.read io.allowance (asked a e al o q k ps io)
@@ -363,15 +364,15 @@ module _ (prog : List Rule) (ok : Accepted prog) (fin : Finishing prog) (tokens 
 
   entered-kept : (r : ℕ) (p : Pending) (ps : List Pending) (io : Io) (b : Bool) → ltb (length ps) 64 ≡ b → r < length prog → Waits prog (p ∷ ps) → Here io ps
       → Kept io.read io.allowance (if b then on (body_of prog r) [] (p ∷ ps) io else stopped deep io)
-  unfolding allRules
+  unfolding all_rules
   entered-kept r p ps io true e l x w =
-      let h : weighs (callCost prog) (body_of prog r) + 1 ≤ total (callCost prog) prog + 1 = omega (arith, total-le (callCost prog) prog r) in
+      let h : weighs (call_cost prog) (body_of prog r) + 1 ≤ total (call_cost prog) prog + 1 = omega (arith, total-le (call_cost prog) prog r) in
       let few : length ps < 64 = ltb-true (length ps) 64 e in
       on-kept io (fits-rule (tame-rule prog ok fin r l) h) (record { waits = x; few = few; within = w.within })
   entered-kept r p ps io false e l x w = stopped-kept deep io
 
-  plain-kept : (p : Plain) (q : Acts) (k : List Context) (ps : List Pending) (io : Io) → Fits prog (plain p ▸ q) k → Here io ps → Kept io.read io.allowance (ownPlain prog tokens answers p q k ps io)
-  unfolding ownPlain entered Tame SmallPlain wrote
+  plain-kept : (p : Plain) (q : Acts) (k : List Context) (ps : List Pending) (io : Io) → Fits prog (plain p ▸ q) k → Here io ps → Kept io.read io.allowance (own_plain prog tokens answers p q k ps io)
+  unfolding own_plain entered Tame SmallPlain wrote
   plain-kept (match t) q k ps io f w = required-kept t io (is t (present tokens io)) (mends io) (is-given t (present tokens io)) (fits-rest prog f) w
   plain-kept any q k ps io f w = took-kept io missing (given (present tokens io)) (λ e. e) (fits-rest prog f) w
   plain-kept (emit t) q k ps io f w = on-kept (wrote _ io) (fits-rest prog f) w
@@ -381,15 +382,15 @@ module _ (prog : List Rule) (ok : Accepted prog) (fin : Finishing prog) (tokens 
   plain-kept back q k ps io f w = back-kept ps io w.waits w
   plain-kept (give v) q k ps io f w = gave_kept v ps io w.waits w
   plain-kept (update op) q k ps io f w = on-kept (wrote _ io) (fits-rest prog f) w
-  plain-kept (updateWith op v) q k ps io f w = on-kept (wrote _ io) (fits-rest prog f) w
+  plain-kept (update_with op v) q k ps io f w = on-kept (wrote _ io) (fits-rest prog f) w
 
   choice-kept : (s : Selector) (al : Alts) (o : Other) (q : Acts) (k : List Context) (ps : List Pending) (io : Io) → Fits prog (choice s al o ▸ q) k → Here io ps
-      → Kept io.read io.allowance (ownChoice prog tokens answers s al o q k ps io)
-  unfolding ownChoice entered Tame SmallSelector
-  choice-kept byToken al o q k ps io f w = token-kept al o q k ps io (present tokens io) refl f w
-  choice-kept (byRule r) al o q k ps io f w = entered-kept r (beforeChoice al o q k) ps io (ltb (length ps) 64) refl (fits-tame prog f).0.0 (waits-choice (byRule r) f w.waits) w
-  choice-kept (byOperation op) al o q k ps io f w = asked-kept (byOperation op) al o q k ps io (operation op) (nextAnswer answers io) f w
-  choice-kept (byOperationWith op v) al o q k ps io f w = asked-kept (byOperationWith op v) al o q k ps io (operationWith op v) (nextAnswer answers io) f w
+      → Kept io.read io.allowance (own_choice prog tokens answers s al o q k ps io)
+  unfolding own_choice entered Tame SmallSelector
+  choice-kept by_token al o q k ps io f w = token-kept al o q k ps io (present tokens io) refl f w
+  choice-kept (by_rule r) al o q k ps io f w = entered-kept r (before_choice al o q k) ps io (ltb (length ps) 64) refl (fits-tame prog f).0.0 (waits-choice (by_rule r) f w.waits) w
+  choice-kept (by_operation op) al o q k ps io f w = asked-kept (by_operation op) al o q k ps io (operation op) (next_answer answers io) f w
+  choice-kept (by_operation_with op v) al o q k ps io f w = asked-kept (by_operation_with op v) al o q k ps io (operation_with op v) (next_answer answers io) f w
 
   kept : {s : Own} → Good prog (length tokens) s → Kept (read_of s) (left_of s) (own prog tokens answers s)
   unfolding own read_of left_of Tame
@@ -429,11 +430,11 @@ module _ (prog : List Rule) (ok : Accepted prog) (fin : Finishing prog) (tokens 
 
 -- "fixed by the program and the number of tokens", and "now also depends on the allowance": whatever the tokens and the answers
 pub finishes : (prog : List Rule) (tokens answers : List ℕ) (allowance : ℕ) → Accepted prog → Finishing prog
-    → (j : ℕ) × (j ≤ budget prog (length tokens + allowance)) × Over (owns prog tokens answers j (ownStart prog allowance))
-unfolding budget ownStart allRules read_of left_of
+    → (j : ℕ) × (j ≤ budget prog (length tokens + allowance)) × Over (owns prog tokens answers j (own_start prog allowance))
+unfolding budget own_start all_rules read_of left_of
 finishes prog tokens answers allowance ok fin =
-    let h : weighs (callCost prog) (body_of prog 0) + 1 ≤ total (callCost prog) prog + 1 = omega (arith, total-le (callCost prog) prog 0) in
+    let h : weighs (call_cost prog) (body_of prog 0) + 1 ≤ total (call_cost prog) prog + 1 = omega (arith, total-le (call_cost prog) prog 0) in
     let here : Sits prog (length tokens) 0 [] = record { waits = waits-nil; few = omega arith; within = omega arith } in
-    let place : Good prog (length tokens) (ownStart prog allowance) = good-on (fits-rule (tame-rule prog ok fin 0 ok.some-rule) h) here in
-    let a = over_by prog ok fin tokens answers (length tokens + allowance + 1) (ownStart prog allowance) place (omega arith) in
+    let place : Good prog (length tokens) (own_start prog allowance) = good-on (fits-rule (tame-rule prog ok fin 0 ok.some_rule) h) here in
+    let a = over_by prog ok fin tokens answers (length tokens + allowance + 1) (own_start prog allowance) place (omega arith) in
     (a.steps, a.few, a.over)

@@ -13,10 +13,10 @@ use Rattle.agreement.proofs.BoundWalk.{budget, finishes}
 use Rattle.base.specs.Bools.{never}
 use Rattle.base.specs.Tree.{plain, done, ◌▸◌}
 use Rattle.events.specs.Events.{Io}
-use Rattle.finishing.specs.Finishing.{toCall, path-calls, Paths, paths-here, paths-later, Comes, directly, through, Loops, loops-here, loops-later, Finishing}
-use Rattle.ownwalk.specs.OwnWalk.{Context, Pending, before, Own, on, ended, entered, ownPlain, own, owns, ownStart}
+use Rattle.finishing.specs.Finishing.{to_call, path_calls, Paths, paths_here, paths_later, Comes, directly, through, Loops, loops_here, loops_later, Finishing}
+use Rattle.ownwalk.specs.OwnWalk.{Context, Pending, before, Own, on, ended, entered, own_plain, own, owns, own_start}
 use Rattle.program.specs.Accepted.{Calls, OkPlain, Ok, Oks, Accepted}
-use Rattle.program.specs.Program.{call, Acts, Rule, ruleOf, body_of}
+use Rattle.program.specs.Program.{call, Acts, Rule, rule_of, body_of}
 
 abbrev twice : ℕ → Acts
 twice r = plain (call r) ▸ plain (call r) ▸ done
@@ -38,13 +38,13 @@ unfolding links
 links-length r zero = refl
 links-length r (suc d) = ap suc (links-length (suc r) d)
 
-last : (r d : ℕ) → ruleOf (links r d) d ≡ rule done
-unfolding links ruleOf
+last : (r d : ℕ) → rule_of (links r d) d ≡ rule done
+unfolding links rule_of
 last r zero = refl
 last r (suc d) = last (suc r) d
 
-link : (r d i : ℕ) → i < d → ruleOf (links r d) i ≡ rule (twice (suc (r + i)))
-unfolding links ruleOf
+link : (r d i : ℕ) → i < d → rule_of (links r d) i ≡ rule (twice (suc (r + i)))
+unfolding links rule_of
 link r zero i l = absurd (omega arith)
 link r (suc d) zero l = ap (λ (x : ℕ). rule (twice (suc x))) (omega arith)
 link r (suc d) (suc i) l = link (suc r) d i (omega arith) ∙ ap (λ (x : ℕ). rule (twice (suc x))) (omega arith)
@@ -54,11 +54,11 @@ data Is (d r : ℕ) : Rule → Type 0 where
   is_last : r ≡ d → Is d r (rule done)
   is-link : r < d → Is d r (rule (twice (suc r)))
 
-rule-is : (d r : ℕ) → r < length (chain d) → Is d r (ruleOf (chain d) r)
+rule-is : (d r : ℕ) → r < length (chain d) → Is d r (rule_of (chain d) r)
 unfolding chain
 rule-is d r l = go (dec_lt r d)
   where
-    go : Dec (r < d) → Is d r (ruleOf (links 0 d) r)
+    go : Dec (r < d) → Is d r (rule_of (links 0 d) r)
     go (yes h) = let e : 0 + r ≡ r = omega arith in rw (link 0 d r h, e) (is-link h)
     go (no h) = let e : r ≡ d = omega (arith, links-length 0 d) in rw (e, last 0 d) (is_last refl)
 
@@ -85,22 +85,22 @@ in_order {d} {r} (is-link h) = (calls d r h, (calls d r h, tt))
 pub chain-accepted : (d : ℕ) → Accepted (chain d)
 unfolding body_of
 chain-accepted d = record {
-  some-rule = omega (arith, chain_length d);
+  some_rule = omega (arith, chain_length d);
   first = procedure (rule-is d 0 (omega (arith, chain_length d)));
   in_order = λ r l. in_order (rule-is d r l);
   no_end = λ r l e. never (sym (procedure (rule-is d r l)) ∙ e);
 }
 
 module _ (prog : List Rule) where
-  calls-next : {r s : ℕ} → Paths prog (toCall s) (twice r) → s ≡ r
-  calls-next (paths-here a path-calls) = refl
-  calls-next (paths-later p (paths-here a path-calls)) = refl
+  calls-next : {r s : ℕ} → Paths prog (to_call s) (twice r) → s ≡ r
+  calls-next (paths_here a path_calls) = refl
+  calls-next (paths_later p (paths_here a path_calls)) = refl
 
   no_loop : {r : ℕ} → Loops prog (twice r) → ⊥
-  no_loop (loops-here l) = elim l [ ]
-  no_loop (loops-later (loops-here l)) = elim l [ ]
+  no_loop (loops_here l) = elim l [ ]
+  no_loop (loops_later (loops_here l)) = elim l [ ]
 
-  up : {d r s : ℕ} {m : Rule} → Is d r m → Paths prog (toCall s) m.body → r < s
+  up : {d r s : ℕ} {m : Rule} → Is d r m → Paths prog (to_call s) m.body → r < s
   up (is_last e) p = elim p [ ]
   up (is-link h) p = omega (arith, calls-next p)
 
@@ -141,7 +141,7 @@ module _ (prog : List Rule) (tokens answers : List ℕ) where
 
   call-through : {n m : ℕ} {t : Own} (r : ℕ) (q : Acts) (k : List Context) (ps : List Pending) (io : Io) → length ps < 64
       → Through n (on (body_of prog r) [] (before q k ∷ ps) io) (on q k ps io) → Through m (on q k ps io) t → Through (suc (n + m)) (on (plain (call r) ▸ q) k ps io) t
-  unfolding own ownPlain entered
+  unfolding own own_plain entered
   call-through {n} {m} {t} r q k ps io l g h =
       let x : Through (n + m) (own prog tokens answers (on (plain (call r) ▸ q) k ps io)) t = rw (lt-ltb (length ps) 64 l) (on-through g h) in
       a-step x
@@ -174,8 +174,8 @@ module _ (d : ℕ) (tokens answers : List ℕ) where
           (call-through (chain d) tokens answers (suc r) done [] ps io (omega arith) (f done) (a-step no_step))
 
   -- 64 calls are pending at most
-  pub doubles : (allowance : ℕ) → d ≤ 64 → (j : ℕ) → Over (owns (chain d) tokens answers j (ownStart (chain d) allowance)) → 2 ^ d ≤ j
-  unfolding ownStart
+  pub doubles : (allowance : ℕ) → d ≤ 64 → (j : ℕ) → Over (owns (chain d) tokens answers j (own_start (chain d) allowance)) → 2 ^ d ≤ j
+  unfolding own_start
   doubles allowance h j o = omega (arith, count-le d, not-before (chain d) tokens answers (walks d 0 [] _ (omega arith) (omega arith)) j o)
 
 pub budget-doubles : (d : ℕ) → d ≤ 64 → 2 ^ d ≤ budget (chain d) 0

@@ -9,12 +9,12 @@ use native.Mathlib.Omega.{arith}
 use lib.Dec.{ltb}
 use lib.ListN.{length, drop}
 use borrow.Author.Tests.{ltb-false, le-ltb}
-use Rattle.base.specs.Common.{if◌then◌else◌}
+use Rattle.std.specs.Prelude.{if◌then◌else◌}
 use Rattle.events.specs.Events.{Event, unanswered, answer}
-use Rattle.machine.specs.Call.{Mode, whole, paused, Called, ends, writing, Turn, over, further, takes, handsOut, turn, run, call_in, callWalk}
-use Rattle.machine.specs.Step.{Next, goesOutside, stops, goes, tells, asks, step}
-use Rattle.machine.specs.Walk.{Phase, going, waiting, stopped, Walk, withAnswer, atRest}
-use Rattle.agreement.specs.Pauses.{joined, Enough, Row, first, next, Agree, whileWaiting, answering, fed, inARow}
+use Rattle.machine.specs.Call.{Mode, whole, paused, Called, ends, writing, Turn, over, further, takes, hands_out, turn, run, call_in, call_walk}
+use Rattle.machine.specs.Step.{Next, goes_outside, stops, goes, tells, asks, step}
+use Rattle.machine.specs.Walk.{Phase, going, waiting, stopped, Walk, with_answer, at_rest}
+use Rattle.agreement.specs.Pauses.{joined, Enough, Row, first, next, Agree, while_waiting, answering, fed, in_aRow}
 use Rattle.agreement.proofs.Pauses.{fed-rests, whole-paused}
 
 -- one turn with less room and with more
@@ -31,8 +31,8 @@ unfolding takes
 takes-both none r s n w e v h = over-both
 takes-both (some x) r s n w e v h = on_both (fewer r s h)
 
-hands-both : (m : Mode) (r s n : ℕ) (w : Walk) (e : Event) (v : Walk) → r ≤ s → Turns (handsOut m r n w e v) (handsOut m s n w e v)
-unfolding handsOut
+hands-both : (m : Mode) (r s n : ℕ) (w : Walk) (e : Event) (v : Walk) → r ≤ s → Turns (hands_out m r n w e v) (hands_out m s n w e v)
+unfolding hands_out
 hands-both (whole given) r s n w e v h = takes-both (answer given w.io) r s n w e v h
 hands-both (paused x) r s n w e v h = over-both
 
@@ -47,11 +47,11 @@ less-false r s h e = let x = ltb-false r 3 e in le-ltb s 3 (omega arith)
 
 turn-both : (m : Mode) (r s n : ℕ) (w : Walk) (x : Next) → r ≤ s → Turns (turn m r n w x) (turn m s n w x)
 unfolding turn ends
-turn-both m r s n w goesOutside h = over-both
+turn-both m r s n w goes_outside h = over-both
 turn-both m r s n w (stops y) h = over-both
 turn-both m r s n w (goes v) h = on_both h
 turn-both m r s n w (tells e v) h = if-both (ltb r 3) (ltb s 3) (ends 35 n w) (further (r - 3) (writing e v)) (further (s - 3) (writing e v)) refl (less-false r s h) (on_both (fewer r s h))
-turn-both m r s n w (asks e v) h = if-both (ltb r 3) (ltb s 3) (ends 35 n w) (handsOut m r n w e v) (handsOut m s n w e v) refl (less-false r s h) (hands-both m r s n w e v h)
+turn-both m r s n w (asks e v) h = if-both (ltb r 3) (ltb s 3) (ends 35 n w) (hands_out m r n w e v) (hands_out m s n w e v) refl (less-false r s h) (hands-both m r s n w e v h)
 
 module _ (T tokens : List ℕ) where
   run_more : (b c r s n : ℕ) (m : Mode) (w : Walk) → b ≤ c → r ≤ s → Enough (run T tokens b m r n w) → run T tokens c m s n w ≡ run T tokens b m r n w
@@ -71,37 +71,37 @@ module _ (T tokens : List ℕ) where
 
   call-more : (p : Phase) (m : Mode) (b c r s : ℕ) (w : Walk) → b ≤ c → r ≤ s → Enough (call_in T tokens p m b r w) → call_in T tokens p m c s w ≡ call_in T tokens p m b r w
   unfolding call_in
-  call-more going (whole given) b c r s w hb hr h = run_more b c r s 0 (whole given) (atRest w) hb hr h
-  call-more going (paused none) b c r s w hb hr h = run_more b c r s 0 (paused none) (atRest w) hb hr h
+  call-more going (whole given) b c r s w hb hr h = run_more b c r s 0 (whole given) (at_rest w) hb hr h
+  call-more going (paused none) b c r s w hb hr h = run_more b c r s 0 (paused none) (at_rest w) hb hr h
   call-more going (paused (some x)) b c r s w hb hr h = refl
   call-more waiting (whole given) b c r s w hb hr h = refl
   call-more waiting (paused none) b c r s w hb hr h = refl
-  call-more waiting (paused (some x)) b c r s w hb hr h = run_more b c r s 0 (paused none) (withAnswer x (atRest w)) hb hr h
+  call-more waiting (paused (some x)) b c r s w hb hr h = run_more b c r s 0 (paused none) (with_answer x (at_rest w)) hb hr h
   call-more (stopped y) (whole given) b c r s w hb hr h = refl
   call-more (stopped y) (paused none) b c r s w hb hr h = refl
   call-more (stopped y) (paused (some x)) b c r s w hb hr h = refl
 
   -- with more budget and a larger buffer than were enough
-  pub more-enough : (m : Mode) (b c r s : ℕ) (w : Walk) → b ≤ c → r ≤ s → Enough (callWalk T tokens m b r w) → callWalk T tokens m c s w ≡ callWalk T tokens m b r w
-  unfolding callWalk
+  pub more-enough : (m : Mode) (b c r s : ℕ) (w : Walk) → b ≤ c → r ≤ s → Enough (call_walk T tokens m b r w) → call_walk T tokens m c s w ≡ call_walk T tokens m b r w
+  unfolding call_walk
   more-enough m b c r s w hb hr h = call-more w.phase m b c r s w hb hr h
 
-  pub enough : (m : Mode) (b c r s : ℕ) (w : Walk) → Enough (callWalk T tokens m b r w) → Enough (callWalk T tokens m c s w)
-      → callWalk T tokens m b r w ≡ callWalk T tokens m c s w
+  pub enough : (m : Mode) (b c r s : ℕ) (w : Walk) → Enough (call_walk T tokens m b r w) → Enough (call_walk T tokens m c s w)
+      → call_walk T tokens m b r w ≡ call_walk T tokens m c s w
   enough m b c r s w h k = sym (more-enough m b (b + c) r (r + s) w (omega arith) (omega arith) h) ∙ more-enough m c (b + c) s (r + s) w (omega arith) (omega arith) k
 
   -- a budget and a room that all the calls of a row could have shared
   record Shared (w : Walk) (given xs : List ℕ) (c : Called) : Type 0 where
     budget : ℕ
     room : ℕ
-    row : (b r : ℕ) → budget ≤ b → room ≤ r → inARow T tokens b r given w ≡ fed T tokens b r xs c
+    row : (b r : ℕ) → budget ≤ b → room ≤ r → in_aRow T tokens b r given w ≡ fed T tokens b r xs c
 
-  on-waiting : (p : Phase) (c d : Called) → p ≡ waiting → whileWaiting p c d ≡ d
-  unfolding whileWaiting
+  on-waiting : (p : Phase) (c d : Called) → p ≡ waiting → while_waiting p c d ≡ d
+  unfolding while_waiting
   on-waiting p c d e = rw e
 
   shared : {w : Walk} {given xs : List ℕ} {c : Called} → Row T tokens w given xs c → Shared w given xs c
-  unfolding inARow fed answering
+  unfolding in_aRow fed answering
   shared {w} {given} (first b r h) =
       record { budget = b; room = r; row = λ c s hb hr. ap (fed T tokens c s given) (more-enough (paused none) b c r s w hb hr h) }
   shared {w} {given} (next {x = x} {xs = xs} {c = c} l p b r h) =
@@ -130,9 +130,9 @@ module _ (T tokens : List ℕ) where
   -- "Fed the same answers, with budgets and buffers enough, the two agree": a whole call of any walk that does not wait, by any table, and any
   -- paused calls of it, given the answers from the next one on, as far as they can go
   pub agree-enough : (answers : List ℕ) → length answers < 2 ^ 64 → (w : Walk) → (w.phase ≡ waiting → ⊥)
-      → (budget room : ℕ) → Enough (callWalk T tokens (whole answers) budget room w)
+      → (budget room : ℕ) → Enough (call_walk T tokens (whole answers) budget room w)
       → {xs : List ℕ} {c : Called} → Row T tokens w (drop w.io.used answers) xs c → (c.walk.phase ≡ waiting → xs ≡ [])
-      → Agree T tokens answers w (callWalk T tokens (whole answers) budget room w) c
+      → Agree T tokens answers w (call_walk T tokens (whole answers) budget room w) c
   agree-enough answers short w n budget room h {xs} {c} l q =
       let k = shared l in
       let b = budget + k.budget in

@@ -6,12 +6,13 @@ use mathlib.Core.Path.{refl, sym, ap, ◌∙◌}
 use Prim.Native.Nat.{ℕ, zero, suc}
 use lib.Dec.{ltb}
 use lib.ListN.{length}
-use Rattle.agreement.specs.Demand.{eventsOf, Begins}
-use Rattle.base.specs.Common.{if◌then◌else◌, given}
+use Rattle.agreement.specs.Demand.{events_of, Begins}
+use Rattle.std.specs.Prelude.{if◌then◌else◌}
+use Rattle.base.specs.Common.{given}
 use Rattle.base.specs.Tree.{plain, cycle, choice, done, ◌▸◌, nil, alternative, absent, otherwise}
-use Rattle.events.specs.Events.{Event, output, signal, operation, operationWith, repair, differs, missing, unlabelled, deep, Io, present, took, wrote, answered, mends, spent, repaired, is}
-use Rattle.ownwalk.specs.OwnWalk.{Context, inCycle, inAlternative, inOtherwise, Pending, before, beforeChoice, Own, on, choosing, stopped, nowhere, labelled, labelledBy, chosen, repairedFirst, unmatched, ended, left, gaveBack, nextAnswer, asked, entered, ownPlain, ownChoice, own, owns}
-use Rattle.program.specs.Program.{Plain, match, any, emit, error, exit, call, back, give, update, updateWith, Selector, byToken, byRule, byOperation, byOperationWith, Acts, Alts, Other, Rule, body_of}
+use Rattle.events.specs.Events.{Event, output, signal, operation, operation_with, repair, differs, missing, unlabelled, deep, Io, present, took, wrote, answered, mends, spent, repaired, is}
+use Rattle.ownwalk.specs.OwnWalk.{Context, in_cycle, in_alternative, in_otherwise, Pending, before, before_choice, Own, on, choosing, stopped, nowhere, labelled, labelled_by, chosen, repaired_first, unmatched, ended, left, gave_back, next_answer, asked, entered, own_plain, own_choice, own, owns}
+use Rattle.program.specs.Program.{Plain, match, any, emit, error, exit, call, back, give, update, update_with, Selector, by_token, by_rule, by_operation, by_operation_with, Acts, Alts, Other, Rule, body_of}
 
 pub stays : (a : List Event) → Begins a a
 stays a = record { rest = []; whole = sym (append-nil a) }
@@ -23,61 +24,61 @@ begins-trans {a} h g = record { rest = h.rest ++ g.rest; whole = g.whole ∙ ap 
 one_more : (a : List Event) (e : Event) → Begins a (a ++ (e ∷ []))
 one_more a e = record { rest = e ∷ []; whole = refl }
 
-test : (b : Bool) (a : List Event) (s t : Own) → Begins a (eventsOf s) → Begins a (eventsOf t) → Begins a (eventsOf (if b then s else t))
+test : (b : Bool) (a : List Event) (s t : Own) → Begins a (events_of s) → Begins a (events_of t) → Begins a (events_of (if b then s else t))
 test true a s t h h' = h
 test false a s t h h' = h'
 
-ended-grows : (k : List Context) (ps : List Pending) (io : Io) → Begins io.events (eventsOf (ended k ps io))
-unfolding ended eventsOf
+ended-grows : (k : List Context) (ps : List Pending) (io : Io) → Begins io.events (events_of (ended k ps io))
+unfolding ended events_of
 ended-grows [] [] io = stays io.events
 ended-grows [] (before q k ∷ ps) io = stays io.events
-ended-grows [] (beforeChoice al o q k ∷ ps) io = stays io.events
-ended-grows (inCycle b r ∷ k) ps io = stays io.events
-ended-grows (inAlternative r ∷ k) ps io = stays io.events
-ended-grows (inOtherwise r ∷ k) ps io = stays io.events
+ended-grows [] (before_choice al o q k ∷ ps) io = stays io.events
+ended-grows (in_cycle b r ∷ k) ps io = stays io.events
+ended-grows (in_alternative r ∷ k) ps io = stays io.events
+ended-grows (in_otherwise r ∷ k) ps io = stays io.events
 
-left-grows : (k : List Context) (ps : List Pending) (io : Io) → Begins io.events (eventsOf (left k ps io))
-unfolding left eventsOf
+left-grows : (k : List Context) (ps : List Pending) (io : Io) → Begins io.events (events_of (left k ps io))
+unfolding left events_of
 left-grows [] ps io = stays io.events
-left-grows (inCycle b r ∷ k) ps io = stays io.events
-left-grows (inAlternative r ∷ k) ps io = left-grows k ps io
-left-grows (inOtherwise r ∷ k) ps io = left-grows k ps io
+left-grows (in_cycle b r ∷ k) ps io = stays io.events
+left-grows (in_alternative r ∷ k) ps io = left-grows k ps io
+left-grows (in_otherwise r ∷ k) ps io = left-grows k ps io
 
-gave-grows : (v : ℕ) (ps : List Pending) (io : Io) → Begins io.events (eventsOf (gaveBack v ps io))
-unfolding gaveBack eventsOf
+gave-grows : (v : ℕ) (ps : List Pending) (io : Io) → Begins io.events (events_of (gave_back v ps io))
+unfolding gave_back events_of
 gave-grows v [] io = stays io.events
 gave-grows v (before q k ∷ ps) io = stays io.events
-gave-grows v (beforeChoice al o q k ∷ ps) io = stays io.events
+gave-grows v (before_choice al o q k ∷ ps) io = stays io.events
 
-chosen-grows : (f : Option Acts) (o : Other) (q : Acts) (k : List Context) (ps : List Pending) (s : Own) (io io' : Io) → Begins io.events io'.events → Begins io.events (eventsOf s)
-    → Begins io.events (eventsOf (chosen f o q k ps s io io'))
-unfolding chosen eventsOf
+chosen-grows : (f : Option Acts) (o : Other) (q : Acts) (k : List Context) (ps : List Pending) (s : Own) (io io' : Io) → Begins io.events io'.events → Begins io.events (events_of s)
+    → Begins io.events (events_of (chosen f o q k ps s io io'))
+unfolding chosen events_of
 chosen-grows (some b) o q k ps s io io' h g = h
 chosen-grows none (otherwise b) q k ps s io io' h g = stays io.events
 chosen-grows none absent q k ps s io io' h g = g
 
-first-grows : (al : Alts) (q : Acts) (k : List Context) (ps : List Pending) (io : Io) → Begins io.events (eventsOf (repairedFirst al q k ps io))
-unfolding repairedFirst repaired spent wrote eventsOf
+first-grows : (al : Alts) (q : Acts) (k : List Context) (ps : List Pending) (io : Io) → Begins io.events (events_of (repaired_first al q k ps io))
+unfolding repaired_first repaired spent wrote events_of
 first-grows nil q k ps io = stays io.events
 first-grows (alternative [] b al) q k ps io = stays io.events
 first-grows (alternative (t ∷ ls) b al) q k ps io = one_more io.events (repair t)
 
-unmatched-grows : (al : Alts) (q : Acts) (k : List Context) (ps : List Pending) (io : Io) → Begins io.events (eventsOf (unmatched al q k ps io))
-unfolding unmatched eventsOf
-unmatched-grows al q k ps io = test (mends io) io.events (repairedFirst al q k ps io) (stopped differs io) (first-grows al q k ps io) (stays io.events)
+unmatched-grows : (al : Alts) (q : Acts) (k : List Context) (ps : List Pending) (io : Io) → Begins io.events (events_of (unmatched al q k ps io))
+unfolding unmatched events_of
+unmatched-grows al q k ps io = test (mends io) io.events (repaired_first al q k ps io) (stopped differs io) (first-grows al q k ps io) (stays io.events)
 
-asked-grows : (a : Option ℕ) (e : Event) (al : Alts) (o : Other) (q : Acts) (k : List Context) (ps : List Pending) (io : Io) → Begins io.events (eventsOf (asked a e al o q k ps io))
-unfolding asked answered wrote eventsOf
+asked-grows : (a : Option ℕ) (e : Event) (al : Alts) (o : Other) (q : Acts) (k : List Context) (ps : List Pending) (io : Io) → Begins io.events (events_of (asked a e al o q k ps io))
+unfolding asked answered wrote events_of
 asked-grows none e al o q k ps io = stays io.events
 asked-grows (some v) e al o q k ps io = one_more io.events e
 
 module _ (prog : List Rule) (tokens answers : List ℕ) where
-  entered-grows : (r : ℕ) (p : Pending) (ps : List Pending) (io : Io) → Begins io.events (eventsOf (entered prog tokens answers r p ps io))
-  unfolding entered eventsOf
+  entered-grows : (r : ℕ) (p : Pending) (ps : List Pending) (io : Io) → Begins io.events (events_of (entered prog tokens answers r p ps io))
+  unfolding entered events_of
   entered-grows r p ps io = test (ltb (length ps) 64) io.events (on (body_of prog r) [] (p ∷ ps) io) (stopped deep io) (stays io.events) (stays io.events)
 
-  plain-grows : (p : Plain) (q : Acts) (k : List Context) (ps : List Pending) (io : Io) → Begins io.events (eventsOf (ownPlain prog tokens answers p q k ps io))
-  unfolding ownPlain eventsOf took wrote repaired spent
+  plain-grows : (p : Plain) (q : Acts) (k : List Context) (ps : List Pending) (io : Io) → Begins io.events (events_of (own_plain prog tokens answers p q k ps io))
+  unfolding own_plain events_of took wrote repaired spent
   plain-grows (match t) q k ps io = test (is t (present tokens io)) io.events (on q k ps (took io)) _ (stays io.events)
       (test (mends io) io.events (on q k ps (repaired t io)) (stopped differs io) (one_more io.events (repair t)) (stays io.events))
   plain-grows any q k ps io = test (given (present tokens io)) io.events (on q k ps (took io)) (stopped missing io) (stays io.events) (stays io.events)
@@ -88,17 +89,17 @@ module _ (prog : List Rule) (tokens answers : List ℕ) where
   plain-grows back q k ps io = ended-grows [] ps io
   plain-grows (give v) q k ps io = gave-grows v ps io
   plain-grows (update op) q k ps io = one_more io.events (operation op)
-  plain-grows (updateWith op v) q k ps io = one_more io.events (operationWith op v)
+  plain-grows (update_with op v) q k ps io = one_more io.events (operation_with op v)
 
-  choice-grows : (s : Selector) (al : Alts) (o : Other) (q : Acts) (k : List Context) (ps : List Pending) (io : Io) → Begins io.events (eventsOf (ownChoice prog tokens answers s al o q k ps io))
-  unfolding ownChoice took
-  choice-grows byToken al o q k ps io = chosen-grows (labelledBy (present tokens io) al) o q k ps (unmatched al q k ps io) io (took io) (stays io.events) (unmatched-grows al q k ps io)
-  choice-grows (byRule r) al o q k ps io = entered-grows r (beforeChoice al o q k) ps io
-  choice-grows (byOperation op) al o q k ps io = asked-grows (nextAnswer answers io) (operation op) al o q k ps io
-  choice-grows (byOperationWith op v) al o q k ps io = asked-grows (nextAnswer answers io) (operationWith op v) al o q k ps io
+  choice-grows : (s : Selector) (al : Alts) (o : Other) (q : Acts) (k : List Context) (ps : List Pending) (io : Io) → Begins io.events (events_of (own_choice prog tokens answers s al o q k ps io))
+  unfolding own_choice took
+  choice-grows by_token al o q k ps io = chosen-grows (labelled_by (present tokens io) al) o q k ps (unmatched al q k ps io) io (took io) (stays io.events) (unmatched-grows al q k ps io)
+  choice-grows (by_rule r) al o q k ps io = entered-grows r (before_choice al o q k) ps io
+  choice-grows (by_operation op) al o q k ps io = asked-grows (next_answer answers io) (operation op) al o q k ps io
+  choice-grows (by_operation_with op v) al o q k ps io = asked-grows (next_answer answers io) (operation_with op v) al o q k ps io
 
-  pub own-grows : (s : Own) → Begins (eventsOf s) (eventsOf (own prog tokens answers s))
-  unfolding own eventsOf
+  pub own-grows : (s : Own) → Begins (events_of s) (events_of (own prog tokens answers s))
+  unfolding own events_of
   own-grows (on done k ps io) = ended-grows k ps io
   own-grows (on (plain p ▸ q) k ps io) = plain-grows p q k ps io
   own-grows (on (cycle b ▸ q) k ps io) = stays io.events
@@ -107,7 +108,7 @@ module _ (prog : List Rule) (tokens answers : List ℕ) where
   own-grows (stopped r io) = stays io.events
   own-grows (nowhere io) = stays io.events
 
-  pub owns-grow : (i : ℕ) (s : Own) → Begins (eventsOf s) (eventsOf (owns prog tokens answers i s))
+  pub owns-grow : (i : ℕ) (s : Own) → Begins (events_of s) (events_of (owns prog tokens answers i s))
   unfolding owns
-  owns-grow zero s = stays (eventsOf s)
+  owns-grow zero s = stays (events_of s)
   owns-grow (suc i) s = begins-trans (own-grows s) (owns-grow i (own prog tokens answers s))

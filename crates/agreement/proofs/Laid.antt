@@ -12,18 +12,18 @@ use lib.Dec.{eqb}
 use lib.ListN.{length, replicate}
 use borrow.Author.Tests.{le-leb, lt-leb, lt-ltb, le-ltb, ne_eqb}
 use Rattle.base.specs.Bools.{never, or}
-use Rattle.base.specs.Common.{if◌then◌else◌}
+use Rattle.std.specs.Prelude.{if◌then◌else◌}
 use Rattle.base.specs.Tree.{plain, cycle, choice, done, ◌▸◌, nil, alternative, absent, otherwise}
 use Rattle.events.specs.Events.{is}
-use Rattle.machine.specs.Decode.{fetch, jump, inputChoice, return, choice as by_result, update as updates, updateWith as updatesWith, choose, chooseWith, decodeOperation, decodeTwo, decode_one, decodeWord, decodeAt, decode}
+use Rattle.machine.specs.Decode.{fetch, jump, input_choice, return, choice as by_result, update as updates, update_with as updates_with, choose, choose_with, decode_operation, decode_two, decode_one, decode_word, decode_at, decode}
 use Rattle.machine.specs.Lengths.{lengths, length_of}
 use Rattle.machine.specs.Step.{seek}
-use Rattle.program.proofs.Lengths.{length-labels, length-tableWords, length-selector, length-code, length-codes, length-alts}
+use Rattle.program.proofs.Lengths.{length-labels, length-table_words, length-selector, length-code, length-codes, length-alts}
 use Rattle.program.specs.Accepted.{Labelled, NeedsLabel, OkPlain, OkSelector, Ok, Oks, OkAlts, OkOther, Accepted}
-use Rattle.program.specs.Past.{isExit, exits, exitsAll, exitsSome, exitsOther, pastAll}
-use Rattle.program.specs.Program.{Plain, match, any, emit, error, exit, call, back, give, update, updateWith, Selector, byToken, byRule, byOperation, byOperationWith, Act, Acts, Alts, Other, Rule, ruleOf, body_of}
-use Rattle.program.specs.Table.{sizePlain, sizeSelector, sizeAbsent, countLabels, size, sizes, sizeAlts, sizeOther, labelWords, tableWords, first_of, firstLabel, absentWords, choiceNumber, selectorWords, plainWords, code, codes, codeAlts, codeOther, endWords, sizeRule, rulesWords, place, table}
-use Rattle.agreement.proofs.Lay.{Entry, lookup, entries, Leads, leads-none, leads, Entries, entries-nil, entries-cons, Table, LayPlain, lay-match, lay-any, lay-emit, lay-error, lay-exit, lay-call, lay-back, lay-give, lay-update, lay-updateWith, Lay, lay-plain, lay-cycle, lay-token, lay-rule, lay-operation, lay-operationWith, Lays, lays-done, lays_cons, LayChoice, lay-choice, LayAlts, alts-nil, alts-cons, LayOther, other-input, other-end, other-is, At, at_place, End, end-rule}
+use Rattle.program.specs.Past.{is_exit, exits, exits_all, exits_some, exits_other, past_all}
+use Rattle.program.specs.Program.{Plain, match, any, emit, error, exit, call, back, give, update, update_with, Selector, by_token, by_rule, by_operation, by_operation_with, Act, Acts, Alts, Other, Rule, rule_of, body_of}
+use Rattle.program.specs.Table.{size_plain, size_selector, size_absent, count_labels, size, sizes, size_alts, size_other, label_words, table_words, first_of, first_label, absent_words, choice_number, selector_words, plain_words, code, codes, code_alts, code_other, end_words, size_rule, rules_words, place, table}
+use Rattle.agreement.proofs.Lay.{Entry, lookup, entries, Leads, leads-none, leads, Entries, entries-nil, entries-cons, Table, LayPlain, lay-match, lay-any, lay-emit, lay-error, lay-exit, lay-call, lay-back, lay-give, lay-update, lay-update_with, Lay, lay-plain, lay-cycle, lay-token, lay-rule, lay-operation, lay-operation_with, Lays, lays-done, lays_cons, LayChoice, lay-choice, LayAlts, alts-nil, alts-cons, LayOther, other-input, other-end, other-is, At, at_place, End, end-rule}
 
 -- Words in a table
 
@@ -85,8 +85,8 @@ unfolding entries
 entries-length [] l ps = omega arith
 entries-length (v ∷ ls) l ps = omega (arith, entries-length ls l ps)
 
-pub pairs-length : (l : ℕ) (q : Alts) → length (pairs l q) ≡ countLabels q
-unfolding pairs countLabels
+pub pairs-length : (l : ℕ) (q : Alts) → length (pairs l q) ≡ count_labels q
+unfolding pairs count_labels
 pairs-length l nil = refl
 pairs-length l (alternative ls b q) =
     entries-length ls l (pairs (l + sizes b + 2) q) ∙ ap (λ (i : ℕ). length ls + i) (pairs-length (l + sizes b + 2) q)
@@ -97,10 +97,10 @@ module _ (T tokens : List ℕ) (u : ℕ) where
   if-leads false h h' = h'
 
   -- entries from word p of the choice table at c, for an alternative at l
-  entries-find : (ls : List ℕ) (ps : List Entry) (c d p l : ℕ) → l + d ≡ c → Seg T (c + p) (labelWords d p ls)
+  entries-find : (ls : List ℕ) (ps : List Entry) (c d p l : ℕ) → l + d ≡ c → Seg T (c + p) (label_words d p ls)
       → Leads T (seek T tokens u (length ps) (c + p + 2 * length ls)) (lookup u ps)
       → Leads T (seek T tokens u (length (entries ls l ps)) (c + p)) (lookup u (entries ls l ps))
-  unfolding labelWords entries lookup seek is
+  unfolding label_words entries lookup seek is
   entries-find [] ps c d p l e s h = rw (add-zero (c + p)) at h
   entries-find (v ∷ ls) ps c d p l e (seg-cons f (seg-cons g s)) h =
       let ih = entries-find ls ps c d (p + 2) l e (seg-at s (omega arith)) (rw (next c p (length ls)) h) in
@@ -115,14 +115,14 @@ module _ (T tokens : List ℕ) (u : ℕ) where
       three : (c p : ℕ) → c + (p + 2) ≡ c + p + 2
       three c p = omega arith
 
-  pairs-find : (q : Alts) (c p l : ℕ) → l + sizeAlts q ≡ c → Seg T (c + p) (tableWords p q)
+  pairs-find : (q : Alts) (c p l : ℕ) → l + size_alts q ≡ c → Seg T (c + p) (table_words p q)
       → Leads T (seek T tokens u (length (pairs l q)) (c + p)) (lookup u (pairs l q))
-  unfolding tableWords pairs sizeAlts seek lookup
+  unfolding table_words pairs size_alts seek lookup
   pairs-find nil c p l e s = leads-none
   pairs-find (alternative ls b q) c p l e s =
-      let d = sizes b + (2 + sizeAlts q) in
-      let a = labelWords d p ls in
-      let t = tableWords (p + 2 * length ls) q in
+      let d = sizes b + (2 + size_alts q) in
+      let a = label_words d p ls in
+      let t = table_words (p + 2 * length ls) q in
       entries-find ls (pairs (l + sizes b + 2) q) c d p l e (seg-left a t s)
       (rw (near c p (length ls)) (pairs-find q c (p + 2 * length ls) (l + sizes b + 2) (omega arith)
       (seg-at (seg-right a t s) (omega (arith, length-labels d p ls)))))
@@ -135,43 +135,43 @@ module _ (T : List ℕ) where
   entries_at : {l l' : ℕ} {ps : List Entry} → Entries T l ps → l ≡ l' → Entries T l' ps
   entries_at {ps = ps} h p = subst (λ (i : ℕ). Entries T i ps) p h
 
-  entries-all : (ls : List ℕ) (ps : List Entry) (c d p l : ℕ) → l + d ≡ c → Seg T (c + p) (labelWords d p ls)
+  entries-all : (ls : List ℕ) (ps : List Entry) (c d p l : ℕ) → l + d ≡ c → Seg T (c + p) (label_words d p ls)
       → Entries T (c + p + 2 * length ls) ps → Entries T (c + p) (entries ls l ps)
-  unfolding labelWords entries
+  unfolding label_words entries
   entries-all [] ps c d p l e s h = entries_at h (omega arith)
   entries-all (v ∷ ls) ps c d p l e (seg-cons f (seg-cons g s)) h =
       let g₁ : fetch T (c + p + 1) ≡ some (d + (p + 1)) = rw (add-one (c + p)) g in
       entries-cons {y = l} f g₁ (omega arith)
       (entries_at (entries-all ls ps c d (p + 2) l e (seg-at s (omega arith)) (entries_at h (omega arith))) (omega arith))
 
-  pairs-all : (q : Alts) (c p l : ℕ) → l + sizeAlts q ≡ c → Seg T (c + p) (tableWords p q) → Entries T (c + p) (pairs l q)
-  unfolding tableWords pairs sizeAlts
+  pairs-all : (q : Alts) (c p l : ℕ) → l + size_alts q ≡ c → Seg T (c + p) (table_words p q) → Entries T (c + p) (pairs l q)
+  unfolding table_words pairs size_alts
   pairs-all nil c p l e s = entries-nil
   pairs-all (alternative ls b q) c p l e s =
-      let d = sizes b + (2 + sizeAlts q) in
-      let a = labelWords d p ls in
-      let t = tableWords (p + 2 * length ls) q in
+      let d = sizes b + (2 + size_alts q) in
+      let a = label_words d p ls in
+      let t = table_words (p + 2 * length ls) q in
       entries-all ls (pairs (l + sizes b + 2) q) c d p l e (seg-left a t s)
       (entries_at (pairs-all q c (p + 2 * length ls) (l + sizes b + 2) (omega arith)
       (seg-at (seg-right a t s) (omega (arith, length-labels d p ls)))) (omega arith))
 
-pub laid_table : (T : List ℕ) (q : Alts) (l : ℕ) (ws : List ℕ) → Seg T (l + sizeAlts q) (countLabels q ∷ (tableWords 1 q ++ ws))
-    → Table T (l + sizeAlts q) (pairs l q)
+pub laid_table : (T : List ℕ) (q : Alts) (l : ℕ) (ws : List ℕ) → Seg T (l + size_alts q) (count_labels q ∷ (table_words 1 q ++ ws))
+    → Table T (l + size_alts q) (pairs l q)
 laid_table T q l ws (seg-cons f s) =
-    let left = seg-left (tableWords 1 q) ws s in
-    let last = seg-le (countLabels q) (tableWords 1 q) (seg-cons f left) in
+    let left = seg-left (table_words 1 q) ws s in
+    let last = seg-le (count_labels q) (table_words 1 q) (seg-cons f left) in
     record {
       count = rw (pairs-length l q) f;
-      fits = le-leb (l + sizeAlts q + 2 * length (pairs l q)) (length T) (omega (arith, last, length-tableWords 1 q, pairs-length l q));
-      all = pairs-all T q (l + sizeAlts q) 1 l refl (seg-at left (omega arith));
-      finds = λ tokens u. pairs-find T tokens u q (l + sizeAlts q) 1 l refl (seg-at left (omega arith));
+      fits = le-leb (l + size_alts q + 2 * length (pairs l q)) (length T) (omega (arith, last, length-table_words 1 q, pairs-length l q));
+      all = pairs-all T q (l + size_alts q) 1 l refl (seg-at left (omega arith));
+      finds = λ tokens u. pairs-find T tokens u q (l + size_alts q) 1 l refl (seg-at left (omega arith));
     }
 
 -- Instructions
 
 -- an instruction of one word, whatever follows it
-one_word : (l w : ℕ) (x : Option ℕ) → length_of w ≡ 1 → decodeWord l w x ≡ decode_one w
-unfolding decodeWord
+one_word : (l w : ℕ) (x : Option ℕ) → length_of w ≡ 1 → decode_word l w x ≡ decode_one w
+unfolding decode_word
 one_word l w none h = rw h
 one_word l w (some x) h = rw h
 
@@ -180,36 +180,36 @@ pub length-operation : (w : ℕ) → 256 ≤ w → w < 1280 → length_of w ≡ 
 unfolding length_of
 length-operation w a b = rw (le-leb 1 w (omega arith), lt-leb w 13 (omega arith), le-leb 256 w a, le-leb w 1279 (omega arith))
 
-decode-operation : (w : ℕ) → 256 ≤ w → decode_one w ≡ decodeOperation w
+decode-operation : (w : ℕ) → 256 ≤ w → decode_one w ≡ decode_operation w
 unfolding decode_one
 decode-operation w a = rw (ne_eqb w 4 (λ e. omega arith), ne_eqb w 9 (λ e. omega arith), ne_eqb w 12 (λ e. omega arith))
 
-pub is-update : (w : ℕ) → w < 512 → decodeOperation w ≡ updates w
-unfolding decodeOperation
-is-update w b = rw (lt-ltb w 512 b)
+pub is_update : (w : ℕ) → w < 512 → decode_operation w ≡ updates w
+unfolding decode_operation
+is_update w b = rw (lt-ltb w 512 b)
 
-pub is-updateWith : (w : ℕ) → 512 ≤ w → w < 768 → decodeOperation w ≡ updatesWith w
-unfolding decodeOperation
-is-updateWith w a b = rw (le-ltb w 512 a, lt-ltb w 768 b)
+pub is_update_with : (w : ℕ) → 512 ≤ w → w < 768 → decode_operation w ≡ updates_with w
+unfolding decode_operation
+is_update_with w a b = rw (le-ltb w 512 a, lt-ltb w 768 b)
 
-pub is-choose : (w : ℕ) → 768 ≤ w → w < 1024 → decodeOperation w ≡ choose w
-unfolding decodeOperation
+pub is-choose : (w : ℕ) → 768 ≤ w → w < 1024 → decode_operation w ≡ choose w
+unfolding decode_operation
 is-choose w a b = rw (le-ltb w 512 (omega arith), le-ltb w 768 a, lt-ltb w 1024 b)
 
-pub is-chooseWith : (w : ℕ) → 1024 ≤ w → decodeOperation w ≡ chooseWith w
-unfolding decodeOperation
-is-chooseWith w a = rw (le-ltb w 512 (omega arith), le-ltb w 768 (omega arith), le-ltb w 1024 a)
+pub is-choose_with : (w : ℕ) → 1024 ≤ w → decode_operation w ≡ choose_with w
+unfolding decode_operation
+is-choose_with w a = rw (le-ltb w 512 (omega arith), le-ltb w 768 (omega arith), le-ltb w 1024 a)
 
 module _ {T : List ℕ} where
-  pub seg_two : {l w d : ℕ} {ws : List ℕ} → Seg T l (w ∷ d ∷ ws) → decode T l ≡ decodeWord l w (some d)
-  unfolding decode decodeAt
+  pub seg_two : {l w d : ℕ} {ws : List ℕ} → Seg T l (w ∷ d ∷ ws) → decode T l ≡ decode_word l w (some d)
+  unfolding decode decode_at
   seg_two (seg-cons f (seg-cons g s)) = rw (f, g)
 
   pub seg-one : {l w : ℕ} {ws : List ℕ} → length_of w ≡ 1 → Seg T l (w ∷ ws) → decode T l ≡ decode_one w
-  unfolding decode decodeAt
+  unfolding decode decode_at
   seg-one {l} {w} h (seg-cons f s) = rw (f, one_word l w (fetch T (suc l)) h)
 
-  pub seg-operation : {l w : ℕ} {ws : List ℕ} → 256 ≤ w → w < 1280 → Seg T l (w ∷ ws) → decode T l ≡ decodeOperation w
+  pub seg-operation : {l w : ℕ} {ws : List ℕ} → 256 ≤ w → w < 1280 → Seg T l (w ∷ ws) → decode T l ≡ decode_operation w
   seg-operation {w = w} a b s = seg-one (length-operation w a b) s ∙ decode-operation w a
 
   pub seg-return : {l : ℕ} {ws : List ℕ} → Seg T l (9 ∷ ws) → decode T l ≡ return
@@ -217,20 +217,20 @@ module _ {T : List ℕ} where
   seg-return s = seg-one refl s
 
   pub seg-jump : {l d : ℕ} {ws : List ℕ} (y : ℕ) → l + 1 + d ≡ y → Seg T l (1 ∷ d ∷ ws) → decode T l ≡ jump y
-  unfolding length_of lengths decodeWord decodeTwo
+  unfolding length_of lengths decode_word decode_two
   seg-jump y e s = seg_two s ∙ ap jump e
 
-  pub seg-jumpBack : {l d : ℕ} {ws : List ℕ} (y : ℕ) → y + d ≡ l + 1 → Seg T l (2 ∷ d ∷ ws) → decode T l ≡ jump y
-  unfolding length_of lengths decodeWord decodeTwo
-  seg-jumpBack {l} {d} y e s =
+  pub seg-jump_back : {l d : ℕ} {ws : List ℕ} (y : ℕ) → y + d ≡ l + 1 → Seg T l (2 ∷ d ∷ ws) → decode T l ≡ jump y
+  unfolding length_of lengths decode_word decode_two
+  seg-jump_back {l} {d} y e s =
       let z : l + 1 - d ≡ y = omega arith in
       seg_two s ∙ ap jump z
 
 -- Outside every cycle there is no exit
 
 module _ (prog : List Rule) where
-  no-exit-plain : (p : Plain) (v : Bool) → OkPlain prog p v false → isExit p ≡ true → ⊥
-  unfolding OkPlain isExit
+  no-exit-plain : (p : Plain) (v : Bool) → OkPlain prog p v false → is_exit p ≡ true → ⊥
+  unfolding OkPlain is_exit
   no-exit-plain (match t) v ok e = never e
   no-exit-plain any v ok e = never e
   no-exit-plain (emit t) v ok e = never e
@@ -240,7 +240,7 @@ module _ (prog : List Rule) where
   no-exit-plain back v ok e = never e
   no-exit-plain (give u) v ok e = never e
   no-exit-plain (update op) v ok e = never e
-  no-exit-plain (updateWith op u) v ok e = never e
+  no-exit-plain (update_with op u) v ok e = never e
 
   mutual
     unfolding Ok exits
@@ -249,18 +249,18 @@ module _ (prog : List Rule) where
     no-exit (plain p) v ok e = no-exit-plain p v ok e
     no-exit (cycle b) v ok e = never e
     no-exit (choice s q o) v ok e =
-        elim (or (exitsSome q) (exitsOther o) e) [ inl h ↦ no-exit-alts q v ok.1 h | inr h ↦ no-exit-other o v ok.2 h ]
+        elim (or (exits_some q) (exits_other o) e) [ inl h ↦ no-exit-alts q v ok.1 h | inr h ↦ no-exit-other o v ok.2 h ]
 
-    pub no-exits : (q : Acts) (v : Bool) → Oks prog q v false → exitsAll q ≡ true → ⊥
+    pub no-exits : (q : Acts) (v : Bool) → Oks prog q v false → exits_all q ≡ true → ⊥
     no-exits done v ok e = never e
-    no-exits (a ▸ q) v ok e = elim (or (exits a) (exitsAll q) e) [ inl h ↦ no-exit a v ok.0 h | inr h ↦ no-exits q v ok.1 h ]
+    no-exits (a ▸ q) v ok e = elim (or (exits a) (exits_all q) e) [ inl h ↦ no-exit a v ok.0 h | inr h ↦ no-exits q v ok.1 h ]
 
-    no-exit-alts : (q : Alts) (v : Bool) → OkAlts prog q v false → exitsSome q ≡ true → ⊥
+    no-exit-alts : (q : Alts) (v : Bool) → OkAlts prog q v false → exits_some q ≡ true → ⊥
     no-exit-alts nil v ok e = never e
     no-exit-alts (alternative ls b q) v ok e =
-        elim (or (exitsAll b) (exitsSome q) e) [ inl h ↦ no-exits b v ok.1 h | inr h ↦ no-exit-alts q v ok.2 h ]
+        elim (or (exits_all b) (exits_some q) e) [ inl h ↦ no-exits b v ok.1 h | inr h ↦ no-exit-alts q v ok.2 h ]
 
-    no-exit-other : (o : Other) (v : Bool) → OkOther prog o v false → exitsOther o ≡ true → ⊥
+    no-exit-other : (o : Other) (v : Bool) → OkOther prog o v false → exits_other o ≡ true → ⊥
     no-exit-other absent v ok e = never e
     no-exit-other (otherwise b) v ok e = no-exits b v ok e
 
@@ -281,9 +281,9 @@ module _ (T : List ℕ) (start : ℕ → ℕ) (prog : List Rule) where
   other_at {v} {i} {o} {x} {l} {l'} {e} {ps = ps} h p q =
       subst (λ (z : ℕ). LayOther T start prog v i o x ps l' z) q (subst (λ (z : ℕ). LayOther T start prog v i o x ps z e) p h)
 
-  laid-plain : (p : Plain) (v c : Bool) (out x l : ℕ) → OkPlain prog p v c → (c ≡ true → x ≡ l + sizePlain p + out)
-      → Seg T l (plainWords start p out) → LayPlain T start prog v p x l (l + sizePlain p)
-  unfolding OkPlain sizePlain plainWords length_of lengths decodeWord decodeTwo decode_one
+  laid-plain : (p : Plain) (v c : Bool) (out x l : ℕ) → OkPlain prog p v c → (c ≡ true → x ≡ l + size_plain p + out)
+      → Seg T l (plain_words start p out) → LayPlain T start prog v p x l (l + size_plain p)
+  unfolding OkPlain size_plain plain_words length_of lengths decode_word decode_two decode_one
   laid-plain (match t) v c out x l ok hx s = lay-match (seg_two s)
   laid-plain any v c out x l ok hx s = lay-any (seg-one refl s)
   laid-plain (emit t) v c out x l ok hx s = lay-emit (seg_two s)
@@ -293,79 +293,79 @@ module _ (T : List ℕ) (start : ℕ → ℕ) (prog : List Rule) where
   laid-plain back v c out x l ok hx s = lay-back ok (seg-return s)
   laid-plain (give u) v c out x l ok hx s = lay-give ok.0 (seg_two s) (seg-return (seg-after 2 (10 ∷ u ∷ []) (9 ∷ []) refl s))
   laid-plain (update op) v c out x l ok hx s =
-      let d : decode T l ≡ updates op = seg-operation ok.0 (omega (arith, ok.1)) s ∙ is-update op ok.1 in
+      let d : decode T l ≡ updates op = seg-operation ok.0 (omega (arith, ok.1)) s ∙ is_update op ok.1 in
       lay-update d
-  laid-plain (updateWith op u) v c out x l ok hx s =
+  laid-plain (update_with op u) v c out x l ok hx s =
       let s₂ = seg-after 2 (13 ∷ u ∷ []) (op ∷ []) refl s in
-      let d : decode T (l + 2) ≡ updatesWith op =
-      seg-operation (omega (arith, ok.0)) (omega (arith, ok.1)) s₂ ∙ is-updateWith op ok.0 ok.1
+      let d : decode T (l + 2) ≡ updates_with op =
+      seg-operation (omega (arith, ok.0)) (omega (arith, ok.1)) s₂ ∙ is_update_with op ok.0 ok.1
       in
-      plain_end (lay-updateWith (seg_two s) d) (omega arith)
+      plain_end (lay-update_with (seg_two s) d) (omega arith)
 
   -- what stands where there is no otherwise
-  laid-input : (v : Bool) (q : Alts) (x d l l' e : ℕ) → l + 3 ≡ l' + d → Labelled q → Seg T l (3 ∷ firstLabel q ∷ 2 ∷ d ∷ [])
+  laid-input : (v : Bool) (q : Alts) (x d l l' e : ℕ) → l + 3 ≡ l' + d → Labelled q → Seg T l (3 ∷ first_label q ∷ 2 ∷ d ∷ [])
       → LayOther T start prog v true absent x (pairs l' q) l e
-  unfolding Labelled pairs entries firstLabel first_of length_of lengths decodeWord decodeTwo
+  unfolding Labelled pairs entries first_label first_of length_of lengths decode_word decode_two
   laid-input v nil x d l l' e z ok s = absurd ok
   laid-input v (alternative [] b q) x d l l' e z ok s = absurd ok
   laid-input v (alternative (u ∷ ls) b q) x d l l' e z ok s =
-      other-input (seg_two s) (seg-jumpBack l' (omega arith) (seg-after 2 (3 ∷ u ∷ []) (2 ∷ d ∷ []) refl s))
+      other-input (seg_two s) (seg-jump_back l' (omega arith) (seg-after 2 (3 ∷ u ∷ []) (2 ∷ d ∷ []) refl s))
 
   laid_end : (v : Bool) (x l e : ℕ) (ps : List Entry) → Seg T l (12 ∷ []) → LayOther T start prog v false absent x ps l e
   unfolding length_of lengths decode_one
   laid_end v x l e ps s = other-end (seg-one refl s)
 
-  unfoldable pub isToken : Selector → Bool
-  isToken byToken = true
-  isToken (byRule r) = false
-  isToken (byOperation op) = false
-  isToken (byOperationWith op u) = false
+  unfoldable pub is_token : Selector → Bool
+  is_token by_token = true
+  is_token (by_rule r) = false
+  is_token (by_operation op) = false
+  is_token (by_operation_with op u) = false
 
-  laid-absent : (s : Selector) (v : Bool) (q : Alts) (x d l l' e : ℕ) → l + 3 ≡ l' + d → NeedsLabel s absent q → Seg T l (absentWords s (firstLabel q) d)
-      → LayOther T start prog v (isToken s) absent x (pairs l' q) l e
-  unfolding NeedsLabel absentWords isToken
-  laid-absent byToken v q x d l l' e z ok t = laid-input v q x d l l' e z ok t
-  laid-absent (byRule r) v q x d l l' e z ok t = laid_end v x l e (pairs l' q) t
-  laid-absent (byOperation op) v q x d l l' e z ok t = laid_end v x l e (pairs l' q) t
-  laid-absent (byOperationWith op u) v q x d l l' e z ok t = laid_end v x l e (pairs l' q) t
+  laid-absent : (s : Selector) (v : Bool) (q : Alts) (x d l l' e : ℕ) → l + 3 ≡ l' + d → NeedsLabel s absent q → Seg T l (absent_words s (first_label q) d)
+      → LayOther T start prog v (is_token s) absent x (pairs l' q) l e
+  unfolding NeedsLabel absent_words is_token
+  laid-absent by_token v q x d l l' e z ok t = laid-input v q x d l l' e z ok t
+  laid-absent (by_rule r) v q x d l l' e z ok t = laid_end v x l e (pairs l' q) t
+  laid-absent (by_operation op) v q x d l l' e z ok t = laid_end v x l e (pairs l' q) t
+  laid-absent (by_operation_with op u) v q x d l l' e z ok t = laid_end v x l e (pairs l' q) t
 
   -- the parts of a choice that stand at its instruction, at l
   pub data Parts (v i : Bool) (q : Alts) (o : Other) (x l e : ℕ) : Type 0 where
-    parts : {c : ℕ} {ps : List Entry} → c ≡ l + 2 + sizeAlts q → Table T c ps → LayAlts T start prog v q x e (l + 2) ps
+    parts : {c : ℕ} {ps : List Entry} → c ≡ l + 2 + size_alts q → Table T c ps → LayAlts T start prog v q x e (l + 2) ps
         → LayOther T start prog v i o x ps (c + 1 + 2 * length ps) e → Parts v i q o x l e
 
   pub parts_at : {v i : Bool} {q : Alts} {o : Other} {x l l' e : ℕ} → Parts v i q o x l e → l ≡ l' → Parts v i q o x l' e
   parts_at {v} {i} {q} {o} {x} {e = e} h p = subst (λ (z : ℕ). Parts v i q o x z e) p h
 
-  pub laid-token : {v : Bool} {q : Alts} {o : Other} {x l e : ℕ} {ws : List ℕ} → NeedsLabel byToken o q → Seg T l (7 ∷ (sizeAlts q + 1) ∷ ws) → Parts v true q o x l e
-      → Lay T start prog v (choice byToken q o) x l e
-  unfolding length_of lengths decodeWord decodeTwo
+  pub laid-token : {v : Bool} {q : Alts} {o : Other} {x l e : ℕ} {ws : List ℕ} → NeedsLabel by_token o q → Seg T l (7 ∷ (size_alts q + 1) ∷ ws) → Parts v true q o x l e
+      → Lay T start prog v (choice by_token q o) x l e
+  unfolding length_of lengths decode_word decode_two
   laid-token {q = q} {l = l} nl t (parts {c = c} z tb a b) =
-      let d : decode T l ≡ inputChoice c = seg_two t ∙ ap inputChoice (omega arith) in
+      let d : decode T l ≡ input_choice c = seg_two t ∙ ap input_choice (omega arith) in
       lay-token nl d tb a b
 
-  pub laid-result : {v : Bool} {q : Alts} {o : Other} {x l e : ℕ} {ws : List ℕ} → Seg T l (11 ∷ (sizeAlts q + 1) ∷ ws) → Parts v false q o x l e
+  pub laid-result : {v : Bool} {q : Alts} {o : Other} {x l e : ℕ} {ws : List ℕ} → Seg T l (11 ∷ (size_alts q + 1) ∷ ws) → Parts v false q o x l e
       → LayChoice T start prog v q o x l e
-  unfolding length_of lengths decodeWord decodeTwo
+  unfolding length_of lengths decode_word decode_two
   laid-result {q = q} {l = l} t (parts {c = c} z tb a b) =
       let d : decode T l ≡ by_result c = seg_two t ∙ ap by_result (omega arith) in
       lay-choice d tb a b
 
   -- behind its selector
   pub laid-choice : (s : Selector) (v : Bool) (q : Alts) (o : Other) (x l e : ℕ) (ws : List ℕ) → OkSelector prog s → NeedsLabel s o q
-      → Seg T l (selectorWords start s ++ (choiceNumber s ∷ (sizeAlts q + 1) ∷ ws)) → Parts v (isToken s) q o x (l + sizeSelector s) e
+      → Seg T l (selector_words start s ++ (choice_number s ∷ (size_alts q + 1) ∷ ws)) → Parts v (is_token s) q o x (l + size_selector s) e
       → Lay T start prog v (choice s q o) x l e
-  unfolding selectorWords choiceNumber isToken OkSelector sizeSelector length_of lengths decodeWord decodeTwo
-  laid-choice byToken v q o x l e ws ok nl t p = laid-token nl t (parts_at p (omega arith))
-  laid-choice (byRule r) v q o x l e ws ok nl t p =
-      lay-rule (seg_two t) ok (laid-result (seg-after 2 (8 ∷ start r ∷ []) (11 ∷ (sizeAlts q + 1) ∷ ws) refl t) p)
-  laid-choice (byOperation op) v q o x l e ws ok nl t p =
+  unfolding selector_words choice_number is_token OkSelector size_selector length_of lengths decode_word decode_two
+  laid-choice by_token v q o x l e ws ok nl t p = laid-token nl t (parts_at p (omega arith))
+  laid-choice (by_rule r) v q o x l e ws ok nl t p =
+      lay-rule (seg_two t) ok (laid-result (seg-after 2 (8 ∷ start r ∷ []) (11 ∷ (size_alts q + 1) ∷ ws) refl t) p)
+  laid-choice (by_operation op) v q o x l e ws ok nl t p =
       let d : decode T l ≡ choose op = seg-operation (omega (arith, ok.0)) (omega (arith, ok.1)) t ∙ is-choose op ok.0 ok.1 in
-      lay-operation d (laid-result (seg-after 1 (op ∷ []) (11 ∷ (sizeAlts q + 1) ∷ ws) refl t) p)
-  laid-choice (byOperationWith op u) v q o x l e ws ok nl t p =
-      let t₂ = seg-after 2 (13 ∷ u ∷ []) (op ∷ 11 ∷ (sizeAlts q + 1) ∷ ws) refl t in
-      let d : decode T (l + 2) ≡ chooseWith op = seg-operation (omega (arith, ok.0)) ok.1 t₂ ∙ is-chooseWith op ok.0 in
-      lay-operationWith (seg_two t) d (laid-result (seg-after 1 (op ∷ []) (11 ∷ (sizeAlts q + 1) ∷ ws) refl t₂) (parts_at p (omega arith)))
+      lay-operation d (laid-result (seg-after 1 (op ∷ []) (11 ∷ (size_alts q + 1) ∷ ws) refl t) p)
+  laid-choice (by_operation_with op u) v q o x l e ws ok nl t p =
+      let t₂ = seg-after 2 (13 ∷ u ∷ []) (op ∷ 11 ∷ (size_alts q + 1) ∷ ws) refl t in
+      let d : decode T (l + 2) ≡ choose_with op = seg-operation (omega (arith, ok.0)) ok.1 t₂ ∙ is-choose_with op ok.0 in
+      lay-operation_with (seg_two t) d (laid-result (seg-after 1 (op ∷ []) (11 ∷ (size_alts q + 1) ∷ ws) refl t₂) (parts_at p (omega arith)))
 
   mutual
     unfolding size code Ok NeedsLabel pairs
@@ -376,25 +376,25 @@ module _ (T : List ℕ) (start : ℕ → ℕ) (prog : List Rule) where
     laid (cycle b) v c out x l ok hx s =
         lay-end
         (lay-cycle (laids b v true 2 (l + sizes b + 2) l ok (λ e. refl) (seg-left (codes start b 2) (2 ∷ (sizes b + 1) ∷ []) s))
-        (seg-jumpBack l (omega arith) (seg-after (sizes b) (codes start b 2) (2 ∷ (sizes b + 1) ∷ []) (length-codes start b 2) s)))
+        (seg-jump_back l (omega arith) (seg-after (sizes b) (codes start b 2) (2 ∷ (sizes b + 1) ∷ []) (length-codes start b 2) s)))
         (omega arith)
     laid (choice sl q o) v c out x l ok hx s =
-        let z = 1 + 2 * countLabels q + sizeOther o (sizeAbsent sl) in
-        let d = sizeAlts q + (1 + 2 * countLabels q + 3) in
-        let l₁ = l + sizeSelector sl in
-        let as₁ = codeAlts start q out z in
-        let os = codeOther start o out (absentWords sl (firstLabel q) d) in
-        let ts = countLabels q ∷ (tableWords 1 q ++ os) in
-        let ws = choiceNumber sl ∷ (sizeAlts q + 1) ∷ (as₁ ++ ts) in
-        let s₁ = seg-after (sizeSelector sl) (selectorWords start sl) ws (length-selector start sl) s in
-        let s₂ = seg-after 2 (choiceNumber sl ∷ (sizeAlts q + 1) ∷ []) (as₁ ++ ts) refl s₁ in
-        let s₃ = seg-after (sizeAlts q) as₁ ts (length-alts start q out z) s₂ in
-        let s₄ = seg-after (1 + 2 * countLabels q) (countLabels q ∷ tableWords 1 q) os (omega (arith, length-tableWords 1 q)) s₃ in
+        let z = 1 + 2 * count_labels q + size_other o (size_absent sl) in
+        let d = size_alts q + (1 + 2 * count_labels q + 3) in
+        let l₁ = l + size_selector sl in
+        let as₁ = code_alts start q out z in
+        let os = code_other start o out (absent_words sl (first_label q) d) in
+        let ts = count_labels q ∷ (table_words 1 q ++ os) in
+        let ws = choice_number sl ∷ (size_alts q + 1) ∷ (as₁ ++ ts) in
+        let s₁ = seg-after (size_selector sl) (selector_words start sl) ws (length-selector start sl) s in
+        let s₂ = seg-after 2 (choice_number sl ∷ (size_alts q + 1) ∷ []) (as₁ ++ ts) refl s₁ in
+        let s₃ = seg-after (size_alts q) as₁ ts (length-alts start q out z) s₂ in
+        let s₄ = seg-after (1 + 2 * count_labels q) (count_labels q ∷ table_words 1 q) os (omega (arith, length-table_words 1 q)) s₃ in
         laid-choice sl v q o x l (l + size (choice sl q o)) (as₁ ++ ts) ok.0 ok.3 s
-        (parts {c = l₁ + 2 + sizeAlts q} {ps = pairs (l₁ + 2) q} refl (laid_table T q (l₁ + 2) os s₃)
+        (parts {c = l₁ + 2 + size_alts q} {ps = pairs (l₁ + 2) q} refl (laid_table T q (l₁ + 2) os s₃)
         (laid-alts q v c out z x (l + size (choice sl q o)) (l₁ + 2) ok.1 hx (omega arith) (seg-left as₁ ts s₂))
         (other_at
-        (laid-other o sl v c q out d x (l₁ + 2 + sizeAlts q + (1 + 2 * countLabels q)) (l₁ + 2) (omega arith) ok.2 ok.3 (λ e. omega (arith, hx e)) s₄)
+        (laid-other o sl v c q out d x (l₁ + 2 + size_alts q + (1 + 2 * count_labels q)) (l₁ + 2) (omega arith) ok.2 ok.3 (λ e. omega (arith, hx e)) s₄)
         (omega (arith, pairs-length (l₁ + 2) q)) (omega arith)))
 
     pub laids : (q : Acts) (v c : Bool) (out x l : ℕ) → Oks prog q v c → (c ≡ true → x ≡ l + sizes q + out) → Seg T l (codes start q out)
@@ -408,71 +408,71 @@ module _ (T : List ℕ) (start : ℕ → ℕ) (prog : List Rule) where
         (seg-after (size a) w (codes start q out) (length-code start a (sizes q + out)) s)))
         (omega arith)
 
-    pub laid-alts : (q : Alts) (v c : Bool) (out z x y l : ℕ) → OkAlts prog q v c → (c ≡ true → x ≡ y + out) → l + sizeAlts q + z ≡ y
-        → Seg T l (codeAlts start q out z) → LayAlts T start prog v q x y l (pairs l q)
+    pub laid-alts : (q : Alts) (v c : Bool) (out z x y l : ℕ) → OkAlts prog q v c → (c ≡ true → x ≡ y + out) → l + size_alts q + z ≡ y
+        → Seg T l (code_alts start q out z) → LayAlts T start prog v q x y l (pairs l q)
     laid-alts nil v c out z x y l ok hx e s = alts-nil
     laid-alts (alternative ls b q) v c out z x y l ok hx e s =
-        let w = codes start b (2 + sizeAlts q + (z + out)) in
-        let ws : List ℕ = 1 ∷ (1 + sizeAlts q + z) ∷ codeAlts start q out z in
-        let s₂ = seg-after (sizes b) w ws (length-codes start b (2 + sizeAlts q + (z + out))) s in
-        alts-cons (laids b v c (2 + sizeAlts q + (z + out)) x l ok.1 (λ t. omega (arith, hx t)) (seg-left w ws s)) (seg-jump y (omega arith) s₂)
+        let w = codes start b (2 + size_alts q + (z + out)) in
+        let ws : List ℕ = 1 ∷ (1 + size_alts q + z) ∷ code_alts start q out z in
+        let s₂ = seg-after (sizes b) w ws (length-codes start b (2 + size_alts q + (z + out))) s in
+        alts-cons (laids b v c (2 + size_alts q + (z + out)) x l ok.1 (λ t. omega (arith, hx t)) (seg-left w ws s)) (seg-jump y (omega arith) s₂)
         (laid-alts q v c out z x y (l + sizes b + 2) ok.2 hx (omega arith)
-        (seg-after 2 (1 ∷ (1 + sizeAlts q + z) ∷ []) (codeAlts start q out z) refl s₂))
+        (seg-after 2 (1 ∷ (1 + size_alts q + z) ∷ []) (code_alts start q out z) refl s₂))
 
     pub laid-other : (o : Other) (sl : Selector) (v c : Bool) (q : Alts) (out d x l l' : ℕ) → l + 3 ≡ l' + d → OkOther prog o v c → NeedsLabel sl o q
-        → (c ≡ true → x ≡ l + sizeOther o (sizeAbsent sl) + out) → Seg T l (codeOther start o out (absentWords sl (firstLabel q) d))
-        → LayOther T start prog v (isToken sl) o x (pairs l' q) l (l + sizeOther o (sizeAbsent sl))
-    laid-other absent sl v c q out d x l l' z ok nl hx s = laid-absent sl v q x d l l' (l + sizeAbsent sl) z nl s
+        → (c ≡ true → x ≡ l + size_other o (size_absent sl) + out) → Seg T l (code_other start o out (absent_words sl (first_label q) d))
+        → LayOther T start prog v (is_token sl) o x (pairs l' q) l (l + size_other o (size_absent sl))
+    laid-other absent sl v c q out d x l l' z ok nl hx s = laid-absent sl v q x d l l' (l + size_absent sl) z nl s
     laid-other (otherwise b) sl v c q out d x l l' z ok nl hx s = other-is (laids b v c out x l ok hx s)
 
   -- Rules
 
-  rule_end : (v : Bool) (q : Acts) (l : ℕ) → (v ≡ true → pastAll q ≡ false) → Seg T l (endWords v) → pastAll q ≡ true → End T start prog v [] l
-  unfolding endWords
+  rule_end : (v : Bool) (q : Acts) (l : ℕ) → (v ≡ true → past_all q ≡ false) → Seg T l (end_words v) → past_all q ≡ true → End T start prog v [] l
+  unfolding end_words
   rule_end true q l h s g = never (sym (h refl) ∙ g)
   rule_end false q l h s g = end-rule refl (seg-return s)
 
   -- a rule that stands at l
-  rule-laid : (b : Rule) (l : ℕ) (ws : List ℕ) → Oks prog b.body b.valued false → (b.valued ≡ true → pastAll b.body ≡ false)
-      → Seg T l (codes start b.body 0 ++ (endWords b.valued ++ ws)) → At T start prog b.valued b.body [] l
+  rule-laid : (b : Rule) (l : ℕ) (ws : List ℕ) → Oks prog b.body b.valued false → (b.valued ≡ true → past_all b.body ≡ false)
+      → Seg T l (codes start b.body 0 ++ (end_words b.valued ++ ws)) → At T start prog b.valued b.body [] l
   rule-laid b l ws ok en s =
       let w = codes start b.body 0 in
-      let t = endWords b.valued in
+      let t = end_words b.valued in
       let s₂ = seg-after (sizes b.body) w (t ++ ws) (length-codes start b.body 0) s in
       at_place {x = 0} (laids b.body b.valued false 0 0 l ok (λ e. never e) (seg-left w (t ++ ws) s))
       (rule_end b.valued b.body (l + sizes b.body) en (seg-left t ws s₂))
       (λ x. absurd (no-exits prog b.body b.valued ok x))
 
   -- every rule of a list that stands at l
-  rules-laid : (bs : List Rule) (l : ℕ) → ((i : ℕ) → i < length bs → Oks prog (body_of bs i) (ruleOf bs i).valued false)
-      → ((i : ℕ) → i < length bs → (ruleOf bs i).valued ≡ true → pastAll (body_of bs i) ≡ false) → Seg T l (rulesWords start bs)
-      → (i : ℕ) → i < length bs → At T start prog (ruleOf bs i).valued (body_of bs i) [] (place l bs i)
-  unfolding rulesWords place sizeRule ruleOf body_of
+  rules-laid : (bs : List Rule) (l : ℕ) → ((i : ℕ) → i < length bs → Oks prog (body_of bs i) (rule_of bs i).valued false)
+      → ((i : ℕ) → i < length bs → (rule_of bs i).valued ≡ true → past_all (body_of bs i) ≡ false) → Seg T l (rules_words start bs)
+      → (i : ℕ) → i < length bs → At T start prog (rule_of bs i).valued (body_of bs i) [] (place l bs i)
+  unfolding rules_words place size_rule rule_of body_of
   rules-laid [] l ok en s i h = absurd (omega arith)
-  rules-laid (b ∷ bs) l ok en s zero h = rule-laid b l (rulesWords start bs) (ok 0 h) (en 0 h) s
+  rules-laid (b ∷ bs) l ok en s zero h = rule-laid b l (rules_words start bs) (ok 0 h) (en 0 h) s
   rules-laid (b ∷ bs) l ok en s (suc i) h =
       let w = codes start b.body 0 in
-      let t = endWords b.valued in
-      let s₂ = seg-after (sizes b.body) w (t ++ rulesWords start bs) (length-codes start b.body 0) s in
+      let t = end_words b.valued in
+      let s₂ = seg-after (sizes b.body) w (t ++ rules_words start bs) (length-codes start b.body 0) s in
       rules-laid bs (l + (sizes b.body + length t)) (λ j k. ok (suc j) (omega arith)) (λ j k. en (suc j) (omega arith))
-      (seg-at (seg-after (length t) t (rulesWords start bs) refl s₂) (omega arith)) i (omega arith)
+      (seg-at (seg-after (length t) t (rules_words start bs) refl s₂) (omega arith)) i (omega arith)
 
 -- each rule of the program stands at its place, with anything behind the table
 pub program-laid : (prog : List Rule) (more : List ℕ) → Accepted prog → (i : ℕ) → i < length prog
-    → At (table prog ++ more) (place 1 prog) prog (ruleOf prog i).valued (body_of prog i) [] (place 1 prog i)
+    → At (table prog ++ more) (place 1 prog) prog (rule_of prog i).valued (body_of prog i) [] (place 1 prog i)
 unfolding table
 program-laid prog more a =
     rules-laid (table prog ++ more) (place 1 prog) prog prog 1 a.in_order a.no_end (seg-left (table prog) more (seg-self (table prog ++ more)))
 
 -- the words of rule r
 abbrev pub own_words : List Rule → ℕ → List ℕ
-own_words prog r = codes (place 1 prog) (body_of prog r) 0 ++ endWords (ruleOf prog r).valued
+own_words prog r = codes (place 1 prog) (body_of prog r) 0 ++ end_words (rule_of prog r).valued
 
 -- a rule stands so too where its own words are all that there is
 pub rule-alone : (prog : List Rule) → Accepted prog → (r n : ℕ) → r < length prog
-    → At (replicate n 0 ++ own_words prog r) (place 1 prog) prog (ruleOf prog r).valued (body_of prog r) [] (suc n)
+    → At (replicate n 0 ++ own_words prog r) (place 1 prog) prog (rule_of prog r).valued (body_of prog r) [] (suc n)
 unfolding body_of
 rule-alone prog a r n h =
-    let b = ruleOf prog r in
+    let b = rule_of prog r in
     rule-laid (replicate n 0 ++ own_words prog r) (place 1 prog) prog b (suc n) [] (a.in_order r h) (a.no_end r h)
-    (rw (append-nil (endWords b.valued)) (seg-behind n (own_words prog r)))
+    (rw (append-nil (end_words b.valued)) (seg-behind n (own_words prog r)))

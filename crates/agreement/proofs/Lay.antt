@@ -6,17 +6,17 @@ use mathlib.Core.Option.{Option, none, some}
 use mathlib.Core.List.{List, [], ◌∷◌}
 use lib.Dec.{leb, eqb}
 use lib.ListN.{length}
-use Rattle.base.specs.Common.{if◌then◌else◌}
+use Rattle.std.specs.Prelude.{if◌then◌else◌}
 use Rattle.base.specs.Tree.{plain, cycle, choice, done, ◌▸◌, nil, alternative, absent, otherwise}
 use Rattle.events.specs.Events.{output, signal, Reason, finished, differs, missing, unlabelled, deep, unanswered, outside, Io}
-use Rattle.machine.specs.Decode.{fetch, jump, input, inputAny, write, inputChoice, callRule, return, setResult, choice as by_result, endChoice, setParameter, update as updates, updateWith as updatesWith, choose, chooseWith, decode}
+use Rattle.machine.specs.Decode.{fetch, jump, input, input_any, write, input_choice, call_rule, return, set_result, choice as by_result, end_choice, set_parameter, update as updates, update_with as updates_with, choose, choose_with, decode}
 use Rattle.machine.specs.Step.{seek}
 use Rattle.machine.specs.Walk.{going, stopped, Walk}
 use Rattle.ownwalk.specs.OwnWalk as rules
-use Rattle.ownwalk.specs.OwnWalk.{Context, inCycle, inAlternative, inOtherwise, Pending, before, beforeChoice, Own, on, choosing}
+use Rattle.ownwalk.specs.OwnWalk.{Context, in_cycle, in_alternative, in_otherwise, Pending, before, before_choice, Own, on, choosing}
 use Rattle.program.specs.Accepted.{Calls, NeedsLabel}
-use Rattle.program.specs.Past.{exitsAll, exitsSome, exitsOther, pastAll, pastSome, pastOther}
-use Rattle.program.specs.Program.{Plain, match, any, emit, error, exit, call, back, give, update, updateWith, byToken, byRule, byOperation, byOperationWith, Act, Acts, Alts, Other, Rule}
+use Rattle.program.specs.Past.{exits_all, exits_some, exits_other, past_all, past_some, past_other}
+use Rattle.program.specs.Program.{Plain, match, any, emit, error, exit, call, back, give, update, update_with, by_token, by_rule, by_operation, by_operation_with, Act, Acts, Alts, Other, Rule}
 
 -- Choice tables
 
@@ -53,11 +53,11 @@ pub record Table (T : List ℕ) (c : ℕ) (ps : List Entry) : Type 0 where
 -- Walks
 
 -- a walk that goes on, and one that has stopped
-abbrev pub goingAt : ℕ → List ℕ → ℕ → ℕ → Io → Walk
-goingAt l rs w p io = record { phase = going; location = l; returns = rs; result = w; parameter = p; io = io }
+abbrev pub going_at : ℕ → List ℕ → ℕ → ℕ → Io → Walk
+going_at l rs w p io = record { phase = going; location = l; returns = rs; result = w; parameter = p; io = io }
 
-abbrev pub stoppedAt : Reason → ℕ → List ℕ → ℕ → ℕ → Io → Walk
-stoppedAt r l rs w p io = record { phase = stopped r; location = l; returns = rs; result = w; parameter = p; io = io }
+abbrev pub stopped_at : Reason → ℕ → List ℕ → ℕ → ℕ → Io → Walk
+stopped_at r l rs w p io = record { phase = stopped r; location = l; returns = rs; result = w; parameter = p; io = io }
 
 -- any reason but 37
 abbrev pub inside : Reason → Bool
@@ -74,29 +74,29 @@ module _ (T : List ℕ) (start : ℕ → ℕ) (prog : List Rule) where
 
   pub data LayPlain (v : Bool) : Plain → ℕ → ℕ → ℕ → Type 0 where
     lay-match : {t x l : ℕ} → decode T l ≡ input t → LayPlain v (match t) x l (l + 2)
-    lay-any : {x l : ℕ} → decode T l ≡ inputAny → LayPlain v any x l (l + 1)
+    lay-any : {x l : ℕ} → decode T l ≡ input_any → LayPlain v any x l (l + 1)
     lay-emit : {t x l : ℕ} → decode T l ≡ write (output t) → LayPlain v (emit t) x l (l + 2)
     lay-error : {t x l : ℕ} → decode T l ≡ write (signal t) → LayPlain v (error t) x l (l + 2)
     lay-exit : {x l e : ℕ} → decode T l ≡ jump x → LayPlain v exit x l e
-    lay-call : {r x l : ℕ} → decode T l ≡ callRule (start r) → Calls prog r false → LayPlain v (call r) x l (l + 2)
+    lay-call : {r x l : ℕ} → decode T l ≡ call_rule (start r) → Calls prog r false → LayPlain v (call r) x l (l + 2)
     lay-back : {x l e : ℕ} → v ≡ false → decode T l ≡ return → LayPlain v back x l e
-    lay-give : {u x l e : ℕ} → v ≡ true → decode T l ≡ setResult u → decode T (l + 2) ≡ return → LayPlain v (give u) x l e
+    lay-give : {u x l e : ℕ} → v ≡ true → decode T l ≡ set_result u → decode T (l + 2) ≡ return → LayPlain v (give u) x l e
     lay-update : {op x l : ℕ} → decode T l ≡ updates op → LayPlain v (update op) x l (l + 1)
-    lay-updateWith : {op u x l : ℕ} → decode T l ≡ setParameter u → decode T (l + 2) ≡ updatesWith op
-        → LayPlain v (updateWith op u) x l (l + 2 + 1)
+    lay-update_with : {op u x l : ℕ} → decode T l ≡ set_parameter u → decode T (l + 2) ≡ updates_with op
+        → LayPlain v (update_with op u) x l (l + 2 + 1)
 
   mutual
     pub data Lay (v : Bool) : Act → ℕ → ℕ → ℕ → Type 0 where
       lay-plain : {p : Plain} {x l e : ℕ} → LayPlain v p x l e → Lay v (plain p) x l e
       lay-cycle : {b : Acts} {x l m : ℕ} → Lays v b (m + 2) l m → decode T m ≡ jump l → Lay v (cycle b) x l (m + 2)
-      lay-token : {q : Alts} {o : Other} {x l e c : ℕ} {ps : List Entry} → NeedsLabel byToken o q → decode T l ≡ inputChoice c → Table T c ps
-          → LayAlts v q x e (l + 2) ps → LayOther v true o x ps (c + 1 + 2 * length ps) e → Lay v (choice byToken q o) x l e
-      lay-rule : {r x l e : ℕ} {q : Alts} {o : Other} → decode T l ≡ callRule (start r) → Calls prog r true
-          → LayChoice v q o x (l + 2) e → Lay v (choice (byRule r) q o) x l e
+      lay-token : {q : Alts} {o : Other} {x l e c : ℕ} {ps : List Entry} → NeedsLabel by_token o q → decode T l ≡ input_choice c → Table T c ps
+          → LayAlts v q x e (l + 2) ps → LayOther v true o x ps (c + 1 + 2 * length ps) e → Lay v (choice by_token q o) x l e
+      lay-rule : {r x l e : ℕ} {q : Alts} {o : Other} → decode T l ≡ call_rule (start r) → Calls prog r true
+          → LayChoice v q o x (l + 2) e → Lay v (choice (by_rule r) q o) x l e
       lay-operation : {op x l e : ℕ} {q : Alts} {o : Other} → decode T l ≡ choose op
-          → LayChoice v q o x (l + 1) e → Lay v (choice (byOperation op) q o) x l e
-      lay-operationWith : {op u x l e : ℕ} {q : Alts} {o : Other} → decode T l ≡ setParameter u → decode T (l + 2) ≡ chooseWith op
-          → LayChoice v q o x (l + 2 + 1) e → Lay v (choice (byOperationWith op u) q o) x l e
+          → LayChoice v q o x (l + 1) e → Lay v (choice (by_operation op) q o) x l e
+      lay-operation_with : {op u x l e : ℕ} {q : Alts} {o : Other} → decode T l ≡ set_parameter u → decode T (l + 2) ≡ choose_with op
+          → LayChoice v q o x (l + 2 + 1) e → Lay v (choice (by_operation_with op u) q o) x l e
 
     pub data Lays (v : Bool) : Acts → ℕ → ℕ → ℕ → Type 0 where
       lays-done : {x l : ℕ} → Lays v done x l l
@@ -116,32 +116,32 @@ module _ (T : List ℕ) (start : ℕ → ℕ) (prog : List Rule) where
     -- true: of an input choice
     pub data LayOther (v : Bool) : Bool → Other → ℕ → List Entry → ℕ → ℕ → Type 0 where
       other-input : {x u a l e : ℕ} {ps : List Entry} → decode T l ≡ input u → decode T (l + 2) ≡ jump a → LayOther v true absent x ((u, a) ∷ ps) l e
-      other-end : {x l e : ℕ} {ps : List Entry} → decode T l ≡ endChoice → LayOther v false absent x ps l e
+      other-end : {x l e : ℕ} {ps : List Entry} → decode T l ≡ end_choice → LayOther v false absent x ps l e
       other-is : {i : Bool} {b : Acts} {x l e : ℕ} {ps : List Entry} → Lays v b x l e → LayOther v i (otherwise b) x ps l e
 
   -- Places: what goes on at the end of the actions, if they can come there, and at an exit, if they have one
 
   mutual
     pub data At (v : Bool) : Acts → List Context → ℕ → Type 0 where
-      at_place : {q : Acts} {k : List Context} {x l e : ℕ} → Lays v q x l e → (pastAll q ≡ true → End v k e) → (exitsAll q ≡ true → Out v k x)
+      at_place : {q : Acts} {k : List Context} {x l e : ℕ} → Lays v q x l e → (past_all q ≡ true → End v k e) → (exits_all q ≡ true → Out v k x)
           → At v q k l
 
     pub data End (v : Bool) : List Context → ℕ → Type 0 where
       end-rule : {e : ℕ} → v ≡ false → decode T e ≡ return → End v [] e
       end-cycle : {b r : Acts} {k : List Context} {l e : ℕ} → Lays v b (e + 2) l e → decode T e ≡ jump l
-          → (exitsAll b ≡ true → Out v (inCycle b r ∷ k) (e + 2)) → End v (inCycle b r ∷ k) e
-      end-alternative : {r : Acts} {k : List Context} {e y : ℕ} → decode T e ≡ jump y → At v r k y → End v (inAlternative r ∷ k) e
-      end-otherwise : {r : Acts} {k : List Context} {e : ℕ} → At v r k e → End v (inOtherwise r ∷ k) e
+          → (exits_all b ≡ true → Out v (in_cycle b r ∷ k) (e + 2)) → End v (in_cycle b r ∷ k) e
+      end-alternative : {r : Acts} {k : List Context} {e y : ℕ} → decode T e ≡ jump y → At v r k y → End v (in_alternative r ∷ k) e
+      end-otherwise : {r : Acts} {k : List Context} {e : ℕ} → At v r k e → End v (in_otherwise r ∷ k) e
 
     pub data Out (v : Bool) : List Context → ℕ → Type 0 where
-      out-cycle : {b r : Acts} {k : List Context} {x : ℕ} → At v r k x → Out v (inCycle b r ∷ k) x
-      out-alternative : {r : Acts} {k : List Context} {x : ℕ} → Out v k x → Out v (inAlternative r ∷ k) x
-      out-otherwise : {r : Acts} {k : List Context} {x : ℕ} → Out v k x → Out v (inOtherwise r ∷ k) x
+      out-cycle : {b r : Acts} {k : List Context} {x : ℕ} → At v r k x → Out v (in_cycle b r ∷ k) x
+      out-alternative : {r : Acts} {k : List Context} {x : ℕ} → Out v k x → Out v (in_alternative r ∷ k) x
+      out-otherwise : {r : Acts} {k : List Context} {x : ℕ} → Out v k x → Out v (in_otherwise r ∷ k) x
 
   -- before a choice by the result, with the actions r after it
   pub data AtChoice (v : Bool) : Alts → Other → Acts → List Context → ℕ → Type 0 where
     at-choice : {q : Alts} {o : Other} {r : Acts} {k : List Context} {x l e : ℕ} → LayChoice v q o x l e
-        → ((pastSome q || pastOther o) ≡ true → At v r k e) → ((exitsSome q || exitsOther o) ≡ true → Out v k x) → AtChoice v q o r k l
+        → ((past_some q || past_other o) ≡ true → At v r k e) → ((exits_some q || exits_other o) ≡ true → Out v k x) → AtChoice v q o r k l
 
   -- pending calls beside return locations; the index says whether the rule that returns next is a choice rule
   pub data Pend : Bool → List Pending → List ℕ → Type 0 where
@@ -150,12 +150,12 @@ module _ (T : List ℕ) (start : ℕ → ℕ) (prog : List Rule) where
     pend-before : {v : Bool} {q : Acts} {k : List Context} {ps : List Pending} {r : ℕ} {rs : List ℕ} → At v q k r → Pend v ps rs
         → Pend false (before q k ∷ ps) (r ∷ rs)
     pend-choice : {v : Bool} {q : Alts} {o : Other} {b : Acts} {k : List Context} {ps : List Pending} {r : ℕ} {rs : List ℕ}
-        → AtChoice v q o b k r → Pend v ps rs → Pend true (beforeChoice q o b k ∷ ps) (r ∷ rs)
+        → AtChoice v q o b k r → Pend v ps rs → Pend true (before_choice q o b k ∷ ps) (r ∷ rs)
 
   -- the rules' own walk, and the walk over the table at the same place
   pub data Rel : Own → Walk → Type 0 where
     rel-on : {v : Bool} {q : Acts} {k : List Context} {ps : List Pending} {io : Io} {l w p : ℕ} {rs : List ℕ} → At v q k l → Pend v ps rs
-        → Rel (on q k ps io) (goingAt l rs w p io)
+        → Rel (on q k ps io) (going_at l rs w p io)
     rel-choosing : {v : Bool} {q : Alts} {o : Other} {b : Acts} {k : List Context} {ps : List Pending} {io : Io} {l w p : ℕ} {rs : List ℕ}
-        → AtChoice v q o b k l → Pend v ps rs → Rel (choosing w q o b k ps io) (goingAt l rs w p io)
-    rel-stopped : {r : Reason} {io : Io} {l w p : ℕ} {rs : List ℕ} → inside r ≡ true → Rel (rules.stopped r io) (stoppedAt r l rs w p io)
+        → AtChoice v q o b k l → Pend v ps rs → Rel (choosing w q o b k ps io) (going_at l rs w p io)
+    rel-stopped : {r : Reason} {io : Io} {l w p : ℕ} {rs : List ℕ} → inside r ≡ true → Rel (rules.stopped r io) (stopped_at r l rs w p io)

@@ -9,39 +9,40 @@ use lib.Dec.{leb, ltb}
 use lib.ListN.{length, get_elem?}
 use borrow.Author.Tests.{ltb-true, ltb-false, lt-leb, le-leb}
 use Rattle.base.specs.Bools.{split}
-use Rattle.base.specs.Common.{if◌then◌else◌, given}
+use Rattle.std.specs.Prelude.{if◌then◌else◌}
+use Rattle.base.specs.Common.{given}
 use Rattle.events.specs.Events
-use Rattle.events.specs.Events.{Event, repair, Reason, finished, differs, missing, unlabelled, deep, unanswered, outside, reasonNumber, isChoice, choices, answer, mends, is, present}
+use Rattle.events.specs.Events.{Event, repair, Reason, finished, differs, missing, unlabelled, deep, unanswered, outside, reason_number, is_choice, choices, answer, mends, is, present}
 use Rattle.machine.proofs.Bytes.{past_end}
 use Rattle.machine.proofs.Decoded.{of-operation, of_one, of_two, of-decode}
-use Rattle.machine.specs.Decode.{fetch, Instruction, invalid, jump, input, inputAny, write, inputChoice, callRule, return, setResult, choice, endChoice, setParameter, update, updateWith, choose, chooseWith, decodeOperation, decode}
+use Rattle.machine.specs.Decode.{fetch, Instruction, invalid, jump, input, input_any, write, input_choice, call_rule, return, set_result, choice, end_choice, set_parameter, update, update_with, choose, choose_with, decode_operation, decode}
 use Rattle.machine.specs.Walk
-use Rattle.machine.specs.Walk.{Phase, going, waiting, stopped, Walk, fresh, moved, withReturns, withResult, withIo, inPhase, withAnswer, first64, atRest}
-use Rattle.machine.specs.Step.{Next, goesOutside, stops, goes, tells, asks, goTo, seekBy, landed, branched, inputChoosing, calling, returning, requiring, exec, step}
+use Rattle.machine.specs.Walk.{Phase, going, waiting, stopped, Walk, fresh, moved, with_returns, with_result, with_io, in_phase, with_answer, first64, at_rest}
+use Rattle.machine.specs.Step.{Next, goes_outside, stops, goes, tells, asks, go_to, seek_by, landed, branched, input_choosing, calling, returning, requiring, exec, step}
 use Rattle.machine.specs.Call
-use Rattle.machine.specs.Call.{Mode, whole, paused, Called, ends, endsFor, keeps, writing, Turn, over, further, takes, handsOut, turn, run, call_in, callWalk}
-use Rattle.agreement.specs.Demand.{wanted, Allowed, ListedFrom, begin, then-call, Listed}
-use Rattle.agreement.proofs.Single.{taking, done, oneIn, one, runs}
+use Rattle.machine.specs.Call.{Mode, whole, paused, Called, ends, ends_for, keeps, writing, Turn, over, further, takes, hands_out, turn, run, call_in, call_walk}
+use Rattle.agreement.specs.Demand.{wanted, Allowed, ListedFrom, begin, then_call, Listed}
+use Rattle.agreement.proofs.Single.{taking, done, one_in, one, runs}
 
 -- a walk with these events in place of its own
-unfoldable pub withEvents : List Event → Walk → Walk
-withEvents es w = withIo (record { read = w.io.read; used = w.io.used; allowance = w.io.allowance; events = es }) w
+unfoldable pub with_events : List Event → Walk → Walk
+with_events es w = with_io (record { read = w.io.read; used = w.io.used; allowance = w.io.allowance; events = es }) w
 
 -- a walk with the events of earlier calls before its own
-unfoldable pub withEarlier : List Event → Walk → Walk
-withEarlier es w = withEvents (es ++ w.io.events) w
+unfoldable pub with_earlier : List Event → Walk → Walk
+with_earlier es w = with_events (es ++ w.io.events) w
 
-pub writing-earlier : (es : List Event) (e : Event) (v : Walk) → withEarlier es (writing e v) ≡ writing e (withEarlier es v)
-unfolding withEarlier withEvents writing Walk.opened Events.wrote
-writing-earlier es e v = let a = append_assoc es v.io.events (e ∷ []) in λ i. withEvents (sym a i) v
+pub writing-earlier : (es : List Event) (e : Event) (v : Walk) → with_earlier es (writing e v) ≡ writing e (with_earlier es v)
+unfolding with_earlier with_events writing Walk.opened Events.wrote
+writing-earlier es e v = let a = append_assoc es v.io.events (e ∷ []) in λ i. with_events (sym a i) v
 
 -- what an instruction does, with the events of earlier calls before its own
 unfoldable pub earlier : List Event → Next → Next
-earlier es goesOutside = goesOutside
+earlier es goes_outside = goes_outside
 earlier es (stops r) = stops r
-earlier es (goes v) = goes (withEarlier es v)
-earlier es (tells e v) = tells e (withEarlier es v)
-earlier es (asks e v) = asks e (withEarlier es v)
+earlier es (goes v) = goes (with_earlier es v)
+earlier es (tells e v) = tells e (with_earlier es v)
+earlier es (asks e v) = asks e (with_earlier es v)
 
 -- `step` does not look at the events
 
@@ -52,79 +53,79 @@ module _ (es : List Event) where
   if-earlier false x y x' y' p q = q
 
   module _ (T tokens : List ℕ) where
-    goTo-earlier : (l : ℕ) (w : Walk) → goTo T tokens l (withEarlier es w) ≡ earlier es (goTo T tokens l w)
-    unfolding goTo earlier withEarlier withEvents Walk.opened
-    goTo-earlier l w = if-earlier (given (fetch T l)) (goes (moved l w)) goesOutside _ _ refl refl
+    go_to-earlier : (l : ℕ) (w : Walk) → go_to T tokens l (with_earlier es w) ≡ earlier es (go_to T tokens l w)
+    unfolding go_to earlier with_earlier with_events Walk.opened
+    go_to-earlier l w = if-earlier (given (fetch T l)) (goes (moved l w)) goes_outside _ _ refl refl
 
     landed-earlier : (o : Option ℕ) (d : ℕ) (v w : Walk)
-        → landed T tokens o d (withEarlier es v) (withEarlier es w) ≡ earlier es (landed T tokens o d v w)
+        → landed T tokens o d (with_earlier es v) (with_earlier es w) ≡ earlier es (landed T tokens o d v w)
     unfolding landed earlier
-    landed-earlier none d v w = goTo-earlier d w
+    landed-earlier none d v w = go_to-earlier d w
     landed-earlier (some l) d v w = go (fetch T l)
       where
         go : (o : Option ℕ)
-            → ◌≡◌ {A = Next} (elim o [ none ↦ goesOutside | some x ↦ goTo T tokens (l - x) (withEarlier es v) ])
-            (earlier es (elim o [ none ↦ goesOutside | some x ↦ goTo T tokens (l - x) v ]))
+            → ◌≡◌ {A = Next} (elim o [ none ↦ goes_outside | some x ↦ go_to T tokens (l - x) (with_earlier es v) ])
+            (earlier es (elim o [ none ↦ goes_outside | some x ↦ go_to T tokens (l - x) v ]))
         go none = refl
-        go (some x) = goTo-earlier (l - x) v
+        go (some x) = go_to-earlier (l - x) v
 
     branched-earlier : (n o : Option ℕ) (c : ℕ) (v w : Walk)
-        → branched T tokens n o c (withEarlier es v) (withEarlier es w) ≡ earlier es (branched T tokens n o c v w)
+        → branched T tokens n o c (with_earlier es v) (with_earlier es w) ≡ earlier es (branched T tokens n o c v w)
     unfolding branched earlier
     branched-earlier none o c v w = refl
     branched-earlier (some n) o c v w =
-        let l = landed-earlier (seekBy T tokens o n (c + 1)) (c + 1 + 2 * n) v w in
-        if-earlier (leb (c + 2 * n) (length T)) (landed T tokens (seekBy T tokens o n (c + 1)) (c + 1 + 2 * n) v w) goesOutside _ _ l refl
+        let l = landed-earlier (seek_by T tokens o n (c + 1)) (c + 1 + 2 * n) v w in
+        if-earlier (leb (c + 2 * n) (length T)) (landed T tokens (seek_by T tokens o n (c + 1)) (c + 1 + 2 * n) v w) goes_outside _ _ l refl
 
-    inputChoosing-earlier : (o : Option ℕ) (c : ℕ) (w : Walk)
-        → inputChoosing T tokens o c (withEarlier es w) ≡ earlier es (inputChoosing T tokens o c w)
-    unfolding inputChoosing withEarlier withEvents Walk.opened Events.opened
-    inputChoosing-earlier none c w = branched-earlier (fetch T c) none c w w
-    inputChoosing-earlier (some t) c w =
-        branched-earlier (fetch T c) (some t) c (withIo (Events.took w.io) (withResult t w)) (withResult t w)
+    input_choosing-earlier : (o : Option ℕ) (c : ℕ) (w : Walk)
+        → input_choosing T tokens o c (with_earlier es w) ≡ earlier es (input_choosing T tokens o c w)
+    unfolding input_choosing with_earlier with_events Walk.opened Events.opened
+    input_choosing-earlier none c w = branched-earlier (fetch T c) none c w w
+    input_choosing-earlier (some t) c w =
+        branched-earlier (fetch T c) (some t) c (with_io (Events.took w.io) (with_result t w)) (with_result t w)
 
-    calling-earlier : (l : ℕ) (w : Walk) → calling T tokens l (withEarlier es w) ≡ earlier es (calling T tokens l w)
-    unfolding calling earlier withEarlier withEvents Walk.opened
+    calling-earlier : (l : ℕ) (w : Walk) → calling T tokens l (with_earlier es w) ≡ earlier es (calling T tokens l w)
+    unfolding calling earlier with_earlier with_events Walk.opened
     calling-earlier l w =
-        let on = goes (moved l (withReturns ((w.location + 2) ∷ w.returns) w)) in
+        let on = goes (moved l (with_returns ((w.location + 2) ∷ w.returns) w)) in
         let b = ltb (length w.returns) 64 in
-        if-earlier (given (fetch T l)) (if b then on else stops deep) goesOutside _ _
+        if-earlier (given (fetch T l)) (if b then on else stops deep) goes_outside _ _
         (if-earlier b on (stops deep) _ _ refl refl) refl
 
-    returning-earlier : (rs : List ℕ) (w : Walk) → returning T tokens rs (withEarlier es w) ≡ earlier es (returning T tokens rs w)
-    unfolding returning earlier withEarlier withEvents Walk.opened
+    returning-earlier : (rs : List ℕ) (w : Walk) → returning T tokens rs (with_earlier es w) ≡ earlier es (returning T tokens rs w)
+    unfolding returning earlier with_earlier with_events Walk.opened
     returning-earlier [] w = refl
-    returning-earlier (l ∷ rs) w = goTo-earlier l (withReturns rs w)
+    returning-earlier (l ∷ rs) w = go_to-earlier l (with_returns rs w)
 
-    requiring-earlier : (t : ℕ) (b : Bool) (w : Walk) → requiring T tokens t b (withEarlier es w) ≡ earlier es (requiring T tokens t b w)
-    unfolding requiring earlier withEarlier withEvents Walk.opened Events.opened
+    requiring-earlier : (t : ℕ) (b : Bool) (w : Walk) → requiring T tokens t b (with_earlier es w) ≡ earlier es (requiring T tokens t b w)
+    unfolding requiring earlier with_earlier with_events Walk.opened Events.opened
     requiring-earlier t true w = refl
     requiring-earlier t false w =
-        if-earlier (mends w.io) (tells (repair t) (moved (w.location + 2) (withIo (Events.spent w.io) w))) (stops differs) _ _ refl refl
+        if-earlier (mends w.io) (tells (repair t) (moved (w.location + 2) (with_io (Events.spent w.io) w))) (stops differs) _ _ refl refl
 
-    exec-earlier : (i : Instruction) (w : Walk) → exec T tokens i (withEarlier es w) ≡ earlier es (exec T tokens i w)
-    unfolding exec earlier withEarlier withEvents Walk.opened Events.opened
+    exec-earlier : (i : Instruction) (w : Walk) → exec T tokens i (with_earlier es w) ≡ earlier es (exec T tokens i w)
+    unfolding exec earlier with_earlier with_events Walk.opened Events.opened
     exec-earlier invalid w = refl
-    exec-earlier (jump l) w = goTo-earlier l w
+    exec-earlier (jump l) w = go_to-earlier l w
     exec-earlier (input t) w = requiring-earlier t (is t (present tokens w.io)) w
-    exec-earlier inputAny w =
-        let on = goes (moved (w.location + 1) (withIo (Events.took w.io) w)) in
+    exec-earlier input_any w =
+        let on = goes (moved (w.location + 1) (with_io (Events.took w.io) w)) in
         if-earlier (given (present tokens w.io)) on (stops missing) _ _ refl refl
     exec-earlier (write e) w = refl
-    exec-earlier (inputChoice c) w = inputChoosing-earlier (present tokens w.io) c w
-    exec-earlier (callRule l) w = calling-earlier l w
+    exec-earlier (input_choice c) w = input_choosing-earlier (present tokens w.io) c w
+    exec-earlier (call_rule l) w = calling-earlier l w
     exec-earlier return w = returning-earlier w.returns w
-    exec-earlier (setResult v) w = refl
+    exec-earlier (set_result v) w = refl
     exec-earlier (choice c) w = branched-earlier (fetch T c) (some w.result) c w w
-    exec-earlier endChoice w = refl
-    exec-earlier (setParameter v) w = refl
+    exec-earlier end_choice w = refl
+    exec-earlier (set_parameter v) w = refl
     exec-earlier (update op) w = refl
-    exec-earlier (updateWith op) w = refl
+    exec-earlier (update_with op) w = refl
     exec-earlier (choose op) w = refl
-    exec-earlier (chooseWith op) w = refl
+    exec-earlier (choose_with op) w = refl
 
-    pub step-earlier : (w : Walk) → step T tokens (withEarlier es w) ≡ earlier es (step T tokens w)
-    unfolding step withEarlier withEvents Walk.opened
+    pub step-earlier : (w : Walk) → step T tokens (with_earlier es w) ≡ earlier es (step T tokens w)
+    unfolding step with_earlier with_events Walk.opened
     step-earlier w = exec-earlier (decode T w.location) w
 
 -- "updates from 256, ..", "choice operations from 768, ..": an instruction whose event is of its kind
@@ -132,26 +133,26 @@ Kind : Instruction → Type 0
 Kind invalid = Unit {0}
 Kind (jump l) = Unit {0}
 Kind (input t) = Unit {0}
-Kind inputAny = Unit {0}
-Kind (write e) = isChoice e ≡ false
-Kind (inputChoice c) = Unit {0}
-Kind (callRule l) = Unit {0}
+Kind input_any = Unit {0}
+Kind (write e) = is_choice e ≡ false
+Kind (input_choice c) = Unit {0}
+Kind (call_rule l) = Unit {0}
 Kind return = Unit {0}
-Kind (setResult v) = Unit {0}
+Kind (set_result v) = Unit {0}
 Kind (choice c) = Unit {0}
-Kind endChoice = Unit {0}
-Kind (setParameter v) = Unit {0}
+Kind end_choice = Unit {0}
+Kind (set_parameter v) = Unit {0}
 Kind (update op) = leb 768 op ≡ false
-Kind (updateWith op) = leb 768 op ≡ false
+Kind (update_with op) = leb 768 op ≡ false
 Kind (choose op) = leb 768 op ≡ true
-Kind (chooseWith op) = leb 768 op ≡ true
+Kind (choose_with op) = leb 768 op ≡ true
 
 kind : (T : List ℕ) (l : ℕ) → Kind (decode T l)
-unfolding Kind isChoice
+unfolding Kind is_choice
 kind T l = of-decode Kind T l tt (λ i _. of_one Kind i (λ _. tt) (λ _. tt) (λ _. tt) (operation i))
     (λ i x _ _. of_two Kind l i x (λ _ _. tt) (λ _ _. tt) (λ _. tt) (λ _. refl) (λ _. refl) (λ _ _ _. tt) (λ _. tt) (λ _. tt) (λ _ _ _. tt) tt)
   where
-    operation : (i : ℕ) → Kind (decodeOperation i)
+    operation : (i : ℕ) → Kind (decode_operation i)
     operation i = of-operation Kind i (λ h. lt-leb 768 i (omega arith)) (λ h. lt-leb 768 i h) (λ h. le-leb 768 i h) (λ h. le-leb 768 i h)
 
 -- what an instruction leaves as it is: all of the walk but location, result, parameter, tokens read, allowance and return locations, of which there
@@ -174,11 +175,11 @@ Own outside = ⊥
 
 -- what holds of what an instruction does: only one that asks has a choice operation's event
 pub data After (w : Walk) : Next → Type 0 where
-  after-outside : After w goesOutside
+  after-outside : After w goes_outside
   after_stop : (r : Reason) → Own r → After w (stops r)
   after-goes : (v : Walk) → Keeps w v → After w (goes v)
-  after-tells : (e : Event) (v : Walk) → isChoice e ≡ false → Keeps w v → After w (tells e v)
-  after-asks : (e : Event) (v : Walk) → isChoice e ≡ true → v ≡ moved (w.location + 1) w → Keeps w v → After w (asks e v)
+  after-tells : (e : Event) (v : Walk) → is_choice e ≡ false → Keeps w v → After w (tells e v)
+  after-asks : (e : Event) (v : Walk) → is_choice e ≡ true → v ≡ moved (w.location + 1) w → Keeps w v → After w (asks e v)
 
 if-after : (u : Walk) (b : Bool) (x y : Next) → (b ≡ true → After u x) → (b ≡ false → After u y) → After u (if b then x else y)
 if-after u true x y p q = p refl
@@ -197,81 +198,81 @@ kept : (w : Walk) (l v p n a : ℕ)
 kept w l v p n a = record { phase = refl; used = refl; events = refl; returns = λ h. h }
 
 module _ (T tokens : List ℕ) (u : Walk) where
-  goTo-after : (l : ℕ) (w : Walk) → Keeps u w → After u (goTo T tokens l w)
-  unfolding goTo moved
-  goTo-after l w k =
-      if-after u (given (fetch T l)) (goes (moved l w)) goesOutside
+  go_to-after : (l : ℕ) (w : Walk) → Keeps u w → After u (go_to T tokens l w)
+  unfolding go_to moved
+  go_to-after l w k =
+      if-after u (given (fetch T l)) (goes (moved l w)) goes_outside
       (λ _. after-goes _ (record { phase = k.phase; used = k.used; events = k.events; returns = k.returns })) (λ _. after-outside)
 
   landed-after : (o : Option ℕ) (d : ℕ) (v w : Walk) → Keeps u v → Keeps u w → After u (landed T tokens o d v w)
   unfolding landed
-  landed-after none d v w j k = goTo-after d w k
+  landed-after none d v w j k = go_to-after d w k
   landed-after (some l) d v w j k = go (fetch T l)
     where
-      go : (o : Option ℕ) → After u (elim o [ none ↦ goesOutside | some x ↦ goTo T tokens (l - x) v ])
+      go : (o : Option ℕ) → After u (elim o [ none ↦ goes_outside | some x ↦ go_to T tokens (l - x) v ])
       go none = after-outside
-      go (some x) = goTo-after (l - x) v j
+      go (some x) = go_to-after (l - x) v j
 
   branched-after : (n o : Option ℕ) (c : ℕ) (v w : Walk) → Keeps u v → Keeps u w → After u (branched T tokens n o c v w)
   unfolding branched
   branched-after none o c v w j k = after-outside
   branched-after (some n) o c v w j k =
-      if-after u (leb (c + 2 * n) (length T)) (landed T tokens (seekBy T tokens o n (c + 1)) (c + 1 + 2 * n) v w) goesOutside
-      (λ _. landed-after (seekBy T tokens o n (c + 1)) (c + 1 + 2 * n) v w j k) (λ _. after-outside)
+      if-after u (leb (c + 2 * n) (length T)) (landed T tokens (seek_by T tokens o n (c + 1)) (c + 1 + 2 * n) v w) goes_outside
+      (λ _. landed-after (seek_by T tokens o n (c + 1)) (c + 1 + 2 * n) v w j k) (λ _. after-outside)
 
-  inputChoosing-after : (o : Option ℕ) (c : ℕ) → After u (inputChoosing T tokens o c u)
-  unfolding inputChoosing Walk.opened Events.opened
-  inputChoosing-after none c = branched-after (fetch T c) none c u u (kept u _ _ _ _ _) (kept u _ _ _ _ _)
-  inputChoosing-after (some t) c =
-      branched-after (fetch T c) (some t) c (withIo (Events.took u.io) (withResult t u)) (withResult t u)
+  input_choosing-after : (o : Option ℕ) (c : ℕ) → After u (input_choosing T tokens o c u)
+  unfolding input_choosing Walk.opened Events.opened
+  input_choosing-after none c = branched-after (fetch T c) none c u u (kept u _ _ _ _ _) (kept u _ _ _ _ _)
+  input_choosing-after (some t) c =
+      branched-after (fetch T c) (some t) c (with_io (Events.took u.io) (with_result t u)) (with_result t u)
       (kept u _ _ _ _ _)
       (kept u _ _ _ _ _)
 
   calling-after : (l : ℕ) → After u (calling T tokens l u)
   unfolding calling Walk.opened
   calling-after l =
-      let on = goes (moved l (withReturns ((u.location + 2) ∷ u.returns) u)) in
+      let on = goes (moved l (with_returns ((u.location + 2) ∷ u.returns) u)) in
       let b = ltb (length u.returns) 64 in
-      if-after u (given (fetch T l)) (if b then on else stops deep) goesOutside
+      if-after u (given (fetch T l)) (if b then on else stops deep) goes_outside
       (λ _. if-after u b on (stops deep)
       (λ t. after-goes _ (record { phase = refl; used = refl; events = refl; returns = λ h. ltb-true (length u.returns) 64 t }))
       (λ _. after_stop deep tt))
       (λ _. after-outside)
 
   returning-after : (rs : List ℕ) → u.returns ≡ rs → After u (returning T tokens rs u)
-  unfolding returning withReturns
+  unfolding returning with_returns
   returning-after [] e = after_stop finished tt
   returning-after (l ∷ rs) e =
       let s : length u.returns ≡ suc (length rs) = ap length e in
-      goTo-after l (withReturns rs u) (record { phase = refl; used = refl; events = refl; returns = λ h. omega (arith, s) })
+      go_to-after l (with_returns rs u) (record { phase = refl; used = refl; events = refl; returns = λ h. omega (arith, s) })
 
   requiring-after : (t : ℕ) (b : Bool) → After u (requiring T tokens t b u)
-  unfolding requiring isChoice Walk.opened Events.opened
+  unfolding requiring is_choice Walk.opened Events.opened
   requiring-after t true = after-goes _ (kept u _ _ _ _ _)
   requiring-after t false =
-      if-after u (mends u.io) (tells (repair t) (moved (u.location + 2) (withIo (Events.spent u.io) u))) (stops differs)
+      if-after u (mends u.io) (tells (repair t) (moved (u.location + 2) (with_io (Events.spent u.io) u))) (stops differs)
       (λ _. after-tells _ _ refl (kept u _ _ _ _ _)) (λ _. after_stop differs tt)
 
   exec-after : (i : Instruction) → Kind i → After u (exec T tokens i u)
-  unfolding exec Kind isChoice Walk.opened Events.opened
+  unfolding exec Kind is_choice Walk.opened Events.opened
   exec-after invalid k = after-outside
-  exec-after (jump l) k = goTo-after l u (kept u _ _ _ _ _)
+  exec-after (jump l) k = go_to-after l u (kept u _ _ _ _ _)
   exec-after (input t) k = requiring-after t (is t (present tokens u.io))
-  exec-after inputAny k =
+  exec-after input_any k =
       if-after u (given (present tokens u.io)) _ (stops missing)
       (λ _. after-goes _ (kept u _ _ _ _ _)) (λ _. after_stop missing tt)
   exec-after (write e) k = after-tells e _ k (kept u _ _ _ _ _)
-  exec-after (inputChoice c) k = inputChoosing-after (present tokens u.io) c
-  exec-after (callRule l) k = calling-after l
+  exec-after (input_choice c) k = input_choosing-after (present tokens u.io) c
+  exec-after (call_rule l) k = calling-after l
   exec-after return k = returning-after u.returns refl
-  exec-after (setResult v) k = after-goes _ (kept u _ _ _ _ _)
+  exec-after (set_result v) k = after-goes _ (kept u _ _ _ _ _)
   exec-after (choice c) k = branched-after (fetch T c) (some u.result) c u u (kept u _ _ _ _ _) (kept u _ _ _ _ _)
-  exec-after endChoice k = after_stop unlabelled tt
-  exec-after (setParameter v) k = after-goes _ (kept u _ _ _ _ _)
+  exec-after end_choice k = after_stop unlabelled tt
+  exec-after (set_parameter v) k = after-goes _ (kept u _ _ _ _ _)
   exec-after (update op) k = after-tells _ _ k (kept u _ _ _ _ _)
-  exec-after (updateWith op) k = after-tells _ _ k (kept u _ _ _ _ _)
+  exec-after (update_with op) k = after-tells _ _ k (kept u _ _ _ _ _)
   exec-after (choose op) k = after-asks _ _ k refl (kept u _ _ _ _ _)
-  exec-after (chooseWith op) k = after-asks _ _ k refl (kept u _ _ _ _ _)
+  exec-after (choose_with op) k = after-asks _ _ k refl (kept u _ _ _ _ _)
 
   pub step_after : After u (step T tokens u)
   unfolding step
@@ -279,7 +280,7 @@ module _ (T tokens : List ℕ) (u : Walk) where
 
 -- an operation that asks is a choice operation, and leaves the location past itself
 pub record Asked (w v : Walk) (e : Event) : Type 0 where
-  pub choice : isChoice e ≡ true
+  pub choice : is_choice e ≡ true
   pub past : v ≡ moved (w.location + 1) w
   pub keeps : Keeps w v
 
@@ -291,19 +292,19 @@ step-asked T tokens w v e s = asked (rw s at (step_after T tokens w))
 
 -- The answers used and the choice operations in the events
 
-pub choices-then : (es : List Event) (e : Event) → choices (es ++ (e ∷ [])) ≡ choices es + (if isChoice e then 1 else 0)
+pub choices-then : (es : List Event) (e : Event) → choices (es ++ (e ∷ [])) ≡ choices es + (if is_choice e then 1 else 0)
 unfolding choices
 choices-then [] e = omega arith
 choices-then (x ∷ es) e = let ih = choices-then es e in omega arith
 
-choices-told : (es : List Event) (e : Event) → isChoice e ≡ false → choices (es ++ (e ∷ [])) ≡ choices es
+choices-told : (es : List Event) (e : Event) → is_choice e ≡ false → choices (es ++ (e ∷ [])) ≡ choices es
 choices-told es e f = let z : choices (es ++ (e ∷ [])) ≡ choices es + 0 = rw f at (choices-then es e) in omega arith
 
-pub choices-asked : (es : List Event) (e : Event) → isChoice e ≡ true → choices (es ++ (e ∷ [])) ≡ choices es + 1
+pub choices-asked : (es : List Event) (e : Event) → is_choice e ≡ true → choices (es ++ (e ∷ [])) ≡ choices es + 1
 choices-asked es e t = rw t at (choices-then es e)
 
 -- the answer that a walk waits for is the one that it asks for
-pub wanted-asked : (answers : List ℕ) (es : List Event) (e : Event) → isChoice e ≡ true
+pub wanted-asked : (answers : List ℕ) (es : List Event) (e : Event) → is_choice e ≡ true
     → wanted answers (es ++ (e ∷ [])) ≡ get_elem? answers (choices es)
 unfolding wanted
 wanted-asked answers es e t =
@@ -354,7 +355,7 @@ module _ (T tokens : List ℕ) where
       go (further room v) = refl
 
 module _ (T tokens answers : List ℕ) where
-  kept-taking : (o : Option ℕ) (e : Event) (v w : Walk) → isChoice e ≡ true → Keeps w v → Kept w → Kept (taking o e v w)
+  kept-taking : (o : Option ℕ) (e : Event) (v w : Walk) → is_choice e ≡ true → Keeps w v → Kept w → Kept (taking o e v w)
   unfolding taking writing Walk.opened Events.wrote Events.answered
   kept-taking none e v w t k h = record { used = h.used; returns = h.returns }
   kept-taking (some x) e v w t k h =
@@ -376,10 +377,10 @@ module _ (T tokens answers : List ℕ) where
   kept-done w (after-asks e v t m k) h = kept-taking (get_elem? answers (choices w.io.events)) e v w t k h
 
   kept-one : (w : Walk) → Kept w → Kept (one T tokens answers w)
-  unfolding one oneIn
+  unfolding one one_in
   kept-one w h = go w.phase
     where
-      go : (p : Phase) → Kept (oneIn T tokens answers p w)
+      go : (p : Phase) → Kept (one_in T tokens answers p w)
       go going = kept-done w (step_after T tokens w) h
       go waiting = h
       go (stopped r) = h
@@ -395,7 +396,7 @@ module _ (T tokens answers : List ℕ) where
   runs-suc (suc n) w = runs-suc n (one T tokens answers w)
 
   pub one-going : (w : Walk) → w.phase ≡ going → one T tokens answers w ≡ done T tokens answers (step T tokens w) w
-  unfolding one oneIn
+  unfolding one one_in
   one-going w g = rw g
 
 -- From a walk on, the events before it included
@@ -414,10 +415,10 @@ module _ (T tokens answers : List ℕ) (s₀ : Walk) (kept₀ : Kept s₀) where
 
   -- a walk that goes on went on before
   went_on : (m : ℕ) → (after (suc m)).phase ≡ going → (after m).phase ≡ going
-  unfolding one oneIn
+  unfolding one one_in
   went_on m g = go (after m).phase refl (ap (λ (w : Walk). w.phase) (sym (runs-suc T tokens answers m s₀)) ∙ g)
     where
-      go : (p : Phase) → (after m).phase ≡ p → (oneIn T tokens answers p (after m)).phase ≡ going → p ≡ going
+      go : (p : Phase) → (after m).phase ≡ p → (one_in T tokens answers p (after m)).phase ≡ going → p ≡ going
       go going e h = refl
       go waiting e h = sym e ∙ h
       go (stopped r) e h = sym e ∙ h
@@ -431,13 +432,13 @@ module _ (T tokens answers : List ℕ) (s₀ : Walk) (kept₀ : Kept s₀) where
   -- where a list of calls has led: to this walk, with these events and so many steps in all
   pub data Where (w : Walk) (es : List Event) (n : ℕ) : Type 0 where
     -- it goes on or has stopped, as it is after so many single steps
-    lives : (w.phase ≡ waiting → ⊥) → withEvents es w ≡ after n → Moved n → Where w es n
+    lives : (w.phase ≡ waiting → ⊥) → with_events es w ≡ after n → Moved n → Where w es n
     -- it has stopped for 37, which counts no step
-    left : w.phase ≡ stopped outside → (after n).phase ≡ going → step T tokens (after n) ≡ goesOutside
-        → withEvents es w ≡ inPhase (stopped outside) (after n) → Where w es n
+    left : w.phase ≡ stopped outside → (after n).phase ≡ going → step T tokens (after n) ≡ goes_outside
+        → with_events es w ≡ in_phase (stopped outside) (after n) → Where w es n
     -- it waits with the question of its last step
     waits : (k : ℕ) (v v' : Walk) (e : Event) → after k ≡ v → v.phase ≡ going → step T tokens v ≡ asks e v'
-        → es ≡ v.io.events ++ (e ∷ []) → n ≡ suc k → w ≡ inPhase waiting (withEvents [] v') → Where w es n
+        → es ≡ v.io.events ++ (e ∷ []) → n ≡ suc k → w ≡ in_phase waiting (with_events [] v') → Where w es n
 
   -- the single step of a walk that waits: it takes the answer that it waits for
   pub asked-next : (k : ℕ) (v v' : Walk) (e : Event) (es : List Event) → after k ≡ v → v.phase ≡ going → step T tokens v ≡ asks e v'
@@ -458,22 +459,22 @@ module _ (T tokens answers : List ℕ) (s₀ : Walk) (kept₀ : Kept s₀) where
   module _ (es : List Event) (k : ℕ) where
     -- the walk within a call, n steps of it done
     abbrev Within : ℕ → Walk → Type 0
-    Within n w = withEarlier es w ≡ after (k + n)
+    Within n w = with_earlier es w ≡ after (k + n)
 
     abbrev Ended : Called → Type 0
     Ended c = Where c.walk (es ++ c.events) (k + c.steps)
 
     within64 : (n : ℕ) (w : Walk) → Within n w → first64 w.returns ≡ w.returns
-    unfolding withEarlier withEvents withIo
+    unfolding with_earlier with_events with_io
     within64 n w d = all64 w.returns (rw (← d) at (kept-after (k + n)).returns)
 
     rested : (number n : ℕ) (w : Walk) → (w.phase ≡ waiting → ⊥) → Within n w → Moved (k + n) → Ended (ends number n w)
-    unfolding ends withEarlier withEvents Walk.opened
-    rested number n w p d mv = let r = within64 n w d in lives p ((λ i. withReturns (r i) (withEarlier es w)) ∙ d) mv
+    unfolding ends with_earlier with_events Walk.opened
+    rested number n w p d mv = let r = within64 n w d in lives p ((λ i. with_returns (r i) (with_earlier es w)) ∙ d) mv
 
     -- a walk that goes on within a call
     goes-within : (n : ℕ) (w : Walk) → w.phase ≡ going → Within n w → (after (k + n)).phase ≡ going
-    unfolding withEarlier withEvents withIo
+    unfolding with_earlier with_events with_io
     goes-within n w g d = ap (λ (v : Walk). v.phase) (sym d) ∙ g
 
     paused-at : (number n : ℕ) (w : Walk) → w.phase ≡ going → Within n w → Ended (ends number n w)
@@ -484,22 +485,22 @@ module _ (T tokens answers : List ℕ) (s₀ : Walk) (kept₀ : Kept s₀) where
     moved_on n w g d = let e : k + (n + 1) ≡ suc (k + n) = omega arith in rw e (one_further (k + n) (goes-within n w g d))
 
     next-within : (n : ℕ) (w : Walk) (nx : Next) → w.phase ≡ going → Within n w → step T tokens w ≡ nx
-        → after (k + (n + 1)) ≡ done T tokens answers (earlier es nx) (withEarlier es w)
-    unfolding withEarlier withEvents withIo
+        → after (k + (n + 1)) ≡ done T tokens answers (earlier es nx) (with_earlier es w)
+    unfolding with_earlier with_events with_io
     next-within n w nx g d s =
         let e : k + (n + 1) ≡ suc (k + n) = omega arith in
-        ap after e ∙ runs-suc T tokens answers (k + n) s₀ ∙ ap (one T tokens answers) (sym d) ∙ one-going T tokens answers (withEarlier es w) g
-        ∙ ap (λ x. done T tokens answers x (withEarlier es w)) (step-earlier es T tokens w ∙ ap (earlier es) s)
+        ap after e ∙ runs-suc T tokens answers (k + n) s₀ ∙ ap (one T tokens answers) (sym d) ∙ one-going T tokens answers (with_earlier es w) g
+        ∙ ap (λ x. done T tokens answers x (with_earlier es w)) (step-earlier es T tokens w ∙ ap (earlier es) s)
 
     waited : (n number : ℕ) (w v : Walk) (e : Event) → w.phase ≡ going → Within n w → Keeps w v → step T tokens w ≡ asks e v
-        → Ended (ends number (n + 1) (inPhase waiting (writing e v)))
-    unfolding ends writing earlier withEarlier withEvents Walk.opened Events.wrote
+        → Ended (ends number (n + 1) (in_phase waiting (writing e v)))
+    unfolding ends writing earlier with_earlier with_events Walk.opened Events.wrote
     waited n number w v e g d keeps s =
         let b : length w.returns ≤ 64 = rw (← d) at (kept-after (k + n)).returns in
         let r = all64 v.returns (keeps.returns b) in
         let a = append_assoc es w.io.events (e ∷ []) in
-        waits (k + n) (withEarlier es w) (withEarlier es v) e (sym d) g (step-earlier es T tokens w ∙ ap (earlier es) s)
-        (rw keeps.events (sym a)) (omega arith) (λ i. withReturns (r i) (inPhase waiting (withEvents [] v)))
+        waits (k + n) (with_earlier es w) (with_earlier es v) e (sym d) g (step-earlier es T tokens w ∙ ap (earlier es) s)
+        (rw keeps.events (sym a)) (omega arith) (λ i. with_returns (r i) (in_phase waiting (with_events [] v)))
 
     if-ended : (b : ℕ) (m : Mode) (n : ℕ) (t : Bool) (x y : Turn) → Ended (resume T tokens b m n x) → Ended (resume T tokens b m n y)
         → Ended (resume T tokens b m n (if t then x else y))
@@ -511,44 +512,44 @@ module _ (T tokens answers : List ℕ) (s₀ : Walk) (kept₀ : Kept s₀) where
     Rest b m n = (room : ℕ) (v : Walk) → v.phase ≡ going → Within (n + 1) v → Ended (run T tokens b m room (n + 1) v)
 
     takes-ended : (b : ℕ) (m : Mode) (n : ℕ) → Rest b m n → (o : Option ℕ) (room : ℕ) (w : Walk) (e : Event) (v : Walk) → Moved (k + (n + 1))
-        → after (k + (n + 1)) ≡ taking o e (withEarlier es v) (withEarlier es w) → Ended (resume T tokens b m n (takes o room n w e v))
-    unfolding takes taking resume endsFor withEarlier withEvents Walk.opened Events.answered
-    takes-ended b m n rest none room w e v mv d = rested _ (n + 1) (inPhase (stopped unanswered) w) (λ p. waiting-stopped p refl) (sym d) mv
+        → after (k + (n + 1)) ≡ taking o e (with_earlier es v) (with_earlier es w) → Ended (resume T tokens b m n (takes o room n w e v))
+    unfolding takes taking resume ends_for with_earlier with_events Walk.opened Events.answered
+    takes-ended b m n rest none room w e v mv d = rested _ (n + 1) (in_phase (stopped unanswered) w) (λ p. waiting-stopped p refl) (sym d) mv
     takes-ended b m n rest (some x) room w e v mv d =
-        rest (room - 3) (withAnswer x (writing e v)) refl (ap (withAnswer x) (writing-earlier es e v) ∙ sym d)
+        rest (room - 3) (with_answer x (writing e v)) refl (ap (with_answer x) (writing-earlier es e v) ∙ sym d)
 
     -- a whole call takes the answer after as many as there are choice operations in all events
     takes-next : (given : List ℕ) → Given (whole given) → (n : ℕ) (w : Walk) → Within n w
         → answer given w.io ≡ get_elem? answers (choices (es ++ w.io.events))
-    unfolding Given answer withEarlier withEvents withIo
+    unfolding Given answer with_earlier with_events with_io
     takes-next given (a, l) n w d =
         let u : w.io.used ≡ min (choices (es ++ w.io.events)) (2 ^ 64 - 1) = rw (← d) at (kept-after (k + n)).used in
         rw (a, u) (used-enough answers (choices (es ++ w.io.events)) l)
 
-    handsOut-ended : (b : ℕ) (m : Mode) (n : ℕ) → Rest b m n → Given m → (room : ℕ) (w : Walk) (e : Event) (v : Walk)
-        → w.phase ≡ going → Within n w → Keeps w v → step T tokens w ≡ asks e v → Ended (resume T tokens b m n (handsOut m room n w e v))
-    unfolding handsOut done earlier resume withEarlier withEvents Walk.opened
-    handsOut-ended b (whole given) n rest gm room w e v g d keeps s =
+    hands_out-ended : (b : ℕ) (m : Mode) (n : ℕ) → Rest b m n → Given m → (room : ℕ) (w : Walk) (e : Event) (v : Walk)
+        → w.phase ≡ going → Within n w → Keeps w v → step T tokens w ≡ asks e v → Ended (resume T tokens b m n (hands_out m room n w e v))
+    unfolding hands_out done earlier resume with_earlier with_events Walk.opened
+    hands_out-ended b (whole given) n rest gm room w e v g d keeps s =
         takes-ended b (whole given) n rest (answer given w.io) room w e v (moved_on n w g d)
-        (next-within n w (asks e v) g d s ∙ ap (λ o. taking o e (withEarlier es v) (withEarlier es w)) (sym (takes-next given gm n w d)))
-    handsOut-ended b (paused x) n rest gm room w e v g d keeps s = waited n Call.waits w v e g d keeps s
+        (next-within n w (asks e v) g d s ∙ ap (λ o. taking o e (with_earlier es v) (with_earlier es w)) (sym (takes-next given gm n w d)))
+    hands_out-ended b (paused x) n rest gm room w e v g d keeps s = waited n Call.waits w v e g d keeps s
 
     turn-ended : (b : ℕ) (m : Mode) (n : ℕ) → Rest b m n → Given m → (room : ℕ) (w : Walk) {nx : Next} → After w nx
         → w.phase ≡ going → Within n w → step T tokens w ≡ nx → Ended (resume T tokens b m n (turn m room n w nx))
-    unfolding turn resume done earlier ends endsFor withEarlier withEvents Walk.opened writing
+    unfolding turn resume done earlier ends ends_for with_earlier with_events Walk.opened writing
     turn-ended b m n rest gm room w after-outside g d s =
         let r = within64 n w d in
         left refl (ap (λ x. x.phase) (sym d) ∙ g) (ap (step T tokens) (sym d) ∙ step-earlier es T tokens w ∙ ap (earlier es) s)
-        ((λ i. withReturns (r i) (inPhase (stopped outside) (withEarlier es w))) ∙ ap (inPhase (stopped outside)) d)
+        ((λ i. with_returns (r i) (in_phase (stopped outside) (with_earlier es w))) ∙ ap (in_phase (stopped outside)) d)
     turn-ended b m n rest gm room w (after_stop r o) g d s =
-        rested (reasonNumber r) (n + 1) (inPhase (stopped r) w) (λ p. waiting-stopped p refl) (sym (next-within n w (stops r) g d s)) (moved_on n w g d)
+        rested (reason_number r) (n + 1) (in_phase (stopped r) w) (λ p. waiting-stopped p refl) (sym (next-within n w (stops r) g d s)) (moved_on n w g d)
     turn-ended b m n rest gm room w (after-goes v keeps) g d s = rest room v (keeps.phase ∙ g) (sym (next-within n w (goes v) g d s))
     turn-ended b m n rest gm room w (after-tells e v c keeps) g d s =
         if-ended b m n (ltb room 3) (over (ends 35 n w)) (further (room - 3) (writing e v)) (paused-at 35 n w g d)
         (rest (room - 3) (writing e v) (keeps.phase ∙ g) (writing-earlier es e v ∙ sym (next-within n w (tells e v) g d s)))
     turn-ended b m n rest gm room w (after-asks e v c past keeps) g d s =
-        if-ended b m n (ltb room 3) (over (ends 35 n w)) (handsOut m room n w e v) (paused-at 35 n w g d)
-        (handsOut-ended b m n rest gm room w e v g d keeps s)
+        if-ended b m n (ltb room 3) (over (ends 35 n w)) (hands_out m room n w e v) (paused-at 35 n w g d)
+        (hands_out-ended b m n rest gm room w e v g d keeps s)
 
     run-ended : (b : ℕ) (m : Mode) → Given m → (room n : ℕ) (w : Walk) → w.phase ≡ going → Within n w → Ended (run T tokens b m room n w)
     unfolding run
@@ -564,8 +565,8 @@ module _ (T tokens answers : List ℕ) (s₀ : Walk) (kept₀ : Kept s₀) where
   refused w es n h = let e : n + 0 ≡ n = omega arith in rw (append-nil es, e) h
 
   -- a walk as the next call begins with it
-  begun : (w : Walk) (es : List Event) (n : ℕ) → withEvents es w ≡ after n → Within es n 0 (atRest w)
-  unfolding withEarlier withEvents Walk.opened
+  begun : (w : Walk) (es : List Event) (n : ℕ) → with_events es w ≡ after n → Within es n 0 (at_rest w)
+  unfolding with_earlier with_events Walk.opened
   begun w es n d =
       let b : length w.returns ≤ 64 = rw (← d) at (kept-after n).returns in
       let r = all64 w.returns b in
@@ -574,20 +575,20 @@ module _ (T tokens answers : List ℕ) (s₀ : Walk) (kept₀ : Kept s₀) where
 
   -- a call of a walk that goes on
   goes_on : (budget : ℕ) (m : Mode) → Given m → (room : ℕ) (w : Walk) (es : List Event) (n : ℕ) → w.phase ≡ going → Where w es n
-      → Ended es n (run T tokens budget m room 0 (atRest w))
+      → Ended es n (run T tokens budget m room 0 (at_rest w))
   unfolding Walk.opened
-  goes_on budget m gm room w es n g (lives p d mv) = run-ended es n budget m gm room 0 (atRest w) g (begun w es n d)
+  goes_on budget m gm room w es n g (lives p d mv) = run-ended es n budget m gm room 0 (at_rest w) g (begun w es n d)
   goes_on budget m gm room w es n g (left p q s d) = absurd (going-stopped g p)
   goes_on budget m gm room w es n g (waits k v v' e a p s x y d) = absurd (going-waiting g (ap (λ u. u.phase) d))
 
   -- a call of a walk that has stopped
-  repeats : (w : Walk) (es : List Event) (n : ℕ) (r : Reason) → w.phase ≡ stopped r → Where w es n → Ended es n (keeps (reasonNumber r) w)
+  repeats : (w : Walk) (es : List Event) (n : ℕ) (r : Reason) → w.phase ≡ stopped r → Where w es n → Ended es n (keeps (reason_number r) w)
   repeats w es n r g h = refused w es n h
 
   -- an answer for a walk that waits
   answers-it : (budget room : ℕ) (w : Walk) (es : List Event) (n x : ℕ) → w.phase ≡ waiting → wanted answers es ≡ some x → Where w es n
-      → Ended es n (run T tokens budget (paused none) room 0 (withAnswer x (atRest w)))
-  unfolding withEarlier withEvents Given taking writing Walk.opened Events.wrote Events.answered
+      → Ended es n (run T tokens budget (paused none) room 0 (with_answer x (at_rest w)))
+  unfolding with_earlier with_events Given taking writing Walk.opened Events.wrote Events.answered
   answers-it budget room w es n x g o (lives p d mv) = absurd (p g)
   answers-it budget room w es n x g o (left p q s d) = absurd (waiting-stopped g p)
   answers-it budget room w es n x g o (waits k v v' e a p s q y d) =
@@ -596,9 +597,9 @@ module _ (T tokens answers : List ℕ) (s₀ : Walk) (kept₀ : Kept s₀) where
       let r = all64 v'.returns (keeps.returns b) in
       let f : es ++ [] ≡ v'.io.events ++ (e ∷ []) = append-nil es ∙ q ∙ ap (λ (l : List Event). l ++ (e ∷ [])) (sym keeps.events) in
       let z : n + 0 ≡ suc k = omega arith in
-      let m : after (suc k) ≡ withAnswer x (writing e v') = asked-next k v v' e es a p s q ∙ ap (λ u. taking u e v' v) o in
-      run-ended es n budget (paused none) tt room 0 (withAnswer x (atRest w)) refl
-      (rw (z, m, d) (λ i. withReturns (r i) (withEvents (f i) (withAnswer x (writing e v')))))
+      let m : after (suc k) ≡ with_answer x (writing e v') = asked-next k v v' e es a p s q ∙ ap (λ u. taking u e v' v) o in
+      run-ended es n budget (paused none) tt room 0 (with_answer x (at_rest w)) refl
+      (rw (z, m, d) (λ i. with_returns (r i) (with_events (f i) (with_answer x (writing e v')))))
 
   in-phase : (ph : Phase) (m : Mode) (budget room : ℕ) (w : Walk) (es : List Event) (n : ℕ) → w.phase ≡ ph
       → Allowed answers m ph es → Where w es n → Ended es n (call_in T tokens ph m budget room w)
@@ -614,11 +615,11 @@ module _ (T tokens answers : List ℕ) (s₀ : Walk) (kept₀ : Kept s₀) where
   in-phase (stopped r) (paused (some x)) budget room w es n g a h = refused w es n h
 
   -- the first walk of the list, its events before included, is s₀
-  pub listed-from : {w₀ : Walk} {es₀ : List Event} {w : Walk} {es : List Event} {n : ℕ} {ns : List ℕ} → (w₀.phase ≡ waiting → ⊥) → withEvents es₀ w₀ ≡ s₀
+  pub listed-from : {w₀ : Walk} {es₀ : List Event} {w : Walk} {es : List Event} {n : ℕ} {ns : List ℕ} → (w₀.phase ≡ waiting → ⊥) → with_events es₀ w₀ ≡ s₀
       → ListedFrom T tokens answers w₀ es₀ w es n ns → Where w es n
-  unfolding callWalk runs
+  unfolding call_walk runs
   listed-from p e begin = lives p e (λ m d. absurd (omega arith))
-  listed-from p e (then-call {w = w} {es = es} {n = n} l m budget room a) = in-phase w.phase m budget room w es n refl a (listed-from p e l)
+  listed-from p e (then_call {w = w} {es = es} {n = n} l m budget room a) = in-phase w.phase m budget room w es n refl a (listed-from p e l)
 
   -- a list that begins with a walk that waits, for the answer x, has done nothing yet, or has taken it: s₀ is the walk with the answer
   pub data Awaits (w₀ : Walk) (es₀ : List Event) (w : Walk) (es : List Event) (n : ℕ) : Type 0 where
@@ -626,14 +627,14 @@ module _ (T tokens answers : List ℕ) (s₀ : Walk) (kept₀ : Kept s₀) where
     answered : Where w es n → Awaits w₀ es₀ w es n
 
   -- the call that brings the answer
-  brings : (w₀ : Walk) (es₀ : List Event) (x budget room : ℕ) → withEvents es₀ (withAnswer x w₀) ≡ s₀ → Ended es₀ 0 (run T tokens budget (paused none) room 0 (withAnswer x (atRest w₀)))
-  unfolding runs withEarlier withEvents Given Walk.opened Events.answered
+  brings : (w₀ : Walk) (es₀ : List Event) (x budget room : ℕ) → with_events es₀ (with_answer x w₀) ≡ s₀ → Ended es₀ 0 (run T tokens budget (paused none) room 0 (with_answer x (at_rest w₀)))
+  unfolding runs with_earlier with_events Given Walk.opened Events.answered
   brings w₀ es₀ x budget room e =
       let b : length w₀.returns ≤ 64 = rw (← e) at kept₀.returns in
       let r = all64 w₀.returns b in
-      run-ended es₀ 0 budget (paused none) tt room 0 (withAnswer x (atRest w₀)) refl (rw (append-nil es₀, r) e)
+      run-ended es₀ 0 budget (paused none) tt room 0 (with_answer x (at_rest w₀)) refl (rw (append-nil es₀, r) e)
 
-  waits_in : (w₀ : Walk) (es₀ : List Event) (x : ℕ) → w₀.phase ≡ waiting → wanted answers es₀ ≡ some x → withEvents es₀ (withAnswer x w₀) ≡ s₀ → (ph : Phase) → ph ≡ waiting → (m : Mode) (budget room : ℕ)
+  waits_in : (w₀ : Walk) (es₀ : List Event) (x : ℕ) → w₀.phase ≡ waiting → wanted answers es₀ ≡ some x → with_events es₀ (with_answer x w₀) ≡ s₀ → (ph : Phase) → ph ≡ waiting → (m : Mode) (budget room : ℕ)
       → Allowed answers m ph es₀ → (c : Called) → c ≡ call_in T tokens ph m budget room w₀ → Awaits w₀ es₀ c.walk (es₀ ++ c.events) (0 + c.steps)
   unfolding call_in Allowed
   waits_in w₀ es₀ x p o e going q m budget room a c d = absurd (going-waiting refl q)
@@ -648,14 +649,14 @@ module _ (T tokens answers : List ℕ) (s₀ : Walk) (kept₀ : Kept s₀) where
       same_answer h = cc
 
   pub listed-awaits : {w₀ : Walk} {es₀ : List Event} (x : ℕ) {w : Walk} {es : List Event} {n : ℕ} {ns : List ℕ} → w₀.phase ≡ waiting → wanted answers es₀ ≡ some x
-      → withEvents es₀ (withAnswer x w₀) ≡ s₀ → ListedFrom T tokens answers w₀ es₀ w es n ns → Awaits w₀ es₀ w es n
-  unfolding callWalk
+      → with_events es₀ (with_answer x w₀) ≡ s₀ → ListedFrom T tokens answers w₀ es₀ w es n ns → Awaits w₀ es₀ w es n
+  unfolding call_walk
   listed-awaits x p o e begin = still refl refl refl
-  listed-awaits {w₀} {es₀} x p o e (then-call {w = w} {es = es} {n = n} l m budget room a) = go (listed-awaits x p o e l)
+  listed-awaits {w₀} {es₀} x p o e (then_call {w = w} {es = es} {n = n} l m budget room a) = go (listed-awaits x p o e l)
     where
-      go : Awaits w₀ es₀ w es n → Awaits w₀ es₀ (callWalk T tokens m budget room w).walk (es ++ (callWalk T tokens m budget room w).events) (n + (callWalk T tokens m budget room w).steps)
+      go : Awaits w₀ es₀ w es n → Awaits w₀ es₀ (call_walk T tokens m budget room w).walk (es ++ (call_walk T tokens m budget room w).events) (n + (call_walk T tokens m budget room w).steps)
       go (answered h) = answered (in-phase w.phase m budget room w es n refl a h)
-      go (still d f g) = rw (d, f, g) (waits_in w₀ es₀ x p o e w₀.phase p m budget room (rw (d, f) at a) (callWalk T tokens m budget room w₀) refl)
+      go (still d f g) = rw (d, f, g) (waits_in w₀ es₀ x p o e w₀.phase p m budget room (rw (d, f) at a) (call_walk T tokens m budget room w₀) refl)
 
 pub kept_fresh : (allowance : ℕ) → Kept (fresh allowance)
 unfolding fresh choices
@@ -663,14 +664,14 @@ kept_fresh allowance = record { used = refl; returns = omega arith }
 
 pub listed-where : (T tokens answers : List ℕ) (allowance : ℕ) {w : Walk} {es : List Event} {n : ℕ} {ns : List ℕ} → Listed T tokens answers allowance w es n ns
     → Where T tokens answers (fresh allowance) (kept_fresh allowance) w es n
-unfolding fresh withEvents withIo
+unfolding fresh with_events with_io
 listed-where T tokens answers allowance l = listed-from T tokens answers (fresh allowance) (kept_fresh allowance) (going-waiting refl) refl l
 
 module _ (T tokens answers : List ℕ) where
   -- 37
 
-  outside-37 : (r : Reason) → reasonNumber r ≡ 37 → r ≡ outside
-  unfolding reasonNumber
+  outside-37 : (r : Reason) → reason_number r ≡ 37 → r ≡ outside
+  unfolding reason_number
   outside-37 finished e = absurd (omega arith)
   outside-37 differs e = absurd (omega arith)
   outside-37 missing e = absurd (omega arith)
@@ -683,8 +684,8 @@ module _ (T tokens answers : List ℕ) where
   abbrev Says : Called → Type 0
   Says c = c.number ≡ 37 → c.walk.phase ≡ stopped outside
 
-  ended-37 : (r : Reason) (n : ℕ) (w : Walk) → Says (endsFor r n w)
-  unfolding endsFor ends Walk.opened
+  ended-37 : (r : Reason) (n : ℕ) (w : Walk) → Says (ends_for r n w)
+  unfolding ends_for ends Walk.opened
   ended-37 r n w e = ap stopped (outside-37 r e)
 
   if-37 : (b : ℕ) (m : Mode) (n : ℕ) (t : Bool) (x y : Turn) → Says (resume T tokens b m n x) → Says (resume T tokens b m n y)
@@ -697,25 +698,25 @@ module _ (T tokens answers : List ℕ) where
         → ((room : ℕ) (v : Walk) → Says (run T tokens b m room (n + 1) v)) → Says (resume T tokens b m n (takes o room n w e v))
     unfolding takes resume
     takes-37 m none room w e v rest = ended-37 unanswered (n + 1) w
-    takes-37 m (some x) room w e v rest = rest (room - 3) (withAnswer x (writing e v))
+    takes-37 m (some x) room w e v rest = rest (room - 3) (with_answer x (writing e v))
 
-    handsOut-37 : (m : Mode) (room : ℕ) (w : Walk) (e : Event) (v : Walk)
-        → ((room : ℕ) (v : Walk) → Says (run T tokens b m room (n + 1) v)) → Says (resume T tokens b m n (handsOut m room n w e v))
-    unfolding handsOut resume ends
-    handsOut-37 (whole given) room w e v rest = takes-37 (whole given) (answer given w.io) room w e v rest
-    handsOut-37 (paused x) room w e v rest = λ z. absurd (omega arith)
+    hands_out-37 : (m : Mode) (room : ℕ) (w : Walk) (e : Event) (v : Walk)
+        → ((room : ℕ) (v : Walk) → Says (run T tokens b m room (n + 1) v)) → Says (resume T tokens b m n (hands_out m room n w e v))
+    unfolding hands_out resume ends
+    hands_out-37 (whole given) room w e v rest = takes-37 (whole given) (answer given w.io) room w e v rest
+    hands_out-37 (paused x) room w e v rest = λ z. absurd (omega arith)
 
     turn-37 : (m : Mode) (room : ℕ) (w : Walk) (nx : Next)
         → ((room : ℕ) (v : Walk) → Says (run T tokens b m room (n + 1) v)) → Says (resume T tokens b m n (turn m room n w nx))
     unfolding turn resume ends
-    turn-37 m room w goesOutside rest = ended-37 outside n w
+    turn-37 m room w goes_outside rest = ended-37 outside n w
     turn-37 m room w (stops r) rest = ended-37 r (n + 1) w
     turn-37 m room w (goes v) rest = rest room v
     turn-37 m room w (tells e v) rest =
         if-37 b m n (ltb room 3) (over (ends 35 n w)) (further (room - 3) (writing e v)) (λ z. absurd (omega arith))
         (rest (room - 3) (writing e v))
     turn-37 m room w (asks e v) rest =
-        if-37 b m n (ltb room 3) (over (ends 35 n w)) (handsOut m room n w e v) (λ z. absurd (omega arith)) (handsOut-37 m room w e v rest)
+        if-37 b m n (ltb room 3) (over (ends 35 n w)) (hands_out m room n w e v) (λ z. absurd (omega arith)) (hands_out-37 m room w e v rest)
 
   run-37 : (b : ℕ) (m : Mode) (room n : ℕ) (w : Walk) → Says (run T tokens b m room n w)
   unfolding run ends
@@ -725,17 +726,17 @@ module _ (T tokens answers : List ℕ) where
 
   in-phase-37 : (ph : Phase) (m : Mode) (budget room : ℕ) (w : Walk) → w.phase ≡ ph → Says (call_in T tokens ph m budget room w)
   unfolding call_in ends Walk.opened
-  in-phase-37 going (whole given) budget room w g = run-37 budget (whole given) room 0 (atRest w)
-  in-phase-37 going (paused none) budget room w g = run-37 budget (paused none) room 0 (atRest w)
+  in-phase-37 going (whole given) budget room w g = run-37 budget (whole given) room 0 (at_rest w)
+  in-phase-37 going (paused none) budget room w g = run-37 budget (paused none) room 0 (at_rest w)
   in-phase-37 going (paused (some x)) budget room w g = λ z. absurd (omega arith)
   in-phase-37 waiting (whole given) budget room w g = λ z. absurd (omega arith)
   in-phase-37 waiting (paused none) budget room w g = λ z. absurd (omega arith)
-  in-phase-37 waiting (paused (some x)) budget room w g = run-37 budget (paused none) room 0 (withAnswer x (atRest w))
+  in-phase-37 waiting (paused (some x)) budget room w g = run-37 budget (paused none) room 0 (with_answer x (at_rest w))
   in-phase-37 (stopped r) (whole given) budget room w g = λ z. g ∙ ap stopped (outside-37 r z)
   in-phase-37 (stopped r) (paused none) budget room w g = λ z. g ∙ ap stopped (outside-37 r z)
   in-phase-37 (stopped r) (paused (some x)) budget room w g = λ z. absurd (omega arith)
 
   pub number-37 : {w₀ : Walk} {es₀ : List Event} {w : Walk} {es : List Event} {n number : ℕ} {ns : List ℕ} → ListedFrom T tokens answers w₀ es₀ w es n (number ∷ ns) → number ≡ 37
       → w.phase ≡ stopped outside
-  unfolding callWalk
-  number-37 (then-call {w = w} l m budget room a) z = in-phase-37 w.phase m budget room w refl z
+  unfolding call_walk
+  number-37 (then_call {w = w} l m budget room a) z = in-phase-37 w.phase m budget room w refl z

@@ -7,9 +7,9 @@ use Prim.Native.Nat.{ℕ, zero, suc, ◌+◌, ◌<◌, ◌≤◌}
 use lib.ListN.{length, get_elem?}
 use native.Mathlib.Omega.{arith}
 use Rattle.agreement.proofs.Lists.{Keeps, After, after-outside, after_stop, after-goes, after-tells, after-asks, step_after, choices-then, choices-asked, going-stopped, runs-suc, one-going}
-use Rattle.agreement.proofs.Single.{taking, done, oneIn, one, runs}
+use Rattle.agreement.proofs.Single.{taking, done, one_in, one, runs}
 use Rattle.events.specs.Events as events
-use Rattle.events.specs.Events.{Event, unanswered, isChoice, choices}
+use Rattle.events.specs.Events.{Event, unanswered, is_choice, choices}
 use Rattle.machine.specs.Call.{writing}
 use Rattle.machine.specs.Step.{Next, step}
 use Rattle.machine.specs.Walk
@@ -37,7 +37,7 @@ module _ (T tokens answers : List ℕ) (x : ℕ) where
     pub same : v ≡ w
     pub taken : choices w.io.events ≤ length answers
 
-  alike-taking : (o : Option ℕ) (e : Event) (v w : Walk) → get_elem? answers (choices w.io.events) ≡ o → isChoice e ≡ true → Keeps w v → (taking o e v w).phase ≡ going
+  alike-taking : (o : Option ℕ) (e : Event) (v w : Walk) → get_elem? answers (choices w.io.events) ≡ o → is_choice e ≡ true → Keeps w v → (taking o e v w).phase ≡ going
       → Alike (taking o e v w) (taking (get_elem? More (choices w.io.events)) e v w)
   unfolding taking writing Walk.opened events.wrote events.answered
   alike-taking none e v w d t k g = absurd (going-stopped g refl)
@@ -61,7 +61,7 @@ module _ (T tokens answers : List ℕ) (x : ℕ) where
 
   -- a step that leads to a walk that goes on begins with one
   one_from : (w : Walk) (p : Phase) → w.phase ≡ p → (one T tokens answers w).phase ≡ going → w.phase ≡ going
-  unfolding one oneIn
+  unfolding one one_in
   one_from w going e g = e
   one_from w waiting e g = e ∙ (rw e at g)
   one_from w (stopped r) e g = e ∙ (rw e at g)

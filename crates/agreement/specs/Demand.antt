@@ -4,19 +4,19 @@ use Rattle.std.proofs.Math.Option.{Option, none, some}
 use Rattle.std.proofs.Math.ListN.{get_elem?}
 use Rattle.finishing.specs.Finishing.{Finishing}
 use Rattle.events.specs.Events.{Event, Reason, unanswered, choices, Io}
-use Rattle.machine.specs.Call.{Mode, whole, paused, callWalk}
+use Rattle.machine.specs.Call.{Mode, whole, paused, call_walk}
 use Rattle.machine.specs.Walk.{Phase, going, waiting, stopped, Walk, fresh}
 use Rattle.ownwalk.specs.OwnWalk as rules
-use Rattle.ownwalk.specs.OwnWalk.{Own, owns, ownStart}
+use Rattle.ownwalk.specs.OwnWalk.{Own, owns, own_start}
 use Rattle.processor.specs.Process.{understood, meaning}
 use Rattle.program.specs.Program.{Rule}
 
 -- the events of the rules' own walk so far
-unfoldable pub eventsOf : Own → List Event
-eventsOf (rules.on q k ps io) = io.events
-eventsOf (rules.choosing v al o q k ps io) = io.events
-eventsOf (rules.stopped r io) = io.events
-eventsOf (rules.nowhere io) = io.events
+unfoldable pub events_of : Own → List Event
+events_of (rules.on q k ps io) = io.events
+events_of (rules.choosing v al o q k ps io) = io.events
+events_of (rules.stopped r io) = io.events
+events_of (rules.nowhere io) = io.events
 
 -- es is a beginning of all
 pub record Begins (es all : List Event) : Type 0 where
@@ -39,10 +39,10 @@ Allowed answers (paused (some x)) (stopped r) es = Unit {0}
 -- events in order, the steps of the calls in all, and the numbers answered, the last first
 pub data ListedFrom (T tokens answers : List ℕ) (w₀ : Walk) (es₀ : List Event) : Walk → List Event → ℕ → List ℕ → Type 0 where
   begin : ListedFrom T tokens answers w₀ es₀ w₀ es₀ 0 []
-  then-call : {w : Walk} {es : List Event} {n : ℕ} {ns : List ℕ} → ListedFrom T tokens answers w₀ es₀ w es n ns
+  then_call : {w : Walk} {es : List Event} {n : ℕ} {ns : List ℕ} → ListedFrom T tokens answers w₀ es₀ w es n ns
       → (m : Mode) (budget room : ℕ) → Allowed answers m w.phase es
-      → ListedFrom T tokens answers w₀ es₀ (callWalk T tokens m budget room w).walk (es ++ (callWalk T tokens m budget room w).events)
-      (n + (callWalk T tokens m budget room w).steps) ((callWalk T tokens m budget room w).number ∷ ns)
+      → ListedFrom T tokens answers w₀ es₀ (call_walk T tokens m budget room w).walk (es ++ (call_walk T tokens m budget room w).events)
+      (n + (call_walk T tokens m budget room w).steps) ((call_walk T tokens m budget room w).number ∷ ns)
 
 -- from a fresh walk with this repair allowance
 abbrev pub Listed : List ℕ → List ℕ → List ℕ → ℕ → Walk → List Event → ℕ → List ℕ → Type 0
@@ -51,19 +51,19 @@ Listed T tokens answers allowance = ListedFrom T tokens answers (fresh allowance
 -- the rules' own walk stops
 pub record RulesStop (prog : List Rule) (tokens answers : List ℕ) (allowance : ℕ) (r : Reason) (io : Io) : Type 0 where
   pub steps : ℕ
-  pub stop : owns prog tokens answers steps (ownStart prog allowance) ≡ rules.stopped r io
+  pub stop : owns prog tokens answers steps (own_start prog allowance) ≡ rules.stopped r io
 
 -- some of the rules' own events begin so
 pub record RulesWrite (prog : List Rule) (tokens answers : List ℕ) (allowance : ℕ) (es : List Event) : Type 0 where
   pub steps : ℕ
-  pub begins : Begins es (eventsOf (owns prog tokens answers steps (ownStart prog allowance)))
+  pub begins : Begins es (events_of (owns prog tokens answers steps (own_start prog allowance)))
 
 -- it "waits for an answer past the last, where the rules stop with 34"
 pub record WaitsPast (prog : List Rule) (tokens answers : List ℕ) (allowance : ℕ) (w : Walk) (es : List Event) : Type 0 where
   pub waits : w.phase ≡ waiting
   pub past : wanted answers es ≡ none
   pub io : Io
-  pub rules-stop : RulesStop prog tokens answers allowance unanswered io
+  pub rules_stop : RulesStop prog tokens answers allowance unanswered io
 
 pub record HasStopped (w : Walk) : Type 0 where
   pub reason : Reason
@@ -86,10 +86,10 @@ pub record Agrees (prog : List Rule) (T tokens answers : List ℕ) (allowance : 
   pub events : {w : Walk} {es : List Event} {n : ℕ} {ns : List ℕ} → Listed T tokens answers allowance w es n ns
       → (w.phase ≡ waiting → ⊥) → RulesWrite prog tokens answers allowance es
   -- while it waits, of the rules' own with any one answer more
-  pub events-waiting : {w : Walk} {es : List Event} {n : ℕ} {ns : List ℕ} → Listed T tokens answers allowance w es n ns
+  pub events_waiting : {w : Walk} {es : List Event} {n : ℕ} {ns : List ℕ} → Listed T tokens answers allowance w es n ns
       → w.phase ≡ waiting → (x : ℕ) → RulesWrite prog tokens (answers ++ (x ∷ [])) allowance es
   -- no call has answered 37
-  pub never-37 : {w : Walk} {es : List Event} {n number : ℕ} {ns : List ℕ} → Listed T tokens answers allowance w es n (number ∷ ns)
+  pub never_37 : {w : Walk} {es : List Event} {n number : ℕ} {ns : List ℕ} → Listed T tokens answers allowance w es n (number ∷ ns)
       → number ≡ 37 → ⊥
   -- a walk that has stopped has the rules' reason, events, tokens read, answers used and allowance left
   pub stops : {w : Walk} {es : List Event} {n : ℕ} {ns : List ℕ} {r : Reason} → Listed T tokens answers allowance w es n ns
@@ -114,5 +114,5 @@ pub record Demand3 (text words : List ℕ) (verdict : Bool) : Type 0 where
 
 -- all of this file computes where this is unfolded
 unfoldable pub opened : Unit {0}
-unfolding eventsOf wanted
+unfolding events_of wanted
 opened = tt

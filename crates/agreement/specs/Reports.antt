@@ -1,6 +1,6 @@
 -- What a call's number says of the walk that it gives back.
 use Rattle.std.specs.Prelude.{◌≡◌, ℕ}
-use Rattle.events.specs.Events.{Reason, reasonNumber}
+use Rattle.events.specs.Events.{Reason, reason_number}
 use Rattle.machine.specs.Call.{waits}
 use Rattle.machine.specs.Walk.{Phase, going, waiting, stopped}
 
@@ -14,4 +14,4 @@ pub data Reports : ℕ → Phase → Type 0 where
   -- the operation is handed out
   handed_out : Reports waits waiting
   -- "0 is a return with nothing pending", 30 to 34, 37
-  ended : (r : Reason) → Reports (reasonNumber r) (stopped r)
+  ended : (r : Reason) → Reports (reason_number r) (stopped r)

@@ -6,14 +6,14 @@ use native.Mathlib.Numerals.{add-one}
 use native.Mathlib.Omega.{arith}
 use lib.ListN.{length, get_or, set, take, drop, length-append, length-drop}
 use lib.Seq.{set_at, drop-cons, take-suc, take_all, length-take-le}
-use Rattle.machine.proofs.Bytes.{length-bytesOf, bytesOf-append}
+use Rattle.machine.proofs.Bytes.{length-bytes_of, bytes_of-append}
 use Rattle.machine.specs.Bytes.{bytes_of, over}
-use Rattle.buffers.specs.Words.{putWord}
+use Rattle.buffers.specs.Words.{put_word}
 
 -- a word's two bytes behind k words
 two-behind : (A out : List ℕ) (k x : ℕ) → length A ≡ 2 * k → 2 * k + 2 ≤ length out
-    → putWord (A ++ drop (2 * k) out) k x ≡ (A ++ (x / 256 ∷ x % 256 ∷ [])) ++ drop (2 * k + 2) out
-unfolding putWord
+    → put_word (A ++ drop (2 * k) out) k x ≡ (A ++ (x / 256 ∷ x % 256 ∷ [])) ++ drop (2 * k + 2) out
+unfolding put_word
 two-behind A out k x a h =
     let d₀ = drop-cons out (2 * k) 0 (omega arith) in
     let d₁ = drop-cons out (suc (2 * k)) 0 (omega arith) in
@@ -28,19 +28,19 @@ two-behind A out k x a h =
 
 -- a word behind words that stand over a buffer
 pub put-behind : (ws out : List ℕ) (k x : ℕ) → length ws ≡ k → 2 * k + 2 ≤ length out
-    → putWord (over (bytes_of ws) out) k x ≡ over (bytes_of (ws ++ (x ∷ []))) out
+    → put_word (over (bytes_of ws) out) k x ≡ over (bytes_of (ws ++ (x ∷ []))) out
 unfolding over bytes_of
 put-behind ws out k x e h =
     let A = bytes_of ws in
-    let a : length A ≡ 2 * k = length-bytesOf ws ∙ ap (λ (n : ℕ). 2 * n) e in
+    let a : length A ≡ 2 * k = length-bytes_of ws ∙ ap (λ (n : ℕ). 2 * n) e in
     let l : length (A ++ (x / 256 ∷ x % 256 ∷ [])) ≡ 2 * k + 2 = omega (arith, length-append A (x / 256 ∷ x % 256 ∷ [])) in
-    ap (λ (n : ℕ). putWord (A ++ drop n out) k x) a ∙ two-behind A out k x a h
+    ap (λ (n : ℕ). put_word (A ++ drop n out) k x) a ∙ two-behind A out k x a h
     ∙ ap (λ (n : ℕ). (A ++ (x / 256 ∷ x % 256 ∷ [])) ++ drop n out) (sym l)
-    ∙ ap (λ (z : List ℕ). z ++ drop (length z) out) (sym (bytesOf-append ws (x ∷ [])))
+    ∙ ap (λ (z : List ℕ). z ++ drop (length z) out) (sym (bytes_of-append ws (x ∷ [])))
 
 pub over-length : (ws out : List ℕ) → 2 * length ws ≤ length out → length (over (bytes_of ws) out) ≡ length out
 unfolding over
-over-length ws out h = omega (arith, length-bytesOf ws, length-append (bytes_of ws) (drop (length (bytes_of ws)) out), length-drop (length (bytes_of ws)) out)
+over-length ws out h = omega (arith, length-bytes_of ws, length-append (bytes_of ws) (drop (length (bytes_of ws)) out), length-drop (length (bytes_of ws)) out)
 
 -- A loop that writes the words ws one after the other into the buffer out₀: the first k stand there
 module _ (ws out₀ : List ℕ) (fits : 2 * length ws ≤ length out₀) where
@@ -51,12 +51,12 @@ module _ (ws out₀ : List ℕ) (fits : 2 * length ws ≤ length out₀) where
   pub upto-size : (k : ℕ) → k ≤ length ws → length (over (bytes_of (take k ws)) out₀) ≡ length out₀
   upto-size k h = over-length (take k ws) out₀ (omega (arith, length-take-le k ws h))
 
-  pub upto_put : {out out' : List ℕ} (k x : ℕ) → out' ≡ putWord out k x → out ≡ over (bytes_of (take k ws)) out₀ → k < length ws → x ≡ get_or ws k 0
+  pub upto_put : {out out' : List ℕ} (k x : ℕ) → out' ≡ put_word out k x → out ≡ over (bytes_of (take k ws)) out₀ → k < length ws → x ≡ get_or ws k 0
       → out' ≡ over (bytes_of (take (k + 1) ws)) out₀
   upto_put k x e o h f =
       let t : take (k + 1) ws ≡ take k ws ++ (x ∷ []) =
       ap (λ (n : ℕ). take n ws) (add-one k) ∙ take-suc ws k 0 h ∙ ap (λ (v : ℕ). take k ws ++ (v ∷ [])) (sym f) in
-      e ∙ ap (λ (z : List ℕ). putWord z k x) o ∙ put-behind (take k ws) out₀ k x (length-take-le k ws (omega arith)) (omega arith)
+      e ∙ ap (λ (z : List ℕ). put_word z k x) o ∙ put-behind (take k ws) out₀ k x (length-take-le k ws (omega arith)) (omega arith)
       ∙ ap (λ (z : List ℕ). over (bytes_of z) out₀) (sym t)
 
   pub upto-end : (k : ℕ) → length ws ≤ k → over (bytes_of (take k ws)) out₀ ≡ over (bytes_of ws) out₀

@@ -6,7 +6,7 @@ use native.Mathlib.Numerals.{add-one}
 use native.Mathlib.Omega.{arith}
 use lib.ListN.{length, get_or, set, drop, replicate, length-append, length-drop, length-replicate, replicate-append-replicate}
 use lib.Seq.{set_at, drop-cons, drop_at}
-use Rattle.machine.proofs.Bytes.{length-bytesOf, bytesOf-append, zero-bytes}
+use Rattle.machine.proofs.Bytes.{length-bytes_of, bytes_of-append, zero-bytes}
 use Rattle.machine.specs.Bytes.{count, bytes_of, over}
 use Rattle.buffers.specs.Words.{zeroed}
 
@@ -17,7 +17,7 @@ zeroed-is t = ap (λ (z : List ℕ). z ++ drop (2 * count t) t) (zero-bytes (cou
 pub length-zeroed : (t : List ℕ) → length (zeroed t) ≡ length t
 unfolding zeroed count
 length-zeroed t =
-    omega (arith, length-append (bytes_of (replicate (length t / 2) 0)) (drop (2 * (length t / 2)) t), length-bytesOf (replicate (length t / 2) 0), length-replicate {A = ℕ} (length t / 2) 0, length-drop (2 * (length t / 2)) t)
+    omega (arith, length-append (bytes_of (replicate (length t / 2) 0)) (drop (2 * (length t / 2)) t), length-bytes_of (replicate (length t / 2) 0), length-replicate {A = ℕ} (length t / 2) 0, length-drop (2 * (length t / 2)) t)
 
 -- The loop of `clear_words`: so many bytes from the start are 0
 
@@ -46,7 +46,7 @@ zero-length out₀ i h = omega (arith, length-append (replicate {A = ℕ} i 0) (
 over_zeros : (ws t : List ℕ) → length ws ≤ count t → over (bytes_of ws) (zeroed t) ≡ bytes_of ws ++ (replicate (2 * (count t - length ws)) 0 ++ drop (2 * count t) t)
 unfolding over
 over_zeros ws t h =
-    let a = length-bytesOf ws in
+    let a = length-bytes_of ws in
     let e : 2 * count t ≡ 2 * length ws + 2 * (count t - length ws) = omega arith in
     let r = replicate-append-replicate {A = ℕ} (2 * length ws) (2 * (count t - length ws)) 0 in
     let z : zeroed t ≡ replicate (2 * length ws) 0 ++ (replicate (2 * (count t - length ws)) 0 ++ drop (2 * count t) t) =
@@ -60,7 +60,7 @@ pub over-zeroed : (ws t : List ℕ) → length ws ≤ count t → over (bytes_of
 over-zeroed ws t h =
     over_zeros ws t h ∙ sym (append_assoc (bytes_of ws) (replicate (2 * (count t - length ws)) 0) (drop (2 * count t) t))
     ∙ ap (λ (y : List ℕ). (bytes_of ws ++ y) ++ drop (2 * count t) t) (sym (zero-bytes (count t - length ws)))
-    ∙ ap (λ (y : List ℕ). y ++ drop (2 * count t) t) (sym (bytesOf-append ws (replicate (count t - length ws) 0)))
+    ∙ ap (λ (y : List ℕ). y ++ drop (2 * count t) t) (sym (bytes_of-append ws (replicate (count t - length ws) 0)))
 
 -- and cleared again
 pub zeroed-over : (ws t : List ℕ) → length ws ≤ count t → zeroed (over (bytes_of ws) (zeroed t)) ≡ zeroed t
@@ -70,7 +70,7 @@ zeroed-over ws t h =
     let X = bytes_of (ws ++ replicate (count t - length ws) 0) in
     let D = drop (2 * count t) t in
     let a : length X ≡ 2 * count t =
-    omega (arith, length-bytesOf (ws ++ replicate (count t - length ws) 0), length-append ws (replicate (count t - length ws) 0), length-replicate {A = ℕ} (count t - length ws) 0) in
+    omega (arith, length-bytes_of (ws ++ replicate (count t - length ws) 0), length-append ws (replicate (count t - length ws) 0), length-replicate {A = ℕ} (count t - length ws) 0) in
     let l : length (X ++ D) ≡ length t = omega (arith, length-append X D, length-drop (2 * count t) t) in
     let c : count (X ++ D) ≡ count t = ap (λ (m : ℕ). m / 2) l in
     ap zeroed o ∙ zeroed-is (X ++ D) ∙ ap (λ (m : ℕ). replicate (2 * m) 0 ++ drop (2 * m) (X ++ D)) c

@@ -2,7 +2,7 @@
 ghost use Rattle.std.specs.Prelude.{◌≡◌, ◌+◌, ◌*◌, ◌<◌, ◌≤◌, length, drop, get_or};
 ghost use Rattle.machine.specs.Bytes.{words_of};
 ghost use Rattle.machine.specs.Form.{number64};
-ghost use Rattle.buffers.specs.Words.{zeroed, putWord, put64};
+ghost use Rattle.buffers.specs.Words.{zeroed, put_word, put64};
 
 use base::wide_64;
 
@@ -37,7 +37,7 @@ pub fn read_64(s: &[u8], i: usize) -> u64
 // The word x at index i.
 pub fn put_word(out: &mut [u8], i: usize, x: u16)
     requires { 2 * i + 1 < length out.old }
-    ensures { out.new ≡ putWord out.old i x }
+    ensures { out.new ≡ put_word out.old i x }
 {
     out[2 * i] = (x / 256) as u8;
     out[2 * i + 1] = (x % 256) as u8;

@@ -11,17 +11,17 @@ use Rattle.base.specs.Tree.{choice, done, nil, alternative, absent, otherwise}
 use Rattle.resolver.proofs.Appending.{appends-length}
 use Rattle.builder.proofs.Encoding.{choice-cells, alternative-cells}
 use Rattle.builder.proofs.Laws.{ends-fails, ends-here, ends-map, ends-moved, ends-then, member-more}
-use Rattle.builder.specs.Parts.{place_of, labelledOf, choicesOf, Choices, choicesCells, Marks, ChoiceDone, AltsDone, OtherDone, LabelledDone}
+use Rattle.builder.specs.Parts.{place_of, labelled_of, choices_of, Choices, choices_cells, Marks, ChoiceDone, AltsDone, OtherDone, LabelledDone}
 use Rattle.builder.specs.declared.Labelled.{Labelled}
-use Rattle.cells.specs.Cells.{selectorCells, actCells, altsCells, otherCells}
+use Rattle.cells.specs.Cells.{selector_cells, act_cells, alts_cells, other_cells}
 use Rattle.declarations.proofs.Declaring.{alike}
-use Rattle.declarations.specs.Decls.{Agrees, knownsIn}
-use Rattle.grammar.specs.Derived.{Took, LabelsIn, last-label, more-labels, AltsIn, other-in, last-in, next-in}
+use Rattle.declarations.specs.Decls.{Agrees, knowns_in}
+use Rattle.grammar.specs.Derived.{Took, LabelsIn, last_label, more_labels, AltsIn, other_in, last_in, next_in}
 use Rattle.maker.specs.Pairs.{PairsAre}
 use Rattle.names.specs.Known.{Checked, good, wrong, ◌>>=◌, Known, KnownRule, Names}
-use Rattle.names.specs.Resolve.{Place, selectorOf, labelsOf, actOf, actsOf, altsOf, other_of}
+use Rattle.names.specs.Resolve.{Place, selector_of, labels_of, act_of, acts_of, alts_of, other_of}
 use Rattle.places.proofs.Heres.{took-kind, took-here, reference-kind}
-use Rattle.program.specs.Past.{past, pastAll, pastSome, pastOther, exits, exitsAll, exitsSome, exitsOther}
+use Rattle.program.specs.Past.{past, past_all, past_some, past_other, exits, exits_all, exits_some, exits_other}
 use Rattle.program.specs.Program as means
 use Rattle.resolver.specs.Resolved.{Appends, Ends, Flags, SelectorDone}
 use Rattle.resolver.specs.declared.Built.{Built}
@@ -32,7 +32,7 @@ use Rattle.scanner.specs.declared.WordAt.{WordAt}
 use Rattle.symbols.specs.Rows.{held}
 use Rattle.syntax.specs.Written as written
 use Rattle.syntax.specs.Written.{Program}
-use Rattle.words.specs.Words.{Word, wordsAt}
+use Rattle.words.specs.Words.{Word, words_at}
 
 -- The order in which the parts are resolved
 
@@ -43,10 +43,10 @@ pair_then (good a) (wrong n w) v = refl
 pair_then (wrong n w) k v = refl
 
 choice-order : (p : Program) (names : Names) (rs : List KnownRule) (s : written.Selector) (q : written.Alts) (o : written.Other) (at : Place)
-    → ◌>>=◌ (selectorOf p names rs s) (λ c. ◌>>=◌ (choicesOf p names rs q o at c.labels []) (λ x. good (choice c.by x.0 x.1))) ≡ actOf p names rs (choice s q o) at
-unfolding choicesOf actOf
+    → ◌>>=◌ (selector_of p names rs s) (λ c. ◌>>=◌ (choices_of p names rs q o at c.labels []) (λ x. good (choice c.by x.0 x.1))) ≡ act_of p names rs (choice s q o) at
+unfolding choices_of act_of
 choice-order p names rs s q o at =
-    alike (selectorOf p names rs s) (λ c. pair_then (altsOf p names rs q at c.labels []) (other_of p names rs o at) (λ alts other. choice c.by alts other))
+    alike (selector_of p names rs s) (λ c. pair_then (alts_of p names rs q at c.labels []) (other_of p names rs o at) (λ alts other. choice c.by alts other))
 
 abbrev both : Checked means.Alts → Checked means.Other → Checked Choices
 both a l = ◌>>=◌ a (λ alts. ◌>>=◌ l (λ other. good (alts, other)))
@@ -67,24 +67,24 @@ four (good vs) (good body) f l = go (f vs) l
     go (good a) (good o) = refl
 
 alternative-order : (p : Program) (names : Names) (rs : List KnownRule) (ls : List Word) (b : written.Acts) (q : written.Alts) (o : written.Other) (at : Place) (ks : List Known) (seen : List ℕ)
-    → ◌>>=◌ {B = Choices} (labelledOf p names rs ls b at ks seen) (λ y. ◌>>=◌ {B = Choices} (choicesOf p names rs q o at ks (y.0 ++ seen)) (λ x. good (alternative y.0 y.1 x.0, x.1)))
-    ≡ choicesOf p names rs (alternative ls b q) o at ks seen
-unfolding labelledOf choicesOf altsOf
+    → ◌>>=◌ {B = Choices} (labelled_of p names rs ls b at ks seen) (λ y. ◌>>=◌ {B = Choices} (choices_of p names rs q o at ks (y.0 ++ seen)) (λ x. good (alternative y.0 y.1 x.0, x.1)))
+    ≡ choices_of p names rs (alternative ls b q) o at ks seen
+unfolding labelled_of choices_of alts_of
 alternative-order p names rs ls b q o at ks seen =
-    four (labelsOf p names rs ls ks seen) (actsOf p names rs b at) (λ vs. altsOf p names rs q at ks (vs ++ seen)) (other_of p names rs o at)
+    four (labels_of p names rs ls ks seen) (acts_of p names rs b at) (λ vs. alts_of p names rs q at ks (vs ++ seen)) (other_of p names rs o at)
 
 -- The whole choice
 
 pub choice-fail : {text rows : List ℕ} {n at : ℕ} {inside : Bool} {class : ℕ} {cs : List ℕ} {c : ℕ} {cs₁ : List ℕ} {s : Selected} {r : Built}
     → SelectorDone text rows n at cs c cs₁ s → (s.done.fault ≡ 0 → ⊥) → r.done ≡ s.done → ChoiceDone text rows n at inside class cs c cs₁ r
-unfolding actOf
+unfolding act_of
 choice-fail {text} {rows} {n} {at} {inside} {class} {cs} {c} {cs₁} {s} {r} S z e =
     let z₂ : r.done.fault ≡ 0 → ⊥ = λ k. z (sym (ap (λ (d : Done). d.fault) e) ∙ k) in
     record {
       kept = record { same = S.same; low = λ k. absurd (z₂ k); high = λ k. absurd (z₂ k) };
       done = λ p names rs g x q o bar ws₁ ws₂ ws d t u.
-          subst (λ (y : Done). Ends (PairsAre text rows n p names) text ws cs c cs₁ (λ b. actCells b []) (λ b. Flags r.past r.exits (past b) (exits b)) y (actOf p names rs (choice x q o) (place_of (held text rows n) inside class)))
-          (sym e) (ends-fails (selectorOf p names rs x) _ (S.done p names rs g x ws₁ d) z);
+          subst (λ (y : Done). Ends (PairsAre text rows n p names) text ws cs c cs₁ (λ b. act_cells b []) (λ b. Flags r.past r.exits (past b) (exits b)) y (act_of p names rs (choice x q o) (place_of (held text rows n) inside class)))
+          (sym e) (ends-fails (selector_of p names rs x) _ (S.done p names rs g x ws₁ d) z);
     }
 
 pub choice-more : {text rows : List ℕ} {n at : ℕ} {inside : Bool} {class : ℕ} {cs : List ℕ} {c : ℕ} {cs₁ cs' seen : List ℕ} {s : Selected} {r : Built} {w : WordAt}
@@ -94,30 +94,30 @@ unfolding past exits
 choice-more {text} {rows} {n} {at} {inside} {class} {cs} {c} {cs₁} {cs'} {seen} {s} {r} {w} S z h l A = record {
   kept = record { same = A.kept.same ∙ S.same; low = λ e. omega (arith, S.low z, h.onto, A.kept.low e); high = A.kept.high };
   done = λ p names rs g x q o bar ws₁ ws₂ ws d t u.
-      subst (λ m. Ends (PairsAre text rows n p names) text ws cs c cs' (λ b. actCells b []) (λ b. Flags r.past r.exits (past b) (exits b)) r.done m)
+      subst (λ m. Ends (PairsAre text rows n p names) text ws cs c cs' (λ b. act_cells b []) (λ b. Flags r.past r.exits (past b) (exits b)) r.done m)
       (choice-order p names rs x q o (place_of (held text rows n) inside class))
-      (ends-then (λ _. choicesCells s.absent)
+      (ends-then (λ _. choices_cells s.absent)
       (λ _. Marks r false false)
-      (λ b. actCells b []) (λ b. Flags r.past r.exits (past b) (exits b)) (λ k y. choice k.by y.0 y.1) (selectorOf p names rs x)
-      (λ k. choicesOf p names rs q o (place_of (held text rows n) inside class) k.labels []) (S.done p names rs g x ws₁ d) z
-      (λ k here pk. subst (λ ks. Ends (PairsAre text rows n p names) text ws cs₁ s.done.count cs' (choicesCells s.absent)
+      (λ b. act_cells b []) (λ b. Flags r.past r.exits (past b) (exits b)) (λ k y. choice k.by y.0 y.1) (selector_of p names rs x)
+      (λ k. choices_of p names rs q o (place_of (held text rows n) inside class) k.labels []) (S.done p names rs g x ws₁ d) z
+      (λ k here pk. subst (λ ks. Ends (PairsAre text rows n p names) text ws cs₁ s.done.count cs' (choices_cells s.absent)
       (Marks r false false) r.done
-      (choicesOf p names rs q o (place_of (held text rows n) inside class) ks [])) (sym pk.0)
+      (choices_of p names rs q o (place_of (held text rows n) inside class) ks [])) (sym pk.0)
       (A.done p names rs g q o 64 ws
       (subst (λ l. AltsIn l ws 64 q o) (took-here text s.done.at 124 w bar ws₂ (omega arith) h (subst (λ l. Took 124 l bar ws₂) here t)).behind u) (omega (arith, l)) [] (λ v. refl)))
-      (λ k y pk qy. (choice-cells k.by y.0 y.1 ∙ ap (λ e. selectorCells k.by [] ++ altsCells y.0 (otherCells y.1 e [])) (sym pk.1), qy)));
+      (λ k y pk qy. (choice-cells k.by y.0 y.1 ∙ ap (λ e. selector_cells k.by [] ++ alts_cells y.0 (other_cells y.1 e [])) (sym pk.1), qy)));
 }
 
 -- Alternatives
 
 -- labels begin with a name or a string
-labels-begin : {text : List ℕ} {at : ℕ} {w : WordAt} {ws ls : List Word} → Next text at w → LabelsIn (wordsAt text at) ws ls → w.kind ≡ 42 → ⊥
-labels-begin {text} {at} {w} {ws} h (last-label {w = v} d _) e = go (reference-kind text at w v ws h d)
+labels-begin : {text : List ℕ} {at : ℕ} {w : WordAt} {ws ls : List Word} → Next text at w → LabelsIn (words_at text at) ws ls → w.kind ≡ 42 → ⊥
+labels-begin {text} {at} {w} {ws} h (last_label {w = v} d _) e = go (reference-kind text at w v ws h d)
   where
     go : (w.kind ≡ 257) ⊎ (w.kind ≡ 259) → ⊥
     go (inl k) = omega (arith, e, k)
     go (inr k) = omega (arith, e, k)
-labels-begin {text} {at} {w} h (more-labels {ws₁ = ws₁} {w = v} d _ _) e = go (reference-kind text at w v ws₁ h d)
+labels-begin {text} {at} {w} h (more_labels {ws₁ = ws₁} {w = v} d _ _) e = go (reference-kind text at w v ws₁ h d)
   where
     go : (w.kind ≡ 257) ⊎ (w.kind ≡ 259) → ⊥
     go (inl k) = omega (arith, e, k)
@@ -126,7 +126,7 @@ labels-begin {text} {at} {w} h (more-labels {ws₁ = ws₁} {w = v} d _ _) e = g
 pub alts-other : {text rows : List ℕ} {n at : ℕ} {inside : Bool} {class labels miss : ℕ} {seen : List ℕ} {used : ℕ} {one some : Bool} {cs : List ℕ} {c : ℕ} {cs' : List ℕ} {o r : Built} {w : WordAt}
     → Next text at w → w.kind ≡ 42 → OtherDone text rows n w.next inside class cs c cs' o → r.done ≡ o.done → r.past ≡ (one || o.past) → r.exits ≡ (some || o.exits)
     → AltsDone text rows n at inside class labels miss seen used one some cs c cs' r
-unfolding choicesOf altsOf altsCells pastSome exitsSome
+unfolding choices_of alts_of alts_cells past_some exits_some
 alts-other {text} {rows} {n} {at} {inside} {class} {labels} {miss} {seen} {used} {one} {some} {cs} {c} {cs'} {o} {r} {w} h k O e e₁ e₂ = record {
   kept = record {
     same = O.kept.same;
@@ -137,21 +137,21 @@ alts-other {text} {rows} {n} {at} {inside} {class} {labels} {miss} {seen} {used}
 }
   where
     go : (p : Program) (names : Names) (rs : List KnownRule) → Agrees p names rs (held text rows n) → (q : written.Alts) (x : written.Other) (room : ℕ) (ws : List Word)
-        → AltsIn (wordsAt text at) ws room q x → room + used ≤ length seen → (old : List ℕ) → ((v : ℕ) → member v old ≡ member v (take used seen))
-        → Ends (PairsAre text rows n p names) text ws cs c cs' (choicesCells miss)
+        → AltsIn (words_at text at) ws room q x → room + used ≤ length seen → (old : List ℕ) → ((v : ℕ) → member v old ≡ member v (take used seen))
+        → Ends (PairsAre text rows n p names) text ws cs c cs' (choices_cells miss)
         (Marks r one some) r.done
-        (choicesOf p names rs q x (place_of (held text rows n) inside class) (knownsIn labels (held text rows n)) old)
-    go p names rs g nil (otherwise b) room ws (other-in {ws₁ = ws₁} {ws₂ = ws₂} {ws₃ = ws₃} {star = star} {colon = colon} {close = close} t u d v) _ old _ =
-        subst (λ (y : Done). Ends (PairsAre text rows n p names) text ws cs c cs' (choicesCells miss)
+        (choices_of p names rs q x (place_of (held text rows n) inside class) (knowns_in labels (held text rows n)) old)
+    go p names rs g nil (otherwise b) room ws (other_in {ws₁ = ws₁} {ws₂ = ws₂} {ws₃ = ws₃} {star = star} {colon = colon} {close = close} t u d v) _ old _ =
+        subst (λ (y : Done). Ends (PairsAre text rows n p names) text ws cs c cs' (choices_cells miss)
         (Marks r one some) y
-        (choicesOf p names rs nil (otherwise b) (place_of (held text rows n) inside class) (knownsIn labels (held text rows n)) old)) (sym e)
-        (ends-map (choicesCells miss)
+        (choices_of p names rs nil (otherwise b) (place_of (held text rows n) inside class) (knowns_in labels (held text rows n)) old)) (sym e)
+        (ends-map (choices_cells miss)
         (Marks r one some) (λ y. (nil, y))
         (other_of p names rs (otherwise b) (place_of (held text rows n) inside class))
         (O.done p names rs g b colon close ws₂ ws₃ ws (subst (λ l. Took 58 l colon ws₂) (took-here text at 42 w star ws₁ (omega arith) h t).behind u) d v miss)
         (λ y f. (refl, (e₁ ∙ ap (λ t. one || t) f.0, e₂ ∙ ap (λ t. some || t) f.1))))
-    go p names rs g (alternative ls b nil) absent room ws (last-in d _ _ _ _) _ old _ = absurd (labels-begin h d k)
-    go p names rs g (alternative ls b q) x room ws (next-in d _ _ _ _ _) _ old _ = absurd (labels-begin h d k)
+    go p names rs g (alternative ls b nil) absent room ws (last_in d _ _ _ _) _ old _ = absurd (labels-begin h d k)
+    go p names rs g (alternative ls b q) x room ws (next_in d _ _ _ _ _) _ old _ = absurd (labels-begin h d k)
 
 pub alts-fail : {text rows : List ℕ} {n at : ℕ} {inside : Bool} {class labels miss : ℕ} {seen : List ℕ} {used : ℕ} {seen' : List ℕ} {one some : Bool} {cs : List ℕ} {c : ℕ} {cs' : List ℕ} {l : Labelled} {w : WordAt}
     → Next text at w → (w.kind ≡ 42 → ⊥) → LabelledDone text rows n at inside class labels seen used seen' cs c cs' l → (l.built.done.fault ≡ 0 → ⊥)
@@ -160,18 +160,18 @@ alts-fail {text} {rows} {n} {at} {inside} {class} {labels} {miss} {seen} {used} 
     record { kept = record { same = L.kept.same; low = λ e. absurd (z e); high = λ e. absurd (z e) }; done = go }
   where
     go : (p : Program) (names : Names) (rs : List KnownRule) → Agrees p names rs (held text rows n) → (q : written.Alts) (x : written.Other) (room : ℕ) (ws : List Word)
-        → AltsIn (wordsAt text at) ws room q x → room + used ≤ length seen → (old : List ℕ) → ((v : ℕ) → member v old ≡ member v (take used seen))
-        → Ends (PairsAre text rows n p names) text ws cs c cs' (choicesCells miss)
+        → AltsIn (words_at text at) ws room q x → room + used ≤ length seen → (old : List ℕ) → ((v : ℕ) → member v old ≡ member v (take used seen))
+        → Ends (PairsAre text rows n p names) text ws cs c cs' (choices_cells miss)
         (Marks l.built one some) l.built.done
-        (choicesOf p names rs q x (place_of (held text rows n) inside class) (knownsIn labels (held text rows n)) old)
-    go p names rs g nil (otherwise b) room ws (other-in {ws₁ = ws₁} {star = star} t _ _ _) _ old _ = absurd (k (took-kind text at 42 w star ws₁ h t))
-    go p names rs g (alternative ls b nil) absent room ws (last-in {ws₁ = ws₁} {ws₂ = ws₂} {ws₃ = ws₃} {colon = colon} d i t e u) fits old m =
-        subst (λ y. Ends (PairsAre text rows n p names) text ws cs c cs' (choicesCells miss) (Marks l.built one some) l.built.done y) (alternative-order p names rs ls b nil absent (place_of (held text rows n) inside class) (knownsIn labels (held text rows n)) old)
-        (ends-fails (labelledOf p names rs ls b (place_of (held text rows n) inside class) (knownsIn labels (held text rows n)) old) _
+        (choices_of p names rs q x (place_of (held text rows n) inside class) (knowns_in labels (held text rows n)) old)
+    go p names rs g nil (otherwise b) room ws (other_in {ws₁ = ws₁} {star = star} t _ _ _) _ old _ = absurd (k (took-kind text at 42 w star ws₁ h t))
+    go p names rs g (alternative ls b nil) absent room ws (last_in {ws₁ = ws₁} {ws₂ = ws₂} {ws₃ = ws₃} {colon = colon} d i t e u) fits old m =
+        subst (λ y. Ends (PairsAre text rows n p names) text ws cs c cs' (choices_cells miss) (Marks l.built one some) l.built.done y) (alternative-order p names rs ls b nil absent (place_of (held text rows n) inside class) (knowns_in labels (held text rows n)) old)
+        (ends-fails (labelled_of p names rs ls b (place_of (held text rows n) inside class) (knowns_in labels (held text rows n)) old) _
         (L.done p names rs g ls b colon ws₁ ws₂ ws₃ d (omega (arith, i, fits)) t e old m) z)
-    go p names rs g (alternative ls b q) x room ws (next-in {ws₁ = ws₁} {ws₂ = ws₂} {ws₃ = ws₃} {colon = colon} d i t e u f) fits old m =
-        subst (λ y. Ends (PairsAre text rows n p names) text ws cs c cs' (choicesCells miss) (Marks l.built one some) l.built.done y) (alternative-order p names rs ls b q x (place_of (held text rows n) inside class) (knownsIn labels (held text rows n)) old)
-        (ends-fails (labelledOf p names rs ls b (place_of (held text rows n) inside class) (knownsIn labels (held text rows n)) old) _
+    go p names rs g (alternative ls b q) x room ws (next_in {ws₁ = ws₁} {ws₂ = ws₂} {ws₃ = ws₃} {colon = colon} d i t e u f) fits old m =
+        subst (λ y. Ends (PairsAre text rows n p names) text ws cs c cs' (choices_cells miss) (Marks l.built one some) l.built.done y) (alternative-order p names rs ls b q x (place_of (held text rows n) inside class) (knowns_in labels (held text rows n)) old)
+        (ends-fails (labelled_of p names rs ls b (place_of (held text rows n) inside class) (knowns_in labels (held text rows n)) old) _
         (L.done p names rs g ls b colon ws₁ ws₂ ws₃ d (omega (arith, i, fits)) t e old m) z)
 
 pub alts-last : {text rows : List ℕ} {n at : ℕ} {inside : Bool} {class labels miss : ℕ} {seen : List ℕ} {used : ℕ} {seen' : List ℕ} {one some : Bool} {cs : List ℕ} {c : ℕ} {cs₁ cs' : List ℕ} {l : Labelled}
@@ -180,38 +180,38 @@ pub alts-last : {text rows : List ℕ} {n at : ℕ} {inside : Bool} {class label
     → Next text l.built.done.at v → (v.kind ≡ 124 → ⊥) → Appends cs₁ l.built.done.count (miss ∷ []) cs' r.done.count
     → r.done.fault ≡ 0 → r.done.at ≡ v.next → r.past ≡ (one || l.built.past) → r.exits ≡ (some || l.built.exits)
     → AltsDone text rows n at inside class labels miss seen used one some cs c cs' r
-unfolding choicesOf altsOf other_of altsCells pastSome exitsSome
+unfolding choices_of alts_of other_of alts_cells past_some exits_some
 alts-last {text} {rows} {n} {at} {inside} {class} {labels} {miss} {seen} {used} {seen'} {one} {some} {cs} {c} {cs₁} {cs'} {l} {r} {w} {v} h k L z h₂ k₂ app f a e₁ e₂ = record {
   kept = record { same = appends-length app ∙ L.kept.same; low = λ e. omega (arith, a, L.kept.low z, h₂.onto); high = λ e. omega (arith, a, h₂.high (L.kept.high z)) };
   done = go;
 }
   where
     go : (p : Program) (names : Names) (rs : List KnownRule) → Agrees p names rs (held text rows n) → (q : written.Alts) (x : written.Other) (room : ℕ) (ws : List Word)
-        → AltsIn (wordsAt text at) ws room q x → room + used ≤ length seen → (old : List ℕ) → ((v : ℕ) → member v old ≡ member v (take used seen))
-        → Ends (PairsAre text rows n p names) text ws cs c cs' (choicesCells miss)
+        → AltsIn (words_at text at) ws room q x → room + used ≤ length seen → (old : List ℕ) → ((v : ℕ) → member v old ≡ member v (take used seen))
+        → Ends (PairsAre text rows n p names) text ws cs c cs' (choices_cells miss)
         (Marks r one some) r.done
-        (choicesOf p names rs q x (place_of (held text rows n) inside class) (knownsIn labels (held text rows n)) old)
-    go p names rs g nil (otherwise b) room ws (other-in {ws₁ = ws₁} {star = star} t _ _ _) _ old _ = absurd (k (took-kind text at 42 w star ws₁ h t))
-    go p names rs g (alternative ls b nil) absent room ws (last-in {ws₁ = ws₁} {ws₂ = ws₂} {ws₃ = ws₃} {colon = colon} {close = close} d i t e u) fits old m =
-        subst (λ y. Ends (PairsAre text rows n p names) text ws cs c cs' (choicesCells miss)
+        (choices_of p names rs q x (place_of (held text rows n) inside class) (knowns_in labels (held text rows n)) old)
+    go p names rs g nil (otherwise b) room ws (other_in {ws₁ = ws₁} {star = star} t _ _ _) _ old _ = absurd (k (took-kind text at 42 w star ws₁ h t))
+    go p names rs g (alternative ls b nil) absent room ws (last_in {ws₁ = ws₁} {ws₂ = ws₂} {ws₃ = ws₃} {colon = colon} {close = close} d i t e u) fits old m =
+        subst (λ y. Ends (PairsAre text rows n p names) text ws cs c cs' (choices_cells miss)
         (Marks r one some) r.done y)
-        (alternative-order p names rs ls b nil absent (place_of (held text rows n) inside class) (knownsIn labels (held text rows n)) old)
-        (ends-map (choicesCells miss)
+        (alternative-order p names rs ls b nil absent (place_of (held text rows n) inside class) (knowns_in labels (held text rows n)) old)
+        (ends-map (choices_cells miss)
         (Marks r one some)
-        (λ (y : List ℕ × means.Acts). (alternative y.0 y.1 nil, absent)) (labelledOf p names rs ls b (place_of (held text rows n) inside class) (knownsIn labels (held text rows n)) old)
-        (ends-moved (labelledOf p names rs ls b (place_of (held text rows n) inside class) (knownsIn labels (held text rows n)) old)
+        (λ (y : List ℕ × means.Acts). (alternative y.0 y.1 nil, absent)) (labelled_of p names rs ls b (place_of (held text rows n) inside class) (knowns_in labels (held text rows n)) old)
+        (ends-moved (labelled_of p names rs ls b (place_of (held text rows n) inside class) (knowns_in labels (held text rows n)) old)
         (L.done p names rs g ls b colon ws₁ ws₂ ws₃ d (omega (arith, i, fits)) t e old m) z f
-        (λ here. (took-here text l.built.done.at 93 v close ws (omega arith) h₂ (subst (λ l. Took 93 l close ws) here u)).behind ∙ ap (wordsAt text) (sym a)) app)
+        (λ here. (took-here text l.built.done.at 93 v close ws (omega arith) h₂ (subst (λ l. Took 93 l close ws) here u)).behind ∙ ap (words_at text) (sym a)) app)
         (λ y py. (
           alternative-cells y.0 y.1 nil (miss ∷ []),
           (
-            e₁ ∙ ap (λ t. one || t) (py.0.0 ∙ sym (or-false (pastAll y.1)) ∙ sym (or-false (pastAll y.1 || false))),
-            e₂ ∙ ap (λ t. some || t) (py.0.1 ∙ sym (or-false (exitsAll y.1)) ∙ sym (or-false (exitsAll y.1 || false))),
+            e₁ ∙ ap (λ t. one || t) (py.0.0 ∙ sym (or-false (past_all y.1)) ∙ sym (or-false (past_all y.1 || false))),
+            e₂ ∙ ap (λ t. some || t) (py.0.1 ∙ sym (or-false (exits_all y.1)) ∙ sym (or-false (exits_all y.1 || false))),
           ),
         )))
-    go p names rs g (alternative ls b q) x room ws (next-in {ws₁ = ws₁} {ws₂ = ws₂} {ws₃ = ws₃} {ws₄ = ws₄} {colon = colon} {bar = bar} d i t e u f) fits old m =
-        let here : ws₃ ≡ wordsAt text l.built.done.at =
-        ends-here (labelledOf p names rs ls b (place_of (held text rows n) inside class) (knownsIn labels (held text rows n)) old)
+    go p names rs g (alternative ls b q) x room ws (next_in {ws₁ = ws₁} {ws₂ = ws₂} {ws₃ = ws₃} {ws₄ = ws₄} {colon = colon} {bar = bar} d i t e u f) fits old m =
+        let here : ws₃ ≡ words_at text l.built.done.at =
+        ends-here (labelled_of p names rs ls b (place_of (held text rows n) inside class) (knowns_in labels (held text rows n)) old)
         (L.done p names rs g ls b colon ws₁ ws₂ ws₃ d (omega (arith, i, fits)) t e old m) z in
         absurd (k₂ (took-kind text l.built.done.at 124 v bar ws₄ h₂ (subst (λ l. Took 124 l bar ws₄) here u)))
 
@@ -221,45 +221,45 @@ pub alts-next : {text rows : List ℕ} {n at : ℕ} {inside : Bool} {class label
     → Next text l.built.done.at v → v.kind ≡ 124 → one' ≡ (one || l.built.past) → some' ≡ (some || l.built.exits)
     → AltsDone text rows n v.next inside class labels miss seen' l.used one' some' cs₁ l.built.done.count cs' r
     → AltsDone text rows n at inside class labels miss seen used one some cs c cs' r
-unfolding altsCells pastSome exitsSome
+unfolding alts_cells past_some exits_some
 alts-next {text} {rows} {n} {at} {inside} {class} {labels} {miss} {seen} {used} {seen'} {one} {some} {one'} {some'} {cs} {c} {cs₁} {cs'} {l} {r} {w} {v} h k L z h₂ k₂ e₁ e₂ A = record {
   kept = record { same = A.kept.same ∙ L.kept.same; low = λ e. omega (arith, L.kept.low z, h₂.onto, A.kept.low e); high = A.kept.high };
   done = go;
 }
   where
     go : (p : Program) (names : Names) (rs : List KnownRule) → Agrees p names rs (held text rows n) → (q : written.Alts) (x : written.Other) (room : ℕ) (ws : List Word)
-        → AltsIn (wordsAt text at) ws room q x → room + used ≤ length seen → (old : List ℕ) → ((v : ℕ) → member v old ≡ member v (take used seen))
-        → Ends (PairsAre text rows n p names) text ws cs c cs' (choicesCells miss)
+        → AltsIn (words_at text at) ws room q x → room + used ≤ length seen → (old : List ℕ) → ((v : ℕ) → member v old ≡ member v (take used seen))
+        → Ends (PairsAre text rows n p names) text ws cs c cs' (choices_cells miss)
         (Marks r one some) r.done
-        (choicesOf p names rs q x (place_of (held text rows n) inside class) (knownsIn labels (held text rows n)) old)
-    go p names rs g nil (otherwise b) room ws (other-in {ws₁ = ws₁} {star = star} t _ _ _) _ old _ = absurd (k (took-kind text at 42 w star ws₁ h t))
-    go p names rs g (alternative ls b nil) absent room ws (last-in {ws₁ = ws₁} {ws₂ = ws₂} {ws₃ = ws₃} {colon = colon} {close = close} d i t e u) fits old m =
-        let here : ws₃ ≡ wordsAt text l.built.done.at =
-        ends-here (labelledOf p names rs ls b (place_of (held text rows n) inside class) (knownsIn labels (held text rows n)) old)
+        (choices_of p names rs q x (place_of (held text rows n) inside class) (knowns_in labels (held text rows n)) old)
+    go p names rs g nil (otherwise b) room ws (other_in {ws₁ = ws₁} {star = star} t _ _ _) _ old _ = absurd (k (took-kind text at 42 w star ws₁ h t))
+    go p names rs g (alternative ls b nil) absent room ws (last_in {ws₁ = ws₁} {ws₂ = ws₂} {ws₃ = ws₃} {colon = colon} {close = close} d i t e u) fits old m =
+        let here : ws₃ ≡ words_at text l.built.done.at =
+        ends-here (labelled_of p names rs ls b (place_of (held text rows n) inside class) (knowns_in labels (held text rows n)) old)
         (L.done p names rs g ls b colon ws₁ ws₂ ws₃ d (omega (arith, i, fits)) t e old m) z in
         absurd (omega (arith, k₂, took-kind text l.built.done.at 93 v close ws h₂ (subst (λ l. Took 93 l close ws) here u)))
-    go p names rs g (alternative ls b q) x room ws (next-in {ws₁ = ws₁} {ws₂ = ws₂} {ws₃ = ws₃} {ws₄ = ws₄} {colon = colon} {bar = bar} d i t e u f) fits old m =
-        subst (λ y. Ends (PairsAre text rows n p names) text ws cs c cs' (choicesCells miss)
+    go p names rs g (alternative ls b q) x room ws (next_in {ws₁ = ws₁} {ws₂ = ws₂} {ws₃ = ws₃} {ws₄ = ws₄} {colon = colon} {bar = bar} d i t e u f) fits old m =
+        subst (λ y. Ends (PairsAre text rows n p names) text ws cs c cs' (choices_cells miss)
         (Marks r one some) r.done y)
-        (alternative-order p names rs ls b q x (place_of (held text rows n) inside class) (knownsIn labels (held text rows n)) old)
-        (ends-then (λ _. choicesCells miss)
+        (alternative-order p names rs ls b q x (place_of (held text rows n) inside class) (knowns_in labels (held text rows n)) old)
+        (ends-then (λ _. choices_cells miss)
         (λ _. Marks r one' some')
-        (choicesCells miss)
+        (choices_cells miss)
         (Marks r one some)
-        (λ a y. (alternative a.0 a.1 y.0, y.1)) (labelledOf p names rs ls b (place_of (held text rows n) inside class) (knownsIn labels (held text rows n)) old)
-        (λ a. choicesOf p names rs q x (place_of (held text rows n) inside class) (knownsIn labels (held text rows n)) (a.0 ++ old))
+        (λ a y. (alternative a.0 a.1 y.0, y.1)) (labelled_of p names rs ls b (place_of (held text rows n) inside class) (knowns_in labels (held text rows n)) old)
+        (λ a. choices_of p names rs q x (place_of (held text rows n) inside class) (knowns_in labels (held text rows n)) (a.0 ++ old))
         (L.done p names rs g ls b colon ws₁ ws₂ ws₃ d (omega (arith, i, fits)) t e old m) z
         (λ a here pa. A.done p names rs g q x (room - length ls) ws
         (subst (λ l. AltsIn l ws (room - length ls) q x) (took-here text l.built.done.at 124 v bar ws₄ (omega arith) h₂ (subst (λ l. Took 124 l bar ws₄) here u)).behind f)
         (omega (arith, i, fits, L.same, pa.1)) (a.0 ++ old)
         (λ t. member-more old a.0 (take used seen) m t ∙ ap (λ l. member t l) (sym pa.2)))
         (λ a y pa qy. (
-          alternative-cells a.0 a.1 y.0 (otherCells y.1 miss []),
+          alternative-cells a.0 a.1 y.0 (other_cells y.1 miss []),
           (
-            qy.0 ∙ ap (λ t. t || (pastSome y.0 || pastOther y.1)) (e₁ ∙ ap (λ t. one || t) pa.0.0) ∙ or_assoc one (pastAll a.1) (pastSome y.0 || pastOther y.1)
-                ∙ ap (λ t. one || t) (sym (or_assoc (pastAll a.1) (pastSome y.0) (pastOther y.1))),
-            qy.1 ∙ ap (λ t. t || (exitsSome y.0 || exitsOther y.1)) (e₂ ∙ ap (λ t. some || t) pa.0.1) ∙ or_assoc some (exitsAll a.1) (exitsSome y.0 || exitsOther y.1)
-                ∙ ap (λ t. some || t) (sym (or_assoc (exitsAll a.1) (exitsSome y.0) (exitsOther y.1))),
+            qy.0 ∙ ap (λ t. t || (past_some y.0 || past_other y.1)) (e₁ ∙ ap (λ t. one || t) pa.0.0) ∙ or_assoc one (past_all a.1) (past_some y.0 || past_other y.1)
+                ∙ ap (λ t. one || t) (sym (or_assoc (past_all a.1) (past_some y.0) (past_other y.1))),
+            qy.1 ∙ ap (λ t. t || (exits_some y.0 || exits_other y.1)) (e₂ ∙ ap (λ t. some || t) pa.0.1) ∙ or_assoc some (exits_all a.1) (exits_some y.0 || exits_other y.1)
+                ∙ ap (λ t. some || t) (sym (or_assoc (exits_all a.1) (exits_some y.0) (exits_other y.1))),
           ),
         ))
         )

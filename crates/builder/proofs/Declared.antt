@@ -9,10 +9,11 @@ use lib.ListN.{length, drop}
 use lib.Seq.{drop-append_seam}
 use native.Mathlib.Omega.{arith}
 use borrow.Author.Tests.{eq-eqb, ne_eqb, lt-ltb, le-ltb}
-use Rattle.base.specs.Common.{if◌then◌else◌, same}
+use Rattle.std.specs.Prelude.{if◌then◌else◌}
+use Rattle.base.specs.Common.{same}
 use Rattle.builder.specs.Row.{Sofar}
-use Rattle.declarations.specs.Decls.{Decl, ofOperation, ofType, ofOperators, ofRule, index_of, entryDecls, operationDecls, sectionDecls, sectionsDecls, ruleDecls, declsOf}
-use Rattle.names.specs.Understand.{isOne, isFirst}
+use Rattle.declarations.specs.Decls.{Decl, of_operation, of_type, of_operators, of_rule, index_of, entry_decls, operation_decls, section_decls, sections_decls, rule_decls, decls_of}
+use Rattle.names.specs.Understand.{is_one, is_first}
 use Rattle.symbols.specs.Rows.{number_of}
 use Rattle.syntax.specs.Written.{Entry, Operation, Section, inputs, outputs, both, errors, values, operations, operators, Rule, Program}
 
@@ -25,30 +26,30 @@ free-append : (xs ys : List Decl) → Free xs → Free ys → Free (xs ++ ys)
 free-append [] ys a b = b
 free-append (x ∷ xs) ys (more-free n a) b = more-free n (free-append xs ys a b)
 
-entries-free : (c : ℕ) (es : List Entry) → (c ≡ 7 → ⊥) → Free (entryDecls c es)
-unfolding entryDecls
+entries-free : (c : ℕ) (es : List Entry) → (c ≡ 7 → ⊥) → Free (entry_decls c es)
+unfolding entry_decls
 entries-free c [] n = none_free
 entries-free c (e ∷ es) n = more-free n (entries-free c es n)
 
-operations-free : (os : List Operation) → Free (operationDecls os)
-unfolding operationDecls
+operations-free : (os : List Operation) → Free (operation_decls os)
+unfolding operation_decls
 operations-free [] = none_free
-operations-free (o ∷ os) = more-free {d = ofOperation o} (λ z. omega (arith, z)) (operations-free os)
+operations-free (o ∷ os) = more-free {d = of_operation o} (λ z. omega (arith, z)) (operations-free os)
 
-section-free : (i : ℕ) (s : Section) → Free (sectionDecls i s)
-unfolding sectionDecls
+section-free : (i : ℕ) (s : Section) → Free (section_decls i s)
+unfolding section_decls
 section-free i (inputs es) = entries-free 1 es (λ z. omega (arith, z))
 section-free i (outputs es) = entries-free 2 es (λ z. omega (arith, z))
 section-free i (both es) = entries-free 3 es (λ z. omega (arith, z))
 section-free i (errors es) = entries-free 4 es (λ z. omega (arith, z))
-section-free i (values w es) = more-free {d = ofType w} (λ z. omega (arith, z)) (entries-free (8 + i) es (λ z. omega (arith, z)))
+section-free i (values w es) = more-free {d = of_type w} (λ z. omega (arith, z)) (entries-free (8 + i) es (λ z. omega (arith, z)))
 section-free i (operations os) = operations-free os
-section-free i (operators w os) = more-free {d = ofOperators w os} (λ z. omega (arith, z)) none_free
+section-free i (operators w os) = more-free {d = of_operators w os} (λ z. omega (arith, z)) none_free
 
-sections-free : (i : ℕ) (ss : List Section) → Free (sectionsDecls i ss)
-unfolding sectionsDecls
+sections-free : (i : ℕ) (ss : List Section) → Free (sections_decls i ss)
+unfolding sections_decls
 sections-free i [] = none_free
-sections-free i (s ∷ ss) = free-append (sectionDecls i s) (sectionsDecls (i + length (sectionDecls i s)) ss) (section-free i s) (sections-free (i + length (sectionDecls i s)) ss)
+sections-free i (s ∷ ss) = free-append (section_decls i s) (sections_decls (i + length (section_decls i s)) ss) (section-free i s) (sections-free (i + length (section_decls i s)) ss)
 
 -- a declaration found from i on is not before i
 found-on : (w : List ℕ) (i : ℕ) (ds : List Decl) → i + length ds ≤ 65536 → i ≤ number_of (index_of 7 w i ds)
@@ -108,11 +109,11 @@ one_more w i (suc m) (x ∷ ds) rest d e k h = go (eqb x.class 7 && same w x.nam
         ap (λ t. same w d.name.text || ltb (number_of (index_of 7 w (suc i) ds)) t) (sym a) ∙ q ∙ ap (λ t. ltb (number_of (index_of 7 w (suc i) ds)) t) b
 
 -- before the first rule
-pub sofar-start : (p : Program) (first : ℕ) → first ≡ length (sectionsDecls 0 p.sections) → length (declsOf p) ≤ 512 → Sofar (declsOf p) first 0 [] p.rules
-unfolding declsOf isFirst isOne
+pub sofar-start : (p : Program) (first : ℕ) → first ≡ length (sections_decls 0 p.sections) → length (decls_of p) ≤ 512 → Sofar (decls_of p) first 0 [] p.rules
+unfolding decls_of is_first is_one
 sofar-start p first e short =
-    let xs = sectionsDecls 0 p.sections in
-    let ys = ruleDecls 0 p.rules in
+    let xs = sections_decls 0 p.sections in
+    let ys = rule_decls 0 p.rules in
     let z : first + 0 ≡ length xs = omega (arith, e) in
     record {
       start = refl;
@@ -123,15 +124,15 @@ sofar-start p first e short =
 -- after one more
 pub sofar-more : (ds : List Decl) (first k : ℕ) (seen : List (List ℕ)) (r : Rule) (rest : List Rule) → length ds ≤ 512 → Sofar ds first k seen (r ∷ rest)
     → Sofar ds first (k + 1) (r.rule.text ∷ seen) rest
-unfolding isFirst isOne ruleDecls
+unfolding is_first is_one rule_decls
 sofar-more ds first k seen r rest short s = record {
   start = sym (ne_eqb (k + 1) 0 (λ z. omega (arith, z)));
   names = λ w.
       ap (λ t. same w r.rule.text || t) (s.names w)
       ∙ ap (λ t. same w r.rule.text || ltb (number_of (index_of 7 w 0 ds)) t) (plain (first + k))
-      ∙ one_more w 0 (first + k) ds (ruleDecls (suc k) rest) (ofRule k r) s.left refl (omega (arith, short))
+      ∙ one_more w 0 (first + k) ds (rule_decls (suc k) rest) (of_rule k r) s.left refl (omega (arith, short))
       ∙ ap (λ t. ltb (number_of (index_of 7 w 0 ds)) t) (place first k);
-  left = ap (λ t. drop t ds) (one first k) ∙ tail-is (first + k) ds (ofRule k r) (ruleDecls (suc k) rest) s.left ∙ ap (λ t. ruleDecls t rest) (next k);
+  left = ap (λ t. drop t ds) (one first k) ∙ tail-is (first + k) ds (of_rule k r) (rule_decls (suc k) rest) s.left ∙ ap (λ t. rule_decls t rest) (next k);
 }
   where
     plain : (a : ℕ) → a ≡ 0 + a

@@ -11,15 +11,15 @@ use Rattle.base.specs.Common.{member}
 use Rattle.base.specs.Tree.{choice, done, otherwise}
 use Rattle.resolver.proofs.Appending.{appends-length, appends-none, appends-then}
 use Rattle.builder.proofs.Laws.{Holds, ends-after, ends-map}
-use Rattle.builder.specs.Parts.{place_of, labelledOf, labelCells, ActsDone, LabelledDone}
+use Rattle.builder.specs.Parts.{place_of, labelled_of, label_cells, ActsDone, LabelledDone}
 use Rattle.builder.specs.declared.Labelled.{Labelled}
-use Rattle.cells.specs.Cells.{actsCells}
-use Rattle.declarations.specs.Decls.{knownsIn}
+use Rattle.cells.specs.Cells.{acts_cells}
+use Rattle.declarations.specs.Decls.{knowns_in}
 use Rattle.grammar.specs.Derived.{Took, ActsIn}
-use Rattle.names.specs.Known.{Checked, good, wrong, ◌>>=◌, faultIf, lookup, Known, KnownRule, Names}
-use Rattle.names.specs.Resolve.{labelsOf, actsOf}
+use Rattle.names.specs.Known.{Checked, good, wrong, ◌>>=◌, fault_if, lookup, Known, KnownRule, Names}
+use Rattle.names.specs.Resolve.{labels_of, acts_of}
 use Rattle.places.proofs.Heres.{took-here}
-use Rattle.program.specs.Past.{past, pastAll, exits, exitsAll}
+use Rattle.program.specs.Past.{past, past_all, exits, exits_all}
 use Rattle.program.specs.Program as means
 use Rattle.resolver.specs.Resolved.{Appends, Ends, failed, Flags, LabelsEnd, labelled, mislabelled, LabelsDone}
 use Rattle.resolver.specs.declared.Done.{Done}
@@ -28,11 +28,11 @@ use Rattle.scanner.specs.Next.{Next}
 use Rattle.scanner.specs.declared.WordAt.{WordAt}
 use Rattle.symbols.specs.Rows.{held}
 use Rattle.syntax.specs.Written.{Program}
-use Rattle.words.specs.Words.{Word, wordsAt}
+use Rattle.words.specs.Words.{Word, words_at}
 
 -- as many values as labels
-pub labels_length : (p : Program) (names : Names) (rs : List KnownRule) (ls : List Word) (ks : List Known) (seen : List ℕ) → Holds (λ vs. length vs ≡ length ls) (labelsOf p names rs ls ks seen)
-unfolding labelsOf
+pub labels_length : (p : Program) (names : Names) (rs : List KnownRule) (ls : List Word) (ks : List Known) (seen : List ℕ) → Holds (λ vs. length vs ≡ length ls) (labels_of p names rs ls ks seen)
+unfolding labels_of
 labels_length p names rs [] ks seen = refl
 labels_length p names rs (w ∷ ls) ks seen = go (lookup p ks w) (λ v. labels_length p names rs ls ks (v ∷ seen))
   where
@@ -40,13 +40,13 @@ labels_length p names rs (w ∷ ls) ks seen = go (lookup p ks w) (λ v. labels_l
     last v (good vs) e = ap suc e
     last v (wrong n u) e = tt
 
-    tested : (v : ℕ) (b : Bool) → Holds (λ vs. length vs ≡ length ls) (labelsOf p names rs ls ks (v ∷ seen))
-        → Holds (λ vs. length vs ≡ suc (length ls)) (◌>>=◌ (faultIf b 6 w) (λ _. ◌>>=◌ (labelsOf p names rs ls ks (v ∷ seen)) (λ more. good (v ∷ more))))
+    tested : (v : ℕ) (b : Bool) → Holds (λ vs. length vs ≡ length ls) (labels_of p names rs ls ks (v ∷ seen))
+        → Holds (λ vs. length vs ≡ suc (length ls)) (◌>>=◌ (fault_if b 6 w) (λ _. ◌>>=◌ (labels_of p names rs ls ks (v ∷ seen)) (λ more. good (v ∷ more))))
     tested v true e = tt
-    tested v false e = last v (labelsOf p names rs ls ks (v ∷ seen)) e
+    tested v false e = last v (labels_of p names rs ls ks (v ∷ seen)) e
 
-    go : (m : Checked ℕ) → ((v : ℕ) → Holds (λ vs. length vs ≡ length ls) (labelsOf p names rs ls ks (v ∷ seen)))
-        → Holds (λ vs. length vs ≡ suc (length ls)) (◌>>=◌ m (λ v. ◌>>=◌ (faultIf (member v seen) 6 w) (λ _. ◌>>=◌ (labelsOf p names rs ls ks (v ∷ seen)) (λ more. good (v ∷ more)))))
+    go : (m : Checked ℕ) → ((v : ℕ) → Holds (λ vs. length vs ≡ length ls) (labels_of p names rs ls ks (v ∷ seen)))
+        → Holds (λ vs. length vs ≡ suc (length ls)) (◌>>=◌ m (λ v. ◌>>=◌ (fault_if (member v seen) 6 w) (λ _. ◌>>=◌ (labels_of p names rs ls ks (v ∷ seen)) (λ more. good (v ∷ more)))))
     go (good v) q = tested v (member v seen) (q v)
     go (wrong n u) q = tt
 
@@ -59,7 +59,7 @@ labels-fail (wrong n w) k (mislabelled e nz at len) z e₁ e₂ e₃ = failed (e
 labels-more : {E B : Type 0} {text : List ℕ} {ws₁ : List Word} {seen : List ℕ} {used : ℕ} {seen' : List ℕ} {l : Labels} (long : ℕ) (m : Checked (List ℕ)) (k : List ℕ → Checked B)
     {ws : List Word} {cs : List ℕ} {c : ℕ} {cs' : List ℕ} {h : B → List ℕ} {R : B → Type 0} {d : Done}
     → LabelsEnd text ws₁ seen used seen' l m → Holds (λ vs. length vs ≡ long) m → l.fault ≡ 0
-    → ((vs : List ℕ) → ws₁ ≡ wordsAt text l.at → l.used ≡ used + length vs → take l.used seen' ≡ take used seen ++ vs → length vs ≡ long → Ends E text ws cs c cs' h R d (k vs))
+    → ((vs : List ℕ) → ws₁ ≡ words_at text l.at → l.used ≡ used + length vs → take l.used seen' ≡ take used seen ++ vs → length vs ≡ long → Ends E text ws cs c cs' h R d (k vs))
     → Ends E text ws cs c cs' h R d (◌>>=◌ m k)
 labels-more long (good vs) k (labelled e here u t) q z next = next vs here u t q
 labels-more long (wrong n w) k (mislabelled e nz at len) q z next = absurd (nz (sym e ∙ z))
@@ -87,16 +87,16 @@ labels-none seen {cs} {c} from h = let e : from - from ≡ 0 = omega arith in su
 
 -- all are copied
 pub labels-all : (seen : List ℕ) {cs : List ℕ} {c x : ℕ} {cs₁ : List ℕ} {c₁ : ℕ} {cs₂ : List ℕ} {c₂ : ℕ} (from to i : ℕ) → i ≤ to → to ≤ i → x ≡ 64 + (to - from)
-    → Appends cs c (x ∷ []) cs₁ c₁ → Appends cs₁ c₁ (take (i - from) (drop from seen)) cs₂ c₂ → Appends cs c (labelCells seen from to) cs₂ c₂
-unfolding labelCells
+    → Appends cs c (x ∷ []) cs₁ c₁ → Appends cs₁ c₁ (take (i - from) (drop from seen)) cs₂ c₂ → Appends cs c (label_cells seen from to) cs₂ c₂
+unfolding label_cells
 labels-all seen {cs} {c} {x} {cs₁} {c₁} {cs₂} {c₂} from to i low stop e a b =
     let g : i ≡ to = omega (arith, low, stop) in
     subst (λ k. Appends cs c (k ∷ take (to - from) (drop from seen)) cs₂ c₂) e (appends-then a (subst (λ k. Appends cs₁ c₁ (take (k - from) (drop from seen)) cs₂ c₂) g b))
 
 -- the labels copied are the alternative's
 copied : (seen seen' vs : List ℕ) (used to : ℕ) → used ≤ length seen → to ≡ used + length vs → take to seen' ≡ take used seen ++ vs
-    → labelCells seen' used to ≡ (64 + length vs) ∷ vs
-unfolding labelCells
+    → label_cells seen' used to ≡ (64 + length vs) ∷ vs
+unfolding label_cells
 copied seen seen' vs used to inn e q =
     let d : to - used ≡ length vs = omega (arith, e) in
     let u : length (take used seen) ≡ used = length-take-le used seen inn in
@@ -108,31 +108,31 @@ copied seen seen' vs used to inn e q =
 pub labelled-fail : {text rows : List ℕ} {n at : ℕ} {inside : Bool} {class labels : ℕ} {seen : List ℕ} {used : ℕ} {seen' cs : List ℕ} {c : ℕ} {l : Labels} {r : Labelled}
     → LabelsDone text rows n at labels seen used seen' l → (l.fault ≡ 0 → ⊥) → r.built.done.fault ≡ l.fault → r.built.done.at ≡ l.at → r.built.done.len ≡ l.len
     → LabelledDone text rows n at inside class labels seen used seen' cs c cs r
-unfolding labelledOf
+unfolding labelled_of
 labelled-fail {text} {rows} {n} {at} {inside} {class} {labels} L z e₁ e₂ e₃ = record {
   kept = record { same = refl; low = λ k. absurd (z (sym e₁ ∙ k)); high = λ k. absurd (z (sym e₁ ∙ k)) };
   same = L.same;
   room = λ k. absurd (z (sym e₁ ∙ k));
   done = λ p names rs g ls q colon ws₁ ws₂ ws d fits t e old m.
-      labels-fail (labelsOf p names rs ls (knownsIn labels (held text rows n)) old) _ (L.done p names rs g ls ws₁ d fits old m) z e₁ e₂ e₃;
+      labels-fail (labels_of p names rs ls (knowns_in labels (held text rows n)) old) _ (L.done p names rs g ls ws₁ d fits old m) z e₁ e₂ e₃;
 }
 
 pub labelled-more : {text rows : List ℕ} {n at : ℕ} {inside : Bool} {class labels : ℕ} {seen : List ℕ} {used : ℕ} {seen' cs : List ℕ} {c : ℕ} {cs₁ : List ℕ} {c₁ : ℕ} {cs' : List ℕ} {l : Labels} {r : Labelled} {w : WordAt}
-    → used ≤ length seen → LabelsDone text rows n at labels seen used seen' l → l.fault ≡ 0 → Next text l.at w → Appends cs c (labelCells seen' used l.used) cs₁ c₁
+    → used ≤ length seen → LabelsDone text rows n at labels seen used seen' l → l.fault ≡ 0 → Next text l.at w → Appends cs c (label_cells seen' used l.used) cs₁ c₁
     → ActsDone text rows n w.next inside class true false cs₁ c₁ cs' r.built → r.used ≡ l.used
     → LabelledDone text rows n at inside class labels seen used seen' cs c cs' r
-unfolding labelledOf
+unfolding labelled_of
 labelled-more {text} {rows} {n} {at} {inside} {class} {labels} {seen} {used} {seen'} {cs} {c} {cs₁} {c₁} {cs'} {l} {r} {w} inn L z h app B u = record {
   kept = record { same = B.kept.same ∙ appends-length app; low = λ e. omega (arith, L.moves z, h.onto, B.kept.low e); high = B.kept.high };
   same = L.same;
   room = λ e. omega (arith, u, L.room z);
   done = λ p names rs g ls q colon ws₁ ws₂ ws d fits t e old m.
-      labels-more (length ls) (labelsOf p names rs ls (knownsIn labels (held text rows n)) old) _ (L.done p names rs g ls ws₁ d fits old m)
-      (labels_length p names rs ls (knownsIn labels (held text rows n)) old) z
-      (λ vs here used-is taken long. ends-map (λ (x : List ℕ × means.Acts). (64 + length x.0) ∷ (x.0 ++ actsCells x.1 []))
-      (λ (x : List ℕ × means.Acts). Flags r.built.past r.built.exits (pastAll x.1) (exitsAll x.1) × (r.used ≡ used + length ls) × (take r.used seen' ≡ take used seen ++ x.0))
-      (λ body. (vs, body)) (actsOf p names rs q (place_of (held text rows n) inside class))
-      (ends-after (actsOf p names rs q (place_of (held text rows n) inside class)) app
+      labels-more (length ls) (labels_of p names rs ls (knowns_in labels (held text rows n)) old) _ (L.done p names rs g ls ws₁ d fits old m)
+      (labels_length p names rs ls (knowns_in labels (held text rows n)) old) z
+      (λ vs here used-is taken long. ends-map (λ (x : List ℕ × means.Acts). (64 + length x.0) ∷ (x.0 ++ acts_cells x.1 []))
+      (λ (x : List ℕ × means.Acts). Flags r.built.past r.built.exits (past_all x.1) (exits_all x.1) × (r.used ≡ used + length ls) × (take r.used seen' ≡ take used seen ++ x.0))
+      (λ body. (vs, body)) (acts_of p names rs q (place_of (held text rows n) inside class))
+      (ends-after (acts_of p names rs q (place_of (held text rows n) inside class)) app
       (B.done p names rs g q ws (subst (λ k. ActsIn k ws q) (took-here text l.at 58 w colon ws₂ (omega arith) h (subst (λ k. Took 58 k colon ws₂) here t)).behind e)))
-      (λ body flags. (ap (λ k. k ++ actsCells body []) (sym (copied seen seen' vs used l.used inn used-is taken)), (flags, u ∙ used-is ∙ ap (λ k. used + k) long, ap (λ k. take k seen') u ∙ taken))));
+      (λ body flags. (ap (λ k. k ++ acts_cells body []) (sym (copied seen seen' vs used l.used inn used-is taken)), (flags, u ∙ used-is ∙ ap (λ k. used + k) long, ap (λ k. take k seen') u ∙ taken))));
 }

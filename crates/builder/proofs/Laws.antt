@@ -10,7 +10,7 @@ use Rattle.resolver.proofs.Appending.{appends-then}
 use Rattle.names.specs.Known.{Checked, good, wrong, ◌>>=◌}
 use Rattle.resolver.specs.Resolved.{Appends, Ends, ended, failed}
 use Rattle.resolver.specs.declared.Done.{Done}
-use Rattle.words.specs.Words.{Word, wordsAt}
+use Rattle.words.specs.Words.{Word, words_at}
 
 -- a value with a property, or a fault
 abbrev pub Holds : {A : Type 0} → (A → Type 0) → Checked A → Type 0
@@ -26,7 +26,7 @@ ends-fails (wrong n w) k (failed e nz at len) z = failed e nz at len
 
 -- where it went on
 pub ends-here : {E A : Type 0} {text : List ℕ} {ws : List Word} {cs : List ℕ} {c : ℕ} {cs' : List ℕ} {f : A → List ℕ} {P : A → Type 0} {r : Done} (m : Checked A)
-    → Ends E text ws cs c cs' f P r m → r.fault ≡ 0 → ws ≡ wordsAt text r.at
+    → Ends E text ws cs c cs' f P r m → r.fault ≡ 0 → ws ≡ words_at text r.at
 ends-here (good a) (ended e here app pa) z = here
 ends-here (wrong n w) (failed e nz at len) z = absurd (nz (sym e ∙ z))
 
@@ -45,7 +45,7 @@ ends-after (wrong n w) b (failed e nz at len) = failed e nz at len
 -- words and cells behind it
 pub ends-moved : {E A : Type 0} {text : List ℕ} {ws₁ : List Word} {cs : List ℕ} {c : ℕ} {cs₁ : List ℕ} {f : A → List ℕ} {P : A → Type 0} {r : Done}
     {ws : List Word} {xs cs₂ : List ℕ} {r₂ : Done} (m : Checked A)
-    → Ends E text ws₁ cs c cs₁ f P r m → r.fault ≡ 0 → r₂.fault ≡ 0 → (ws₁ ≡ wordsAt text r.at → ws ≡ wordsAt text r₂.at) → Appends cs₁ r.count xs cs₂ r₂.count
+    → Ends E text ws₁ cs c cs₁ f P r m → r.fault ≡ 0 → r₂.fault ≡ 0 → (ws₁ ≡ words_at text r.at → ws ≡ words_at text r₂.at) → Appends cs₁ r.count xs cs₂ r₂.count
     → Ends E text ws cs c cs₂ (λ a. f a ++ xs) P r₂ m
 ends-moved (good a) (ended e here app pa) z z₂ moves b = ended z₂ (moves here) (λ x. appends-then (app x) b) pa
 ends-moved (wrong n w) (failed e nz at len) z z₂ moves b = absurd (nz (sym e ∙ z))
@@ -53,7 +53,7 @@ ends-moved (wrong n w) (failed e nz at len) z z₂ moves b = absurd (nz (sym e �
 -- words behind it
 pub ends-passed : {E A : Type 0} {text : List ℕ} {ws₁ : List Word} {cs : List ℕ} {c : ℕ} {cs₁ : List ℕ} {f : A → List ℕ} {P : A → Type 0} {r : Done}
     {ws : List Word} {r₂ : Done} (m : Checked A)
-    → Ends E text ws₁ cs c cs₁ f P r m → r.fault ≡ 0 → r₂.fault ≡ 0 → (ws₁ ≡ wordsAt text r.at → ws ≡ wordsAt text r₂.at) → r₂.count ≡ r.count
+    → Ends E text ws₁ cs c cs₁ f P r m → r.fault ≡ 0 → r₂.fault ≡ 0 → (ws₁ ≡ words_at text r.at → ws ≡ words_at text r₂.at) → r₂.count ≡ r.count
     → Ends E text ws cs c cs₁ f P r₂ m
 ends-passed (good a) (ended e here app pa) z z₂ moves b = ended {b = a} z₂ (moves here) (λ x. rw b (app x)) pa
 ends-passed (wrong n w) (failed e nz at len) z z₂ moves b = absurd (nz (sym e ∙ z))
@@ -68,7 +68,7 @@ ends_same h R (wrong n w) (failed e nz at len) q = failed e nz at len
 pub ends-then : {E A B C : Type 0} {text : List ℕ} {ws₁ : List Word} {cs : List ℕ} {c : ℕ} {cs₁ : List ℕ} {f : A → List ℕ} {P : A → Type 0} {r₁ : Done} {ws : List Word} {cs₂ : List ℕ} {r₂ : Done}
     (g : A → B → List ℕ) (Q : A → B → Type 0) (h : C → List ℕ) (R : C → Type 0) (v : A → B → C) (m : Checked A) (k : A → Checked B)
     → Ends E text ws₁ cs c cs₁ f P r₁ m → r₁.fault ≡ 0
-    → ((a : A) → ws₁ ≡ wordsAt text r₁.at → P a → Ends E text ws cs₁ r₁.count cs₂ (g a) (Q a) r₂ (k a))
+    → ((a : A) → ws₁ ≡ words_at text r₁.at → P a → Ends E text ws cs₁ r₁.count cs₂ (g a) (Q a) r₂ (k a))
     → ((a : A) (b : B) → P a → Q a b → (h (v a b) ≡ f a ++ g a b) × R (v a b))
     → Ends E text ws cs c cs₂ h R r₂ (◌>>=◌ m (λ a. ◌>>=◌ (k a) (λ b. good (v a b))))
 ends-then {E} {A} {B} {C} {text} {ws₁} {cs} {c} {cs₁} {f} {P} {r₁} {ws} {cs₂} {r₂} g Q h R v (good a) k (ended e here app pa) z next joins = go (k a) (next a here pa)

@@ -4,54 +4,54 @@ use Rattle.std.specs.Prelude.{Bool, true, false, ◌&&◌, ◌||◌, List, [], �
 use Rattle.base.specs.Common.{member}
 use Rattle.base.specs.Tree.{cycle, choice, otherwise}
 use Rattle.builder.specs.declared.Labelled.{Labelled}
-use Rattle.cells.specs.Cells.{actCells, actsCells, altsCells, otherCells}
-use Rattle.declarations.specs.Decls.{Agrees, Decl, knownsIn}
+use Rattle.cells.specs.Cells.{act_cells, acts_cells, alts_cells, other_cells}
+use Rattle.declarations.specs.Decls.{Agrees, Decl, knowns_in}
 use Rattle.grammar.specs.Derived.{Took, ActIn, ActsIn, AltsIn, LabelsIn, SelectorIn}
 use Rattle.maker.specs.Pairs.{PairsAre}
 use Rattle.names.specs.Known.{Checked, good, ◌>>=◌, Known, KnownRule, Names}
-use Rattle.names.specs.Resolve.{Place, actOf, actsOf, altsOf, other_of, labelsOf}
-use Rattle.program.specs.Past.{past, pastAll, pastSome, pastOther, exits, exitsAll, exitsSome, exitsOther}
+use Rattle.names.specs.Resolve.{Place, act_of, acts_of, alts_of, other_of, labels_of}
+use Rattle.program.specs.Past.{past, past_all, past_some, past_other, exits, exits_all, exits_some, exits_other}
 use Rattle.program.specs.Program as means
 use Rattle.resolver.specs.Resolved.{Ends, Flags}
 use Rattle.resolver.specs.declared.Built.{Built}
 use Rattle.resolver.specs.declared.Done.{Done}
-use Rattle.symbols.specs.Rows.{held, givesOf}
+use Rattle.symbols.specs.Rows.{held, gives_of}
 use Rattle.syntax.specs.Written as written
 use Rattle.syntax.specs.Written.{Program}
-use Rattle.words.specs.Words.{Word, wordsAt}
+use Rattle.words.specs.Words.{Word, words_at}
 
 -- in a cycle or not, in a rule that gives values of the class (0: in a procedure rule)
 abbrev pub place_of : List Decl → Bool → ℕ → Place
-place_of ds inside class = record { inside = inside; gives = givesOf ds class }
+place_of ds inside class = record { inside = inside; gives = gives_of ds class }
 
 -- an alternative's labels and actions
-unfoldable pub labelledOf : Program → Names → List KnownRule → List Word → written.Acts → Place → List Known → List ℕ → Checked (List ℕ × means.Acts)
-labelledOf p names rs ls b at ks seen = do
-  vs ← labelsOf p names rs ls ks seen
-  body ← actsOf p names rs b at
+unfoldable pub labelled_of : Program → Names → List KnownRule → List Word → written.Acts → Place → List Known → List ℕ → Checked (List ℕ × means.Acts)
+labelled_of p names rs ls b at ks seen = do
+  vs ← labels_of p names rs ls ks seen
+  body ← acts_of p names rs b at
   good (vs, body)
 
 -- a choice's alternatives and its otherwise
 abbrev pub Choices : Type 0
 Choices = means.Alts × means.Other
 
-unfoldable pub choicesOf : Program → Names → List KnownRule → written.Alts → written.Other → Place → List Known → List ℕ → Checked Choices
-choicesOf p names rs q o at ks seen = do
-  alts ← altsOf p names rs q at ks seen
+unfoldable pub choices_of : Program → Names → List KnownRule → written.Alts → written.Other → Place → List Known → List ℕ → Checked Choices
+choices_of p names rs q o at ks seen = do
+  alts ← alts_of p names rs q at ks seen
   other ← other_of p names rs o at
   good (alts, other)
 
 -- their cells, where the cell `miss` stands for no otherwise
-abbrev pub choicesCells : ℕ → Choices → List ℕ
-choicesCells miss x = altsCells x.0 (otherCells x.1 miss [])
+abbrev pub choices_cells : ℕ → Choices → List ℕ
+choices_cells miss x = alts_cells x.0 (other_cells x.1 miss [])
 
 -- whether one of them, or one before them, goes past itself (`one`), and whether one has an exit (`some`)
 abbrev pub Marks : Built → Bool → Bool → Choices → Type 0
-Marks r one some x = Flags r.past r.exits (one || (pastSome x.0 || pastOther x.1)) (some || (exitsSome x.0 || exitsOther x.1))
+Marks r one some x = Flags r.past r.exits (one || (past_some x.0 || past_other x.1)) (some || (exits_some x.0 || exits_other x.1))
 
 -- the cells before an alternative's actions, its labels being those from `from` to `to` of the choice's
-unfoldable pub labelCells : List ℕ → ℕ → ℕ → List ℕ
-labelCells seen from to = (64 + (to - from)) ∷ take (to - from) (drop from seen)
+unfoldable pub label_cells : List ℕ → ℕ → ℕ → List ℕ
+label_cells seen from to = (64 + (to - from)) ∷ take (to - from) (drop from seen)
 
 -- the cells keep their number, and what was read ends inside the text
 pub record Kept (text : List ℕ) (from : ℕ) (cs cs' : List ℕ) (r : Done) : Type 0 where
@@ -63,36 +63,36 @@ pub record Kept (text : List ℕ) (from : ℕ) (cs cs' : List ℕ) (r : Done) : 
 pub record ActDone (text rows : List ℕ) (n at : ℕ) (inside : Bool) (class : ℕ) (cs : List ℕ) (c : ℕ) (cs' : List ℕ) (r : Built) : Type 0 where
   pub kept : Kept text (suc at) cs cs' r.done
   pub done : (p : Program) (names : Names) (rs : List KnownRule) → Agrees p names rs (held text rows n) → (a : written.Act) (ws : List Word)
-      → ActIn (wordsAt text at) ws a
-      → Ends (PairsAre text rows n p names) text ws cs c cs' (λ b. actCells b []) (λ b. Flags r.past r.exits (past b) (exits b)) r.done
-      (actOf p names rs a (place_of (held text rows n) inside class))
+      → ActIn (words_at text at) ws a
+      → Ends (PairsAre text rows n p names) text ws cs c cs' (λ b. act_cells b []) (λ b. Flags r.past r.exits (past b) (exits b)) r.done
+      (act_of p names rs a (place_of (held text rows n) inside class))
 
 -- actions, after others that go past themselves (`before`) or have an exit (`some`)
 pub record ActsDone (text rows : List ℕ) (n at : ℕ) (inside : Bool) (class : ℕ) (before some : Bool) (cs : List ℕ) (c : ℕ) (cs' : List ℕ)
     (r : Built) : Type 0 where
   pub kept : Kept text at cs cs' r.done
   pub done : (p : Program) (names : Names) (rs : List KnownRule) → Agrees p names rs (held text rows n) → (q : written.Acts) (ws : List Word)
-      → ActsIn (wordsAt text at) ws q
-      → Ends (PairsAre text rows n p names) text ws cs c cs' (λ b. actsCells b []) (λ b. Flags r.past r.exits (before && pastAll b) (some || exitsAll b)) r.done
-      (actsOf p names rs q (place_of (held text rows n) inside class))
+      → ActsIn (words_at text at) ws q
+      → Ends (PairsAre text rows n p names) text ws cs c cs' (λ b. acts_cells b []) (λ b. Flags r.past r.exits (before && past_all b) (some || exits_all b)) r.done
+      (acts_of p names rs q (place_of (held text rows n) inside class))
 
 -- a cycle after its brace
 pub record CycleDone (text rows : List ℕ) (n at class : ℕ) (cs : List ℕ) (c : ℕ) (cs' : List ℕ) (r : Built) : Type 0 where
   pub kept : Kept text at cs cs' r.done
   pub done : (p : Program) (names : Names) (rs : List KnownRule) → Agrees p names rs (held text rows n) → (q : written.Acts) (close : Word)
       (ws₁ ws : List Word)
-      → ActsIn (wordsAt text at) ws₁ q → Took 125 ws₁ close ws → (inside : Bool)
-      → Ends (PairsAre text rows n p names) text ws cs c cs' (λ b. actCells b []) (λ b. Flags r.past r.exits (past b) (exits b)) r.done
-      (actOf p names rs (cycle q) (place_of (held text rows n) inside class))
+      → ActsIn (words_at text at) ws₁ q → Took 125 ws₁ close ws → (inside : Bool)
+      → Ends (PairsAre text rows n p names) text ws cs c cs' (λ b. act_cells b []) (λ b. Flags r.past r.exits (past b) (exits b)) r.done
+      (act_of p names rs (cycle q) (place_of (held text rows n) inside class))
 
 -- a choice after its bracket
 pub record ChoiceDone (text rows : List ℕ) (n at : ℕ) (inside : Bool) (class : ℕ) (cs : List ℕ) (c : ℕ) (cs' : List ℕ) (r : Built) : Type 0 where
   pub kept : Kept text at cs cs' r.done
   pub done : (p : Program) (names : Names) (rs : List KnownRule) → Agrees p names rs (held text rows n) → (s : written.Selector) (q : written.Alts)
       (o : written.Other)
-      (bar : Word) (ws₁ ws₂ ws : List Word) → SelectorIn (wordsAt text at) ws₁ s → Took 124 ws₁ bar ws₂ → AltsIn ws₂ ws 64 q o
-      → Ends (PairsAre text rows n p names) text ws cs c cs' (λ b. actCells b []) (λ b. Flags r.past r.exits (past b) (exits b)) r.done
-      (actOf p names rs (choice s q o) (place_of (held text rows n) inside class))
+      (bar : Word) (ws₁ ws₂ ws : List Word) → SelectorIn (words_at text at) ws₁ s → Took 124 ws₁ bar ws₂ → AltsIn ws₂ ws 64 q o
+      → Ends (PairsAre text rows n p names) text ws cs c cs' (λ b. act_cells b []) (λ b. Flags r.past r.exits (past b) (exits b)) r.done
+      (act_of p names rs (choice s q o) (place_of (held text rows n) inside class))
 
 -- alternatives after a bar, after others of which one goes past itself (`one`) or has an exit (`some`); the choice's labels are of the class
 -- `labels`, the first `used` of `seen` are those so far, and the cell `miss` stands for no otherwise
@@ -102,17 +102,17 @@ pub record AltsDone (text rows : List ℕ) (n at : ℕ) (inside : Bool) (class l
   pub kept : Kept text at cs cs' r.done
   pub done : (p : Program) (names : Names) (rs : List KnownRule) → Agrees p names rs (held text rows n) → (q : written.Alts) (o : written.Other)
       (room : ℕ) (ws : List Word)
-      → AltsIn (wordsAt text at) ws room q o → room + used ≤ length seen → (old : List ℕ) → ((v : ℕ) → member v old ≡ member v (take used seen))
-      → Ends (PairsAre text rows n p names) text ws cs c cs' (choicesCells miss) (Marks r one some) r.done
-      (choicesOf p names rs q o (place_of (held text rows n) inside class) (knownsIn labels (held text rows n)) old)
+      → AltsIn (words_at text at) ws room q o → room + used ≤ length seen → (old : List ℕ) → ((v : ℕ) → member v old ≡ member v (take used seen))
+      → Ends (PairsAre text rows n p names) text ws cs c cs' (choices_cells miss) (Marks r one some) r.done
+      (choices_of p names rs q o (place_of (held text rows n) inside class) (knowns_in labels (held text rows n)) old)
 
 -- otherwise after its star, whatever the cell for no otherwise
 pub record OtherDone (text rows : List ℕ) (n at : ℕ) (inside : Bool) (class : ℕ) (cs : List ℕ) (c : ℕ) (cs' : List ℕ) (r : Built) : Type 0 where
   pub kept : Kept text at cs cs' r.done
   pub done : (p : Program) (names : Names) (rs : List KnownRule) → Agrees p names rs (held text rows n) → (q : written.Acts) (colon close : Word)
       (ws₁ ws₂ ws : List Word)
-      → Took 58 (wordsAt text at) colon ws₁ → ActsIn ws₁ ws₂ q → Took 93 ws₂ close ws → (miss : ℕ)
-      → Ends (PairsAre text rows n p names) text ws cs c cs' (λ b. otherCells b miss []) (λ b. Flags r.past r.exits (pastOther b) (exitsOther b)) r.done
+      → Took 58 (words_at text at) colon ws₁ → ActsIn ws₁ ws₂ q → Took 93 ws₂ close ws → (miss : ℕ)
+      → Ends (PairsAre text rows n p names) text ws cs c cs' (λ b. other_cells b miss []) (λ b. Flags r.past r.exits (past_other b) (exits_other b)) r.done
       (other_of p names rs (otherwise q) (place_of (held text rows n) inside class))
 
 -- an alternative after its bar; its labels stand in `seen'` behind those before
@@ -124,14 +124,14 @@ pub record LabelledDone (text rows : List ℕ) (n at : ℕ) (inside : Bool) (cla
   pub room : r.built.done.fault ≡ 0 → r.used ≤ length seen
   pub done : (p : Program) (names : Names) (rs : List KnownRule) → Agrees p names rs (held text rows n) → (ls : List Word) (q : written.Acts)
       (colon : Word) (ws₁ ws₂ ws : List Word)
-      → LabelsIn (wordsAt text at) ws₁ ls → used + length ls ≤ length seen → Took 58 ws₁ colon ws₂ → ActsIn ws₂ ws q
+      → LabelsIn (words_at text at) ws₁ ls → used + length ls ≤ length seen → Took 58 ws₁ colon ws₂ → ActsIn ws₂ ws q
       → (old : List ℕ) → ((v : ℕ) → member v old ≡ member v (take used seen))
-      → Ends (PairsAre text rows n p names) text ws cs c cs' (λ x. (64 + length x.0) ∷ (x.0 ++ actsCells x.1 []))
-      (λ x. Flags r.built.past r.built.exits (pastAll x.1) (exitsAll x.1) × (r.used ≡ used + length ls) × (take r.used seen' ≡ take used seen ++ x.0))
+      → Ends (PairsAre text rows n p names) text ws cs c cs' (λ x. (64 + length x.0) ∷ (x.0 ++ acts_cells x.1 []))
+      (λ x. Flags r.built.past r.built.exits (past_all x.1) (exits_all x.1) × (r.used ≡ used + length ls) × (take r.used seen' ≡ take used seen ++ x.0))
       r.built.done
-      (labelledOf p names rs ls q (place_of (held text rows n) inside class) (knownsIn labels (held text rows n)) old)
+      (labelled_of p names rs ls q (place_of (held text rows n) inside class) (knowns_in labels (held text rows n)) old)
 
 -- all of this file computes where this is unfolded
 unfoldable pub opened : Unit {0}
-unfolding labelledOf choicesOf labelCells
+unfolding labelled_of choices_of label_cells
 opened = tt

@@ -4,10 +4,10 @@ ghost use Rattle.scanner.specs.Next.{Next};
 ghost use Rattle.resolver.specs.Resolved.{Appends};
 ghost use Rattle.symbols.specs.Index.{Kept};
 ghost use Rattle.symbols.specs.Rows.{held};
-ghost use Rattle.builder.specs.Heads.{takenBefore, TypeDone, HeadDone};
+ghost use Rattle.builder.specs.Heads.{taken_before, TypeDone, HeadDone};
 ghost use Rattle.builder.specs.Row.{RuleDone};
-ghost use Rattle.builder.specs.Rules.{sortOf, RulesDone};
-ghost use Rattle.builder.specs.Parts.{ActDone, ActsDone, CycleDone, ChoiceDone, AltsDone, OtherDone, LabelledDone, labelCells};
+ghost use Rattle.builder.specs.Rules.{sort_of, RulesDone};
+ghost use Rattle.builder.specs.Parts.{ActDone, ActsDone, CycleDone, ChoiceDone, AltsDone, OtherDone, LabelledDone, label_cells};
 
 use reader::is_closing;
 use resolver::{Built, Done, Scope};
@@ -129,7 +129,7 @@ fn look(text: &[u8], at: usize) -> WordAt
 // How many labels an alternative has, and the labels, from the choice's.
 fn put_labels(seen: &[u16], from: usize, to: usize, cells: &mut [u16], count: usize) -> usize
     requires { (from ≤ to) × (to ≤ length seen.now) × (length seen.now ≤ 64) }
-    ensures { Appends cells.old count (labelCells seen.now from to) cells.new result }
+    ensures { Appends cells.old count (label_cells seen.now from to) cells.new result }
 {
     let mut c = resolver::put(cells, count, (ALTERNATIVE + (to - from)) as u16);
     let mut i = from;
@@ -399,7 +399,7 @@ fn build_otherwise(
 // An operation has the name, or a rule before declaration `before`.
 fn is_taken(text: &[u8], rows: &[u16], n: usize, before: usize, start: usize, len: usize) -> bool
     requires { Kept text.now rows.now n }
-    ensures { result ≡ takenBefore (held text.now rows.now n) before (take len (drop start text.now)) }
+    ensures { result ≡ taken_before (held text.now rows.now n) before (take len (drop start text.now)) }
 {
     let o = symbols::find_row(text, rows, n, symbols::OPERATION, start, len);
     if o < symbols::NONE {
@@ -525,7 +525,7 @@ fn build_rule(
 }
 
 fn sort_of(valued: bool) -> u8
-    ensures { result ≡ sortOf valued }
+    ensures { result ≡ sort_of valued }
 {
     if valued {
         cells::CHOICE_RULE
@@ -538,7 +538,7 @@ fn sort_of(valued: bool) -> u8
 fn store(starts: &mut [u16], sorts: &mut [u8], k: usize, c: usize, valued: bool)
     requires { (k < length starts.old) × (k < length sorts.old) }
     ensures starts_after { starts.new ≡ set starts.old k (c % 65536) }
-    ensures sorts_after { sorts.new ≡ set sorts.old k (sortOf valued) }
+    ensures sorts_after { sorts.new ≡ set sorts.old k (sort_of valued) }
 {
     starts[k] = (c % 65536) as u16;
     sorts[k] = sort_of(valued);

@@ -12,39 +12,39 @@ use Rattle.acceptance.specs.Answers.{TableOf}
 use Rattle.agreement.proofs.Reports.{reports-last}
 use Rattle.agreement.specs.Demand.{wanted, HasStopped, Listed}
 use Rattle.agreement.specs.Reports.{Reports}
-use Rattle.base.specs.Common.{if◌then◌else◌}
+use Rattle.std.specs.Prelude.{if◌then◌else◌}
 use Rattle.carrybound.proofs.Ending.{figure-carried}
 use Rattle.carrybound.specs.EnoughCarried.{EnoughFrom}
 use Rattle.carry.proofs.Bytes.{carried-fits}
 use Rattle.carry.proofs.Lying.{accepted-most}
 use Rattle.carry.proofs.Sources.{SourceOk, source_ok}
 use Rattle.carry.proofs.Theorem.{carrying-on}
-use Rattle.carry.specs.Carry.{Source, Carried, carried, stays, carryPlace, carryPlaces, put_at, sameAll, carry, source_of}
+use Rattle.carry.specs.Carry.{Source, Carried, carried, stays, carry_place, carry_places, put_at, same_all, carry, source_of}
 use Rattle.carry.specs.GoingOn.{WritesFrom, StopsFrom, EndsBy, Follows, GoesOn, Carries, CarryingOn}
-use Rattle.carry.specs.Texts.{answer_of, between, carryTexts, told, Outcome, outcome, carryBytes}
+use Rattle.carry.specs.Texts.{answer_of, between, carry_texts, told, Outcome, outcome, carry_bytes}
 use Rattle.events.specs.Events.{Event, Reason, Io}
 use Rattle.figure.specs.Count.{figure}
-use Rattle.machine.proofs.Bytes.{length-wordsOf}
-use Rattle.machine.proofs.Form.{walkOf-walkBytes}
+use Rattle.machine.proofs.Bytes.{length-words_of}
+use Rattle.machine.proofs.Form.{walk_of-walk_bytes}
 use Rattle.machine.specs.Bytes.{count, words_of, table_of}
-use Rattle.machine.specs.Form.{Fits, walk_of, walkBytes, eventsWords}
+use Rattle.machine.specs.Form.{Fits, walk_of, walk_bytes, events_words}
 use Rattle.machine.specs.Walk.{Phase, going, waiting, stopped, Walk}
 use Rattle.ownwalk.specs.OwnWalk.{Own}
 use Rattle.processor.specs.Process.{accepted, process, understood, meaning}
 use Rattle.program.proofs.Lengths.{length-table}
 use Rattle.program.specs.Program.{Rule}
-use Rattle.program.specs.Table.{sizeRules}
+use Rattle.program.specs.Table.{size_rules}
 use Rattle.bytewise.proofs.Entries.{behind, begins, left-bytes, Below}
-use Rattle.bytewise.proofs.Joined.{eventsWords-then, choices-words, byte-calls-from, byte-calls}
+use Rattle.bytewise.proofs.Joined.{events_words-then, choices-words, byte-calls-from, byte-calls}
 use Rattle.bytewise.specs.AtCarry.{Moves, WritesWords, StopsWords, EndsByBytes, FollowsBytes, GoesOnBytes, KeptBytes, AtCarry}
 use Rattle.bytewise.specs.AtCarryFigure.{EnoughCarried}
 use Rattle.bytewise.specs.AtEntries.{StoppedBytes, Leaves}
-use Rattle.bytewise.specs.ByteCalls.{Slice, choicesIn, Waits, ByteCallsFrom, ByteCalls, StandsFrom, Stands}
+use Rattle.bytewise.specs.ByteCalls.{Slice, choices_in, Waits, ByteCallsFrom, ByteCalls, StandsFrom, Stands}
 
 -- what is not carried answers 51 or 52
 not-0 : (p q : Source) (w : Walk) (n : ℕ) → carry p q w ≡ stays n → n ≡ 0 → ⊥
 unfolding carry put_at
-not-0 p q w n e z = outer (sameAll p.sections q.sections) e
+not-0 p q w n e z = outer (same_all p.sections q.sections) e
   where
     number : {a b : ℕ} → stays a ≡ stays b → a ≡ b
     number d = cc
@@ -57,19 +57,19 @@ not-0 p q w n e z = outer (sameAll p.sections q.sections) e
     inner (some x) none d = omega (arith, number d, z)
     inner (some x) (some y) d = apart d
 
-    outer : (t : Bool) → (if t then put_at w (carryPlace p q w.location) (carryPlaces p q w.returns) else stays 51) ≡ stays n → ⊥
-    outer true d = inner (carryPlace p q w.location) (carryPlaces p q w.returns) d
+    outer : (t : Bool) → (if t then put_at w (carry_place p q w.location) (carry_places p q w.returns) else stays 51) ≡ stays n → ⊥
+    outer true d = inner (carry_place p q w.location) (carry_places p q w.returns) d
     outer false d = omega (arith, number d, z)
 
 -- where `sst_carry` answers 0 for the bytes of a walk, the walk is carried and its bytes are written
 record Took (old new s' : List ℕ) (w : Walk) : Type 0 where
   walk : Walk
   carries : carry (source_of old) (source_of new) w ≡ carried walk
-  bytes : s' ≡ walkBytes walk
+  bytes : s' ≡ walk_bytes walk
 
 took : (old new words words' : List ℕ) (verdict verdict' : Bool) → process old 4096 ≡ accepted words verdict → process new 4096 ≡ accepted words' verdict'
     → (s s' : List ℕ) (w : Walk) → walk_of s ≡ some w → Moves old new s s' → Took old new s' w
-unfolding carryBytes outcome carryTexts between told answer_of
+unfolding carry_bytes outcome carry_texts between told answer_of
 took old new words words' verdict verdict' e e' s s' w b m = go (carry (source_of old) (source_of new) w) refl (m.contract ∙ rw (b, e, e') refl)
   where
     go : (c : Carried) → carry (source_of old) (source_of new) w ≡ c → m.outcome ≡ told (answer_of c) s → Took old new s' w
@@ -82,15 +82,15 @@ same-walk {v = v} {w = w} e d = let x : some v ≡ some w = sym e ∙ d in cc
 -- Lists of calls from the carried bytes on
 
 module _ (prog : List Rule) (table tokens answers : List ℕ) (bt : Below 256 table) (bk : Slice tokens) (ba : Slice answers) (w₀ : Walk) (es₀ : List Event) (fits₀ : Fits w₀)
-    (s₀ ws₀ : List ℕ) (d₀ : s₀ ≡ walkBytes w₀) (e₀ : ws₀ ≡ eventsWords es₀) where
+    (s₀ ws₀ : List ℕ) (d₀ : s₀ ≡ walk_bytes w₀) (e₀ : ws₀ ≡ events_words es₀) where
   abbrev St : List ℕ → List ℕ → ℕ → List ℕ → Type 0
   St = StandsFrom table tokens answers w₀ es₀
 
   standing : {s ws : List ℕ} {n : ℕ} {ns : List ℕ} → ByteCallsFrom table tokens answers s₀ ws₀ s ws n ns → St s ws n ns
   standing l = byte-calls-from table tokens answers bt bk ba w₀ es₀ fits₀ d₀ e₀ l
 
-  words-begin : (given : List ℕ) (o : Own) (es : List Event) (ws : List ℕ) → ws ≡ eventsWords es → WritesFrom prog (words_of tokens) given o es → WritesWords prog (words_of tokens) given o ws
-  words-begin given o es ws e h = record { steps = h.steps; rest = h.begins.rest; begins = rw e (ap eventsWords h.begins.whole ∙ eventsWords-then es h.begins.rest) }
+  words-begin : (given : List ℕ) (o : Own) (es : List Event) (ws : List ℕ) → ws ≡ events_words es → WritesFrom prog (words_of tokens) given o es → WritesWords prog (words_of tokens) given o ws
+  words-begin given o es ws e h = record { steps = h.steps; rest = h.begins.rest; begins = rw e (ap events_words h.begins.whole ∙ events_words-then es h.begins.rest) }
 
   ends-bytes : (b : ℕ) → EndsBy (table_of table) (words_of tokens) (words_of answers) w₀ es₀ b → EndsByBytes table tokens answers s₀ ws₀ b
   ends-bytes b h s ws n ns l = let st = standing l in go st (h st.walk st.events n ns st.listed)
@@ -108,12 +108,12 @@ module _ (prog : List Rule) (table tokens answers : List ℕ) (bt : Below 256 ta
   follows-bytes : (o : Own) → Follows prog (table_of table) (words_of tokens) (words_of answers) o w₀ es₀ → FollowsBytes prog table tokens answers o s₀ ws₀
   follows-bytes o f =
       record {
-        is-walk = λ l. (let st = standing l in (st.walk, st.read_back));
+        is_walk = λ l. (let st = standing l in (st.walk, st.read_back));
         events = λ l h. (let st = standing l in words-begin (words_of answers) o st.events _ st.words (f.events st.listed (λ p. h (st.walk, st.read_back, p))));
-        events-waiting = λ l h x. (let st = standing l in
+        events_waiting = λ l h x. (let st = standing l in
             words-begin (words_of answers ++ (x ∷ [])) o st.events _ st.words
-            (f.events-waiting st.listed (ap (λ (v : Walk). v.phase) (same-walk st.read_back h.1) ∙ h.2) x));
-        never-37 = λ l e. f.never-37 (standing l).listed e;
+            (f.events_waiting st.listed (ap (λ (v : Walk). v.phase) (same-walk st.read_back h.1) ∙ h.2) x));
+        never_37 = λ l e. f.never_37 (standing l).listed e;
         stops = λ l d p. stopped-bytes l d p;
         says = λ l d. said l d;
         budget = λ h. (let x = f.budget h in (x.0, ends-bytes x.0 x.1));
@@ -147,11 +147,11 @@ module _ (old new : List ℕ) (room room' : ℕ) (words words' : List ℕ) (verd
   s' : SourceOk (source_of new) t'.prog
   s' = source_ok new t'.prog t'.means
 
-  small : sizeRules (source_of new).rules ≤ 4096
+  small : size_rules (source_of new).rules ≤ 4096
   small =
       let n = length-table t'.prog in
-      let z : sizeRules (source_of new).rules ≡ sizeRules t'.prog = ap sizeRules s'.rules-are in
-      omega (arith, n, z, t'.within-4096, ap length t'.words_are)
+      let z : size_rules (source_of new).rules ≡ size_rules t'.prog = ap size_rules s'.rules_are in
+      omega (arith, n, z, t'.within_4096, ap length t'.words_are)
 
   took-fits : {s₁ : List ℕ} {w : Walk} → Fits w → (k : Took old new s₁ w) → Fits k.walk
   took-fits {w = w} f k = carried-fits (source_of old) (source_of new) s'.length-is small w k.walk k.carries f
@@ -174,7 +174,7 @@ module _ (old new : List ℕ) (room room' : ℕ) (words words' : List ℕ) (verd
     fits₁ = took-fits st.fits k
 
     back₁ : walk_of s₁ ≡ some k.walk
-    back₁ = ap walk_of k.bytes ∙ walkOf-walkBytes k.walk fits₁
+    back₁ = ap walk_of k.bytes ∙ walk_of-walk_bytes k.walk fits₁
 
     listed : Listed (words ++ behind old room words verdict e l) (words_of tokens) (words_of answers) allowance st.walk st.events n ns
     listed = rw (begins old room words verdict e l) at st.listed
@@ -192,7 +192,7 @@ module _ (old new : List ℕ) (room room' : ℕ) (words words' : List ℕ) (verd
           → GoesOnBytes claim.prog' table' tokens answers₁ s₁ ws
       as-bytes-with answers₁ ba₁ g = record {
         walk = k.walk;
-        is-walk = back₁;
+        is_walk = back₁;
         events = st.events;
         are_words = st.words;
         from = g.from;
@@ -207,9 +207,9 @@ module _ (old new : List ℕ) (room room' : ℕ) (words words' : List ℕ) (verd
       goes_with h answers₁ x ba₁ q =
           as-bytes-with answers₁ ba₁
           (rw q
-          (over.goes-on-with (ap (λ (v : Walk). v.phase) (same-walk st.read_back h.1) ∙ h.2) x))
+          (over.goes_on_with (ap (λ (v : Walk). v.phase) (same-walk st.read_back h.1) ∙ h.2) x))
 
-      goes : ((Waits s → ⊥) ⊎ ((x : ℕ) × (get_elem? (words_of answers) (choicesIn ws - 1) ≡ some x))) → GoesOnBytes claim.prog' table' tokens answers s₁ ws
+      goes : ((Waits s → ⊥) ⊎ ((x : ℕ) × (get_elem? (words_of answers) (choices_in ws - 1) ≡ some x))) → GoesOnBytes claim.prog' table' tokens answers s₁ ws
       unfolding wanted
       goes (inl h) = as_bytes (over.goes_on (λ p. h (st.walk, st.read_back, p)))
       goes (inr h) = by-phase st.walk.phase refl
@@ -222,7 +222,7 @@ module _ (old new : List ℕ) (room room' : ℕ) (words words' : List ℕ) (verd
             where
               no-wait : st.walk.phase ≡ going → st.walk.phase ≡ waiting → ⊥
               no-wait a b = let z : ◌≡◌ {A = ℕ} 0 1 = cc in omega arith
-          by-phase waiting g = as_bytes (over.goes-on-waiting g h.0 it)
+          by-phase waiting g = as_bytes (over.goes_on_waiting g h.0 it)
           by-phase (stopped r) g = as_bytes (over.goes_on (λ p. no-wait g p))
             where
               no-wait : st.walk.phase ≡ stopped r → st.walk.phase ≡ waiting → ⊥
@@ -239,7 +239,7 @@ module _ (old new : List ℕ) (room room' : ℕ) (words words' : List ℕ) (verd
       enough-carried v prog' d q f w b =
           let h = figure-carried old new room room' words words' verdict e (rw v at e') prog' d q f (behind old room words verdict e l) (behind new room' words' verdict' e' l')
           (words_of tokens) (words_of answers) allowance st.walk st.events n ns listed k.walk k.carries in
-          rw (← length-wordsOf tokens, ← same-walk back₁ b)
+          rw (← length-words_of tokens, ← same-walk back₁ b)
           (enough-bytes claim.prog' table' tokens answers (left-bytes new room' words' verdict' e' l') bk ba k.walk st.events fits₁ s₁ ws k.bytes st.words
           (65 * q * (length (words_of tokens) + k.walk.io.allowance + 1)) (rw (begins new room' words' verdict' e' l') h))
 
@@ -249,7 +249,7 @@ module _ (old new : List ℕ) (room room' : ℕ) (words words' : List ℕ) (verd
     means = claim.means;
     kept = λ lent table tokens answers l bk ba allowance low s ws n ns c s₁ m. keeps l tokens answers bk ba allowance low c s₁ m;
     goes_on = λ lent table lent' table' tokens answers l l' bk ba allowance low s ws n ns c s₁ m h. goes l tokens answers bk ba allowance low c s₁ m l' h;
-    goes-on-with = λ lent table lent' table' tokens answers l l' bk ba allowance low s ws n ns c s₁ m h answers₁ x ba₁ q. goes_with l tokens answers bk ba allowance low c s₁ m l' h answers₁ x ba₁ q;
+    goes_on_with = λ lent table lent' table' tokens answers l l' bk ba allowance low s ws n ns c s₁ m h answers₁ x ba₁ q. goes_with l tokens answers bk ba allowance low c s₁ m l' h answers₁ x ba₁ q;
     finishes = λ v number left.
         (let f = claim.finishes v number left in (
           f.0,
@@ -258,7 +258,7 @@ module _ (old new : List ℕ) (room room' : ℕ) (words words' : List ℕ) (verd
               let took₁ = k l tokens answers bk ba allowance low c s₁ m in
               let same : stands.walk.io.allowance ≡ left = ap (λ (v : Walk). v.io.allowance) (same-walk stands.read_back b) ∙ a in
               ends l tokens answers bk ba allowance low c s₁ m l' f.0
-              (f.1 (behind old room words verdict e l) (behind new room' words' verdict' e' l') (words_of tokens) (words_of answers) allowance stands.walk stands.events n ns (length-wordsOf tokens ∙ q)
+              (f.1 (behind old room words verdict e l) (behind new room' words' verdict' e' l') (words_of tokens) (words_of answers) allowance stands.walk stands.events n ns (length-words_of tokens ∙ q)
               (listed l tokens answers bk ba allowance low c s₁ m) same took₁.walk took₁.carries),
         ));
   }

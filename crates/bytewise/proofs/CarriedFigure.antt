@@ -4,7 +4,7 @@ use mathlib.Core.List.{List}
 use mathlib.Core.Path.{◌≡◌, refl, ap, ◌∙◌}
 use Prim.Native.Nat.{ℕ, ◌<◌}
 use native.Mathlib.Omega.{arith}
-use Rattle.figure.specs.Told.{figureOf}
+use Rattle.figure.specs.Told.{figure_of}
 use Rattle.firmware.proofs.Zero.{accepts-0}
 use Rattle.firmware.specs.Processing.{Numbers}
 use Rattle.machine.specs.Bytes.{count}
@@ -15,8 +15,8 @@ use Rattle.bytewise.specs.AtCarryFigure.{FigureAtCarry}
 
 pub figure-at-carry : FigureAtCarry
 figure-at-carry old lent table new lent' table' x x' p z p' h tokens answers bk ba allowance low s ws n ns c s' m w b =
-    let a = accepts-0 old (count lent) (figureOf old (count lent)) x p.numbers z in
-    let q = ap (λ (y : Numbers). y.figure) p'.numbers ∙ told-figure (process new (count lent')) (figureOf new (count lent')) in
+    let a = accepts-0 old (count lent) (figure_of old (count lent)) x p.numbers z in
+    let q = ap (λ (y : Numbers). y.figure) p'.numbers ∙ told-figure (process new (count lent')) (figure_of new (count lent')) in
     let f : Measured new (count lent') x'.figure = rw q (measured new (count lent') (omega (arith, q))) in
     enough-carried old new (count lent) (count lent') a.0 f.words a.1 true a.2 f.answer (record { buffer = p.buffer; answer = a.2; bytes = p.bytes }) tokens answers bk ba allowance low c s' m
     (record { buffer = p'.buffer; answer = f.answer; bytes = p'.bytes }) refl f.prog f.means x'.figure f.is w b

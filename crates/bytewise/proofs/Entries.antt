@@ -14,29 +14,29 @@ use Rattle.agreement.proofs.Theorem.{agreement}
 use Rattle.agreement.specs.Reports.{Reports}
 use Rattle.agreement.specs.Demand.{wanted, Agrees, Suffices, StepsBelow, HasStopped, WaitsPast, RulesWrite}
 use Rattle.events.specs.Events.{Event, Reason}
-use Rattle.figure.specs.Told.{figureOf}
+use Rattle.figure.specs.Told.{figure_of}
 use Rattle.firmware.proofs.Zero.{accepts-0}
 use Rattle.firmware.specs.Processing.{Numbers}
-use Rattle.machine.proofs.Bytes.{length-wordsOf, wordsOf-append}
+use Rattle.machine.proofs.Bytes.{length-words_of, words_of-append}
 use Rattle.machine.specs.Bytes.{count, words_of, table_of, bytes_of}
-use Rattle.machine.specs.Form.{walk_of, eventsWords}
+use Rattle.machine.specs.Form.{walk_of, events_words}
 use Rattle.machine.specs.Walk.{stopped, Walk}
-use Rattle.processor.specs.Process.{Answer, accepted, process, lentWords, lentBytes}
+use Rattle.processor.specs.Process.{Answer, accepted, process, lent_words, lent_bytes}
 use Rattle.program.specs.Program.{Rule}
-use Rattle.bytewise.proofs.Joined.{eventsWords-then, choices-words, byte-calls}
+use Rattle.bytewise.proofs.Joined.{events_words-then, choices-words, byte-calls}
 use Rattle.bytewise.specs.AtEntries.{RulesWriteWords, RulesStopWords, WaitsPastBytes, StoppedBytes, SufficesBytes, StepsBelowBytes, AgreesBytes, Leaves, AtEntries, Processed, Claimed}
-use Rattle.bytewise.specs.ByteCalls.{Slice, choicesIn, ByteCalls, Stands}
+use Rattle.bytewise.specs.ByteCalls.{Slice, choices_in, ByteCalls, Stands}
 
 -- The lent bytes
 
 -- the table in the lent bytes: the program's words, and something behind them
 pub lent-table : (words : List ℕ) (verdict : Bool) (lent : List ℕ) → length words ≤ 4096
-    → (more : List ℕ) × (table_of (lentBytes (accepted words verdict) lent) ≡ words ++ more)
-unfolding table_of lentBytes lentWords
+    → (more : List ℕ) × (table_of (lent_bytes (accepted words verdict) lent) ≡ words ++ more)
+unfolding table_of lent_bytes lent_words
 lent-table words verdict lent h =
     let zeros : List ℕ = replicate (count lent - length words) 0 in
     let rest = drop (2 * count lent) lent in
-    let e : words_of (bytes_of (words ++ zeros) ++ rest) ≡ (words ++ zeros) ++ words_of rest = wordsOf-append (words ++ zeros) rest in
+    let e : words_of (bytes_of (words ++ zeros) ++ rest) ≡ (words ++ zeros) ++ words_of rest = words_of-append (words ++ zeros) rest in
     let a : (words ++ zeros) ++ words_of rest ≡ words ++ (zeros ++ words_of rest) = append_assoc words zeros (words_of rest) in
     let n : 4096 ≡ length words + (4096 - length words) = omega arith in (
       take (4096 - length words) (zeros ++ words_of rest),
@@ -69,8 +69,8 @@ below-bytes (w ∷ ws) h zero = omega (arith, h 0)
 below-bytes (w ∷ ws) h (suc zero) = omega arith
 below-bytes (w ∷ ws) h (suc (suc i)) = below-bytes ws (λ j. h (suc j)) i
 
-pub lent-bytes : (words : List ℕ) (verdict : Bool) (lent : List ℕ) → Below 65536 words → Below 256 lent → Below 256 (lentBytes (accepted words verdict) lent)
-unfolding lentBytes lentWords
+pub lent-bytes : (words : List ℕ) (verdict : Bool) (lent : List ℕ) → Below 65536 words → Below 256 lent → Below 256 (lent_bytes (accepted words verdict) lent)
+unfolding lent_bytes lent_words
 lent-bytes words verdict lent h k =
     let zeros : List ℕ = replicate (count lent - length words) 0 in
     below_then 256 (bytes_of (words ++ zeros)) (drop (2 * count lent) lent)
@@ -82,12 +82,12 @@ lent-bytes words verdict lent h k =
 same-walk : {o : Option Walk} {v w : Walk} → o ≡ some v → o ≡ some w → v ≡ w
 same-walk {v = v} {w = w} e d = let x : some v ≡ some w = sym e ∙ d in cc
 
-words-begin : (prog : List Rule) (tokens answers : List ℕ) (allowance : ℕ) (es : List Event) (ws : List ℕ) → ws ≡ eventsWords es → RulesWrite prog tokens answers allowance es
+words-begin : (prog : List Rule) (tokens answers : List ℕ) (allowance : ℕ) (es : List Event) (ws : List ℕ) → ws ≡ events_words es → RulesWrite prog tokens answers allowance es
     → RulesWriteWords prog tokens answers allowance ws
 words-begin prog tokens answers allowance es ws e h = record {
   steps = h.steps;
   rest = h.begins.rest;
-  begins = rw e (ap eventsWords h.begins.whole ∙ eventsWords-then es h.begins.rest);
+  begins = rw e (ap events_words h.begins.whole ∙ events_words-then es h.begins.rest);
 }
 
 module _ (prog : List Rule) (table tokens answers : List ℕ) (bt : Below 256 table) (bk : Slice tokens) (ba : Slice answers) (allowance : ℕ) (small : allowance < 65536) where
@@ -106,7 +106,7 @@ module _ (prog : List Rule) (table tokens answers : List ℕ) (bt : Below 256 ta
         waits = (st.walk, st.read_back, x.waits);
         past = rw (st.words, choices-words st.events) x.past;
         io = x.io;
-        rules-stop = x.rules-stop;
+        rules_stop = x.rules_stop;
       })
 
   pub steps-bytes : (b : ℕ) → StepsBelow (table_of table) (words_of tokens) (words_of answers) allowance b → StepsBelowBytes table tokens answers allowance b
@@ -115,13 +115,13 @@ module _ (prog : List Rule) (table tokens answers : List ℕ) (bt : Below 256 ta
   pub agrees_bytes : Agrees prog (table_of table) (words_of tokens) (words_of answers) allowance → AgreesBytes prog table tokens answers allowance
   agrees_bytes a =
       record {
-        is-walk = λ l. (let st = byte-calls table tokens answers bt bk ba allowance small l in (st.walk, st.read_back));
+        is_walk = λ l. (let st = byte-calls table tokens answers bt bk ba allowance small l in (st.walk, st.read_back));
         events = λ l h. (let st = byte-calls table tokens answers bt bk ba allowance small l in
             words-begin prog (words_of tokens) (words_of answers) allowance st.events _ st.words (a.events st.listed (λ p. h (st.walk, st.read_back, p))));
-        events-waiting = λ l h x. (let st = byte-calls table tokens answers bt bk ba allowance small l in
+        events_waiting = λ l h x. (let st = byte-calls table tokens answers bt bk ba allowance small l in
             words-begin prog (words_of tokens) (words_of answers ++ (x ∷ [])) allowance st.events _ st.words
-            (a.events-waiting st.listed (ap (λ (v : Walk). v.phase) (same-walk st.read_back h.1) ∙ h.2) x));
-        never-37 = λ l e. a.never-37 (byte-calls table tokens answers bt bk ba allowance small l).listed e;
+            (a.events_waiting st.listed (ap (λ (v : Walk). v.phase) (same-walk st.read_back h.1) ∙ h.2) x));
+        never_37 = λ l e. a.never_37 (byte-calls table tokens answers bt bk ba allowance small l).listed e;
         stops = λ l d p. stopped-bytes l d p;
         says = λ l d. said l d;
         budget = λ h. (let x = a.budget h in (x.0, suffices-bytes x.0 x.1));
@@ -149,16 +149,16 @@ module _ (prog : List Rule) (table tokens answers : List ℕ) (bt : Below 256 ta
 -- A text that is accepted: the bytes that are left, and the table in them
 
 module _ (text : List ℕ) (room : ℕ) (words : List ℕ) (verdict : Bool) (e : process text room ≡ accepted words verdict) {lent table : List ℕ} (l : Leaves text words verdict lent table) where
-  left : table ≡ lentBytes (accepted words verdict) lent
-  left = l.bytes ∙ ap (λ (a : Answer). lentBytes a lent) l.answer
+  left : table ≡ lent_bytes (accepted words verdict) lent
+  left = l.bytes ∙ ap (λ (a : Answer). lent_bytes a lent) l.answer
 
   -- what stands behind the table
   pub behind : List ℕ
-  behind = (lent-table words verdict lent (accepted-table text room words verdict e).within-4096).0
+  behind = (lent-table words verdict lent (accepted-table text room words verdict e).within_4096).0
 
   pub begins : table_of table ≡ words ++ behind
   unfolding behind
-  begins = ap table_of left ∙ (lent-table words verdict lent (accepted-table text room words verdict e).within-4096).1
+  begins = ap table_of left ∙ (lent-table words verdict lent (accepted-table text room words verdict e).within_4096).1
 
   pub left-bytes : Below 256 table
   left-bytes = rw left (lent-bytes words verdict lent (accepted-table text room words verdict e).small l.buffer.bytes)
@@ -178,7 +178,7 @@ at-entries text room words verdict e =
             f.0,
             λ lent table l tokens answers bk ba q.
                 suffices-bytes d.prog table tokens answers (left-bytes text room words verdict e l) bk ba allowance small f.0
-                (rw (begins text room words verdict e l) (f.1 (behind text room words verdict e l) (words_of tokens) (words_of answers) (length-wordsOf tokens ∙ q))),
+                (rw (begins text room words verdict e l) (f.1 (behind text room words verdict e l) (words_of tokens) (words_of answers) (length-words_of tokens ∙ q))),
           ));
       sound = d.sound;
       complete = d.complete;
@@ -187,12 +187,12 @@ at-entries text room words verdict e =
 -- the same from what `sst_process` left: where it answers 0, all of it holds of the bytes that it left
 pub from_entries : (text lent table : List ℕ) (x : Numbers) → Processed text lent table x → x.number ≡ 0 → Claimed text lent table x
 from_entries text lent table x p z =
-    let a = accepts-0 text (count lent) (figureOf text (count lent)) x p.numbers z in
+    let a = accepts-0 text (count lent) (figure_of text (count lent)) x p.numbers z in
     record {
       words = a.0;
       verdict = a.1;
-      told-words = a.3;
-      told-verdict = a.4;
+      told_words = a.3;
+      told_verdict = a.4;
       left = record { buffer = p.buffer; answer = a.2; bytes = p.bytes };
       claim = at-entries text (count lent) a.0 a.1 a.2;
     }

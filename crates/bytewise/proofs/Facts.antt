@@ -17,16 +17,16 @@ use Rattle.machine.specs.Step
 use Rattle.machine.specs.Call
 use Rattle.machine.specs.Form
 use Rattle.machine.specs.Call.{whole, paused}
-use Rattle.machine.specs.Form.{walkBytes, Outcome, callBytes}
+use Rattle.machine.specs.Form.{walk_bytes, Outcome, call_bytes}
 use Rattle.machine.specs.Walk.{fresh}
 use Rattle.screen.specs.Items
 use Rattle.screen.specs.Items.{Item, turn, refill}
 use Rattle.screen.specs.Screen
-use Rattle.screen.specs.Screen.{freshBytes}
+use Rattle.screen.specs.Screen.{fresh_bytes}
 use Rattle.bytewise.specs.AtScreen
 use Rattle.bytewise.specs.AtScreen.{Asked}
 use Rattle.bytewise.specs.ByteCalls
-use Rattle.bytewise.specs.ByteCalls.{writtenWords, choicesIn, Hands}
+use Rattle.bytewise.specs.ByteCalls.{written_words, choices_in, Hands}
 
 -- the table: emit 7, the update operation 512 with the parameter 900, the choice operation 768, return
 abbrev table : List ℕ
@@ -34,17 +34,17 @@ table = 0 ∷ 5 ∷ 0 ∷ 7 ∷ 0 ∷ 13 ∷ 3 ∷ 132 ∷ 2 ∷ 0 ∷ 3 ∷ 0 �
 
 -- the words that the calls of a fresh walk write, the first without an answer, the second with one; the buffers are longer than that
 abbrev one : Outcome
-one = callBytes table [] (paused none) 9 (walkBytes (fresh 0)) (replicate 23 170)
+one = call_bytes table [] (paused none) 9 (walk_bytes (fresh 0)) (replicate 23 170)
 
 abbrev two : Outcome
-two = callBytes table [] (paused (some 4)) 9 one.walk (replicate 6 170)
+two = call_bytes table [] (paused (some 4)) 9 one.walk (replicate 6 170)
 
 -- the numbers, the words of three events and of none, and of choice operations one; a token, a repair or a parameter is none
 unfoldable pub holds : Bool
 holds =
-    eqb one.number 22 && same (writtenWords one) (1 ∷ 7 ∷ 0 ∷ 3 ∷ 512 ∷ 900 ∷ 3 ∷ 768 ∷ 0 ∷ []) && eqb (choicesIn (writtenWords one)) 1
-    && eqb two.number 0 && same (writtenWords two) []
-    && eqb (choicesIn (1 ∷ 900 ∷ 0 ∷ 2 ∷ 900 ∷ 0 ∷ 4 ∷ 900 ∷ 0 ∷ 3 ∷ 1024 ∷ 5 ∷ 3 ∷ 767 ∷ 0 ∷ 3 ∷ 768 ∷ 0 ∷ [])) 2
+    eqb one.number 22 && same (written_words one) (1 ∷ 7 ∷ 0 ∷ 3 ∷ 512 ∷ 900 ∷ 3 ∷ 768 ∷ 0 ∷ []) && eqb (choices_in (written_words one)) 1
+    && eqb two.number 0 && same (written_words two) []
+    && eqb (choices_in (1 ∷ 900 ∷ 0 ∷ 2 ∷ 900 ∷ 0 ∷ 4 ∷ 900 ∷ 0 ∷ 3 ∷ 1024 ∷ 5 ∷ 3 ∷ 767 ∷ 0 ∷ 3 ∷ 768 ∷ 0 ∷ [])) 2
 
 pub all_hold : T holds
 unfolding holds Events.opened Bytes.opened Lengths.opened Decode.opened Walk.opened Step.opened Call.opened Form.opened ByteCalls.opened
@@ -54,6 +54,6 @@ all_hold = tt
 abbrev turns : List Item
 turns = turn 0 [] (paused (some 4)) (replicate 6 170) ∷ turn 1 (1 ∷ 2 ∷ 3 ∷ []) (whole []) [] ∷ turn 0 [] (paused none) (replicate 23 170) ∷ refill 0 9 ∷ []
 
-pub asked : Asked table 0 [] (0 ∷ 4 ∷ []) (freshBytes 0 3 (replicate 332 170)) turns
+pub asked : Asked table 0 [] (0 ∷ 4 ∷ []) (fresh_bytes 0 3 (replicate 332 170)) turns
 unfolding Asked Hands AtScreen.opened ByteCalls.opened Events.opened Bytes.opened Lengths.opened Decode.opened Walk.opened Step.opened Call.opened Form.opened Screen.opened Items.opened
 asked = (λ e. (refl, (omega arith, λ w. refl)), (λ e. absurd (omega arith), (λ e. (refl, tt), tt)))

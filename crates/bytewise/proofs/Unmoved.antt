@@ -7,8 +7,8 @@ use Rattle.agreement.specs.Demand.{Listed}
 use Rattle.carry.proofs.Identity.{identity-bytes}
 use Rattle.carry.proofs.Lying.{accepted-most, lies-from-calls}
 use Rattle.carry.specs.Identity.{Unmoved}
-use Rattle.carry.specs.Texts.{carryBytes}
-use Rattle.figure.specs.Told.{figureOf}
+use Rattle.carry.specs.Texts.{carry_bytes}
+use Rattle.figure.specs.Told.{figure_of}
 use Rattle.firmware.proofs.Zero.{accepts-0}
 use Rattle.firmware.specs.Processing.{Numbers}
 use Rattle.machine.specs.Bytes.{count, words_of}
@@ -22,7 +22,7 @@ use Rattle.bytewise.specs.ByteCalls.{Slice, ByteCalls}
 -- for a text that is accepted
 pub unmoved : (text : List ℕ) (room : ℕ) (words : List ℕ) (verdict : Bool) → process text room ≡ accepted words verdict
     → {lent table : List ℕ} → Leaves text words verdict lent table → (tokens answers : List ℕ) → Slice tokens → Slice answers → (allowance : ℕ) → allowance < 65536
-    → {s ws : List ℕ} {n : ℕ} {ns : List ℕ} → ByteCalls table tokens answers allowance s ws n ns → Unmoved s (carryBytes text text s)
+    → {s ws : List ℕ} {n : ℕ} {ns : List ℕ} → ByteCalls table tokens answers allowance s ws n ns → Unmoved s (carry_bytes text text s)
 unmoved text room words verdict e {table = table} l tokens answers bk ba allowance low {s} {ws} {n} {ns} c =
     let st = byte-calls table tokens answers (left-bytes text room words verdict e l) bk ba allowance low c in
     let listed = rw (begins text room words verdict e l) at st.listed in
@@ -31,5 +31,5 @@ unmoved text room words verdict e {table = table} l tokens answers bk ba allowan
 
 pub identity-at-entries : IdentityAtEntries
 identity-at-entries text lent table x p z tokens answers bk ba allowance low s ws n ns c =
-    let a = accepts-0 text (count lent) (figureOf text (count lent)) x p.numbers z in
+    let a = accepts-0 text (count lent) (figure_of text (count lent)) x p.numbers z in
     unmoved text (count lent) a.0 a.1 a.2 (record { buffer = p.buffer; answer = a.2; bytes = p.bytes }) tokens answers bk ba allowance low c

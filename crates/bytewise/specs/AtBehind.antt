@@ -7,8 +7,8 @@ use Rattle.bytewise.specs.ByteCalls.{Slice, ByteCalls}
 
 -- a list of calls over the one leads to the same bytes of the walk, words of events, steps and numbers over the other
 pub record SameCalls (short long tokens answers : List ℕ) (allowance : ℕ) : Type 0 where
-  pub to-long : {s ws : List ℕ} {n : ℕ} {ns : List ℕ} → ByteCalls short tokens answers allowance s ws n ns → ByteCalls long tokens answers allowance s ws n ns
-  pub to-short : {s ws : List ℕ} {n : ℕ} {ns : List ℕ} → ByteCalls long tokens answers allowance s ws n ns → ByteCalls short tokens answers allowance s ws n ns
+  pub to_long : {s ws : List ℕ} {n : ℕ} {ns : List ℕ} → ByteCalls short tokens answers allowance s ws n ns → ByteCalls long tokens answers allowance s ws n ns
+  pub to_short : {s ws : List ℕ} {n : ℕ} {ns : List ℕ} → ByteCalls long tokens answers allowance s ws n ns → ByteCalls short tokens answers allowance s ws n ns
 
 abbrev pub BehindBytes : Type 0
 BehindBytes =

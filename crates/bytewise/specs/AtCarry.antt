@@ -2,24 +2,24 @@
 use Rattle.std.specs.Prelude.{Bool, true, List, [], ◌∷◌, ◌++◌, ◌⊎◌, ◌≡◌, ℕ, ◌-◌, ◌<◌, length}
 use Rattle.std.proofs.Math.Option.{none, some}
 use Rattle.std.proofs.Math.ListN.{get_elem?}
-use Rattle.agreement.specs.Demand.{eventsOf, HasStopped}
+use Rattle.agreement.specs.Demand.{events_of, HasStopped}
 use Rattle.agreement.specs.Reports.{Reports}
 use Rattle.carry.specs.GoingOn.{StopsFrom, Starts}
-use Rattle.carry.specs.Texts.{Outcome, carryBytes}
+use Rattle.carry.specs.Texts.{Outcome, carry_bytes}
 use Rattle.events.specs.Events.{Event, Reason, Io}
 use Rattle.machine.specs.Bytes.{count, words_of, table_of}
-use Rattle.machine.specs.Form.{walk_of, eventsWords}
+use Rattle.machine.specs.Form.{walk_of, events_words}
 use Rattle.machine.specs.Walk.{stopped, Walk}
 use Rattle.ownwalk.specs.OwnWalk.{Own, owns}
 use Rattle.processor.specs.Process.{understood, meaning}
 use Rattle.program.specs.Program.{Rule}
 use Rattle.bytewise.specs.AtEntries.{StoppedBytes, Leaves}
-use Rattle.bytewise.specs.ByteCalls.{Slice, choicesIn, Waits, ByteCallsFrom, ByteCalls}
+use Rattle.bytewise.specs.ByteCalls.{Slice, choices_in, Waits, ByteCallsFrom, ByteCalls}
 
 -- what `sst_carry` leaves with its caller where it answers 0, by its contract: s' in place of the walk's bytes s
 pub record Moves (old new s s' : List ℕ) : Type 0 where
   pub outcome : Outcome
-  pub contract : outcome ≡ carryBytes old new s
+  pub contract : outcome ≡ carry_bytes old new s
   pub number : outcome.number ≡ 0
   pub walk : outcome.walk ≡ s'
 
@@ -27,7 +27,7 @@ pub record Moves (old new s s' : List ℕ) : Type 0 where
 pub record WritesWords (prog : List Rule) (tokens answers : List ℕ) (s : Own) (ws : List ℕ) : Type 0 where
   pub steps : ℕ
   pub rest : List Event
-  pub begins : eventsWords (eventsOf (owns prog tokens answers steps s)) ≡ ws ++ eventsWords rest
+  pub begins : events_words (events_of (owns prog tokens answers steps s)) ≡ ws ++ events_words rest
 
 -- the rules' own walk stops from there, for this reason, with so many tokens read and answers used and so much allowance left, and the words of its events are these
 pub record StopsWords (prog : List Rule) (tokens answers : List ℕ) (s : Own) (r : Reason) (read used left : ℕ) (ws : List ℕ) : Type 0 where
@@ -36,7 +36,7 @@ pub record StopsWords (prog : List Rule) (tokens answers : List ℕ) (s : Own) (
   pub reads : io.read ≡ read
   pub uses : io.used ≡ used
   pub leaves : io.allowance ≡ left
-  pub words : eventsWords io.events ≡ ws
+  pub words : events_words io.events ≡ ws
 
 -- a budget for the calls from the bytes s₀ on
 abbrev pub EndsByBytes : List ℕ → List ℕ → List ℕ → List ℕ → List ℕ → ℕ → Type 0
@@ -45,12 +45,12 @@ EndsByBytes table tokens answers s₀ ws₀ b =
 
 -- what is claimed of every list of calls over the bytes `table` that begins with the bytes s₀ after events of the words ws₀, where the rules go on from the state o
 pub record FollowsBytes (prog : List Rule) (table tokens answers : List ℕ) (o : Own) (s₀ ws₀ : List ℕ) : Type 0 where
-  pub is-walk : {s ws : List ℕ} {n : ℕ} {ns : List ℕ} → ByteCallsFrom table tokens answers s₀ ws₀ s ws n ns → (w : Walk) × (walk_of s ≡ some w)
+  pub is_walk : {s ws : List ℕ} {n : ℕ} {ns : List ℕ} → ByteCallsFrom table tokens answers s₀ ws₀ s ws n ns → (w : Walk) × (walk_of s ≡ some w)
   pub events : {s ws : List ℕ} {n : ℕ} {ns : List ℕ} → ByteCallsFrom table tokens answers s₀ ws₀ s ws n ns
       → (Waits s → ⊥) → WritesWords prog (words_of tokens) (words_of answers) o ws
-  pub events-waiting : {s ws : List ℕ} {n : ℕ} {ns : List ℕ} → ByteCallsFrom table tokens answers s₀ ws₀ s ws n ns
+  pub events_waiting : {s ws : List ℕ} {n : ℕ} {ns : List ℕ} → ByteCallsFrom table tokens answers s₀ ws₀ s ws n ns
       → Waits s → (x : ℕ) → WritesWords prog (words_of tokens) (words_of answers ++ (x ∷ [])) o ws
-  pub never-37 : {s ws : List ℕ} {n number : ℕ} {ns : List ℕ} → ByteCallsFrom table tokens answers s₀ ws₀ s ws n (number ∷ ns) → number ≡ 37 → ⊥
+  pub never_37 : {s ws : List ℕ} {n number : ℕ} {ns : List ℕ} → ByteCallsFrom table tokens answers s₀ ws₀ s ws n (number ∷ ns) → number ≡ 37 → ⊥
   pub stops : {s ws : List ℕ} {n : ℕ} {ns : List ℕ} {w : Walk} {r : Reason} → ByteCallsFrom table tokens answers s₀ ws₀ s ws n ns
       → walk_of s ≡ some w → w.phase ≡ stopped r → StopsWords prog (words_of tokens) (words_of answers) o r w.io.read w.io.used w.io.allowance ws
   pub says : {s ws : List ℕ} {n number : ℕ} {ns : List ℕ} {w : Walk} → ByteCallsFrom table tokens answers s₀ ws₀ s ws n (number ∷ ns)
@@ -60,9 +60,9 @@ pub record FollowsBytes (prog : List Rule) (table tokens answers : List ℕ) (o 
 -- the bytes s are a walk's, the words ws those of events; the rules go on from its places ("from the same places"), and every list of calls follows them
 pub record GoesOnBytes (prog : List Rule) (table tokens answers s ws : List ℕ) : Type 0 where
   pub walk : Walk
-  pub is-walk : walk_of s ≡ some walk
+  pub is_walk : walk_of s ≡ some walk
   pub events : List Event
-  pub are_words : ws ≡ eventsWords events
+  pub are_words : ws ≡ events_words events
   pub from : Own
   pub starts : Starts prog (table_of table) (words_of tokens) (words_of answers) walk events from
   pub follows : FollowsBytes prog table tokens answers from s ws
@@ -88,9 +88,9 @@ pub record AtCarry (old new words : List ℕ) (verdict : Bool) (words' : List �
   -- a walk that does not wait, or waits for an answer that there is
   pub goes_on : (lent table lent' table' tokens answers : List ℕ) → Leaves old words verdict lent table → Leaves new words' verdict' lent' table' → Slice tokens → Slice answers
       → (allowance : ℕ) → allowance < 65536 → (s ws : List ℕ) (n : ℕ) (ns : List ℕ) → ByteCalls table tokens answers allowance s ws n ns → (s' : List ℕ) → Moves old new s s'
-      → ((Waits s → ⊥) ⊎ ((x : ℕ) × (get_elem? (words_of answers) (choicesIn ws - 1) ≡ some x))) → GoesOnBytes prog' table' tokens answers s' ws
+      → ((Waits s → ⊥) ⊎ ((x : ℕ) × (get_elem? (words_of answers) (choices_in ws - 1) ≡ some x))) → GoesOnBytes prog' table' tokens answers s' ws
   -- one that waits, with any one answer more
-  pub goes-on-with : (lent table lent' table' tokens answers : List ℕ) → Leaves old words verdict lent table → Leaves new words' verdict' lent' table' → Slice tokens → Slice answers
+  pub goes_on_with : (lent table lent' table' tokens answers : List ℕ) → Leaves old words verdict lent table → Leaves new words' verdict' lent' table' → Slice tokens → Slice answers
       → (allowance : ℕ) → allowance < 65536 → (s ws : List ℕ) (n : ℕ) (ns : List ℕ) → ByteCalls table tokens answers allowance s ws n ns → (s' : List ℕ) → Moves old new s s'
       → Waits s → (answers₁ : List ℕ) (x : ℕ) → Slice answers₁ → words_of answers₁ ≡ words_of answers ++ (x ∷ []) → GoesOnBytes prog' table' tokens answers₁ s' ws
   -- one budget, fixed by the new program, the number of tokens and the allowance left, is enough for the calls after the carrying

@@ -4,16 +4,16 @@
 use Rattle.std.specs.Prelude.{Bool, true, List, [], ◌++◌, ◌≡◌, ℕ, ◌+◌, ◌*◌, ◌<◌, ◌≤◌, length, get_or}
 use Rattle.figure.specs.Told.{untold}
 use Rattle.finishing.specs.Finishing.{Finishing}
-use Rattle.firmware.specs.Processing.{Numbers, flagOf, numbersOf}
+use Rattle.firmware.specs.Processing.{Numbers, flag_of, numbers_of}
 use Rattle.loading.specs.File as files
-use Rattle.loading.specs.File.{fileBytes}
+use Rattle.loading.specs.File.{file_bytes}
 use Rattle.loading.specs.Reach.{Taken}
 use Rattle.machine.specs.Bytes.{count, words_of, table_of}
 use Rattle.names.specs.Known.{good, Names}
 use Rattle.parts.specs.Form.{AreObjects, Makes, LinksWords}
-use Rattle.parts.specs.Joined.{joinedText}
-use Rattle.parts.specs.Link.{Linked, linked, refused, program, lentBytes}
-use Rattle.parts.specs.Objects.{Object, commonMeans}
+use Rattle.parts.specs.Joined.{joined_text}
+use Rattle.parts.specs.Link.{Linked, linked, refused, program, lent_bytes}
+use Rattle.parts.specs.Objects.{Object, common_means}
 use Rattle.processor.specs.Process as one
 use Rattle.processor.specs.Process.{Part, accepted}
 use Rattle.program.specs.Accepted.{Accepted}
@@ -21,8 +21,8 @@ use Rattle.program.specs.Program.{Rule}
 use Rattle.program.specs.Table as tables
 use Rattle.safety.specs.Promise.{claim_of}
 use Rattle.syntax.specs.Reading.{got}
-use Rattle.syntax.specs.Sections.{namesInAll}
-use Rattle.syntax.specs.Texts.{Common, readCommon}
+use Rattle.syntax.specs.Sections.{names_in_all}
+use Rattle.syntax.specs.Texts.{Common, read_common}
 use Rattle.words.specs.Words.{Word}
 use Rattle.bytewise.specs.AtEntries.{SufficesBytes, StepsBelowBytes, AgreesBytes, Processed}
 use Rattle.bytewise.specs.AtLoading.{Loads}
@@ -35,14 +35,14 @@ pub record LinkNumbers : Type 0 where
   pub text : ℕ
   pub others : Numbers
 
-unfoldable pub linkNumbers : Linked → LinkNumbers
-linkNumbers (linked words verdict told) = record { text = 0; others = numbersOf (accepted words verdict) told }
-linkNumbers (refused number text at) = record { text = text; others = numbersOf (one.refused number at) untold }
+unfoldable pub link_numbers : Linked → LinkNumbers
+link_numbers (linked words verdict told) = record { text = 0; others = numbers_of (accepted words verdict) told }
+link_numbers (refused number text at) = record { text = text; others = numbers_of (one.refused number at) untold }
 
 -- its answer for any bytes: as linking says for the words of the objects, where the common part is read and means something; or a refusal. Of a refusal nothing is
 -- asked here but that its number is not 0
 pub data LinkAnswer (common objects : List ℕ) (room : ℕ) : Linked → Type 0 where
-  links : {c : Common} {rest : List Word} {n : Names} {answer : Linked} → readCommon common ≡ got c rest → commonMeans c [] ≡ good n
+  links : {c : Common} {rest : List Word} {n : Names} {answer : Linked} → read_common common ≡ got c rest → common_means c [] ≡ good n
       → LinksWords common c n (words_of objects) room answer → LinkAnswer common objects room answer
   refuses : {number text : ℕ} {at : Part} → (number ≡ 0 → ⊥) → LinkAnswer common objects room (refused number text at)
 
@@ -52,26 +52,26 @@ pub record LinksBytes (common objects lent table : List ℕ) (x : LinkNumbers) :
   pub buffer : Slice lent
   pub answer : Linked
   pub answers : LinkAnswer common objects (count lent) answer
-  pub numbers : x ≡ linkNumbers answer
-  pub bytes : table ≡ lentBytes answer lent
+  pub numbers : x ≡ link_numbers answer
+  pub bytes : table ≡ lent_bytes answer lent
 
 -- What is claimed
 
 -- the rules of all objects in order, then those made for operators
-abbrev pub linkedRules : Common → Names → List Object → List Rule
-linkedRules c n os = program n (namesInAll c.sections) os
+abbrev pub linked_rules : Common → Names → List Object → List Rule
+linked_rules c n os = program n (names_in_all c.sections) os
 
 -- bytes that begin with these words, whatever stands behind them: the lent buffer as it was left, or up to the table's end
 pub record BeginsWith (words bytes : List ℕ) : Type 0 where
-  pub are-bytes : (i : ℕ) → get_or bytes i 0 < 256
+  pub are_bytes : (i : ℕ) → get_or bytes i 0 < 256
   pub more : List ℕ
   pub begins : table_of bytes ≡ words ++ more
 
 -- `sst_load` has taken the file of these words and this verdict
 pub record LoadedAs (words : List ℕ) (verdict : Bool) (bytes : List ℕ) (y : files.Numbers) : Type 0 where
   pub taken : y.number ≡ 0
-  pub told-words : y.words ≡ length words
-  pub told-verdict : y.verdict ≡ claim_of verdict
+  pub told_words : y.words ≡ length words
+  pub told_verdict : y.verdict ≡ claim_of verdict
   pub left : BeginsWith words bytes
 
 -- the whole claim for a program, the words of its table, its verdict and the figure that was told, over any bytes that begin with these words
@@ -87,9 +87,9 @@ pub record AtLinking (prog : List Rule) (words : List ℕ) (verdict : Bool) (q :
   pub complete : Finishing prog → verdict ≡ true
   -- the loader takes its file wherever it has room, and then all of this holds of the bytes that `sst_load` left
   pub takes : Taken words
-  pub loads : (lent bytes : List ℕ) (y : files.Numbers) → Loads (fileBytes words (claim_of verdict)) lent bytes y → length words ≤ count lent → LoadedAs words verdict bytes y
+  pub loads : (lent bytes : List ℕ) (y : files.Numbers) → Loads (file_bytes words (claim_of verdict)) lent bytes y → length words ≤ count lent → LoadedAs words verdict bytes y
   -- where a figure was told the verdict is "finishing", and "no walk of n tokens and repair allowance r .. needs more than 65 × Q × (n + r + 1) steps"
-  pub figure-finishing : 0 < q → verdict ≡ true
+  pub figure_finishing : 0 < q → verdict ≡ true
   pub suffices : 0 < q → (bytes : List ℕ) → BeginsWith words bytes → (tokens answers : List ℕ) → Slice tokens → Slice answers
       → (allowance : ℕ) → allowance < 65536 → SufficesBytes prog bytes tokens answers allowance (65 * q * (count tokens + allowance + 1))
   pub steps : 0 < q → (bytes : List ℕ) → BeginsWith words bytes → (tokens answers : List ℕ) → Slice tokens → Slice answers
@@ -98,20 +98,20 @@ pub record AtLinking (prog : List Rule) (words : List ℕ) (verdict : Bool) (q :
 -- what a caller has whom `sst_link` answers 0: the bytes that he handed in are objects of the common part; the words left are the table of the rules of all of them,
 -- an accepted program; and the claim for it
 pub record ClaimedLinked (common objects table : List ℕ) (x : LinkNumbers) : Type 0 where
-  pub common-is : Common
+  pub common_is : Common
   pub rest : List Word
-  pub reads : readCommon common ≡ got common-is rest
+  pub reads : read_common common ≡ got common_is rest
   pub names : Names
-  pub means : commonMeans common-is [] ≡ good names
-  pub are : AreObjects common common-is names (words_of objects)
+  pub means : common_means common_is [] ≡ good names
+  pub are : AreObjects common common_is names (words_of objects)
   pub words : List ℕ
   pub verdict : Bool
-  pub told-words : x.others.words ≡ length words
-  pub told-verdict : x.others.finishing ≡ flagOf verdict
-  pub accepts : Accepted (linkedRules common-is names are.objects)
-  pub words_are : words ≡ tables.table (linkedRules common-is names are.objects)
+  pub told_words : x.others.words ≡ length words
+  pub told_verdict : x.others.finishing ≡ flag_of verdict
+  pub accepts : Accepted (linked_rules common_is names are.objects)
+  pub words_are : words ≡ tables.table (linked_rules common_is names are.objects)
   pub left : BeginsWith words table
-  pub claim : AtLinking (linkedRules common-is names are.objects) words verdict x.others.figure
+  pub claim : AtLinking (linked_rules common_is names are.objects) words verdict x.others.figure
 
 abbrev pub FromLinking : Type 0
 FromLinking = (common objects lent table : List ℕ) (x : LinkNumbers) → LinksBytes common objects lent table x → x.others.number ≡ 0 → ClaimedLinked common objects table x
@@ -121,9 +121,9 @@ FromLinking = (common objects lent table : List ℕ) (x : LinkNumbers) → Links
 abbrev pub FromParts : Type 0
 FromParts =
     (common objects lent table : List ℕ) (x : LinkNumbers) → LinksBytes common objects lent table x → x.others.number ≡ 0
-    → (parts : List (List ℕ)) → Makes common parts (words_of objects) → length (joinedText common parts) ≤ 32768 → Processed (joinedText common parts) lent table x.others
+    → (parts : List (List ℕ)) → Makes common parts (words_of objects) → length (joined_text common parts) ≤ 32768 → Processed (joined_text common parts) lent table x.others
 
 -- all of this file computes where this is unfolded
 unfoldable pub opened : Unit {0}
-unfolding linkNumbers
+unfolding link_numbers
 opened = tt

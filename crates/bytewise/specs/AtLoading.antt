@@ -1,7 +1,7 @@
 -- The check on loading as a caller from C meets it: for the very bytes that `sst_load` left in a lent buffer, and every list of calls of `sst_whole`
 -- and `sst_paused` over them.
 use Rattle.std.specs.Prelude.{List, ◌∷◌, ◌≡◌, ℕ, ◌<◌}
-use Rattle.loading.specs.File.{load, lentBytes, Numbers, numbersOf}
+use Rattle.loading.specs.File.{load, lent_bytes, Numbers, numbers_of}
 use Rattle.machine.specs.Bytes.{count}
 use Rattle.bytewise.specs.ByteCalls.{Slice, ByteCalls}
 
@@ -9,8 +9,8 @@ use Rattle.bytewise.specs.ByteCalls.{Slice, ByteCalls}
 pub record Loads (file lent table : List ℕ) (x : Numbers) : Type 0 where
   pub source : Slice file
   pub buffer : Slice lent
-  pub numbers : x ≡ numbersOf (load file (count lent))
-  pub bytes : table ≡ lentBytes (load file (count lent)) lent
+  pub numbers : x ≡ numbers_of (load file (count lent))
+  pub bytes : table ≡ lent_bytes (load file (count lent)) lent
 
 -- "no walk begun afresh on a taken table, its calls as in demand 3, answers 37"
 abbrev pub NeverBytes37 : List ℕ → Type 0

@@ -9,14 +9,15 @@ use lib.Dec.{eqb}
 use lib.ListN.{length, get_or, drop, replicate, drop_of_length-le, length-replicate}
 use lib.Seq.{drop-cons}
 use Rattle.base.proofs.Laws.{zeros-at}
-use Rattle.base.specs.Common.{if◌then◌else◌, member}
-use Rattle.carry.specs.Scan.{Expects, instruction, operand, label, expectsAfter, tablesAfter, sameScan}
-use Rattle.machine.proofs.Bytes.{length-wordsOf}
+use Rattle.std.specs.Prelude.{if◌then◌else◌}
+use Rattle.base.specs.Common.{member}
+use Rattle.carry.specs.Scan.{Expects, instruction, operand, label, expects_after, tables_after, same_scan}
+use Rattle.machine.proofs.Bytes.{length-words_of}
 use Rattle.machine.specs.Bytes.{count, words_of}
 use Rattle.scanner.proofs.WordLaws.{part_at}
 use Rattle.symbols.proofs.Parts.{part-whole}
 use Rattle.symbols.specs.Search.{part}
-use Rattle.carrier.specs.Going.{Is, Announced, expectsBy, wordsMeet, Follows, Meets, Tells}
+use Rattle.carrier.specs.Going.{Is, Announced, expects_by, words_meet, Follows, Meets, Tells}
 
 -- the rules' words are ws and vs, n each; the first o of them are the same, and the state is that of the scan there
 pub record Going (h : ℕ → ℕ → Bool) (ws vs : List ℕ) (n o kind left : ℕ) (flags : List ℕ) : Type 0 where
@@ -27,7 +28,7 @@ pub record Going (h : ℕ → ℕ → Bool) (ws vs : List ℕ) (n o kind left : 
   pub flagged : Announced flags tables
   pub low : o ≤ n
   pub lengths : (length ws ≡ n) × (length vs ≡ n)
-  pub rest : sameScan h tables o expects (drop o ws) (drop o vs) ≡ sameScan h [] 0 instruction ws vs
+  pub rest : same_scan h tables o expects (drop o ws) (drop o vs) ≡ same_scan h [] 0 instruction ws vs
 
 pub going-first : (h : ℕ → ℕ → Bool) (ws vs : List ℕ) (n : ℕ) → length ws ≡ n → length vs ≡ n → Going h ws vs n 0 0 0 (replicate 4096 0)
 unfolding Is
@@ -47,14 +48,14 @@ going-first h ws vs n e f = record {
 
 -- one word more
 module _ {h : ℕ → ℕ → Bool} {ws vs : List ℕ} {n o kind left : ℕ} {flags : List ℕ} (g : Going h ws vs n o kind left flags) (l : o < n) (w v : ℕ) (dw : w ≡ get_or ws o 0) (dv : v ≡ get_or vs o 0) where
-  here-step : sameScan h g.tables o g.expects (drop o ws) (drop o vs)
-      ≡ (if wordsMeet (h w v) g.expects w v then sameScan h (tablesAfter g.tables o g.expects w) (suc o) (expectsAfter g.tables o g.expects w) (drop (suc o) ws) (drop (suc o) vs) else false)
-  unfolding sameScan wordsMeet
+  here-step : same_scan h g.tables o g.expects (drop o ws) (drop o vs)
+      ≡ (if words_meet (h w v) g.expects w v then same_scan h (tables_after g.tables o g.expects w) (suc o) (expects_after g.tables o g.expects w) (drop (suc o) ws) (drop (suc o) vs) else false)
+  unfolding same_scan words_meet
   here-step = rw (drop-cons ws o 0 (omega (arith, g.lengths.0, l)), drop-cons vs o 0 (omega (arith, g.lengths.1, l)), ← dw, ← dv) refl
 
-  pub going-not : (r : Bool) → Meets (h w v) kind left w v r → r ≡ false → false ≡ sameScan h [] 0 instruction ws vs
+  pub going-not : (r : Bool) → Meets (h w v) kind left w v r → r ≡ false → false ≡ same_scan h [] 0 instruction ws vs
   going-not r m f =
-      let z : wordsMeet (h w v) g.expects w v ≡ false = sym (m.as_is g.expects g.is) ∙ f in
+      let z : words_meet (h w v) g.expects w v ≡ false = sym (m.as_is g.expects g.is) ∙ f in
       sym (here-step ∙ rw z refl) ∙ g.rest
 
   -- a choice table stands here
@@ -67,8 +68,8 @@ module _ {h : ℕ → ℕ → Bool} {ws vs : List ℕ} {n o kind left : ℕ} {fl
       go true = refl
       go false = refl
 
-  expects-is : (ts : List ℕ) (e : Expects) → expectsBy (member o ts) e w ≡ expectsAfter ts o e w
-  unfolding expectsBy expectsAfter
+  expects-is : (ts : List ℕ) (e : Expects) → expects_by (member o ts) e w ≡ expects_after ts o e w
+  unfolding expects_by expects_after
   expects-is ts instruction = refl
   expects-is ts (operand i) = refl
   expects-is ts (label k) = refl
@@ -76,13 +77,13 @@ module _ {h : ℕ → ℕ → Bool} {ws vs : List ℕ} {n o kind left : ℕ} {fl
   pub going_next : (r : Bool) (t : ℕ) (b : Bool) (kind' left' : ℕ) (flags' : List ℕ) → Meets (h w v) kind left w v r → r ≡ true → n ≤ 4096 → t ≡ get_or flags o 0 → b ≡ eqb t 1
       → Tells flags o kind left w flags' → Follows b kind left w kind' left' → Going h ws vs n (o + 1) kind' left' flags'
   going_next r t b kind' left' flags' m f s d e told fol =
-      let z : wordsMeet (h w v) g.expects w v ≡ true = sym (m.as_is g.expects g.is) ∙ f in
+      let z : words_meet (h w v) g.expects w v ≡ true = sym (m.as_is g.expects g.is) ∙ f in
       let y : b ≡ member o g.tables = flag_is t d s b e in
-      let x : expectsBy b g.expects w ≡ expectsAfter g.tables o g.expects w = ap (λ (q : Bool). expectsBy q g.expects w) y ∙ expects-is g.tables g.expects in
-      let k : Is kind' left' (expectsAfter g.tables o g.expects w) = rw x at (fol.to g.expects g.is) in
+      let x : expects_by b g.expects w ≡ expects_after g.tables o g.expects w = ap (λ (q : Bool). expects_by q g.expects w) y ∙ expects-is g.tables g.expects in
+      let k : Is kind' left' (expects_after g.tables o g.expects w) = rw x at (fol.to g.expects g.is) in
       record {
-        tables = tablesAfter g.tables o g.expects w;
-        expects = expectsAfter g.tables o g.expects w;
+        tables = tables_after g.tables o g.expects w;
+        expects = expects_after g.tables o g.expects w;
         is = k;
         long = told.long ∙ g.long;
         flagged = told.told g.tables g.expects g.is g.long g.flagged;
@@ -91,8 +92,8 @@ module _ {h : ℕ → ℕ → Bool} {ws vs : List ℕ} {n o kind left : ℕ} {fl
         rest = rw (add-one o) (sym (here-step ∙ rw z refl) ∙ g.rest);
       }
 
-pub going_end : {h : ℕ → ℕ → Bool} {ws vs : List ℕ} {n o kind left : ℕ} {flags : List ℕ} → Going h ws vs n o kind left flags → n ≤ o → true ≡ sameScan h [] 0 instruction ws vs
-unfolding sameScan
+pub going_end : {h : ℕ → ℕ → Bool} {ws vs : List ℕ} {n o kind left : ℕ} {flags : List ℕ} → Going h ws vs n o kind left flags → n ≤ o → true ≡ same_scan h [] 0 instruction ws vs
+unfolding same_scan
 going_end {h} {ws} {vs} {n} {o} g l =
     let a : length ws ≤ o = omega (arith, g.lengths.0, l) in
     let b : length vs ≤ o = omega (arith, g.lengths.1, l) in
@@ -100,7 +101,7 @@ going_end {h} {ws} {vs} {n} {o} g l =
 
 -- the words of a rule in its table
 pub rule-length : (a : List ℕ) (i n : ℕ) → i + n ≤ count a → length (part (words_of a) i n) ≡ n
-rule-length a i n h = sym (part-whole (words_of a) i n (omega (arith, length-wordsOf a, h)))
+rule-length a i n h = sym (part-whole (words_of a) i n (omega (arith, length-words_of a, h)))
 
 pub rule-word : (a : List ℕ) (i n o w : ℕ) → o < n → w ≡ get_or (words_of a) (i + o) 0 → w ≡ get_or (part (words_of a) i n) o 0
 rule-word a i n o w l d = d ∙ sym (part_at (words_of a) i n o l)

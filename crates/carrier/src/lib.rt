@@ -3,11 +3,11 @@ ghost use Rattle.std.specs.Prelude.{◌≡◌, ◌+◌, ◌*◌, ◌<◌, ◌≤
 ghost use Rattle.base.specs.Common.{same};
 ghost use Rattle.carry.specs.Carry.{same_name};
 ghost use Rattle.machine.specs.Bytes.{count, words_of};
-ghost use Rattle.carrier.specs.Held.{countHeld, sizeHeld, ruleHeld, nameHeld, callsHeld, findHeld, endHeld, Laid, wordsHeld, placeHeld};
+ghost use Rattle.carrier.specs.Held.{count_held, size_held, rule_held, name_held, calls_held, find_held, end_held, Laid, words_held, place_held};
 ghost use Rattle.carrier.specs.Going.{Is, Follows, Meets, Tells};
 ghost use Rattle.carrier.specs.Sections.{Sections};
 ghost use Rattle.carrier.specs.Walks.{CarriesWalk};
-ghost use Rattle.carry.specs.Scan.{instruction, labelsLeft, sameScan};
+ghost use Rattle.carry.specs.Scan.{instruction, labels_left, same_scan};
 ghost use Rattle.symbols.specs.Search.{part};
 
 use walker::Walk;
@@ -71,7 +71,7 @@ fn same_parts(a: &[u8], i: usize, ilen: usize, b: &[u8], j: usize, jlen: usize) 
 // The names of rule i of one program and of rule j of the other are the same.
 fn same_names(old: &[u8], sheet: &[u16], i: usize, new: &[u8], other: &[u16], j: usize) -> bool
     requires { (i < 128) × (j < 128) }
-    ensures { result ≡ same_name (nameHeld old.now sheet.now i) (nameHeld new.now other.now j) }
+    ensures { result ≡ same_name (name_held old.now sheet.now i) (name_held new.now other.now j) }
 {
     let a = ROW * i;
     let b = ROW * j;
@@ -107,8 +107,8 @@ fn same_names(old: &[u8], sheet: &[u16], i: usize, new: &[u8], other: &[u16], j:
 
 // The rule in which the location l lies, or none.
 fn rule_at(sheet: &[u16], l: usize) -> usize
-    requires { countHeld sheet.now ≤ 128 }
-    ensures { (result ≡ ruleHeld sheet.now l) × (result ≤ 128) }
+    requires { count_held sheet.now ≤ 128 }
+    ensures { (result ≡ rule_held sheet.now l) × (result ≤ 128) }
 {
     if l == 0 {
         return NO_RULE;
@@ -128,8 +128,8 @@ fn rule_at(sheet: &[u16], l: usize) -> usize
 
 // Behind the last word of rule i.
 fn end_of(sheet: &[u16], i: usize) -> usize
-    requires { (i < 128) × (sizeHeld sheet.now ≤ 4096) }
-    ensures { (result ≡ endHeld sheet.now i) × (result < 65536) }
+    requires { (i < 128) × (size_held sheet.now ≤ 4096) }
+    ensures { (result ≡ end_held sheet.now i) × (result < 65536) }
 {
     if i + 1 < base::number(sheet, COUNT) {
         return base::number(sheet, ROW * (i + 1));
@@ -139,8 +139,8 @@ fn end_of(sheet: &[u16], i: usize) -> usize
 
 // The rule of the other program that has the name of rule i, or none.
 fn rule_named(old: &[u8], sheet: &[u16], i: usize, new: &[u8], other: &[u16]) -> usize
-    requires { (i < 128) × (countHeld other.now ≤ 128) }
-    ensures { (result ≡ findHeld old.now sheet.now i new.now other.now (countHeld other.now) 0) × (result ≤ 128) }
+    requires { (i < 128) × (count_held other.now ≤ 128) }
+    ensures { (result ≡ find_held old.now sheet.now i new.now other.now (count_held other.now) 0) × (result ≤ 128) }
 {
     let n = base::number(other, COUNT);
     let mut j: usize = 0;
@@ -155,8 +155,8 @@ fn rule_named(old: &[u8], sheet: &[u16], i: usize, new: &[u8], other: &[u16]) ->
 
 // The rules in which two locations lie have one name.
 fn calls_meet(old: &[u8], sheet: &[u16], new: &[u8], other: &[u16], x: usize, y: usize) -> bool
-    requires { (countHeld sheet.now ≤ 128) × (countHeld other.now ≤ 128) }
-    ensures { result ≡ callsHeld old.now sheet.now new.now other.now x y }
+    requires { (count_held sheet.now ≤ 128) × (count_held other.now ≤ 128) }
+    ensures { result ≡ calls_held old.now sheet.now new.now other.now x y }
 {
     let i = rule_at(sheet, x);
     if i == NO_RULE {
@@ -192,7 +192,7 @@ const CHOICE: usize = machine::CHOICE as usize;
 
 // So many words of a choice table.
 fn labels(n: usize) -> Next
-    ensures { Is result.kind result.left (labelsLeft n) }
+    ensures { Is result.kind result.left (labels_left n) }
 {
     if n == 0 {
         return Next {
@@ -264,8 +264,8 @@ fn announce(flags: &mut [u8], o: usize, n: Next, w: u16)
 
 // Two words: those of a call by the names of the rules in which they lie, any others as they are.
 fn words_meet(old: &[u8], sheet: &[u16], new: &[u8], other: &[u16], n: Next, w: u16, v: u16) -> bool
-    requires { (countHeld sheet.now ≤ 128) × (countHeld other.now ≤ 128) }
-    ensures { Meets (callsHeld old.now sheet.now new.now other.now w v) n.kind n.left w v result }
+    requires { (count_held sheet.now ≤ 128) × (count_held other.now ≤ 128) }
+    ensures { Meets (calls_held old.now sheet.now new.now other.now w v) n.kind n.left w v result }
 {
     if n.kind != OPERAND {
         return w == v;
@@ -294,8 +294,8 @@ pub fn same_words(
     new: &[u8],
     other: &[u16],
 ) -> bool
-    requires { (span.i + span.n ≤ count a.now) × (span.j + span.n ≤ count b.now) × (span.n ≤ 4096) × (span.i ≤ 4096) × (span.j ≤ 4096) × (countHeld sheet.now ≤ 128) × (countHeld other.now ≤ 128) }
-    ensures { result ≡ sameScan (callsHeld old.now sheet.now new.now other.now) [] 0 instruction (part (words_of a.now) span.i span.n) (part (words_of b.now) span.j span.n) }
+    requires { (span.i + span.n ≤ count a.now) × (span.j + span.n ≤ count b.now) × (span.n ≤ 4096) × (span.i ≤ 4096) × (span.j ≤ 4096) × (count_held sheet.now ≤ 128) × (count_held other.now ≤ 128) }
+    ensures { result ≡ same_scan (calls_held old.now sheet.now new.now other.now) [] 0 instruction (part (words_of a.now) span.i span.n) (part (words_of b.now) span.j span.n) }
 {
     let mut flags = [0u8; 4096];
     let mut next = Next {
@@ -337,8 +337,8 @@ fn same_rules(
     other: &[u16],
     pair: Pair,
 ) -> bool
-    requires { Laid sheet.now a.now × Laid other.now b.now × (pair.i < countHeld sheet.now) × (pair.j < countHeld other.now) }
-    ensures { result ≡ wordsHeld a.now b.now old.now sheet.now new.now other.now pair.i pair.j }
+    requires { Laid sheet.now a.now × Laid other.now b.now × (pair.i < count_held sheet.now) × (pair.j < count_held other.now) }
+    ensures { result ≡ words_held a.now b.now old.now sheet.now new.now other.now pair.i pair.j }
 {
     let i = pair.i;
     let j = pair.j;
@@ -368,7 +368,7 @@ pub fn carry_place(
     l: usize,
 ) -> usize
     requires { Laid sheet.now a.now × Laid other.now b.now }
-    ensures { (result ≡ placeHeld a.now b.now old.now sheet.now new.now other.now l) × (result < 65536) }
+    ensures { (result ≡ place_held a.now b.now old.now sheet.now new.now other.now l) × (result < 65536) }
 {
     let i = rule_at(sheet, l);
     if i == NO_RULE {

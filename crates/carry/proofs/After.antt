@@ -11,22 +11,22 @@ use native.Mathlib.Omega.{arith}
 use lib.ListN.{length}
 use Rattle.agreement.proofs.Agree.{Same, same-events, same-stopped, stopped-same, never-outside, near, near_same, all, ahead}
 use Rattle.agreement.proofs.Laid.{program-laid}
-use Rattle.agreement.proofs.Lists.{withEvents, step-asked, going-stopped, going-waiting, waiting-stopped, Kept, runs-suc, one-going, Where, lives, left, waits, listed-from, Awaits, still, answered, listed-awaits, number-37}
+use Rattle.agreement.proofs.Lists.{with_events, step-asked, going-stopped, going-waiting, waiting-stopped, Kept, runs-suc, one-going, Where, lives, left, waits, listed-from, Awaits, still, answered, listed-awaits, number-37}
 use Rattle.agreement.proofs.MoreAnswers.{one_more, alike_from}
-use Rattle.agreement.proofs.Single.{taking, done, oneIn, one, runs}
+use Rattle.agreement.proofs.Single.{taking, done, one_in, one, runs}
 use Rattle.agreement.proofs.Theorem.{stays, later}
-use Rattle.agreement.specs.Demand.{eventsOf, wanted, Allowed, ListedFrom, begin, then-call, HasStopped}
+use Rattle.agreement.specs.Demand.{events_of, wanted, Allowed, ListedFrom, begin, then_call, HasStopped}
 use Rattle.carry.proofs.Found.{Spot}
 use Rattle.carry.proofs.Lists.{none-some}
 use Rattle.carry.specs.GoingOn.{StopsFrom, WritesFrom, EndsBy, Follows, after}
-use Rattle.carry.specs.Places.{Within, at-start, behind-value, behind-parameter, at_default, behind-repair}
+use Rattle.carry.specs.Places.{Within, at_start, behind_value, behind_parameter, at_default, behind_repair}
 use Rattle.events.specs.Events as events
 use Rattle.events.specs.Events.{Event, Reason, outside, choices, Io}
-use Rattle.machine.specs.Call.{Mode, whole, paused, Called, writing, call_in, callWalk}
+use Rattle.machine.specs.Call.{Mode, whole, paused, Called, writing, call_in, call_walk}
 use Rattle.machine.specs.Decode.{decode}
-use Rattle.machine.specs.Step.{Next, goesOutside, exec, step}
+use Rattle.machine.specs.Step.{Next, goes_outside, exec, step}
 use Rattle.machine.specs.Walk
-use Rattle.machine.specs.Walk.{Phase, going, waiting, stopped, Walk, withIo, inPhase, withAnswer}
+use Rattle.machine.specs.Walk.{Phase, going, waiting, stopped, Walk, with_io, in_phase, with_answer}
 use Rattle.ownwalk.specs.OwnWalk as rules
 use Rattle.ownwalk.specs.OwnWalk.{Own, owns}
 use Rattle.program.specs.Accepted.{Accepted}
@@ -41,12 +41,12 @@ pub record Steps (T tokens : List ℕ) (at w : Walk) : Type 0 where
 
 pub within-steps : {T tokens : List ℕ} {at w : Walk} → Within T tokens at w → at.phase ≡ going → Steps T tokens at w
 unfolding runs done step exec
-within-steps at-start g = record { count = 0; leads = λ answers. refl }
-within-steps {T} {tokens} {at} (behind-value v d) g = record { count = 1; leads = λ answers. one-going T tokens answers at g ∙ rw d }
-within-steps {T} {tokens} {at} (behind-parameter v d) g = record { count = 1; leads = λ answers. one-going T tokens answers at g ∙ rw d }
+within-steps at_start g = record { count = 0; leads = λ answers. refl }
+within-steps {T} {tokens} {at} (behind_value v d) g = record { count = 1; leads = λ answers. one-going T tokens answers at g ∙ rw d }
+within-steps {T} {tokens} {at} (behind_parameter v d) g = record { count = 1; leads = λ answers. one-going T tokens answers at g ∙ rw d }
 within-steps {T} {tokens} {at} (at_default {w = w} d e) g =
     record { count = 1; leads = λ answers. one-going T tokens answers at g ∙ ap (λ (nx : Next). done T tokens answers nx at) e }
-within-steps {T} {tokens} {at} (behind-repair {w = w} t d e g₂ f) g =
+within-steps {T} {tokens} {at} (behind_repair {w = w} t d e g₂ f) g =
     record {
       count = 2;
       leads = λ answers. ap (one T tokens answers) (one-going T tokens answers at g ∙ ap (λ (nx : Next). done T tokens answers nx at) e)
@@ -91,22 +91,22 @@ module _ (prog : List Rule) (more tokens : List ℕ) (ok : Accepted prog) (w₁ 
     abbrev Led : Walk → List Event → ℕ → Type 0
     Led = Where T tokens answers w₁ kept₁
 
-    no-way-out : {A : Type 0} (k : ℕ) → (runs T tokens answers k w₁).phase ≡ going → step T tokens (runs T tokens answers k w₁) ≡ goesOutside → A
-    unfolding done inPhase
+    no-way-out : {A : Type 0} (k : ℕ) → (runs T tokens answers k w₁).phase ≡ going → step T tokens (runs T tokens answers k w₁) ≡ goes_outside → A
+    unfolding done in_phase
     no-way-out k h e =
         let x = same_after answers (suc k) in
         let w = runs T tokens answers k w₁ in
-        let y : runs T tokens answers (suc k) w₁ ≡ done T tokens answers goesOutside w =
+        let y : runs T tokens answers (suc k) w₁ ≡ done T tokens answers goes_outside w =
         runs-suc T tokens answers k w₁ ∙ one-going T tokens answers w h ∙ ap (λ (nx : Next). done T tokens answers nx w) e in
         absurd (never-outside x.1 (ap (λ (v : Walk). v.phase) y))
 
     led-events : {w : Walk} {es : List Event} {n : ℕ} → Led w es n → (w.phase ≡ waiting → ⊥) → WritesFrom prog tokens answers s es
-    unfolding withEvents withIo
+    unfolding with_events with_io
     led-events {w} {es} {n} (lives x d mv) h =
         let y = same_after answers n in
         record { steps = y.0; begins = record { rest = []; whole = same-events y.1 ∙ ap (λ (v : Walk). v.io.events) (sym d) ∙ sym (append-nil es) } }
     led-events (left x y z d) h = no-way-out _ y z
-    led-events (waits k v v' e d y z r m t) h = absurd (h (ap (λ (u : Walk). u.phase) t ∙ unfold inPhase in refl))
+    led-events (waits k v v' e d y z r m t) h = absurd (h (ap (λ (u : Walk). u.phase) t ∙ unfold in_phase in refl))
 
     led-waiting : {w : Walk} {es : List Event} {n : ℕ} → Led w es n → w.phase ≡ waiting → (x : ℕ) → WritesFrom prog tokens (answers ++ (x ∷ [])) s es
     unfolding done taking writing Walk.opened events.wrote events.answered
@@ -117,7 +117,7 @@ module _ (prog : List Rule) (more tokens : List ℕ) (ok : Accepted prog) (w₁ 
         let a = alike_from T tokens answers x w₁ few k g₁ in
         let y = one_more answers x (choices v.io.events) (rw d at a.taken) in
         let f = step-asked T tokens v v' e z in
-        let r : runs T tokens (answers ++ (x ∷ [])) (suc k) w₁ ≡ withAnswer y.0 (writing e v') =
+        let r : runs T tokens (answers ++ (x ∷ [])) (suc k) w₁ ≡ with_answer y.0 (writing e v') =
         runs-suc T tokens (answers ++ (x ∷ [])) k w₁ ∙ ap (one T tokens (answers ++ (x ∷ []))) (a.same ∙ d)
         ∙ one-going T tokens (answers ++ (x ∷ [])) v g ∙ ap (λ (nx : Next). done T tokens (answers ++ (x ∷ [])) nx v) z
         ∙ ap (λ (o : Option ℕ). taking o e v' v) y.1 in
@@ -126,14 +126,14 @@ module _ (prog : List Rule) (more tokens : List ℕ) (ok : Accepted prog) (w₁ 
         record { steps = b.0; begins = record { rest = []; whole = same-events b.1 ∙ ap (λ (u : Walk). u.io.events) r ∙ t ∙ sym (append-nil es) } }
 
     led-outside : {w : Walk} {es : List Event} {n : ℕ} → Led w es n → w.phase ≡ stopped outside → ⊥
-    unfolding withEvents withIo
+    unfolding with_events with_io
     led-outside {n = n} (lives x d mv) h = never-outside (same_after answers n).1 (ap (λ (v : Walk). v.phase) (sym d) ∙ h)
     led-outside (left x y z d) h = no-way-out _ y z
-    led-outside (waits k v v' e d y z r m t) h = waiting-stopped (ap (λ (u : Walk). u.phase) t ∙ unfold inPhase in refl) h
+    led-outside (waits k v v' e d y z r m t) h = waiting-stopped (ap (λ (u : Walk). u.phase) t ∙ unfold in_phase in refl) h
 
     led-stops : {w : Walk} {es : List Event} {n : ℕ} {r : Reason} → Led w es n → w.phase ≡ stopped r
         → StopsFrom prog tokens answers s r (record { read = w.io.read; used = w.io.used; allowance = w.io.allowance; events = es })
-    unfolding withEvents withIo inPhase
+    unfolding with_events with_io in_phase
     led-stops {w} {es} {n} {r} (lives x d mv) h =
         let y = same_after answers n in
         record { steps = y.0; stop = same-stopped y.1 (ap (λ (v : Walk). v.phase) (sym d) ∙ h) ∙ ap (λ (v : Walk). rules.stopped r v.io) (sym d) }
@@ -142,7 +142,7 @@ module _ (prog : List Rule) (more tokens : List ℕ) (ok : Accepted prog) (w₁ 
 
     -- once single steps have stopped, every longer list has
     led-ends : (k b : ℕ) (r : Reason) → k < b → ((n : ℕ) → k ≤ n → (runs T tokens answers n w₁).phase ≡ stopped r) → {w : Walk} {es : List Event} {n : ℕ} → Led w es n → HasStopped w ⊎ (n < b)
-    unfolding withEvents withIo
+    unfolding with_events with_io
     led-ends k b r h f {n = n} l = elim (dec_lt n b) [ yes y ↦ inr y | no y ↦ inl (go l (omega arith)) ]
       where
         go : {w : Walk} {es : List Event} {n : ℕ} → Led w es n → k < n → HasStopped w
@@ -156,15 +156,15 @@ module _ (prog : List Rule) (more tokens : List ℕ) (ok : Accepted prog) (w₁ 
 
     -- A list that begins with the walk itself
 
-    module _ (w₀ : Walk) (es₀ : List Event) (g : w₀.phase ≡ going) (is : withEvents es₀ w₀ ≡ w₁) where
+    module _ (w₀ : Walk) (es₀ : List Event) (g : w₀.phase ≡ going) (is : with_events es₀ w₀ ≡ w₁) where
       from-going : {w : Walk} {es : List Event} {n : ℕ} {ns : List ℕ} → ListedFrom T tokens answers w₀ es₀ w es n ns → Led w es n
       from-going l = listed-from T tokens answers w₁ kept₁ (going-waiting g) is l
 
       pub follows-going : Follows prog T tokens answers s w₀ es₀
       follows-going = record {
         events = λ l h. led-events (from-going l) h;
-        events-waiting = λ l h x. led-waiting (from-going l) h x;
-        never-37 = λ l e. led-outside (from-going l) (number-37 T tokens answers l e);
+        events_waiting = λ l h x. led-waiting (from-going l) h x;
+        never_37 = λ l e. led-outside (from-going l) (number-37 T tokens answers l e);
         stops = λ l h. led-stops (from-going l) h;
         budget = λ {r} {io} f. (3 * f.steps + 1, λ w es n ns l. led-budget f.steps r io f.stop (3 * f.steps + 1) (omega arith) (from-going l));
       }
@@ -174,7 +174,7 @@ module _ (prog : List Rule) (more tokens : List ℕ) (ok : Accepted prog) (w₁ 
 
     -- A list that begins with a walk that waits: w₁ is that walk with its answer
 
-    module _ (w₀ : Walk) (es₀ : List Event) (x₀ : ℕ) (g : w₀.phase ≡ waiting) (o : wanted answers es₀ ≡ some x₀) (is : withEvents es₀ (withAnswer x₀ w₀) ≡ w₁) where
+    module _ (w₀ : Walk) (es₀ : List Event) (x₀ : ℕ) (g : w₀.phase ≡ waiting) (o : wanted answers es₀ ≡ some x₀) (is : with_events es₀ (with_answer x₀ w₀) ≡ w₁) where
       from-waiting : {w : Walk} {es : List Event} {n : ℕ} {ns : List ℕ} → ListedFrom T tokens answers w₀ es₀ w es n ns → Awaits T tokens answers w₁ kept₁ w₀ es₀ w es n
       from-waiting l = listed-awaits T tokens answers w₁ kept₁ x₀ g o is l
 
@@ -182,7 +182,7 @@ module _ (prog : List Rule) (more tokens : List ℕ) (ok : Accepted prog) (w₁ 
       still-waits d = ap (λ (v : Walk). v.phase) d ∙ g
 
       events₀ : w₁.io.events ≡ es₀
-      unfolding withEvents Walk.opened
+      unfolding with_events Walk.opened
       events₀ = ap (λ (v : Walk). v.io.events) (sym is)
 
       w-events : {w : Walk} {es : List Event} {n : ℕ} → Awaits T tokens answers w₁ kept₁ w₀ es₀ w es n → (w.phase ≡ waiting → ⊥) → WritesFrom prog tokens answers s es
@@ -213,8 +213,8 @@ module _ (prog : List Rule) (more tokens : List ℕ) (ok : Accepted prog) (w₁ 
       pub follows-waiting : Follows prog T tokens answers s w₀ es₀
       follows-waiting = record {
         events = λ l h. w-events (from-waiting l) h;
-        events-waiting = λ l h x. w-waiting (from-waiting l) h x;
-        never-37 = λ l e. w-outside (from-waiting l) (number-37 T tokens answers l e);
+        events_waiting = λ l h x. w-waiting (from-waiting l) h x;
+        never_37 = λ l e. w-outside (from-waiting l) (number-37 T tokens answers l e);
         stops = λ l h. w-stops (from-waiting l) h;
         budget = λ {r} {io} f. (3 * f.steps + 1, λ w es n ns l. w-ends (3 * f.steps) (3 * f.steps + 1) r (omega arith) (λ m h. stop-after answers f.steps r io f.stop m h) (from-waiting l));
       }
@@ -240,21 +240,21 @@ module _ (T tokens answers : List ℕ) (w₀ : Walk) (es₀ : List Event) (r₀ 
   call_stays (paused (some x)) budget room (stopped r) q c d = rw d (record { walk = refl; events = append-nil es₀; steps = refl })
 
   pub listed-stays : {w : Walk} {es : List Event} {n : ℕ} {ns : List ℕ} → ListedFrom T tokens answers w₀ es₀ w es n ns → Stays w₀ es₀ w es n
-  unfolding callWalk
+  unfolding call_walk
   listed-stays begin = record { walk = refl; events = refl; steps = refl }
-  listed-stays (then-call {w = w} {es = es} {n = n} l m budget room a) =
+  listed-stays (then_call {w = w} {es = es} {n = n} l m budget room a) =
       let h = listed-stays l in
-      rw (h.walk, h.events, h.steps) (call_stays m budget room w₀.phase g (callWalk T tokens m budget room w₀) refl)
+      rw (h.walk, h.events, h.steps) (call_stays m budget room w₀.phase g (call_walk T tokens m budget room w₀) refl)
 
   same-reason : {r s : Reason} → stopped r ≡ stopped s → r ≡ s
   same-reason e = cc
 
   pub follows-stopped : (prog : List Rule) → (r₀ ≡ outside → ⊥) → Follows prog T tokens answers (rules.stopped r₀ (after es₀ w₀).io) w₀ es₀
-  unfolding owns eventsOf after Walk.opened
+  unfolding owns events_of after Walk.opened
   follows-stopped prog inside = record {
     events = λ {w} {es} l h. let x = listed-stays l in record { steps = 0; begins = record { rest = []; whole = sym x.events ∙ sym (append-nil es) } };
-    events-waiting = λ l h x. absurd (waiting-stopped h (ap (λ (v : Walk). v.phase) (listed-stays l).walk ∙ g));
-    never-37 = λ l e. let x = listed-stays l in let y = number-37 T tokens answers l e in inside (same-reason (sym g ∙ ap (λ (v : Walk). v.phase) (sym x.walk) ∙ y));
+    events_waiting = λ l h x. absurd (waiting-stopped h (ap (λ (v : Walk). v.phase) (listed-stays l).walk ∙ g));
+    never_37 = λ l e. let x = listed-stays l in let y = number-37 T tokens answers l e in inside (same-reason (sym g ∙ ap (λ (v : Walk). v.phase) (sym x.walk) ∙ y));
     stops = λ {w} {es} {n} {ns} {r} l h.
         let x = listed-stays l in
         let y : r₀ ≡ r = same-reason (sym g ∙ ap (λ (v : Walk). v.phase) (sym x.walk) ∙ h) in
@@ -277,11 +277,11 @@ module _ (T tokens answers : List ℕ) (w₀ : Walk) (es₀ : List Event) (g : w
   call-idle (paused (some x)) budget room waiting q a c d = none-some (sym o ∙ a)
 
   stays-idle : {w : Walk} {es : List Event} {n : ℕ} {ns : List ℕ} → ListedFrom T tokens answers w₀ es₀ w es n ns → Stays w₀ es₀ w es n
-  unfolding callWalk
+  unfolding call_walk
   stays-idle begin = record { walk = refl; events = refl; steps = refl }
-  stays-idle (then-call {w = w} {es = es} {n = n} l m budget room a) =
+  stays-idle (then_call {w = w} {es = es} {n = n} l m budget room a) =
       let h = stays-idle l in
-      rw (h.walk, h.events, h.steps) (call-idle m budget room w₀.phase g (rw (h.walk, h.events) at a) (callWalk T tokens m budget room w₀) refl)
+      rw (h.walk, h.events, h.steps) (call-idle m budget room w₀.phase g (rw (h.walk, h.events) at a) (call_walk T tokens m budget room w₀) refl)
 
   pub listed-idle : {w : Walk} {es : List Event} {n : ℕ} {ns : List ℕ} → ListedFrom T tokens answers w₀ es₀ w es n ns → n ≡ 0
   listed-idle l = (stays-idle l).steps

@@ -9,19 +9,19 @@ use native.Mathlib.Omega.{arith}
 use lib.ListN.{length, get_elem?}
 use Rattle.agreement.proofs.Agree.{agree, never-outside}
 use Rattle.agreement.proofs.BoundWalk.{budget}
-use Rattle.agreement.proofs.Lists.{withEvents, step-asked, choices-asked, wanted-asked, asked-next, Kept, kept-runs, kept_fresh, runs-suc, one-going, Where, lives, left, waits, listed-where, going-stopped, going-waiting, waiting-stopped}
+use Rattle.agreement.proofs.Lists.{with_events, step-asked, choices-asked, wanted-asked, asked-next, Kept, kept-runs, kept_fresh, runs-suc, one-going, Where, lives, left, waits, listed-where, going-stopped, going-waiting, waiting-stopped}
 use Rattle.agreement.proofs.MoreAnswers.{kept-answer, one_more, alike}
 use Rattle.agreement.proofs.Single.{taking, done, one, runs}
 use Rattle.agreement.proofs.Theorem.{no-way-out}
 use Rattle.agreement.specs.Demand.{wanted, Listed}
-use Rattle.base.specs.Common.{if◌then◌else◌}
+use Rattle.std.specs.Prelude.{if◌then◌else◌}
 use Rattle.carry.proofs.After.{follows-going, ends-going, follows-waiting, ends-waiting, follows-stopped, ends-stopped, listed-idle}
 use Rattle.carry.proofs.Ends.{ends-after}
 use Rattle.carry.proofs.Found.{carried-inj, no-stay, Spot, found_after}
 use Rattle.carry.proofs.Lists.{some_inj, none-some, Distinct}
 use Rattle.carry.proofs.Tokens.{runs-reads}
-use Rattle.carry.specs.Carry.{Source, carryPlace, beside, carryPlaces, Carried, carried, stays, put_at, sameAll, carry}
-use Rattle.carry.specs.GoingOn.{Kept as AllKept, Starts, starts-going, starts-waiting, starts-stopped, EndsBy, GoesOn, Carries, after}
+use Rattle.carry.specs.Carry.{Source, carry_place, beside, carry_places, Carried, carried, stays, put_at, same_all, carry}
+use Rattle.carry.specs.GoingOn.{Kept as AllKept, Starts, starts_going, starts_waiting, starts_stopped, EndsBy, GoesOn, Carries, after}
 use Rattle.carry.specs.Places.{Standing}
 use Rattle.events.specs.Events as events
 use Rattle.events.specs.Events.{Event, Reason, outside, choices, Io}
@@ -29,37 +29,37 @@ use Rattle.finishing.specs.Finishing.{Finishing}
 use Rattle.machine.specs.Call.{writing}
 use Rattle.machine.specs.Step.{asks, step}
 use Rattle.machine.specs.Walk
-use Rattle.machine.specs.Walk.{Phase, going, waiting, stopped, Walk, fresh, moved, withReturns, withIo, inPhase, withAnswer}
+use Rattle.machine.specs.Walk.{Phase, going, waiting, stopped, Walk, fresh, moved, with_returns, with_io, in_phase, with_answer}
 use Rattle.program.specs.Accepted.{Accepted}
 use Rattle.program.specs.Table.{table}
 
 -- carrying sees and changes places only; f changes what is no place
 module _ (p q : Source) (f : Walk → Walk) (same-location : (w : Walk) → (f w).location ≡ w.location) (same-returns : (w : Walk) → (f w).returns ≡ w.returns)
-    (apart : (l : ℕ) (rs : List ℕ) (w : Walk) → f (moved l (withReturns rs w)) ≡ moved l (withReturns rs (f w))) where
+    (apart : (l : ℕ) (rs : List ℕ) (w : Walk) → f (moved l (with_returns rs w)) ≡ moved l (with_returns rs (f w))) where
   carry-keeps : (w w' : Walk) → carry p q w ≡ carried w' → carry p q (f w) ≡ carried (f w')
   unfolding carry put_at
   carry-keeps w w' e =
-      ap (λ (l : ℕ). if sameAll p.sections q.sections then put_at (f w) (carryPlace p q l) (carryPlaces p q (f w).returns) else stays 51) (same-location w)
-      ∙ ap (λ (rs : List ℕ). if sameAll p.sections q.sections then put_at (f w) (carryPlace p q w.location) (carryPlaces p q rs) else stays 51) (same-returns w)
-      ∙ outer (sameAll p.sections q.sections) e
+      ap (λ (l : ℕ). if same_all p.sections q.sections then put_at (f w) (carry_place p q l) (carry_places p q (f w).returns) else stays 51) (same-location w)
+      ∙ ap (λ (rs : List ℕ). if same_all p.sections q.sections then put_at (f w) (carry_place p q w.location) (carry_places p q rs) else stays 51) (same-returns w)
+      ∙ outer (same_all p.sections q.sections) e
     where
       inner : (x : Option ℕ) (y : Option (List ℕ)) → put_at w x y ≡ carried w' → put_at (f w) x y ≡ carried (f w')
       inner none y e₁ = no-stay e₁
       inner (some x) none e₁ = no-stay e₁
       inner (some x) (some y) e₁ = ap carried (sym (apart x y w) ∙ ap f (carried-inj e₁))
 
-      outer : (t : Bool) → (if t then put_at w (carryPlace p q w.location) (carryPlaces p q w.returns) else stays 51) ≡ carried w'
-          → (if t then put_at (f w) (carryPlace p q w.location) (carryPlaces p q w.returns) else stays 51) ≡ carried (f w')
-      outer true e₁ = inner (carryPlace p q w.location) (carryPlaces p q w.returns) e₁
+      outer : (t : Bool) → (if t then put_at w (carry_place p q w.location) (carry_places p q w.returns) else stays 51) ≡ carried w'
+          → (if t then put_at (f w) (carry_place p q w.location) (carry_places p q w.returns) else stays 51) ≡ carried (f w')
+      outer true e₁ = inner (carry_place p q w.location) (carry_places p q w.returns) e₁
       outer false e₁ = no-stay e₁
 
 -- as many return locations as before
-places-length : (p q : Source) (ls ls' : List ℕ) → carryPlaces p q ls ≡ some ls' → length ls' ≡ length ls
-unfolding carryPlaces beside
+places-length : (p q : Source) (ls ls' : List ℕ) → carry_places p q ls ≡ some ls' → length ls' ≡ length ls
+unfolding carry_places beside
 places-length p q [] ls' e = let z : [] ≡ ls' = some_inj e in rw (← z)
-places-length p q (l ∷ ls) ls' e = go (carryPlace p q l) (carryPlaces p q ls) refl e (λ ms d. places-length p q ls ms d)
+places-length p q (l ∷ ls) ls' e = go (carry_place p q l) (carry_places p q ls) refl e (λ ms d. places-length p q ls ms d)
   where
-    go : (x : Option ℕ) (y : Option (List ℕ)) → carryPlaces p q ls ≡ y → beside x y ≡ some ls' → ((ms : List ℕ) → carryPlaces p q ls ≡ some ms → length ms ≡ length ls)
+    go : (x : Option ℕ) (y : Option (List ℕ)) → carry_places p q ls ≡ y → beside x y ≡ some ls' → ((ms : List ℕ) → carry_places p q ls ≡ some ms → length ms ≡ length ls)
         → length ls' ≡ length (l ∷ ls)
     go none y d e₁ ih = none-some e₁
     go (some x) none d e₁ ih = none-some e₁
@@ -67,14 +67,14 @@ places-length p q (l ∷ ls) ls' e = go (carryPlace p q l) (carryPlaces p q ls) 
 
 -- what the carried walk keeps
 pub keeping : (p q : Source) (w w' : Walk) → carry p q w ≡ carried w' → AllKept w w'
-unfolding carry put_at moved withReturns
-keeping p q w w' c = outer (sameAll p.sections q.sections) c
+unfolding carry put_at moved with_returns
+keeping p q w w' c = outer (same_all p.sections q.sections) c
   where
-    inner : (x : Option ℕ) (y : Option (List ℕ)) → carryPlaces p q w.returns ≡ y → put_at w x y ≡ carried w' → AllKept w w'
+    inner : (x : Option ℕ) (y : Option (List ℕ)) → carry_places p q w.returns ≡ y → put_at w x y ≡ carried w' → AllKept w w'
     inner none y d e = no-stay e
     inner (some x) none d e = no-stay e
     inner (some x) (some y) d e =
-        let z : moved x (withReturns y w) ≡ w' = carried-inj e in
+        let z : moved x (with_returns y w) ≡ w' = carried-inj e in
         record {
           phase = ap (λ (v : Walk). v.phase) (sym z);
           depth = ap (λ (v : Walk). length v.returns) (sym z) ∙ places-length p q w.returns y d;
@@ -83,8 +83,8 @@ keeping p q w w' c = outer (sameAll p.sections q.sections) c
           io = ap (λ (v : Walk). v.io) (sym z);
         }
 
-    outer : (t : Bool) → (if t then put_at w (carryPlace p q w.location) (carryPlaces p q w.returns) else stays 51) ≡ carried w' → AllKept w w'
-    outer true e = inner (carryPlace p q w.location) (carryPlaces p q w.returns) refl e
+    outer : (t : Bool) → (if t then put_at w (carry_place p q w.location) (carry_places p q w.returns) else stays 51) ≡ carried w' → AllKept w w'
+    outer true e = inner (carry_place p q w.location) (carry_places p q w.returns) refl e
     outer false e = no-stay e
 
 -- Two programs
@@ -131,30 +131,30 @@ module _ (p q : Source) (ok : Accepted p.rules) (ok' : Accepted q.rules) (dp : D
     Led = Where T tokens answers (fresh allowance) (kept_fresh allowance) w es n
 
     -- one that goes on
-    pub begun-going : w.phase ≡ going → Begun answers (withEvents es w')
-    unfolding withEvents withIo moved withReturns inPhase
+    pub begun-going : w.phase ≡ going → Begun answers (with_events es w')
+    unfolding with_events with_io moved with_returns in_phase
     begun-going g = go (listed-where T tokens answers allowance l)
       where
-        go : Led → Begun answers (withEvents es w')
+        go : Led → Begun answers (with_events es w')
         go (lives x d mv) =
             let g₁ : (runs T tokens answers n (fresh allowance)).phase ≡ going = ap (λ (v : Walk). v.phase) (sym d) ∙ g in
-            begun-after answers allowance n (withEvents es w') g₁ (alike T tokens answers 0 allowance n g₁).taken
-            (ap (carry p q) (sym d) ∙ carry-keeps p q (withEvents es) (λ _. refl) (λ _. refl) (λ _ _ _. refl) w w' c)
+            begun-after answers allowance n (with_events es w') g₁ (alike T tokens answers 0 allowance n g₁).taken
+            (ap (carry p q) (sym d) ∙ carry-keeps p q (with_events es) (λ _. refl) (λ _. refl) (λ _ _ _. refl) w w' c)
         go (left x y z d) = absurd (going-stopped g x)
         go (waits k v v' e d y s r m t) = absurd (going-waiting g (ap (λ (u : Walk). u.phase) t))
 
     -- one that waits: by these answers, with which single steps come to the same question, and which have one for it
     answering : (given : List ℕ) (x : ℕ) (k : ℕ) (v v' : Walk) (e : Event) → runs T tokens given k (fresh allowance) ≡ v → v.phase ≡ going → step T tokens v ≡ asks e v'
-        → es ≡ v.io.events ++ (e ∷ []) → w ≡ inPhase waiting (withEvents [] v') → get_elem? given (choices v.io.events) ≡ some x → Begun given (withEvents es (withAnswer x w'))
-    unfolding taking writing Walk.opened events.wrote events.answered withEvents
+        → es ≡ v.io.events ++ (e ∷ []) → w ≡ in_phase waiting (with_events [] v') → get_elem? given (choices v.io.events) ≡ some x → Begun given (with_events es (with_answer x w'))
+    unfolding taking writing Walk.opened events.wrote events.answered with_events
     answering given x k v v' e d y s r t o =
         let asked = step-asked T tokens v v' e s in
         let keeps = asked.keeps in
-        let z : runs T tokens given (suc k) (fresh allowance) ≡ withAnswer x (writing e v') =
+        let z : runs T tokens given (suc k) (fresh allowance) ≡ with_answer x (writing e v') =
         asked-next T tokens given (fresh allowance) (kept_fresh allowance) k v v' e es d y s r
         ∙ ap (λ u. taking u e v' v) (ap (wanted given) r ∙ wanted-asked given v.io.events e asked.choice ∙ o) in
         let ev : es ≡ v'.io.events ++ (e ∷ []) = r ∙ ap (λ (k : List Event). k ++ (e ∷ [])) (sym keeps.events) in
-        let i : f w ≡ withAnswer x (writing e v') = ap f t ∙ ap (λ (k : List Event). withEvents k (withAnswer x v')) ev in
+        let i : f w ≡ with_answer x (writing e v') = ap f t ∙ ap (λ (k : List Event). with_events k (with_answer x v')) ev in
         let c₁ : choices es ≡ choices v.io.events + 1 = ap choices r ∙ choices-asked v.io.events e asked.choice in
         let few : choices (runs T tokens given (suc k) (fresh allowance)).io.events ≤ length given =
         rw (z, ← ev, c₁) (omega (arith, (kept-answer given 0 (choices v.io.events) x o).1)) in
@@ -162,12 +162,12 @@ module _ (p q : Source) (ok : Accepted p.rules) (ok' : Accepted q.rules) (dp : D
         (ap (carry p q) (z ∙ sym i) ∙ carry-keeps p q f (λ _. refl) (λ _. refl) (λ _ _ _. refl) w w' c)
       where
         f : Walk → Walk
-        f u = withEvents es (withAnswer x u)
+        f u = with_events es (with_answer x u)
 
-    pub begun-waiting : (x : ℕ) → w.phase ≡ waiting → wanted answers es ≡ some x → Begun answers (withEvents es (withAnswer x w'))
+    pub begun-waiting : (x : ℕ) → w.phase ≡ waiting → wanted answers es ≡ some x → Begun answers (with_events es (with_answer x w'))
     begun-waiting x g o = go (listed-where T tokens answers allowance l)
       where
-        go : Led → Begun answers (withEvents es (withAnswer x w'))
+        go : Led → Begun answers (with_events es (with_answer x w'))
         go (lives y d mv) = absurd (y g)
         go (left y z s d) = absurd (waiting-stopped g y)
         go (waits k v v' e d y s r m t) =
@@ -177,7 +177,7 @@ module _ (p q : Source) (ok : Accepted p.rules) (ok' : Accepted q.rules) (dp : D
     pub record More (x : ℕ) : Type 0 where
       pub answer : ℕ
       pub wants : wanted (answers ++ (x ∷ [])) es ≡ some answer
-      pub begun : Begun (answers ++ (x ∷ [])) (withEvents es (withAnswer answer w'))
+      pub begun : Begun (answers ++ (x ∷ [])) (with_events es (with_answer answer w'))
 
     pub begun_more : (x : ℕ) → w.phase ≡ waiting → More x
     begun_more x g = go (listed-where T tokens answers allowance l)
@@ -197,7 +197,7 @@ module _ (p q : Source) (ok : Accepted p.rules) (ok' : Accepted q.rules) (dp : D
 
     -- one that has stopped, not for 37
     pub not-outside : (r : Reason) → w.phase ≡ stopped r → r ≡ outside → ⊥
-    unfolding withEvents withIo inPhase
+    unfolding with_events with_io in_phase
     not-outside r g e = go (listed-where T tokens answers allowance l)
       where
         go : Led → ⊥
@@ -214,37 +214,37 @@ module _ (p q : Source) (ok : Accepted p.rules) (ok' : Accepted q.rules) (dp : D
     kept-phase ph g = (keeping p q w w' c).phase ∙ g
 
     on-going : w.phase ≡ going → GoesOn q.rules T' tokens answers w' es
-    unfolding after withEvents
+    unfolding after with_events
     on-going g =
         let b = begun-going g in
         let g' = kept-phase going g in
         record {
           from = b.spot.own;
-          starts = starts-going g' (standing b.spot);
-          follows = follows-going q.rules more' tokens ok' (withEvents es w') b.spot answers b.kept b.few w' es g' refl;
+          starts = starts_going g' (standing b.spot);
+          follows = follows-going q.rules more' tokens ok' (with_events es w') b.spot answers b.kept b.few w' es g' refl;
         }
 
-    on-waiting : (given : List ℕ) (x : ℕ) → w.phase ≡ waiting → wanted given es ≡ some x → Begun given (withEvents es (withAnswer x w')) → GoesOn q.rules T' tokens given w' es
-    unfolding after withEvents
+    on-waiting : (given : List ℕ) (x : ℕ) → w.phase ≡ waiting → wanted given es ≡ some x → Begun given (with_events es (with_answer x w')) → GoesOn q.rules T' tokens given w' es
+    unfolding after with_events
     on-waiting given x g o b =
         let g' = kept-phase waiting g in
         record {
           from = b.spot.own;
-          starts = starts-waiting x g' o (standing b.spot);
-          follows = follows-waiting q.rules more' tokens ok' (withEvents es (withAnswer x w')) b.spot given b.kept b.few w' es x g' o refl;
+          starts = starts_waiting x g' o (standing b.spot);
+          follows = follows-waiting q.rules more' tokens ok' (with_events es (with_answer x w')) b.spot given b.kept b.few w' es x g' o refl;
         }
 
     on-stopped : (r : Reason) → w.phase ≡ stopped r → GoesOn q.rules T' tokens answers w' es
     on-stopped r g =
         let g' = kept-phase (stopped r) g in
-        record { from = _; starts = starts-stopped r g'; follows = follows-stopped T' tokens answers w' es r g' q.rules (not-outside r g) }
+        record { from = _; starts = starts_stopped r g'; follows = follows-stopped T' tokens answers w' es r g' q.rules (not-outside r g) }
 
     pub carries : Carries q.rules T' tokens answers w w' es
     carries = record {
       kept = keeping p q w w' c;
       goes_on = λ h. go w.phase refl h;
-      goes-on-waiting = λ g x o. on-waiting answers x g o (begun-waiting x g o);
-      goes-on-with = λ g x. let m = begun_more x g in on-waiting (answers ++ (x ∷ [])) m.answer g m.wants m.begun;
+      goes_on_waiting = λ g x o. on-waiting answers x g o (begun-waiting x g o);
+      goes_on_with = λ g x. let m = begun_more x g in on-waiting (answers ++ (x ∷ [])) m.answer g m.wants m.begun;
     }
       where
         go : (ph : Phase) → w.phase ≡ ph → (w.phase ≡ waiting → ⊥) → GoesOn q.rules T' tokens answers w' es
@@ -262,17 +262,17 @@ module _ (p q : Source) (ok : Accepted p.rules) (ok' : Accepted q.rules) (dp : D
       kept-left = ap (λ (i : Io). i.allowance) (keeping p q w w' c).io ∙ has
 
       ends_on : w.phase ≡ going → EndsBy T' tokens answers w' es (Bound + 1)
-      unfolding withEvents withIo
+      unfolding with_events with_io
       ends_on g =
           let b = begun-going g in
-          let e = ends-after q.rules ok' fin more' tokens answers (withEvents es w') b.spot b.read b.kept.returns left kept-left in
-          ends-going q.rules more' tokens ok' (withEvents es w') b.spot answers b.kept b.few w' es (kept-phase going g) refl Bound (Bound + 1) e.0 (omega arith) e.1
+          let e = ends-after q.rules ok' fin more' tokens answers (with_events es w') b.spot b.read b.kept.returns left kept-left in
+          ends-going q.rules more' tokens ok' (with_events es w') b.spot answers b.kept b.few w' es (kept-phase going g) refl Bound (Bound + 1) e.0 (omega arith) e.1
 
       ends-answered : (x : ℕ) → w.phase ≡ waiting → wanted answers es ≡ some x → EndsBy T' tokens answers w' es (Bound + 1)
-      unfolding withEvents Walk.opened events.answered
+      unfolding with_events Walk.opened events.answered
       ends-answered x g o =
           let b = begun-waiting x g o in
-          let w₁ = withEvents es (withAnswer x w') in
+          let w₁ = with_events es (with_answer x w') in
           let e = ends-after q.rules ok' fin more' tokens answers w₁ b.spot b.read b.kept.returns left kept-left in
           ends-waiting q.rules more' tokens ok' w₁ b.spot answers b.kept b.few w' es x (kept-phase waiting g) o refl Bound (Bound + 1) e.0 (omega arith) e.1
 

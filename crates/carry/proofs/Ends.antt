@@ -7,9 +7,9 @@ use native.Mathlib.Nat.{le_refl}
 use native.Mathlib.Omega.{arith}
 use lib.ListN.{length}
 use Rattle.agreement.proofs.Agree.{Same, near, near_same, ahead}
-use Rattle.agreement.proofs.Bound.{Over, over-stopped, over-nowhere, read_of, left_of, weigh, weighs, weighAlts, weighOther, Tame, Tames, TameAlts, TameOther}
+use Rattle.agreement.proofs.Bound.{Over, over-stopped, over-nowhere, read_of, left_of, weigh, weighs, weigh_alts, weigh_other, Tame, Tames, TameAlts, TameOther}
 use Rattle.agreement.proofs.BoundRules.{total, total-le, tame-rule}
-use Rattle.agreement.proofs.BoundWalk.{callCost, allRules, most, budget, Fits, fits-rule, fits-cycle, fits-alternative, fits-otherwise, fits-tame, fits-rest, Waits, waits-nil, waits-before, waits-choice, Sits, Good, good-on, good-choosing, OverBy, over_by}
+use Rattle.agreement.proofs.BoundWalk.{call_cost, all_rules, most, budget, Fits, fits-rule, fits-cycle, fits-alternative, fits-otherwise, fits-tame, fits-rest, Waits, waits-nil, waits-before, waits-choice, Sits, Good, good-on, good-choosing, OverBy, over_by}
 use Rattle.agreement.proofs.Laid.{program-laid}
 use Rattle.agreement.proofs.Lists.{Kept}
 use Rattle.agreement.proofs.Single.{runs}
@@ -18,7 +18,7 @@ use Rattle.base.specs.Tree.{cycle, choice, ◌▸◌, alternative, otherwise}
 use Rattle.carry.proofs.After.{Steps, within-steps, runs-add}
 use Rattle.carry.proofs.Found.{Spot}
 use Rattle.carry.proofs.Tokens.{Reads, Goes, Tells, Leaves, step-leaves, runs-reads}
-use Rattle.carry.specs.Places.{OneOf, this-one, that-one, Inside, in_start, in_rest, in-cycle, in-labelled, in-otherwise, PendingAt, no-pending, pending-at, choice-at, StandsAt, stands_on, stands-choosing, Within, at-start, behind-value, behind-parameter, at_default, behind-repair}
+use Rattle.carry.specs.Places.{OneOf, this_one, that_one, Inside, in_start, in_rest, in_cycle, in_labelled, in_otherwise, PendingAt, no_pending, pending_at, choice_at, StandsAt, stands_on, stands_choosing, Within, at_start, behind_value, behind_parameter, at_default, behind_repair}
 use Rattle.events.specs.Events as events
 use Rattle.events.specs.Events.{Event, Reason, repair, Io}
 use Rattle.finishing.specs.Finishing.{Finishing}
@@ -36,48 +36,48 @@ use Rattle.program.specs.Table.{place, table}
 module _ (prog : List Rule) (ok : Accepted prog) (fin : Finishing prog) where
   one-tame : {al : Alts} {b : Acts} {d : ℕ} → OneOf al b d → TameAlts prog al → Tames prog b
   unfolding Tame
-  one-tame this-one t = t.0
-  one-tame (that-one o) t = one-tame o t.1
+  one-tame this_one t = t.0
+  one-tame (that_one o) t = one-tame o t.1
 
-  one-weighs : {al : Alts} {b : Acts} {d : ℕ} (c : ℕ) → OneOf al b d → weighs c b ≤ weighAlts c al
+  one-weighs : {al : Alts} {b : Acts} {d : ℕ} (c : ℕ) → OneOf al b d → weighs c b ≤ weigh_alts c al
   unfolding weighs
-  one-weighs c this-one = omega arith
-  one-weighs c (that-one o) = omega (arith, one-weighs c o)
+  one-weighs c this_one = omega arith
+  one-weighs c (that_one o) = omega (arith, one-weighs c o)
 
   inside-fits : (r : ℕ) → r < length prog → {q : Acts} {k : List Context} {o : ℕ} → Inside (body_of prog r) q k o → Fits prog q k
-  unfolding allRules Tame weighs
+  unfolding all_rules Tame weighs
   inside-fits r h in_start =
-      let l : weighs (callCost prog) (body_of prog r) + 1 ≤ total (callCost prog) prog + 1 = omega (arith, total-le (callCost prog) prog r) in
+      let l : weighs (call_cost prog) (body_of prog r) + 1 ≤ total (call_cost prog) prog + 1 = omega (arith, total-le (call_cost prog) prog r) in
       fits-rule (tame-rule prog ok fin r h) l
   inside-fits r h (in_rest i e) = fits-rest prog (inside-fits r h i)
-  inside-fits r h (in-cycle i) = let f = inside-fits r h i in fits-cycle (fits-tame prog f).0.1 (le_refl _) f
-  inside-fits r h (in-labelled {s = s} {al = al} {ot = ot} {b = b} i m e) =
+  inside-fits r h (in_cycle i) = let f = inside-fits r h i in fits-cycle (fits-tame prog f).0.1 (le_refl _) f
+  inside-fits r h (in_labelled {s = s} {al = al} {ot = ot} {b = b} i m e) =
       let f = inside-fits r h i in
-      let l : weighs (callCost prog) b + 1 ≤ weigh (callCost prog) (choice s al ot) = omega (arith, one-weighs (callCost prog) m) in
+      let l : weighs (call_cost prog) b + 1 ≤ weigh (call_cost prog) (choice s al ot) = omega (arith, one-weighs (call_cost prog) m) in
       fits-alternative (choice s al ot) (one-tame m (fits-tame prog f).0.1) l f
-  inside-fits r h (in-otherwise {s = s} {al = al} {b = b} i e) =
+  inside-fits r h (in_otherwise {s = s} {al = al} {b = b} i e) =
       let f = inside-fits r h i in
-      let l : weighs (callCost prog) b + 1 ≤ weigh (callCost prog) (choice s al (otherwise b)) = omega arith in
+      let l : weighs (call_cost prog) b + 1 ≤ weigh (call_cost prog) (choice s al (otherwise b)) = omega arith in
       fits-otherwise (choice s al (otherwise b)) (fits-tame prog f).0.2 l f
 
   pending-waits : {ps : List Pending} {rs : List ℕ} → PendingAt prog ps rs → Waits prog ps
-  pending-waits no-pending = waits-nil
-  pending-waits (pending-at r o h i e p) = waits-before (inside-fits r h i) (pending-waits p)
-  pending-waits (choice-at s r o h i e p) = waits-choice s (inside-fits r h i) (pending-waits p)
+  pending-waits no_pending = waits-nil
+  pending-waits (pending_at r o h i e p) = waits-before (inside-fits r h i) (pending-waits p)
+  pending-waits (choice_at s r o h i e p) = waits-choice s (inside-fits r h i) (pending-waits p)
 
   pending-length : {ps : List Pending} {rs : List ℕ} → PendingAt prog ps rs → length ps ≡ length rs
-  pending-length no-pending = refl
-  pending-length (pending-at r o h i e p) = ap suc (pending-length p)
-  pending-length (choice-at s r o h i e p) = ap suc (pending-length p)
+  pending-length no_pending = refl
+  pending-length (pending_at r o h i e p) = ap suc (pending-length p)
+  pending-length (choice_at s r o h i e p) = ap suc (pending-length p)
 
   stands_good : {s : Own} {w : Walk} (t : ℕ) → StandsAt prog s w → w.io.read ≤ t → length w.returns ≤ 64 → Good prog t s
   stands_good t (stands_on r o h i e p) hr hd = good-on (inside-fits r h i) (record { waits = pending-waits p; few = omega (arith, pending-length p, hd); within = hr })
-  stands_good t (stands-choosing s r o h i e p) hr hd = good-choosing s (inside-fits r h i) (record { waits = pending-waits p; few = omega (arith, pending-length p, hd); within = hr })
+  stands_good t (stands_choosing s r o h i e p) hr hd = good-choosing s (inside-fits r h i) (record { waits = pending-waits p; few = omega (arith, pending-length p, hd); within = hr })
 
   stands-io : {s : Own} {w : Walk} → StandsAt prog s w → (read_of s ≡ w.io.read) × (left_of s ≡ w.io.allowance)
   unfolding read_of left_of
   stands-io (stands_on r o h i e p) = (refl, refl)
-  stands-io (stands-choosing s r o h i e p) = (refl, refl)
+  stands-io (stands_choosing s r o h i e p) = (refl, refl)
 
 -- In the middle of a step at most one repair has been made, and no call or return
 
@@ -95,11 +95,11 @@ tells-allowance T tokens w v x e =
 
 within-allowance : {T tokens : List ℕ} {at w : Walk} → Within T tokens at w → at.io.allowance ≤ w.io.allowance + 1
 unfolding writing Walk.opened events.wrote
-within-allowance at-start = omega arith
-within-allowance (behind-value v d) = omega arith
-within-allowance (behind-parameter v d) = omega arith
+within-allowance at_start = omega arith
+within-allowance (behind_value v d) = omega arith
+within-allowance (behind_parameter v d) = omega arith
 within-allowance {T} {tokens} {at} (at_default {w = w} d e) = let z = goes-allowance T tokens at w e in omega (arith, z)
-within-allowance {T} {tokens} {at} (behind-repair {w = w} {v = v} t d e g f) =
+within-allowance {T} {tokens} {at} (behind_repair {w = w} {v = v} t d e g f) =
     let z = goes-allowance T tokens at w e in
     let y = tells-allowance T tokens w v (repair t) f in
     omega (arith, z, y)

@@ -8,13 +8,13 @@ use lib.Dec.{T, eqb}
 use Rattle.base.specs.Common.{bytes, same}
 use Rattle.carry.specs.Carry
 use Rattle.carry.specs.Texts
-use Rattle.carry.specs.Texts.{Answer, goes, differs, refused, carryTexts, carryBytes}
+use Rattle.carry.specs.Texts.{Answer, goes, differs, refused, carry_texts, carry_bytes}
 use Rattle.events.specs.Events
-use Rattle.events.specs.Events.{differs as otherToken}
+use Rattle.events.specs.Events.{differs as other_token}
 use Rattle.finishing.specs.Test
 use Rattle.machine.specs.Bytes
 use Rattle.machine.specs.Form
-use Rattle.machine.specs.Form.{walkBytes}
+use Rattle.machine.specs.Form.{walk_bytes}
 use Rattle.machine.specs.Walk
 use Rattle.machine.specs.Walk.{waiting, stopped, Walk}
 use Rattle.names.specs.Declare
@@ -43,8 +43,8 @@ pub data Fact : Type 0 where
   faults : String → String → ℕ → ℕ → ℕ → ℕ → Fact  -- the number, the text, the start and the size of the part at fault
   nowalk : String → String → List ℕ → Fact  -- bytes that are no walk: 21, and nothing moves
 
-pub walkAt : ℕ → List ℕ → Walk
-walkAt l rs = record { phase = waiting; location = l; returns = rs; result = 7; parameter = 8; io = record { read = 9; used = 10; allowance = 11; events = [] } }
+pub walk_at : ℕ → List ℕ → Walk
+walk_at l rs = record { phase = waiting; location = l; returns = rs; result = 7; parameter = 8; io = record { read = 9; used = 10; allowance = 11; events = [] } }
 
 pub is_at : Answer → ℕ → List ℕ → Bool
 is_at (goes w) l rs =
@@ -52,23 +52,23 @@ is_at (goes w) l rs =
 is_at (differs n) l rs = false
 is_at (refused n t at) l rs = false
 
-pub isStay : Answer → ℕ → Bool
-isStay (goes w) n = false
-isStay (differs m) n = eqb m n
-isStay (refused m t at) n = false
+pub is_stay : Answer → ℕ → Bool
+is_stay (goes w) n = false
+is_stay (differs m) n = eqb m n
+is_stay (refused m t at) n = false
 
 unfoldable pub holds : Fact → Bool
-unfolding carrying is_at isStay walkAt
+unfolding carrying is_at is_stay walk_at
 holds (moves old new l rs m ss) =
-    let o = carryBytes (bytes old) (bytes new) (walkBytes (walkAt l rs)) in
-    is_at (carryTexts (bytes old) (bytes new) (walkAt l rs)) m ss && eqb o.number 0 && same o.walk (walkBytes (walkAt m ss))
+    let o = carry_bytes (bytes old) (bytes new) (walk_bytes (walk_at l rs)) in
+    is_at (carry_texts (bytes old) (bytes new) (walk_at l rs)) m ss && eqb o.number 0 && same o.walk (walk_bytes (walk_at m ss))
 holds (keeps old new l rs n) =
-    let o = carryBytes (bytes old) (bytes new) (walkBytes (walkAt l rs)) in
-    isStay (carryTexts (bytes old) (bytes new) (walkAt l rs)) n && eqb o.number n && same o.walk (walkBytes (walkAt l rs))
+    let o = carry_bytes (bytes old) (bytes new) (walk_bytes (walk_at l rs)) in
+    is_stay (carry_texts (bytes old) (bytes new) (walk_at l rs)) n && eqb o.number n && same o.walk (walk_bytes (walk_at l rs))
 holds (faults old new n t start size) =
-    let o = carryBytes (bytes old) (bytes new) (walkBytes (walkAt 1 [])) in
-    eqb o.number n && eqb o.text t && eqb o.start start && eqb o.size size && same o.walk (walkBytes (walkAt 1 []))
-holds (nowalk old new walk) = let o = carryBytes (bytes old) (bytes new) walk in eqb o.number 21 && eqb o.text 0 && same o.walk walk
+    let o = carry_bytes (bytes old) (bytes new) (walk_bytes (walk_at 1 [])) in
+    eqb o.number n && eqb o.text t && eqb o.start start && eqb o.size size && same o.walk (walk_bytes (walk_at 1 []))
+holds (nowalk old new walk) = let o = carry_bytes (bytes old) (bytes new) walk in eqb o.number 21 && eqb o.text 0 && same o.walk walk
 
 unfoldable pub all : List Fact → Bool
 all [] = true
@@ -100,10 +100,10 @@ facts =
     ∷ keeps "input: a; rules M: a; end" "input: b; rules M: b; end" 0 [] 51
     ∷ keeps "input: a = 7; rules M: a; end" "input: a = 07; rules M: a; end" 1 [] 51
     ∷ keeps "mechanism m: f; rules M: f; end" "mechanism n: f; rules M: f; end" 1 [] 51
-    -- a default that goes back to the first alternative, at its input and at its jumpBack (M is 7 3 1 8 1 0 4 3 0 2 8 9)
+    -- a default that goes back to the first alternative, at its input and at its jump_back (M is 7 3 1 8 1 0 4 3 0 2 8 9)
     ∷ moves "input: a; rules M: [ | a: ]; end" "input: a; rules K: ; M: [ | a: ]; end" 8 [] 9 []
     ∷ moves "input: a; rules M: [ | a: ]; end" "input: a; rules K: ; M: [ | a: ]; end" 10 [] 11 []
-    -- rules made for operators: M (8 7 9) at 1, R (3 0 9) at 4, the level's rule from 7 on; its inputChoice is at 9
+    -- rules made for operators: M (8 7 9) at 1, R (3 0 9) at 4, the level's rule from 7 on; its input_choice is at 9
     ∷ moves "input: a p; output: o; operators E: p 1 left o; rules M: ^E @R; R: a; end" "input: a p; output: o; operators E: p 1 left o; rules K: ? ; M: ^E @R; R: a; end" 9 (3 ∷ []) 11 (5 ∷ [])
     -- another rule, and another pair behind the first; and without them again
     ∷ moves "input: a p q; output: o; operators E: p 1 left o; operators F: q 1 right o; rules M: ^E @R; R: a; end"

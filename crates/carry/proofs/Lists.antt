@@ -10,10 +10,11 @@ use lib.ListN.{length, get_or}
 use borrow.Author.Tests.{eqb-true, eq-eqb, ltb-true, ltb-false}
 use Rattle.base.proofs.Laws.{same_refl, same-eq}
 use Rattle.base.specs.Bools.{never, and}
-use Rattle.base.specs.Common.{if◌then◌else◌, same}
-use Rattle.program.specs.Program.{Rule, ruleOf}
-use Rattle.program.specs.Table.{sizeRule, place}
-use Rattle.carry.specs.Carry.{Name, written, made, same_name, Place, place_in, place_of, number_of, name_of, sameAll}
+use Rattle.std.specs.Prelude.{if◌then◌else◌}
+use Rattle.base.specs.Common.{same}
+use Rattle.program.specs.Program.{Rule, rule_of}
+use Rattle.program.specs.Table.{size_rule, place}
+use Rattle.carry.specs.Carry.{Name, written, made, same_name, Place, place_in, place_of, number_of, name_of, same_all}
 
 pub some_inj : {A : Type 0} {a b : A} → some a ≡ some b → a ≡ b
 some_inj e = cc
@@ -21,8 +22,8 @@ some_inj e = cc
 pub none-some {ℓ} : {A : Type 0} {B : Type ℓ} {a : A} → none ≡ some a → B
 none-some e = let z : ◌≡◌ {A = ℕ} 0 1 = cc in absurd (omega arith)
 
-pub all-self : (vs : List (List ℕ)) → sameAll vs vs ≡ true
-unfolding sameAll
+pub all-self : (vs : List (List ℕ)) → same_all vs vs ≡ true
+unfolding same_all
 all-self [] = refl
 all-self (v ∷ vs) = rw (same_refl v, all-self vs)
 
@@ -91,25 +92,25 @@ pub record Lies (i r l : ℕ) (bs : List Rule) (at : Place) : Type 0 where
   pub rule : at.rule ≡ r + number
   pub there : number < length bs
   pub location : place l bs number + at.offset ≡ l + i
-  pub inside : at.offset < sizeRule (ruleOf bs number)
+  pub inside : at.offset < size_rule (rule_of bs number)
 
 pub place-in : (i r l : ℕ) (bs : List Rule) (at : Place) → place_in i r bs ≡ some at → Lies i r l bs at
-unfolding place_in place ruleOf
+unfolding place_in place rule_of
 place-in i r l [] at e = none-some e
-place-in i r l (b ∷ bs) at e = go (λ h. place-in (i - sizeRule b) (suc r) (l + sizeRule b) bs at h) (ltb i (sizeRule b)) refl e
+place-in i r l (b ∷ bs) at e = go (λ h. place-in (i - size_rule b) (suc r) (l + size_rule b) bs at h) (ltb i (size_rule b)) refl e
   where
     here : Place
     here = record { rule = r; offset = i }
 
-    go : (place_in (i - sizeRule b) (suc r) bs ≡ some at → Lies (i - sizeRule b) (suc r) (l + sizeRule b) bs at)
-        → (t : Bool) → ltb i (sizeRule b) ≡ t → (if t then some here else place_in (i - sizeRule b) (suc r) bs) ≡ some at → Lies i r l (b ∷ bs) at
+    go : (place_in (i - size_rule b) (suc r) bs ≡ some at → Lies (i - size_rule b) (suc r) (l + size_rule b) bs at)
+        → (t : Bool) → ltb i (size_rule b) ≡ t → (if t then some here else place_in (i - size_rule b) (suc r) bs) ≡ some at → Lies i r l (b ∷ bs) at
     go ih true d e₁ =
         let x : here ≡ at = some_inj e₁ in
-        let y : i < sizeRule b = ltb-true i (sizeRule b) d in
+        let y : i < size_rule b = ltb-true i (size_rule b) d in
         rw (← x) (record { number = 0; rule = omega arith; there = omega arith; location = refl; inside = y })
     go ih false d e₁ =
         let h = ih e₁ in
-        let y : sizeRule b ≤ i = ltb-false i (sizeRule b) d in
+        let y : size_rule b ≤ i = ltb-false i (size_rule b) d in
         record {
           number = suc h.number;
           rule = omega (arith, h.rule);
@@ -121,7 +122,7 @@ place-in i r l (b ∷ bs) at e = go (λ h. place-in (i - sizeRule b) (suc r) (l 
 pub record LiesIn (prog : List Rule) (l : ℕ) (at : Place) : Type 0 where
   pub there : at.rule < length prog
   pub location : place 1 prog at.rule + at.offset ≡ l
-  pub inside : at.offset < sizeRule (ruleOf prog at.rule)
+  pub inside : at.offset < size_rule (rule_of prog at.rule)
 
 pub place-of : (prog : List Rule) (l : ℕ) (at : Place) → place_of prog l ≡ some at → LiesIn prog l at
 unfolding place_of

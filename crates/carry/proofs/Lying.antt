@@ -10,20 +10,20 @@ use borrow.Author.Tests.{le-leb}
 use Rattle.acceptance.proofs.Accepts.{accepted-table}
 use Rattle.acceptance.specs.Answers.{TableOf}
 use Rattle.agreement.proofs.Laid.{fetch-le}
-use Rattle.agreement.proofs.Lists.{withEvents, After, after-outside, after_stop, after-goes, after-tells, after-asks, step_after, step-asked, wanted-asked, asked-next, kept_fresh, runs-suc, one-going, Where, lives, left, waits, listed-where, going-stopped}
+use Rattle.agreement.proofs.Lists.{with_events, After, after-outside, after_stop, after-goes, after-tells, after-asks, step_after, step-asked, wanted-asked, asked-next, kept_fresh, runs-suc, one-going, Where, lives, left, waits, listed-where, going-stopped}
 use Rattle.agreement.proofs.MoreAnswers.{one_more, alike}
-use Rattle.agreement.proofs.Single.{taking, done, oneIn, one, runs}
+use Rattle.agreement.proofs.Single.{taking, done, one_in, one, runs}
 use Rattle.agreement.proofs.Theorem.{no-way-out}
 use Rattle.agreement.specs.Demand.{wanted, Listed}
 use Rattle.base.specs.Common.{given}
-use Rattle.carry.proofs.Found.{place-back, given-some, length_marked, not-zero}
+use Rattle.carry.proofs.Found.{place-back, given_some, length_marked, not-zero}
 use Rattle.carry.proofs.Identity.{identity}
 use Rattle.carry.proofs.Lists.{none-some}
 use Rattle.carry.proofs.Sources.{SourceOk, source_ok}
 use Rattle.carry.proofs.Track.{Twin, TwinC, plainly, choosing, Frames, frames-nil, frames-cons, at_place, at-choosing, at-stop, Track, now, half, tracked, place_inside, choice-inside}
-use Rattle.carry.specs.Carry.{place_of, markedWords, source_of}
+use Rattle.carry.specs.Carry.{place_of, marked_words, source_of}
 use Rattle.carry.specs.FromCalls.{LiesFromCalls, IdentityFromCalls}
-use Rattle.carry.specs.Identity.{InRule, InRules, in-nil, in-cons, Lies}
+use Rattle.carry.specs.Identity.{InRule, InRules, in_nil, in_cons, Lies}
 use Rattle.events.specs.Events as events
 use Rattle.events.specs.Events.{Event, Reason, outside, unanswered, choices}
 use Rattle.finishing.specs.Test.{finishing}
@@ -31,22 +31,22 @@ use Rattle.machine.specs.Call.{writing}
 use Rattle.machine.specs.Decode.{fetch}
 use Rattle.machine.specs.Step.{Next, asks, step}
 use Rattle.machine.specs.Walk
-use Rattle.machine.specs.Walk.{Phase, going, waiting, stopped, Walk, fresh, inPhase, withAnswer}
-use Rattle.processor.specs.Process.{accepted, process, answerFor}
+use Rattle.machine.specs.Walk.{Phase, going, waiting, stopped, Walk, fresh, in_phase, with_answer}
+use Rattle.processor.specs.Process.{accepted, process, answer_for}
 use Rattle.program.proofs.Lengths.{length-table}
 use Rattle.program.specs.Accepted.{Accepted}
-use Rattle.program.specs.Program.{Rule, ruleOf}
-use Rattle.program.specs.Table.{sizeRules, place, table}
+use Rattle.program.specs.Program.{Rule, rule_of}
+use Rattle.program.specs.Table.{size_rules, place, table}
 
 -- a text that is accepted with some room is accepted with the most that a table has
 pub accepted-most : (text : List ℕ) (room : ℕ) (words : List ℕ) (verdict : Bool) → process text room ≡ accepted words verdict → process text 4096 ≡ accepted words verdict
-unfolding process answerFor
+unfolding process answer_for
 accepted-most text room words verdict e =
     let t = accepted-table text room words verdict e in
     let n = length-table t.prog in
-    let l : sizeRules t.prog ≤ 4096 = omega (arith, n, t.within-4096, ap length t.words_are) in
-    let z : accepted (table t.prog) (finishing t.prog) ≡ accepted words verdict = λ i. accepted (sym t.words_are i) (sym t.verdict-is i) in
-    rw (t.means, le-leb (sizeRules t.prog) 4096 l) z
+    let l : size_rules t.prog ≤ 4096 = omega (arith, n, t.within_4096, ap length t.words_are) in
+    let z : accepted (table t.prog) (finishing t.prog) ≡ accepted words verdict = λ i. accepted (sym t.words_are i) (sym t.verdict_is i) in
+    rw (t.means, le-leb (size_rules t.prog) 4096 l) z
 
 -- A stop keeps the places
 
@@ -64,8 +64,8 @@ module _ (T tokens answers : List ℕ) (w₀ : Walk) where
   goes-there : (n : ℕ) {w : Walk} → w ≡ At n → w.phase ≡ going → Last w
   goes-there n e g = record { steps = n; goes_on = ap (λ (v : Walk). v.phase) (sym e) ∙ g; location = ap (λ (v : Walk). v.location) e; returns = ap (λ (v : Walk). v.returns) e }
 
-  stops-there : (n : ℕ) (r : Reason) → (At n).phase ≡ going → Last (inPhase (stopped r) (At n))
-  unfolding inPhase
+  stops-there : (n : ℕ) (r : Reason) → (At n).phase ≡ going → Last (in_phase (stopped r) (At n))
+  unfolding in_phase
   stops-there n r g = record { steps = n; goes_on = g; location = refl; returns = refl }
 
   done-last : (n : ℕ) {nx : Next} → (At n).phase ≡ going → After (At n) nx → done T tokens answers nx (At n) ≡ At (suc n) → Last (done T tokens answers nx (At n))
@@ -81,11 +81,11 @@ module _ (T tokens answers : List ℕ) (w₀ : Walk) where
       go (some y) d = goes-there (suc n) d refl
 
   pub last : w₀.phase ≡ going → (n : ℕ) → Last (At n)
-  unfolding runs one oneIn
+  unfolding runs one one_in
   last g zero = record { steps = 0; goes_on = g; location = refl; returns = refl }
   last g (suc n) = rw (runs-suc T tokens answers n w₀) (go (At n).phase refl (last g n) (sym (runs-suc T tokens answers n w₀)))
     where
-      go : (ph : Phase) → (At n).phase ≡ ph → Last (At n) → oneIn T tokens answers (At n).phase (At n) ≡ At (suc n) → Last (oneIn T tokens answers (At n).phase (At n))
+      go : (ph : Phase) → (At n).phase ≡ ph → Last (At n) → one_in T tokens answers (At n).phase (At n) ≡ At (suc n) → Last (one_in T tokens answers (At n).phase (At n))
       go going p h e = rw p (done-last n p (step_after T tokens (At n)) (rw p at e))
       go waiting p h e = rw p h
       go (stopped r) p h e = rw p h
@@ -106,7 +106,7 @@ module _ (prog : List Rule) (more tokens : List ℕ) (ok : Accepted prog) (allow
   same-places v w e d h = rw (e, d) h
 
   pub listed-places : (answers : List ℕ) {w : Walk} {es : List Event} {n : ℕ} {ns : List ℕ} → Listed Over tokens answers allowance w es n ns → P w.location w.returns
-  unfolding withEvents taking writing Walk.opened events.wrote events.answered
+  unfolding with_events taking writing Walk.opened events.wrote events.answered
   listed-places answers {w} {es} {n} l = go (listed-where Over tokens answers allowance l)
     where
       go : Where Over tokens answers (fresh allowance) (kept_fresh allowance) w es n → P w.location w.returns
@@ -119,7 +119,7 @@ module _ (prog : List Rule) (more tokens : List ℕ) (ok : Accepted prog) (allow
           let a = alike Over tokens answers 0 allowance k g in
           let o = one_more answers 0 (choices v.io.events) (rw d at a.taken) in
           let given = answers ++ (0 ∷ []) in
-          let z : runs Over tokens given (suc k) (fresh allowance) ≡ withAnswer o.0 (writing e v') =
+          let z : runs Over tokens given (suc k) (fresh allowance) ≡ with_answer o.0 (writing e v') =
           asked-next Over tokens given (fresh allowance) (kept_fresh allowance) k v v' e es (a.same ∙ d) y s r
           ∙ ap (λ u. taking u e v' v) (ap (wanted given) r ∙ wanted-asked given v.io.events e asked.choice ∙ o.1) in
           same-places (runs Over tokens given (suc k) (fresh allowance)) w (ap (λ (u : Walk). u.location) t ∙ ap (λ (u : Walk). u.location) (sym z))
@@ -128,14 +128,14 @@ module _ (prog : List Rule) (more tokens : List ℕ) (ok : Accepted prog) (allow
 -- The places of a walk that goes on lie in rules
 
 -- a word of rule a
-pub in-rule : (prog : List Rule) (mk : ℕ → ℕ) (a o l : ℕ) → l ≡ place 0 prog a + o → a < length prog → given (fetch (markedWords mk (ruleOf prog a)) o) ≡ true → InRule prog l
+pub in_rule : (prog : List Rule) (mk : ℕ → ℕ) (a o l : ℕ) → l ≡ place 0 prog a + o → a < length prog → given (fetch (marked_words mk (rule_of prog a)) o) ≡ true → InRule prog l
 unfolding place_of
-in-rule prog mk a zero l e h g = let z = not-zero (markedWords mk (ruleOf prog a)) 0 g in absurd (omega arith)
-in-rule prog mk a (suc o) l e h g =
-    let W = markedWords mk (ruleOf prog a) in
-    let x = given-some (fetch W (suc o)) g in
+in_rule prog mk a zero l e h g = let z = not-zero (marked_words mk (rule_of prog a)) 0 g in absurd (omega arith)
+in_rule prog mk a (suc o) l e h g =
+    let W = marked_words mk (rule_of prog a) in
+    let x = given_some (fetch W (suc o)) g in
     let i = fetch-le W (suc o) x.0 x.1 in
-    let n = length_marked mk (ruleOf prog a) in
+    let n = length_marked mk (rule_of prog a) in
     let s : l ≡ suc (place 0 prog a + o) = e ∙ more (place 0 prog a) o in
     rw s (record { at = record { rule = 0 + a; offset = o }; is = place-back 0 prog a o h (omega (arith, i, n)) })
   where
@@ -157,7 +157,7 @@ module _ (prog : List Rule) (more tokens : List ℕ) (ok : Accepted prog) where
   unfolding alone
   no-rule a a' e = none-some e
 
-  no_words : (a a' : ℕ) → alone a ≡ some a' → markedWords itself (ruleOf prog a') ≡ markedWords itself (ruleOf prog a)
+  no_words : (a a' : ℕ) → alone a ≡ some a' → marked_words itself (rule_of prog a') ≡ marked_words itself (rule_of prog a)
   unfolding alone
   no_words a a' e = none-some e
 
@@ -167,19 +167,19 @@ module _ (prog : List Rule) (more tokens : List ℕ) (ok : Accepted prog) where
 
   module _ (answers : List ℕ) where
     frames-lie : {a : ℕ} {rs : List ℕ} → Frames prog prog more more itself itself ok ok tokens answers alone no-rule no_words a rs → InRules prog rs
-    frames-lie frames-nil = in-nil
+    frames-lie frames-nil = in_nil
     frames-lie (frames-cons {b = b} {o = o} {l = l} e h (plainly v t c) fr) =
-        in-cons (in-rule prog itself b o l e h (place_inside prog prog more more itself itself ok ok tokens answers alone no-rule no_words b o t.old)) (frames-lie fr)
+        in_cons (in_rule prog itself b o l e h (place_inside prog prog more more itself itself ok ok tokens answers alone no-rule no_words b o t.old)) (frames-lie fr)
     frames-lie (frames-cons {b = b} {o = o} {l = l} e h (choosing v t c) fr) =
-        in-cons (in-rule prog itself b o l e h (choice-inside prog prog more more itself itself ok ok tokens answers alone no-rule no_words b o t.old)) (frames-lie fr)
+        in_cons (in_rule prog itself b o l e h (choice-inside prog prog more more itself itself ok ok tokens answers alone no-rule no_words b o t.old)) (frames-lie fr)
 
     track-lies : {w : Walk} → Track prog prog more more itself itself ok ok tokens answers alone no-rule no_words w → w.phase ≡ going → Lie w.location w.returns
     track-lies (now (at_place {a = a} {o = o} {l = l} e h t fr)) g =
-        record { location = in-rule prog itself a o l e h (place_inside prog prog more more itself itself ok ok tokens answers alone no-rule no_words a o t.old); returns = frames-lie fr }
+        record { location = in_rule prog itself a o l e h (place_inside prog prog more more itself itself ok ok tokens answers alone no-rule no_words a o t.old); returns = frames-lie fr }
     track-lies (now (at-choosing {a = a} {o = o} {l = l} e h t fr)) g =
-        record { location = in-rule prog itself a o l e h (choice-inside prog prog more more itself itself ok ok tokens answers alone no-rule no_words a o t.old); returns = frames-lie fr }
+        record { location = in_rule prog itself a o l e h (choice-inside prog prog more more itself itself ok ok tokens answers alone no-rule no_words a o t.old); returns = frames-lie fr }
     track-lies (now (at-stop r e)) g = absurd (going-stopped g e)
-    track-lies (half {a = a} {l = l} o₂ w p io e i h t fr c n) g = record { location = in-rule prog itself a o₂ l e h i; returns = frames-lie fr }
+    track-lies (half {a = a} {l = l} o₂ w p io e i h t fr c n) g = record { location = in_rule prog itself a o₂ l e h i; returns = frames-lie fr }
 
     going-lies : (allowance n : ℕ) → (runs T tokens answers n (fresh allowance)).phase ≡ going
         → Lie (runs T tokens answers n (fresh allowance)).location (runs T tokens answers n (fresh allowance)).returns
@@ -189,8 +189,8 @@ pub lies-from-calls : LiesFromCalls
 lies-from-calls text room words verdict e more tokens answers allowance w es n ns l =
     let t = accepted-table text room words verdict e in
     let s = source_ok text t.prog t.means in
-    let ok : Accepted (source_of text).rules = rw s.rules-are t.accepts in
-    let d : words ≡ table (source_of text).rules = t.words_are ∙ ap table (sym s.rules-are) in
+    let ok : Accepted (source_of text).rules = rw s.rules_are t.accepts in
+    let d : words ≡ table (source_of text).rules = t.words_are ∙ ap table (sym s.rules_are) in
     let h = listed-places (source_of text).rules more tokens ok allowance (Lie (source_of text).rules more tokens ok)
     (λ given. going-lies (source_of text).rules more tokens ok given allowance) answers (rw d at l) in
     record { location = h.location; returns = h.returns }

@@ -41,28 +41,28 @@ carrying-on old new room room' words words' verdict verdict' e e' = claim (accep
         s' = source_ok new t'.prog t'.means
 
         ok : Accepted p.rules
-        ok = rw s.rules-are t.accepts
+        ok = rw s.rules_are t.accepts
 
         ok' : Accepted q.rules
-        ok' = rw s'.rules-are t'.accepts
+        ok' = rw s'.rules_are t'.accepts
 
         old-words : words ≡ table p.rules
-        old-words = t.words_are ∙ ap table (sym s.rules-are)
+        old-words = t.words_are ∙ ap table (sym s.rules_are)
 
         new-words : words' ≡ table q.rules
-        new-words = t'.words_are ∙ ap table (sym s'.rules-are)
+        new-words = t'.words_are ∙ ap table (sym s'.rules_are)
 
         carries_so : (more more' tokens answers : List ℕ) (allowance : ℕ) {w : Walk} {es : List Event} {n : ℕ} {ns : List ℕ}
             → Listed (words ++ more) tokens answers allowance w es n ns → (w' : Walk) → carry p q w ≡ carried w'
             → Carries t'.prog (words' ++ more') tokens answers w w' es
         carries_so more more' tokens answers allowance {w} {es} l w' c =
-            subst (λ (rs : List Rule). Carries rs (words' ++ more') tokens answers w w' es) s'.rules-are
+            subst (λ (rs : List Rule). Carries rs (words' ++ more') tokens answers w w' es) s'.rules_are
             (rw new-words (carries p q ok ok' s.distinct s'.distinct s.length-is s'.length-is more more' tokens answers allowance (rw old-words at l) w' c))
 
         finishes-so : verdict' ≡ true → FinishesCarried old new words words'
         finishes-so v count left = (
           3 * budget q.rules (count + (left + 1)) + 1,
           λ more more' tokens answers allowance w es n ns h l a w' c.
-              let f : Finishing q.rules = rw s'.rules-are (finishing-sound t'.prog (sym t'.verdict-is ∙ v)) in
+              let f : Finishing q.rules = rw s'.rules_are (finishing-sound t'.prog (sym t'.verdict_is ∙ v)) in
               rw (new-words, ← h) (ends-carried p q ok ok' s.distinct s'.distinct s.length-is s'.length-is more more' tokens answers allowance (rw old-words at l) w' c f left a),
         )

@@ -1,16 +1,16 @@
 -- Carrying a walk to new rules: "A walk is carried between accepted programs to the new table where the rule it is in, and every rule on
 -- its return stack, has the same words as before, calls being compared by the called rule's name."
-use Rattle.std.specs.Prelude.{Bool, true, false, ◌&&◌, List, [], ◌∷◌, ◌++◌, ℕ, zero, suc, ◌+◌, ◌-◌, eqb, ltb, length, get_or}
+use Rattle.std.specs.Prelude.{Bool, true, false, ◌&&◌, List, [], ◌∷◌, ◌++◌, ℕ, zero, suc, ◌+◌, ◌-◌, eqb, ltb, length, get_or, if◌then◌else◌}
 use Rattle.std.proofs.Math.Option.{Option, none, some}
-use Rattle.base.specs.Common.{if◌then◌else◌, same}
-use Rattle.machine.specs.Walk.{Walk, moved, withReturns}
-use Rattle.names.specs.Declare.{declareSections}
+use Rattle.base.specs.Common.{same}
+use Rattle.machine.specs.Walk.{Walk, moved, with_returns}
+use Rattle.names.specs.Declare.{declare_sections}
 use Rattle.names.specs.Known.{Checked, good, wrong, Names}
 use Rattle.names.specs.Understand.{nobody, understand}
-use Rattle.names.specs.Uses.{Use, pairsOf, levelsUsed}
+use Rattle.names.specs.Uses.{Use, pairs_of, levels_used}
 use Rattle.program.specs.Made.{Operator, Level}
-use Rattle.program.specs.Program.{Rule, ruleOf}
-use Rattle.program.specs.Table.{codes, endWords, sizeRule, place}
+use Rattle.program.specs.Program.{Rule, rule_of}
+use Rattle.program.specs.Table.{codes, end_words, size_rule, place}
 use Rattle.syntax.specs.Parse.{parse}
 use Rattle.syntax.specs.Reading.{Read, got, fault}
 use Rattle.syntax.specs.Written as syntax
@@ -55,8 +55,8 @@ pub record Place : Type 0 where
 unfoldable pub place_in : ℕ → ℕ → List Rule → Option Place
 place_in i r [] = none
 place_in i r (b ∷ bs) =
-    let later = place_in (i - sizeRule b) (suc r) bs in
-    if ltb i (sizeRule b) then some (record { rule = r; offset = i }) else later
+    let later = place_in (i - size_rule b) (suc r) bs in
+    if ltb i (size_rule b) then some (record { rule = r; offset = i }) else later
 
 -- "Rules stand in text order from location 1."; "a place in no rule" has none
 unfoldable pub place_of : List Rule → ℕ → Option Place
@@ -73,37 +73,37 @@ numbered r (some i) = i
 unfoldable pub mark : List Name → List Name → ℕ → ℕ
 mark old names r = 65536 + numbered (length old + r) (number_of (name_of names r) 0 old)
 
-unfoldable pub markedWords : (ℕ → ℕ) → Rule → List ℕ
-markedWords to r = codes to r.body 0 ++ endWords r.valued
+unfoldable pub marked_words : (ℕ → ℕ) → Rule → List ℕ
+marked_words to r = codes to r.body 0 ++ end_words r.valued
 
 -- rule r of the old program and rule s of the new one have the same words
 unfoldable pub same_words : Source → Source → ℕ → ℕ → Bool
 same_words p q r s =
-    same (markedWords (mark p.names p.names) (ruleOf p.rules r)) (markedWords (mark p.names q.names) (ruleOf q.rules s))
+    same (marked_words (mark p.names p.names) (rule_of p.rules r)) (marked_words (mark p.names q.names) (rule_of q.rules s))
 
 -- Carrying
 
 -- the place of the new program's rule s that a place of rule r becomes
-unfoldable pub inRule : Source → Source → Place → Option ℕ → Option ℕ
-inRule p q at none = none
-inRule p q at (some s) = if same_words p q at.rule s then some (place 1 q.rules s + at.offset) else none
+unfoldable pub in_rule : Source → Source → Place → Option ℕ → Option ℕ
+in_rule p q at none = none
+in_rule p q at (some s) = if same_words p q at.rule s then some (place 1 q.rules s + at.offset) else none
 
-unfoldable pub carriedAt : Source → Source → Option Place → Option ℕ
-carriedAt p q none = none
-carriedAt p q (some at) = inRule p q at (number_of (name_of p.names at.rule) 0 q.names)
+unfoldable pub carried_at : Source → Source → Option Place → Option ℕ
+carried_at p q none = none
+carried_at p q (some at) = in_rule p q at (number_of (name_of p.names at.rule) 0 q.names)
 
 -- the new location of an old one
-unfoldable pub carryPlace : Source → Source → ℕ → Option ℕ
-carryPlace p q l = carriedAt p q (place_of p.rules l)
+unfoldable pub carry_place : Source → Source → ℕ → Option ℕ
+carry_place p q l = carried_at p q (place_of p.rules l)
 
 unfoldable pub beside : Option ℕ → Option (List ℕ) → Option (List ℕ)
 beside none ls = none
 beside (some l) none = none
 beside (some l) (some ls) = some (l ∷ ls)
 
-unfoldable pub carryPlaces : Source → Source → List ℕ → Option (List ℕ)
-carryPlaces p q [] = some []
-carryPlaces p q (l ∷ ls) = beside (carryPlace p q l) (carryPlaces p q ls)
+unfoldable pub carry_places : Source → Source → List ℕ → Option (List ℕ)
+carry_places p q [] = some []
+carry_places p q (l ∷ ls) = beside (carry_place p q l) (carry_places p q ls)
 
 -- a carried walk, or a number; "the walk comes back unchanged"
 pub data Carried : Type 0 where
@@ -114,61 +114,61 @@ pub data Carried : Type 0 where
 unfoldable pub put_at : Walk → Option ℕ → Option (List ℕ) → Carried
 put_at w none rs = stays 52
 put_at w (some l) none = stays 52
-put_at w (some l) (some rs) = carried (moved l (withReturns rs w))
+put_at w (some l) (some rs) = carried (moved l (with_returns rs w))
 
-unfoldable pub sameAll : List (List ℕ) → List (List ℕ) → Bool
-sameAll [] [] = true
-sameAll [] (w ∷ ws) = false
-sameAll (v ∷ vs) [] = false
-sameAll (v ∷ vs) (w ∷ ws) = let r = sameAll vs ws in if same v w then r else false
+unfoldable pub same_all : List (List ℕ) → List (List ℕ) → Bool
+same_all [] [] = true
+same_all [] (w ∷ ws) = false
+same_all (v ∷ vs) [] = false
+same_all (v ∷ vs) (w ∷ ws) = let r = same_all vs ws in if same v w then r else false
 
 -- "51 for sections that differ, then 52 for a rule in progress that differs or is gone, or a place in no rule"
 unfoldable pub carry : Source → Source → Walk → Carried
-carry p q w = if sameAll p.sections q.sections then put_at w (carryPlace p q w.location) (carryPlaces p q w.returns) else stays 51
+carry p q w = if same_all p.sections q.sections then put_at w (carry_place p q w.location) (carry_places p q w.returns) else stays 51
 
 -- Sources of texts
 
 -- "Sections must be equal word for word": the words before `rules`, each by its bytes
-unfoldable pub sectionWords : List Word → List (List ℕ)
-sectionWords [] = []
-sectionWords (w ∷ ws) = let more = w.text ∷ sectionWords ws in if eqb w.kind rules then [] else more
+unfoldable pub section_words : List Word → List (List ℕ)
+section_words [] = []
+section_words (w ∷ ws) = let more = w.text ∷ section_words ws in if eqb w.kind rules then [] else more
 
-unfoldable pub writtenNames : List syntax.Rule → List Name
-writtenNames [] = []
-writtenNames (r ∷ rs) = written r.rule.text ∷ writtenNames rs
+unfoldable pub written_names : List syntax.Rule → List Name
+written_names [] = []
+written_names (r ∷ rs) = written r.rule.text ∷ written_names rs
 
 -- the level of a rule made for operators: that of each of its operators
-unfoldable pub levelOf : List Operator → ℕ
-levelOf [] = 0
-levelOf (o ∷ os) = o.level
+unfoldable pub level_of : List Operator → ℕ
+level_of [] = 0
+level_of (o ∷ os) = o.level
 
-unfoldable pub levelNames : Use → List Level → List Name
-levelNames u [] = []
-levelNames u (l ∷ ls) = made u.section.text u.operand.text (levelOf l.operators) ∷ levelNames u ls
+unfoldable pub level_names : Use → List Level → List Name
+level_names u [] = []
+level_names u (l ∷ ls) = made u.section.text u.operand.text (level_of l.operators) ∷ level_names u ls
 
 -- "for each pair of section and operand rule in the order of first use, lowest level first"
-unfoldable pub madeNames : Names → List Use → List Name
-madeNames n [] = []
-madeNames n (u ∷ us) = levelNames u (levelsUsed n u) ++ madeNames n us
+unfoldable pub made_names : Names → List Use → List Name
+made_names n [] = []
+made_names n (u ∷ us) = level_names u (levels_used n u) ++ made_names n us
 
 -- the rules as written, then those made
 unfoldable pub names_of : Program → Checked Names → List Name
-names_of p (good n) = writtenNames p.rules ++ madeNames n (pairsOf p.rules)
+names_of p (good n) = written_names p.rules ++ made_names n (pairs_of p.rules)
 names_of p (wrong m w) = []
 
 -- the source of a program that is understood; of any other, nothing
-unfoldable pub withRules : List Word → List Name → Checked (List Rule) → Source
-withRules ws names (good prog) = record { sections = sectionWords ws; names = names; rules = prog }
-withRules ws names (wrong n w) = record { sections = []; names = []; rules = [] }
+unfoldable pub with_rules : List Word → List Name → Checked (List Rule) → Source
+with_rules ws names (good prog) = record { sections = section_words ws; names = names; rules = prog }
+with_rules ws names (wrong n w) = record { sections = []; names = []; rules = [] }
 
-unfoldable pub ofRead : List Word → Read Program → Source
-ofRead ws (got p vs) = withRules ws (names_of p (declareSections p p.sections nobody)) (understand p)
-ofRead ws (fault n w) = record { sections = []; names = []; rules = [] }
+unfoldable pub of_read : List Word → Read Program → Source
+of_read ws (got p vs) = with_rules ws (names_of p (declare_sections p p.sections nobody)) (understand p)
+of_read ws (fault n w) = record { sections = []; names = []; rules = [] }
 
 unfoldable pub source_of : List ℕ → Source
-source_of text = ofRead (words text) (parse text)
+source_of text = of_read (words text) (parse text)
 
 -- all of this file computes where this is unfolded
 unfoldable pub opened : Unit {0}
-unfolding same_name number_of name_of place_in place_of numbered mark markedWords same_words inRule carriedAt carryPlace beside carryPlaces put_at sameAll carry sectionWords writtenNames levelOf levelNames madeNames names_of withRules ofRead source_of
+unfolding same_name number_of name_of place_in place_of numbered mark marked_words same_words in_rule carried_at carry_place beside carry_places put_at same_all carry section_words written_names level_of level_names made_names names_of with_rules of_read source_of
 opened = tt

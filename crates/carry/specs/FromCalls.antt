@@ -3,7 +3,7 @@
 use Rattle.std.specs.Prelude.{Bool, List, ◌++◌, ◌≡◌, ℕ}
 use Rattle.agreement.specs.Demand.{Listed}
 use Rattle.carry.specs.Identity.{Lies}
-use Rattle.carry.specs.Texts.{goes, carryTexts}
+use Rattle.carry.specs.Texts.{goes, carry_texts}
 use Rattle.events.specs.Events.{Event}
 use Rattle.machine.specs.Walk.{Walk}
 use Rattle.processor.specs.Process.{accepted, process}
@@ -20,4 +20,4 @@ abbrev pub IdentityFromCalls : Type 0
 IdentityFromCalls =
     (text : List ℕ) (room : ℕ) (words : List ℕ) (verdict : Bool) → process text room ≡ accepted words verdict
     → (more tokens answers : List ℕ) (allowance : ℕ) (w : Walk) (es : List Event) (n : ℕ) (ns : List ℕ) → Listed (words ++ more) tokens answers allowance w es n ns
-    → carryTexts text text w ≡ goes w
+    → carry_texts text text w ≡ goes w

@@ -2,11 +2,11 @@
 -- proof is in proofs/.
 use Rattle.std.specs.Prelude.{Bool, true, List, [], ◌∷◌, ◌++◌, ◌⊎◌, ◌≡◌, ℕ, ◌<◌, length}
 use Rattle.std.proofs.Math.Option.{some}
-use Rattle.agreement.specs.Demand.{eventsOf, Begins, wanted, Listed, ListedFrom, HasStopped}
+use Rattle.agreement.specs.Demand.{events_of, Begins, wanted, Listed, ListedFrom, HasStopped}
 use Rattle.carry.specs.Carry.{carried, carry, source_of}
 use Rattle.carry.specs.Places.{Standing}
 use Rattle.events.specs.Events.{Event, Reason, Io}
-use Rattle.machine.specs.Walk.{going, waiting, stopped, Walk, withIo, withAnswer}
+use Rattle.machine.specs.Walk.{going, waiting, stopped, Walk, with_io, with_answer}
 use Rattle.ownwalk.specs.OwnWalk as rules
 use Rattle.ownwalk.specs.OwnWalk.{Own, owns}
 use Rattle.processor.specs.Process.{accepted, process, understood, meaning}
@@ -29,7 +29,7 @@ pub record StopsFrom (prog : List Rule) (tokens answers : List ℕ) (s : Own) (r
 
 pub record WritesFrom (prog : List Rule) (tokens answers : List ℕ) (s : Own) (es : List Event) : Type 0 where
   pub steps : ℕ
-  pub begins : Begins es (eventsOf (owns prog tokens answers steps s))
+  pub begins : Begins es (events_of (owns prog tokens answers steps s))
 
 -- a budget for the calls after the carrying: after every list the walk has stopped or has done fewer steps (demand 3 allows for a third case, which is not needed)
 abbrev pub EndsBy : List ℕ → List ℕ → List ℕ → Walk → List Event → ℕ → Type 0
@@ -42,10 +42,10 @@ pub record Follows (prog : List Rule) (T tokens answers : List ℕ) (s : Own) (w
   pub events : {w : Walk} {es : List Event} {n : ℕ} {ns : List ℕ} → ListedFrom T tokens answers w₀ es₀ w es n ns → (w.phase ≡ waiting → ⊥)
       → WritesFrom prog tokens answers s es
   -- while it waits, of the rules' own with any one answer more
-  pub events-waiting : {w : Walk} {es : List Event} {n : ℕ} {ns : List ℕ} → ListedFrom T tokens answers w₀ es₀ w es n ns → w.phase ≡ waiting
+  pub events_waiting : {w : Walk} {es : List Event} {n : ℕ} {ns : List ℕ} → ListedFrom T tokens answers w₀ es₀ w es n ns → w.phase ≡ waiting
       → (x : ℕ) → WritesFrom prog tokens (answers ++ (x ∷ [])) s es
   -- no call answers 37
-  pub never-37 : {w : Walk} {es : List Event} {n number : ℕ} {ns : List ℕ} → ListedFrom T tokens answers w₀ es₀ w es n (number ∷ ns) → number ≡ 37 → ⊥
+  pub never_37 : {w : Walk} {es : List Event} {n number : ℕ} {ns : List ℕ} → ListedFrom T tokens answers w₀ es₀ w es n (number ∷ ns) → number ≡ 37 → ⊥
   -- a walk that has stopped has the rules' reason, events, tokens read, answers used and allowance left
   pub stops : {w : Walk} {es : List Event} {n : ℕ} {ns : List ℕ} {r : Reason} → ListedFrom T tokens answers w₀ es₀ w es n ns → w.phase ≡ stopped r
       → StopsFrom prog tokens answers s r (record { read = w.io.read; used = w.io.used; allowance = w.io.allowance; events = es })
@@ -54,17 +54,17 @@ pub record Follows (prog : List Rule) (T tokens answers : List ℕ) (s : Own) (w
 
 -- a walk with the events of all its calls
 unfoldable pub after : List Event → Walk → Walk
-after es w = withIo (record { read = w.io.read; used = w.io.used; allowance = w.io.allowance; events = es }) w
+after es w = with_io (record { read = w.io.read; used = w.io.used; allowance = w.io.allowance; events = es }) w
 
 -- the state from which the rules go on: "from the same places"
 pub data Starts (prog : List Rule) (T tokens answers : List ℕ) (w : Walk) (es : List Event) : Own → Type 0 where
   -- of a walk that goes on: at its places
-  starts-going : {s : Own} → w.phase ≡ going → Standing prog T tokens (after es w) s → Starts prog T tokens answers w es s
+  starts_going : {s : Own} → w.phase ≡ going → Standing prog T tokens (after es w) s → Starts prog T tokens answers w es s
   -- of one that waits: at its places, with the answer that it waits for
-  starts-waiting : {s : Own} (x : ℕ) → w.phase ≡ waiting → wanted answers es ≡ some x → Standing prog T tokens (after es (withAnswer x w)) s
+  starts_waiting : {s : Own} (x : ℕ) → w.phase ≡ waiting → wanted answers es ≡ some x → Standing prog T tokens (after es (with_answer x w)) s
       → Starts prog T tokens answers w es s
   -- of one that has stopped: stopped
-  starts-stopped : (r : Reason) → w.phase ≡ stopped r → Starts prog T tokens answers w es (rules.stopped r (after es w).io)
+  starts_stopped : (r : Reason) → w.phase ≡ stopped r → Starts prog T tokens answers w es (rules.stopped r (after es w).io)
 
 pub record GoesOn (prog : List Rule) (T tokens answers : List ℕ) (w : Walk) (es : List Event) : Type 0 where
   pub from : Own
@@ -77,9 +77,9 @@ pub record Carries (prog' : List Rule) (T' tokens answers : List ℕ) (w w' : Wa
   -- one that goes on or has stopped
   pub goes_on : (w.phase ≡ waiting → ⊥) → GoesOn prog' T' tokens answers w' es
   -- one that waits, if there is an answer for it
-  pub goes-on-waiting : w.phase ≡ waiting → (x : ℕ) → wanted answers es ≡ some x → GoesOn prog' T' tokens answers w' es
+  pub goes_on_waiting : w.phase ≡ waiting → (x : ℕ) → wanted answers es ≡ some x → GoesOn prog' T' tokens answers w' es
   -- and in any case with any one answer more
-  pub goes-on-with : w.phase ≡ waiting → (x : ℕ) → GoesOn prog' T' tokens (answers ++ (x ∷ [])) w' es
+  pub goes_on_with : w.phase ≡ waiting → (x : ℕ) → GoesOn prog' T' tokens (answers ++ (x ∷ [])) w' es
 
 -- one budget, fixed by the new program, the number of tokens and the allowance left, is enough for the calls after the carrying, whatever else
 abbrev pub FinishesCarried : List ℕ → List ℕ → List ℕ → List ℕ → Type 0

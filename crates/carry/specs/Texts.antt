@@ -2,7 +2,7 @@
 use Rattle.std.specs.Prelude.{List, ℕ}
 use Rattle.std.proofs.Math.Option.{Option, none, some}
 use Rattle.carry.specs.Carry.{Carried, carried, stays, carry, source_of}
-use Rattle.machine.specs.Form.{walk_of, walkBytes}
+use Rattle.machine.specs.Form.{walk_of, walk_bytes}
 use Rattle.machine.specs.Walk.{Walk}
 use Rattle.processor.specs.Process as processor
 use Rattle.processor.specs.Process.{Part, process}
@@ -23,8 +23,8 @@ between (processor.refused n at) q c = refused n 1 at
 between (processor.accepted words verdict) (processor.refused n at) c = refused n 2 at
 between (processor.accepted words verdict) (processor.accepted words' verdict') c = answer_of c
 
-unfoldable pub carryTexts : List ℕ → List ℕ → Walk → Answer
-carryTexts old new w = between (process old 4096) (process new 4096) (carry (source_of old) (source_of new) w)
+unfoldable pub carry_texts : List ℕ → List ℕ → Walk → Answer
+carry_texts old new w = between (process old 4096) (process new 4096) (carry (source_of old) (source_of new) w)
 
 -- Bytes
 
@@ -38,7 +38,7 @@ pub record Outcome : Type 0 where
 
 -- "the walk comes back unchanged"
 unfoldable pub told : Answer → List ℕ → Outcome
-told (goes w) walk = record { number = 0; text = 0; start = 0; size = 0; walk = walkBytes w }
+told (goes w) walk = record { number = 0; text = 0; start = 0; size = 0; walk = walk_bytes w }
 told (differs n) walk = record { number = n; text = 0; start = 0; size = 0; walk = walk }
 told (refused n t at) walk = record { number = n; text = t; start = at.start; size = at.size; walk = walk }
 
@@ -47,10 +47,10 @@ unfoldable pub outcome : Option Walk → List ℕ → (Walk → Answer) → Outc
 outcome none walk f = record { number = 21; text = 0; start = 0; size = 0; walk = walk }
 outcome (some w) walk f = told (f w) walk
 
-unfoldable pub carryBytes : List ℕ → List ℕ → List ℕ → Outcome
-carryBytes old new walk = outcome (walk_of walk) walk (carryTexts old new)
+unfoldable pub carry_bytes : List ℕ → List ℕ → List ℕ → Outcome
+carry_bytes old new walk = outcome (walk_of walk) walk (carry_texts old new)
 
 -- all of this file computes where this is unfolded
 unfoldable pub opened : Unit {0}
-unfolding answer_of between carryTexts told outcome carryBytes
+unfolding answer_of between carry_texts told outcome carry_bytes
 opened = tt

@@ -9,12 +9,12 @@ use native.Mathlib.Omega.{arith}
 use Prim.Native.Nat.{ℕ, zero, suc, ◌+◌, ◌-◌, ◌*◌, ◌≤◌, ◌<◌}
 use lib.ListN.{length}
 use Rattle.agreement.proofs.Lists.{going-stopped, one-going}
-use Rattle.agreement.proofs.Single.{oneIn, one, runs}
+use Rattle.agreement.proofs.Single.{one_in, one, runs}
 use Rattle.agreement.proofs.Theorem.{stays}
 use Rattle.events.specs.Events.{Reason, outside}
 use Rattle.figure.proofs.Steps.{left, Knows, knows-none, After, Last, Sorted, goes-outside, stops-here, reads_here, goes_on, calls, returns, step-sort}
-use Rattle.figure.specs.Figure.{Leads, leads-call, Reached, at-start, further, End, over, back, Quiet, quiet, Does, does-call-over, does_call, does-return, Bounds}
-use Rattle.machine.specs.Decode.{Instruction, callRule, return, decode}
+use Rattle.figure.specs.Figure.{Leads, leads_call, Reached, at_start, further, End, over, back, Quiet, quiet, Does, does_call_over, does_call, does_return, Bounds}
+use Rattle.machine.specs.Decode.{Instruction, call_rule, return, decode}
 use Rattle.machine.specs.Step.{step}
 use Rattle.machine.specs.Walk.{Phase, going, waiting, stopped, Walk}
 
@@ -37,7 +37,7 @@ module _ (T : List ℕ) (Start : ℕ → Type 0) where
 
 -- Starts from which only starts are called
 
-module _ (T tokens answers : List ℕ) (Start : ℕ → Type 0) (closed : (s l m : ℕ) → Start s → Reached T s l → decode T l ≡ callRule m → Start m) where
+module _ (T tokens answers : List ℕ) (Start : ℕ → Type 0) (closed : (s l m : ℕ) → Start s → Reached T s l → decode T l ≡ call_rule m → Start m) where
   abbrev At : ℕ → Walk → Walk
   At n w = runs T tokens answers n w
 
@@ -60,8 +60,8 @@ module _ (T tokens answers : List ℕ) (Start : ℕ → Type 0) (closed : (s l m
   here-leads : {l m : ℕ} → Here l → Leads T l (decode T l) m → Here m
   here-leads (is-here c r) h = is-here c (further r h)
 
-  here-start : {l m : ℕ} → Here l → decode T l ≡ callRule m → Here m
-  here-start {l} {m} (is-here {s = s} c r) d = is-here (closed s l m c r d) at-start
+  here-start : {l m : ℕ} → Here l → decode T l ≡ call_rule m → Here m
+  here-start {l} {m} (is-here {s = s} c r) d = is-here (closed s l m c r d) at_start
 
   head-here : {l : ℕ} {ls rs : List ℕ} → rs ≡ l ∷ ls → AllHere rs → Here l × AllHere ls
   head-here e all_none = let z : ◌≡◌ {A = ℕ} 0 1 = cc in absurd (omega arith)
@@ -73,9 +73,9 @@ module _ (T tokens answers : List ℕ) (Start : ℕ → Type 0) (closed : (s l m
   on-placed : {l m : ℕ} {rs rs₁ : List ℕ} → Leads T l (decode T l) m → rs₁ ≡ rs → Placed l rs → Placed m rs₁
   on-placed d e p = record { here = here-leads p.here d; behind = rw e p.behind; few = rw e p.few }
 
-  call-placed : {l m : ℕ} {rs rs₁ : List ℕ} → decode T l ≡ callRule m → rs₁ ≡ (l + 2) ∷ rs → length rs < 64 → Placed l rs → Placed m rs₁
+  call-placed : {l m : ℕ} {rs rs₁ : List ℕ} → decode T l ≡ call_rule m → rs₁ ≡ (l + 2) ∷ rs → length rs < 64 → Placed l rs → Placed m rs₁
   call-placed {l} d e b p =
-      let c : Leads T l (decode T l) (l + 2) = rw d leads-call in
+      let c : Leads T l (decode T l) (l + 2) = rw d leads_call in
       record { here = here-start p.here d; behind = rw e (all_more (here-leads p.here c) p.behind); few = rw e (omega arith) }
 
   back-placed : {l m : ℕ} {rs rs₁ : List ℕ} → rs ≡ m ∷ rs₁ → Placed l rs → Placed m rs₁
@@ -91,7 +91,7 @@ module _ (T tokens answers : List ℕ) (Start : ℕ → Type 0) (closed : (s l m
   step-placed w v (returns g₁ a d c f) g p = back-placed c p
 
   one_placed : (w : Walk) → (w.phase ≡ going → Placed w.location w.returns) → (Next w).phase ≡ going → Placed (Next w).location (Next w).returns
-  unfolding one oneIn
+  unfolding one one_in
   one_placed w p g = go w.phase refl
     where
       go : (ph : Phase) → w.phase ≡ ph → Placed (Next w).location (Next w).returns
@@ -154,15 +154,15 @@ module _ (T tokens answers : List ℕ) (Start : ℕ → Type 0) (closed : (s l m
   on-rests {b = b} a h = through 1 b (λ n e p. record { count = suc n; is = omega arith; path = quiet (a.onward n e p) }) h
 
   -- in a called rule
-  call-rests : {rs : List ℕ} {l s b : ℕ} {x : Option ℕ} → decode T l ≡ callRule s → Rests rs l x b → Rests ((l + 2) ∷ rs) s none (b - 1)
+  call-rests : {rs : List ℕ} {l s b : ℕ} {x : Option ℕ} → decode T l ≡ call_rule s → Rests rs l x b → Rests ((l + 2) ∷ rs) s none (b - 1)
   call-rests {rs} {b = b} d h =
-      rests-more {b = b - 1} (λ n p. let z = over-few h (by-instruction d (does-call-over p)) in omega arith)
+      rests-more {b = b - 1} (λ n p. let z = over-few h (by-instruction d (does_call_over p)) in omega arith)
       (λ n y p v k. behind-by y k (wider rs (b - suc n) (b - 1 - n) (omega arith)
       (through (suc n) b (λ n₁ e p₁. record { count = suc (n + n₁); is = omega arith; path = by-instruction d (does_call p p₁ refl) }) h)))
 
   -- behind a return
   back-rests : {rs : List ℕ} {l m v b : ℕ} {x : Option ℕ} → decode T l ≡ return → Knows x v → Rests (m ∷ rs) l x b → Behind rs m v (b - 1)
-  back-rests {v = v} {x = x} d k (rests-more h g) = g 1 x (by-instruction d does-return) v k
+  back-rests {v = v} {x = x} d k (rests-more h g) = g 1 x (by-instruction d does_return) v k
 
   module _ (q : ℕ) (most : Bounds T Start q) where
     here-most : {l n : ℕ} {e : End} → Here l → Quiet T l none n e → n ≤ q

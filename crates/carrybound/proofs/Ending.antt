@@ -13,7 +13,7 @@ use Rattle.acceptance.proofs.Accepts.{accepted-table}
 use Rattle.acceptance.specs.Answers.{TableOf}
 use Rattle.agreement.proofs.Agree.{never-outside}
 use Rattle.agreement.proofs.BoundWalk.{budget}
-use Rattle.agreement.proofs.Lists.{withEvents, step-asked, Kept, runs-suc, one-going, Where, lives, left, waits, listed-from, Awaits, still, answered, listed-awaits, going-stopped, going-waiting}
+use Rattle.agreement.proofs.Lists.{with_events, step-asked, Kept, runs-suc, one-going, Where, lives, left, waits, listed-from, Awaits, still, answered, listed-awaits, going-stopped, going-waiting}
 use Rattle.agreement.proofs.MoreAnswers.{one_more, alike_from}
 use Rattle.agreement.proofs.Single.{taking, done, one, runs}
 use Rattle.agreement.proofs.Theorem.{later}
@@ -29,17 +29,17 @@ use Rattle.events.specs.Events as events
 use Rattle.events.specs.Events.{Event, Reason, outside, choices}
 use Rattle.figure.proofs.Battery.{figure-exact}
 use Rattle.figure.proofs.More.{same-run}
-use Rattle.figure.proofs.Steps.{left as toCome}
+use Rattle.figure.proofs.Steps.{left as to_come}
 use Rattle.figure.specs.Count.{figure}
 use Rattle.figure.specs.Figure.{Reached, Bounds}
 use Rattle.figure.specs.Promise.{RuleStart}
 use Rattle.finishing.proofs.Exact.{finishing-sound}
 use Rattle.finishing.specs.Finishing.{Finishing}
 use Rattle.machine.specs.Call.{writing}
-use Rattle.machine.specs.Decode.{callRule, decode}
+use Rattle.machine.specs.Decode.{call_rule, decode}
 use Rattle.machine.specs.Step.{Next, asks, step}
 use Rattle.machine.specs.Walk
-use Rattle.machine.specs.Walk.{Phase, going, waiting, stopped, Walk, withAnswer}
+use Rattle.machine.specs.Walk.{Phase, going, waiting, stopped, Walk, with_answer}
 use Rattle.processor.specs.Process.{Understood, accepted, process, understood, meaning}
 use Rattle.program.specs.Accepted.{Accepted}
 use Rattle.program.specs.Program.{Rule}
@@ -80,14 +80,14 @@ module _ (T tokens answers : List ℕ) (w₁ : Walk) (kept₁ : Kept w₁) (few 
       let more = answers ++ (0 ∷ []) in
       let a = alike_from T tokens answers 0 w₁ few k g₁ in
       let y = one_more answers 0 (choices v.io.events) (rw d at a.taken) in
-      let r : runs T tokens more (suc k) w₁ ≡ withAnswer y.0 (writing e v') =
+      let r : runs T tokens more (suc k) w₁ ≡ with_answer y.0 (writing e v') =
       runs-suc T tokens more k w₁ ∙ ap (one T tokens more) (a.same ∙ d)
       ∙ one-going T tokens more v g ∙ ap (λ (nx : Next). done T tokens more nx v) z
       ∙ ap (λ (o : Option ℕ). taking o e v' v) y.1 in
       still-going more (suc k) (ap (λ (u : Walk). u.phase) r)
 
   pub led-suffices : {w : Walk} {es : List Event} {n : ℕ} → Led w es n → HasStopped w ⊎ (n < b)
-  unfolding withEvents Walk.opened
+  unfolding with_events Walk.opened
   led-suffices {w} {es} {n} (lives x d mv) = elim (dec_lt n b) [
     | yes y ↦ inr y
     | no y ↦ inl (record { reason = t.reason; stop = ap (λ (v : Walk). v.phase) d ∙ later T tokens answers t.steps n w₁ t.reason (omega (arith, t.few)) t.stop })
@@ -111,7 +111,7 @@ module _ (T tokens answers : List ℕ) (w₁ : Walk) (kept₁ : Kept w₁) (few 
   some-steps = let t = in-time answers in omega (arith, t.some-step, t.few)
 
   -- one that goes on
-  pub from-going : (w₀ : Walk) (es₀ : List Event) → w₀.phase ≡ going → withEvents es₀ w₀ ≡ w₁ → EnoughFrom T tokens answers w₀ es₀ b
+  pub from-going : (w₀ : Walk) (es₀ : List Event) → w₀.phase ≡ going → with_events es₀ w₀ ≡ w₁ → EnoughFrom T tokens answers w₀ es₀ b
   from-going w₀ es₀ g is =
       record { suffices = λ w es n ns l. led-suffices (led l); steps = λ w es n ns l. led-steps (led l) }
     where
@@ -119,7 +119,7 @@ module _ (T tokens answers : List ℕ) (w₁ : Walk) (kept₁ : Kept w₁) (few 
       led l = listed-from T tokens answers w₁ kept₁ (going-waiting g) is l
 
   -- one that waits for an answer that there is
-  pub from-waiting : (w₀ : Walk) (es₀ : List Event) (x : ℕ) → w₀.phase ≡ waiting → wanted answers es₀ ≡ some x → withEvents es₀ (withAnswer x w₀) ≡ w₁ → EnoughFrom T tokens answers w₀ es₀ b
+  pub from-waiting : (w₀ : Walk) (es₀ : List Event) (x : ℕ) → w₀.phase ≡ waiting → wanted answers es₀ ≡ some x → with_events es₀ (with_answer x w₀) ≡ w₁ → EnoughFrom T tokens answers w₀ es₀ b
   from-waiting w₀ es₀ x g o is =
       record { suffices = λ w es n ns l. suffices-led (awaits l); steps = λ w es n ns l. steps-led (awaits l) }
     where
@@ -147,13 +147,13 @@ module _ (p q : Source) (ok : Accepted p.rules) (ok' : Accepted q.rules) (dp : D
   abbrev Bound : ℕ → ℕ
   Bound r = 65 * longest * (length tokens + r + 1)
 
-  closed-here : (s l m : ℕ) → RuleStart q.rules s → Reached (table q.rules) s l → decode (table q.rules) l ≡ callRule m → RuleStart q.rules m
+  closed-here : (s l m : ℕ) → RuleStart q.rules s → Reached (table q.rules) s l → decode (table q.rules) l ≡ call_rule m → RuleStart q.rules m
   closed-here = rw (append-nil (table q.rules)) at (closed q.rules [] ok')
 
   -- single steps of a walk that goes on, from reachable places: it stops in time over the table alone, and so over every longer one
   stops-in-time : (answers : List ℕ) (w₁ : Walk) → Begun p q ok ok' dp dq np nq more [] tokens answers w₁ → w₁.phase ≡ going
       → PlacedIn (table q.rules) (RuleStart q.rules) w₁.location w₁.returns → (given : List ℕ) → InTime New tokens given w₁ (Bound w₁.io.allowance)
-  unfolding toCome runs
+  unfolding to_come runs
   stops-in-time answers w₁ b g pl given =
       let e = ends-after q.rules ok' fin [] tokens given w₁ b.spot b.read b.kept.returns w₁.io.allowance refl in
       let n = 3 * budget q.rules (length tokens + (w₁.io.allowance + 1)) in
@@ -184,26 +184,26 @@ module _ (p q : Source) (ok : Accepted p.rules) (ok' : Accepted q.rules) (dp : D
     kept-phase ph g = (keeping p q w w' c).phase ∙ g
 
     enough-going : w.phase ≡ going → Enough
-    unfolding withEvents Walk.opened
+    unfolding with_events Walk.opened
     enough-going g =
         let b = begun-going p q ok ok' dp dq np nq more [] tokens answers allowance l w' c g in
         let g' = kept-phase going g in
-        let w₁ = withEvents es w' in
+        let w₁ = with_events es w' in
         from-going New tokens answers w₁ b.kept b.few (Bound w'.io.allowance) (stops-in-time answers w₁ b g' placed) w' es g' refl
 
     enough-waiting : (x : ℕ) → w.phase ≡ waiting → wanted answers es ≡ some x → Enough
-    unfolding withEvents Walk.opened events.answered
+    unfolding with_events Walk.opened events.answered
     enough-waiting x g o =
         let b = begun-waiting p q ok ok' dp dq np nq more [] tokens answers allowance l w' c x g o in
-        let w₁ = withEvents es (withAnswer x w') in
+        let w₁ = with_events es (with_answer x w') in
         from-waiting New tokens answers w₁ b.kept b.few (Bound w'.io.allowance) (stops-in-time answers w₁ b refl placed) w' es x (kept-phase waiting g) o refl
 
     -- one that waits for an answer past the last goes on waiting
     enough-idle : w.phase ≡ waiting → wanted answers es ≡ none → Enough
-    unfolding withEvents Walk.opened events.answered
+    unfolding with_events Walk.opened events.answered
     enough-idle g o =
         let m = begun_more p q ok ok' dp dq np nq more [] tokens answers allowance l w' c 0 g in
-        let t = stops-in-time (answers ++ (0 ∷ [])) (withEvents es (withAnswer m.answer w')) m.begun refl placed [] in
+        let t = stops-in-time (answers ++ (0 ∷ [])) (with_events es (with_answer m.answer w')) m.begun refl placed [] in
         let z : 1 ≤ Bound w'.io.allowance = omega (arith, t.some-step, t.few) in
         record { suffices = λ w₂ es₂ n₂ ns₂ l₂. inr (omega (arith, z, idle l₂)); steps = λ w₂ es₂ n₂ ns₂ l₂. omega (arith, idle l₂) }
       where
@@ -241,12 +241,12 @@ figure-carried old new room room' words words' verdict e e' prog' m k f more mor
     let t' = accepted-table new room' words' true e' in
     let s = source_ok old t.prog t.means in
     let s' = source_ok new t'.prog t'.means in
-    let ok : Accepted (source_of old).rules = rw s.rules-are t.accepts in
-    let ok' : Accepted (source_of new).rules = rw s'.rules-are t'.accepts in
-    let old-words : words ≡ table (source_of old).rules = t.words_are ∙ ap table (sym s.rules-are) in
-    let new-words : words' ≡ table (source_of new).rules = t'.words_are ∙ ap table (sym s'.rules-are) in
-    let fin : Finishing (source_of new).rules = rw s'.rules-are (finishing-sound t'.prog (sym t'.verdict-is)) in
-    let is : figure (source_of new).rules ≡ some k = ap figure (s'.rules-are ∙ same-meaning t'.means m) ∙ f in
+    let ok : Accepted (source_of old).rules = rw s.rules_are t.accepts in
+    let ok' : Accepted (source_of new).rules = rw s'.rules_are t'.accepts in
+    let old-words : words ≡ table (source_of old).rules = t.words_are ∙ ap table (sym s.rules_are) in
+    let new-words : words' ≡ table (source_of new).rules = t'.words_are ∙ ap table (sym s'.rules_are) in
+    let fin : Finishing (source_of new).rules = rw s'.rules_are (finishing-sound t'.prog (sym t'.verdict_is)) in
+    let is : figure (source_of new).rules ≡ some k = ap figure (s'.rules_are ∙ same-meaning t'.means m) ∙ f in
     let most = (figure-exact (source_of new).rules ok' fin k is).exact.bounds in
     rw new-words
     (enough (source_of old) (source_of new) ok ok' s.distinct s'.distinct s.length-is s'.length-is more more' tokens fin k most answers allowance (rw old-words at l) w' c)

@@ -10,31 +10,32 @@ use lib.ListN.{length}
 use borrow.Author.Tests.{eq-eqb}
 use Rattle.agreement.proofs.Lay as lay
 use Rattle.agreement.proofs.Lay.{Entry, lookup, Table}
-use Rattle.agreement.proofs.Sim.{lookupBy, good, good-there, seek-leads}
-use Rattle.base.specs.Common.{if◌then◌else◌, given}
+use Rattle.agreement.proofs.Sim.{lookup_by, good, good-there, seek-leads}
+use Rattle.std.specs.Prelude.{if◌then◌else◌}
+use Rattle.base.specs.Common.{given}
 use Rattle.carry.proofs.Lists.{none-some}
 use Rattle.carry.proofs.Placed.{later, Place, Choice}
-use Rattle.carry.proofs.Ready.{Default, default-place, default-input, default-end, Branch, Ready, r-jump, r-input, r-any, r-write, r-call, r-rule, r-return, r-give, r-update, r-updateWith, r-token, r-operation, r-operationWith, ready, ReadyChoice, ready-choice}
+use Rattle.carry.proofs.Ready.{Default, default-place, default-input, default-end, Branch, Ready, r-jump, r-input, r-any, r-write, r-call, r-rule, r-return, r-give, r-update, r-update_with, r-token, r-operation, r-operation_with, ready, ReadyChoice, ready-choice}
 use Rattle.carry.proofs.Track.{length-later, ahead, by-later}
 use Rattle.events.specs.Events.{Event}
 use Rattle.figure.proofs.Steps.{labels-seek}
-use Rattle.figure.specs.Figure.{labelBy, backFrom, wayAmong, way_of, wayOut, Leads, leads-jump, leads-input, leads_any, leads-write, leads-token, leads-call, leads-result, leads-choice, leads-parameter, leads-update, leads-updateWith, leads-choose, leads-chooseWith, Reached, at-start, further}
-use Rattle.machine.specs.Decode.{fetch, Instruction, invalid, jump, input, inputAny, write, inputChoice, callRule, return, setResult, choice as by_result, endChoice, setParameter, update as updates, updateWith as updatesWith, choose, chooseWith, decode}
-use Rattle.machine.specs.Step.{seekBy}
+use Rattle.figure.specs.Figure.{label_by, back_from, way_among, way_of, way_out, Leads, leads_jump, leads_input, leads_any, leads_write, leads_token, leads_call, leads_result, leads_choice, leads_parameter, leads_update, leads_update_with, leads_choose, leads_choose_with, Reached, at_start, further}
+use Rattle.machine.specs.Decode.{fetch, Instruction, invalid, jump, input, input_any, write, input_choice, call_rule, return, set_result, choice as by_result, end_choice, set_parameter, update as updates, update_with as updates_with, choose, choose_with, decode}
+use Rattle.machine.specs.Step.{seek_by}
 use Rattle.program.specs.Program.{Rule}
 
 -- Choice tables
 
 -- the location that a choice with its choice table at c leads to: of its label, or behind its n labels
-unfoldable landsAt : ℕ → ℕ → Option ℕ → ℕ
-landsAt c n none = c + 1 + 2 * n
-landsAt c n (some y) = y
+unfoldable lands_at : ℕ → ℕ → Option ℕ → ℕ
+lands_at c n none = c + 1 + 2 * n
+lands_at c n (some y) = y
 
-way-is : (S : List ℕ) (c : ℕ) (ps : List Entry) → Table S c ps → (v : Option ℕ) → wayOut S c v ≡ landsAt c (length ps) (lookupBy v ps)
-unfolding wayOut way_of wayAmong backFrom landsAt
+way-is : (S : List ℕ) (c : ℕ) (ps : List Entry) → Table S c ps → (v : Option ℕ) → way_out S c v ≡ lands_at c (length ps) (lookup_by v ps)
+unfolding way_out way_of way_among back_from lands_at
 way-is S c ps t v = rw (t.count, ← labels-seek S [] [] v (length ps) (c + 1)) (go (seek-leads S [] v t))
   where
-    go : {z x : Option ℕ} → lay.Leads S z x → wayAmong S c (length ps) z ≡ landsAt c (length ps) x
+    go : {z x : Option ℕ} → lay.Leads S z x → way_among S c (length ps) z ≡ lands_at c (length ps) x
     go lay.leads-none = refl
     go (lay.leads f e) = rw f e
 
@@ -53,9 +54,9 @@ module _ (prog : List Rule) (T W : List ℕ) (start mk : ℕ → ℕ) (base : �
     at_place : {o : ℕ} → P o → Spot o
     at-choice : {o : ℕ} → C o → Spot o
     at_return : {o : ℕ} → decode W o ≡ return → decode T (base + o) ≡ return → Spot o
-    at-update : {o op : ℕ} → decode W o ≡ updatesWith op → decode T (base + o) ≡ updatesWith op → P (o + 1) → Spot o
-    at-choose : {o op : ℕ} → decode W o ≡ chooseWith op → decode T (base + o) ≡ chooseWith op → C (o + 1) → Spot o
-    at-end : {o : ℕ} → decode W o ≡ endChoice → decode T (base + o) ≡ endChoice → Spot o
+    at-update : {o op : ℕ} → decode W o ≡ updates_with op → decode T (base + o) ≡ updates_with op → P (o + 1) → Spot o
+    at-choose : {o op : ℕ} → decode W o ≡ choose_with op → decode T (base + o) ≡ choose_with op → C (o + 1) → Spot o
+    at_end : {o : ℕ} → decode W o ≡ end_choice → decode T (base + o) ≡ end_choice → Spot o
     at-jump : {o y : ℕ} → decode W o ≡ jump y → decode T (base + o) ≡ jump (base + y) → P y → Spot o
     at-input : {o u : ℕ} → decode W o ≡ input u → decode T (base + o) ≡ input u → Spot (o + 2) → Spot o
 
@@ -63,19 +64,19 @@ module _ (prog : List Rule) (T W : List ℕ) (start mk : ℕ → ℕ) (base : �
   pub data Alike (o : ℕ) : Instruction → Instruction → Type 0 where
     a-jump : {y : ℕ} → Spot y → Alike o (jump y) (jump (base + y))
     a-input : {t : ℕ} → Spot (o + 2) → Alike o (input t) (input t)
-    a-any : Spot (o + 1) → Alike o inputAny inputAny
+    a-any : Spot (o + 1) → Alike o input_any input_any
     a_write : {e : Event} → Spot (o + 2) → Alike o (write e) (write e)
-    a-token : {c : ℕ} → ((v : Option ℕ) → Spot (wayOut W c v)) → ((v : Option ℕ) → wayOut T (base + c) v ≡ base + wayOut W c v) → Alike o (inputChoice c) (inputChoice (base + c))
-    a_call : {y s : ℕ} → Spot (o + 2) → Alike o (callRule y) (callRule s)
+    a-token : {c : ℕ} → ((v : Option ℕ) → Spot (way_out W c v)) → ((v : Option ℕ) → way_out T (base + c) v ≡ base + way_out W c v) → Alike o (input_choice c) (input_choice (base + c))
+    a_call : {y s : ℕ} → Spot (o + 2) → Alike o (call_rule y) (call_rule s)
     a-return : Alike o return return
-    a-result : {u : ℕ} → Spot (o + 2) → Alike o (setResult u) (setResult u)
-    a-choice : {c : ℕ} → ((v : Option ℕ) → Spot (wayOut W c v)) → ((v : Option ℕ) → wayOut T (base + c) v ≡ base + wayOut W c v) → Alike o (by_result c) (by_result (base + c))
-    a-end : Alike o endChoice endChoice
-    a-parameter : {u : ℕ} → Spot (o + 2) → Alike o (setParameter u) (setParameter u)
+    a-result : {u : ℕ} → Spot (o + 2) → Alike o (set_result u) (set_result u)
+    a-choice : {c : ℕ} → ((v : Option ℕ) → Spot (way_out W c v)) → ((v : Option ℕ) → way_out T (base + c) v ≡ base + way_out W c v) → Alike o (by_result c) (by_result (base + c))
+    a-end : Alike o end_choice end_choice
+    a-parameter : {u : ℕ} → Spot (o + 2) → Alike o (set_parameter u) (set_parameter u)
     a-update : {op : ℕ} → Spot (o + 1) → Alike o (updates op) (updates op)
-    a-updateWith : {op : ℕ} → Spot (o + 1) → Alike o (updatesWith op) (updatesWith op)
+    a-update_with : {op : ℕ} → Spot (o + 1) → Alike o (updates_with op) (updates_with op)
     a-choose : {op : ℕ} → Spot (o + 1) → Alike o (choose op) (choose op)
-    a-chooseWith : {op : ℕ} → Spot (o + 1) → Alike o (chooseWith op) (chooseWith op)
+    a-choose_with : {op : ℕ} → Spot (o + 1) → Alike o (choose_with op) (choose_with op)
 
   -- Choices
 
@@ -83,26 +84,26 @@ module _ (prog : List Rule) (T W : List ℕ) (start mk : ℕ → ℕ) (base : �
   unfolding lookup
   default-spot (default-place p) g = at_place p
   default-spot (default-input {u = u} {a = a} dw dt dw₂ dt₂) g = at-input dw dt (at-jump dw₂ dt₂ (g u a (rw (eq-eqb u u refl))))
-  default-spot (default-end dw dt) g = at-end dw dt
+  default-spot (default-end dw dt) g = at_end dw dt
 
-  ways : {i : Bool} (c : ℕ) (b : B i c) (v : Option ℕ) → Spot (wayOut W c v)
-  unfolding landsAt lookupBy
+  ways : {i : Bool} (c : ℕ) (b : B i c) (v : Option ℕ) → Spot (way_out W c v)
+  unfolding lands_at lookup_by
   ways c b v = rw (way-is W c b.ps b.local v) (go v)
     where
-      by : (u : ℕ) (x : Option ℕ) → lookup u b.ps ≡ x → Spot (landsAt c (length b.ps) x)
+      by : (u : ℕ) (x : Option ℕ) → lookup u b.ps ≡ x → Spot (lands_at c (length b.ps) x)
       by u none e = default-spot b.default b.goes
       by u (some y) e = at_place (b.goes u y e)
 
-      go : (v : Option ℕ) → Spot (landsAt c (length b.ps) (lookupBy v b.ps))
+      go : (v : Option ℕ) → Spot (lands_at c (length b.ps) (lookup_by v b.ps))
       go none = default-spot b.default b.goes
       go (some u) = by u (lookup u b.ps) refl
 
-  ways-later : {i : Bool} (c : ℕ) (b : B i c) (v : Option ℕ) → wayOut T (base + c) v ≡ base + wayOut W c v
-  unfolding landsAt ahead
+  ways-later : {i : Bool} (c : ℕ) (b : B i c) (v : Option ℕ) → way_out T (base + c) v ≡ base + way_out W c v
+  unfolding lands_at ahead
   ways-later c b v =
-      rw (way-is T (base + c) (later base b.ps) b.global v, way-is W c b.ps b.local v, by-later base v b.ps, length-later base b.ps) (go (lookupBy v b.ps))
+      rw (way-is T (base + c) (later base b.ps) b.global v, way-is W c b.ps b.local v, by-later base v b.ps, length-later base b.ps) (go (lookup_by v b.ps))
     where
-      go : (x : Option ℕ) → landsAt (base + c) (length b.ps) (ahead base x) ≡ base + landsAt c (length b.ps) x
+      go : (x : Option ℕ) → lands_at (base + c) (length b.ps) (ahead base x) ≡ base + lands_at c (length b.ps) x
       go none = omega arith
       go (some y) = refl
 
@@ -118,10 +119,10 @@ module _ (prog : List Rule) (T W : List ℕ) (start mk : ℕ → ℕ) (base : �
   ready-alike (r-return z d t) = rw (d, t) a-return
   ready-alike (r-give z d t d₂ t₂) = rw (d, t) (a-result (at_return d₂ t₂))
   ready-alike (r-update d t p) = rw (d, t) (a-update (at_place p))
-  ready-alike (r-updateWith d t d₂ t₂ p) = rw (d, t) (a-parameter (at-update d₂ t₂ p))
+  ready-alike (r-update_with d t d₂ t₂ p) = rw (d, t) (a-parameter (at-update d₂ t₂ p))
   ready-alike (r-token {c = c} d t b) = rw (d, t) (a-token (ways c b) (ways-later c b))
   ready-alike (r-operation d t p) = rw (d, t) (a-choose (at-choice p))
-  ready-alike (r-operationWith d t d₂ t₂ p) = rw (d, t) (a-parameter (at-choose d₂ t₂ p))
+  ready-alike (r-operation_with d t d₂ t₂ p) = rw (d, t) (a-parameter (at-choose d₂ t₂ p))
 
   choice-alike : {o : ℕ} → ReadyChoice prog T W start mk base rule o → Alike o (decode W o) (decode T (base + o))
   choice-alike x = rw (x.local, x.global) (a-choice (ways x.table_at x.branches) (ways-later x.table_at x.branches))
@@ -130,9 +131,9 @@ module _ (prog : List Rule) (T W : List ℕ) (start mk : ℕ → ℕ) (base : �
   alike (at_place p) = ready-alike (ready prog T W start mk base rule p)
   alike (at-choice c) = choice-alike (ready-choice prog T W start mk base rule c)
   alike (at_return d t) = rw (d, t) a-return
-  alike (at-update d t p) = rw (d, t) (a-updateWith (at_place p))
-  alike (at-choose d t c) = rw (d, t) (a-chooseWith (at-choice c))
-  alike (at-end d t) = rw (d, t) a-end
+  alike (at-update d t p) = rw (d, t) (a-update_with (at_place p))
+  alike (at-choose d t c) = rw (d, t) (a-choose_with (at-choice c))
+  alike (at_end d t) = rw (d, t) a-end
   alike (at-jump d t p) = rw (d, t) (a-jump (at_place p))
   alike (at-input d t s) = rw (d, t) (a-input s)
 
@@ -150,9 +151,9 @@ module _ (prog : List Rule) (T W : List ℕ) (start mk : ℕ → ℕ) (base : �
   alike-good a-end = refl
   alike-good (a-parameter s) = refl
   alike-good (a-update s) = refl
-  alike-good (a-updateWith s) = refl
+  alike-good (a-update_with s) = refl
   alike-good (a-choose s) = refl
-  alike-good (a-chooseWith s) = refl
+  alike-good (a-choose_with s) = refl
 
   -- a spot is a word of the rule
   pub spot-inside : (o : ℕ) → Spot o → given (fetch W o) ≡ true
@@ -171,19 +172,19 @@ module _ (prog : List Rule) (T W : List ℕ) (start mk : ℕ → ℕ) (base : �
   near b o n = omega arith
 
   down_step : {o m : ℕ} {i j : Instruction} → Alike o i j → Leads T (base + o) j m → Down o i m
-  down_step {o} (a-jump {y = y} s) leads-jump = record { to = y; is = refl; way = leads-jump; spot = s }
-  down_step {o} (a-input s) leads-input = record { to = o + 2; is = near base o 2; way = leads-input; spot = s }
+  down_step {o} (a-jump {y = y} s) leads_jump = record { to = y; is = refl; way = leads_jump; spot = s }
+  down_step {o} (a-input s) leads_input = record { to = o + 2; is = near base o 2; way = leads_input; spot = s }
   down_step {o} (a-any s) leads_any = record { to = o + 1; is = near base o 1; way = leads_any; spot = s }
-  down_step {o} (a_write s) leads-write = record { to = o + 2; is = near base o 2; way = leads-write; spot = s }
-  down_step {o} (a-token {c = c} s e) (leads-token v) = record { to = wayOut W c v; is = e v; way = leads-token v; spot = s v }
-  down_step {o} (a_call s) leads-call = record { to = o + 2; is = near base o 2; way = leads-call; spot = s }
-  down_step {o} (a-result s) leads-result = record { to = o + 2; is = near base o 2; way = leads-result; spot = s }
-  down_step {o} (a-choice {c = c} s e) (leads-choice v) = record { to = wayOut W c v; is = e v; way = leads-choice v; spot = s v }
-  down_step {o} (a-parameter s) leads-parameter = record { to = o + 2; is = near base o 2; way = leads-parameter; spot = s }
-  down_step {o} (a-update s) leads-update = record { to = o + 1; is = near base o 1; way = leads-update; spot = s }
-  down_step {o} (a-updateWith s) leads-updateWith = record { to = o + 1; is = near base o 1; way = leads-updateWith; spot = s }
-  down_step {o} (a-choose s) leads-choose = record { to = o + 1; is = near base o 1; way = leads-choose; spot = s }
-  down_step {o} (a-chooseWith s) leads-chooseWith = record { to = o + 1; is = near base o 1; way = leads-chooseWith; spot = s }
+  down_step {o} (a_write s) leads_write = record { to = o + 2; is = near base o 2; way = leads_write; spot = s }
+  down_step {o} (a-token {c = c} s e) (leads_token v) = record { to = way_out W c v; is = e v; way = leads_token v; spot = s v }
+  down_step {o} (a_call s) leads_call = record { to = o + 2; is = near base o 2; way = leads_call; spot = s }
+  down_step {o} (a-result s) leads_result = record { to = o + 2; is = near base o 2; way = leads_result; spot = s }
+  down_step {o} (a-choice {c = c} s e) (leads_choice v) = record { to = way_out W c v; is = e v; way = leads_choice v; spot = s v }
+  down_step {o} (a-parameter s) leads_parameter = record { to = o + 2; is = near base o 2; way = leads_parameter; spot = s }
+  down_step {o} (a-update s) leads_update = record { to = o + 1; is = near base o 1; way = leads_update; spot = s }
+  down_step {o} (a-update_with s) leads_update_with = record { to = o + 1; is = near base o 1; way = leads_update_with; spot = s }
+  down_step {o} (a-choose s) leads_choose = record { to = o + 1; is = near base o 1; way = leads_choose; spot = s }
+  down_step {o} (a-choose_with s) leads_choose_with = record { to = o + 1; is = near base o 1; way = leads_choose_with; spot = s }
 
   -- from W to T
   record Up (o : ℕ) (j : Instruction) (m : ℕ) : Type 0 where
@@ -194,19 +195,19 @@ module _ (prog : List Rule) (T W : List ℕ) (start mk : ℕ → ℕ) (base : �
   up_to {o} {j = j} m e h s = record { way = subst (λ (k : ℕ). Leads T (base + o) j k) e h; spot = s }
 
   up_step : {o m : ℕ} {i j : Instruction} → Alike o i j → Leads W o i m → Up o j m
-  up_step {o} (a-jump {y = y} s) leads-jump = up_to y refl leads-jump s
-  up_step {o} (a-input s) leads-input = up_to (o + 2) (near base o 2) leads-input s
+  up_step {o} (a-jump {y = y} s) leads_jump = up_to y refl leads_jump s
+  up_step {o} (a-input s) leads_input = up_to (o + 2) (near base o 2) leads_input s
   up_step {o} (a-any s) leads_any = up_to (o + 1) (near base o 1) leads_any s
-  up_step {o} (a_write s) leads-write = up_to (o + 2) (near base o 2) leads-write s
-  up_step {o} (a-token {c = c} s e) (leads-token v) = up_to (wayOut W c v) (e v) (leads-token v) (s v)
-  up_step {o} (a_call s) leads-call = up_to (o + 2) (near base o 2) leads-call s
-  up_step {o} (a-result s) leads-result = up_to (o + 2) (near base o 2) leads-result s
-  up_step {o} (a-choice {c = c} s e) (leads-choice v) = up_to (wayOut W c v) (e v) (leads-choice v) (s v)
-  up_step {o} (a-parameter s) leads-parameter = up_to (o + 2) (near base o 2) leads-parameter s
-  up_step {o} (a-update s) leads-update = up_to (o + 1) (near base o 1) leads-update s
-  up_step {o} (a-updateWith s) leads-updateWith = up_to (o + 1) (near base o 1) leads-updateWith s
-  up_step {o} (a-choose s) leads-choose = up_to (o + 1) (near base o 1) leads-choose s
-  up_step {o} (a-chooseWith s) leads-chooseWith = up_to (o + 1) (near base o 1) leads-chooseWith s
+  up_step {o} (a_write s) leads_write = up_to (o + 2) (near base o 2) leads_write s
+  up_step {o} (a-token {c = c} s e) (leads_token v) = up_to (way_out W c v) (e v) (leads_token v) (s v)
+  up_step {o} (a_call s) leads_call = up_to (o + 2) (near base o 2) leads_call s
+  up_step {o} (a-result s) leads_result = up_to (o + 2) (near base o 2) leads_result s
+  up_step {o} (a-choice {c = c} s e) (leads_choice v) = up_to (way_out W c v) (e v) (leads_choice v) (s v)
+  up_step {o} (a-parameter s) leads_parameter = up_to (o + 2) (near base o 2) leads_parameter s
+  up_step {o} (a-update s) leads_update = up_to (o + 1) (near base o 1) leads_update s
+  up_step {o} (a-update_with s) leads_update_with = up_to (o + 1) (near base o 1) leads_update_with s
+  up_step {o} (a-choose s) leads_choose = up_to (o + 1) (near base o 1) leads_choose s
+  up_step {o} (a-choose_with s) leads_choose_with = up_to (o + 1) (near base o 1) leads_choose_with s
 
   module _ (first : P 1) where
     -- a location of T that is reachable in the rule, by the rule's own words
@@ -217,7 +218,7 @@ module _ (prog : List Rule) (T W : List ℕ) (start mk : ℕ → ℕ) (base : �
       pub spot : Spot at
 
     pub down : {l : ℕ} → Reached T (base + 1) l → Within l
-    down at-start = record { at = 1; is = refl; reached = at-start; spot = at_place first }
+    down at_start = record { at = 1; is = refl; reached = at_start; spot = at_place first }
     down (further {l = l} {m = m} r d) =
         let h = down r in
         let e : Leads T (base + h.at) (decode T (base + h.at)) m = rw h.is at d in
@@ -229,7 +230,7 @@ module _ (prog : List Rule) (T W : List ℕ) (start mk : ℕ → ℕ) (base : �
       pub way : Reached T (base + 1) (base + o)
 
     pub up : {o : ℕ} → Reached W 1 o → Reaches o
-    up at-start = record { spot = at_place first; way = at-start }
+    up at_start = record { spot = at_place first; way = at_start }
     up (further r d) =
         let h = up r in
         let s = up_step (alike h.spot) d in

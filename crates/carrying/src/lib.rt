@@ -1,7 +1,7 @@
 // Carrying a walk to new rules from C (include/sst-carry.h): two texts, and the walk as its 158 bytes.
 ghost use Rattle.std.specs.Prelude.{◌≡◌, length, take, drop};
 ghost use Rattle.carry.specs.Carry.{carry as carrying, source_of};
-ghost use Rattle.carry.specs.Texts.{answer_of, carryTexts, carryBytes};
+ghost use Rattle.carry.specs.Texts.{answer_of, carry_texts, carry_bytes};
 ghost use Rattle.sources.specs.Prepared.{Reads};
 ghost use Rattle.walker.specs.View as view;
 ghost use Rattle.carrying.specs.Told.{Ready, Accepts, IsRead, Tells, leaves};
@@ -85,7 +85,7 @@ fn carry_read(
     walk: Walk,
 ) -> Carried
     requires { (length sheets.now ≡ 1540) × Accepts old.now a.now (take 770 sheets.now) × IsRead new.now cells.now sorts.now (drop 770 sheets.now) }
-    ensures { Tells result (carryTexts old.now new.now (view.walk_of walk)) }
+    ensures { Tells result (carry_texts old.now new.now (view.walk_of walk)) }
 {
     let mut b = [0u8; TABLE];
     let other = &sheets[carrier::SHEET..];
@@ -96,7 +96,7 @@ fn carry_read(
 // The old text is accepted, its rows are the first sheet: the new text's number, 51, 52, or 0.
 fn carry_accepted(a: &[u8], old: &[u8], new: &[u8], sheets: &mut [u16], walk: Walk) -> Carried
     requires { (length sheets.old ≡ 1540) × Accepts old.now a.now (take 770 sheets.old) }
-    ensures { Tells result (carryTexts old.now new.now (view.walk_of walk)) }
+    ensures { Tells result (carry_texts old.now new.now (view.walk_of walk)) }
 {
     let mut cells = [0u16; frontend::CELLS];
     let mut sorts = [0u8; frontend::RULES];
@@ -115,7 +115,7 @@ fn carry_accepted(a: &[u8], old: &[u8], new: &[u8], sheets: &mut [u16], walk: Wa
 
 // The walk between two texts: the old text's number, the new text's, 51, 52, or 0.
 fn carry(old: &[u8], new: &[u8], walk: Walk) -> Carried
-    ensures { Tells result (carryTexts old.now new.now (view.walk_of walk)) }
+    ensures { Tells result (carry_texts old.now new.now (view.walk_of walk)) }
 {
     let mut a = [0u8; TABLE];
     let mut sheets = [0u16; SHEETS];
@@ -142,7 +142,7 @@ pub extern "C" fn sst_carry(
     start: &mut u64,
     len: &mut u64,
 ) -> u16
-    ensures { leaves result text.new start.new len.new walk.new ≡ carryBytes old.now new.now walk.old }
+    ensures { leaves result text.new start.new len.new walk.new ≡ carry_bytes old.now new.now walk.old }
 {
     let h = firmware::read_walk(walk);
     if !h.ok {

@@ -2,7 +2,7 @@
 use mathlib.Core.List.{◌++◌}
 use lib.Dec.{T}
 use Rattle.cases.specs.Agreements
-use Rattle.cases.specs.Agreements.{allAgree, agreesAtOnce, agreesInCalls, agreements, repairs, deepAgreements}
+use Rattle.cases.specs.Agreements.{all_agree, agrees_at_once, agrees_in_calls, agreements, repairs, deep_agreements}
 use Rattle.events.specs.Events
 use Rattle.machine.specs.Bytes
 use Rattle.machine.specs.Call
@@ -33,10 +33,10 @@ walking : Unit {0}
 unfolding Words.opened Reading.opened Actions.opened Sections.opened Parse.opened Known.opened Declare.opened Resolve.opened Understand.opened Uses.opened Made.opened Program.opened Past.opened Table.opened Process.opened Events.opened Bytes.opened Lengths.opened Decode.opened Walk.opened Step.opened Call.opened Form.opened OwnWalk.opened
 walking = tt
 
-pub all-agree-at-once : T (allAgree agreesAtOnce (agreements ++ repairs ++ deepAgreements))
+pub all-agree-at-once : T (all_agree agrees_at_once (agreements ++ repairs ++ deep_agreements))
 unfolding walking Agreements.opened
 all-agree-at-once = tt
 
-pub all-agree-in-calls : T (allAgree agreesInCalls (agreements ++ repairs))
+pub all-agree-in-calls : T (all_agree agrees_in_calls (agreements ++ repairs))
 unfolding walking Agreements.opened
 all-agree-in-calls = tt

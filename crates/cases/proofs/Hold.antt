@@ -1,11 +1,11 @@
 -- Every case holds, by computation: P1 to P8, the refusals, the acceptances.
 use lib.Dec.{T}
 use Rattle.cases.specs.Acceptances
-use Rattle.cases.specs.Acceptances.{allGive, acceptances}
+use Rattle.cases.specs.Acceptances.{all_give, acceptances}
 use Rattle.cases.specs.Cases
-use Rattle.cases.specs.Cases.{allHold, cases}
+use Rattle.cases.specs.Cases.{all_hold, cases}
 use Rattle.cases.specs.Refusals
-use Rattle.cases.specs.Refusals.{allAgree, refusals}
+use Rattle.cases.specs.Refusals.{all_agree, refusals}
 use Rattle.events.specs.Events
 use Rattle.finishing.specs.Test
 use Rattle.machine.specs.Bytes
@@ -37,14 +37,14 @@ unfolding Words.opened Reading.opened Actions.opened Sections.opened Parse.opene
 processing = tt
 
 -- P1 to P8 of document 01
-pub all_hold : T (allHold cases)
+pub all_hold_lem : T (all_hold cases)
 unfolding processing Cases.opened Events.opened Lengths.opened Decode.opened Walk.opened Step.opened Call.opened Form.opened
-all_hold = tt
+all_hold_lem = tt
 
-pub all-refused : T (allAgree refusals)
+pub all-refused : T (all_agree refusals)
 unfolding processing Refusals.opened
 all-refused = tt
 
-pub all_give : T (allGive acceptances)
+pub all_give_lem : T (all_give acceptances)
 unfolding processing Acceptances.opened
-all_give = tt
+all_give_lem = tt

@@ -17,9 +17,9 @@ unfoldable pub gives : Answer → Acceptance → Bool
 gives (accepted ws f) a = same ws a.words && (f iff a.verdict)
 gives (refused n at) a = false
 
-unfoldable pub allGive : List Acceptance → Bool
-allGive [] = true
-allGive (a ∷ more) = gives (process (bytes a.text) 4096) a && allGive more
+unfoldable pub all_give : List Acceptance → Bool
+all_give [] = true
+all_give (a ∷ more) = gives (process (bytes a.text) 4096) a && all_give more
 
 unfoldable pub acceptances : List Acceptance
 acceptances =
@@ -61,5 +61,5 @@ acceptances =
 
 -- all of this file computes where this is unfolded
 unfoldable pub opened : Unit {0}
-unfolding gives allGive acceptances
+unfolding gives all_give acceptances
 opened = tt

@@ -1,15 +1,15 @@
 -- Whole programs as texts, each walked by its rules and over its table's bytes: all walks end with the number, the events and the counts that
 -- were worked out from document 01 by hand. The walk over bytes is made in one whole call, in many small whole calls, and in pauses.
-use Rattle.std.specs.Prelude.{Bool, true, false, ◌&&◌, ◌||◌, List, [], ◌∷◌, ◌++◌, ℕ, zero, suc, ◌*◌, ◌-◌, eqb, length, take, replicate}
+use Rattle.std.specs.Prelude.{Bool, true, false, ◌&&◌, ◌||◌, List, [], ◌∷◌, ◌++◌, ℕ, zero, suc, ◌*◌, ◌-◌, eqb, length, take, replicate, if◌then◌else◌}
 use Rattle.std.proofs.Math.Option.{Option, none, some}
 use Prim.Native.String.{String}
-use Rattle.base.specs.Common.{if◌then◌else◌, bytes, same}
-use Rattle.events.specs.Events.{reasonNumber}
+use Rattle.base.specs.Common.{bytes, same}
+use Rattle.events.specs.Events.{reason_number}
 use Rattle.machine.specs.Bytes.{words_of, bytes_of}
 use Rattle.machine.specs.Call.{Mode, whole, paused, waits}
-use Rattle.machine.specs.Form.{Outcome, walk_of, walkBytes, callBytes, eventsWords}
+use Rattle.machine.specs.Form.{Outcome, walk_of, walk_bytes, call_bytes, events_words}
 use Rattle.machine.specs.Walk.{Walk, fresh}
-use Rattle.ownwalk.specs.OwnWalk.{Own, on, choosing, stopped, nowhere, owns, ownStart}
+use Rattle.ownwalk.specs.OwnWalk.{Own, on, choosing, stopped, nowhere, owns, own_start}
 use Rattle.processor.specs.Process.{Understood, meaning, faulty, understood}
 use Rattle.program.specs.Program.{Rule}
 use Rattle.program.specs.Table.{table}
@@ -31,20 +31,20 @@ pub record Agreement : Type 0 where
   pub end : End
   pub question : List ℕ
 
-unfoldable pub sameEnd : End → End → Bool
-sameEnd x y = eqb x.number y.number && same x.events y.events && eqb x.read y.read && eqb x.used y.used && eqb x.left y.left
+unfoldable pub same_end : End → End → Bool
+same_end x y = eqb x.number y.number && same x.events y.events && eqb x.read y.read && eqb x.used y.used && eqb x.left y.left
 
 -- The rules' own walk
 
 -- 999 where it has not stopped
-unfoldable pub ownEnd : Own → End
-ownEnd (on q k ps io) = record { number = 999; events = []; read = 0; used = 0; left = 0 }
-ownEnd (choosing v al o q k ps io) = record { number = 999; events = []; read = 0; used = 0; left = 0 }
-ownEnd (nowhere io) = record { number = 999; events = []; read = 0; used = 0; left = 0 }
-ownEnd (stopped r io) = record { number = reasonNumber r; events = eventsWords io.events; read = io.read; used = io.used; left = io.allowance }
+unfoldable pub own_end : Own → End
+own_end (on q k ps io) = record { number = 999; events = []; read = 0; used = 0; left = 0 }
+own_end (choosing v al o q k ps io) = record { number = 999; events = []; read = 0; used = 0; left = 0 }
+own_end (nowhere io) = record { number = 999; events = []; read = 0; used = 0; left = 0 }
+own_end (stopped r io) = record { number = reason_number r; events = events_words io.events; read = io.read; used = io.used; left = io.allowance }
 
-unfoldable pub byRules : List Rule → Agreement → End
-byRules prog a = ownEnd (owns prog a.tokens a.answers 400 (ownStart prog a.allowance))
+unfoldable pub by_rules : List Rule → Agreement → End
+by_rules prog a = own_end (owns prog a.tokens a.answers 400 (own_start prog a.allowance))
 
 -- Walks over bytes
 
@@ -64,8 +64,8 @@ buffer n = replicate (suc (2 * n)) 7
 -- one whole call; what it did not write keeps what it held
 unfoldable pub at_once : List ℕ → Agreement → End → Bool
 at_once table a e =
-    let c = callBytes table (bytes_of a.tokens) (whole a.answers) 1000 (walkBytes (fresh a.allowance)) (buffer 60) in
-    sameEnd (end_at c.number (wrote c) (walk_of c.walk)) e
+    let c = call_bytes table (bytes_of a.tokens) (whole a.answers) 1000 (walk_bytes (fresh a.allowance)) (buffer 60) in
+    same_end (end_at c.number (wrote c) (walk_of c.walk)) e
     && same c.buffer (bytes_of e.events ++ replicate (121 - 2 * length e.events) 7)
 
 -- the answers left, and how the next call is made
@@ -74,59 +74,59 @@ pub record Next : Type 0 where
   pub left : List ℕ
 
 -- paused: the next answer is handed in where the walk waits
-unfoldable pub handIn : List ℕ → Option Next
-handIn [] = none
-handIn (v ∷ vs) = some (record { mode = paused (some v); left = vs })
+unfoldable pub hand_in : List ℕ → Option Next
+hand_in [] = none
+hand_in (v ∷ vs) = some (record { mode = paused (some v); left = vs })
 
 -- after a call with that number: 35 and 36 go on, a waiting walk gets the next answer, any other number is the end
-unfoldable pub nextCall : ℕ → Mode → List ℕ → Option Next
-nextCall n again left =
+unfoldable pub next_call : ℕ → Mode → List ℕ → Option Next
+next_call n again left =
     if eqb n 35 || eqb n 36 then some (record { mode = again; left = left })
-    else if eqb n waits then handIn left
+    else if eqb n waits then hand_in left
     else none
 
 -- calls with a small budget and room, at most so many: from the mode `again`, with the answers left, to the end
-unfoldable pub inCalls : ℕ → List ℕ → List ℕ → ℕ → ℕ → Mode → Next → List ℕ → List ℕ → End
-inCalls zero table tokens budget room again next es walk = record { number = 997; events = es; read = 0; used = 0; left = 0 }
-inCalls (suc k) table tokens budget room again next es walk =
-    let c = callBytes table tokens next.mode budget walk (buffer room) in
+unfoldable pub in_calls : ℕ → List ℕ → List ℕ → ℕ → ℕ → Mode → Next → List ℕ → List ℕ → End
+in_calls zero table tokens budget room again next es walk = record { number = 997; events = es; read = 0; used = 0; left = 0 }
+in_calls (suc k) table tokens budget room again next es walk =
+    let c = call_bytes table tokens next.mode budget walk (buffer room) in
     let more = es ++ wrote c in
-    elim (nextCall c.number again next.left) [
+    elim (next_call c.number again next.left) [
       | none ↦ end_at c.number more (walk_of c.walk)
-      | some n ↦ inCalls k table tokens budget room again n more c.walk
+      | some n ↦ in_calls k table tokens budget room again n more c.walk
     ]
 
 unfoldable pub in_pieces : List ℕ → Agreement → ℕ → ℕ → End
 in_pieces table a budget room =
-    inCalls 300 table (bytes_of a.tokens) budget room (whole a.answers) (record { mode = whole a.answers; left = [] }) [] (walkBytes (fresh a.allowance))
+    in_calls 300 table (bytes_of a.tokens) budget room (whole a.answers) (record { mode = whole a.answers; left = [] }) [] (walk_bytes (fresh a.allowance))
 
-unfoldable pub inPauses : List ℕ → Agreement → ℕ → ℕ → End
-inPauses table a budget room =
-    inCalls 300 table (bytes_of a.tokens) budget room (paused none) (record { mode = paused none; left = a.answers }) [] (walkBytes (fresh a.allowance))
+unfoldable pub in_pauses : List ℕ → Agreement → ℕ → ℕ → End
+in_pauses table a budget room =
+    in_calls 300 table (bytes_of a.tokens) budget room (paused none) (record { mode = paused none; left = a.answers }) [] (walk_bytes (fresh a.allowance))
 
 -- "there the whole walk stops with 34, the paused one waits", the question written
-unfoldable pub pausedEnd : Agreement → End
-pausedEnd a =
+unfoldable pub paused_end : Agreement → End
+paused_end a =
     let e = a.end in
     if eqb e.number 34 then record { number = waits; events = e.events ++ a.question; read = e.read; used = e.used; left = e.left } else e
 
 -- the rules' own walk and one whole call
-unfoldable pub agreesAtOnce : List Rule → Agreement → Bool
-agreesAtOnce prog a = sameEnd (byRules prog a) a.end && at_once (bytes_of (table prog)) a a.end
+unfoldable pub agrees_at_once : List Rule → Agreement → Bool
+agrees_at_once prog a = same_end (by_rules prog a) a.end && at_once (bytes_of (table prog)) a a.end
 
 -- the calls in pieces and in pauses: one step and one event a call, and a few
-unfoldable pub agreesInCalls : List Rule → Agreement → Bool
-agreesInCalls prog a =
+unfoldable pub agrees_in_calls : List Rule → Agreement → Bool
+agrees_in_calls prog a =
     let lent = bytes_of (table prog) in
-    sameEnd (in_pieces lent a 3 4) a.end && sameEnd (inPauses lent a 1 3) (pausedEnd a) && sameEnd (inPauses lent a 5 6) (pausedEnd a)
+    same_end (in_pieces lent a 3 4) a.end && same_end (in_pauses lent a 1 3) (paused_end a) && same_end (in_pauses lent a 5 6) (paused_end a)
 
-unfoldable pub agreesBy : (List Rule → Agreement → Bool) → Understood → Agreement → Bool
-agreesBy test (faulty n at) a = false
-agreesBy test (meaning prog) a = test prog a
+unfoldable pub agrees_by : (List Rule → Agreement → Bool) → Understood → Agreement → Bool
+agrees_by test (faulty n at) a = false
+agrees_by test (meaning prog) a = test prog a
 
-unfoldable pub allAgree : (List Rule → Agreement → Bool) → List Agreement → Bool
-allAgree test [] = true
-allAgree test (a ∷ more) = agreesBy test (understood (bytes a.text)) a && allAgree test more
+unfoldable pub all_agree : (List Rule → Agreement → Bool) → List Agreement → Bool
+all_agree test [] = true
+all_agree test (a ∷ more) = agrees_by test (understood (bytes a.text)) a && all_agree test more
 
 abbrev pub walked : String → List ℕ → List ℕ → ℕ → List ℕ → ℕ → ℕ → Agreement
 walked t ts vs n es r u = record { text = t; tokens = ts; answers = vs; allowance = 0; end = record { number = n; events = es; read = r; used = u; left = 0 }; question = [] }
@@ -147,7 +147,7 @@ unanswered t ts vs es r u q = record { text = t; tokens = ts; answers = vs; allo
 
 -- Programs
 
--- blanks, words and bad characters: blank 2, illegalChar 3, word 5
+-- blanks, words and bad characters: blank 2, illegal_char 3, word 5
 abbrev scanner : String
 scanner = "input: blank = 2 illegalChar = 3 word = 5; output: w = 1; error: badChar = 10; rules M: {[ | blank: | illegalChar: #badChar | word: .w | *: > ]}; end"
 
@@ -174,8 +174,8 @@ abbrev asking : String
 asking = "type t: more stop; mechanism m: next >> t; output: o; rules M: { [ next | more: .o | stop: > ] }; end"
 
 -- a token with a choice operation's number, before an operation and behind it
-abbrev tokenOrOperation : String
-tokenOrOperation = "input: a = 768; type t: yes no; mechanism m: ask >> t; output: y z; rules M: a [ ask | yes: .y | no: .z ] a; end"
+abbrev token_or_operation : String
+token_or_operation = "input: a = 768; type t: yes no; mechanism m: ask >> t; output: y z; rules M: a [ ask | yes: .y | no: .z ] a; end"
 
 unfoldable pub agreements : List Agreement
 agreements =
@@ -231,15 +231,15 @@ repairs =
     ∷ mended "input: a; rules M: a ?; end" [] 3 31 (4 ∷ 0 ∷ 0 ∷ []) 0 2
     ∷ mended signs (0 ∷ []) 2 31 (1 ∷ 0 ∷ 0 ∷ 4 ∷ 1 ∷ 0 ∷ []) 1 1
     -- a repaired token is no choice operation, whatever its number: the first answer is still the next, and no answer is used
-    ∷ answering (1 ∷ []) 1 [] (mended tokenOrOperation [] 3 0 (4 ∷ 768 ∷ 0 ∷ 3 ∷ 768 ∷ 0 ∷ 1 ∷ 1 ∷ 0 ∷ 4 ∷ 768 ∷ 0 ∷ []) 0 1)
-    ∷ answering [] 0 (3 ∷ 768 ∷ 0 ∷ []) (mended tokenOrOperation (5 ∷ []) 1 34 (4 ∷ 768 ∷ 0 ∷ []) 0 0)
+    ∷ answering (1 ∷ []) 1 [] (mended token_or_operation [] 3 0 (4 ∷ 768 ∷ 0 ∷ 3 ∷ 768 ∷ 0 ∷ 1 ∷ 1 ∷ 0 ∷ 4 ∷ 768 ∷ 0 ∷ []) 0 1)
+    ∷ answering [] 0 (3 ∷ 768 ∷ 0 ∷ []) (mended token_or_operation (5 ∷ []) 1 34 (4 ∷ 768 ∷ 0 ∷ []) 0 0)
     -- the greatest allowance
     ∷ mended "input: a; rules M: a; end" [] 65535 0 (4 ∷ 0 ∷ 0 ∷ []) 0 65534
     ∷ []
 
 -- 64 calls pending, and one more
-unfoldable pub deepAgreements : List Agreement
-deepAgreements =
+unfoldable pub deep_agreements : List Agreement
+deep_agreements =
     walked "input: a; rules M: [ | a: @M | *: ]; end" (replicate 64 0) [] 0 [] 64 0
     ∷ walked "input: a; rules M: [ | a: @M | *: ]; end" (replicate 65 0) [] 33 [] 65 0
     ∷ walked "rules M: @M; end" [] [] 33 [] 0 0
@@ -247,5 +247,5 @@ deepAgreements =
 
 -- all of this file computes where this is unfolded
 unfoldable pub opened : Unit {0}
-unfolding sameEnd ownEnd byRules end_at wrote buffer at_once handIn nextCall inCalls in_pieces inPauses pausedEnd agreesAtOnce agreesInCalls agreesBy allAgree agreements repairs deepAgreements
+unfolding same_end own_end by_rules end_at wrote buffer at_once hand_in next_call in_calls in_pieces in_pauses paused_end agrees_at_once agrees_in_calls agrees_by all_agree agreements repairs deep_agreements
 opened = tt

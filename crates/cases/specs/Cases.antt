@@ -7,9 +7,9 @@ use Prim.Native.String.{String}
 use Rattle.base.specs.Common.{bytes, same}
 use Rattle.machine.specs.Bytes.{bytes_of}
 use Rattle.machine.specs.Call.{whole}
-use Rattle.machine.specs.Form.{walk_of, walkBytes, callBytes}
+use Rattle.machine.specs.Form.{walk_of, walk_bytes, call_bytes}
 use Rattle.machine.specs.Walk.{Walk, fresh}
-use Rattle.processor.specs.Process.{Answer, accepted, refused, process, lentBytes}
+use Rattle.processor.specs.Process.{Answer, accepted, refused, process, lent_bytes}
 
 -- a whole walk over these tokens with this budget gives this number, with so many tokens read
 pub record Run : Type 0 where
@@ -44,12 +44,12 @@ read_of (some w) = w.io.read
 -- a call over the lent bytes, with no event buffer: none of the walks below writes an event
 unfoldable pub runs : List ℕ → Run → Bool
 runs lent r =
-    let end = callBytes lent (bytes_of r.tokens) (whole []) r.budget (walkBytes (fresh 0)) [] in
+    let end = call_bytes lent (bytes_of r.tokens) (whole []) r.budget (walk_bytes (fresh 0)) [] in
     eqb end.number r.number && eqb (read_of (walk_of end.walk)) r.read
 
-unfoldable pub allRun : List ℕ → List Run → Bool
-allRun lent [] = true
-allRun lent (r ∷ rs) = runs lent r && allRun lent rs
+unfoldable pub all_run : List ℕ → List Run → Bool
+all_run lent [] = true
+all_run lent (r ∷ rs) = runs lent r && all_run lent rs
 
 -- the bytes of so many words, then zero words, then the odd byte
 unfoldable pub lent_as : List ℕ → List ℕ
@@ -57,18 +57,18 @@ lent_as ws = bytes_of ws ++ (replicate (100 - 2 * length ws) 0 ++ (7 ∷ []))
 
 unfoldable pub holds_of : Answer → Says → Bool
 holds_of (accepted ws f) (makes vs g rs) =
-    let lent = lentBytes (accepted ws f) buffer in
-    same ws vs && (f iff g) && same lent (lent_as vs) && allRun lent rs
+    let lent = lent_bytes (accepted ws f) buffer in
+    same ws vs && (f iff g) && same lent (lent_as vs) && all_run lent rs
 holds_of (accepted ws f) (fails n s l) = false
 holds_of (refused n at) (makes vs g rs) = false
-holds_of (refused n at) (fails m s l) = eqb n m && eqb at.start s && eqb at.size l && same (lentBytes (refused n at) buffer) (lent_as [])
+holds_of (refused n at) (fails m s l) = eqb n m && eqb at.start s && eqb at.size l && same (lent_bytes (refused n at) buffer) (lent_as [])
 
 unfoldable pub holds : Case → Bool
 holds c = holds_of (process c.text 50) c.says
 
-unfoldable pub allHold : List Case → Bool
-allHold [] = true
-allHold (c ∷ cs) = holds c && allHold cs
+unfoldable pub all_hold : List Case → Bool
+all_hold [] = true
+all_hold (c ∷ cs) = holds c && all_hold cs
 
 abbrev pub accept : String → List ℕ → Bool → List Run → Case
 accept t ws f rs = record { text = bytes t; says = makes ws f rs }
@@ -95,5 +95,5 @@ cases =
 
 -- all of this file computes where this is unfolded
 unfoldable pub opened : Unit {0}
-unfolding buffer read_of runs allRun lent_as holds_of holds allHold cases
+unfolding buffer read_of runs all_run lent_as holds_of holds all_hold cases
 opened = tt

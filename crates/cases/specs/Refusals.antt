@@ -1,9 +1,9 @@
 -- Texts that are refused: for each number 1 to 9, 20 and 45 at least one, and those whose order or word is easily got wrong. `^` marks the start
 -- of the word at fault and is not in the text.
-use Rattle.std.specs.Prelude.{Bool, true, false, ◌&&◌, List, [], ◌∷◌, ◌++◌, ℕ, zero, suc, ◌+◌, eqb, length, replicate}
+use Rattle.std.specs.Prelude.{Bool, true, false, ◌&&◌, List, [], ◌∷◌, ◌++◌, ℕ, zero, suc, ◌+◌, eqb, length, replicate, if◌then◌else◌}
 use Prim.Native.Char.{code}
 use Prim.Native.String.{String}
-use Rattle.base.specs.Common.{if◌then◌else◌, bytes}
+use Rattle.base.specs.Common.{bytes}
 use Rattle.processor.specs.Process.{Answer, accepted, refused, process}
 
 pub record Refusal : Type 0 where
@@ -14,9 +14,9 @@ pub record Refusal : Type 0 where
   pub size : ℕ
 
 -- where the mark stands, and the text without it
-unfoldable pub markAt : List ℕ → ℕ
-markAt [] = 0
-markAt (b ∷ s) = let later = suc (markAt s) in if eqb b (code "^") then 0 else later
+unfoldable pub mark_at : List ℕ → ℕ
+mark_at [] = 0
+mark_at (b ∷ s) = let later = suc (mark_at s) in if eqb b (code "^") then 0 else later
 
 unfoldable pub unmarked : List ℕ → List ℕ
 unmarked [] = []
@@ -26,9 +26,9 @@ unfoldable pub agrees : Answer → Refusal → Bool
 agrees (accepted ws f) r = false
 agrees (refused n at) r = eqb n r.number && eqb at.start r.start && eqb at.size r.size
 
-unfoldable pub allAgree : List Refusal → Bool
-allAgree [] = true
-allAgree (r ∷ rs) = agrees (process r.text r.room) r && allAgree rs
+unfoldable pub all_agree : List Refusal → Bool
+all_agree [] = true
+all_agree (r ∷ rs) = agrees (process r.text r.room) r && all_agree rs
 
 -- a text given whole, where start and length of the part are given
 unfoldable pub made : List ℕ → ℕ → ℕ → ℕ → ℕ → Refusal
@@ -36,7 +36,7 @@ made t room n s l = record { text = t; room = room; number = n; start = s; size 
 
 -- a marked text: its number, and the length of the word at fault
 unfoldable pub at : String → ℕ → ℕ → Refusal
-at t n l = made (unmarked (bytes t)) 4096 n (markAt (bytes t)) l
+at t n l = made (unmarked (bytes t)) 4096 n (mark_at (bytes t)) l
 
 -- so many times the same bytes
 unfoldable pub times : ℕ → List ℕ → List ℕ
@@ -173,5 +173,5 @@ refusals = faults1 ++ (faults2 ++ (faults9 ++ (faults3to8 ++ (faults45 ++ faults
 
 -- all of this file computes where this is unfolded
 unfoldable pub opened : Unit {0}
-unfolding markAt unmarked agrees allAgree made at times faults1 faults2 faults9 faults3to8 faults45 faults20 refusals
+unfolding mark_at unmarked agrees all_agree made at times faults1 faults2 faults9 faults3to8 faults45 faults20 refusals
 opened = tt

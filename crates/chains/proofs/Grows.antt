@@ -9,12 +9,12 @@ use lib.ListN.{length, get_or, length-append, get_or-append}
 use lib.Seq.{get_or-append-add}
 use lib.Dec.{eqb, ltb}
 use Rattle.chains.specs.Marks.{Target, outside, end, head, table, rule, Mark, known, waiting, waits, number, knowns, filled, close}
-use Rattle.chains.specs.Chain.{Chain, places, patched, At, at_here, at_there, newest, Waiting, Fixed, fixed-known, fixed-call, Grown, placed}
+use Rattle.chains.specs.Chain.{Chain, places, patched, At, at_here, at_there, newest, Waiting, Fixed, fixed_known, fixed_call, Grown, placed}
 use Rattle.chains.proofs.Lists.{waits-eq, waits-ne, ne-waits, at_in, at_split, Behind, places-append, chain_same, same-before, same-append, same-places, length-patched, patched-low, patched-at, patched-kept, length-filled, FilledAt, as-was, now-known, at-filled, places-filled, places-filled-other, length-knowns, places-knowns, at-knowns}
 
 fixed_on : {slots more : List ℕ} {m : Mark} {w : ℕ} → ((r : ℕ) → placed ≤ get_or slots r 0 → get_or more r 0 ≡ get_or slots r 0) → Fixed slots m w → Fixed more m w
-fixed_on f fixed-known = fixed-known
-fixed_on f (fixed-call {r = r} e h) = fixed-call (f r (omega (arith, e)) ∙ e) h
+fixed_on f fixed_known = fixed_known
+fixed_on f (fixed_call {r = r} e h) = fixed_call (f r (omega (arith, e)) ∙ e) h
 
 waiting-on : (slots more : List ℕ) (t : Target) → ((r : ℕ) → get_or slots r 0 < placed → get_or more r 0 < placed) → length more ≡ length slots → Waiting slots t → Waiting more t
 unfolding Waiting
@@ -25,7 +25,7 @@ waiting-on slots more table f n w = w
 waiting-on slots more (rule r) f n w = (omega (arith, w.0), f r w.1)
 
 known_is : {slots : List ℕ} {v w : ℕ} → Fixed slots (known v) w → v ≡ w
-known_is fixed-known = refl
+known_is fixed_known = refl
 
 pub grown-none : (ws : List ℕ) (x : ℕ) (slots : List ℕ) → Grown [] ws ws x x slots slots
 unfolding places
@@ -79,7 +79,7 @@ two-places t u l a = append-nil (cond (eqb (number t) (number u)) ((l + 1) ∷ [
 
 not-fixed : {u : Target} {w : ℕ} (slots : List ℕ) → Waiting slots u → Fixed slots (waiting u) w → ⊥
 unfolding Waiting
-not-fixed slots h (fixed-call e i) = omega (arith, h.1)
+not-fixed slots h (fixed_call e i) = omega (arith, h.1)
 
 pub chain-low : (ws : List ℕ) (n : ℕ) (ps : List ℕ) → Chain ws n ps → n < length ws + 1
 unfolding Chain
@@ -124,7 +124,7 @@ module _ (ws : List ℕ) (a v x x' : ℕ) (slots more : List ℕ) (u : Target) (
 -- a word that waits for what no chain of another part runs through
 loose-not : {slots : List ℕ} {v : ℕ} {u : Target} → number u < 4 → Fixed slots (waiting u) v → ⊥
 unfolding number
-loose-not h (fixed-call e i) = omega arith
+loose-not h (fixed_call e i) = omega arith
 
 loose-word : {i v : ℕ} {m : Mark} {slots : List ℕ} {u : Target} → number u < 4 → At (waiting u ∷ []) i m → Fixed slots m v → ⊥
 loose-word h at_here x = loose-not h x

@@ -46,8 +46,8 @@ Waiting slots (rule r) = (r < length slots) × (get_or slots r 0 < placed)
 
 -- what a word is already
 pub data Fixed (slots : List ℕ) : Mark → ℕ → Type 0 where
-  fixed-known : {w : ℕ} → Fixed slots (known w) w
-  fixed-call : {r w : ℕ} → get_or slots r 0 ≡ placed + w → w < placed → Fixed slots (waiting (rule r)) w
+  fixed_known : {w : ℕ} → Fixed slots (known w) w
+  fixed_call : {r w : ℕ} → get_or slots r 0 ≡ placed + w → w < placed → Fixed slots (waiting (rule r)) w
 
 -- words ws have become ws' by those of ms: nothing before them moved, what is known stands there, and each chain is now this part's open jumps,
 -- newest first, then the chain before

@@ -7,32 +7,32 @@ use native.Mathlib.Numerals.{add-one}
 use native.Mathlib.Omega.{arith}
 use lib.ListN.{length, get_or, set, length-set, length-append}
 use lib.Seq.{get_or-set_same, get_or-set_other}
-use Rattle.collector.specs.Collecting.{setTwo, setWords, set_row, declIn, Appends, Puts}
+use Rattle.collector.specs.Collecting.{set_two, set_words, set_row, decl_in, Appends, Puts}
 use Rattle.collector.specs.declared.Row.{Row}
 use Rattle.declarations.specs.Decls.{Decl}
-use Rattle.symbols.specs.Rows.{declAt, held, heldFrom}
+use Rattle.symbols.specs.Rows.{decl_at, held, held_from}
 
-two-other : (l : List ℕ) (k a b j : ℕ) → (j ≡ k → ⊥) → (j ≡ k + 1 → ⊥) → get_or (setTwo l k a b) j 0 ≡ get_or l j 0
+two-other : (l : List ℕ) (k a b j : ℕ) → (j ≡ k → ⊥) → (j ≡ k + 1 → ⊥) → get_or (set_two l k a b) j 0 ≡ get_or l j 0
 two-other l k a b j h g = get_or-set_other (set l k a) (k + 1) j b 0 g ∙ get_or-set_other l k j a 0 h
 
-two-first : (l : List ℕ) (k a b : ℕ) → k + 2 ≤ length l → get_or (setTwo l k a b) k 0 ≡ a
+two-first : (l : List ℕ) (k a b : ℕ) → k + 2 ≤ length l → get_or (set_two l k a b) k 0 ≡ a
 two-first l k a b h = get_or-set_other (set l k a) (k + 1) k b 0 (λ e. omega arith) ∙ get_or-set_same l k a 0 (omega arith)
 
-two-second : (l : List ℕ) (k a b j : ℕ) → j ≡ k + 1 → k + 2 ≤ length l → get_or (setTwo l k a b) j 0 ≡ b
+two-second : (l : List ℕ) (k a b j : ℕ) → j ≡ k + 1 → k + 2 ≤ length l → get_or (set_two l k a b) j 0 ≡ b
 two-second l k a b j e h = rw e (get_or-set_same (set l k a) (k + 1) b 0 (simp length-set (omega arith)))
 
-pub two-length : (l : List ℕ) (k a b : ℕ) → length (setTwo l k a b) ≡ length l
+pub two-length : (l : List ℕ) (k a b : ℕ) → length (set_two l k a b) ≡ length l
 two-length l k a b = length-set (set l k a) (k + 1) b ∙ length-set l k a
 
 module _ (rows : List ℕ) (i : ℕ) (d : Row) where
   abbrev one : List ℕ
-  one = setTwo rows (8 * i) d.class d.value
+  one = set_two rows (8 * i) d.class d.value
 
   abbrev two : List ℕ
-  two = setTwo one (8 * i + 2) d.name.start d.name.len
+  two = set_two one (8 * i + 2) d.name.start d.name.len
 
   abbrev three : List ℕ
-  three = setTwo two (8 * i + 4) d.second.start d.second.len
+  three = set_two two (8 * i + 4) d.second.start d.second.len
 
   sized-two : length two ≡ length rows
   sized-two = two-length one _ _ _ ∙ two-length rows _ _ _
@@ -97,13 +97,13 @@ module _ (rows : List ℕ) (i : ℕ) (d : Row) where
     at_7 = two-second three (8 * i + 6) _ _ (8 * i + 7) (omega arith) (omega (arith, sized-three))
 
     -- the row as a declaration
-    row_is : (text : List ℕ) → declAt text (set_row rows i d) i ≡ declIn text d
-    unfolding declAt declIn
+    row_is : (text : List ℕ) → decl_at text (set_row rows i d) i ≡ decl_in text d
+    unfolding decl_at decl_in
     row_is text = rw (at-0, at_1, at-2, at-3, at-4, at_5, at-6, at_7)
 
 -- the rows before it are what they were
-decl-same : (text l m : List ℕ) (n : ℕ) → ((j : ℕ) → j < 8 * n + 8 → get_or l j 0 ≡ get_or m j 0) → declAt text l n ≡ declAt text m n
-unfolding declAt
+decl-same : (text l m : List ℕ) (n : ℕ) → ((j : ℕ) → j < 8 * n + 8 → get_or l j 0 ≡ get_or m j 0) → decl_at text l n ≡ decl_at text m n
+unfolding decl_at
 decl-same text l m n f =
     rw (
       f (8 * n) (omega arith),
@@ -116,30 +116,30 @@ decl-same text l m n f =
       f (8 * n + 7) (omega arith),
     )
 
-held_same : (text l m : List ℕ) (i n : ℕ) → ((j : ℕ) → j < 8 * (i + n) → get_or l j 0 ≡ get_or m j 0) → heldFrom text l i n ≡ heldFrom text m i n
-unfolding heldFrom
+held_same : (text l m : List ℕ) (i n : ℕ) → ((j : ℕ) → j < 8 * (i + n) → get_or l j 0 ≡ get_or m j 0) → held_from text l i n ≡ held_from text m i n
+unfolding held_from
 held_same text l m i zero f = refl
 held_same text l m i (suc n) f =
     rw (decl-same text l m i (λ j h. f j (omega arith)), held_same text l m (suc i) n (λ j h. f j (omega arith)))
 
-held-snoc : (text l : List ℕ) (i n : ℕ) → heldFrom text l i (suc n) ≡ heldFrom text l i n ++ (declAt text l (i + n) ∷ [])
-unfolding heldFrom
+held-snoc : (text l : List ℕ) (i n : ℕ) → held_from text l i (suc n) ≡ held_from text l i n ++ (decl_at text l (i + n) ∷ [])
+unfolding held_from
 held-snoc text l i zero = rw add-zero
-held-snoc text l i (suc n) = ap (λ (ds : List Decl). declAt text l i ∷ ds) (held-snoc text l (suc i) n ∙ shift) where
-  shift : heldFrom text l (suc i) n ++ (declAt text l (suc i + n) ∷ []) ≡ heldFrom text l (suc i) n ++ (declAt text l (i + suc n) ∷ [])
-  shift = ap (λ (k : ℕ). heldFrom text l (suc i) n ++ (declAt text l k ∷ [])) (omega arith)
+held-snoc text l i (suc n) = ap (λ (ds : List Decl). decl_at text l i ∷ ds) (held-snoc text l (suc i) n ∙ shift) where
+  shift : held_from text l (suc i) n ++ (decl_at text l (suc i + n) ∷ []) ≡ held_from text l (suc i) n ++ (decl_at text l (i + suc n) ∷ [])
+  shift = ap (λ (k : ℕ). held_from text l (suc i) n ++ (decl_at text l k ∷ [])) (omega arith)
 
 -- one row more
-pub appends-row : (text rows : List ℕ) (i : ℕ) (d : Row) → 8 * i + 8 ≤ length rows → Appends text rows (set_row rows i d) i (i + 1) (declIn text d ∷ [])
+pub appends-row : (text rows : List ℕ) (i : ℕ) (d : Row) → 8 * i + 8 ≤ length rows → Appends text rows (set_row rows i d) i (i + 1) (decl_in text d ∷ [])
 unfolding held
 appends-row text rows i d fits = record {
   counted = refl;
   filled =
       rw add-one
       (held-snoc text (set_row rows i d) 0 i
-      ∙ ap (λ (k : ℕ). heldFrom text (set_row rows i d) 0 i ++ (declAt text (set_row rows i d) k ∷ [])) (zero-add i)
-      ∙ ap (λ (ds : List Decl). ds ++ (declAt text (set_row rows i d) i ∷ [])) (held_same text (set_row rows i d) rows 0 i (λ j h. row_other rows i d j (omega arith)))
-      ∙ ap (λ (x : Decl). heldFrom text rows 0 i ++ (x ∷ [])) (row_is rows i d fits text));
+      ∙ ap (λ (k : ℕ). held_from text (set_row rows i d) 0 i ++ (decl_at text (set_row rows i d) k ∷ [])) (zero-add i)
+      ∙ ap (λ (ds : List Decl). ds ++ (decl_at text (set_row rows i d) i ∷ [])) (held_same text (set_row rows i d) rows 0 i (λ j h. row_other rows i d j (omega arith)))
+      ∙ ap (λ (x : Decl). held_from text rows 0 i ++ (x ∷ [])) (row_is rows i d fits text));
 }
 
 pub put_full : (rows : List ℕ) (i : ℕ) (d : Row) → i ≤ 512 → ((i ≡ 512 → ⊥) → length rows < 8 * i + 8) → Puts rows rows i i d
@@ -149,8 +149,8 @@ put_in : (rows rows' : List ℕ) (i : ℕ) (d : Row) → i < 512 → 8 * i + 8 �
 put_in rows rows' i d h g e = record { more = omega arith; small = omega arith; puts = λ text r. rw e (appends-row text rows i d g) }
 
 -- written in two parts
-pub put-parts : (rows : List ℕ) {rows₁ rows' : List ℕ} (i : ℕ) (d : Row) {a b : ℕ} → i < 512 → 8 * i + 8 ≤ length rows → a ≡ d.class → b ≡ d.value → rows₁ ≡ setTwo rows (8 * i) a b
-    → rows' ≡ setWords rows₁ (8 * i) d
+pub put-parts : (rows : List ℕ) {rows₁ rows' : List ℕ} (i : ℕ) (d : Row) {a b : ℕ} → i < 512 → 8 * i + 8 ≤ length rows → a ≡ d.class → b ≡ d.value → rows₁ ≡ set_two rows (8 * i) a b
+    → rows' ≡ set_words rows₁ (8 * i) d
     → Puts rows rows' i (i + 1) d
 unfolding set_row
 put-parts rows {rows₁} {rows'} i d {a} {b} h g e f p q = put_in rows rows' i d h g (rw (p, e, f) at q)

@@ -9,18 +9,18 @@ use lib.Dec.{eqb, leb}
 use lib.ListN.{length, get_or, take, drop, length-take}
 use lib.Seq.{drop-drop}
 use borrow.Author.Tests.{ne_eqb}
-use Rattle.base.specs.Common.{if◌then◌else◌}
-use Rattle.collector.specs.Collecting.{optionIn}
+use Rattle.std.specs.Prelude.{if◌then◌else◌}
+use Rattle.collector.specs.Collecting.{option_in}
 use Rattle.collector.specs.declared.Part.{Part}
-use Rattle.grammar.specs.Derived.{Took, Not, Reference, by_name, by-string}
+use Rattle.grammar.specs.Derived.{Took, Not, Reference, by_name, by_string}
 use Rattle.places.proofs.Heres as heres
 use Rattle.reader.proofs.Laws.{here-next, word-length}
 use Rattle.reader.specs.Answers.{Here}
-use Rattle.scanner.specs.Next.{asWord}
+use Rattle.scanner.specs.Next.{as_word}
 use Rattle.scanner.specs.declared.WordAt.{WordAt}
-use Rattle.symbols.specs.Rows.{word_of, optionOf}
+use Rattle.symbols.specs.Rows.{word_of, option_of}
 use Rattle.syntax.specs.Reading.{peek}
-use Rattle.words.specs.Words.{Word, Found, digit, run, stringByte, stringHere, symbol, letter, wordHere, wordsFrom, wordsAt, blank}
+use Rattle.words.specs.Words.{Word, Found, digit, run, string_byte, string_here, symbol, letter, word_here, words_from, words_at, blank}
 
 -- Words have at least one byte, but for the end
 
@@ -31,12 +31,12 @@ some-if : (c : Bool) (x y : Found) → Some x → Some y → Some (if c then x e
 some-if true x y p q = p
 some-if false x y p q = q
 
-string-some : (s : List ℕ) → Some (stringHere s)
-unfolding stringHere
-string-some s = some-if (leb 1 (run stringByte s) && leb (run stringByte s) 32 && eqb (get_or s (run stringByte s) 0) 39) _ _ (omega arith) (omega arith)
+string-some : (s : List ℕ) → Some (string_here s)
+unfolding string_here
+string-some s = some-if (leb 1 (run string_byte s) && leb (run string_byte s) 32 && eqb (get_or s (run string_byte s) 0) 39) _ _ (omega arith) (omega arith)
 
-here-some : (b : ℕ) (s : List ℕ) → Some (wordHere b s)
-unfolding wordHere
+here-some : (b : ℕ) (s : List ℕ) → Some (word_here b s)
+unfolding word_here
 here-some b s =
     some-if (letter b) _ _ (omega arith)
     (some-if (digit b) _ _ (omega arith)
@@ -56,18 +56,18 @@ solid-word : (k at n b : ℕ) (s : List ℕ) (ws : List Word) → 0 < n → Soli
 unfolding peek
 solid-word k at n b s ws h e = simp length-take (omega arith)
 
-solid : (skip at : ℕ) (s : List ℕ) → Solid (wordsFrom skip at s)
-unfolding wordsFrom peek
+solid : (skip at : ℕ) (s : List ℕ) → Solid (words_from skip at s)
+unfolding words_from peek
 solid skip at [] = λ h. absurd (omega arith)
 solid zero at (b ∷ s) =
     solid-if (blank b) _ _ (solid 0 (suc at) s)
     (solid-if (eqb b 37) _ _ (solid (run (λ c. not (eqb c 10)) s) (suc at) s)
-    (solid-if (eqb (wordHere b s).kind 0) _ _ (solid-word (wordHere b s).kind at (wordHere b s).size b s [] (here-some b s))
-    (solid-word (wordHere b s).kind at (wordHere b s).size b s (wordsFrom ((wordHere b s).size - 1) (suc at) s) (here-some b s))))
+    (solid-if (eqb (word_here b s).kind 0) _ _ (solid-word (word_here b s).kind at (word_here b s).size b s [] (here-some b s))
+    (solid-word (word_here b s).kind at (word_here b s).size b s (words_from ((word_here b s).size - 1) (suc at) s) (here-some b s))))
 solid (suc n) at (b ∷ s) = solid n (suc at) s
 
 pub some-len : {text : List ℕ} {at : ℕ} {w : WordAt} → Here text at w → 2 ≤ w.kind → 0 < w.len
-unfolding wordsAt
+unfolding words_at
 some-len {text} {at} {w} n h = rw (n.head, word-length n) at (solid 0 at (drop at text)) h
 
 -- The words from the place of the first word on are the same
@@ -75,7 +75,7 @@ some-len {text} {at} {w} n h = rw (n.head, word-length n) at (solid 0 at (drop a
 -- so it is of ws, where s are the bytes from `at` on
 record Again (at : ℕ) (s : List ℕ) (ws : List Word) : Type 0 where
   pub low : at ≤ (peek ws).start
-  pub same : wordsFrom 0 (peek ws).start (drop ((peek ws).start - at) s) ≡ ws
+  pub same : words_from 0 (peek ws).start (drop ((peek ws).start - at) s) ≡ ws
 
 again-if : (c : Bool) {at : ℕ} {s : List ℕ} {x y : List Word} → (c ≡ true → Again at s x) → (c ≡ false → Again at s y) → Again at s (if c then x else y)
 again-if true f g = f refl
@@ -85,72 +85,72 @@ again-if false f g = g refl
 again-more : {at : ℕ} {s : List ℕ} {ws : List Word} (b : ℕ) → Again (suc at) s ws → Again at (b ∷ s) ws
 again-more {at} {s} {ws} b a =
     let e : (peek ws).start - at ≡ suc ((peek ws).start - suc at) = omega (arith, a.low) in
-    record { low = omega (arith, a.low); same = ap (λ (k : ℕ). wordsFrom 0 (peek ws).start (drop k (b ∷ s))) e ∙ a.same }
+    record { low = omega (arith, a.low); same = ap (λ (k : ℕ). words_from 0 (peek ws).start (drop k (b ∷ s))) e ∙ a.same }
 
 -- words that begin at their first byte
-again-here : (at : ℕ) (s : List ℕ) (ws : List Word) → (peek ws).start ≡ at → wordsFrom 0 at s ≡ ws → Again at s ws
+again-here : (at : ℕ) (s : List ℕ) (ws : List Word) → (peek ws).start ≡ at → words_from 0 at s ≡ ws → Again at s ws
 again-here at s ws e q =
     let z : (peek ws).start - at ≡ 0 = omega (arith, e) in
     record { low = omega (arith, e); same = rw (z, e) q }
 
-again : (skip at : ℕ) (s : List ℕ) → Again at s (wordsFrom skip at s)
-unfolding wordsFrom peek
+again : (skip at : ℕ) (s : List ℕ) → Again at s (words_from skip at s)
+unfolding words_from peek
 again skip at [] = again-here at [] _ refl refl
 again (suc n) at (b ∷ s) = again-more b (again n (suc at) s)
 again zero at (b ∷ s) =
     again-if (blank b) (λ e. again-more b (again 0 (suc at) s)) (λ e₁.
     again-if (eqb b 37) (λ e. again-more b (again (run (λ c. not (eqb c 10)) s) (suc at) s)) (λ e₂.
-    again-if (eqb (wordHere b s).kind 0) (λ e₃. again-here at (b ∷ s) _ refl (rw (e₁, e₂, e₃) refl)) (λ e₃. again-here at (b ∷ s) _ refl (rw (e₁, e₂, e₃) refl))))
+    again-if (eqb (word_here b s).kind 0) (λ e₃. again-here at (b ∷ s) _ refl (rw (e₁, e₂, e₃) refl)) (λ e₃. again-here at (b ∷ s) _ refl (rw (e₁, e₂, e₃) refl))))
 
-pub start-again : {text : List ℕ} {at : ℕ} {w : WordAt} → Here text at w → wordsAt text w.start ≡ wordsAt text at
-unfolding wordsAt
+pub start-again : {text : List ℕ} {at : ℕ} {w : WordAt} → Here text at w → words_at text w.start ≡ words_at text at
+unfolding words_at
 start-again {text} {at} {w} n =
     let a = again 0 at (drop at text) in
-    let i = (peek (wordsAt text at)).start in
+    let i = (peek (words_at text at)).start in
     let e : i ≡ at + (i - at) = omega (arith, a.low) in
-    ap (λ (x : Word). wordsAt text x.start) (sym n.head)
-    ∙ (ap (λ (s : List ℕ). wordsFrom 0 i s) (ap (λ (k : ℕ). drop k text) e ∙ sym (drop-drop (i - at) at text)) ∙ a.same)
+    ap (λ (x : Word). words_at text x.start) (sym n.head)
+    ∙ (ap (λ (s : List ℕ). words_from 0 i s) (ap (λ (k : ℕ). drop k text) e ∙ sym (drop-drop (i - at) at text)) ∙ a.same)
 
 -- What a family takes: the laws of crate places for what `look` promises
 
-taken : {text : List ℕ} {at k : ℕ} {w : WordAt} {v : Word} {ws' : List Word} → Here text at w → Took k (wordsAt text at) v ws' → asWord text w ≡ v
+taken : {text : List ℕ} {at k : ℕ} {w : WordAt} {v : Word} {ws' : List Word} → Here text at w → Took k (words_at text at) v ws' → as_word text w ≡ v
 unfolding peek
 taken n t = sym n.head ∙ ap peek t.here
 
-pub took-kind : {text : List ℕ} {at k : ℕ} {w : WordAt} {v : Word} {ws' : List Word} → Here text at w → Took k (wordsAt text at) v ws' → w.kind ≡ k
+pub took-kind : {text : List ℕ} {at k : ℕ} {w : WordAt} {v : Word} {ws' : List Word} → Here text at w → Took k (words_at text at) v ws' → w.kind ≡ k
 took-kind n t = heres.took-kind _ _ _ _ _ _ (here-next n) t
 
-pub took-word : {text : List ℕ} {at k : ℕ} {w : WordAt} {v : Word} {ws' : List Word} → Here text at w → Took k (wordsAt text at) v ws' → v ≡ word_of text k w.start w.len
+pub took-word : {text : List ℕ} {at k : ℕ} {w : WordAt} {v : Word} {ws' : List Word} → Here text at w → Took k (words_at text at) v ws' → v ≡ word_of text k w.start w.len
 took-word {text} {w = w} n t = sym (taken n t) ∙ ap (λ (i : ℕ). word_of text i w.start w.len) (took-kind n t)
 
-pub took-rest : {text : List ℕ} {at k : ℕ} {w : WordAt} {v : Word} {ws' : List Word} → Here text at w → 2 ≤ k → Took k (wordsAt text at) v ws' → ws' ≡ wordsAt text w.next
+pub took-rest : {text : List ℕ} {at k : ℕ} {w : WordAt} {v : Word} {ws' : List Word} → Here text at w → 2 ≤ k → Took k (words_at text at) v ws' → ws' ≡ words_at text w.next
 took-rest n h t = (heres.took-here _ _ _ _ _ _ h (here-next n) t).behind
 
-pub took-past : {text : List ℕ} {at k : ℕ} {w : WordAt} {v : Word} {ws' : List Word} → Here text at w → 2 ≤ k → Took k (wordsAt text at) v ws' → at < w.next
+pub took-past : {text : List ℕ} {at k : ℕ} {w : WordAt} {v : Word} {ws' : List Word} → Here text at w → 2 ≤ k → Took k (words_at text at) v ws' → at < w.next
 took-past n h t = n.moves (omega (arith, took-kind n t))
 
-pub not-kind : {text : List ℕ} {at : ℕ} (k : ℕ) {w : WordAt} → Here text at w → Not k (wordsAt text at) → w.kind ≡ k → ⊥
+pub not-kind : {text : List ℕ} {at : ℕ} (k : ℕ) {w : WordAt} → Here text at w → Not k (words_at text at) → w.kind ≡ k → ⊥
 not-kind k n m e = heres.not-here _ _ k _ (here-next n) m e
 
-pub next-kind : {text : List ℕ} {at : ℕ} (k : ℕ) {w : WordAt} → Here text at w → (peek (wordsAt text at)).kind ≡ k → w.kind ≡ k
+pub next-kind : {text : List ℕ} {at : ℕ} (k : ℕ) {w : WordAt} → Here text at w → (peek (words_at text at)).kind ≡ k → w.kind ≡ k
 next-kind k n e = sym (heres.kind-here _ _ _ (here-next n)) ∙ e
 
 -- the same from a list of words that is known to be that
 pub took-at : {k : ℕ} {ws vs : List Word} {v : Word} {ws' : List Word} → ws ≡ vs → Took k ws v ws' → Took k vs v ws'
 took-at {k} {v = v} {ws'} e t = rw (← e) t
 
-pub reference-start : {text : List ℕ} {at : ℕ} {w : WordAt} {v : Word} {ws' : List Word} → Here text at w → Reference (wordsAt text at) v ws' → v.start ≡ w.start
+pub reference-start : {text : List ℕ} {at : ℕ} {w : WordAt} {v : Word} {ws' : List Word} → Here text at w → Reference (words_at text at) v ws' → v.start ≡ w.start
 reference-start n (by_name t) = ap (λ (x : Word). x.start) (took-word n t)
-reference-start n (by-string t) = ap (λ (x : Word). x.start) (took-word n t)
+reference-start n (by_string t) = ap (λ (x : Word). x.start) (took-word n t)
 
 -- Words that may be there
 
-pub option-some : {text : List ℕ} {at k : ℕ} {w : WordAt} {v : Word} {ws' : List Word} (p : Part) → Here text at w → 2 ≤ k → Took k (wordsAt text at) v ws'
-    → p.start ≡ w.start → p.len ≡ w.len → some v ≡ optionIn text k p
-unfolding optionOf
+pub option-some : {text : List ℕ} {at k : ℕ} {w : WordAt} {v : Word} {ws' : List Word} (p : Part) → Here text at w → 2 ≤ k → Took k (words_at text at) v ws'
+    → p.start ≡ w.start → p.len ≡ w.len → some v ≡ option_in text k p
+unfolding option_of
 option-some {text} {k = k} {w} p n h t e f =
     rw (e, f, ne_eqb w.len 0 (λ z. omega (arith, some-len n (omega (arith, took-kind n t))))) (ap some (took-word n t))
 
-pub option-none : (text : List ℕ) (k : ℕ) (p : Part) → p.len ≡ 0 → none ≡ optionIn text k p
-unfolding optionOf
+pub option-none : (text : List ℕ) (k : ℕ) (p : Part) → p.len ≡ 0 → none ≡ option_in text k p
+unfolding option_of
 option-none text k p e = rw e refl

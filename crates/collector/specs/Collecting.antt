@@ -1,8 +1,7 @@
 -- What the functions of the second pass promise, for every tree that the text was read as. `rows` are the rows before, `rows'` those after;
 -- `count` rows are in use before.
-use Rattle.std.specs.Prelude.{Bool, true, false, List, [], ◌∷◌, ◌++◌, ◌≡◌, ℕ, ◌+◌, ◌*◌, ◌≤◌, ◌<◌, max, eqb, length, set}
+use Rattle.std.specs.Prelude.{Bool, true, false, List, [], ◌∷◌, ◌++◌, ◌≡◌, ℕ, ◌+◌, ◌*◌, ◌≤◌, ◌<◌, max, eqb, length, set, if◌then◌else◌}
 use Rattle.std.proofs.Math.Option.{Option, some}
-use Rattle.base.specs.Common.{if◌then◌else◌}
 use Rattle.base.specs.Tree.{done}
 use Rattle.collector.specs.declared.Collected.{Collected}
 use Rattle.collector.specs.declared.Entered.{Entered}
@@ -16,34 +15,34 @@ use Rattle.collector.specs.declared.Sectioned.{Sectioned}
 use Rattle.collector.specs.declared.Spot.{Spot}
 use Rattle.collector.specs.declared.State.{State}
 use Rattle.collector.specs.declared.Valued.{Valued}
-use Rattle.declarations.specs.Decls.{Decl, ofEntry, ofOperation, ofRule, entryDecls, operationDecls, sectionDecls, sectionsDecls, ruleDecls, declsOf, place_of, entriesOf, EntriesAt}
-use Rattle.grammar.specs.Derived.{Took, Not, CountIn, EntryIn, GivesIn, ListedIn, OperationIn, OperationsIn, OperatorsIn, RulesIn, SectionsIn, ProgramIn, namesIn, namesInAll}
+use Rattle.declarations.specs.Decls.{Decl, of_entry, of_operation, of_rule, entry_decls, operation_decls, section_decls, sections_decls, rule_decls, decls_of, place_of, entries_of, EntriesAt}
+use Rattle.grammar.specs.Derived.{Took, Not, CountIn, EntryIn, GivesIn, ListedIn, OperationIn, OperationsIn, OperatorsIn, RulesIn, SectionsIn, ProgramIn, names_in, names_in_all}
 use Rattle.reader.specs.Counting.{Kinds, Adds}
 use Rattle.reader.specs.declared.Seen.{Seen}
 use Rattle.scanner.specs.declared.WordAt.{WordAt}
-use Rattle.symbols.specs.Rows.{word_of, optionOf, secondKind, held}
+use Rattle.symbols.specs.Rows.{word_of, option_of, second_kind, held}
 use Rattle.syntax.specs.Reading.{peek}
 use Rattle.syntax.specs.Sections.{Sofar, nothing, after, next_of, instructions}
 use Rattle.syntax.specs.Written.{Entry, Operation, Operator, Section, inputs, outputs, both, errors, values, operations, operators, Rule, Program}
-use Rattle.words.specs.Words.{Word, wordsAt}
+use Rattle.words.specs.Words.{Word, words_at}
 
 -- Rows
 
-abbrev pub inText : List ℕ → Part → Type 0
-inText text p = p.start + p.len ≤ length text
+abbrev pub in_text : List ℕ → Part → Type 0
+in_text text p = p.start + p.len ≤ length text
 
 -- a word that may be there
-abbrev pub optionIn : List ℕ → ℕ → Part → Option Word
-optionIn text kind p = optionOf text kind p.start p.len
+abbrev pub option_in : List ℕ → ℕ → Part → Option Word
+option_in text kind p = option_of text kind p.start p.len
 
 -- the declaration of a row
-unfoldable pub declIn : List ℕ → Row → Decl
-declIn text d = record {
+unfoldable pub decl_in : List ℕ → Row → Decl
+decl_in text d = record {
   class = d.class;
   value = d.value;
   name = word_of text 257 d.name.start d.name.len;
-  second = optionIn text (secondKind d.class) d.second;
-  third = optionIn text 257 d.third;
+  second = option_in text (second_kind d.class) d.second;
+  third = option_in text 257 d.third;
 }
 
 -- a row's numbers are of 16 bits
@@ -54,21 +53,21 @@ pub record Small (d : Row) : Type 0 where
   pub second : d.second.start + d.second.len ≤ 65535
   pub third : d.third.start + d.third.len ≤ 65535
 
-abbrev pub setTwo : List ℕ → ℕ → ℕ → ℕ → List ℕ
-setTwo rows k a b = set (set rows k a) (k + 1) b
+abbrev pub set_two : List ℕ → ℕ → ℕ → ℕ → List ℕ
+set_two rows k a b = set (set rows k a) (k + 1) b
 
 -- the words of the row that begins at k
-abbrev pub setWords : List ℕ → ℕ → Row → List ℕ
-setWords rows k d =
-    setTwo
-    (setTwo
-    (setTwo rows (k + 2) d.name.start d.name.len)
+abbrev pub set_words : List ℕ → ℕ → Row → List ℕ
+set_words rows k d =
+    set_two
+    (set_two
+    (set_two rows (k + 2) d.name.start d.name.len)
     (k + 4) d.second.start d.second.len)
     (k + 6) d.third.start d.third.len
 
 -- row i is written
 unfoldable pub set_row : List ℕ → ℕ → Row → List ℕ
-set_row rows i d = setWords (setTwo rows (8 * i) d.class d.value) (8 * i) d
+set_row rows i d = set_words (set_two rows (8 * i) d.class d.value) (8 * i) d
 
 -- n more rows have their place
 pub record Room (rows : List ℕ) (count n : ℕ) : Type 0 where
@@ -84,7 +83,7 @@ pub record Appends (text rows rows' : List ℕ) (count count' : ℕ) (ds : List 
 pub record Puts (rows rows' : List ℕ) (count count' : ℕ) (d : Row) : Type 0 where
   pub more : count ≤ count'
   pub small : count' ≤ 512
-  pub puts : (text : List ℕ) → Room rows count 1 → Appends text rows rows' count count' (declIn text d ∷ [])
+  pub puts : (text : List ℕ) → Room rows count 1 → Appends text rows rows' count count' (decl_in text d ∷ [])
 
 -- where a function leaves off, whatever the text
 pub record Bounds (text : List ℕ) (at to count count' : ℕ) : Type 0 where
@@ -96,7 +95,7 @@ pub record Bounds (text : List ℕ) (at to count count' : ℕ) : Type 0 where
 -- something was read, and ws' are the words behind it
 pub record Goes (text : List ℕ) (at to : ℕ) (ws' : List Word) : Type 0 where
   pub past : at < to
-  pub rest : ws' ≡ wordsAt text to
+  pub rest : ws' ≡ words_at text to
 
 -- Parts of entries and of operations
 
@@ -115,43 +114,43 @@ pub record IsNone (at : ℕ) (r : Optional) : Type 0 where
 pub record Reads (F : List Word → Option Word → Type 0) (text : List ℕ) (at kind : ℕ) (r : Optional) : Type 0 where
   pub low : at ≤ r.at
   pub high : r.at ≤ length text
-  pub inside : inText text r.part
-  pub word : (ws' : List Word) (o : Option Word) → F ws' o → o ≡ optionIn text kind r.part
-  pub rest : (ws' : List Word) (o : Option Word) → F ws' o → ws' ≡ wordsAt text r.at
+  pub inside : in_text text r.part
+  pub word : (ws' : List Word) (o : Option Word) → F ws' o → o ≡ option_in text kind r.part
+  pub rest : (ws' : List Word) (o : Option Word) → F ws' o → ws' ≡ words_at text r.at
 
 -- a value that is set or counted
 pub record Counts (text : List ℕ) (at v : ℕ) (r : Valued) : Type 0 where
   pub low : at ≤ r.at
   pub high : r.at ≤ length text
   pub small : r.value ≤ 65535
-  pub value : (ws' : List Word) (n : ℕ) → CountIn v (wordsAt text at) ws' n → n ≡ r.value
-  pub rest : (ws' : List Word) (n : ℕ) → CountIn v (wordsAt text at) ws' n → ws' ≡ wordsAt text r.at
+  pub value : (ws' : List Word) (n : ℕ) → CountIn v (words_at text at) ws' n → n ≡ r.value
+  pub rest : (ws' : List Word) (n : ℕ) → CountIn v (words_at text at) ws' n → ws' ≡ words_at text r.at
 
 -- an operation's name and types
 pub record HeadRead (text : List ℕ) (at : ℕ) (ws' : List Word) (o : Operation) (r : Head) : Type 0 where
   pub past : at < r.at
-  pub rest : ws' ≡ wordsAt text r.at
+  pub rest : ws' ≡ words_at text r.at
   pub name : o.operation ≡ word_of text 257 r.name.start r.name.len
-  pub takes : o.takes ≡ optionIn text 257 r.second
-  pub gives : o.gives ≡ optionIn text 257 r.third
+  pub takes : o.takes ≡ option_in text 257 r.second
+  pub gives : o.gives ≡ option_in text 257 r.third
 
 pub record AHead (text : List ℕ) (at : ℕ) (r : Head) : Type 0 where
   pub low : at ≤ r.at
   pub high : r.at ≤ length text
-  pub name : inText text r.name
-  pub second : inText text r.second
-  pub third : inText text r.third
-  pub reads : {is : List ℕ} (ws' : List Word) (o : Operation) → OperationIn is (wordsAt text at) ws' o → HeadRead text at ws' o r
+  pub name : in_text text r.name
+  pub second : in_text text r.second
+  pub third : in_text text r.third
+  pub reads : {is : List ℕ} (ws' : List Word) (o : Operation) → OperationIn is (words_at text at) ws' o → HeadRead text at ws' o r
 
 -- Entries
 
 pub record AnEntry (text rows rows' : List ℕ) (at count class : ℕ) (strings : Bool) (v : ℕ) (r : Entered) : Type 0 where
   pub bounds : Bounds text at r.at count r.count
   pub small : r.value ≤ 65535
-  pub value : (ws' : List Word) (e : Entry) → EntryIn strings v (wordsAt text at) ws' e → e.value ≡ r.value
-  pub goes : (ws' : List Word) (e : Entry) → EntryIn strings v (wordsAt text at) ws' e → Goes text at r.at ws'
-  pub appends : (ws' : List Word) (e : Entry) → EntryIn strings v (wordsAt text at) ws' e → Room rows count 1
-      → Appends text rows rows' count r.count (ofEntry class e ∷ [])
+  pub value : (ws' : List Word) (e : Entry) → EntryIn strings v (words_at text at) ws' e → e.value ≡ r.value
+  pub goes : (ws' : List Word) (e : Entry) → EntryIn strings v (words_at text at) ws' e → Goes text at r.at ws'
+  pub appends : (ws' : List Word) (e : Entry) → EntryIn strings v (words_at text at) ws' e → Room rows count 1
+      → Appends text rows rows' count r.count (of_entry class e ∷ [])
 
 -- entries of the family F; the answer's `top` is one above the greatest of their values and of what `top` is one above
 pub record SomeEntries (F : List Word → List Entry → Type 0) (text rows rows' : List ℕ) (at count class top : ℕ) (r : Entries) : Type 0 where
@@ -159,27 +158,27 @@ pub record SomeEntries (F : List Word → List Entry → Type 0) (text rows rows
   pub most : (ws' : List Word) (es : List Entry) → F ws' es → r.top ≡ next_of top es
   pub goes : (ws' : List Word) (es : List Entry) → F ws' es → Goes text at r.at ws'
   pub appends : (ws' : List Word) (es : List Entry) → F ws' es → Room rows count (length es)
-      → Appends text rows rows' count r.count (entryDecls class es)
+      → Appends text rows rows' count r.count (entry_decls class es)
 
 -- Operations
 
 -- an operation was appended; `is` are the instruction numbers before
 pub record AnOperation (text rows rows' : List ℕ) (at count : ℕ) (seen : Seen) (r : Operated) : Type 0 where
   pub bounds : Bounds text at r.at count r.count
-  pub adds : (is : List ℕ) (ws' : List Word) (o : Operation) → OperationIn is (wordsAt text at) ws' o → Kinds is seen
+  pub adds : (is : List ℕ) (ws' : List Word) (o : Operation) → OperationIn is (words_at text at) ws' o → Kinds is seen
       → Adds (o.instruction ∷ []) seen r.seen
-  pub goes : (is : List ℕ) (ws' : List Word) (o : Operation) → OperationIn is (wordsAt text at) ws' o → Goes text at r.at ws'
-  pub appends : (is : List ℕ) (ws' : List Word) (o : Operation) → OperationIn is (wordsAt text at) ws' o → Kinds is seen → Room rows count 1
-      → Appends text rows rows' count r.count (ofOperation o ∷ [])
+  pub goes : (is : List ℕ) (ws' : List Word) (o : Operation) → OperationIn is (words_at text at) ws' o → Goes text at r.at ws'
+  pub appends : (is : List ℕ) (ws' : List Word) (o : Operation) → OperationIn is (words_at text at) ws' o → Kinds is seen → Room rows count 1
+      → Appends text rows rows' count r.count (of_operation o ∷ [])
 
 pub record SomeOperations (text rows rows' : List ℕ) (at count : ℕ) (seen : Seen) (r : Operated) : Type 0 where
   pub bounds : Bounds text at r.at count r.count
-  pub adds : (is : List ℕ) (ws' : List Word) (os : List Operation) → OperationsIn is (wordsAt text at) ws' os → Kinds is seen
+  pub adds : (is : List ℕ) (ws' : List Word) (os : List Operation) → OperationsIn is (words_at text at) ws' os → Kinds is seen
       → Adds (instructions os) seen r.seen
-  pub goes : (is : List ℕ) (ws' : List Word) (os : List Operation) → OperationsIn is (wordsAt text at) ws' os → Goes text at r.at ws'
-  pub appends : (is : List ℕ) (ws' : List Word) (os : List Operation) → OperationsIn is (wordsAt text at) ws' os → Kinds is seen
+  pub goes : (is : List ℕ) (ws' : List Word) (os : List Operation) → OperationsIn is (words_at text at) ws' os → Goes text at r.at ws'
+  pub appends : (is : List ℕ) (ws' : List Word) (os : List Operation) → OperationsIn is (words_at text at) ws' os → Kinds is seen
       → Room rows count (length os)
-      → Appends text rows rows' count r.count (operationDecls os)
+      → Appends text rows rows' count r.count (operation_decls os)
 
 -- Sections
 
@@ -192,36 +191,36 @@ pub record Keeps (s : Sofar) (t : State) : Type 0 where
 
 -- sections after the word that says which
 pub data InputsIn (s : Sofar) (ws ws' : List Word) : Section → Type 0 where
-  some-inputs : {es : List Entry} → ListedIn true s.input ws ws' es → InputsIn s ws ws' (inputs es)
+  some_inputs : {es : List Entry} → ListedIn true s.input ws ws' es → InputsIn s ws ws' (inputs es)
 
 pub data BothIn (s : Sofar) (ws ws' : List Word) : Section → Type 0 where
-  some-both : {es : List Entry} → ListedIn true (max s.input s.output) ws ws' es → BothIn s ws ws' (both es)
+  some_both : {es : List Entry} → ListedIn true (max s.input s.output) ws ws' es → BothIn s ws ws' (both es)
 
 pub data TokensIn (s : Sofar) (ws ws' : List Word) : Section → Type 0 where
   alone : {x : Section} → Not 261 ws → InputsIn s ws ws' x → TokensIn s ws ws' x
   doubled : {second : Word} {ws₁ : List Word} {x : Section} → Took 261 ws second ws₁ → BothIn s ws₁ ws' x → TokensIn s ws ws' x
 
 pub data OutputsIn (s : Sofar) (ws ws' : List Word) : Section → Type 0 where
-  some-outputs : {es : List Entry} → ListedIn true s.output ws ws' es → OutputsIn s ws ws' (outputs es)
+  some_outputs : {es : List Entry} → ListedIn true s.output ws ws' es → OutputsIn s ws ws' (outputs es)
 
 pub data ErrorsIn (s : Sofar) (ws ws' : List Word) : Section → Type 0 where
-  some-errors : {es : List Entry} → ListedIn false s.error ws ws' es → ErrorsIn s ws ws' (errors es)
+  some_errors : {es : List Entry} → ListedIn false s.error ws ws' es → ErrorsIn s ws ws' (errors es)
 
 pub data TypeIn (s : Sofar) (ws ws' : List Word) : Section → Type 0 where
-  a-type : {w : Word} {ws₁ : List Word} {es : List Entry} → Took 257 ws w ws₁ → ListedIn false 0 ws₁ ws' es → TypeIn s ws ws' (values w es)
+  a_type : {w : Word} {ws₁ : List Word} {es : List Entry} → Took 257 ws w ws₁ → ListedIn false 0 ws₁ ws' es → TypeIn s ws ws' (values w es)
 
 pub data MechanismIn (s : Sofar) (ws ws' : List Word) : Section → Type 0 where
-  a-mechanism : {w colon : Word} {ws₁ ws₂ : List Word} {os : List Operation} → Took 257 ws w ws₁ → Took 58 ws₁ colon ws₂ → OperationsIn s.seen ws₂ ws' os
+  a_mechanism : {w colon : Word} {ws₁ ws₂ : List Word} {os : List Operation} → Took 257 ws w ws₁ → Took 58 ws₁ colon ws₂ → OperationsIn s.seen ws₂ ws' os
       → MechanismIn s ws ws' (operations os)
 
 pub data OperatorsSectionIn (s : Sofar) (ws ws' : List Word) : Section → Type 0 where
-  some-operators : {w colon : Word} {ws₁ ws₂ : List Word} {os : List Operator} → Took 257 ws w ws₁ → Took 58 ws₁ colon ws₂ → OperatorsIn ws₂ ws' os
+  some_operators : {w colon : Word} {ws₁ ws₂ : List Word} {os : List Operator} → Took 257 ws w ws₁ → Took 58 ws₁ colon ws₂ → OperatorsIn ws₂ ws' os
       → OperatorsSectionIn s ws ws' (operators w os)
 
 -- entries of operators stand at their place in the text
 pub record EntriesStand (text : List ℕ) (os : List Operator) : Type 0 where
   pub left : List Word
-  pub again : OperatorsIn (wordsAt text (place_of os)) left os
+  pub again : OperatorsIn (words_at text (place_of os)) left os
 
 abbrev pub Stands : List ℕ → Section → Type 0
 Stands text (inputs es) = Unit {0}
@@ -239,89 +238,89 @@ pub data AllStand (text : List ℕ) : List Section → Type 0 where
 -- a section of the family F, and the state after it
 pub record ASection (F : Sofar → List Word → List Word → Section → Type 0) (text rows rows' : List ℕ) (at count : ℕ) (t : State) (r : Sectioned) : Type 0 where
   pub bounds : Bounds text at r.at count r.count
-  pub keeps : (s : Sofar) (ws' : List Word) (x : Section) → F s (wordsAt text at) ws' x → Keeps s t → Keeps (after s x) r.state
-  pub goes : (s : Sofar) (ws' : List Word) (x : Section) → F s (wordsAt text at) ws' x → Keeps s t → Goes text at r.at ws'
-  pub appends : (s : Sofar) (ws' : List Word) (x : Section) → F s (wordsAt text at) ws' x → Keeps s t → Room rows count (namesIn x)
-      → Appends text rows rows' count r.count (sectionDecls count x)
-  pub stands : (s : Sofar) (ws' : List Word) (x : Section) → F s (wordsAt text at) ws' x → Stands text x
+  pub keeps : (s : Sofar) (ws' : List Word) (x : Section) → F s (words_at text at) ws' x → Keeps s t → Keeps (after s x) r.state
+  pub goes : (s : Sofar) (ws' : List Word) (x : Section) → F s (words_at text at) ws' x → Keeps s t → Goes text at r.at ws'
+  pub appends : (s : Sofar) (ws' : List Word) (x : Section) → F s (words_at text at) ws' x → Keeps s t → Room rows count (names_in x)
+      → Appends text rows rows' count r.count (section_decls count x)
+  pub stands : (s : Sofar) (ws' : List Word) (x : Section) → F s (words_at text at) ws' x → Stands text x
 
 pub record SomeSections (text rows rows' : List ℕ) (at count : ℕ) (t : State) (r : Spot) : Type 0 where
   pub bounds : Bounds text at r.at count r.count
-  pub rest : (s : Sofar) (ws' : List Word) (xs : List Section) → SectionsIn s (wordsAt text at) ws' xs → Keeps s t → ws' ≡ wordsAt text r.at
-  pub appends : (s : Sofar) (ws' : List Word) (xs : List Section) → SectionsIn s (wordsAt text at) ws' xs → Keeps s t
-      → Room rows count (namesInAll xs)
-      → Appends text rows rows' count r.count (sectionsDecls count xs)
-  pub stands : (s : Sofar) (ws' : List Word) (xs : List Section) → SectionsIn s (wordsAt text at) ws' xs → Keeps s t → AllStand text xs
+  pub rest : (s : Sofar) (ws' : List Word) (xs : List Section) → SectionsIn s (words_at text at) ws' xs → Keeps s t → ws' ≡ words_at text r.at
+  pub appends : (s : Sofar) (ws' : List Word) (xs : List Section) → SectionsIn s (words_at text at) ws' xs → Keeps s t
+      → Room rows count (names_in_all xs)
+      → Appends text rows rows' count r.count (sections_decls count xs)
+  pub stands : (s : Sofar) (ws' : List Word) (xs : List Section) → SectionsIn s (words_at text at) ws' xs → Keeps s t → AllStand text xs
 
 -- Rules
 
 -- the words from the first semicolon on
-unfoldable pub toSemicolon : List Word → List Word
-toSemicolon [] = []
-toSemicolon (w ∷ ws) = let later = toSemicolon ws in if eqb w.kind 59 then w ∷ ws else later
+unfoldable pub to_semicolon : List Word → List Word
+to_semicolon [] = []
+to_semicolon (w ∷ ws) = let later = to_semicolon ws in if eqb w.kind 59 then w ∷ ws else later
 
 -- r is the place behind the first semicolon
 pub record Skips (text : List ℕ) (at r : ℕ) : Type 0 where
   pub low : at ≤ r
   pub high : r ≤ length text
-  pub rest : (semi : Word) (ws' : List Word) → Took 59 (toSemicolon (wordsAt text at)) semi ws' → ws' ≡ wordsAt text r
+  pub rest : (semi : Word) (ws' : List Word) → Took 59 (to_semicolon (words_at text at)) semi ws' → ws' ≡ words_at text r
 
 -- a name, its type where it has one, and what stands there up to the next semicolon: a rule, or a line `NAME >> type;` of a common part's list, which is a
 -- rule without a body
 pub data LineIn (ws ws' : List Word) (r : Rule) : Type 0 where
-  a-line : {semi : Word} {ws₁ ws₂ : List Word} → Took 257 ws r.rule ws₁ → GivesIn ws₁ ws₂ r.gives → Took 59 (toSemicolon ws₂) semi ws' → LineIn ws ws' r
+  a_line : {semi : Word} {ws₁ ws₂ : List Word} → Took 257 ws r.rule ws₁ → GivesIn ws₁ ws₂ r.gives → Took 59 (to_semicolon ws₂) semi ws' → LineIn ws ws' r
 
 -- up to a word that is no name
 pub data LinesIn : List Word → List Word → List Rule → Type 0 where
   last_line : {ws ws' : List Word} {r : Rule} → LineIn ws ws' r → Not 257 ws' → LinesIn ws ws' (r ∷ [])
-  more-lines : {ws ws' ws₁ : List Word} {r : Rule} {rs : List Rule} → LineIn ws ws₁ r → (peek ws₁).kind ≡ 257 → LinesIn ws₁ ws' rs → LinesIn ws ws' (r ∷ rs)
+  more_lines : {ws ws' ws₁ : List Word} {r : Rule} {rs : List Rule} → LineIn ws ws₁ r → (peek ws₁).kind ≡ 257 → LinesIn ws₁ ws' rs → LinesIn ws ws' (r ∷ rs)
 
 -- the list of a common part, `NAME >> type;` no or more times
 pub data ListIn : List Word → List Word → List Rule → Type 0 where
-  no-head : {ws ws' : List Word} → ws' ≡ ws → ListIn ws ws' []
-  more-heads : {ws ws' ws₁ ws₂ ws₃ ws₄ : List Word} {w sign g semi : Word} {rs : List Rule} → Took 257 ws w ws₁ → Took 256 ws₁ sign ws₂ → Took 257 ws₂ g ws₃ → Took 59 ws₃ semi ws₄
+  no_head : {ws ws' : List Word} → ws' ≡ ws → ListIn ws ws' []
+  more_heads : {ws ws' ws₁ ws₂ ws₃ ws₄ : List Word} {w sign g semi : Word} {rs : List Rule} → Took 257 ws w ws₁ → Took 256 ws₁ sign ws₂ → Took 257 ws₂ g ws₃ → Took 59 ws₃ semi ws₄
       → ListIn ws₄ ws' rs → ListIn ws ws' (record { rule = w; gives = some g; body = done; closing = w } ∷ rs)
 
 -- the rule of the place k
 pub record ARule (text rows rows' : List ℕ) (at count k : ℕ) (r : Spot) : Type 0 where
   pub bounds : Bounds text at r.at count r.count
-  pub goes : (ws' : List Word) (x : Rule) → LineIn (wordsAt text at) ws' x → Goes text at r.at ws'
-  pub appends : (ws' : List Word) (x : Rule) → LineIn (wordsAt text at) ws' x → Room rows count 1
-      → Appends text rows rows' count r.count (ofRule k x ∷ [])
+  pub goes : (ws' : List Word) (x : Rule) → LineIn (words_at text at) ws' x → Goes text at r.at ws'
+  pub appends : (ws' : List Word) (x : Rule) → LineIn (words_at text at) ws' x → Room rows count 1
+      → Appends text rows rows' count r.count (of_rule k x ∷ [])
 
 -- rules from the place k on
 pub record SomeRules (text rows rows' : List ℕ) (at count k count' : ℕ) : Type 0 where
   pub small : count' ≤ 512
-  pub appends : (ws' : List Word) (xs : List Rule) → LinesIn (wordsAt text at) ws' xs → Room rows count (length xs)
-      → Appends text rows rows' count count' (ruleDecls k xs)
+  pub appends : (ws' : List Word) (xs : List Rule) → LinesIn (words_at text at) ws' xs → Room rows count (length xs)
+      → Appends text rows rows' count count' (rule_decls k xs)
 
 -- The whole
 
 -- a text with lines for rules: a program, or the sections and the list of a common part with the rules of a part behind them
 pub data LinedIn (ws : List Word) (p : Program) : Type 0 where
   lined : {head : Word} {ws₁ ws₂ ws₃ : List Word} → SectionsIn nothing ws ws₁ p.sections → Took 265 ws₁ head ws₂ → LinesIn ws₂ ws₃ p.rules
-      → namesInAll p.sections + length p.rules ≤ 512 → LinedIn ws p
+      → names_in_all p.sections + length p.rules ≤ 512 → LinedIn ws p
 
 -- its rows
 pub record RowsFor (p : Program) (text rows' : List ℕ) (r : Collected) : Type 0 where
-  pub rows : held text rows' r.count ≡ declsOf p
-  pub count : r.count ≡ length (declsOf p)
-  pub rules : r.rules ≡ length (sectionsDecls 0 p.sections)
+  pub rows : held text rows' r.count ≡ decls_of p
+  pub count : r.count ≡ length (decls_of p)
+  pub rules : r.rules ≡ length (sections_decls 0 p.sections)
   -- entries of operators are read again from their places
-  pub entries : EntriesAt text (declsOf p) (entriesOf p)
+  pub entries : EntriesAt text (decls_of p) (entries_of p)
   -- the lines are read again from the place `at`
-  pub again : {head : Word} {ws₁ ws₂ : List Word} → SectionsIn nothing (wordsAt text 0) ws₁ p.sections → Took 265 ws₁ head ws₂ → ws₂ ≡ wordsAt text r.at
+  pub again : {head : Word} {ws₁ ws₂ : List Word} → SectionsIn nothing (words_at text 0) ws₁ p.sections → Took 265 ws₁ head ws₂ → ws₂ ≡ words_at text r.at
 
 -- the rows of a program
 pub record CollectedFor (p : Program) (text rows' : List ℕ) (r : Collected) : Type 0 where
-  pub rows : held text rows' r.count ≡ declsOf p
-  pub count : r.count ≡ length (declsOf p)
-  pub rules : r.rules ≡ length (sectionsDecls 0 p.sections)
+  pub rows : held text rows' r.count ≡ decls_of p
+  pub count : r.count ≡ length (decls_of p)
+  pub rules : r.rules ≡ length (sections_decls 0 p.sections)
   -- entries of operators are read again from their places
-  pub entries : EntriesAt text (declsOf p) (entriesOf p)
+  pub entries : EntriesAt text (decls_of p) (entries_of p)
   -- the rules are read again from the place `at`
   pub left : List Word
-  pub again : RulesIn (wordsAt text r.at) left p.rules
+  pub again : RulesIn (words_at text r.at) left p.rules
   -- up to `end`
   pub ending : (peek left).kind ≡ 266
 
@@ -330,10 +329,10 @@ pub record Collects (text rows rows' : List ℕ) (r : Collected) : Type 0 where
   pub early : r.rules ≤ 512
   pub small : r.count ≤ 512
   pub inside : r.at ≤ length text
-  pub lines : (p : Program) → LinedIn (wordsAt text 0) p → length rows ≡ 6017 → RowsFor p text rows' r
-  pub collects : (p : Program) → ProgramIn (wordsAt text 0) p → length rows ≡ 6017 → CollectedFor p text rows' r
+  pub lines : (p : Program) → LinedIn (words_at text 0) p → length rows ≡ 6017 → RowsFor p text rows' r
+  pub collects : (p : Program) → ProgramIn (words_at text 0) p → length rows ≡ 6017 → CollectedFor p text rows' r
 
 -- all of this file computes where this is unfolded
 unfoldable pub opened : Unit {0}
-unfolding declIn set_row toSemicolon
+unfolding decl_in set_row to_semicolon
 opened = tt

@@ -2,10 +2,10 @@
 // each function ends and keeps inside its buffers.
 ghost use Rattle.std.specs.Prelude.{◌≡◌, ◌+◌, ◌-◌, ◌≤◌, ◌<◌, length};
 ghost use Rattle.grammar.specs.Derived.{SpellingIn, GivesIn, TakesIn, EntriesIn, ListedIn, SectionIn};
-ghost use Rattle.reader.specs.Counting.{count_of, oneMore};
+ghost use Rattle.reader.specs.Counting.{count_of, one_more};
 ghost use Rattle.syntax.specs.Sections.{first_of};
-ghost use Rattle.words.specs.Words.{wordsAt};
-ghost use Rattle.collector.specs.Collecting.{Small, setTwo, setWords, Puts, IsWord, IsNone, Reads, Counts, AHead, AnEntry, SomeEntries, AnOperation, SomeOperations, TokensIn, InputsIn, BothIn, OutputsIn, ErrorsIn, TypeIn, MechanismIn, OperatorsSectionIn, ASection, SomeSections, Skips, ARule, SomeRules, Collects};
+ghost use Rattle.words.specs.Words.{words_at};
+ghost use Rattle.collector.specs.Collecting.{Small, set_two, set_words, Puts, IsWord, IsNone, Reads, Counts, AHead, AnEntry, SomeEntries, AnOperation, SomeOperations, TokensIn, InputsIn, BothIn, OutputsIn, ErrorsIn, TypeIn, MechanismIn, OperatorsSectionIn, ASection, SomeSections, Skips, ARule, SomeRules, Collects};
 
 use reader::{Seen, count_of, larger, look, number_of, one_more};
 use scanner::WordAt;
@@ -128,7 +128,7 @@ fn narrow(n: usize) -> u16
 
 fn put_two(rows: &mut [u16], k: usize, a: u16, b: u16)
     requires { k + 2 ≤ length rows.old }
-    ensures { rows.new ≡ setTwo rows.old k a b }
+    ensures { rows.new ≡ set_two rows.old k a b }
 {
     rows[k] = a;
     rows[k + 1] = b;
@@ -136,7 +136,7 @@ fn put_two(rows: &mut [u16], k: usize, a: u16, b: u16)
 
 pub fn put_part(rows: &mut [u16], k: usize, p: Part)
     requires { (k + 2 ≤ length rows.old) × (p.start + p.len ≤ 65535) }
-    ensures { rows.new ≡ setTwo rows.old k p.start p.len }
+    ensures { rows.new ≡ set_two rows.old k p.start p.len }
 {
     put_two(rows, k, narrow(p.start), narrow(p.len));
 }
@@ -144,7 +144,7 @@ pub fn put_part(rows: &mut [u16], k: usize, p: Part)
 // The words of the row that begins at k.
 fn put_words(rows: &mut [u16], k: usize, d: Row)
     requires { (k + 8 ≤ length rows.old) × Small d }
-    ensures { rows.new ≡ setWords rows.old k d }
+    ensures { rows.new ≡ set_words rows.old k d }
 {
     let name = d.name;
     let second = d.second;
@@ -193,7 +193,7 @@ fn nothing(at: usize) -> Optional
 // An entry's string, where it may have one.
 fn read_spelling(text: &[u8], at: usize, strings: bool) -> Optional
     requires { at ≤ length text.now }
-    ensures { Reads (SpellingIn strings (wordsAt text.now at)) text.now at 259 result }
+    ensures { Reads (SpellingIn strings (words_at text.now at)) text.now at 259 result }
 {
     if strings {
         let w = look(text, at);
@@ -208,7 +208,7 @@ fn read_spelling(text: &[u8], at: usize, strings: bool) -> Optional
 // The type after `>>`, where there is one.
 fn read_gives(text: &[u8], at: usize) -> Optional
     requires { at ≤ length text.now }
-    ensures { Reads (GivesIn (wordsAt text.now at)) text.now at 257 result }
+    ensures { Reads (GivesIn (words_at text.now at)) text.now at 257 result }
 {
     let w = look(text, at);
     if w.kind == words::TWICE {
@@ -221,7 +221,7 @@ fn read_gives(text: &[u8], at: usize) -> Optional
 // A parameter's type in parentheses, where there is one.
 fn read_takes(text: &[u8], at: usize) -> Optional
     requires { at ≤ length text.now }
-    ensures { Reads (TakesIn (wordsAt text.now at)) text.now at 257 result }
+    ensures { Reads (TakesIn (words_at text.now at)) text.now at 257 result }
 {
     let w = look(text, at);
     if w.kind == words::OPENING {
@@ -317,7 +317,7 @@ fn collect_entries(
     v: usize,
 ) -> Entries
     requires { (at ≤ length text.now) × (length text.now ≤ 65535) × (count ≤ 512) × (class ≤ 65535) × (class ≡ 6 → ⊥) }
-    ensures { SomeEntries (EntriesIn strings v (wordsAt text.now at)) text.now rows.old rows.new at count class 0 result }
+    ensures { SomeEntries (EntriesIn strings v (words_at text.now at)) text.now rows.old rows.new at count class 0 result }
 {
     let mut i = at;
     let mut n = count;
@@ -355,7 +355,7 @@ fn collect_listed(
     v: usize,
 ) -> Entries
     requires { (at ≤ length text.now) × (length text.now ≤ 65535) × (count ≤ 512) × (class ≤ 65535) × (class ≡ 6 → ⊥) }
-    ensures { SomeEntries (ListedIn strings v (wordsAt text.now at)) text.now rows.old rows.new at count class 0 result }
+    ensures { SomeEntries (ListedIn strings v (words_at text.now at)) text.now rows.old rows.new at count class 0 result }
 {
     let c = look(text, at);
     collect_entries(text, c.next, rows, count, class, strings, v)
@@ -391,7 +391,7 @@ fn next_number(seen: Seen, takes: bool, gives: bool) -> usize
 }
 
 fn with_one(seen: Seen, takes: bool, gives: bool) -> Seen
-    ensures { count_of seen takes gives ≤ 255 → result ≡ oneMore seen takes gives }
+    ensures { count_of seen takes gives ≤ 255 → result ≡ one_more seen takes gives }
 {
     let n = count_of(seen, takes, gives);
     if LAST_OF_KIND < n {

@@ -1,4 +1,4 @@
--- What the code of adding a book does is `addBytes`, case by case.
+-- What the code of adding a book does is `add_bytes`, case by case.
 use mathlib.Core.Bool.{Bool, true, false, ◌&&◌, and-false}
 use mathlib.Core.List.{List, [], ◌∷◌, ◌++◌}
 use mathlib.Core.Logic.{◌⊎◌, inl, inr}
@@ -10,17 +10,17 @@ use lib.Dec.{eqb, leb, ltb}
 use lib.ListN.{length}
 use borrow.Author.Tests.{eq-eqb, ne_eqb, lt-ltb, le-ltb, le-leb, lt-leb, leb-true, ltb-true, ltb-false}
 use Rattle.base.specs.Bools.{never, split}
-use Rattle.base.specs.Common.{if◌then◌else◌}
+use Rattle.std.specs.Prelude.{if◌then◌else◌}
 use Rattle.counting.proofs.Link.{book-visits, book-call}
-use Rattle.counting.proofs.Loop.{tells-of}
-use Rattle.counting.specs.Counting.{bookVisits, bookOf, toldOf, numbersOf, past_of, gives}
+use Rattle.counting.proofs.Loop.{tells_of}
+use Rattle.counting.specs.Counting.{book_visits, book_of, told_of, numbers_of, past_of, gives}
 use Rattle.counting.specs.declared.Told.{Told}
 use Rattle.figures.proofs.Shelves.{balanced, balanced-plus, sound-decided}
 use Rattle.figures.proofs.Steps.{length-visited}
-use Rattle.figures.specs.Figures.{Figures, sum, bumps, marks, plus, below64, within64, bitsOf, sound, covered, meanWhole, meanRest}
-use Rattle.figures.specs.Form.{numberWords, numbers, figuresBytes, number_at, numbersAt, figuresNamed, figuresOf, unchanged, counted, added, given_of, addBytes, reportOf, shelfBytes}
+use Rattle.figures.specs.Figures.{Figures, sum, bumps, marks, plus, below64, within64, bits_of, sound, covered, mean_whole, mean_rest}
+use Rattle.figures.specs.Form.{number_words, numbers, figures_bytes, number_at, numbers_at, figures_named, figures_of, unchanged, counted, added, given_of, add_bytes, report_of, shelf_bytes}
 use Rattle.figures.specs.Visits.{Given, called, visited}
-use Rattle.machine.proofs.Bytes.{length-tableOf}
+use Rattle.machine.proofs.Bytes.{length-table_of}
 use Rattle.machine.proofs.Keeps.{steps-budget}
 use Rattle.machine.specs.Bytes.{count, words_of, table_of, bytes_of}
 use Rattle.machine.specs.Call.{whole}
@@ -56,18 +56,18 @@ module _ (t k a : List ℕ) (budget allowance : ℕ) (fs o : List ℕ) where
   ws = words_of fs
 
   abbrev f : Figures
-  f = figuresNamed ws
+  f = figures_named ws
 
   -- nothing is changed
   abbrev pub Unchanged : ℕ → Type 0
-  Unchanged number = gives (toldOf number 0 0) fs o ≡ addBytes t k a budget allowance fs o
+  Unchanged number = gives (told_of number 0 0) fs o ≡ add_bytes t k a budget allowance fs o
 
   pub another-length : (length fs ≡ 33296 → ⊥) → Unchanged 21
-  unfolding addBytes added unchanged figuresOf
+  unfolding add_bytes added unchanged figures_of
   another-length h = rw (ne_eqb (length fs) 33296 h) refl
 
   pub not_sound : length fs ≡ 33296 → sound f ≡ false → Unchanged 21
-  unfolding addBytes added unchanged figuresOf
+  unfolding add_bytes added unchanged figures_of
   not_sound h e = rw (eq-eqb (length fs) 33296 h, e) refl
 
   module _ (long : length fs ≡ 33296) (good : sound f ≡ true) (small-t : Bytes t) (small-k : Bytes k) (small-a : Bytes a) (allowed : allowance < 65536) where
@@ -78,7 +78,7 @@ module _ (t k a : List ℕ) (budget allowance : ℕ) (fs o : List ℕ) where
     g = given_of k a budget allowance o
 
     abbrev vs : List ℕ
-    vs = bookVisits t k a budget allowance (count o)
+    vs = book_visits t k a budget allowance (count o)
 
     visits-are : vs ≡ visited T g
     unfolding given_of
@@ -91,58 +91,58 @@ module _ (t k a : List ℕ) (budget allowance : ℕ) (fs o : List ℕ) where
     unfolding called given_of
     steps-within = omega (arith, steps-are, steps-budget T (words_of k) (whole (words_of a)) budget (count o) (fresh allowance))
 
-    adds-as : (b : Bool) → within64 (plus T g f) ≡ b → addBytes t k a budget allowance fs o ≡ (if b then counted (called T g) (plus T g f) o else unchanged 46 fs o)
-    unfolding addBytes added figuresOf
+    adds-as : (b : Bool) → within64 (plus T g f) ≡ b → add_bytes t k a budget allowance fs o ≡ (if b then counted (called T g) (plus T g f) o else unchanged 46 fs o)
+    unfolding add_bytes added figures_of
     adds-as b e = rw (eq-eqb (length fs) 33296 long, good, e) refl
 
     decides : (b : Bool) → (below64 (f.books + 1) && below64 (f.total + (called T g).steps)) ≡ b → within64 (plus T g f) ≡ b
-    decides b e = sound-decided T f g (length-tableOf t) good ∙ e
+    decides b e = sound-decided T f g (length-table_of t) good ∙ e
 
     past : within64 (plus T g f) ≡ false → Unchanged 46
     unfolding unchanged
     past e = sym (adds-as false e)
 
     pub books-past : (n : ℕ) → n ≡ number_at ws 4160 → n ≡ 18446744073709551615 → Unchanged 46
-    unfolding figuresNamed
+    unfolding figures_named
     books-past n p e =
         let b : below64 (number_at ws 4160 + 1) ≡ false = le-ltb (number_at ws 4160 + 1) 18446744073709551616 (omega arith) in
         past (decides false (ap (λ (x : Bool). x && below64 (f.total + (called T g).steps)) b))
 
     pub total-past : (n : ℕ) → n ≡ number_at ws 4161 → 18446744073709551615 - n < length vs → n < 18446744073709551616 → Unchanged 46
-    unfolding figuresNamed
+    unfolding figures_named
     total-past n p h s =
         let b : below64 (number_at ws 4161 + (called T g).steps) ≡ false = le-ltb (number_at ws 4161 + (called T g).steps) 18446744073709551616 (omega (arith, steps-are)) in
         past (decides false (ap (λ (x : Bool). below64 (f.books + 1) && x) b ∙ and-false (below64 (f.books + 1))))
 
-    pub counts-fit : (n : ℕ) → n ≡ number_at ws 4161 → n + length vs < 18446744073709551616 → sum (numbersAt ws 0 4096) + length vs < 18446744073709551616
-    unfolding figuresNamed
+    pub counts-fit : (n : ℕ) → n ≡ number_at ws 4161 → n + length vs < 18446744073709551616 → sum (numbers_at ws 0 4096) + length vs < 18446744073709551616
+    unfolding figures_named
     counts-fit n p h = let b = (balanced f good).total in omega (arith, b)
 
-    agrees : Agrees o (bookOf t k a budget allowance o) (called T g)
+    agrees : Agrees o (book_of t k a budget allowance o) (called T g)
     agrees = book-call t k a small-t small-k small-a budget allowance o allowed
 
     -- as many steps as locations counted
-    pub book-steps : (r : Told) → r ≡ tells-of (bookOf t k a budget allowance o) → r.steps ≡ length vs
+    pub book-steps : (r : Told) → r ≡ tells_of (book_of t k a budget allowance o) → r.steps ≡ length vs
     book-steps r told = ap (λ (x : Told). x.steps) told ∙ agrees.steps ∙ sym steps-are
 
     -- the figures with the book
-    module _ (r : Told) (fs' o' cs' : List ℕ) (books total : ℕ) (told : r ≡ tells-of (bookOf t k a budget allowance o)) (buffer : o' ≡ (bookOf t k a budget allowance o).out)
-        (counts : cs' ≡ bumps (numbersAt ws 0 4096) vs) (books-are : books ≡ number_at ws 4160) (total-is : total ≡ number_at ws 4161)
-        (written : fs' ≡ bytes_of (numberWords (numbersOf cs' (books + 1) (total + r.steps)))) where
+    module _ (r : Told) (fs' o' cs' : List ℕ) (books total : ℕ) (told : r ≡ tells_of (book_of t k a budget allowance o)) (buffer : o' ≡ (book_of t k a budget allowance o).out)
+        (counts : cs' ≡ bumps (numbers_at ws 0 4096) vs) (books-are : books ≡ number_at ws 4160) (total-is : total ≡ number_at ws 4161)
+        (written : fs' ≡ bytes_of (number_words (numbers_of cs' (books + 1) (total + r.steps)))) where
       r-steps : r.steps ≡ (called T g).steps
       r-steps = ap (λ (x : Told). x.steps) told ∙ agrees.steps
 
-      figures-are : fs' ≡ figuresBytes (plus T g f)
-      unfolding figuresBytes numbers numbersOf plus figuresNamed
+      figures-are : fs' ≡ figures_bytes (plus T g f)
+      unfolding figures_bytes numbers numbers_of plus figures_named
       figures-are =
-          let cs : cs' ≡ bumps (numbersAt ws 0 4096) (visited T g) = counts ∙ ap (bumps (numbersAt ws 0 4096)) visits-are in
-          let bs : bitsOf 64 cs' ≡ marks (numbersAt ws 4096 64) (visited T g) = ap (bitsOf 64) cs ∙ sym (balanced-plus T f g (length-tableOf t) (balanced f good)).bits in
+          let cs : cs' ≡ bumps (numbers_at ws 0 4096) (visited T g) = counts ∙ ap (bumps (numbers_at ws 0 4096)) visits-are in
+          let bs : bits_of 64 cs' ≡ marks (numbers_at ws 4096 64) (visited T g) = ap (bits_of 64) cs ∙ sym (balanced-plus T f g (length-table_of t) (balanced f good)).bits in
           let n : books + 1 ≡ number_at ws 4160 + 1 = ap (λ (x : ℕ). x + 1) books-are in
           let s : total + r.steps ≡ number_at ws 4161 + (called T g).steps = omega (arith, total-is, r-steps) in
-          written ∙ (λ i. bytes_of (numberWords (cs i ++ (bs i ++ (n i ∷ s i ∷ [])))))
+          written ∙ (λ i. bytes_of (number_words (cs i ++ (bs i ++ (n i ∷ s i ∷ [])))))
 
-      pub adds : books < 18446744073709551615 → total + r.steps < 18446744073709551616 → gives r fs' o' ≡ addBytes t k a budget allowance fs o
-      unfolding counted figuresNamed
+      pub adds : books < 18446744073709551615 → total + r.steps < 18446744073709551616 → gives r fs' o' ≡ add_bytes t k a budget allowance fs o
+      unfolding counted figures_named
       adds b h =
           let n₁ : below64 (number_at ws 4160 + 1) ≡ true = lt-ltb (number_at ws 4160 + 1) 18446744073709551616 (omega arith) in
           let n₂ : below64 (number_at ws 4161 + (called T g).steps) ≡ true = lt-ltb (number_at ws 4161 + (called T g).steps) 18446744073709551616 (omega (arith, r-steps)) in
@@ -154,18 +154,18 @@ module _ (t k a : List ℕ) (budget allowance : ℕ) (fs o : List ℕ) where
 -- What the report of a shelf is
 
 module _ (fs : List ℕ) where
-  pub no-figures : (length fs ≡ 33296 → ⊥) → reportOf none ≡ shelfBytes fs
-  unfolding shelfBytes figuresOf
+  pub no-figures : (length fs ≡ 33296 → ⊥) → report_of none ≡ shelf_bytes fs
+  unfolding shelf_bytes figures_of
   no-figures h = rw (ne_eqb (length fs) 33296 h) refl
 
-  pub no-sound-figures : length fs ≡ 33296 → sound (figuresNamed (words_of fs)) ≡ false → reportOf none ≡ shelfBytes fs
-  unfolding shelfBytes figuresOf
+  pub no-sound-figures : length fs ≡ 33296 → sound (figures_named (words_of fs)) ≡ false → report_of none ≡ shelf_bytes fs
+  unfolding shelf_bytes figures_of
   no-sound-figures h e = rw (eq-eqb (length fs) 33296 h, e) refl
 
-  pub the-report : length fs ≡ 33296 → sound (figuresNamed (words_of fs)) ≡ true → (b t v m r : ℕ) → b ≡ number_at (words_of fs) 4160 → t ≡ number_at (words_of fs) 4161
-      → v ≡ covered (numbersAt (words_of fs) 4096 64) → m ≡ (if eqb b 0 then 0 else t / b) → r ≡ (if eqb b 0 then 0 else t % b)
-      → record { number = 0; books = b; total = t; covered = v; mean = m; rest = r } ≡ shelfBytes fs
-  unfolding shelfBytes figuresOf reportOf figuresNamed meanWhole meanRest
+  pub the-report : length fs ≡ 33296 → sound (figures_named (words_of fs)) ≡ true → (b t v m r : ℕ) → b ≡ number_at (words_of fs) 4160 → t ≡ number_at (words_of fs) 4161
+      → v ≡ covered (numbers_at (words_of fs) 4096 64) → m ≡ (if eqb b 0 then 0 else t / b) → r ≡ (if eqb b 0 then 0 else t % b)
+      → record { number = 0; books = b; total = t; covered = v; mean = m; rest = r } ≡ shelf_bytes fs
+  unfolding shelf_bytes figures_of report_of figures_named mean_whole mean_rest
   the-report h e b t v m r p q s u w =
       let m₁ : m ≡ (if eqb (number_at (words_of fs) 4160) 0 then 0 else number_at (words_of fs) 4161 / number_at (words_of fs) 4160) = u ∙ (λ i. if eqb (p i) 0 then 0 else q i / p i) in
       let r₁ : r ≡ (if eqb (number_at (words_of fs) 4160) 0 then 0 else number_at (words_of fs) 4161 % number_at (words_of fs) 4160) = w ∙ (λ i. if eqb (p i) 0 then 0 else q i % p i) in

@@ -13,15 +13,16 @@ use lib.Pow.{pow_mono}
 use lib.Seq.{drop-cons, get_or-drop, get_or-take}
 use borrow.Author.Tests.{eq-eqb, ne_eqb, eqb-true}
 use Rattle.base.specs.Bools.{split}
-use Rattle.base.specs.Common.{if◌then◌else◌, same}
+use Rattle.std.specs.Prelude.{if◌then◌else◌}
+use Rattle.base.specs.Common.{same}
 use Rattle.buffers.proofs.Writes.{upto_put, upto-end}
 use Rattle.buffers.specs.Words.{put64}
-use Rattle.counting.specs.Counting.{numbersOf}
+use Rattle.counting.specs.Counting.{numbers_of}
 use Rattle.figures.proofs.Bits.{get_d_bits}
-use Rattle.figures.proofs.Form.{length-numberWords, length-bits}
-use Rattle.figures.specs.Figures.{Figures, sum, covered, flag, packed, bitsOf, sound}
-use Rattle.figures.specs.Form.{numberWords}
-use Rattle.machine.proofs.Bytes.{length-bytesOf}
+use Rattle.figures.proofs.Form.{length-number_words, length-bits}
+use Rattle.figures.specs.Figures.{Figures, sum, covered, flag, packed, bits_of, sound}
+use Rattle.figures.specs.Form.{number_words}
+use Rattle.machine.proofs.Bytes.{length-bytes_of}
 use Rattle.machine.specs.Bytes.{bytes_of, over}
 use Rattle.machine.specs.Form.{words64}
 
@@ -106,8 +107,8 @@ covered_next (w ∷ ws) (suc j) h =
 
 -- Writing
 
-pub get_d_words : (ns : List ℕ) (i j : ℕ) → i < length ns → j < 4 → get_or (numberWords ns) (4 * i + j) 0 ≡ get_or (words64 (get_or ns i 0)) j 0
-unfolding numberWords words64
+pub get_d_words : (ns : List ℕ) (i j : ℕ) → i < length ns → j < 4 → get_or (number_words ns) (4 * i + j) 0 ≡ get_or (words64 (get_or ns i 0)) j 0
+unfolding number_words words64
 get_d_words [] i j h k = absurd (omega arith)
 get_d_words (n ∷ ns) zero zero h k = refl
 get_d_words (n ∷ ns) zero (suc zero) h k = refl
@@ -120,17 +121,17 @@ get_d_words (n ∷ ns) (suc i) j h k =
 
 module _ (ns out₀ : List ℕ) (fits : 8 * length ns ≤ length out₀) where
   abbrev pub written : ℕ → List ℕ
-  written k = over (bytes_of (take k (numberWords ns))) out₀
+  written k = over (bytes_of (take k (number_words ns))) out₀
 
-  enough : 2 * length (numberWords ns) ≤ length out₀
-  enough = omega (arith, length-numberWords ns)
+  enough : 2 * length (number_words ns) ≤ length out₀
+  enough = omega (arith, length-number_words ns)
 
   -- one number more
   pub written_next : (out out' : List ℕ) (i n : ℕ) → out' ≡ put64 out (4 * i) n → out ≡ written (4 * i) → i < length ns → n ≡ get_or ns i 0 → out' ≡ written (4 * (i + 1))
   unfolding put64 words64
   written_next out out' i n e o h f =
-      let ws = numberWords ns in
-      let l = length-numberWords ns in
+      let ws = number_words ns in
+      let l = length-number_words ns in
       let g : (j : ℕ) → j < 4 → get_or (words64 n) j 0 ≡ get_or ws (4 * i + j) 0 = λ j b. ap (λ (m : ℕ). get_or (words64 m) j 0) f ∙ sym (get_d_words ns i j h b) in
       let z : 4 * i + 0 ≡ 4 * i = omega arith in
       let s₀ = upto_put ws out₀ enough (4 * i) (n / 281474976710656) refl o (omega arith) (g 0 (omega arith) ∙ ap (λ (k : ℕ). get_or ws k 0) z) in
@@ -143,13 +144,13 @@ module _ (ns out₀ : List ℕ) (fits : 8 * length ns ≤ length out₀) where
       e ∙ s₃ ∙ ap written a₃
 
   -- a buffer of the very length is all written
-  pub written_all : 8 * length ns ≡ length out₀ → written (4 * length ns) ≡ bytes_of (numberWords ns)
+  pub written_all : 8 * length ns ≡ length out₀ → written (4 * length ns) ≡ bytes_of (number_words ns)
   unfolding over
   written_all e =
-      let l = length-numberWords ns in
-      upto-end (numberWords ns) out₀ enough (4 * length ns) (omega arith)
-      ∙ ap (λ (r : List ℕ). bytes_of (numberWords ns) ++ r) (drop_of_length-le out₀ {i = length (bytes_of (numberWords ns))} (omega (arith, length-bytesOf (numberWords ns))))
-      ∙ append-nil (bytes_of (numberWords ns))
+      let l = length-number_words ns in
+      upto-end (number_words ns) out₀ enough (4 * length ns) (omega arith)
+      ∙ ap (λ (r : List ℕ). bytes_of (number_words ns) ++ r) (drop_of_length-le out₀ {i = length (bytes_of (number_words ns))} (omega (arith, length-bytes_of (number_words ns))))
+      ∙ append-nil (bytes_of (number_words ns))
 
 -- The numbers of figures, one by one
 
@@ -158,36 +159,36 @@ get_d_front [] b i h = absurd (omega arith)
 get_d_front (x ∷ a) b zero h = refl
 get_d_front (x ∷ a) b (suc i) h = get_d_front a b i (omega arith)
 
-getD-behind : (a b : List ℕ) (i j : ℕ) → i ≡ length a + j → get_or (a ++ b) i 0 ≡ get_or b j 0
-getD-behind [] b i j e = ap (λ (k : ℕ). get_or b k 0) (omega (arith, e))
-getD-behind (x ∷ a) b zero j e = absurd (omega (arith, e))
-getD-behind (x ∷ a) b (suc i) j e = getD-behind a b i j (omega (arith, e))
+get_d-behind : (a b : List ℕ) (i j : ℕ) → i ≡ length a + j → get_or (a ++ b) i 0 ≡ get_or b j 0
+get_d-behind [] b i j e = ap (λ (k : ℕ). get_or b k 0) (omega (arith, e))
+get_d-behind (x ∷ a) b zero j e = absurd (omega (arith, e))
+get_d-behind (x ∷ a) b (suc i) j e = get_d-behind a b i j (omega (arith, e))
 
 module _ (counts : List ℕ) (books total : ℕ) (size : length counts ≡ 4096) where
-  pub length-numbersOf : length (numbersOf counts books total) ≡ 4162
-  unfolding numbersOf
-  length-numbersOf = omega (arith, length-append counts (bitsOf 64 counts ++ (books ∷ total ∷ [])), length-append (bitsOf 64 counts) (books ∷ total ∷ []), length-bits 64 counts)
+  pub length-numbers_of : length (numbers_of counts books total) ≡ 4162
+  unfolding numbers_of
+  length-numbers_of = omega (arith, length-append counts (bits_of 64 counts ++ (books ∷ total ∷ [])), length-append (bits_of 64 counts) (books ∷ total ∷ []), length-bits 64 counts)
 
-  pub a-count : (i : ℕ) → i < 4096 → get_or counts i 0 ≡ get_or (numbersOf counts books total) i 0
-  unfolding numbersOf
-  a-count i h = sym (get_d_front counts (bitsOf 64 counts ++ (books ∷ total ∷ [])) i (omega arith))
+  pub a-count : (i : ℕ) → i < 4096 → get_or counts i 0 ≡ get_or (numbers_of counts books total) i 0
+  unfolding numbers_of
+  a-count i h = sym (get_d_front counts (bits_of 64 counts ++ (books ∷ total ∷ [])) i (omega arith))
 
-  pub a_word : (i : ℕ) → 4096 ≤ i → i < 4160 → packed (chunk counts (i - 4096)) ≡ get_or (numbersOf counts books total) i 0
-  unfolding numbersOf
+  pub a_word : (i : ℕ) → 4096 ≤ i → i < 4160 → packed (chunk counts (i - 4096)) ≡ get_or (numbers_of counts books total) i 0
+  unfolding numbers_of
   a_word i h k =
-      let rest = bitsOf 64 counts ++ (books ∷ total ∷ []) in
-      sym (getD-behind counts rest i (i - 4096) (omega arith) ∙ get_d_front (bitsOf 64 counts) (books ∷ total ∷ []) (i - 4096) (omega (arith, length-bits 64 counts)) ∙ get_d_bits 64 counts (i - 4096) (omega arith))
+      let rest = bits_of 64 counts ++ (books ∷ total ∷ []) in
+      sym (get_d-behind counts rest i (i - 4096) (omega arith) ∙ get_d_front (bits_of 64 counts) (books ∷ total ∷ []) (i - 4096) (omega (arith, length-bits 64 counts)) ∙ get_d_bits 64 counts (i - 4096) (omega arith))
 
-  last : (i j : ℕ) → i ≡ 4160 + j → get_or (books ∷ total ∷ []) j 0 ≡ get_or (numbersOf counts books total) i 0
-  unfolding numbersOf
+  last : (i j : ℕ) → i ≡ 4160 + j → get_or (books ∷ total ∷ []) j 0 ≡ get_or (numbers_of counts books total) i 0
+  unfolding numbers_of
   last i j e =
-      let rest = bitsOf 64 counts ++ (books ∷ total ∷ []) in
-      sym (getD-behind counts rest i (64 + j) (omega arith) ∙ getD-behind (bitsOf 64 counts) (books ∷ total ∷ []) (64 + j) j (omega (arith, length-bits 64 counts)))
+      let rest = bits_of 64 counts ++ (books ∷ total ∷ []) in
+      sym (get_d-behind counts rest i (64 + j) (omega arith) ∙ get_d-behind (bits_of 64 counts) (books ∷ total ∷ []) (64 + j) j (omega (arith, length-bits 64 counts)))
 
-  pub the-books : (i : ℕ) → i ≡ 4160 → books ≡ get_or (numbersOf counts books total) i 0
+  pub the-books : (i : ℕ) → i ≡ 4160 → books ≡ get_or (numbers_of counts books total) i 0
   the-books i e = last i 0 (omega arith)
 
-  pub the-total : (i : ℕ) → i ≡ 4161 → total ≡ get_or (numbersOf counts books total) i 0
+  pub the-total : (i : ℕ) → i ≡ 4161 → total ≡ get_or (numbers_of counts books total) i 0
   the-total i e = last i 1 (omega arith)
 
 -- The test of figures
@@ -196,24 +197,24 @@ module _ (f : Figures) (size : length f.counts ≡ 4096) where
   abbrev last-test : Bool
   last-test = if eqb f.books 0 then eqb f.total 0 else true
 
-  sound-is : sound f ≡ (same f.bits (bitsOf 64 f.counts) && (eqb f.total (sum f.counts) && last-test))
+  sound-is : sound f ≡ (same f.bits (bits_of 64 f.counts) && (eqb f.total (sum f.counts) && last-test))
   unfolding sound
   sound-is = rw (eq-eqb (length f.counts) 4096 size) refl
 
-  and-off : (a b : Bool) → (a && (b && false)) ≡ false
-  and-off true true = refl
-  and-off true false = refl
-  and-off false b = refl
+  and_off : (a b : Bool) → (a && (b && false)) ≡ false
+  and_off true true = refl
+  and_off true false = refl
+  and_off false b = refl
 
   pub total-of-none : f.books ≡ 0 → (f.total ≡ 0 → ⊥) → false ≡ sound f
   total-of-none b t =
       let e : last-test ≡ false = rw (eq-eqb f.books 0 b) (ne_eqb f.total 0 t) in
-      sym (sound-is ∙ ap (λ (x : Bool). same f.bits (bitsOf 64 f.counts) && (eqb f.total (sum f.counts) && x)) e ∙ and-off (same f.bits (bitsOf 64 f.counts)) (eqb f.total (sum f.counts)))
+      sym (sound-is ∙ ap (λ (x : Bool). same f.bits (bits_of 64 f.counts) && (eqb f.total (sum f.counts) && x)) e ∙ and_off (same f.bits (bits_of 64 f.counts)) (eqb f.total (sum f.counts)))
 
-  pub bits-differ : same f.bits (bitsOf 64 f.counts) ≡ false → false ≡ sound f
+  pub bits-differ : same f.bits (bits_of 64 f.counts) ≡ false → false ≡ sound f
   bits-differ e = sym (sound-is ∙ ap (λ (x : Bool). x && (eqb f.total (sum f.counts) && last-test)) e)
 
-  pub fits-together : same f.bits (bitsOf 64 f.counts) ≡ true → (f.books ≡ 0 → f.total ≡ 0) → eqb f.total (sum f.counts) ≡ sound f
+  pub fits-together : same f.bits (bits_of 64 f.counts) ≡ true → (f.books ≡ 0 → f.total ≡ 0) → eqb f.total (sum f.counts) ≡ sound f
   fits-together e h =
       let l : last-test ≡ true = split (eqb f.books 0) (λ t. rw t (eq-eqb f.total 0 (h (eqb-true f.books 0 t)))) (λ t. rw t refl) in
       sym (sound-is ∙ ap (λ (x : Bool). x && (eqb f.total (sum f.counts) && last-test)) e ∙ ap (λ (x : Bool). eqb f.total (sum f.counts) && x) l ∙ and-true (eqb f.total (sum f.counts)))

@@ -1,4 +1,4 @@
--- One turn of `visitsOf`, by what the step does, and what holds at the head of the loop of `count_book`.
+-- One turn of `visits_of`, by what the step does, and what holds at the head of the loop of `count_book`.
 use mathlib.Core.Bool.{Bool, true, false, false≢true}
 use mathlib.Core.List.{List, [], ◌∷◌}
 use mathlib.Core.Path.{◌≡◌, refl, sym, ap, ◌∙◌, subst}
@@ -8,17 +8,17 @@ use lib.Dec.{eqb, leb, ltb}
 use lib.ListN.{length, set, get_or, replicate}
 use borrow.Author.Tests.{eqb-false, leb-true}
 use Rattle.base.proofs.Laws.{above_zero}
-use Rattle.base.specs.Common.{if◌then◌else◌}
+use Rattle.std.specs.Prelude.{if◌then◌else◌}
 use Rattle.machine.specs.Bytes.{count, word_at}
-use Rattle.counting.specs.Counting.{visitsOf, bookVisits, bookOf, Inside, toldOf}
+use Rattle.counting.specs.Counting.{visits_of, book_visits, book_of, Inside, told_of}
 use Rattle.counting.specs.declared.Told.{Told}
 use Rattle.figures.proofs.Sums.{sum-bumps, count_most, length-bump}
 use Rattle.figures.specs.Figures.{sum, bump, bumps}
 use Rattle.machine.specs.Lengths.{length_of}
 use Rattle.walker.proofs.Go as go
 use Rattle.walker.proofs.Keeps.{Keeps, keeps}
-use Rattle.walker.proofs.LinkWords.{count-putEvent}
-use Rattle.walker.specs.Shape.{freshAt, withDepth, size, operand, table_at, choice_of, defaultOf, takeInput, takeOther, spentOne, forwardOf, backOf, mendOf, input_of, any_of, tellOf, inputChoiceOf, call_of, backTo, returnOf, askOf, answer_of, actOf, operateOf, fetchedOf, step_of, putEvent, number_of, ended, goOf, Outcome}
+use Rattle.walker.proofs.LinkWords.{count-put_event}
+use Rattle.walker.specs.Shape.{fresh_at, with_depth, size, operand, table_at, choice_of, default_of, take_input, take_other, spent_one, forward_of, back_of, mend_of, input_of, any_of, tell_of, input_choice_of, call_of, back_to, return_of, ask_of, answer_of, act_of, operate_of, fetched_of, step_of, put_event, number_of, ended, go_of, Outcome}
 use Rattle.walker.specs.declared.Event.{Event}
 use Rattle.walker.specs.declared.Next.{Next}
 use Rattle.walker.specs.declared.Reason.{Reason}
@@ -31,39 +31,39 @@ module _ (t k a : List ℕ) where
     abbrev stepped : Next
     stepped = step_of rs t k a room false r
 
-    full : (n : ℕ) → 0 < n → stepped ≡ Next.Full → visitsOf t k a n r rs room ≡ []
-    unfolding visitsOf
+    full : (n : ℕ) → 0 < n → stepped ≡ Next.Full → visits_of t k a n r rs room ≡ []
+    unfolding visits_of
     full zero h s = absurd (omega arith)
-    full (suc n) h s = rw (s, visitsOf) refl
+    full (suc n) h s = rw (s, visits_of) refl
 
-    outside : (n : ℕ) → 0 < n → stepped ≡ Next.Outside → visitsOf t k a n r rs room ≡ []
-    unfolding visitsOf
+    outside : (n : ℕ) → 0 < n → stepped ≡ Next.Outside → visits_of t k a n r rs room ≡ []
+    unfolding visits_of
     outside zero h s = absurd (omega arith)
-    outside (suc n) h s = rw (s, visitsOf) refl
+    outside (suc n) h s = rw (s, visits_of) refl
 
-    stops : (n : ℕ) (x : Reason) → 0 < n → stepped ≡ Next.Stop x → visitsOf t k a n r rs room ≡ r.location ∷ []
-    unfolding visitsOf
+    stops : (n : ℕ) (x : Reason) → 0 < n → stepped ≡ Next.Stop x → visits_of t k a n r rs room ≡ r.location ∷ []
+    unfolding visits_of
     stops zero x h s = absurd (omega arith)
-    stops (suc n) x h s = rw (s, visitsOf) refl
+    stops (suc n) x h s = rw (s, visits_of) refl
 
-    on : (n m : ℕ) (v : Registers) → n ≡ m + 1 → stepped ≡ Next.On v → visitsOf t k a n r rs room ≡ r.location ∷ visitsOf t k a m v rs room
-    unfolding visitsOf
+    on : (n m : ℕ) (v : Registers) → n ≡ m + 1 → stepped ≡ Next.On v → visits_of t k a n r rs room ≡ r.location ∷ visits_of t k a m v rs room
+    unfolding visits_of
     on zero m v h s = absurd (omega arith)
-    on (suc n) m v h s = let q : n ≡ m = omega arith in rw (s, visitsOf) (ap (λ (j : ℕ). r.location ∷ visitsOf t k a j v rs room) q)
+    on (suc n) m v h s = let q : n ≡ m = omega arith in rw (s, visits_of) (ap (λ (j : ℕ). r.location ∷ visits_of t k a j v rs room) q)
 
-    tells : (n m : ℕ) (v : Registers) (x : Event) → n ≡ m + 1 → stepped ≡ Next.Tells v x → visitsOf t k a n r rs room ≡ r.location ∷ visitsOf t k a m v rs (room - 3)
-    unfolding visitsOf
+    tells : (n m : ℕ) (v : Registers) (x : Event) → n ≡ m + 1 → stepped ≡ Next.Tells v x → visits_of t k a n r rs room ≡ r.location ∷ visits_of t k a m v rs (room - 3)
+    unfolding visits_of
     tells zero m v x h s = absurd (omega arith)
-    tells (suc n) m v x h s = let q : n ≡ m = omega arith in rw (s, visitsOf) (ap (λ (j : ℕ). r.location ∷ visitsOf t k a j v rs (room - 3)) q)
+    tells (suc n) m v x h s = let q : n ≡ m = omega arith in rw (s, visits_of) (ap (λ (j : ℕ). r.location ∷ visits_of t k a j v rs (room - 3)) q)
 
     pushes : (n m : ℕ) (v : Registers) (l : ℕ) → n ≡ m + 1 → stepped ≡ Next.Push v l
-        → visitsOf t k a n r rs room ≡ r.location ∷ visitsOf t k a m (withDepth v (v.depth + 1)) (set rs v.depth l) room
-    unfolding visitsOf
+        → visits_of t k a n r rs room ≡ r.location ∷ visits_of t k a m (with_depth v (v.depth + 1)) (set rs v.depth l) room
+    unfolding visits_of
     pushes zero m v l h s = absurd (omega arith)
-    pushes (suc n) m v l h s = let q : n ≡ m = omega arith in rw (s, visitsOf) (ap (λ (j : ℕ). r.location ∷ visitsOf t k a j (withDepth v (v.depth + 1)) (set rs v.depth l) room) q)
+    pushes (suc n) m v l h s = let q : n ≡ m = omega arith in rw (s, visits_of) (ap (λ (j : ℕ). r.location ∷ visits_of t k a j (with_depth v (v.depth + 1)) (set rs v.depth l) room) q)
 
-  none_left : (n : ℕ) (r : Registers) (rs : List ℕ) (room : ℕ) → n ≡ 0 → visitsOf t k a n r rs room ≡ []
-  unfolding visitsOf
+  none_left : (n : ℕ) (r : Registers) (rs : List ℕ) (room : ℕ) → n ≡ 0 → visits_of t k a n r rs room ≡ []
+  unfolding visits_of
   none_left n r rs room z = rw z refl
 
 -- A step that is done stands inside the table
@@ -87,9 +87,9 @@ either P false x y f g d = g refl d
 stands : (rs t k a : List ℕ) (room : ℕ) (q : Bool) (r : Registers) → Done (step_of rs t k a room q r) → Inside r.location
 unfolding step_of
 stands rs t k a room q r d =
-    either (Inside r.location) (eqb r.location 0) Next.Outside (if leb r.location (size t) then fetchedOf rs t k a room q (word_at t (r.location - 1)) r else Next.Outside)
+    either (Inside r.location) (eqb r.location 0) Next.Outside (if leb r.location (size t) then fetched_of rs t k a room q (word_at t (r.location - 1)) r else Next.Outside)
     (λ e z. absurd z)
-    (λ e. either (Inside r.location) (leb r.location (size t)) (fetchedOf rs t k a room q (word_at t (r.location - 1)) r) Next.Outside
+    (λ e. either (Inside r.location) (leb r.location (size t)) (fetched_of rs t k a room q (word_at t (r.location - 1)) r) Next.Outside
     (λ f z. let n = eqb-false r.location 0 e in let b = leb-true r.location (size t) f in (above_zero r.location n, omega (arith, size-most t)))
     (λ f z. absurd z)) d
 
@@ -109,39 +109,39 @@ whole true x y f g = f
 whole false x y f g = g
 
 module _ (room : ℕ) (r : Registers) where
-  other-takes : (g : Target) → Takes (takeOther r g)
-  unfolding takeOther
+  other-takes : (g : Target) → Takes (take_other r g)
+  unfolding take_other
   other-takes (Target.Label l) = tt
   other-takes (Target.Otherwise l) = tt
   other-takes Target.Outside = tt
 
-  input-takes : (x : ℕ) (g : Target) → Takes (takeInput r x g)
-  unfolding takeInput
+  input-takes : (x : ℕ) (g : Target) → Takes (take_input r x g)
+  unfolding take_input
   input-takes x (Target.Label l) = tt
   input-takes x (Target.Otherwise l) = tt
   input-takes x Target.Outside = tt
 
-  tell-takes : (l : ℕ) (e : Event) (v : Registers) → Takes (tellOf room l e v)
-  unfolding tellOf
+  tell-takes : (l : ℕ) (e : Event) (v : Registers) → Takes (tell_of room l e v)
+  unfolding tell_of
   tell-takes l e v = whole (leb 3 room) _ _ tt tt
 
   answer-takes : (a : List ℕ) (e : Event) → Takes (answer_of room false a e r)
-  unfolding answer_of askOf
+  unfolding answer_of ask_of
   answer-takes a e = whole (leb 3 room) _ _ (whole (ltb r.used (count a)) _ _ tt tt) tt
 
-  operate-takes : (a : List ℕ) (i : ℕ) → Takes (operateOf room false a i r)
-  unfolding operateOf
+  operate-takes : (a : List ℕ) (i : ℕ) → Takes (operate_of room false a i r)
+  unfolding operate_of
   operate-takes a i =
       whole (ltb i 256) _ _ tt (whole (ltb i 512) _ _ (tell-takes _ _ r) (whole (ltb i 768) _ _ (tell-takes _ _ r)
       (whole (ltb i 1024) _ _ (answer-takes a _) (whole (ltb i 1280) _ _ (answer-takes a _) tt))))
 
   module _ (rs t k : List ℕ) where
-    mend-takes : Takes (mendOf t room r)
-    unfolding mendOf
-    mend-takes = whole (ltb 0 (r.allowance % 65536)) _ _ (tell-takes _ _ (spentOne r)) tt
+    mend-takes : Takes (mend_of t room r)
+    unfolding mend_of
+    mend-takes = whole (ltb 0 (r.allowance % 65536)) _ _ (tell-takes _ _ (spent_one r)) tt
 
-    act-takes : (i : ℕ) → Takes (actOf rs t k room i r)
-    unfolding actOf forwardOf backOf input_of any_of inputChoiceOf call_of returnOf backTo
+    act-takes : (i : ℕ) → Takes (act_of rs t k room i r)
+    unfolding act_of forward_of back_of input_of any_of input_choice_of call_of return_of back_to
     act-takes i =
         whole (eqb i 1) _ _ (whole (leb (table_at t r.location) (size t)) _ _ tt tt)
         (whole (eqb i 2) _ _ (whole (leb (operand t r.location) r.location) _ _ tt tt)
@@ -149,7 +149,7 @@ module _ (room : ℕ) (r : Registers) where
         (whole (eqb i 4) _ _ (whole (ltb r.read (count k)) _ _ tt tt)
         (whole (eqb i 5) _ _ (tell-takes _ _ r)
         (whole (eqb i 6) _ _ (tell-takes _ _ r)
-        (whole (eqb i 7) _ _ (whole (ltb r.read (count k)) _ _ (input-takes _ (choice_of t r.location (word_at k r.read))) (other-takes (defaultOf t r.location)))
+        (whole (eqb i 7) _ _ (whole (ltb r.read (count k)) _ _ (input-takes _ (choice_of t r.location (word_at k r.read))) (other-takes (default_of t r.location)))
         (whole (eqb i 8) _ _ (whole (eqb (operand t r.location) 0) _ _ tt (whole (leb (operand t r.location) (size t)) _ _ (whole (ltb r.depth 64) _ _ tt tt) tt))
         (whole (eqb i 9) _ _ (whole (eqb r.depth 0) _ _ tt (whole (eqb (get_or rs (r.depth - 1) 0) 0) _ _ tt (whole (leb (get_or rs (r.depth - 1) 0) (size t)) _ _ tt tt)))
         (whole (eqb i 10) _ _ tt
@@ -157,7 +157,7 @@ module _ (room : ℕ) (r : Registers) where
         (whole (eqb i 12) _ _ tt (whole (eqb i 13) _ _ tt tt))))))))))))
 
     step-takes : (a : List ℕ) → Takes (step_of rs t k a room false r)
-    unfolding step_of fetchedOf
+    unfolding step_of fetched_of
     step-takes a =
         let i = word_at t (r.location - 1) in
         whole (eqb r.location 0) _ _ tt (whole (leb r.location (size t)) _ _
@@ -176,7 +176,7 @@ pub record Counts (writes : Bool) (vs X cs : List ℕ) : Type 0 where
 
 -- what a whole call makes of the counts
 abbrev pub counts-then : List ℕ → List ℕ → List ℕ → ℕ → ℕ → Bool → List ℕ → List ℕ → List ℕ
-counts-then t k a budget allowance writes o cs = if writes then bumps cs (bookVisits t k a budget allowance (count o)) else cs
+counts-then t k a budget allowance writes o cs = if writes then bumps cs (book_visits t k a budget allowance (count o)) else cs
 
 -- what holds at the head of the loop of `count_book`; the definition's event buffer is the code's, if that is written, and as long in any case
 pub record Inv (t k a : List ℕ) (budget allowance : ℕ) (writes : Bool) (o₀ cs₀ : List ℕ) (r : Registers) (rs o : List ℕ) (e d room : ℕ) (cs : List ℕ) : Type 0 where
@@ -186,9 +186,9 @@ pub record Inv (t k a : List ℕ) (budget allowance : ℕ) (writes : Bool) (o₀
   pub as_long : length o ≡ length o₀
   pub as_many : count buffer ≡ count o
   pub within : d ≤ budget
-  pub same : goOf t k a false (budget - d) r rs buffer e d ≡ bookOf t k a budget allowance o₀
+  pub same : go_of t k a false (budget - d) r rs buffer e d ≡ book_of t k a budget allowance o₀
   pub written : o ≡ (if writes then buffer else o₀)
-  pub all : Counts writes (visitsOf t k a (budget - d) r rs room) (counts-then t k a budget allowance writes o₀ cs₀) cs
+  pub all : Counts writes (visits_of t k a (budget - d) r rs room) (counts-then t k a budget allowance writes o₀ cs₀) cs
 
 -- one location more
 counted : (w : Bool) (l : ℕ) (vs rest X cs cs' : List ℕ) → vs ≡ l ∷ rest → Inside l → Counts w vs X cs → cs' ≡ (if w then bump cs l else cs) → Counts w rest X cs'
@@ -221,11 +221,11 @@ counted-all true vs X cs e c = sym (ap (bumps cs) e) ∙ c.counts
 counted-all false vs X cs e c = c.counts
 
 -- what the loop is left with: number, events and steps; the event buffer; the counts
-abbrev pub tells-of : Outcome → Told
-tells-of x = toldOf x.number x.events x.steps
+abbrev pub tells_of : Outcome → Told
+tells_of x = told_of x.number x.events x.steps
 
 abbrev pub Left : Told → List ℕ → List ℕ → Outcome → List ℕ → List ℕ → Type 0
-Left r o cs book out all = (r ≡ tells-of book) × ((o ≡ out) × (cs ≡ all))
+Left r o cs book out all = (r ≡ tells_of book) × ((o ≡ out) × (cs ≡ all))
 
 -- after a step that is done the walk goes on; b is the definition's event buffer before it
 pub record Moved (t k a : List ℕ) (budget : ℕ) (writes : Bool) (o₀ : List ℕ) (r : Registers) (rs b o : List ℕ) (e d room : ℕ) (r' : Registers) (rs' o' : List ℕ) (e' room' : ℕ) : Type 0 where
@@ -235,9 +235,9 @@ pub record Moved (t k a : List ℕ) (budget : ℕ) (writes : Bool) (o₀ : List 
   pub as_long : length o' ≡ length o
   pub as_many : count buffer ≡ count o'
   pub stands : Inside r.location
-  pub same : goOf t k a false (budget - d) r rs b e d ≡ goOf t k a false (budget - (d + 1)) r' rs' buffer e' (d + 1)
+  pub same : go_of t k a false (budget - d) r rs b e d ≡ go_of t k a false (budget - (d + 1)) r' rs' buffer e' (d + 1)
   pub written : o' ≡ (if writes then buffer else o₀)
-  pub visits : visitsOf t k a (budget - d) r rs room ≡ r.location ∷ visitsOf t k a (budget - (d + 1)) r' rs' room'
+  pub visits : visits_of t k a (budget - d) r rs room ≡ r.location ∷ visits_of t k a (budget - (d + 1)) r' rs' room'
 
 pub moved_as : {t k a : List ℕ} {budget : ℕ} {writes : Bool} {o₀ : List ℕ} {r : Registers} {rs b o : List ℕ} {e d room : ℕ} {r₁ r₂ : Registers} {rs₁ rs₂ o₁ o₂ : List ℕ} {e₁ e₂ room₁ room₂ : ℕ}
     → r₂ ≡ r₁ → rs₂ ≡ rs₁ → o₂ ≡ o₁ → e₂ ≡ e₁ → room₂ ≡ room₁ → Moved t k a budget writes o₀ r rs b o e d room r₁ rs₁ o₁ e₁ room₁ → Moved t k a budget writes o₀ r rs b o e d room r₂ rs₂ o₂ e₂ room₂
@@ -248,15 +248,15 @@ unfolding count
 as-counted x y e = rw e refl
 
 -- one event more
-told-on : (w : Bool) (o₀ b o o' : List ℕ) (i : ℕ) (x : Event) → o ≡ (if w then b else o₀) → o' ≡ (if w then putEvent o i x else o) → o' ≡ (if w then putEvent b i x else o₀)
-told-on true o₀ b o o' i x p q = q ∙ ap (λ (y : List ℕ). putEvent y i x) p
+told-on : (w : Bool) (o₀ b o o' : List ℕ) (i : ℕ) (x : Event) → o ≡ (if w then b else o₀) → o' ≡ (if w then put_event o i x else o) → o' ≡ (if w then put_event b i x else o₀)
+told-on true o₀ b o o' i x p q = q ∙ ap (λ (y : List ℕ). put_event y i x) p
 told-on false o₀ b o o' i x p q = q ∙ p
 
 -- the first turn
 pub start : (t k a : List ℕ) (budget allowance : ℕ) (writes : Bool) (o cs : List ℕ) (room : ℕ) → room ≡ count o → length cs ≡ 4096
-    → (writes ≡ true → sum cs + length (bookVisits t k a budget allowance (count o)) < 18446744073709551616)
-    → Inv t k a budget allowance writes o cs (freshAt allowance) (replicate 64 0) o 0 0 room cs
-unfolding bookOf bookVisits
+    → (writes ≡ true → sum cs + length (book_visits t k a budget allowance (count o)) < 18446744073709551616)
+    → Inv t k a budget allowance writes o cs (fresh_at allowance) (replicate 64 0) o 0 0 room cs
+unfolding book_of book_visits
 start t k a budget allowance writes o cs room e size fits =
     let z : budget - 0 ≡ budget = omega arith in
     record {
@@ -266,7 +266,7 @@ start t k a budget allowance writes o cs room e size fits =
       as_long = refl;
       as_many = refl;
       within = omega arith;
-      same = ap (λ (n : ℕ). goOf t k a false n (freshAt allowance) (replicate 64 0) o 0 0) z;
+      same = ap (λ (n : ℕ). go_of t k a false n (fresh_at allowance) (replicate 64 0) o 0 0) z;
       written = either_way writes o;
       all = rw (z, e) (record { size = size; counts = refl; fits = fits });
     }
@@ -281,15 +281,15 @@ module _ (t k a : List ℕ) (budget allowance : ℕ) (writes : Bool) (o₀ cs₀
   b = inv.buffer
 
   abbrev Done-with : Told → List ℕ → Type 0
-  Done-with x cs' = Left x o cs' (bookOf t k a budget allowance o₀) (if writes then (bookOf t k a budget allowance o₀).out else o₀) (counts-then t k a budget allowance writes o₀ cs₀)
+  Done-with x cs' = Left x o cs' (book_of t k a budget allowance o₀) (if writes then (book_of t k a budget allowance o₀).out else o₀) (counts-then t k a budget allowance writes o₀ cs₀)
 
-  ends_as : (ph : Phase) (number steps : ℕ) (cs' : List ℕ) → goOf t k a false (budget - d) r rs b e d ≡ ended ph r rs b e steps number
-      → cs' ≡ counts-then t k a budget allowance writes o₀ cs₀ → Done-with (toldOf number e steps) cs'
+  ends_as : (ph : Phase) (number steps : ℕ) (cs' : List ℕ) → go_of t k a false (budget - d) r rs b e d ≡ ended ph r rs b e steps number
+      → cs' ≡ counts-then t k a budget allowance writes o₀ cs₀ → Done-with (told_of number e steps) cs'
   ends_as ph number steps cs' p z =
-      let q : ended ph r rs b e steps number ≡ bookOf t k a budget allowance o₀ = sym p ∙ inv.same in
-      (ap tells-of q, (inv.written ∙ ap (λ (y : Outcome). if writes then y.out else o₀) q, z))
+      let q : ended ph r rs b e steps number ≡ book_of t k a budget allowance o₀ = sym p ∙ inv.same in
+      (ap tells_of q, (inv.written ∙ ap (λ (y : Outcome). if writes then y.out else o₀) q, z))
 
-  pub at-spent : budget ≤ d → Done-with (toldOf 36 e d) cs
+  pub at-spent : budget ≤ d → Done-with (told_of 36 e d) cs
   at-spent h =
       let z : budget - d ≡ 0 = omega arith in
       ends_as Phase.Going 36 d cs (go.spent t k a false (budget - d) r rs b e d z) (counted-all _ _ _ _ (none_left t k a (budget - d) r rs room z) inv.all)
@@ -305,12 +305,12 @@ module _ (t k a : List ℕ) (budget allowance : ℕ) (writes : Bool) (o₀ cs₀
     in-go : (x : Next) → As x → go.stepped t k a false r rs b e d ≡ x
     in-go x s = ap (λ (n : ℕ). step_of rs t k a n false r) room-is ∙ s
 
-    pub at-full : As Next.Full → Done-with (toldOf 35 e d) cs
+    pub at-full : As Next.Full → Done-with (told_of 35 e d) cs
     at-full s =
         ends_as Phase.Going 35 d cs (go.full t k a false r rs b e d (budget - d) (omega arith) (in-go Next.Full s))
         (counted-all _ _ _ _ (full t k a r rs room (budget - d) (omega arith) s) inv.all)
 
-    pub at-outside : As Next.Outside → Done-with (toldOf 37 e d) cs
+    pub at-outside : As Next.Outside → Done-with (told_of 37 e d) cs
     at-outside s =
         ends_as (Phase.Stopped Reason.Outside) 37 d cs (go.outside t k a false r rs b e d (budget - d) (omega arith) (in-go Next.Outside s))
         (counted-all _ _ _ _ (outside t k a r rs room (budget - d) (omega arith) s) inv.all)
@@ -321,7 +321,7 @@ module _ (t k a : List ℕ) (budget allowance : ℕ) (writes : Bool) (o₀ cs₀
     pub stop-room : (x : Reason) → As (Next.Stop x) → (length cs ≡ 4096) × (Inside r.location × (writes ≡ true → get_or cs (r.location - 1) 0 + 1 < 18446744073709551616))
     stop-room x s = (inv.all.size, (stop-here x s, has_room _ _ _ _ _ _ (stops t k a r rs room (budget - d) x (omega arith) s) inv.all))
 
-    pub at-stop : (x : Reason) (cs' : List ℕ) → As (Next.Stop x) → cs' ≡ (if writes then bump cs r.location else cs) → Done-with (toldOf (number_of x) e (d + 1)) cs'
+    pub at-stop : (x : Reason) (cs' : List ℕ) → As (Next.Stop x) → cs' ≡ (if writes then bump cs r.location else cs) → Done-with (told_of (number_of x) e (d + 1)) cs'
     at-stop x cs' s p =
         ends_as (Phase.Stopped x) (number_of x) (d + 1) cs' (go.stops t k a false r rs b e d (budget - d) x (omega arith) (in-go (Next.Stop x) s))
         (counted-all _ _ _ _ refl (counted _ _ _ [] _ _ _ (stops t k a r rs room (budget - d) x (omega arith) s) (stop-here x s) inv.all p))
@@ -345,17 +345,17 @@ module _ (t k a : List ℕ) (budget allowance : ℕ) (writes : Bool) (o₀ cs₀
     pub tells-room : (v : Registers) (x : Event) → As (Next.Tells v x) → 3 ≤ room
     tells-room v x s = (kept (Next.Tells v x) s).1
 
-    pub moved-tells : (v : Registers) (x : Event) (o' : List ℕ) → As (Next.Tells v x) → o' ≡ (if writes then putEvent o (3 * e) x else o) → length o' ≡ length o
+    pub moved-tells : (v : Registers) (x : Event) (o' : List ℕ) → As (Next.Tells v x) → o' ≡ (if writes then put_event o (3 * e) x else o) → length o' ≡ length o
         → Moved t k a budget writes o₀ r rs b o e d room v rs o' (e + 1) (room - 3)
     moved-tells v x o' s p q =
         let h = tells-room v x s in
         let c : count o' ≡ count o = as-counted o' o q in
         record {
-          buffer = putEvent b (3 * e) x;
+          buffer = put_event b (3 * e) x;
           deep = omega (arith, inv.deep, (kept (Next.Tells v x) s).0.depth);
           left = omega (arith, inv.left, c);
           as_long = q;
-          as_many = count-putEvent b (3 * e) x ∙ inv.as_many ∙ sym c;
+          as_many = count-put_event b (3 * e) x ∙ inv.as_many ∙ sym c;
           stands = stands rs t k a room false r (subst Done (sym s) tt);
           same = go.tells t k a false r rs b e d (budget - d) (budget - (d + 1)) v x (omega arith) (in-go (Next.Tells v x) s);
           written = told-on writes o₀ b o o' (3 * e) x inv.written p;
@@ -365,7 +365,7 @@ module _ (t k a : List ℕ) (budget allowance : ℕ) (writes : Bool) (o₀ cs₀
     pub push-deep : (v : Registers) (l : ℕ) → As (Next.Push v l) → v.depth < 64
     push-deep v l s = (kept (Next.Push v l) s).1
 
-    pub moved-push : (v : Registers) (l : ℕ) → As (Next.Push v l) → Moved t k a budget writes o₀ r rs b o e d room (withDepth v (v.depth + 1)) (set rs v.depth l) o e room
+    pub moved-push : (v : Registers) (l : ℕ) → As (Next.Push v l) → Moved t k a budget writes o₀ r rs b o e d room (with_depth v (v.depth + 1)) (set rs v.depth l) o e room
     moved-push v l s =
         let h = push-deep v l s in
         record {

@@ -8,16 +8,16 @@ use lib.Dec.{ltb}
 use lib.ListN.{length, take, get_or}
 use lib.Seq.{take_all}
 use borrow.Author.Tests.{eq-eqb, ne_eqb, lt-ltb, le-ltb, ltb-true, ltb-false}
-use Rattle.base.specs.Common.{if◌then◌else◌}
+use Rattle.std.specs.Prelude.{if◌then◌else◌}
 use Rattle.counting.proofs.Form.{sum-next, sum-most}
 use Rattle.counting.specs.Counting.{totals}
 use Rattle.counting.specs.declared.Total.{Total}
 use Rattle.figures.proofs.Shelves.{balanced}
-use Rattle.figures.proofs.Spans.{length-spanTotals, length-locationsAt, getD-spanTotals, getD-lastTotal}
+use Rattle.figures.proofs.Spans.{length-span_totals, length-locations_at, get_d-span_totals, get_d-last_total}
 use Rattle.figures.specs.Figures.{sum, sound}
-use Rattle.figures.specs.Form.{number_at, numbersAt, figuresNamed, figuresOf}
+use Rattle.figures.specs.Form.{number_at, numbers_at, figures_named, figures_of}
 use Rattle.figures.specs.Spans as spans
-use Rattle.figures.specs.Spans.{spanTotal, spanTotals, locationAt, locationsAt, locationsIn, tells, span_of, spanBytes, bounded, togetherOf, togetherBytes}
+use Rattle.figures.specs.Spans.{span_total, span_totals, location_at, locations_at, locations_in, tells, span_of, span_bytes, bounded, together_of, together_bytes}
 use Rattle.machine.specs.Bytes.{words_of}
 
 -- a struct by its two numbers
@@ -25,54 +25,54 @@ pub told : (r : Total) (n t : ℕ) → (r.number ≡ n) × (r.total ≡ t) → t
 told r n t h = (λ i. tells (h.0 i) (h.1 i))
 
 module _ (fs : List ℕ) where
-  pub no_span : (from to : ℕ) → (length fs ≡ 33296 → ⊥) → tells 21 0 ≡ spanBytes fs from to
-  unfolding spanBytes span_of figuresOf
+  pub no_span : (from to : ℕ) → (length fs ≡ 33296 → ⊥) → tells 21 0 ≡ span_bytes fs from to
+  unfolding span_bytes span_of figures_of
   no_span from to h = rw (ne_eqb (length fs) 33296 h) refl
 
-  pub unsound-span : (from to : ℕ) → length fs ≡ 33296 → sound (figuresNamed (words_of fs)) ≡ false → tells 21 0 ≡ spanBytes fs from to
-  unfolding spanBytes span_of figuresOf
+  pub unsound-span : (from to : ℕ) → length fs ≡ 33296 → sound (figures_named (words_of fs)) ≡ false → tells 21 0 ≡ span_bytes fs from to
+  unfolding span_bytes span_of figures_of
   unsound-span from to h e = rw (eq-eqb (length fs) 33296 h, e) refl
 
-  pub the-span : (from to t : ℕ) → length fs ≡ 33296 → sound (figuresNamed (words_of fs)) ≡ true → t ≡ spanTotal from to (numbersAt (words_of fs) 0 4096) → tells 0 t ≡ spanBytes fs from to
-  unfolding spanBytes span_of figuresOf figuresNamed
+  pub the-span : (from to t : ℕ) → length fs ≡ 33296 → sound (figures_named (words_of fs)) ≡ true → t ≡ span_total from to (numbers_at (words_of fs) 0 4096) → tells 0 t ≡ span_bytes fs from to
+  unfolding span_bytes span_of figures_of figures_named
   the-span from to t h e q = ap (tells 0) q ∙ rw (eq-eqb (length fs) 33296 h, e) refl
 
-  pub no-rules : (rows : List ℕ) (end : ℕ) → (length fs ≡ 33296 → ⊥) → tells 21 0 ≡ togetherBytes fs rows end
-  unfolding togetherBytes togetherOf figuresOf
+  pub no-rules : (rows : List ℕ) (end : ℕ) → (length fs ≡ 33296 → ⊥) → tells 21 0 ≡ together_bytes fs rows end
+  unfolding together_bytes together_of figures_of
   no-rules rows end h = rw (ne_eqb (length fs) 33296 h) refl
 
-  pub unsound-rules : (rows : List ℕ) (end : ℕ) → length fs ≡ 33296 → sound (figuresNamed (words_of fs)) ≡ false → tells 21 0 ≡ togetherBytes fs rows end
-  unfolding togetherBytes togetherOf figuresOf
+  pub unsound-rules : (rows : List ℕ) (end : ℕ) → length fs ≡ 33296 → sound (figures_named (words_of fs)) ≡ false → tells 21 0 ≡ together_bytes fs rows end
+  unfolding together_bytes together_of figures_of
   unsound-rules rows end h e = rw (eq-eqb (length fs) 33296 h, e) refl
 
-  pub the-rules : (rows : List ℕ) (end : ℕ) → length fs ≡ 33296 → sound (figuresNamed (words_of fs)) ≡ true
-      → bounded (sum (spanTotals (locationsAt (words_of rows) 0 (length rows / 24)) end (numbersAt (words_of fs) 0 4096))) ≡ togetherBytes fs rows end
-  unfolding togetherBytes togetherOf locationsIn figuresOf figuresNamed
+  pub the-rules : (rows : List ℕ) (end : ℕ) → length fs ≡ 33296 → sound (figures_named (words_of fs)) ≡ true
+      → bounded (sum (span_totals (locations_at (words_of rows) 0 (length rows / 24)) end (numbers_at (words_of fs) 0 4096))) ≡ together_bytes fs rows end
+  unfolding together_bytes together_of locations_in figures_of figures_named
   the-rules rows end h e = rw (eq-eqb (length fs) 33296 h, e) refl
 
   -- the counts add up to the total
-  pub sound-sum : sound (figuresNamed (words_of fs)) ≡ true → sum (numbersAt (words_of fs) 0 4096) ≡ number_at (words_of fs) 4161
-  unfolding figuresNamed
-  sound-sum e = sym (balanced (figuresNamed (words_of fs)) e).total
+  pub sound-sum : sound (figures_named (words_of fs)) ≡ true → sum (numbers_at (words_of fs) 0 4096) ≡ number_at (words_of fs) 4161
+  unfolding figures_named
+  sound-sum e = sym (balanced (figures_named (words_of fs)) e).total
 
 -- Rules together
 
 module _ (rows counts : List ℕ) (n end : ℕ) where
   abbrev pub all : List ℕ
-  all = spanTotals (locationsAt (words_of rows) 0 n) end counts
+  all = span_totals (locations_at (words_of rows) 0 n) end counts
 
   pub length-all : length all ≡ n
-  length-all = length-spanTotals (locationsAt (words_of rows) 0 n) end counts ∙ length-locationsAt (words_of rows) 0 n
+  length-all = length-span_totals (locations_at (words_of rows) 0 n) end counts ∙ length-locations_at (words_of rows) 0 n
 
   -- where row i begins; behind the last
   abbrev pub begins : ℕ → ℕ
-  begins i = if ltb i n then locationAt (words_of rows) i else end
+  begins i = if ltb i n then location_at (words_of rows) i else end
 
   -- the total of row i
-  pub one-total : (i from to t : ℕ) → i < n → from ≡ begins i → to ≡ begins (i + 1) → t ≡ spanTotal from to counts → get_or all i 0 ≡ t
+  pub one-total : (i from to t : ℕ) → i < n → from ≡ begins i → to ≡ begins (i + 1) → t ≡ span_total from to counts → get_or all i 0 ≡ t
   one-total i from to t h f g e = go (ltb (i + 1) n) refl
     where
-      a : from ≡ locationAt (words_of rows) i
+      a : from ≡ location_at (words_of rows) i
       a = f ∙ rw (lt-ltb i n h) refl
 
       z : 0 + i ≡ i
@@ -86,11 +86,11 @@ module _ (rows counts : List ℕ) (n end : ℕ) where
 
       go : (b : Bool) → ltb (i + 1) n ≡ b → get_or all i 0 ≡ t
       go true q =
-          let c : to ≡ locationAt (words_of rows) (i + 1) = g ∙ rw q refl in
-          getD-spanTotals (words_of rows) 0 n i end counts (ltb-lt q) ∙ rw z (sym (e ∙ (λ k. spanTotal (a k) (c k) counts)))
+          let c : to ≡ location_at (words_of rows) (i + 1) = g ∙ rw q refl in
+          get_d-span_totals (words_of rows) 0 n i end counts (ltb-lt q) ∙ rw z (sym (e ∙ (λ k. span_total (a k) (c k) counts)))
       go false q =
           let c : to ≡ end = g ∙ rw q refl in
-          getD-lastTotal (words_of rows) 0 n i end counts (ltb-last q) ∙ rw z (sym (e ∙ (λ k. spanTotal (a k) (c k) counts)))
+          get_d-last_total (words_of rows) 0 n i end counts (ltb-last q) ∙ rw z (sym (e ∙ (λ k. span_total (a k) (c k) counts)))
 
   -- one more
   pub all-next : (i t : ℕ) → i < n → get_or all i 0 ≡ t → sum (take (i + 1) all) ≡ sum (take i all) + t

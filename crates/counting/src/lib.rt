@@ -1,16 +1,16 @@
 // Figures over a shelf of books (include/sst.h): a book's steps counted at their locations, over the walker's step, and the figures as bytes.
 // Nothing of this is in the walker's own loop.
-ghost use Rattle.std.specs.Prelude.{true, ◌≡◌, ◌+◌, ◌*◌, ◌-◌, ◌/◌, ◌%◌, ◌<◌, ◌≤◌, ◌^◌, min, eqb, ltb, length, take, drop, get_or};
+ghost use Rattle.std.specs.Prelude.{true, ◌≡◌, ◌+◌, ◌*◌, ◌-◌, ◌/◌, ◌%◌, ◌<◌, ◌≤◌, ◌^◌, min, eqb, ltb, length, take, drop, get_or, if◌then◌else◌};
 ghost use Rattle.std.proofs.Math.Option.{none};
-ghost use Rattle.base.specs.Common.{if◌then◌else◌, same};
+ghost use Rattle.base.specs.Common.{same};
 ghost use Rattle.machine.specs.Bytes.{count, words_of, bytes_of};
 ghost use Rattle.figures.specs.Figures as sums;
-ghost use Rattle.figures.specs.Figures.{sum, bumps, bitsOf, packed};
+ghost use Rattle.figures.specs.Figures.{sum, bumps, bits_of, packed};
 ghost use Rattle.figures.specs.Spans as spans;
 ghost use Rattle.figures.specs.Form as form;
-ghost use Rattle.figures.specs.Form.{number_at, numbersAt, figuresNamed};
-ghost use Rattle.counting.specs.Counting.{bookVisits, bookOf, Inside, toldOf, numbersOf, past_of, gives, reports, totals};
-ghost use Rattle.walker.specs.Shape.{putEvent, number_of};
+ghost use Rattle.figures.specs.Form.{number_at, numbers_at, figures_named};
+ghost use Rattle.counting.specs.Counting.{book_visits, book_of, Inside, told_of, numbers_of, past_of, gives, reports, totals};
+ghost use Rattle.walker.specs.Shape.{put_event, number_of};
 
 use machine::EVENT_WORDS;
 use walker::{Event, Next, Reason, Terms};
@@ -65,7 +65,7 @@ struct Book {
 }
 
 fn ended(number: u16, events: usize, steps: u64) -> Told
-    ensures { result ≡ toldOf number events steps }
+    ensures { result ≡ told_of number events steps }
 {
     Told {
         number,
@@ -91,7 +91,7 @@ fn bump(counts: &mut [u64], l: usize, writes: bool)
 // The event e at word i, where a call writes.
 fn tell(out: &mut [u8], i: usize, e: Event, writes: bool)
     requires { i + 3 ≤ count out.old }
-    ensures { out.new ≡ (if writes then putEvent out.old i e else out.old) }
+    ensures { out.new ≡ (if writes then put_event out.old i e else out.old) }
 {
     if writes {
         walker::put_event(out, i, e);
@@ -108,7 +108,7 @@ fn stopped(
     steps: u64,
 ) -> Told
     requires { (length counts.old ≡ 4096) × (Inside l × (writes ≡ true → get_or counts.old (l - 1) 0 + 1 < 2 ^ 64)) }
-    ensures value { result ≡ toldOf (number_of why) events steps }
+    ensures value { result ≡ told_of (number_of why) events steps }
     ensures counts_after { counts.new ≡ (if writes then sums.bump counts.old l else counts.old) }
 {
     bump(counts, l, writes);
@@ -125,10 +125,10 @@ fn count_book(
     out: &mut [u8],
     counts: &mut [u64],
 ) -> Told
-    requires { (length counts.old ≡ 4096) × (b.writes ≡ true → sum counts.old + length (bookVisits table.now tokens.now answers.now b.budget b.allowance (count out.old)) < 2 ^ 64) }
-    ensures value { result ≡ toldOf (bookOf table.now tokens.now answers.now b.budget b.allowance out.old).number (bookOf table.now tokens.now answers.now b.budget b.allowance out.old).events (bookOf table.now tokens.now answers.now b.budget b.allowance out.old).steps }
-    ensures out_after { out.new ≡ (if b.writes then (bookOf table.now tokens.now answers.now b.budget b.allowance out.old).out else out.old) }
-    ensures counts_after { counts.new ≡ (if b.writes then bumps counts.old (bookVisits table.now tokens.now answers.now b.budget b.allowance (count out.old)) else counts.old) }
+    requires { (length counts.old ≡ 4096) × (b.writes ≡ true → sum counts.old + length (book_visits table.now tokens.now answers.now b.budget b.allowance (count out.old)) < 2 ^ 64) }
+    ensures value { result ≡ told_of (book_of table.now tokens.now answers.now b.budget b.allowance out.old).number (book_of table.now tokens.now answers.now b.budget b.allowance out.old).events (book_of table.now tokens.now answers.now b.budget b.allowance out.old).steps }
+    ensures out_after { out.new ≡ (if b.writes then (book_of table.now tokens.now answers.now b.budget b.allowance out.old).out else out.old) }
+    ensures counts_after { counts.new ≡ (if b.writes then bumps counts.old (book_visits table.now tokens.now answers.now b.budget b.allowance (count out.old)) else counts.old) }
 {
     let mut at = walker::fresh(b.allowance);
     let mut returns = [0u16; base::PENDING];
@@ -173,7 +173,7 @@ fn number_at(s: &[u8], i: usize) -> u64
 
 fn counts_of(s: &[u8]) -> [u64; LOCATIONS]
     requires { length s.now ≡ 33296 }
-    ensures { result ≡ numbersAt (words_of s.now) 0 4096 }
+    ensures { result ≡ numbers_at (words_of s.now) 0 4096 }
 {
     let mut counts = [0u64; LOCATIONS];
     let mut i: usize = 0;
@@ -208,7 +208,7 @@ fn bits_of(counts: &[u64], j: usize) -> u64
 // Whether the bits are those of the counts.
 fn covers(s: &[u8], counts: &[u64]) -> bool
     requires { (length s.now ≡ 33296) × (length counts.now ≡ 4096) }
-    ensures { result ≡ same (numbersAt (words_of s.now) 4096 64) (bitsOf 64 counts.now) }
+    ensures { result ≡ same (numbers_at (words_of s.now) 4096 64) (bits_of 64 counts.now) }
 {
     let mut j: usize = 0;
     while j < BIT_WORDS {
@@ -239,8 +239,8 @@ fn adds_up(counts: &[u64], total: u64) -> bool
 
 // Whether the parts of figures fit together.
 fn is_sound(s: &[u8], counts: &[u64]) -> bool
-    requires { (length s.now ≡ 33296) × (counts.now ≡ numbersAt (words_of s.now) 0 4096) }
-    ensures { result ≡ sums.sound (figuresNamed (words_of s.now)) }
+    requires { (length s.now ≡ 33296) × (counts.now ≡ numbers_at (words_of s.now) 0 4096) }
+    ensures { result ≡ sums.sound (figures_named (words_of s.now)) }
 {
     let books = number_at(s, BOOKS_NUMBER);
     let total = number_at(s, TOTAL_NUMBER);
@@ -259,7 +259,7 @@ fn is_sound(s: &[u8], counts: &[u64]) -> bool
 // Number i of figures with these counts, their bits, books and total.
 fn figure(counts: &[u64], books: u64, total: u64, i: usize) -> u64
     requires { (length counts.now ≡ 4096) × (i < 4162) }
-    ensures { result ≡ get_or (numbersOf counts.now books total) i 0 }
+    ensures { result ≡ get_or (numbers_of counts.now books total) i 0 }
 {
     if i < BITS_NUMBER {
         counts[i]
@@ -274,7 +274,7 @@ fn figure(counts: &[u64], books: u64, total: u64, i: usize) -> u64
 
 fn put_figures(out: &mut [u8], counts: &[u64], books: u64, total: u64)
     requires { (length out.old ≡ 33296) × (length counts.now ≡ 4096) }
-    ensures { out.new ≡ bytes_of (form.numberWords (numbersOf counts.now books total)) }
+    ensures { out.new ≡ bytes_of (form.number_words (numbers_of counts.now books total)) }
 {
     let mut i: usize = 0;
     while i < NUMBERS {
@@ -286,7 +286,7 @@ fn put_figures(out: &mut [u8], counts: &[u64], books: u64, total: u64)
 // The ones of the bits.
 fn covered(s: &[u8]) -> u64
     requires { length s.now ≡ 33296 }
-    ensures { result ≡ sums.covered (numbersAt (words_of s.now) 4096 64) }
+    ensures { result ≡ sums.covered (numbers_at (words_of s.now) 4096 64) }
 {
     let mut n: u64 = 0;
     let mut j: usize = 0;
@@ -311,7 +311,7 @@ fn passes(
     counts: &mut [u64],
 ) -> bool
     requires { length counts.old ≡ 4096 }
-    ensures value { result ≡ past_of (bookOf table.now tokens.now answers.now b.budget b.allowance events.old).steps b.budget left }
+    ensures value { result ≡ past_of (book_of table.now tokens.now answers.now b.budget b.allowance events.old).steps b.budget left }
     ensures events_unchanged { events.new ≡ events.old }
     ensures counts_unchanged { counts.new ≡ counts.old }
 {
@@ -337,7 +337,7 @@ pub fn add_book(
     figures: &mut [u8],
     events: &mut [u8],
 ) -> Told
-    ensures { gives result figures.new events.new ≡ form.addBytes table.now tokens.now answers.now budget allowance figures.old events.old }
+    ensures { gives result figures.new events.new ≡ form.add_bytes table.now tokens.now answers.now budget allowance figures.old events.old }
 {
     if figures.len() != FIGURES_BYTES {
         return ended(base::REFUSED, 0, 0);
@@ -367,7 +367,7 @@ pub fn add_book(
 
 // Figures that are none.
 fn no_report() -> Report
-    ensures { reports result ≡ form.reportOf none }
+    ensures { reports result ≡ form.report_of none }
 {
     Report {
         number: base::REFUSED,
@@ -394,7 +394,7 @@ fn rest_of(total: u64, books: u64) -> u64
 
 // What figures say of the whole shelf.
 pub fn shelf_report(figures: &[u8]) -> Report
-    ensures { reports result ≡ form.shelfBytes figures.now }
+    ensures { reports result ≡ form.shelf_bytes figures.now }
 {
     if figures.len() != FIGURES_BYTES {
         return no_report();
@@ -448,7 +448,7 @@ fn count_index(location: u64) -> usize
 // The executions of the locations from `from` on, up to `to` and without it: no more than all of them.
 fn span(counts: &[u64], total: u64, from: u64, to: u64) -> u64
     requires { (length counts.now ≡ 4096) × (sum counts.now ≡ total) }
-    ensures { result ≡ spans.spanTotal from to counts.now }
+    ensures { result ≡ spans.span_total from to counts.now }
 {
     let start = count_index(from);
     let end = count_index(to);
@@ -464,7 +464,7 @@ fn span(counts: &[u64], total: u64, from: u64, to: u64) -> u64
 
 // The executions of one rule: its words begin at `from`, those of the next at `to`.
 pub fn rule_total(figures: &[u8], from: u64, to: u64) -> Total
-    ensures { totals result ≡ spans.spanBytes figures.now from to }
+    ensures { totals result ≡ spans.span_bytes figures.now from to }
 {
     if figures.len() != FIGURES_BYTES {
         return totalled(base::REFUSED, 0);
@@ -480,7 +480,7 @@ pub fn rule_total(figures: &[u8], from: u64, to: u64) -> Total
 // The location of row i of `rows`, of n in all; `end` behind the last.
 fn location(rows: &[u8], n: usize, i: usize, end: u64) -> u64
     requires { (24 * n ≤ length rows.now) × (i ≤ n) }
-    ensures { result ≡ (if ltb i n then spans.locationAt (words_of rows.now) i else end) }
+    ensures { result ≡ (if ltb i n then spans.location_at (words_of rows.now) i else end) }
 {
     if i < n {
         number_at(rows, 3 * i + 2)
@@ -492,7 +492,7 @@ fn location(rows: &[u8], n: usize, i: usize, end: u64) -> u64
 // The executions of n rules together, or 46.
 fn together(counts: &[u64], total: u64, rows: &[u8], n: usize, end: u64) -> Total
     requires { (length counts.now ≡ 4096) × ((sum counts.now ≡ total) × (24 * n ≤ length rows.now)) }
-    ensures { totals result ≡ spans.bounded (sum (spans.spanTotals (spans.locationsAt (words_of rows.now) 0 n) end counts.now)) }
+    ensures { totals result ≡ spans.bounded (sum (spans.span_totals (spans.locations_at (words_of rows.now) 0 n) end counts.now)) }
 {
     let mut all: u64 = 0;
     let mut i: usize = 0;
@@ -511,7 +511,7 @@ fn together(counts: &[u64], total: u64, rows: &[u8], n: usize, end: u64) -> Tota
 
 // The executions of all rules together, by their rows; the last one's words end before `end`.
 pub fn rules_total(figures: &[u8], rows: &[u8], end: u64) -> Total
-    ensures { totals result ≡ spans.togetherBytes figures.now rows.now end }
+    ensures { totals result ≡ spans.together_bytes figures.now rows.now end }
 {
     if figures.len() != FIGURES_BYTES {
         return totalled(base::REFUSED, 0);

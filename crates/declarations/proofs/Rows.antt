@@ -9,9 +9,10 @@ use lib.ListN.{length}
 use lib.Seq.{append_snoc, get_or-append_seam}
 use native.Mathlib.Nat.{add-zero}
 use native.Mathlib.Omega.{arith}
-use Rattle.base.specs.Common.{if◌then◌else◌, same, given}
-use Rattle.declarations.specs.Decls.{Decl, feeds, knownsOf, knownsIn, index_of, declaredIn, declOf, mapped, declFault, declFaults}
-use Rattle.names.specs.Known.{Checked, good, wrong, ◌>>=◌, Known, KnownType, KnownOperation, KnownOperators, findType, findOperation, findOperators, isWord}
+use Rattle.std.specs.Prelude.{if◌then◌else◌}
+use Rattle.base.specs.Common.{same, given}
+use Rattle.declarations.specs.Decls.{Decl, feeds, knowns_of, knowns_in, index_of, declared_in, decl_of, mapped, decl_fault, decl_faults}
+use Rattle.names.specs.Known.{Checked, good, wrong, ◌>>=◌, Known, KnownType, KnownOperation, KnownOperators, find_type, find_operation, find_operators, is_word}
 use Rattle.syntax.specs.Written.{Operator}
 
 -- the first of two that is there
@@ -43,10 +44,10 @@ pick_first : {A : Type 0} (t : Bool) (a : A) (x y : Option A) → (if t then som
 pick_first true a x y = refl
 pick_first false a x y = refl
 
-pub knowns-append : (c : ℕ) (a b : List Decl) → knownsIn c (a ++ b) ≡ knownsIn c a ++ knownsIn c b
-unfolding knownsIn
+pub knowns-append : (c : ℕ) (a b : List Decl) → knowns_in c (a ++ b) ≡ knowns_in c a ++ knowns_in c b
+unfolding knowns_in
 knowns-append c [] b = refl
-knowns-append c (d ∷ a) b = rw (knowns-append c a b) (pick-append (feeds c d) (knownsOf d) (knownsIn c a) (knownsIn c b))
+knowns-append c (d ∷ a) b = rw (knowns-append c a b) (pick-append (feeds c d) (knowns_of d) (knowns_in c a) (knowns_in c b))
 
 pub index-append : (c : ℕ) (w : List ℕ) (i : ℕ) (a b : List Decl) → index_of c w i (a ++ b) ≡ first (index_of c w i a) (index_of c w (i + length a) b)
 unfolding index_of
@@ -55,39 +56,39 @@ index-append c w i (d ∷ a) b =
     let e : i + suc (length a) ≡ suc i + length a = omega arith in
     rw (index-append c w (suc i) a b, e) (pick_first (eqb d.class c && same w d.name.text) i (index_of c w (suc i) a) (index_of c w (suc i + length a) b))
 
-pub find-type-append : (w : List ℕ) (a b : List KnownType) → findType w (a ++ b) ≡ first (findType w a) (findType w b)
-unfolding findType
+pub find-type-append : (w : List ℕ) (a b : List KnownType) → find_type w (a ++ b) ≡ first (find_type w a) (find_type w b)
+unfolding find_type
 find-type-append w [] b = refl
-find-type-append w (k ∷ a) b = rw (find-type-append w a b) (pick_first (same w k.named) k.members (findType w a) (findType w b))
+find-type-append w (k ∷ a) b = rw (find-type-append w a b) (pick_first (same w k.named) k.members (find_type w a) (find_type w b))
 
-pub find-operation-append : (w : List ℕ) (a b : List KnownOperation) → findOperation w (a ++ b) ≡ first (findOperation w a) (findOperation w b)
-unfolding findOperation
+pub find-operation-append : (w : List ℕ) (a b : List KnownOperation) → find_operation w (a ++ b) ≡ first (find_operation w a) (find_operation w b)
+unfolding find_operation
 find-operation-append w [] b = refl
-find-operation-append w (k ∷ a) b = rw (find-operation-append w a b) (pick_first (same w k.named) k (findOperation w a) (findOperation w b))
+find-operation-append w (k ∷ a) b = rw (find-operation-append w a b) (pick_first (same w k.named) k (find_operation w a) (find_operation w b))
 
-pub find-operators-append : (w : List ℕ) (a b : List KnownOperators) → findOperators w (a ++ b) ≡ first (findOperators w a) (findOperators w b)
-unfolding findOperators
+pub find-operators-append : (w : List ℕ) (a b : List KnownOperators) → find_operators w (a ++ b) ≡ first (find_operators w a) (find_operators w b)
+unfolding find_operators
 find-operators-append w [] b = refl
-find-operators-append w (k ∷ a) b = rw (find-operators-append w a b) (pick_first (same w k.named) k.levels (findOperators w a) (findOperators w b))
+find-operators-append w (k ∷ a) b = rw (find-operators-append w a b) (pick_first (same w k.named) k.levels (find_operators w a) (find_operators w b))
 
-pub declared-append : (w : List ℕ) (a b : List Decl) → declaredIn w (a ++ b) ≡ (declaredIn w a || declaredIn w b)
-unfolding declaredIn
+pub declared-append : (w : List ℕ) (a b : List Decl) → declared_in w (a ++ b) ≡ (declared_in w a || declared_in w b)
+unfolding declared_in
 declared-append w [] b = refl
 declared-append w (d ∷ a) b =
-    rw (declared-append w a b) (sym (or_assoc (same w d.name.text || (not (eqb d.class 6) && isWord w d.second)) (declaredIn w a) (declaredIn w b)))
+    rw (declared-append w a b) (sym (or_assoc (same w d.name.text || (not (eqb d.class 6) && is_word w d.second)) (declared_in w a) (declared_in w b)))
 
 -- the declaration after those of `before`
-pub decl-here : (before : List Decl) (d : Decl) (rest : List Decl) → declOf (before ++ (d ∷ rest)) (length before) ≡ d
-unfolding declOf
+pub decl-here : (before : List Decl) (d : Decl) (rest : List Decl) → decl_of (before ++ (d ∷ rest)) (length before) ≡ d
+unfolding decl_of
 decl-here before d rest = get_or-append_seam before d rest _
 
-pub faults-append : (ds : List Decl) (en : ℕ → List Operator) (before a b : List Decl) → declFaults ds en before (a ++ b) ≡ ◌>>=◌ (declFaults ds en before a) (λ _. declFaults ds en (before ++ a) b)
-unfolding declFaults
+pub faults-append : (ds : List Decl) (en : ℕ → List Operator) (before a b : List Decl) → decl_faults ds en before (a ++ b) ≡ ◌>>=◌ (decl_faults ds en before a) (λ _. decl_faults ds en (before ++ a) b)
+unfolding decl_faults
 faults-append ds en before [] b = rw append-nil
-faults-append ds en before (d ∷ a) b = go (declFault ds before (en (length before)) d) (faults-append ds en (before ++ (d ∷ [])) a b)
+faults-append ds en before (d ∷ a) b = go (decl_fault ds before (en (length before)) d) (faults-append ds en (before ++ (d ∷ [])) a b)
   where
     go : (x : Checked (Unit {0}))
-        → declFaults ds en (before ++ (d ∷ [])) (a ++ b) ≡ ◌>>=◌ (declFaults ds en (before ++ (d ∷ [])) a) (λ _. declFaults ds en (before ++ (d ∷ []) ++ a) b)
-        → ◌>>=◌ x (λ _. declFaults ds en (before ++ (d ∷ [])) (a ++ b)) ≡ ◌>>=◌ (◌>>=◌ x (λ _. declFaults ds en (before ++ (d ∷ [])) a)) (λ _. declFaults ds en (before ++ (d ∷ a)) b)
+        → decl_faults ds en (before ++ (d ∷ [])) (a ++ b) ≡ ◌>>=◌ (decl_faults ds en (before ++ (d ∷ [])) a) (λ _. decl_faults ds en (before ++ (d ∷ []) ++ a) b)
+        → ◌>>=◌ x (λ _. decl_faults ds en (before ++ (d ∷ [])) (a ++ b)) ≡ ◌>>=◌ (◌>>=◌ x (λ _. decl_faults ds en (before ++ (d ∷ [])) a)) (λ _. decl_faults ds en (before ++ (d ∷ a)) b)
     go (good u) h = rw append_snoc at h
     go (wrong n w) h = refl

@@ -9,9 +9,9 @@ use lib.Dec.{eqb}
 use lib.ListN.{length, get_or, set, take, length-set}
 use lib.Seq.{get_or-set_same, get_or-set_other}
 use borrow.Author.Tests.{eqb-true, eqb-false, eq-eqb, ne_eqb}
-use Rattle.base.specs.Common.{if◌then◌else◌}
-use Rattle.declarations.specs.Decls.{Decl, knownsIn}
-use Rattle.declarer.specs.Operators.{sameValue, againstOne, against, slotFrom, sideSlot, MarkedAs, Apart, MarksKept, AllMarked, none-marked, more-marked}
+use Rattle.std.specs.Prelude.{if◌then◌else◌}
+use Rattle.declarations.specs.Decls.{Decl, knowns_in}
+use Rattle.declarer.specs.Operators.{same_value, against_one, against, slot_from, side_slot, MarkedAs, Apart, MarksKept, AllMarked, none_marked, more_marked}
 use Rattle.names.specs.Declare.{differ}
 use Rattle.names.specs.Known.{find}
 use Rattle.symbols.specs.Search.{Tells, there, nowhere}
@@ -19,98 +19,98 @@ use Rattle.syntax.specs.Written.{Operator}
 
 -- the first row of a value
 
-one-slot : (rows : List ℕ) (v i k : ℕ) → slotFrom rows v i (suc k) ≡ (if eqb (get_or rows (8 * i + 1) 0) v then i else slotFrom rows v (suc i) k)
-unfolding slotFrom
+one-slot : (rows : List ℕ) (v i k : ℕ) → slot_from rows v i (suc k) ≡ (if eqb (get_or rows (8 * i + 1) 0) v then i else slot_from rows v (suc i) k)
+unfolding slot_from
 one-slot rows v i k = refl
 
-pub slot-start : (rows : List ℕ) (v n : ℕ) → slotFrom rows v 0 n ≡ slotFrom rows v 0 (n - 0)
-slot-start rows v n = let z : n ≡ n - 0 = omega arith in ap (λ (k : ℕ). slotFrom rows v 0 k) z
+pub slot-start : (rows : List ℕ) (v n : ℕ) → slot_from rows v 0 n ≡ slot_from rows v 0 (n - 0)
+slot-start rows v n = let z : n ≡ n - 0 = omega arith in ap (λ (k : ℕ). slot_from rows v 0 k) z
 
-module _ (rows : List ℕ) (v n i : ℕ) (h : slotFrom rows v 0 n ≡ slotFrom rows v i (n - i)) where
-  step : i < n → slotFrom rows v 0 n ≡ (if eqb (get_or rows (8 * i + 1) 0) v then i else slotFrom rows v (suc i) (n - (i + 1)))
-  step l = h ∙ (ap (λ (k : ℕ). slotFrom rows v i k) more ∙ one-slot rows v i (n - (i + 1)))
+module _ (rows : List ℕ) (v n i : ℕ) (h : slot_from rows v 0 n ≡ slot_from rows v i (n - i)) where
+  step : i < n → slot_from rows v 0 n ≡ (if eqb (get_or rows (8 * i + 1) 0) v then i else slot_from rows v (suc i) (n - (i + 1)))
+  step l = h ∙ (ap (λ (k : ℕ). slot_from rows v i k) more ∙ one-slot rows v i (n - (i + 1)))
     where
       more : n - i ≡ suc (n - (i + 1))
       more = omega (arith, l)
 
-  pub slot-here : (x : ℕ) → i < n → x ≡ get_or rows (8 * i + 1) 0 → x ≡ v → i ≡ slotFrom rows v 0 n
-  slot-here x l e f = sym (step l ∙ ap (λ (t : Bool). if t then i else slotFrom rows v (suc i) (n - (i + 1))) (eq-eqb (get_or rows (8 * i + 1) 0) v (sym e ∙ f)))
+  pub slot-here : (x : ℕ) → i < n → x ≡ get_or rows (8 * i + 1) 0 → x ≡ v → i ≡ slot_from rows v 0 n
+  slot-here x l e f = sym (step l ∙ ap (λ (t : Bool). if t then i else slot_from rows v (suc i) (n - (i + 1))) (eq-eqb (get_or rows (8 * i + 1) 0) v (sym e ∙ f)))
 
-  pub slot_next : (x : ℕ) → i < n → x ≡ get_or rows (8 * i + 1) 0 → (x ≡ v → ⊥) → slotFrom rows v 0 n ≡ slotFrom rows v (i + 1) (n - (i + 1))
-  slot_next x l e f = step l ∙ (ap (λ (t : Bool). if t then i else slotFrom rows v (suc i) (n - (i + 1))) (ne_eqb (get_or rows (8 * i + 1) 0) v (λ z. f (e ∙ z))) ∙ ap (λ (k : ℕ). slotFrom rows v k (n - (i + 1))) one)
+  pub slot_next : (x : ℕ) → i < n → x ≡ get_or rows (8 * i + 1) 0 → (x ≡ v → ⊥) → slot_from rows v 0 n ≡ slot_from rows v (i + 1) (n - (i + 1))
+  slot_next x l e f = step l ∙ (ap (λ (t : Bool). if t then i else slot_from rows v (suc i) (n - (i + 1))) (ne_eqb (get_or rows (8 * i + 1) 0) v (λ z. f (e ∙ z))) ∙ ap (λ (k : ℕ). slot_from rows v k (n - (i + 1))) one)
     where
       one : suc i ≡ i + 1
       one = omega arith
 
-  pub slot-none : i ≤ n → n ≤ i → n ≡ slotFrom rows v 0 n
-  unfolding slotFrom
-  slot-none a b = let z : n - i ≡ 0 = omega (arith, b) in let e : n ≡ i = omega (arith, a, b) in e ∙ sym (h ∙ ap (λ (k : ℕ). slotFrom rows v i k) z)
+  pub slot-none : i ≤ n → n ≤ i → n ≡ slot_from rows v 0 n
+  unfolding slot_from
+  slot-none a b = let z : n - i ≡ 0 = omega (arith, b) in let e : n ≡ i = omega (arith, a, b) in e ∙ sym (h ∙ ap (λ (k : ℕ). slot_from rows v i k) z)
 
 -- sides
 
-pub right-slot : (level : ℕ) → 514 + 2 * (level % 16) ≡ sideSlot level true
-unfolding sideSlot
+pub right-slot : (level : ℕ) → 514 + 2 * (level % 16) ≡ side_slot level true
+unfolding side_slot
 right-slot level = refl
 
-pub left-slot : (level : ℕ) → 513 + 2 * (level % 16) ≡ sideSlot level false
-unfolding sideSlot
+pub left-slot : (level : ℕ) → 513 + 2 * (level % 16) ≡ side_slot level false
+unfolding side_slot
 left-slot level = refl
 
 zero_one : {x : ℕ} → x ≡ 0 → x ≡ 1 → ⊥
 zero_one {x} a b = omega (arith, a, b)
 
-one_side : (marks : List ℕ) (l k : ℕ) (r s : Bool) → get_or marks (sideSlot l (not r)) 0 ≡ 0 → get_or marks (sideSlot k s) 0 ≡ 1 → (eqb l k && differ r s) ≡ false
+one_side : (marks : List ℕ) (l k : ℕ) (r s : Bool) → get_or marks (side_slot l (not r)) 0 ≡ 0 → get_or marks (side_slot k s) 0 ≡ 1 → (eqb l k && differ r s) ≡ false
 one_side marks l k r s = go (eqb l k) refl r s
   where
-    clash : (b : Bool) → eqb l k ≡ true → get_or marks (sideSlot l b) 0 ≡ 0 → get_or marks (sideSlot k b) 0 ≡ 1 → ⊥
-    clash b e x y = zero_one x (ap (λ (j : ℕ). get_or marks (sideSlot j b) 0) (eqb-true l k e) ∙ y)
+    clash : (b : Bool) → eqb l k ≡ true → get_or marks (side_slot l b) 0 ≡ 0 → get_or marks (side_slot k b) 0 ≡ 1 → ⊥
+    clash b e x y = zero_one x (ap (λ (j : ℕ). get_or marks (side_slot j b) 0) (eqb-true l k e) ∙ y)
 
-    go : (t : Bool) → eqb l k ≡ t → (r s : Bool) → get_or marks (sideSlot l (not r)) 0 ≡ 0 → get_or marks (sideSlot k s) 0 ≡ 1 → (t && differ r s) ≡ false
+    go : (t : Bool) → eqb l k ≡ t → (r s : Bool) → get_or marks (side_slot l (not r)) 0 ≡ 0 → get_or marks (side_slot k s) 0 ≡ 1 → (t && differ r s) ≡ false
     go false e r s x y = refl
     go true e true true x y = refl
     go true e false false x y = refl
     go true e true false x y = absurd (clash false e x y)
     go true e false true x y = absurd (clash true e x y)
 
-one_token : (rows marks : List ℕ) (n : ℕ) (x y : Option ℕ) → ((u : ℕ) → x ≡ some u → get_or marks (slotFrom rows u 0 n) 0 ≡ 0) → ((u : ℕ) → y ≡ some u → get_or marks (slotFrom rows u 0 n) 0 ≡ 1) → sameValue x y ≡ false
-unfolding sameValue
+one_token : (rows marks : List ℕ) (n : ℕ) (x y : Option ℕ) → ((u : ℕ) → x ≡ some u → get_or marks (slot_from rows u 0 n) 0 ≡ 0) → ((u : ℕ) → y ≡ some u → get_or marks (slot_from rows u 0 n) 0 ≡ 1) → same_value x y ≡ false
+unfolding same_value
 one_token rows marks n none y f g = refl
 one_token rows marks n (some v) none f g = refl
 one_token rows marks n (some v) (some u) f g = go (eqb v u) refl
   where
     go : (t : Bool) → eqb v u ≡ t → t ≡ false
     go false e = refl
-    go true e = absurd (zero_one (f v refl) (ap (λ (j : ℕ). get_or marks (slotFrom rows j 0 n) 0) (eqb-true v u e) ∙ g u refl))
+    go true e = absurd (zero_one (f v refl) (ap (λ (j : ℕ). get_or marks (slot_from rows j 0 n) 0) (eqb-true v u e) ∙ g u refl))
 
 both_false : {a b : Bool} → a ≡ false → b ≡ false → (a || b) ≡ false
 both_false p q = rw (p, q) refl
 
-pub apart-against : {ds : List Decl} {rows : List ℕ} {n : ℕ} {marks : List ℕ} {bs : List Operator} (o : Operator) → AllMarked ds rows n marks bs → Apart rows n marks o.level o.right (find o.token.text (knownsIn 1 ds))
-    → against ds (find o.token.text (knownsIn 1 ds)) o bs ≡ false
-unfolding against againstOne
-apart-against o none-marked a = refl
-apart-against {ds} {rows} {n} {marks} o (more-marked {b = b} m ms) a =
-    both_false (both_false (one_side marks o.level b.level o.right b.right a.side m.side) (one_token rows marks n (find o.token.text (knownsIn 1 ds)) (find b.token.text (knownsIn 1 ds)) a.token m.token)) (apart-against o ms a)
+pub apart-against : {ds : List Decl} {rows : List ℕ} {n : ℕ} {marks : List ℕ} {bs : List Operator} (o : Operator) → AllMarked ds rows n marks bs → Apart rows n marks o.level o.right (find o.token.text (knowns_in 1 ds))
+    → against ds (find o.token.text (knowns_in 1 ds)) o bs ≡ false
+unfolding against against_one
+apart-against o none_marked a = refl
+apart-against {ds} {rows} {n} {marks} o (more_marked {b = b} m ms) a =
+    both_false (both_false (one_side marks o.level b.level o.right b.right a.side m.side) (one_token rows marks n (find o.token.text (knowns_in 1 ds)) (find b.token.text (knowns_in 1 ds)) a.token m.token)) (apart-against o ms a)
 
 pub marked-kept : {ds : List Decl} {rows : List ℕ} {n : ℕ} {old new : List ℕ} {bs : List Operator} → MarksKept old new → AllMarked ds rows n old bs → AllMarked ds rows n new bs
-marked-kept k none-marked = none-marked
-marked-kept {rows = rows} {n = n} k (more-marked {b = b} m ms) = more-marked (record { side = k.kept (sideSlot b.level b.right) m.side; token = λ u e. k.kept (slotFrom rows u 0 n) (m.token u e) }) (marked-kept k ms)
+marked-kept k none_marked = none_marked
+marked-kept {rows = rows} {n = n} k (more_marked {b = b} m ms) = more_marked (record { side = k.kept (side_slot b.level b.right) m.side; token = λ u e. k.kept (slot_from rows u 0 n) (m.token u e) }) (marked-kept k ms)
 
-pub marked_more : {ds : List Decl} {rows : List ℕ} {n : ℕ} {marks : List ℕ} (bs : List Operator) (b : Operator) → AllMarked ds rows n marks bs → MarkedAs rows n marks b.level b.right (find b.token.text (knownsIn 1 ds)) → AllMarked ds rows n marks (bs ++ (b ∷ []))
-marked_more _ b none-marked m = more-marked m none-marked
-marked_more _ b (more-marked {bs = bs} x xs) m = more-marked x (marked_more bs b xs m)
+pub marked_more : {ds : List Decl} {rows : List ℕ} {n : ℕ} {marks : List ℕ} (bs : List Operator) (b : Operator) → AllMarked ds rows n marks bs → MarkedAs rows n marks b.level b.right (find b.token.text (knowns_in 1 ds)) → AllMarked ds rows n marks (bs ++ (b ∷ []))
+marked_more _ b none_marked m = more_marked m none_marked
+marked_more _ b (more_marked {bs = bs} x xs) m = more_marked x (marked_more bs b xs m)
 
 pub marked-none : {ds : List Decl} {rows : List ℕ} {n : ℕ} {marks : List ℕ} (es : List Operator) → AllMarked ds rows n marks (take 0 es)
-marked-none [] = none-marked
-marked-none (e ∷ es) = none-marked
+marked-none [] = none_marked
+marked-none (e ∷ es) = none_marked
 
 -- what the code tests and writes
 
-pub apart-tested : (rows : List ℕ) (n : ℕ) (marks : List ℕ) (level : ℕ) (right : Bool) (v : ℕ) (x : Option ℕ) → Tells v x → get_or marks (sideSlot level (not right)) 0 ≡ 0 → get_or marks (slotFrom rows v 0 n) 0 ≡ 0 → Apart rows n marks level right x
+pub apart-tested : (rows : List ℕ) (n : ℕ) (marks : List ℕ) (level : ℕ) (right : Bool) (v : ℕ) (x : Option ℕ) → Tells v x → get_or marks (side_slot level (not right)) 0 ≡ 0 → get_or marks (slot_from rows v 0 n) 0 ≡ 0 → Apart rows n marks level right x
 apart-tested rows n marks level right v x t s k = record { side = s; token = λ u e. token t u e }
   where
-    token : {y : Option ℕ} → Tells v y → (u : ℕ) → y ≡ some u → get_or marks (slotFrom rows u 0 n) 0 ≡ 0
-    token (there {v = w} e l) u q = let z : w ≡ u = cc in ap (λ (j : ℕ). get_or marks (slotFrom rows j 0 n) 0) (sym (e ∙ z)) ∙ k
+    token : {y : Option ℕ} → Tells v y → (u : ℕ) → y ≡ some u → get_or marks (slot_from rows u 0 n) 0 ≡ 0
+    token (there {v = w} e l) u q = let z : w ≡ u = cc in ap (λ (j : ℕ). get_or marks (slot_from rows j 0 n) 0) (sym (e ∙ z)) ∙ k
     token (nowhere e) u q = let z : ◌≡◌ {A = ℕ} 0 1 = cc in absurd (omega (arith, z))
 
 pub set-kept : (marks : List ℕ) (i : ℕ) → i < length marks → MarksKept marks (set marks i 1)
@@ -123,8 +123,8 @@ set-kept marks i l = record { size = length-set marks i 1; kept = λ j h. one j 
 pub kept-after : {a b c : List ℕ} → MarksKept a b → MarksKept b c → MarksKept a c
 kept-after f g = record { size = g.size ∙ f.size; kept = λ j h. g.kept j (f.kept j h) }
 
-module _ (rows : List ℕ) (n : ℕ) (marks : List ℕ) (level : ℕ) (right : Bool) (v i : ℕ) (size : length marks ≡ 545) (e : i ≡ sideSlot level right) (l : i < 545) where
-  side_set : get_or (set marks i 1) (sideSlot level right) 0 ≡ 1
+module _ (rows : List ℕ) (n : ℕ) (marks : List ℕ) (level : ℕ) (right : Bool) (v i : ℕ) (size : length marks ≡ 545) (e : i ≡ side_slot level right) (l : i < 545) where
+  side_set : get_or (set marks i 1) (side_slot level right) 0 ≡ 1
   side_set = ap (λ (k : ℕ). get_or (set marks i 1) k 0) (sym e) ∙ get_or-set_same marks i 1 0 (omega (arith, l, size))
 
   pub marks-side : MarksKept marks (set marks i 1)
@@ -134,11 +134,11 @@ module _ (rows : List ℕ) (n : ℕ) (marks : List ℕ) (level : ℕ) (right : B
   pub mark-side : v ≡ 65536 → (x : Option ℕ) → Tells v x → MarkedAs rows n (set marks i 1) level right x
   mark-side z x t = record { side = side_set; token = λ u q. token t u q }
     where
-      token : {y : Option ℕ} → Tells v y → (u : ℕ) → y ≡ some u → get_or (set marks i 1) (slotFrom rows u 0 n) 0 ≡ 1
+      token : {y : Option ℕ} → Tells v y → (u : ℕ) → y ≡ some u → get_or (set marks i 1) (slot_from rows u 0 n) 0 ≡ 1
       token (there {v = w} f m) u q = absurd (omega (arith, f, m, z))
       token (nowhere f) u q = let y : ◌≡◌ {A = ℕ} 0 1 = cc in absurd (omega (arith, y))
 
-  module _ (j : ℕ) (f : j ≡ slotFrom rows v 0 n) (m : j ≤ 512) where
+  module _ (j : ℕ) (f : j ≡ slot_from rows v 0 n) (m : j ≤ 512) where
     after : MarksKept (set marks i 1) (set (set marks i 1) j 1)
     after = set-kept (set marks i 1) j (omega (arith, m, size, length-set marks i 1))
 
@@ -146,11 +146,11 @@ module _ (rows : List ℕ) (n : ℕ) (marks : List ℕ) (level : ℕ) (right : B
     marks-both = kept-after marks-side after
 
     pub mark-both : (x : Option ℕ) → Tells v x → MarkedAs rows n (set (set marks i 1) j 1) level right x
-    mark-both x t = record { side = after.kept (sideSlot level right) side_set; token = λ u q. token t u q }
+    mark-both x t = record { side = after.kept (side_slot level right) side_set; token = λ u q. token t u q }
       where
-        there-set : get_or (set (set marks i 1) j 1) (slotFrom rows v 0 n) 0 ≡ 1
+        there-set : get_or (set (set marks i 1) j 1) (slot_from rows v 0 n) 0 ≡ 1
         there-set = ap (λ (k : ℕ). get_or (set (set marks i 1) j 1) k 0) (sym f) ∙ get_or-set_same (set marks i 1) j 1 0 (omega (arith, m, size, length-set marks i 1))
 
-        token : {y : Option ℕ} → Tells v y → (u : ℕ) → y ≡ some u → get_or (set (set marks i 1) j 1) (slotFrom rows u 0 n) 0 ≡ 1
-        token (there {v = w} g h) u q = let z : w ≡ u = cc in ap (λ (k : ℕ). get_or (set (set marks i 1) j 1) (slotFrom rows k 0 n) 0) (sym (g ∙ z)) ∙ there-set
+        token : {y : Option ℕ} → Tells v y → (u : ℕ) → y ≡ some u → get_or (set (set marks i 1) j 1) (slot_from rows u 0 n) 0 ≡ 1
+        token (there {v = w} g h) u q = let z : w ≡ u = cc in ap (λ (k : ℕ). get_or (set (set marks i 1) j 1) (slot_from rows k 0 n) 0) (sym (g ∙ z)) ∙ there-set
         token (nowhere g) u q = let y : ◌≡◌ {A = ℕ} 0 1 = cc in absurd (omega (arith, y))

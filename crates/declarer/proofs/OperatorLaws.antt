@@ -11,34 +11,35 @@ use lib.ListN.{length, take, length-append}
 use lib.Seq.{append_snoc, take-append_seam}
 use borrow.Author.Tests.{eqb-true, ne_eqb, eq-eqb}
 use Rattle.base.specs.Bools.{never}
-use Rattle.base.specs.Common.{if◌then◌else◌, given, same}
+use Rattle.std.specs.Prelude.{if◌then◌else◌}
+use Rattle.base.specs.Common.{given, same}
 use Rattle.declarations.proofs.Declaring.{Means, entry-means}
-use Rattle.declarations.specs.Decls.{Decl, feeds, knownsIn, declaredIn, elsewhereIn, index_of, lookupIn, operatorIn, operatorsIn, operatorsFault}
+use Rattle.declarations.specs.Decls.{Decl, feeds, knowns_in, declared_in, elsewhere_in, index_of, lookup_in, operator_in, operators_in, operators_fault}
 use Rattle.declarer.proofs.FaultLaws.{goes, stops, ends, is-clean, again, once}
 use Rattle.declarer.specs.Faults.{Faults, clean, faulty}
-use Rattle.declarer.specs.Operators.{sameValue, againstOne, against, entryFault, entriesFault, Left, Passed, MarkedAs, Apart, MarksKept, AllMarked}
+use Rattle.declarer.specs.Operators.{same_value, against_one, against, entry_fault, entries_fault, Left, Passed, MarkedAs, Apart, MarksKept, AllMarked}
 use Rattle.declarer.proofs.MarkLaws.{apart-against, marked-kept, marked_more}
-use Rattle.grammar.specs.Derived.{Not, OperatorsIn, last-operator, more-operators}
+use Rattle.grammar.specs.Derived.{Not, OperatorsIn, last_operator, more_operators}
 use Rattle.maker.specs.Ranks.{EntryIs, AnEntry}
 use Rattle.maker.specs.declared.Entry.{Entry}
-use Rattle.names.specs.Declare.{differ, otherSide, listed}
-use Rattle.names.specs.Known.{Checked, good, wrong, ◌>>=◌, faultIf, find, isWord}
+use Rattle.names.specs.Declare.{differ, other_side, listed}
+use Rattle.names.specs.Known.{Checked, good, wrong, ◌>>=◌, fault_if, find, is_word}
 use Rattle.places.proofs.Heres.{kind-here}
 use Rattle.program.specs.Made as made
-use Rattle.scanner.specs.Next.{Next, asWord}
+use Rattle.scanner.specs.Next.{Next, as_word}
 use Rattle.scanner.specs.declared.WordAt.{WordAt}
 use Rattle.symbols.proofs.Searches.{by_value, by_word}
 use Rattle.symbols.specs.Rows.{Looks, found, missing}
 use Rattle.symbols.specs.Search.{part, knows, declares, Tells, there, nowhere}
 use Rattle.syntax.specs.Reading.{peek}
 use Rattle.syntax.specs.Written.{Operator}
-use Rattle.words.specs.Words.{Word, wordsAt}
+use Rattle.words.specs.Words.{Word, words_at}
 
 -- The entries before, as written and as numbers
 
 -- 45 of an entry against those before it
 abbrev clash : Option ℕ → Operator → List made.Operator → Bool
-clash v e os = otherSide e os || listed v os
+clash v e os = other_side e os || listed v os
 
 -- four tests, in another order
 shuffle : (a b c d : Bool) → ((a || b) || (c || d)) ≡ ((a || c) || (b || d))
@@ -48,10 +49,10 @@ shuffle false true false d = refl
 shuffle false false true d = refl
 shuffle false false false d = refl
 
-other-append : (e : Operator) (a b : List made.Operator) → otherSide e (a ++ b) ≡ (otherSide e a || otherSide e b)
-unfolding otherSide
+other-append : (e : Operator) (a b : List made.Operator) → other_side e (a ++ b) ≡ (other_side e a || other_side e b)
+unfolding other_side
 other-append e [] b = refl
-other-append e (o ∷ a) b = rw (other-append e a b) (sym (or_assoc (eqb e.level o.level && differ e.right o.right) (otherSide e a) (otherSide e b)))
+other-append e (o ∷ a) b = rw (other-append e a b) (sym (or_assoc (eqb e.level o.level && differ e.right o.right) (other_side e a) (other_side e b)))
 
 listed-append : (v : Option ℕ) (a b : List made.Operator) → listed v (a ++ b) ≡ (listed v a || listed v b)
 unfolding listed
@@ -60,52 +61,52 @@ listed-append (some v) [] b = refl
 listed-append (some v) (o ∷ a) b = rw (listed-append (some v) a b) (sym (or_assoc (eqb v o.token) (listed (some v) a) (listed (some v) b)))
 
 clash-more : (v : Option ℕ) (e : Operator) (before : List made.Operator) (o : made.Operator) → clash v e (before ++ (o ∷ [])) ≡ (clash v e before || clash v e (o ∷ []))
-clash-more v e before o = rw (other-append e before (o ∷ []), listed-append v before (o ∷ [])) (shuffle (otherSide e before) (otherSide e (o ∷ [])) (listed v before) (listed v (o ∷ [])))
+clash-more v e before o = rw (other-append e before (o ∷ []), listed-append v before (o ∷ [])) (shuffle (other_side e before) (other_side e (o ∷ [])) (listed v before) (listed v (o ∷ [])))
 
-one-clash : (ds : List Decl) (v : Option ℕ) (e b : Operator) (o : made.Operator) → Means ds b o → clash v e (o ∷ []) ≡ againstOne ds v e b
-unfolding otherSide listed againstOne sameValue
+one-clash : (ds : List Decl) (v : Option ℕ) (e b : Operator) (o : made.Operator) → Means ds b o → clash v e (o ∷ []) ≡ against_one ds v e b
+unfolding other_side listed against_one same_value
 one-clash ds none e b o m = let t = eqb e.level o.level && differ e.right o.right in rw (m.level, m.right, or-false t) (or-false t)
 one-clash ds (some v) e b o m = rw (m.token, m.level, m.right, or-false (eqb e.level o.level && differ e.right o.right), or-false (eqb v o.token))
 
 -- what the entries `bs` add to those before
-all-clash : (ds : List Decl) (v : Option ℕ) (e : Operator) (bs : List Operator) (before os : List made.Operator) → operatorsIn ds bs before ≡ good os
+all-clash : (ds : List Decl) (v : Option ℕ) (e : Operator) (bs : List Operator) (before os : List made.Operator) → operators_in ds bs before ≡ good os
     → clash v e os ≡ (clash v e before || against ds v e bs)
-unfolding operatorsIn against
+unfolding operators_in against
 all-clash ds v e [] before os h = let q : before ≡ os = cc in rw (q, or-false) refl
-all-clash ds v e (b ∷ bs) before os h = go (operatorIn ds b before) (entry-means ds b before) (λ o. all-clash ds v e bs (before ++ (o ∷ [])) os) h
+all-clash ds v e (b ∷ bs) before os h = go (operator_in ds b before) (entry-means ds b before) (λ o. all-clash ds v e bs (before ++ (o ∷ [])) os) h
   where
     go : (x : Checked made.Operator) → ((o : made.Operator) → x ≡ good o → Means ds b o)
-        → ((o : made.Operator) → operatorsIn ds bs (before ++ (o ∷ [])) ≡ good os → clash v e os ≡ (clash v e (before ++ (o ∷ [])) || against ds v e bs))
-        → ◌>>=◌ x (λ o. operatorsIn ds bs (before ++ (o ∷ []))) ≡ good os → clash v e os ≡ (clash v e before || (againstOne ds v e b || against ds v e bs))
+        → ((o : made.Operator) → operators_in ds bs (before ++ (o ∷ [])) ≡ good os → clash v e os ≡ (clash v e (before ++ (o ∷ [])) || against ds v e bs))
+        → ◌>>=◌ x (λ o. operators_in ds bs (before ++ (o ∷ []))) ≡ good os → clash v e os ≡ (clash v e before || (against_one ds v e b || against ds v e bs))
     go (good o) m k q =
         k o q
         ∙ ap (λ (t : Bool). t || against ds v e bs) (clash-more v e before o ∙ ap (λ (t : Bool). clash v e before || t) (one-clash ds v e b o (m o refl)))
-        ∙ or_assoc (clash v e before) (againstOne ds v e b) (against ds v e bs)
+        ∙ or_assoc (clash v e before) (against_one ds v e b) (against ds v e bs)
     go (wrong n w) m k q = let z : ◌≡◌ {A = ℕ} 0 1 = cc in absurd (omega arith)
 
 nobody : (v : Option ℕ) (e : Operator) → clash v e [] ≡ false
-unfolding otherSide listed
+unfolding other_side listed
 nobody none e = refl
 nobody (some v) e = refl
 
-operators-append : (ds : List Decl) (a b : List Operator) (before : List made.Operator) → operatorsIn ds (a ++ b) before ≡ ◌>>=◌ (operatorsIn ds a before) (operatorsIn ds b)
-unfolding operatorsIn
+operators-append : (ds : List Decl) (a b : List Operator) (before : List made.Operator) → operators_in ds (a ++ b) before ≡ ◌>>=◌ (operators_in ds a before) (operators_in ds b)
+unfolding operators_in
 operators-append ds [] b before = refl
-operators-append ds (e ∷ a) b before = go (operatorIn ds e before) (λ o. operators-append ds a b (before ++ (o ∷ [])))
+operators-append ds (e ∷ a) b before = go (operator_in ds e before) (λ o. operators-append ds a b (before ++ (o ∷ [])))
   where
-    go : (x : Checked made.Operator) → ((o : made.Operator) → operatorsIn ds (a ++ b) (before ++ (o ∷ [])) ≡ ◌>>=◌ (operatorsIn ds a (before ++ (o ∷ []))) (operatorsIn ds b))
-        → ◌>>=◌ x (λ o. operatorsIn ds (a ++ b) (before ++ (o ∷ []))) ≡ ◌>>=◌ (◌>>=◌ x (λ o. operatorsIn ds a (before ++ (o ∷ [])))) (operatorsIn ds b)
+    go : (x : Checked made.Operator) → ((o : made.Operator) → operators_in ds (a ++ b) (before ++ (o ∷ [])) ≡ ◌>>=◌ (operators_in ds a (before ++ (o ∷ []))) (operators_in ds b))
+        → ◌>>=◌ x (λ o. operators_in ds (a ++ b) (before ++ (o ∷ []))) ≡ ◌>>=◌ (◌>>=◌ x (λ o. operators_in ds a (before ++ (o ∷ [])))) (operators_in ds b)
     go (good o) h = h o
     go (wrong n w) h = refl
 
 abbrev dropped : {A : Type 0} → Checked A → Checked (Unit {0})
 dropped m = ◌>>=◌ m (λ _. good tt)
 
-entry-link : (ds : List Decl) (bs : List Operator) (os : List made.Operator) (e : Operator) → operatorsIn ds bs [] ≡ good os → dropped (operatorIn ds e os) ≡ entryFault ds bs e
-unfolding operatorIn entryFault
+entry-link : (ds : List Decl) (bs : List Operator) (os : List made.Operator) (e : Operator) → operators_in ds bs [] ≡ good os → dropped (operator_in ds e os) ≡ entry_fault ds bs e
+unfolding operator_in entry_fault
 entry-link ds bs os e h =
-    rw (all-clash ds (find e.token.text (knownsIn 1 ds)) e bs [] os h, nobody (find e.token.text (knownsIn 1 ds)) e)
-    (go (faultIf (not (declaredIn e.token.text ds)) 3 e.token) (faultIf (against ds (find e.token.text (knownsIn 1 ds)) e bs) 45 e.token) (lookupIn ds 1 e.token) (lookupIn ds 2 e.emits))
+    rw (all-clash ds (find e.token.text (knowns_in 1 ds)) e bs [] os h, nobody (find e.token.text (knowns_in 1 ds)) e)
+    (go (fault_if (not (declared_in e.token.text ds)) 3 e.token) (fault_if (against ds (find e.token.text (knowns_in 1 ds)) e bs) 45 e.token) (lookup_in ds 1 e.token) (lookup_in ds 2 e.emits))
   where
     go : (a b : Checked (Unit {0})) (t u : Checked ℕ)
         → dropped {A = made.Operator} (◌>>=◌ a (λ _. ◌>>=◌ b (λ _. ◌>>=◌ t (λ v. ◌>>=◌ u (λ x. good (record { token = v; level = e.level; right = e.right; emits = x })))))) ≡ ◌>>=◌ a (λ _. ◌>>=◌ b (λ _. ◌>>=◌ t (λ _. ◌>>=◌ u (λ _. good tt))))
@@ -115,28 +116,28 @@ entry-link ds bs os e h =
     go (good x) (good y) (good v) (wrong n w) = refl
     go (good x) (good y) (good v) (good z) = refl
 
-pub entries-link : (ds : List Decl) (es bs : List Operator) (os : List made.Operator) → operatorsIn ds bs [] ≡ good os → dropped (operatorsIn ds es os) ≡ entriesFault ds bs es
-unfolding operatorsIn entriesFault
+pub entries-link : (ds : List Decl) (es bs : List Operator) (os : List made.Operator) → operators_in ds bs [] ≡ good os → dropped (operators_in ds es os) ≡ entries_fault ds bs es
+unfolding operators_in entries_fault
 entries-link ds [] bs os h = refl
-entries-link ds (e ∷ es) bs os h = rw (← entry-link ds bs os e h) (go (operatorIn ds e os) refl (λ o. entries-link ds es (bs ++ (e ∷ [])) (os ++ (o ∷ []))))
+entries-link ds (e ∷ es) bs os h = rw (← entry-link ds bs os e h) (go (operator_in ds e os) refl (λ o. entries-link ds es (bs ++ (e ∷ [])) (os ++ (o ∷ []))))
   where
-    one_more : (o : made.Operator) → operatorIn ds e os ≡ good o → operatorsIn ds (bs ++ (e ∷ [])) [] ≡ good (os ++ (o ∷ []))
+    one_more : (o : made.Operator) → operator_in ds e os ≡ good o → operators_in ds (bs ++ (e ∷ [])) [] ≡ good (os ++ (o ∷ []))
     one_more o q = operators-append ds bs (e ∷ []) [] ∙ rw (h, q)
 
-    go : (x : Checked made.Operator) → operatorIn ds e os ≡ x
-        → ((o : made.Operator) → operatorsIn ds (bs ++ (e ∷ [])) [] ≡ good (os ++ (o ∷ [])) → dropped (operatorsIn ds es (os ++ (o ∷ []))) ≡ entriesFault ds (bs ++ (e ∷ [])) es)
-        → dropped (◌>>=◌ x (λ o. operatorsIn ds es (os ++ (o ∷ [])))) ≡ ◌>>=◌ (dropped x) (λ _. entriesFault ds (bs ++ (e ∷ [])) es)
+    go : (x : Checked made.Operator) → operator_in ds e os ≡ x
+        → ((o : made.Operator) → operators_in ds (bs ++ (e ∷ [])) [] ≡ good (os ++ (o ∷ [])) → dropped (operators_in ds es (os ++ (o ∷ []))) ≡ entries_fault ds (bs ++ (e ∷ [])) es)
+        → dropped (◌>>=◌ x (λ o. operators_in ds es (os ++ (o ∷ [])))) ≡ ◌>>=◌ (dropped x) (λ _. entries_fault ds (bs ++ (e ∷ [])) es)
     go (good o) q k = k o (one_more o q)
     go (wrong n w) q k = refl
 
-nothing_yet : (ds : List Decl) → operatorsIn ds [] [] ≡ good []
-unfolding operatorsIn
+nothing_yet : (ds : List Decl) → operators_in ds [] [] ≡ good []
+unfolding operators_in
 nothing_yet ds = refl
 
 -- Held against the entries before it
 
 pub left-start : {ds : List Decl} {v : Option ℕ} {e : Operator} {text : List ℕ} {at count : ℕ} {ws' : List Word} {es : List Operator}
-    → OperatorsIn (wordsAt text at) ws' es → count < length es → Left ds v e text at (count - 0) count ws' es
+    → OperatorsIn (words_at text at) ws' es → count < length es → Left ds v e text at (count - 0) count ws' es
 left-start {ds} {v} {e} {text} {at} {count} {ws'} {es} d h =
     let q : count - 0 ≡ count = omega arith in
     record { rest = es; stand = d; more = omega arith; same = rw q refl }
@@ -147,11 +148,11 @@ record Next-one (ds : List Decl) (v : Option ℕ) (e : Operator) (text : List �
   rest : List Operator
   tail : List Word
   is : EntryIs text i one tail b
-  stand : OperatorsIn (wordsAt text b.emits.next) ws' rest
+  stand : OperatorsIn (words_at text b.emits.next) ws' rest
   more : left < length rest
-  same : against ds v e (take count es) ≡ (againstOne ds v e one || against ds v e (take left rest))
+  same : against ds v e (take count es) ≡ (against_one ds v e one || against ds v e (take left rest))
 
-one-step : (ds : List Decl) (v : Option ℕ) (e o : Operator) (os : List Operator) (left : ℕ) → against ds v e (take (suc left) (o ∷ os)) ≡ (againstOne ds v e o || against ds v e (take left os))
+one-step : (ds : List Decl) (v : Option ℕ) (e o : Operator) (os : List Operator) (left : ℕ) → against ds v e (take (suc left) (o ∷ os)) ≡ (against_one ds v e o || against ds v e (take left os))
 unfolding against
 one-step ds v e o os left = refl
 
@@ -159,47 +160,47 @@ next_one : {ds : List Decl} {v : Option ℕ} {e : Operator} {text : List ℕ} {i
     → Left ds v e text i (suc left) count ws' es → AnEntry text i b → Next-one ds v e text i left count ws' es b
 next_one {ds} {v} {e} {text} {i} {left} {count} {ws'} {es} {b} l a = go l.rest l.stand l.more l.same
   where
-    go : (rest : List Operator) → OperatorsIn (wordsAt text i) ws' rest → suc left < length rest → against ds v e (take count es) ≡ against ds v e (take (suc left) rest)
+    go : (rest : List Operator) → OperatorsIn (words_at text i) ws' rest → suc left < length rest → against ds v e (take count es) ≡ against ds v e (take (suc left) rest)
         → Next-one ds v e text i left count ws' es b
-    go _ (last-operator o t) m q = absurd (omega arith)
-    go _ (more-operators {o = o} {os = os} d n s) m q =
+    go _ (last_operator o t) m q = absurd (omega arith)
+    go _ (more_operators {o = o} {os = os} d n s) m q =
         let is = a.entry o _ d in
         record { one = o; rest = os; tail = _; is = is; stand = rw is.rest at s; more = omega arith; same = q ∙ one-step ds v e o os left }
 
 -- what the code finds of a token
 tells-token : (ds : List Decl) {text : List ℕ} {from v : ℕ} {o : Operator} {ws₁ : List Word} {e : Entry} → EntryIs text from o ws₁ e
-    → Tells v (find (part text e.token.start e.token.len) (knownsIn 1 ds)) → Tells v (find o.token.text (knownsIn 1 ds))
+    → Tells v (find (part text e.token.start e.token.len) (knowns_in 1 ds)) → Tells v (find o.token.text (knowns_in 1 ds))
 tells-token ds is h = rw is.token h
 
 -- the code's test against the entry b
 abbrev Tested : List Decl → List ℕ → ℕ → Entry → Entry → Bool → Type 0
 Tested ds text v e b r =
-    (x : Option ℕ) → Tells v x → r ≡ ((eqb e.level b.level && differ e.right b.right) || sameValue x (find (part text b.token.start b.token.len) (knownsIn 1 ds)))
+    (x : Option ℕ) → Tells v x → r ≡ ((eqb e.level b.level && differ e.right b.right) || same_value x (find (part text b.token.start b.token.len) (knowns_in 1 ds)))
 
 tested-one : (ds : List Decl) {text : List ℕ} {from i v : ℕ} {o b₀ : Operator} {ws₁ ws₂ : List Word} {e b : Entry} {r : Bool} → EntryIs text from o ws₁ e → EntryIs text i b₀ ws₂ b
-    → Tells v (find o.token.text (knownsIn 1 ds)) → Tested ds text v e b r → againstOne ds (find o.token.text (knownsIn 1 ds)) o b₀ ≡ r
-unfolding againstOne
-tested-one ds {o = o} is one t h = rw (one.level, one.right, one.token, is.level, is.right) (sym (h (find o.token.text (knownsIn 1 ds)) t))
+    → Tells v (find o.token.text (knowns_in 1 ds)) → Tested ds text v e b r → against_one ds (find o.token.text (knowns_in 1 ds)) o b₀ ≡ r
+unfolding against_one
+tested-one ds {o = o} is one t h = rw (one.level, one.right, one.token, is.level, is.right) (sym (h (find o.token.text (knowns_in 1 ds)) t))
 
 -- the entry b clashes, or the next is looked at
 module _ (ds : List Decl) {text : List ℕ} {count i k v from : ℕ} {ws' ws₁ : List Word} {es : List Operator} {o : Operator} {e b : Entry} {r : Bool} (is : EntryIs text from o ws₁ e)
-    (l : Left ds (find o.token.text (knownsIn 1 ds)) o text i (count - k) count ws' es) (less : k < count) (a : AnEntry text i b)
-    (t : Tells v (find (part text e.token.start e.token.len) (knownsIn 1 ds))) (h : Tested ds text v e b r) where
-  one_found : Next-one ds (find o.token.text (knownsIn 1 ds)) o text i (count - (k + 1)) count ws' es b
+    (l : Left ds (find o.token.text (knowns_in 1 ds)) o text i (count - k) count ws' es) (less : k < count) (a : AnEntry text i b)
+    (t : Tells v (find (part text e.token.start e.token.len) (knowns_in 1 ds))) (h : Tested ds text v e b r) where
+  one_found : Next-one ds (find o.token.text (knowns_in 1 ds)) o text i (count - (k + 1)) count ws' es b
   one_found = next_one (rw one_less at l) a where
     one_less : count - k ≡ suc (count - (k + 1))
     one_less = omega arith
 
-  one-is : againstOne ds (find o.token.text (knownsIn 1 ds)) o one_found.one ≡ r
+  one-is : against_one ds (find o.token.text (knowns_in 1 ds)) o one_found.one ≡ r
   one-is = tested-one ds is one_found.is (tells-token ds is t) h
 
   abbrev others : Bool
-  others = against ds (find o.token.text (knownsIn 1 ds)) o (take (count - (k + 1)) one_found.rest)
+  others = against ds (find o.token.text (knowns_in 1 ds)) o (take (count - (k + 1)) one_found.rest)
 
-  pub left-stops : r ≡ true → true ≡ against ds (find o.token.text (knownsIn 1 ds)) o (take count es)
+  pub left-stops : r ≡ true → true ≡ against ds (find o.token.text (knowns_in 1 ds)) o (take count es)
   left-stops q = sym (one_found.same ∙ ap (λ (z : Bool). z || others) (one-is ∙ q))
 
-  pub left-goes : r ≡ false → Left ds (find o.token.text (knownsIn 1 ds)) o text b.emits.next (count - (k + 1)) count ws' es
+  pub left-goes : r ≡ false → Left ds (find o.token.text (knowns_in 1 ds)) o text b.emits.next (count - (k + 1)) count ws' es
   left-goes q = record { rest = one_found.rest; stand = one_found.stand; more = one_found.more; same = one_found.same ∙ ap (λ (z : Bool). z || others) (one-is ∙ q) }
 
 pub left-ends : {ds : List Decl} {v : Option ℕ} {o : Operator} {text : List ℕ} {i k count : ℕ} {ws' : List Word} {es : List Operator} → Left ds v o text i (count - k) count ws' es → count ≤ k
@@ -215,13 +216,13 @@ left-ends {ds} {v} {o} {text} {i} {k} {count} {ws'} {es} l h = sym (l.same ∙ r
 
 -- Values that the code compares
 
-pub token-none : {v : ℕ} {x : Option ℕ} (y : Option ℕ) → v ≡ 65536 → Tells v x → false ≡ sameValue x y
-unfolding sameValue
+pub token-none : {v : ℕ} {x : Option ℕ} (y : Option ℕ) → v ≡ 65536 → Tells v x → false ≡ same_value x y
+unfolding same_value
 token-none y e (there h l) = absurd (omega arith)
 token-none y e (nowhere h) = refl
 
-pub token-same : {v u : ℕ} {x y : Option ℕ} → (v ≡ 65536 → ⊥) → Tells u y → Tells v x → eqb v u ≡ sameValue x y
-unfolding sameValue
+pub token-same : {v u : ℕ} {x y : Option ℕ} → (v ≡ 65536 → ⊥) → Tells u y → Tells v x → eqb v u ≡ same_value x y
+unfolding same_value
 token-same {v} {u} z (there {v = b} h l) (there {v = a} g m) = rw (h, g)
 token-same {v} {u} z (nowhere h) (there {v = a} g m) = ne_eqb v u (λ e. omega arith)
 token-same z t (nowhere g) = absurd (z g)
@@ -240,19 +241,19 @@ sides-same h e k = let z : _ ≡ false = sym h ∙ e in rw z k
 
 -- The fault of one entry
 
-looked-up : {f v at len : ℕ} (ds : List Decl) (c : ℕ) (w : Word) → Looks f v (lookupIn ds c w) → at ≡ w.start → len ≡ length w.text → Faults f at len (lookupIn ds c w)
-unfolding lookupIn
-looked-up {f} {v} {at} {len} ds c w l p q = go (find w.text (knownsIn c ds)) l
+looked-up : {f v at len : ℕ} (ds : List Decl) (c : ℕ) (w : Word) → Looks f v (lookup_in ds c w) → at ≡ w.start → len ≡ length w.text → Faults f at len (lookup_in ds c w)
+unfolding lookup_in
+looked-up {f} {v} {at} {len} ds c w l p q = go (find w.text (knowns_in c ds)) l
   where
-    go : (x : Option ℕ) → Looks f v (elim x as (λ _. Checked ℕ) [ some u ↦ good u | none ↦ wrong (elsewhereIn ds w.text) w ])
-        → Faults {A = ℕ} f at len (elim x as (λ _. Checked ℕ) [ some u ↦ good u | none ↦ wrong (elsewhereIn ds w.text) w ])
+    go : (x : Option ℕ) → Looks f v (elim x as (λ _. Checked ℕ) [ some u ↦ good u | none ↦ wrong (elsewhere_in ds w.text) w ])
+        → Faults {A = ℕ} f at len (elim x as (λ _. Checked ℕ) [ some u ↦ good u | none ↦ wrong (elsewhere_in ds w.text) w ])
     go (some u) (found e h) = clean e
     go none (missing e n) = faulty e n p q
 
 -- the same of the word that the code has
-looked-word : {f u v at len : ℕ} (ds : List Decl) (c : ℕ) (text : List ℕ) {w : Word} (a : WordAt) → w ≡ asWord text a → Looks u v (lookupIn ds c (asWord text a)) → f ≡ u → at ≡ a.start
-    → len ≡ length (part text a.start a.len) → Faults f at len (lookupIn ds c w)
-looked-word ds c text {w} a e l h p q = rw (e, h) (looked-up ds c (asWord text a) l p q)
+looked-word : {f u v at len : ℕ} (ds : List Decl) (c : ℕ) (text : List ℕ) {w : Word} (a : WordAt) → w ≡ as_word text a → Looks u v (lookup_in ds c (as_word text a)) → f ≡ u → at ≡ a.start
+    → len ≡ length (part text a.start a.len) → Faults f at len (lookup_in ds c w)
+looked-word ds c text {w} a e l h p q = rw (e, h) (looked-up ds c (as_word text a) l p q)
 
 -- A token's value tells whether it is declared
 
@@ -268,73 +269,73 @@ known-declares : (w : List ℕ) (d : Decl) → knows 1 w d ≡ true → declares
 unfolding knows declares feeds
 known-declares w d e = go (feeds 1 d) refl (same w d.name.text) e
   where
-    go : (s : Bool) → feeds 1 d ≡ s → (a : Bool) → (s && (a || isWord w d.second)) ≡ true → (a || (not (eqb d.class 6) && isWord w d.second)) ≡ true
+    go : (s : Bool) → feeds 1 d ≡ s → (a : Bool) → (s && (a || is_word w d.second)) ≡ true → (a || (not (eqb d.class 6) && is_word w d.second)) ≡ true
     go true p true z = refl
     go true p false z = rw (not-operation d.class p) z
     go false p a z = never z
 
-known-declared : (w : List ℕ) (ds : List Decl) {v : ℕ} → find w (knownsIn 1 ds) ≡ some v → declaredIn w ds ≡ true
-unfolding find knownsIn
+known-declared : (w : List ℕ) (ds : List Decl) {v : ℕ} → find w (knowns_in 1 ds) ≡ some v → declared_in w ds ≡ true
+unfolding find knowns_in
 known-declared w [] e = absurd (none-some e)
   where
     none-some : {v : ℕ} → ◌≡◌ {A = Option ℕ} none (some v) → ⊥
     none-some z = let y : ◌≡◌ {A = ℕ} 0 1 = cc in omega (arith, y)
 known-declared w (d ∷ ds) {v} e = (by_word w).cons 0 d ds ∙ go (knows 1 w d) refl (declares w d) refl (known-declared w ds) (sym ((by_value 1 w).cons 0 d ds) ∙ e)
   where
-    go : (s : Bool) → knows 1 w d ≡ s → (a : Bool) → declares w d ≡ a → (find w (knownsIn 1 ds) ≡ some v → declaredIn w ds ≡ true) → (if s then some d.value else find w (knownsIn 1 ds)) ≡ some v
-        → (if a then true else declaredIn w ds) ≡ true
+    go : (s : Bool) → knows 1 w d ≡ s → (a : Bool) → declares w d ≡ a → (find w (knowns_in 1 ds) ≡ some v → declared_in w ds ≡ true) → (if s then some d.value else find w (knowns_in 1 ds)) ≡ some v
+        → (if a then true else declared_in w ds) ≡ true
     go s p true q rest z = refl
     go true p false q rest z = never (sym q ∙ known-declares w d p)
     go false p false q rest z = rest z
 
-token-nowhere : {t v : ℕ} (ds : List Decl) (w : Word) → Looks t v (lookupIn ds 1 w) → t ≡ 3 → not (declaredIn w.text ds) ≡ true
-unfolding lookupIn elsewhereIn
-token-nowhere {t} {v} ds w l e = go (find w.text (knownsIn 1 ds)) (declaredIn w.text ds) l
+token-nowhere : {t v : ℕ} (ds : List Decl) (w : Word) → Looks t v (lookup_in ds 1 w) → t ≡ 3 → not (declared_in w.text ds) ≡ true
+unfolding lookup_in elsewhere_in
+token-nowhere {t} {v} ds w l e = go (find w.text (knowns_in 1 ds)) (declared_in w.text ds) l
   where
     go : (x : Option ℕ) (b : Bool) → Looks t v (elim x as (λ _. Checked ℕ) [ some u ↦ good u | none ↦ wrong (if b then 5 else 3) w ]) → not b ≡ true
     go (some u) b (found p q) = absurd (omega (arith, p, e))
     go none true (missing p n) = absurd (omega (arith, p, e))
     go none false m = refl
 
-token-declared : {t v : ℕ} (ds : List Decl) (w : Word) → Looks t v (lookupIn ds 1 w) → (t ≡ 3 → ⊥) → not (declaredIn w.text ds) ≡ false
-unfolding lookupIn elsewhereIn
-token-declared {t} {v} ds w l n = go (find w.text (knownsIn 1 ds)) refl (declaredIn w.text ds) refl l
+token-declared : {t v : ℕ} (ds : List Decl) (w : Word) → Looks t v (lookup_in ds 1 w) → (t ≡ 3 → ⊥) → not (declared_in w.text ds) ≡ false
+unfolding lookup_in elsewhere_in
+token-declared {t} {v} ds w l n = go (find w.text (knowns_in 1 ds)) refl (declared_in w.text ds) refl l
   where
-    go : (x : Option ℕ) → find w.text (knownsIn 1 ds) ≡ x → (b : Bool) → declaredIn w.text ds ≡ b → Looks t v (elim x as (λ _. Checked ℕ) [ some u ↦ good u | none ↦ wrong (if b then 5 else 3) w ]) → not b ≡ false
+    go : (x : Option ℕ) → find w.text (knowns_in 1 ds) ≡ x → (b : Bool) → declared_in w.text ds ≡ b → Looks t v (elim x as (λ _. Checked ℕ) [ some u ↦ good u | none ↦ wrong (if b then 5 else 3) w ]) → not b ≡ false
     go x p true q m = refl
     go (some u) p false q m = never (sym q ∙ known-declared w.text ds p)
     go none p false q (missing h z) = absurd (n h)
 
 module _ (ds : List Decl) (before : List Operator) {text : List ℕ} {from : ℕ} {o : Operator} {ws₁ : List Word} {e : Entry} (is : EntryIs text from o ws₁ e) {t v : ℕ}
-    (ht : Looks t v (lookupIn ds 1 (asWord text e.token))) where
-  pub entry-nowhere : {f at len : ℕ} → t ≡ 3 → f ≡ 3 → at ≡ e.token.start → len ≡ length (part text e.token.start e.token.len) → Faults f at len (entryFault ds before o)
-  unfolding entryFault
+    (ht : Looks t v (lookup_in ds 1 (as_word text e.token))) where
+  pub entry-nowhere : {f at len : ℕ} → t ≡ 3 → f ≡ 3 → at ≡ e.token.start → len ≡ length (part text e.token.start e.token.len) → Faults f at len (entry_fault ds before o)
+  unfolding entry_fault
   entry-nowhere q h p l = stops _ (again _ _ _ _ 3 o.token undeclared h (λ z. omega arith) (rw is.token p) (rw is.token l)) (λ z. omega arith)
     where
-      undeclared : not (declaredIn o.token.text ds) ≡ true
-      undeclared = rw is.token (token-nowhere ds (asWord text e.token) ht q)
+      undeclared : not (declared_in o.token.text ds) ≡ true
+      undeclared = rw is.token (token-nowhere ds (as_word text e.token) ht q)
 
-  module _ (q : t ≡ 3 → ⊥) {a : Bool} (ha : a ≡ against ds (find o.token.text (knownsIn 1 ds)) o before) where
-    is_declared : not (declaredIn o.token.text ds) ≡ false
-    is_declared = rw is.token (token-declared ds (asWord text e.token) ht q)
+  module _ (q : t ≡ 3 → ⊥) {a : Bool} (ha : a ≡ against ds (find o.token.text (knowns_in 1 ds)) o before) where
+    is_declared : not (declared_in o.token.text ds) ≡ false
+    is_declared = rw is.token (token-declared ds (as_word text e.token) ht q)
 
-    pub entry-again : {f at len : ℕ} → a ≡ true → f ≡ 45 → at ≡ e.token.start → len ≡ length (part text e.token.start e.token.len) → Faults f at len (entryFault ds before o)
-    unfolding entryFault
+    pub entry-again : {f at len : ℕ} → a ≡ true → f ≡ 45 → at ≡ e.token.start → len ≡ length (part text e.token.start e.token.len) → Faults f at len (entry_fault ds before o)
+    unfolding entry_fault
     entry-again r h p l =
         goes _ (once 0 0 0 _ 3 o.token is_declared refl) refl (λ _.
         stops _ (again _ _ _ _ 45 o.token (sym ha ∙ r) h (λ z. omega arith) (rw is.token p) (rw is.token l)) (λ z. omega arith))
 
     module _ (r : a ≡ false) where
-      pub entry-token : {f at len : ℕ} → (t ≡ 0 → ⊥) → f ≡ t → at ≡ e.token.start → len ≡ length (part text e.token.start e.token.len) → Faults f at len (entryFault ds before o)
-      unfolding entryFault
+      pub entry-token : {f at len : ℕ} → (t ≡ 0 → ⊥) → f ≡ t → at ≡ e.token.start → len ≡ length (part text e.token.start e.token.len) → Faults f at len (entry_fault ds before o)
+      unfolding entry_fault
       entry-token z h p l =
           goes _ (once 0 0 0 _ 3 o.token is_declared refl) refl (λ _.
           goes _ (once 0 0 0 _ 45 o.token (sym ha ∙ r) refl) refl (λ _.
           stops _ (looked-word ds 1 text e.token is.token ht h p l) (λ y. z (sym h ∙ y))))
 
-      pub entry-emits : {u v₂ f at len : ℕ} → t ≡ 0 → Looks u v₂ (lookupIn ds 2 (asWord text e.emits)) → f ≡ u → at ≡ e.emits.start
-          → len ≡ length (part text e.emits.start e.emits.len) → Faults f at len (entryFault ds before o)
-      unfolding entryFault
+      pub entry-emits : {u v₂ f at len : ℕ} → t ≡ 0 → Looks u v₂ (lookup_in ds 2 (as_word text e.emits)) → f ≡ u → at ≡ e.emits.start
+          → len ≡ length (part text e.emits.start e.emits.len) → Faults f at len (entry_fault ds before o)
+      unfolding entry_fault
       entry-emits z hu h p l =
           goes _ (once 0 0 0 _ 3 o.token is_declared refl) refl (λ _.
           goes _ (once 0 0 0 _ 45 o.token (sym ha ∙ r) refl) refl (λ _.
@@ -343,13 +344,13 @@ module _ (ds : List Decl) (before : List Operator) {text : List ℕ} {from : ℕ
 
 -- an entry that is apart from the marks
 pub apart-entry : (ds : List Decl) {text rows : List ℕ} {n from v : ℕ} {marks : List ℕ} {bs : List Operator} {o : Operator} {ws₁ : List Word} {e : Entry} {r : Bool} → EntryIs text from o ws₁ e
-    → Tells v (find (part text e.token.start e.token.len) (knownsIn 1 ds)) → AllMarked ds rows n marks bs → (r ≡ true → (x : Option ℕ) → Tells v x → Apart rows n marks e.level e.right x)
-    → r ≡ true → against ds (find o.token.text (knownsIn 1 ds)) o bs ≡ false
-apart-entry ds {o = o} is t m f q = apart-against o m (rw (is.level, is.right) (f q (find o.token.text (knownsIn 1 ds)) (tells-token ds is t)))
+    → Tells v (find (part text e.token.start e.token.len) (knowns_in 1 ds)) → AllMarked ds rows n marks bs → (r ≡ true → (x : Option ℕ) → Tells v x → Apart rows n marks e.level e.right x)
+    → r ≡ true → against ds (find o.token.text (knowns_in 1 ds)) o bs ≡ false
+apart-entry ds {o = o} is t m f q = apart-against o m (rw (is.level, is.right) (f q (find o.token.text (knowns_in 1 ds)) (tells-token ds is t)))
 
 -- All entries
 
-pub passed_start : {ds : List Decl} {text : List ℕ} {at : ℕ} {ws' : List Word} {es : List Operator} → OperatorsIn (wordsAt text at) ws' es → Passed ds text at 0 ws' es
+pub passed_start : {ds : List Decl} {text : List ℕ} {at : ℕ} {ws' : List Word} {es : List Operator} → OperatorsIn (words_at text at) ws' es → Passed ds text at 0 ws' es
 passed_start {es = es} d = record { before = []; rest = es; whole = refl; size = refl; stand = d; same = refl }
 
 -- the entry at the place i, and those behind it
@@ -361,17 +362,17 @@ record Here (ds : List Decl) (text : List ℕ) (i count : ℕ) (ws' : List Word)
   is : EntryIs text i one tail e
   whole : es ≡ before ++ (one ∷ rest)
   size : length before ≡ count
-  same : entriesFault ds [] es ≡ entriesFault ds before (one ∷ rest)
+  same : entries_fault ds [] es ≡ entries_fault ds before (one ∷ rest)
   further : ((59 ≡ (peek tail).kind) × (rest ≡ [])) ⊎ (Not 59 tail × OperatorsIn tail ws' rest)
 
 here : {ds : List Decl} {text : List ℕ} {i count : ℕ} {ws' : List Word} {es : List Operator} {e : Entry} → Passed ds text i count ws' es → AnEntry text i e → Here ds text i count ws' es e
 unfolding peek
 here {ds} {text} {i} {count} {ws'} {es} {e} p a = go p.rest p.stand p.whole p.same
   where
-    go : (rest : List Operator) → OperatorsIn (wordsAt text i) ws' rest → es ≡ p.before ++ rest → entriesFault ds [] es ≡ entriesFault ds p.before rest → Here ds text i count ws' es e
-    go _ (last-operator {o = o} d t) w q =
+    go : (rest : List Operator) → OperatorsIn (words_at text i) ws' rest → es ≡ p.before ++ rest → entries_fault ds [] es ≡ entries_fault ds p.before rest → Here ds text i count ws' es e
+    go _ (last_operator {o = o} d t) w q =
         record { before = p.before; one = o; rest = []; tail = _; is = a.entry o _ d; whole = w; size = p.size; same = q; further = inl (sym (ap (λ (l : List Word). (peek l).kind) t.here ∙ t.kind), refl) }
-    go _ (more-operators {o = o} {os = os} d n s) w q =
+    go _ (more_operators {o = o} {os = os} d n s) w q =
         record { before = p.before; one = o; rest = os; tail = _; is = a.entry o _ d; whole = w; size = p.size; same = q; further = inr (n, s) }
 
 module _ {ds : List Decl} {text : List ℕ} {i count : ℕ} {ws' : List Word} {es : List Operator} {e : Entry} (p : Passed ds text i count ws' es) (a : AnEntry text i e) where
@@ -398,31 +399,31 @@ module _ {ds : List Decl} {text : List ℕ} {i count : ℕ} {ws' : List Word} {e
       size-more = omega (arith, at_i.size, length-append at_i.before (at_i.one ∷ []))
 
   -- the marks are those of this entry, too
-  pub passed-marks : {rows : List ℕ} {n v : ℕ} {old new : List ℕ} → AllMarked ds rows n old (take count es) → MarksKept old new → Tells v (find (part text e.token.start e.token.len) (knownsIn 1 ds))
+  pub passed-marks : {rows : List ℕ} {n v : ℕ} {old new : List ℕ} → AllMarked ds rows n old (take count es) → MarksKept old new → Tells v (find (part text e.token.start e.token.len) (knowns_in 1 ds))
       → ((x : Option ℕ) → Tells v x → MarkedAs rows n new e.level e.right x) → AllMarked ds rows n new (take (count + 1) es)
-  passed-marks {rows} {n} {v} {old} {new} m k t g = rw taken_more (marked_more at_i.before at_i.one (marked-kept k (rw taken at m)) (rw (at_i.is.level, at_i.is.right) (g (find at_i.one.token.text (knownsIn 1 ds)) (tells-token ds at_i.is t))))
+  passed-marks {rows} {n} {v} {old} {new} m k t g = rw taken_more (marked_more at_i.before at_i.one (marked-kept k (rw taken at m)) (rw (at_i.is.level, at_i.is.right) (g (find at_i.one.token.text (knowns_in 1 ds)) (tells-token ds at_i.is t))))
 
-  module _ {f at len : ℕ} (h : count < length es → (from : ℕ) (o : Operator) (ws₁ : List Word) → EntryIs text from o ws₁ e → Faults f at len (entryFault ds (take count es) o)) where
-    one-fault : Faults f at len (entryFault ds at_i.before at_i.one)
+  module _ {f at len : ℕ} (h : count < length es → (from : ℕ) (o : Operator) (ws₁ : List Word) → EntryIs text from o ws₁ e → Faults f at len (entry_fault ds (take count es) o)) where
+    one-fault : Faults f at len (entry_fault ds at_i.before at_i.one)
     one-fault = rw taken at (h few i at_i.one at_i.tail at_i.is)
 
-    pub passed-stops : (f ≡ 0 → ⊥) → Faults f at len (entriesFault ds [] es)
-    unfolding entriesFault
+    pub passed-stops : (f ≡ 0 → ⊥) → Faults f at len (entries_fault ds [] es)
+    unfolding entries_fault
     passed-stops z = rw at_i.same (stops _ one-fault z)
 
     module _ (z : f ≡ 0) {w : WordAt} (n : Next text e.emits.next w) where
       kind-next : (peek at_i.tail).kind ≡ w.kind
       kind-next = rw at_i.is.rest (kind-here text e.emits.next w n)
 
-      one_more : entriesFault ds [] es ≡ entriesFault ds (at_i.before ++ (at_i.one ∷ [])) at_i.rest
-      unfolding entriesFault
+      one_more : entries_fault ds [] es ≡ entries_fault ds (at_i.before ++ (at_i.one ∷ [])) at_i.rest
+      unfolding entries_fault
       one_more = at_i.same ∙ rw (is-clean one-fault z) refl
 
-      pub passed-ends : w.kind ≡ 59 → Faults f at len (entriesFault ds [] es)
-      unfolding entriesFault
+      pub passed-ends : w.kind ≡ 59 → Faults f at len (entries_fault ds [] es)
+      unfolding entries_fault
       passed-ends k = go at_i.further
         where
-          go : ((59 ≡ (peek at_i.tail).kind) × (at_i.rest ≡ [])) ⊎ (Not 59 at_i.tail × OperatorsIn at_i.tail ws' at_i.rest) → Faults f at len (entriesFault ds [] es)
+          go : ((59 ≡ (peek at_i.tail).kind) × (at_i.rest ≡ [])) ⊎ (Not 59 at_i.tail × OperatorsIn at_i.tail ws' at_i.rest) → Faults f at len (entries_fault ds [] es)
           go (inl (s, r)) = rw (one_more, r) (clean z)
           go (inr (s, r)) = absurd (s (kind-next ∙ k))
 
@@ -443,11 +444,11 @@ module _ {ds : List Decl} {text : List ℕ} {i count : ℕ} {ws' : List Word} {e
 -- The section
 
 module _ (ds before : List Decl) (d : Decl) (es : List Operator) where
-  pub operators-stop : {f at len : ℕ} → Faults f at len (faultIf (given (index_of 600 d.name.text 0 before)) 4 d.name) → (f ≡ 0 → ⊥) → Faults f at len (operatorsFault ds before es d)
-  unfolding operatorsFault
+  pub operators-stop : {f at len : ℕ} → Faults f at len (fault_if (given (index_of 600 d.name.text 0 before)) 4 d.name) → (f ≡ 0 → ⊥) → Faults f at len (operators_fault ds before es d)
+  unfolding operators_fault
   operators-stop h z = stops _ h z
 
-  pub operators-go : {f at len f₂ at₂ len₂ : ℕ} → Faults f at len (faultIf (given (index_of 600 d.name.text 0 before)) 4 d.name) → f ≡ 0 → Faults f₂ at₂ len₂ (entriesFault ds [] es)
-      → Faults f₂ at₂ len₂ (operatorsFault ds before es d)
-  unfolding operatorsFault
+  pub operators-go : {f at len f₂ at₂ len₂ : ℕ} → Faults f at len (fault_if (given (index_of 600 d.name.text 0 before)) 4 d.name) → f ≡ 0 → Faults f₂ at₂ len₂ (entries_fault ds [] es)
+      → Faults f₂ at₂ len₂ (operators_fault ds before es d)
+  unfolding operators_fault
   operators-go h z k = goes _ h z (λ _. rw (entries-link ds es [] [] (nothing_yet ds)) k)

@@ -2,18 +2,18 @@
 ghost use Rattle.std.specs.Prelude.{◌≡◌, true, false, ◌&&◌, ◌||◌, List, [], ℕ, ◌+◌, ◌-◌, ◌*◌, ◌<◌, ◌≤◌, eqb, length, take};
 ghost use Rattle.std.proofs.Math.Option.{Option};
 ghost use Rattle.base.specs.Common.{given};
-ghost use Rattle.names.specs.Known.{faultIf, find};
+ghost use Rattle.names.specs.Known.{fault_if, find};
 ghost use Rattle.names.specs.Declare.{spelled, differ};
-ghost use Rattle.declarations.specs.Decls.{knownsIn, index_of, repeatsIn, clashesIn, entryAgain, optionalIn, operationFault, operatorsFault, declFault, declFaults, EntriesAt};
+ghost use Rattle.declarations.specs.Decls.{knowns_in, index_of, repeats_in, clashes_in, entry_again, optional_in, operation_fault, operators_fault, decl_fault, decl_faults, EntriesAt};
 ghost use Rattle.grammar.specs.Derived.{OperatorsIn};
 ghost use Rattle.syntax.specs.Written.{Operator};
 ghost use Rattle.maker.specs.Ranks.{EntryIs};
 ghost use Rattle.symbols.specs.Index.{Kept};
-ghost use Rattle.symbols.specs.Rows.{optionOf, declAt, held, heldFrom};
+ghost use Rattle.symbols.specs.Rows.{option_of, decl_at, held, held_from};
 ghost use Rattle.symbols.specs.Search.{part, Tells};
-ghost use Rattle.words.specs.Words.{Word, wordsAt};
-ghost use Rattle.declarer.specs.Faults.{Faults, inputAgain, bothAgain, operationAgain, types_in, lineAgain, lineFault, lineFaults};
-ghost use Rattle.declarer.specs.Operators.{sameValue, against, entryFault, entriesFault, slotFrom, sideSlot, Apart, MarkedAs, MarksKept};
+ghost use Rattle.words.specs.Words.{Word, words_at};
+ghost use Rattle.declarer.specs.Faults.{Faults, input_again, both_again, operation_again, types_in, line_again, line_fault, line_faults};
+ghost use Rattle.declarer.specs.Operators.{same_value, against, entry_fault, entries_fault, slot_from, side_slot, Apart, MarkedAs, MarksKept};
 
 use base::number;
 use maker::{Entry, entries_at, read_entry};
@@ -40,7 +40,7 @@ pub struct Fault {
 // The class has the name of declaration i before it.
 fn name_known(text: &[u8], rows: &[u16], i: usize, class: usize) -> bool
     requires { Kept text.now rows.now i }
-    ensures { result ≡ given (find (declAt text.now rows.now i).name.text (knownsIn class (held text.now rows.now i))) }
+    ensures { result ≡ given (find (decl_at text.now rows.now i).name.text (knowns_in class (held text.now rows.now i))) }
 {
     is_known(
         text,
@@ -55,7 +55,7 @@ fn name_known(text: &[u8], rows: &[u16], i: usize, class: usize) -> bool
 // The class has its string before it.
 fn string_known(text: &[u8], rows: &[u16], i: usize, class: usize) -> bool
     requires { Kept text.now rows.now i }
-    ensures { result ≡ spelled (declAt text.now rows.now i).second (knownsIn class (held text.now rows.now i)) }
+    ensures { result ≡ spelled (decl_at text.now rows.now i).second (knowns_in class (held text.now rows.now i)) }
 {
     let len = number(rows, ROW * i + SECOND_LEN);
     if len == 0 {
@@ -74,7 +74,7 @@ fn string_known(text: &[u8], rows: &[u16], i: usize, class: usize) -> bool
 // A declaration of the class has its name before it.
 fn name_taken(text: &[u8], rows: &[u16], i: usize, class: usize) -> bool
     requires { Kept text.now rows.now i }
-    ensures { result ≡ given (index_of class (declAt text.now rows.now i).name.text 0 (held text.now rows.now i)) }
+    ensures { result ≡ given (index_of class (decl_at text.now rows.now i).name.text 0 (held text.now rows.now i)) }
 {
     has_row(
         text,
@@ -89,7 +89,7 @@ fn name_taken(text: &[u8], rows: &[u16], i: usize, class: usize) -> bool
 // The class has its name, its string or its value before it.
 fn repeats(text: &[u8], rows: &[u16], i: usize, class: usize) -> bool
     requires { Kept text.now rows.now i }
-    ensures { result ≡ repeatsIn class (declAt text.now rows.now i) (held text.now rows.now i) }
+    ensures { result ≡ repeats_in class (decl_at text.now rows.now i) (held text.now rows.now i) }
 {
     if name_known(text, rows, i, class) {
         return true;
@@ -103,7 +103,7 @@ fn repeats(text: &[u8], rows: &[u16], i: usize, class: usize) -> bool
 // An operation has its name before it.
 fn clashes(text: &[u8], rows: &[u16], i: usize) -> bool
     requires { Kept text.now rows.now i }
-    ensures { result ≡ clashesIn (declAt text.now rows.now i) (held text.now rows.now i) }
+    ensures { result ≡ clashes_in (decl_at text.now rows.now i) (held text.now rows.now i) }
 {
     name_taken(text, rows, i, OPERATION)
 }
@@ -111,7 +111,7 @@ fn clashes(text: &[u8], rows: &[u16], i: usize) -> bool
 // An input token again.
 fn input_again(text: &[u8], rows: &[u16], i: usize) -> bool
     requires { Kept text.now rows.now i }
-    ensures { result ≡ inputAgain (declAt text.now rows.now i) (held text.now rows.now i) }
+    ensures { result ≡ input_again (decl_at text.now rows.now i) (held text.now rows.now i) }
 {
     if repeats(text, rows, i, INPUT) {
         return true;
@@ -122,7 +122,7 @@ fn input_again(text: &[u8], rows: &[u16], i: usize) -> bool
 // A token of input and output again.
 fn both_again(text: &[u8], rows: &[u16], i: usize) -> bool
     requires { Kept text.now rows.now i }
-    ensures { result ≡ bothAgain (declAt text.now rows.now i) (held text.now rows.now i) }
+    ensures { result ≡ both_again (decl_at text.now rows.now i) (held text.now rows.now i) }
 {
     if repeats(text, rows, i, INPUT) {
         return true;
@@ -136,7 +136,7 @@ fn both_again(text: &[u8], rows: &[u16], i: usize) -> bool
 // An entry again, by its class.
 fn entry_again(text: &[u8], rows: &[u16], i: usize) -> bool
     requires { Kept text.now rows.now i }
-    ensures { result ≡ entryAgain (declAt text.now rows.now i) (held text.now rows.now i) }
+    ensures { result ≡ entry_again (decl_at text.now rows.now i) (held text.now rows.now i) }
 {
     let class = number(rows, ROW * i);
     if class == INPUT {
@@ -151,7 +151,7 @@ fn entry_again(text: &[u8], rows: &[u16], i: usize) -> bool
 // An operation again, or after an input token.
 fn operation_again(text: &[u8], rows: &[u16], i: usize) -> bool
     requires { Kept text.now rows.now i }
-    ensures { result ≡ operationAgain (declAt text.now rows.now i) (held text.now rows.now i) }
+    ensures { result ≡ operation_again (decl_at text.now rows.now i) (held text.now rows.now i) }
 {
     if name_taken(text, rows, i, OPERATION) {
         return true;
@@ -162,7 +162,7 @@ fn operation_again(text: &[u8], rows: &[u16], i: usize) -> bool
 // The fault 4 of declaration i where it is there again.
 fn fault_if(text: &[u8], rows: &[u16], i: usize, again: bool) -> Fault
     requires { i ≤ 512 }
-    ensures { Faults result.fault result.at result.len (faultIf again 4 (declAt text.now rows.now i).name) }
+    ensures { Faults result.fault result.at result.len (fault_if again 4 (decl_at text.now rows.now i).name) }
 {
     if again {
         let at = number(rows, ROW * i + NAME_START);
@@ -189,7 +189,7 @@ fn optional_fault(
     len: usize,
 ) -> Fault
     requires { Kept text.now rows.now n × (before ≤ n) }
-    ensures { (kind : ℕ) → Faults result.fault result.at result.len (optionalIn (held text.now rows.now n) (held text.now rows.now before) (optionOf text.now kind start len)) }
+    ensures { (kind : ℕ) → Faults result.fault result.at result.len (optional_in (held text.now rows.now n) (held text.now rows.now before) (option_of text.now kind start len)) }
 {
     if len == 0 {
         return Fault {
@@ -216,7 +216,7 @@ fn optional_fault(
 // The fault of the type that declaration i gives, where it gives one. `types_fault` asks in place: through this function the device's code would be longer.
 fn given_fault(text: &[u8], rows: &[u16], n: usize, i: usize) -> Fault
     requires { Kept text.now rows.now n × (i ≤ n) }
-    ensures { Faults result.fault result.at result.len (optionalIn (held text.now rows.now n) (held text.now rows.now i) (declAt text.now rows.now i).third) }
+    ensures { Faults result.fault result.at result.len (optional_in (held text.now rows.now n) (held text.now rows.now i) (decl_at text.now rows.now i).third) }
 {
     optional_fault(
         text,
@@ -231,7 +231,7 @@ fn given_fault(text: &[u8], rows: &[u16], n: usize, i: usize) -> Fault
 // The fault of the types that an operation takes and gives.
 fn types_fault(text: &[u8], rows: &[u16], n: usize, i: usize) -> Fault
     requires { Kept text.now rows.now n × (i ≤ n) }
-    ensures { Faults result.fault result.at result.len (types_in (held text.now rows.now n) (held text.now rows.now i) (declAt text.now rows.now i)) }
+    ensures { Faults result.fault result.at result.len (types_in (held text.now rows.now n) (held text.now rows.now i) (decl_at text.now rows.now i)) }
 {
     let f = optional_fault(
         text,
@@ -256,7 +256,7 @@ fn types_fault(text: &[u8], rows: &[u16], n: usize, i: usize) -> Fault
 
 fn operation_fault(text: &[u8], rows: &[u16], n: usize, i: usize) -> Fault
     requires { Kept text.now rows.now n × (i ≤ n) }
-    ensures { Faults result.fault result.at result.len (operationFault (held text.now rows.now n) (held text.now rows.now i) (declAt text.now rows.now i)) }
+    ensures { Faults result.fault result.at result.len (operation_fault (held text.now rows.now n) (held text.now rows.now i) (decl_at text.now rows.now i)) }
 {
     let f = fault_if(text, rows, i, operation_again(text, rows, i));
     if f.fault != 0 {
@@ -289,7 +289,7 @@ fn other_side(e: Entry, b: Entry) -> bool
 // The entry b has the token of value v, which is none where it is 65,536.
 fn has_token(text: &[u8], rows: &[u16], n: usize, v: usize, b: Entry) -> bool
     requires { Kept text.now rows.now n }
-    ensures { (x : Option ℕ) → Tells v x → result ≡ sameValue x (find (part text.now b.token.start b.token.len) (knownsIn 1 (held text.now rows.now n))) }
+    ensures { (x : Option ℕ) → Tells v x → result ≡ same_value x (find (part text.now b.token.start b.token.len) (knowns_in 1 (held text.now rows.now n))) }
 {
     if v == symbols::NONE {
         return false;
@@ -300,7 +300,7 @@ fn has_token(text: &[u8], rows: &[u16], n: usize, v: usize, b: Entry) -> bool
 // The entry b has the other side of e's level, or its token, which has the value v.
 fn against_one(text: &[u8], rows: &[u16], n: usize, v: usize, e: Entry, b: Entry) -> bool
     requires { Kept text.now rows.now n }
-    ensures { (x : Option ℕ) → Tells v x → result ≡ ((eqb e.level b.level && differ e.right b.right) || sameValue x (find (part text.now b.token.start b.token.len) (knownsIn 1 (held text.now rows.now n)))) }
+    ensures { (x : Option ℕ) → Tells v x → result ≡ ((eqb e.level b.level && differ e.right b.right) || same_value x (find (part text.now b.token.start b.token.len) (knowns_in 1 (held text.now rows.now n)))) }
 {
     if other_side(e, b) {
         return true;
@@ -311,8 +311,8 @@ fn against_one(text: &[u8], rows: &[u16], n: usize, v: usize, e: Entry, b: Entry
 // One of the first `count` entries at the place `at` has the other side of e's level, or its token.
 fn against(text: &[u8], rows: &[u16], n: usize, at: usize, count: usize, e: Entry) -> bool
     requires { Kept text.now rows.now n × (at ≤ length text.now) }
-    ensures { (es : List Operator) (ws' : List Word) → OperatorsIn (wordsAt text.now at) ws' es → count < length es → (from : ℕ) (o : Operator) (ws₁ : List Word) → EntryIs text.now from o ws₁ e
-        → result ≡ against (held text.now rows.now n) (find o.token.text (knownsIn 1 (held text.now rows.now n))) o (take count es) }
+    ensures { (es : List Operator) (ws' : List Word) → OperatorsIn (words_at text.now at) ws' es → count < length es → (from : ℕ) (o : Operator) (ws₁ : List Word) → EntryIs text.now from o ws₁ e
+        → result ≡ against (held text.now rows.now n) (find o.token.text (knowns_in 1 (held text.now rows.now n))) o (take count es) }
 {
     let v = find_value(text, rows, n, INPUT, e.token.start, e.token.len);
     let mut i = at;
@@ -331,7 +331,7 @@ fn against(text: &[u8], rows: &[u16], n: usize, at: usize, count: usize, e: Entr
 // The first declaration that has the value, whatever its class; their number where none has.
 fn slot_of(rows: &[u16], n: usize, v: usize) -> usize
     requires { n ≤ 512 }
-    ensures same { result ≡ slotFrom rows.now v 0 n }
+    ensures same { result ≡ slot_from rows.now v 0 n }
     ensures low { result ≤ 512 }
 {
     let mut i: usize = 0;
@@ -346,7 +346,7 @@ fn slot_of(rows: &[u16], n: usize, v: usize) -> usize
 
 // Where a side of a level is marked.
 fn side_slot(level: usize, right: bool) -> usize
-    ensures same { result ≡ sideSlot level right }
+    ensures same { result ≡ side_slot level right }
     ensures low { (513 ≤ result) × (result < 545) }
 {
     if right {
@@ -399,9 +399,9 @@ fn against_unless(
     apart: bool,
 ) -> bool
     requires { Kept text.now rows.now n × (at ≤ length text.now) }
-    ensures { (es : List Operator) (ws' : List Word) → OperatorsIn (wordsAt text.now at) ws' es → count < length es → (from : ℕ) (o : Operator) (ws₁ : List Word) → EntryIs text.now from o ws₁ e
-        → (apart ≡ true → against (held text.now rows.now n) (find o.token.text (knownsIn 1 (held text.now rows.now n))) o (take count es) ≡ false)
-        → result ≡ against (held text.now rows.now n) (find o.token.text (knownsIn 1 (held text.now rows.now n))) o (take count es) }
+    ensures { (es : List Operator) (ws' : List Word) → OperatorsIn (words_at text.now at) ws' es → count < length es → (from : ℕ) (o : Operator) (ws₁ : List Word) → EntryIs text.now from o ws₁ e
+        → (apart ≡ true → against (held text.now rows.now n) (find o.token.text (knowns_in 1 (held text.now rows.now n))) o (take count es) ≡ false)
+        → result ≡ against (held text.now rows.now n) (find o.token.text (knowns_in 1 (held text.now rows.now n))) o (take count es) }
 {
     if apart {
         return false;
@@ -431,9 +431,9 @@ fn entry_fault(
     apart: bool,
 ) -> Fault
     requires { Kept text.now rows.now n × (at ≤ length text.now) }
-    ensures { (es : List Operator) (ws' : List Word) → OperatorsIn (wordsAt text.now at) ws' es → count < length es → (from : ℕ) (o : Operator) (ws₁ : List Word) → EntryIs text.now from o ws₁ e
-        → (apart ≡ true → against (held text.now rows.now n) (find o.token.text (knownsIn 1 (held text.now rows.now n))) o (take count es) ≡ false)
-        → Faults result.fault result.at result.len (entryFault (held text.now rows.now n) (take count es) o) }
+    ensures { (es : List Operator) (ws' : List Word) → OperatorsIn (words_at text.now at) ws' es → count < length es → (from : ℕ) (o : Operator) (ws₁ : List Word) → EntryIs text.now from o ws₁ e
+        → (apart ≡ true → against (held text.now rows.now n) (find o.token.text (knowns_in 1 (held text.now rows.now n))) o (take count es) ≡ false)
+        → Faults result.fault result.at result.len (entry_fault (held text.now rows.now n) (take count es) o) }
 {
     let w = e.token;
     let t = value_of(text, rows, n, INPUT, w.start, w.len);
@@ -453,7 +453,7 @@ fn entry_fault(
 // The first fault of the entries at the place `at`.
 fn entries_fault(text: &[u8], rows: &[u16], n: usize, at: usize) -> Fault
     requires { Kept text.now rows.now n × (at ≤ length text.now) }
-    ensures { (es : List Operator) (ws' : List Word) → OperatorsIn (wordsAt text.now at) ws' es → Faults result.fault result.at result.len (entriesFault (held text.now rows.now n) [] es) }
+    ensures { (es : List Operator) (ws' : List Word) → OperatorsIn (words_at text.now at) ws' es → Faults result.fault result.at result.len (entries_fault (held text.now rows.now n) [] es) }
 {
     let mut marks = [0u8; MARKS];
     let mut i = at;
@@ -482,8 +482,8 @@ fn entries_fault(text: &[u8], rows: &[u16], n: usize, at: usize) -> Fault
 
 fn operators_fault(text: &[u8], rows: &[u16], n: usize, i: usize) -> Fault
     requires { Kept text.now rows.now n × (i < n) }
-    ensures { (es : List Operator) (ws' : List Word) → OperatorsIn (wordsAt text.now (declAt text.now rows.now i).value) ws' es
-        → Faults result.fault result.at result.len (operatorsFault (held text.now rows.now n) (held text.now rows.now i) es (declAt text.now rows.now i)) }
+    ensures { (es : List Operator) (ws' : List Word) → OperatorsIn (words_at text.now (decl_at text.now rows.now i).value) ws' es
+        → Faults result.fault result.at result.len (operators_fault (held text.now rows.now n) (held text.now rows.now i) es (decl_at text.now rows.now i)) }
 {
     let f = fault_if(text, rows, i, name_taken(text, rows, i, OPERATORS));
     if f.fault != 0 {
@@ -495,8 +495,8 @@ fn operators_fault(text: &[u8], rows: &[u16], n: usize, i: usize) -> Fault
 // The fault of declaration i.
 fn decl_fault(text: &[u8], rows: &[u16], n: usize, i: usize) -> Fault
     requires { Kept text.now rows.now n × (i < n) }
-    ensures { (es : List Operator) (ws' : List Word) → ((declAt text.now rows.now i).class ≡ 600 → OperatorsIn (wordsAt text.now (declAt text.now rows.now i).value) ws' es)
-        → Faults result.fault result.at result.len (declFault (held text.now rows.now n) (held text.now rows.now i) es (declAt text.now rows.now i)) }
+    ensures { (es : List Operator) (ws' : List Word) → ((decl_at text.now rows.now i).class ≡ 600 → OperatorsIn (words_at text.now (decl_at text.now rows.now i).value) ws' es)
+        → Faults result.fault result.at result.len (decl_fault (held text.now rows.now n) (held text.now rows.now i) es (decl_at text.now rows.now i)) }
 {
     let class = number(rows, ROW * i);
     if class == TYPE {
@@ -518,7 +518,7 @@ fn decl_fault(text: &[u8], rows: &[u16], n: usize, i: usize) -> Fault
 pub fn check_declarations(text: &[u8], rows: &[u16], n: usize) -> Fault
     requires { Kept text.now rows.now n }
     ensures { (entries : ℕ → List Operator) → EntriesAt text.now (held text.now rows.now n) entries
-        → Faults result.fault result.at result.len (declFaults (held text.now rows.now n) entries [] (held text.now rows.now n)) }
+        → Faults result.fault result.at result.len (decl_faults (held text.now rows.now n) entries [] (held text.now rows.now n)) }
 {
     let mut i = 0;
     while i < n {
@@ -540,7 +540,7 @@ pub fn check_declarations(text: &[u8], rows: &[u16], n: usize) -> Fault
 // An operation has its name, or a rule before it.
 fn line_again(text: &[u8], rows: &[u16], i: usize) -> bool
     requires { Kept text.now rows.now i }
-    ensures { result ≡ lineAgain (declAt text.now rows.now i) (held text.now rows.now i) }
+    ensures { result ≡ line_again (decl_at text.now rows.now i) (held text.now rows.now i) }
 {
     if name_taken(text, rows, i, OPERATION) {
         return true;
@@ -551,7 +551,7 @@ fn line_again(text: &[u8], rows: &[u16], i: usize) -> bool
 // The fault of the line that is declaration i.
 fn line_fault(text: &[u8], rows: &[u16], n: usize, i: usize) -> Fault
     requires { Kept text.now rows.now n × (i ≤ n) }
-    ensures { Faults result.fault result.at result.len (lineFault (held text.now rows.now n) (held text.now rows.now i) (declAt text.now rows.now i)) }
+    ensures { Faults result.fault result.at result.len (line_fault (held text.now rows.now n) (held text.now rows.now i) (decl_at text.now rows.now i)) }
 {
     let f = fault_if(text, rows, i, line_again(text, rows, i));
     if f.fault != 0 {
@@ -563,7 +563,7 @@ fn line_fault(text: &[u8], rows: &[u16], n: usize, i: usize) -> Fault
 // The first fault of the lines that are the declarations from `first` on, up to `to`.
 pub fn check_lines(text: &[u8], rows: &[u16], n: usize, first: usize, to: usize) -> Fault
     requires { Kept text.now rows.now n × (first ≤ to) × (to ≤ n) }
-    ensures { Faults result.fault result.at result.len (lineFaults (held text.now rows.now n) (held text.now rows.now first) (heldFrom text.now rows.now first (to - first))) }
+    ensures { Faults result.fault result.at result.len (line_faults (held text.now rows.now n) (held text.now rows.now first) (held_from text.now rows.now first (to - first))) }
 {
     let mut i = first;
     while i < to {

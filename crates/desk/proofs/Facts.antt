@@ -11,7 +11,7 @@ use Rattle.events.specs.Events
 use Rattle.figures.specs.Figures
 use Rattle.figures.specs.Figures.{Figures}
 use Rattle.figures.specs.Form
-use Rattle.figures.specs.Form.{added, reportOf}
+use Rattle.figures.specs.Form.{added, report_of}
 use Rattle.figures.specs.Visits
 use Rattle.machine.specs.Bytes
 use Rattle.machine.specs.Call
@@ -36,6 +36,6 @@ unfolding Events.opened Rattle.figures.specs.Figures.opened Form.opened Visits.o
 added_is = refl
 
 -- 17 steps of 3 books, four locations executed: number, books, total, locations, mean and remainder
-reported : reportOf (some (record { counts = []; bits = 5 ∷ 3 ∷ []; books = 3; total = 17 })) ≡ reports 0 3 17 4 5 2
+reported : report_of (some (record { counts = []; bits = 5 ∷ 3 ∷ []; books = 3; total = 17 })) ≡ reports 0 3 17 4 5 2
 unfolding Rattle.figures.specs.Figures.opened Form.opened lib.Count.ones
 reported = refl

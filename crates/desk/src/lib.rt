@@ -5,16 +5,16 @@ ghost use Rattle.mapping.specs.Mapping as mapping;
 ghost use Rattle.figures.specs.Form as figuring;
 ghost use Rattle.figures.specs.Spans as spans;
 ghost use Rattle.machine.specs.Bytes.{count};
-ghost use Rattle.parts.specs.Form.{makeObject};
+ghost use Rattle.parts.specs.Form.{make_object};
 ghost use Rattle.separate.specs.Answers as separate;
 ghost use Rattle.desk.specs.Leaves.{adds, reports};
-ghost use Rattle.desk.specs.Parted.{makes, flagOf, tells, Joins};
+ghost use Rattle.desk.specs.Parted.{makes, flag_of, tells, Joins};
 
 // The map of a text's rules, on bytes and numbers alone.
 #[unsafe(no_mangle)]
 pub extern "C" fn sst_rules(text: &[u8], rows: &mut [u8], rules: &mut u64) -> u16
-    ensures rules_after { mapping.tells result rules.new ≡ mapping.numbersOf (mapping.mapRules text.now (mapping.roomIn rows.old)) }
-    ensures lent { rows.new ≡ mapping.lentRows (mapping.mapRules text.now (mapping.roomIn rows.old)) rows.old }
+    ensures rules_after { mapping.tells result rules.new ≡ mapping.numbers_of (mapping.map_rules text.now (mapping.room_in rows.old)) }
+    ensures lent { rows.new ≡ mapping.lent_rows (mapping.map_rules text.now (mapping.room_in rows.old)) rows.old }
 {
     let a = mapper::map_rules(text, rows);
     *rules = a.rules as u64;
@@ -34,7 +34,7 @@ pub extern "C" fn sst_add_book(
     written: &mut u64,
     steps: &mut u64,
 ) -> u16
-    ensures { adds result figures.new events.new written.new steps.new ≡ figuring.addBytes table.now tokens.now answers.now budget allowance figures.old events.old }
+    ensures { adds result figures.new events.new written.new steps.new ≡ figuring.add_bytes table.now tokens.now answers.now budget allowance figures.old events.old }
 {
     let r = counting::add_book(table, tokens, answers, budget, allowance, figures, events);
     *written = r.events;
@@ -52,7 +52,7 @@ pub extern "C" fn sst_shelf(
     mean: &mut u64,
     rest: &mut u64,
 ) -> u16
-    ensures { reports result books.new total.new covered.new mean.new rest.new ≡ figuring.shelfBytes figures.now }
+    ensures { reports result books.new total.new covered.new mean.new rest.new ≡ figuring.shelf_bytes figures.now }
 {
     let r = counting::shelf_report(figures);
     *books = r.books;
@@ -66,7 +66,7 @@ pub extern "C" fn sst_shelf(
 // The executions of one rule, whose words begin at location `from` and those of the next at `to`.
 #[unsafe(no_mangle)]
 pub extern "C" fn sst_rule_total(figures: &[u8], from: u64, to: u64, total: &mut u64) -> u16
-    ensures { spans.tells result total.new ≡ spans.spanBytes figures.now from to }
+    ensures { spans.tells result total.new ≡ spans.span_bytes figures.now from to }
 {
     let r = counting::rule_total(figures, from, to);
     *total = r.total;
@@ -76,7 +76,7 @@ pub extern "C" fn sst_rule_total(figures: &[u8], from: u64, to: u64, total: &mut
 // The executions of all rules together, by the rows of sst_rules; `end` is the location behind the table's last word.
 #[unsafe(no_mangle)]
 pub extern "C" fn sst_rules_total(figures: &[u8], rows: &[u8], end: u64, total: &mut u64) -> u16
-    ensures { spans.tells result total.new ≡ spans.togetherBytes figures.now rows.now end }
+    ensures { spans.tells result total.new ≡ spans.together_bytes figures.now rows.now end }
 {
     let r = counting::rules_total(figures, rows, end);
     *total = r.total;
@@ -87,7 +87,7 @@ pub extern "C" fn sst_rules_total(figures: &[u8], rows: &[u8], end: u64, total: 
 
 // "finishing" as a number.
 fn flag(b: bool) -> u64
-    ensures { result ≡ flagOf b }
+    ensures { result ≡ flag_of b }
 {
     if b { 1 } else { 0 }
 }
@@ -103,8 +103,8 @@ pub extern "C" fn sst_part(
     len: &mut u64,
     words: &mut u64,
 ) -> u16
-    ensures words_after { makes result text.new start.new len.new words.new ≡ separate.answered (makeObject common.now part.now (count object.old)) }
-    ensures lent { object.new ≡ separate.lentBytes (makeObject common.now part.now (count object.old)) object.old }
+    ensures words_after { makes result text.new start.new len.new words.new ≡ separate.answered (make_object common.now part.now (count object.old)) }
+    ensures lent { object.new ≡ separate.lent_bytes (make_object common.now part.now (count object.old)) object.old }
 {
     let m = separate::make_object(common, part, object);
     *text = m.text as u64;

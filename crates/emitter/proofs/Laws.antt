@@ -9,28 +9,28 @@ use lib.ListN.{length, get_or, set, length-set}
 use lib.Dec.{eqb, ltb}
 use borrow.Author.Tests.{eq-eqb, ne_eqb, lt-ltb, le-ltb}
 use Rattle.base.specs.Tree.{choice, otherwise}
-use Rattle.program.specs.Program.{emit, exit, call, byToken}
+use Rattle.program.specs.Program.{emit, exit, call, by_token}
 use Rattle.program.specs.Table.{place, table}
 use Rattle.chains.specs.Chain.{placed}
-use Rattle.emitter.specs.Words.{words, setWord, puts, cut}
-use Rattle.emitter.specs.Heads.{labelsIn, labelsAt, plain_of, selOf, firsts, words_in, called, calledBy}
+use Rattle.emitter.specs.Words.{words, set_word, puts, cut}
+use Rattle.emitter.specs.Heads.{labels_in, labels_at, plain_of, sel_of, firsts, words_in, called, called_by}
 use Rattle.emitter.specs.declared.Item.{Item}
 
 length-cond : (b : Bool) (s t : List ℕ) → length t ≡ length s → length (cond b t s) ≡ length s
 length-cond true s t h = h
 length-cond false s t h = refl
 
-pub length-setWord : (s : List ℕ) (i x : ℕ) → length (setWord s i x) ≡ length s
-unfolding setWord
-length-setWord s i x = length-cond (ltb i (words s)) s (set (set s (2 * i) (x / 256)) (2 * i + 1) (x % 256)) (simp length-set)
+pub length-set_word : (s : List ℕ) (i x : ℕ) → length (set_word s i x) ≡ length s
+unfolding set_word
+length-set_word s i x = length-cond (ltb i (words s)) s (set (set s (2 * i) (x / 256)) (2 * i + 1) (x % 256)) (simp length-set)
 
 -- a word inside
-pub set-in : (s : List ℕ) (i x : ℕ) → i < words s → setWord s i x ≡ set (set s (2 * i) (x / 256)) (2 * i + 1) (x % 256)
-unfolding setWord
+pub set-in : (s : List ℕ) (i x : ℕ) → i < words s → set_word s i x ≡ set (set s (2 * i) (x / 256)) (2 * i + 1) (x % 256)
+unfolding set_word
 set-in s i x h = simp (lt-ltb i (words s) h)
 
-pub set_out : (s : List ℕ) (i x : ℕ) → words s ≤ i → setWord s i x ≡ s
-unfolding setWord
+pub set_out : (s : List ℕ) (i x : ℕ) → words s ≤ i → set_word s i x ≡ s
+unfolding set_word
 set_out s i x h = simp (le-ltb i (words s) h)
 
 pub cut_small : (x : ℕ) → x < 65536 → cut x ≡ x
@@ -40,12 +40,12 @@ cut_small x h = mod-eq_of_lt h
 pub length-puts : (s : List ℕ) (i : ℕ) (ws : List ℕ) → length (puts s i ws) ≡ length s
 unfolding puts
 length-puts s i [] = refl
-length-puts s i (w ∷ ws) = length-puts (setWord s i w) (i + 1) ws ∙ length-setWord s i w
+length-puts s i (w ∷ ws) = length-puts (set_word s i w) (i + 1) ws ∙ length-set_word s i w
 
 pub puts-append : (s : List ℕ) (i : ℕ) (xs ys : List ℕ) → puts s i (xs ++ ys) ≡ puts (puts s i xs) (i + length xs) ys
 unfolding puts
 puts-append s i [] ys = ap (λ (j : ℕ). puts s j ys) (sym (add-zero i))
-puts-append s i (w ∷ xs) ys = puts-append (setWord s i w) (i + 1) xs ys ∙ ap (λ (j : ℕ). puts (puts (setWord s i w) (i + 1) xs) j ys) (omega arith)
+puts-append s i (w ∷ xs) ys = puts-append (set_word s i w) (i + 1) xs ys ∙ ap (λ (j : ℕ). puts (puts (set_word s i w) (i + 1) xs) j ys) (omega arith)
 
 -- two writes, one behind the otherwise
 pub puts_then : (s t u : List ℕ) (i j : ℕ) (xs ys : List ℕ) → t ≡ puts s i xs → j ≡ i + length xs → u ≡ puts t j ys → u ≡ puts s i (xs ++ ys)
@@ -88,8 +88,8 @@ few k v t =
     (few-cond (eqb k 4) _ _ (o k) (few-cond (eqb k 9) _ _ (o k) (few-cond (eqb k 8) _ _ (w k t) (few-cond (eqb k 10) _ _ (h k v 9) (w k v)))))
     (few-cond (ltb k 512) _ _ (o k) (h 13 v k))
 
-pub few-sel : (k v t : ℕ) → Few (selOf k v t)
-unfolding selOf firsts
+pub few-sel : (k v t : ℕ) → Few (sel_of k v t)
+unfolding sel_of firsts
 few-sel k v t =
     few-cond (eqb k 7) _ _ (record { cells = omega arith; some-cells = omega arith; count = refl; small = omega arith })
     (few-cond (eqb k 11) _ _ (record { cells = omega arith; some-cells = omega arith; count = refl; small = omega arith })
@@ -101,13 +101,13 @@ set_past (y ∷ s) zero x h = absurd (omega arith)
 set_past (y ∷ s) (suc i) x h = ap (λ (t : List ℕ). y ∷ t) (set_past s i x (omega arith))
 
 -- the labels at a cell, inside and not
-pub at_in : (cs : List ℕ) (p : ℕ) → p + labelsIn (get_or cs p 0) < length cs → labelsAt cs p ≡ labelsIn (get_or cs p 0)
-unfolding labelsAt
-at_in cs p h = simp (lt-ltb (p + labelsIn (get_or cs p 0)) (length cs) h)
+pub at_in : (cs : List ℕ) (p : ℕ) → p + labels_in (get_or cs p 0) < length cs → labels_at cs p ≡ labels_in (get_or cs p 0)
+unfolding labels_at
+at_in cs p h = simp (lt-ltb (p + labels_in (get_or cs p 0)) (length cs) h)
 
-pub at_out : (cs : List ℕ) (p : ℕ) → length cs ≤ p + labelsIn (get_or cs p 0) → labelsAt cs p ≡ 0
-unfolding labelsAt
-at_out cs p h = simp (le-ltb (p + labelsIn (get_or cs p 0)) (length cs) h)
+pub at_out : (cs : List ℕ) (p : ℕ) → length cs ≤ p + labels_in (get_or cs p 0) → labels_at cs p ≡ 0
+unfolding labels_at
+at_out cs p h = simp (le-ltb (p + labels_in (get_or cs p 0)) (length cs) h)
 
 -- where a cell is not 0 there is one
 pub cell-there : (cs : List ℕ) (p : ℕ) → (get_or cs p 0 ≡ 0 → ⊥) → p < length cs
@@ -124,8 +124,8 @@ pub called-placed : (slots : List ℕ) (r place : ℕ) → placed ≤ get_or slo
 unfolding called
 called-placed slots r place h = ap (λ (b : Bool). cond b (set slots r place) slots) (le-ltb (get_or slots r 0) placed h)
 
-pub by_call : (k c : ℕ) (slots : List ℕ) (r place : ℕ) → k ≡ c → calledBy k c slots r place ≡ called slots r place
+pub by_call : (k c : ℕ) (slots : List ℕ) (r place : ℕ) → k ≡ c → called_by k c slots r place ≡ called slots r place
 by_call k c slots r place h = ap (λ (b : Bool). cond b (called slots r place) slots) (eq-eqb k c h)
 
-pub not-by-call : (k c : ℕ) (slots : List ℕ) (r place : ℕ) → (k ≡ c → ⊥) → calledBy k c slots r place ≡ slots
+pub not-by-call : (k c : ℕ) (slots : List ℕ) (r place : ℕ) → (k ≡ c → ⊥) → called_by k c slots r place ≡ slots
 not-by-call k c slots r place h = ap (λ (b : Bool). cond b (called slots r place) slots) (ne_eqb k c h)

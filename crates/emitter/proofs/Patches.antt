@@ -10,7 +10,7 @@ use borrow.Author.Tests.{lt-ltb, le-ltb}
 use Rattle.machine.specs.Bytes.{words_of}
 use Rattle.chains.specs.Chain.{Chain, patched}
 use Rattle.chains.proofs.Lists.{chain-set}
-use Rattle.emitter.specs.Words.{words, setWord, puts, cut}
+use Rattle.emitter.specs.Words.{words, set_word, puts, cut}
 use Rattle.emitter.specs.Heads.{link_at, anchor}
 use Rattle.emitter.specs.Work.{PatchDone}
 use Rattle.emitter.proofs.Laws.{cut_small}
@@ -38,7 +38,7 @@ PatchGo old n to k out j = (base ws ps : List ℕ) → old ≡ puts base 0 ws �
 pub patch-none : (old : List ℕ) (n to k : ℕ) → PatchGo old n to k old n
 patch-none old n to k base ws ps e f t c = record { now = ws; rest = ps; wrote = e; long = refl; runs = c; same = refl }
 
-patch-step : (f : ℕ → ℕ) (base ws ps out now rest new : List ℕ) (j older : ℕ) → 0 < j → older ≡ link_at out j → new ≡ setWord out j (f j) → length ws ≤ words base → out ≡ puts base 0 now → length now ≡ length ws → Chain now j rest → patched now f rest ≡ patched ws f ps
+patch-step : (f : ℕ → ℕ) (base ws ps out now rest new : List ℕ) (j older : ℕ) → 0 < j → older ≡ link_at out j → new ≡ set_word out j (f j) → length ws ≤ words base → out ≡ puts base 0 now → length now ≡ length ws → Chain now j rest → patched now f rest ≡ patched ws f ps
     → PatchRest f base ws ps new older
 unfolding Chain patched
 patch-step f base ws ps out now [] new j older o l w b e n c s = absurd (omega (arith, c))
@@ -50,16 +50,16 @@ patch-step f base ws ps out now (i ∷ rest) new j older o l w b e n c s =
     record {
       now = set now j (f j);
       rest = rest;
-      wrote = w ∙ (ap (λ (t : List ℕ). setWord t j (f j)) e ∙ set-row base j (f j) now (omega (arith, c.2)) (omega arith));
+      wrote = w ∙ (ap (λ (t : List ℕ). set_word t j (f j)) e ∙ set-row base j (f j) now (omega (arith, c.2)) (omega arith));
       long = length-set now j (f j) ∙ n;
       runs = subst (λ (k : ℕ). Chain (set now j (f j)) k rest) (sym z) (chain-set now (get_or now i 0) j (f j) rest (omega (arith, c.3)) c.4);
       same = ap (λ (k : ℕ). patched (set now k (f k)) f rest) (sym q) ∙ s;
     }
 
-pub patch-more : (old : List ℕ) (n to k : ℕ) (out : List ℕ) (j older : ℕ) (new : List ℕ) → 0 < j → older ≡ link_at out j → new ≡ setWord out j (cut (to - anchor k j)) → PatchGo old n to k out j → PatchGo old n to k new older
+pub patch-more : (old : List ℕ) (n to k : ℕ) (out : List ℕ) (j older : ℕ) (new : List ℕ) → 0 < j → older ≡ link_at out j → new ≡ set_word out j (cut (to - anchor k j)) → PatchGo old n to k out j → PatchGo old n to k new older
 patch-more old n to k out j older new o l w g base ws ps e f t c =
     let r = g base ws ps e f t c in
-    patch-step (λ i. to - anchor k i) base ws ps out r.now r.rest new j older o l (w ∙ ap (λ (v : ℕ). setWord out j v) (cut_small (to - anchor k j) (omega arith))) f r.wrote r.long r.runs r.same
+    patch-step (λ i. to - anchor k i) base ws ps out r.now r.rest new j older o l (w ∙ ap (λ (v : ℕ). set_word out j v) (cut_small (to - anchor k j) (omega arith))) f r.wrote r.long r.runs r.same
 
 patch-last : (f : ℕ → ℕ) (ws rest : List ℕ) (j : ℕ) → j ≡ 0 → Chain ws j rest → patched ws f rest ≡ ws
 unfolding Chain patched

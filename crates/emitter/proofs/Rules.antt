@@ -10,22 +10,22 @@ use lib.ListN.{length, get_or, set, take, drop, replicate, length-append, length
 use lib.Seq.{get_or-set_same, get_or-set_other, ext_get_or, drop-append-add, drop-drop, drop-append-le, length-take-le}
 use borrow.Author.Tests.{ltb-true, ltb-false, eqb-true, eqb-false, le-leb, lt-leb}
 use Rattle.base.proofs.Laws.{lt-or-le, zeros-at}
-use Rattle.base.specs.Common.{if◌then◌else◌}
+use Rattle.std.specs.Prelude.{if◌then◌else◌}
 use Rattle.program.specs.Program.{Rule}
-use Rattle.program.specs.Table.{endWords, sizeRule, sizeRules, place, table}
+use Rattle.program.specs.Table.{end_words, size_rule, size_rules, place, table}
 use Rattle.program.proofs.Lengths.{length-table}
 use Rattle.program.proofs.Places.{place-first, place-fits}
 use Rattle.machine.specs.Bytes.{count, bytes_of}
-use Rattle.chains.specs.Marks.{Target, outside, rule, Mark, known, waiting, number, knowns, close, marksAll, marksRule, marksRules, solved}
-use Rattle.chains.specs.Chain.{Chain, places, patched, newest, Waiting, At, Fixed, fixed-known, fixed-call, placed}
+use Rattle.chains.specs.Marks.{Target, outside, rule, Mark, known, waiting, number, knowns, close, marks_all, marks_rule, marks_rules, solved}
+use Rattle.chains.specs.Chain.{Chain, places, patched, newest, Waiting, At, Fixed, fixed_known, fixed_call, placed}
 use Rattle.chains.proofs.Lists.{at_in, at_split, Behind, at_some, places-append, length-patched, patched-at, patched-kept, known-waits, waits-ne, length-filled, length-knowns}
 use Rattle.chains.proofs.Grows.{chain-fill}
-use Rattle.chains.proofs.Solves.{length-marksRule, length-marksRules, length-solved, solved-known, solved-call, solved-rules}
+use Rattle.chains.proofs.Solves.{length-marks_rule, length-marks_rules, length-solved, solved-known, solved-call, solved-rules}
 use Rattle.emitter.specs.Words.{words, puts, cut}
 use Rattle.emitter.specs.Heads.{anchor}
 use Rattle.emitter.specs.Stands.{IsAll}
 use Rattle.emitter.specs.Work.{Done, Emitted, Extended, ListDone, PatchDone}
-use Rattle.emitter.specs.Emitted.{CellsOf, sortOf, fits, emittedWords, emittedBytes, faultOf, EmitDone, IsRules, rules-more, RuleDone, PlaceDone, RulesDone}
+use Rattle.emitter.specs.Emitted.{CellsOf, sort_of, fits, emitted_words, emitted_bytes, fault_of, EmitDone, IsRules, rules_more, RuleDone, PlaceDone, RulesDone}
 use Rattle.emitter.proofs.Laws.{cut_small, length-puts}
 use Rattle.emitter.proofs.Bytes.{puts-eq, whole}
 use Rattle.emitter.proofs.Link.{program-stands}
@@ -38,27 +38,27 @@ nothing : (s : List ℕ) (i : ℕ) → s ≡ puts s i []
 unfolding puts
 nothing s i = refl
 
-rule_end : (v : Bool) (sort : ℕ) → sort ≡ 0 → sort ≡ sortOf v → endWords v ≡ 9 ∷ []
-unfolding sortOf endWords
+rule_end : (v : Bool) (sort : ℕ) → sort ≡ 0 → sort ≡ sort_of v → end_words v ≡ 9 ∷ []
+unfolding sort_of end_words
 rule_end true sort h e = absurd (omega arith)
 rule_end false sort h e = refl
 
-rule-open : (v : Bool) (sort : ℕ) → (sort ≡ 0 → ⊥) → sort ≡ sortOf v → endWords v ≡ []
-unfolding sortOf endWords
+rule-open : (v : Bool) (sort : ℕ) → (sort ≡ 0 → ⊥) → sort ≡ sort_of v → end_words v ≡ []
+unfolding sort_of end_words
 rule-open true sort h e = refl
 rule-open false sort h e = absurd (h e)
 
-rule-done : (cs : List ℕ) (p : ℕ) (old mid row new : List ℕ) (at : ℕ) (slots more : List ℕ) (q l y n : ℕ) (b : Rule) (e : ℕ) (ws : List ℕ) (l' : ℕ) → n ≤ length slots → IsAll cs n p e b.body → ListDone cs p old mid at 0 slots more q l y → PatchDone mid row y l 1 → endWords b.valued ≡ ws → new ≡ puts row l ws → l' ≡ l + length ws
-    → Done (marksRule b) e old new at 0 slots more q l' 0
-unfolding ListDone marksRule
+rule-done : (cs : List ℕ) (p : ℕ) (old mid row new : List ℕ) (at : ℕ) (slots more : List ℕ) (q l y n : ℕ) (b : Rule) (e : ℕ) (ws : List ℕ) (l' : ℕ) → n ≤ length slots → IsAll cs n p e b.body → ListDone cs p old mid at 0 slots more q l y → PatchDone mid row y l 1 → end_words b.valued ≡ ws → new ≡ puts row l ws → l' ≡ l + length ws
+    → Done (marks_rule b) e old new at 0 slots more q l' 0
+unfolding ListDone marks_rule
 rule-done cs p old mid row new at slots more q l y n b e ws l' m h d u E w z =
     let v = d n b.body e m h in
     let C = emitted-close 0 v.emitted v.after u in
-    let k = length-filled outside (λ k. k + 1) (marksAll b.body) in
+    let k = length-filled outside (λ k. k + 1) (marks_all b.body) in
     let J = emitted-join C (emitted-known ws {x = 0} (λ i. w)) (v.after ∙ ap (λ (i : ℕ). at + i) (sym k)) in
-    let k2 = length-append (close outside (marksAll b.body)) (knowns ws) in
+    let k2 = length-append (close outside (marks_all b.body)) (knowns ws) in
     let k3 = length-knowns ws in
-    subst (λ (i : List ℕ). Done (close outside (marksAll b.body) ++ knowns i) e old new at 0 slots more q l' 0) (sym E) (record { next = v.next; after = omega (arith, v.after); emitted = J })
+    subst (λ (i : List ℕ). Done (close outside (marks_all b.body) ++ knowns i) e old new at 0 slots more q l' 0) (sym E) (record { next = v.next; after = omega (arith, v.after); emitted = J })
 
 pub rule-return : (cs : List ℕ) (p : ℕ) (old mid row new : List ℕ) (at : ℕ) (slots more : List ℕ) (q l y sort : ℕ) → ListDone cs p old mid at 0 slots more q l y → PatchDone mid row y l 1 → new ≡ puts row l (cut 9 ∷ []) → sort ≡ 0 → RuleDone cs p old new at sort slots more q (l + 1)
 unfolding RuleDone
@@ -110,8 +110,8 @@ module _ (old out mid : List ℕ) (ms : List Mark) (slots more : List ℕ) (r l 
 
   -- what stood there before, by the slots afterwards
   place-word : {last : List ℕ} {i v : ℕ} {m : Mark} → ((s : ℕ) → placed ≤ get_or more s 0 → get_or last s 0 ≡ get_or more s 0) → ((s : ℕ) → get_or more s 0 < placed → get_or last s 0 < placed) → At ms i m → Fixed last m v → get_or placed-now i 0 ≡ v
-  place-word {i = i} {v = v} k t a fixed-known = let z : 0 + i ≡ i = omega arith in ap (λ (j : ℕ). get_or placed-now j 0) (sym z) ∙ (patched-kept (λ j. l + 1 - 0) (rule r) w.now 0 a (known-waits (rule r) v) ∙ (ap (λ (j : ℕ). get_or w.now j 0) z ∙ w.words i (known v) v a fixed-known))
-  place-word {last} {i = i} {v = v} k t a (fixed-call {r = s} e h) = by (eqb s r) refl (ltb (get_or slots s 0) placed) refl
+  place-word {i = i} {v = v} k t a fixed_known = let z : 0 + i ≡ i = omega arith in ap (λ (j : ℕ). get_or placed-now j 0) (sym z) ∙ (patched-kept (λ j. l + 1 - 0) (rule r) w.now 0 a (known-waits (rule r) v) ∙ (ap (λ (j : ℕ). get_or w.now j 0) z ∙ w.words i (known v) v a fixed_known))
+  place-word {last} {i = i} {v = v} k t a (fixed_call {r = s} e h) = by (eqb s r) refl (ltb (get_or slots s 0) placed) refl
     where
       by : (b : Bool) → eqb s r ≡ b → (c : Bool) → ltb (get_or slots s 0) placed ≡ c → get_or placed-now i 0 ≡ v
       by true q c x =
@@ -127,15 +127,15 @@ module _ (old out mid : List ℕ) (ms : List Mark) (slots more : List ℕ) (r l 
           let y = ltb-false (get_or slots s 0) placed x in
           let o = place_other s N in
           let F : get_or slots s 0 ≡ placed + v = sym o ∙ (sym (k s (omega arith)) ∙ e) in
-          ap (λ (j : ℕ). get_or placed-now j 0) (sym z) ∙ (patched-kept (λ j. l + 1 - 0) (rule r) w.now 0 a (waits-ne (rule r) (rule s) (λ g. N (rule-eq (sym g)))) ∙ (ap (λ (j : ℕ). get_or w.now j 0) z ∙ w.words i (waiting (rule s)) v a (fixed-call F h)))
+          ap (λ (j : ℕ). get_or placed-now j 0) (sym z) ∙ (patched-kept (λ j. l + 1 - 0) (rule r) w.now 0 a (waits-ne (rule r) (rule s) (λ g. N (rule-eq (sym g)))) ∙ (ap (λ (j : ℕ). get_or w.now j 0) z ∙ w.words i (waiting (rule s)) v a (fixed_call F h)))
 
 fixed_back : {more last : List ℕ} {m : Mark} {v : ℕ} → ((s : ℕ) → placed ≤ get_or more s 0 → get_or last s 0 ≡ get_or more s 0) → ((s : ℕ) → get_or more s 0 < placed → get_or last s 0 < placed) → Fixed last m v → Fixed more m v
-fixed_back k t fixed-known = fixed-known
-fixed_back {more} {last} {v = v} k t (fixed-call {r = s} e h) = by (ltb (get_or more s 0) placed) refl
+fixed_back k t fixed_known = fixed_known
+fixed_back {more} {last} {v = v} k t (fixed_call {r = s} e h) = by (ltb (get_or more s 0) placed) refl
   where
     by : (c : Bool) → ltb (get_or more s 0) placed ≡ c → Fixed more (waiting (rule s)) v
     by true x = let z = t s (ltb-true (get_or more s 0) placed x) in absurd (omega arith)
-    by false x = fixed-call (sym (k s (ltb-false (get_or more s 0) placed x)) ∙ e) h
+    by false x = fixed_call (sym (k s (ltb-false (get_or more s 0) placed x)) ∙ e) h
 
 -- and its words written
 module _ (old out mid new : List ℕ) (ms ns : List Mark) (slots more last : List ℕ) (r l : ℕ) (prog : List Rule) (w : Written old out ms slots r prog) (inside : r < length slots) (is-l : l ≡ length ms) (fits : length ms + length ns ≤ words old) (small : length ms + length ns ≤ 4096) (here : l + 1 ≡ place 1 prog r)
@@ -199,7 +199,7 @@ pub record RulesRest (cs sorts : List ℕ) (rules : ℕ) (prog : List Rule) (old
   pub so_far : List Mark
   pub stands : IsRules cs sorts (length prog) q r rest
   pub count : r + length rest ≡ rules
-  pub split : so_far ++ marksRules rest ≡ marksRules prog
+  pub split : so_far ++ marks_rules rest ≡ marks_rules prog
   pub after : l ≡ length so_far
   pub onward : (i : ℕ) → place (l + 1) rest i ≡ place 1 prog (r + i)
   pub written : length so_far ≤ words old → length so_far ≤ 4096 → Written old out so_far slots r prog
@@ -222,25 +222,25 @@ rules-start cs sorts rules old slots prog h c z =
       written = λ f s. record { now = []; wrote = refl; long = refl; words = λ i m v a x. absurd (let y = at_in a in omega arith); chains = λ i y k. e i; behind = λ i y. absurd (omega arith); ahead = λ i y. omega (arith, e i) };
     }
 
-rules-step : (cs sorts : List ℕ) (rules : ℕ) (prog : List Rule) (old : List ℕ) (q l r sort q' l' : ℕ) (out mid new slots more last : List ℕ) (rest : List Rule) (ms : List Mark) → IsRules cs sorts (length prog) q r rest → r + length rest ≡ rules → ms ++ marksRules rest ≡ marksRules prog → l ≡ length ms
+rules-step : (cs sorts : List ℕ) (rules : ℕ) (prog : List Rule) (old : List ℕ) (q l r sort q' l' : ℕ) (out mid new slots more last : List ℕ) (rest : List Rule) (ms : List Mark) → IsRules cs sorts (length prog) q r rest → r + length rest ≡ rules → ms ++ marks_rules rest ≡ marks_rules prog → l ≡ length ms
     → ((i : ℕ) → place (l + 1) rest i ≡ place 1 prog (r + i)) → (length ms ≤ words old → length ms ≤ 4096 → Written old out ms slots r prog) → rules ≡ length prog → r < rules → rules ≤ length slots → length more ≡ length slots → PlaceDone slots more r out mid l → sort ≡ get_or sorts r 0 → RuleDone cs q mid new l sort more last q' l'
     → RulesRest cs sorts rules prog old q' l' (r + 1) new last
-unfolding RuleDone marksRules place
+unfolding RuleDone marks_rules place
 rules-step cs sorts rules prog old q l r sort q' l' out mid new slots more last [] ms h c s a f w k i j m d t g = absurd (omega arith)
-rules-step cs sorts rules prog old q l r sort q' l' out mid new slots more last (b ∷ bs) ms (rules-more {e = E} x y z) c s a f w k i j m d t g =
+rules-step cs sorts rules prog old q l r sort q' l' out mid new slots more last (b ∷ bs) ms (rules_more {e = E} x y z) c s a f w k i j m d t g =
     let D = g (length prog) b E (omega arith) x (t ∙ y) in
     let z0 : r + 0 ≡ r = omega arith in
     let here : l + 1 ≡ place 1 prog r = place-first (l + 1) (b ∷ bs) ∙ (f 0 ∙ ap (λ (j : ℕ). place 1 prog j) z0) in
-    let n = length-append ms (marksRule b) in
+    let n = length-append ms (marks_rule b) in
     record {
       rest = bs;
-      so_far = ms ++ marksRule b;
+      so_far = ms ++ marks_rule b;
       stands = subst (λ (j : ℕ). IsRules cs sorts (length prog) j (r + 1) bs) (sym D.next) z;
       count = omega arith;
-      split = append_assoc ms (marksRule b) (marksRules bs) ∙ s;
+      split = append_assoc ms (marks_rule b) (marks_rules bs) ∙ s;
       after = omega (arith, D.after);
-      onward = λ v. (let p : l' + 1 ≡ l + 1 + sizeRule b = omega (arith, D.after, length-marksRule b) in let p2 : r + suc v ≡ r + 1 + v = omega arith in ap (λ (j : ℕ). place j bs v) p ∙ (f (suc v) ∙ ap (λ (j : ℕ). place 1 prog j) p2));
-      written = λ u v. rule-written old out mid new ms (marksRule b) slots more last r l prog (w (omega arith) (omega arith)) (omega arith) a (omega arith) (omega arith) here d D.emitted;
+      onward = λ v. (let p : l' + 1 ≡ l + 1 + size_rule b = omega (arith, D.after, length-marks_rule b) in let p2 : r + suc v ≡ r + 1 + v = omega arith in ap (λ (j : ℕ). place j bs v) p ∙ (f (suc v) ∙ ap (λ (j : ℕ). place 1 prog j) p2));
+      written = λ u v. rule-written old out mid new ms (marks_rule b) slots more last r l prog (w (omega arith) (omega arith)) (omega arith) a (omega arith) (omega arith) here d D.emitted;
     }
 
 pub rules-go : (cs sorts : List ℕ) (rules : ℕ) (start old : List ℕ) (q l r sort q' l' : ℕ) (out mid new slots more last : List ℕ) → r < rules → rules ≤ 128 → length slots ≡ length start → length more ≡ length slots → PlaceDone slots more r out mid l → sort ≡ get_or sorts r 0 → RuleDone cs q mid new l sort more last q' l'
@@ -255,29 +255,29 @@ none_left [] h = refl
 none_left (b ∷ bs) h = absurd (omega arith)
 
 -- every word is known
-module _ {cs sorts : List ℕ} (old out slots : List ℕ) (r : ℕ) (prog : List Rule) (stands : IsRules cs sorts (length prog) 0 0 prog) (all : length prog ≤ r) (small : sizeRules prog ≤ 4096) (w : Written old out (marksRules prog) slots r prog) where
-  word-is : (i : ℕ) (m : Mark) → At (marksRules prog) i m → get_or w.now i 0 ≡ get_or (solved (place 1 prog) 0 0 (marksRules prog)) i 0
-  word-is i (known v) a = w.words i (known v) v a fixed-known ∙ sym (solved-known (place 1 prog) 0 0 a)
+module _ {cs sorts : List ℕ} (old out slots : List ℕ) (r : ℕ) (prog : List Rule) (stands : IsRules cs sorts (length prog) 0 0 prog) (all : length prog ≤ r) (small : size_rules prog ≤ 4096) (w : Written old out (marks_rules prog) slots r prog) where
+  word-is : (i : ℕ) (m : Mark) → At (marks_rules prog) i m → get_or w.now i 0 ≡ get_or (solved (place 1 prog) 0 0 (marks_rules prog)) i 0
+  word-is i (known v) a = w.words i (known v) v a fixed_known ∙ sym (solved-known (place 1 prog) 0 0 a)
   word-is i (waiting t) a = by t ((rules-only stands).only i t a) a
     where
-      by : (t : Target) → Calls (length prog) t → At (marksRules prog) i (waiting t) → get_or w.now i 0 ≡ get_or (solved (place 1 prog) 0 0 (marksRules prog)) i 0
-      by t (calls {r = s} h) a = w.words i (waiting (rule s)) (place 1 prog s) a (fixed-call (w.behind s (omega arith)) (omega (arith, place-fits 1 prog s h))) ∙ sym (solved-call (place 1 prog) 0 0 a)
+      by : (t : Target) → Calls (length prog) t → At (marks_rules prog) i (waiting t) → get_or w.now i 0 ≡ get_or (solved (place 1 prog) 0 0 (marks_rules prog)) i 0
+      by t (calls {r = s} h) a = w.words i (waiting (rule s)) (place 1 prog s) a (fixed_call (w.behind s (omega arith)) (omega (arith, place-fits 1 prog s h))) ∙ sym (solved-call (place 1 prog) 0 0 a)
 
   pub all_known : out ≡ puts old 0 (table prog)
   unfolding table
   all_known =
-      let S = solved (place 1 prog) 0 0 (marksRules prog) in
-      let e : w.now ≡ S = ext_get_or 0 w.now S (w.long ∙ sym (length-solved (place 1 prog) 0 0 (marksRules prog))) (λ i h. (let m = at_some (marksRules prog) i (omega (arith, w.long)) in word-is i m.mark m.there)) in
+      let S = solved (place 1 prog) 0 0 (marks_rules prog) in
+      let e : w.now ≡ S = ext_get_or 0 w.now S (w.long ∙ sym (length-solved (place 1 prog) 0 0 (marks_rules prog))) (λ i h. (let m = at_some (marks_rules prog) i (omega (arith, w.long)) in word-is i m.mark m.there)) in
       w.wrote ∙ ap (λ (s : List ℕ). puts old 0 s) (e ∙ solved-rules (place 1 prog) prog)
 
 pub rules-end : (cs sorts : List ℕ) (rules : ℕ) (start old : List ℕ) (q l r : ℕ) (out slots : List ℕ) → rules ≤ r → RulesGo cs sorts rules start old q l r out slots → RulesDone cs sorts rules start old out l
-unfolding RulesDone marksRules
+unfolding RulesDone marks_rules
 rules-end cs sorts rules start old q l r out slots i g prog h c z =
     let w = g prog h c z in
     let n = none_left w.rest (omega (arith, w.count)) in
-    let e : w.so_far ≡ marksRules prog = sym (append-nil w.so_far) ∙ (ap (λ (j : List Rule). w.so_far ++ marksRules j) (sym n) ∙ w.split) in
-    let m = length-marksRules prog in
-    let k : l ≡ sizeRules prog = w.after ∙ (ap length e ∙ m) in
+    let e : w.so_far ≡ marks_rules prog = sym (append-nil w.so_far) ∙ (ap (λ (j : List Rule). w.so_far ++ marks_rules j) (sym n) ∙ w.split) in
+    let m = length-marks_rules prog in
+    let k : l ≡ size_rules prog = w.after ∙ (ap length e ∙ m) in
     (k, λ f s. all_known old out slots r prog h (omega arith) s (subst (λ (j : List Mark). Written old out j slots r prog) e (w.written (omega (arith, w.after)) (omega (arith, w.after)))))
 
 -- The lent bytes
@@ -287,14 +287,14 @@ zeros s t e =
     let z : words s - 0 ≡ words s = omega arith in
     whole s [] t (omega arith) (e ∙ ap (λ (u : List ℕ). puts u 0 (replicate {A = ℕ} (words s - 0) 0)) (nothing s 0)) ∙ ap (λ (k : ℕ). bytes_of (replicate {A = ℕ} k 0) ++ drop (2 * words s) s) z
 
-off : (prog : List Rule) (room : ℕ) → (4096 < sizeRules prog) ⊎ (room < sizeRules prog) → fits prog room ≡ false
+off : (prog : List Rule) (room : ℕ) → (4096 < size_rules prog) ⊎ (room < size_rules prog) → fits prog room ≡ false
 unfolding fits
-off prog room (inl h) = simp (lt-leb (sizeRules prog) 4096 h) (and-false (leb (sizeRules prog) room))
-off prog room (inr h) = simp (lt-leb (sizeRules prog) room h)
+off prog room (inl h) = simp (lt-leb (size_rules prog) 4096 h) (and-false (leb (size_rules prog) room))
+off prog room (inr h) = simp (lt-leb (size_rules prog) room h)
 
 -- 20: whatever stood there, but for an odd last byte
-pub refused : (prog : List Rule) (old mid new : List ℕ) (size : ℕ) → size ≡ sizeRules prog → (4096 < sizeRules prog) ⊎ (words old < sizeRules prog) → length mid ≡ length old → drop (2 * words old) mid ≡ drop (2 * words old) old → new ≡ puts mid 0 (replicate (words mid - 0) 0) → EmitDone prog old new 20 size
-unfolding count emittedBytes emittedWords faultOf
+pub refused : (prog : List Rule) (old mid new : List ℕ) (size : ℕ) → size ≡ size_rules prog → (4096 < size_rules prog) ⊎ (words old < size_rules prog) → length mid ≡ length old → drop (2 * words old) mid ≡ drop (2 * words old) old → new ≡ puts mid 0 (replicate (words mid - 0) 0) → EmitDone prog old new 20 size
+unfolding count emitted_bytes emitted_words fault_of
 refused prog old mid new size s h n d e =
     let f : fits prog (words old) ≡ false = off prog (words old) h in
     let x : words mid ≡ words old = ap (λ (y : ℕ). y / 2) n in
@@ -315,16 +315,16 @@ drop-take s m e h k =
     sym (drop-append-le m (take e s) (drop e s) (omega arith)) ∙ ap (λ (t : List ℕ). drop m t) (take-append-drop e s)
 
 -- the table, and zeros behind it
-pub accepted : (prog : List Rule) (old mid new : List ℕ) (size : ℕ) → size ≡ sizeRules prog → size ≤ 4096 → size ≤ words old → mid ≡ puts old 0 (table prog) → new ≡ puts mid size (replicate (words mid - size) 0) → EmitDone prog old new 0 size
-unfolding count emittedBytes emittedWords faultOf fits
+pub accepted : (prog : List Rule) (old mid new : List ℕ) (size : ℕ) → size ≡ size_rules prog → size ≤ 4096 → size ≤ words old → mid ≡ puts old 0 (table prog) → new ≡ puts mid size (replicate (words mid - size) 0) → EmitDone prog old new 0 size
+unfolding count emitted_bytes emitted_words fault_of fits
 accepted prog old mid new size w i j m e =
-    let L : length (table prog) ≡ sizeRules prog = length-table prog in
+    let L : length (table prog) ≡ size_rules prog = length-table prog in
     let x : words mid ≡ words old = ap (λ (y : ℕ). y / 2) (ap length m ∙ length-puts old 0 (table prog)) in
     let z : size ≡ length (table prog) = omega arith in
     let N : new ≡ puts (puts old 0 (table prog)) (length (table prog)) (replicate (words old - length (table prog)) 0) =
     e ∙ (ap (λ (y : ℕ). puts mid size (replicate {A = ℕ} (y - size) 0)) x ∙ (ap (λ (u : List ℕ). puts u size (replicate {A = ℕ} (words old - size) 0)) m ∙ ap (λ (y : ℕ). puts (puts old 0 (table prog)) y (replicate {A = ℕ} (words old - y) 0)) z)) in
-    let f1 = le-leb (sizeRules prog) (words old) (omega arith) in
-    let f2 = le-leb (sizeRules prog) 4096 (omega arith) in
+    let f1 = le-leb (size_rules prog) (words old) (omega arith) in
+    let f2 = le-leb (size_rules prog) 4096 (omega arith) in
     record { bytes = simp (f1, f2) (whole old (table prog) new (omega arith) N); number = simp (f1, f2); words = w }
 
 pub part-puts : (old ws : List ℕ) (e : ℕ) → 2 * length ws ≤ e → e ≤ length old → puts (take e old) 0 ws ++ drop e old ≡ puts old 0 ws
@@ -340,18 +340,18 @@ part-puts old ws e h k =
 part-long : (old part : List ℕ) (e : ℕ) → length part ≡ e → e ≤ length old → length (part ++ drop e old) ≡ length old
 part-long old part e h k = omega (arith, length-append part (drop e old), length-drop e old)
 
-pub refused-part : (prog : List Rule) (old part new : List ℕ) (size e : ℕ) → size ≡ sizeRules prog → (4096 < sizeRules prog) ⊎ (words old < sizeRules prog) → length part ≡ e → e ≤ 2 * words old → new ≡ puts (part ++ drop e old) 0 (replicate (words (part ++ drop e old) - 0) 0) → EmitDone prog old new 20 size
+pub refused-part : (prog : List Rule) (old part new : List ℕ) (size e : ℕ) → size ≡ size_rules prog → (4096 < size_rules prog) ⊎ (words old < size_rules prog) → length part ≡ e → e ≤ 2 * words old → new ≡ puts (part ++ drop e old) 0 (replicate (words (part ++ drop e old) - 0) 0) → EmitDone prog old new 20 size
 refused-part prog old part new size e s h n k w = refused prog old (part ++ drop e old) new size s h (part-long old part e n (omega arith)) (tail-same old part e n k) w
 
 pub accepted-part : (cells sorts : List ℕ) (rules : ℕ) (prog : List Rule) (slots old part new : List ℕ) (size e : ℕ) → CellsOf cells sorts rules prog → slots ≡ replicate 128 0 → RulesDone cells sorts rules slots (take e old) part size → size ≤ 4096 → size ≤ words old → e ≡ 2 * min (words old) 4096 → new ≡ puts (part ++ drop e old) size (replicate (words (part ++ drop e old) - size) 0) → EmitDone prog old new 0 size
 unfolding RulesDone
 accepted-part cells sorts rules prog slots old part new size e h z d i j k w =
     let r = d prog (program-stands cells sorts rules prog h) h.count z in
-    let L : length (table prog) ≡ sizeRules prog = length-table prog in
+    let L : length (table prog) ≡ size_rules prog = length-table prog in
     let n : length (take e old) ≡ e = length-take-le e old (omega arith) in
     let q = r.1 (omega (arith, r.0)) (omega (arith, r.0)) in
     accepted prog old (part ++ drop e old) new size r.0 i j (ap (λ (t : List ℕ). t ++ drop e old) q ∙ part-puts old (table prog) e (omega (arith, r.0)) (omega arith)) w
 
-pub size_of : (cells sorts : List ℕ) (rules : ℕ) (prog : List Rule) (slots old part : List ℕ) (size : ℕ) → CellsOf cells sorts rules prog → slots ≡ replicate 128 0 → RulesDone cells sorts rules slots old part size → size ≡ sizeRules prog
+pub size_of : (cells sorts : List ℕ) (rules : ℕ) (prog : List Rule) (slots old part : List ℕ) (size : ℕ) → CellsOf cells sorts rules prog → slots ≡ replicate 128 0 → RulesDone cells sorts rules slots old part size → size ≡ size_rules prog
 unfolding RulesDone
 size_of cells sorts rules prog slots old part size h z d = (d prog (program-stands cells sorts rules prog h) h.count z).0

@@ -8,13 +8,13 @@ use native.Mathlib.Omega.{arith}
 use lib.ListN.{length}
 use borrow.Author.Tests.{ne_eqb}
 use Rattle.base.specs.Tree.{choice, otherwise}
-use Rattle.program.specs.Program.{Plain, emit, exit, call, Selector, byToken, Act, Acts, Alts, Other, Rule}
-use Rattle.program.specs.Table.{sizeAlts, countLabels, tableWords, absentWords, firstLabel, endWords}
-use Rattle.chains.specs.Marks.{Target, outside, end, head, table, rule, Mark, known, waiting, waits, number, knowns, filled, close, shut, plainMarks, selectorMarks, marks, marksAll, marksAlts, marksOther, marksRule, marksRules}
+use Rattle.program.specs.Program.{Plain, emit, exit, call, Selector, by_token, Act, Acts, Alts, Other, Rule}
+use Rattle.program.specs.Table.{size_alts, count_labels, table_words, absent_words, first_label, end_words}
+use Rattle.chains.specs.Marks.{Target, outside, end, head, table, rule, Mark, known, waiting, waits, number, knowns, filled, close, shut, plain_marks, selector_marks, marks, marks_all, marks_alts, marks_other, marks_rule, marks_rules}
 use Rattle.chains.specs.Chain.{At, at_here, at_there, places}
 use Rattle.chains.proofs.Lists.{at_in, at_split, Behind, at-filled, FilledAt, as-was, now-known, at-knowns, places-none, ne-waits}
-use Rattle.emitter.specs.Stands.{IsSel, sel-token, sel-rule, sel-op, sel-opWith, IsPlain, is-match, is_any, is-emit, is-error, is-exit, is-call, is-back, is-give, is-update, is-updateWith, Is, is_plain, is-cycle, is-choice, IsAlts, is-nil, is-alt, IsOther, is_stop, is-other, IsAll, is-done, is-cons}
-use Rattle.emitter.specs.Emitted.{IsRules, rules-none, rules-more}
+use Rattle.emitter.specs.Stands.{IsSel, sel_token, sel_rule, sel_op, sel_op_with, IsPlain, is_match, is_any, is_emit, is_error, is_exit, is_called, is_back, is_give, is_update, is_update_with, Is, is_plain, is_cycle, is_choice, IsAlts, is_nil, is_alt, IsOther, is_stop, is_other, IsAll, is_done, is_cons}
+use Rattle.emitter.specs.Emitted.{IsRules, rules_none, rules_more}
 use Rattle.emitter.proofs.Tables.{Closed}
 
 pub data Allowed (n : ℕ) : Target → Type 0 where
@@ -88,45 +88,45 @@ choice-only {n = n} c ws x y =
     (only-append (only-filled head (λ k. 1) (not-head n) x) (only-known (only-append (only-knowns ws) (record { only = λ i t a. (exit-not-head n t (y.only i t a), for-more (y.only i t a)) }))))
 
 module _ {cs : List ℕ} {n : ℕ} where
-  plain-only : {p e : ℕ} {a : Plain} → IsPlain cs n p e a → Only (Allowed n) (plainMarks a)
-  unfolding plainMarks knowns
-  plain-only (is-match {t = v} h l t u) = only-knowns (3 ∷ v ∷ [])
+  plain-only : {p e : ℕ} {a : Plain} → IsPlain cs n p e a → Only (Allowed n) (plain_marks a)
+  unfolding plain_marks knowns
+  plain-only (is_match {t = v} h l t u) = only-knowns (3 ∷ v ∷ [])
   plain-only (is_any h l t) = only-knowns (4 ∷ [])
-  plain-only (is-emit {t = v} h l t u) = only-knowns (5 ∷ v ∷ [])
-  plain-only (is-error {t = v} h l t u) = only-knowns (6 ∷ v ∷ [])
-  plain-only (is-exit h l t) = only-known (only-wait for-exit only_none)
-  plain-only (is-call h l t u b) = only-known (only-wait (for-call b) only_none)
-  plain-only (is-back h l t) = only-knowns (9 ∷ [])
-  plain-only (is-give {v = v} h l t u) = only-knowns (10 ∷ v ∷ 9 ∷ [])
-  plain-only (is-update {op = op} h l t c d) = only-knowns (op ∷ [])
-  plain-only (is-updateWith {op = op} {v = v} h l t u c d) = only-knowns (13 ∷ v ∷ op ∷ [])
+  plain-only (is_emit {t = v} h l t u) = only-knowns (5 ∷ v ∷ [])
+  plain-only (is_error {t = v} h l t u) = only-knowns (6 ∷ v ∷ [])
+  plain-only (is_exit h l t) = only-known (only-wait for-exit only_none)
+  plain-only (is_called h l t u b) = only-known (only-wait (for-call b) only_none)
+  plain-only (is_back h l t) = only-knowns (9 ∷ [])
+  plain-only (is_give {v = v} h l t u) = only-knowns (10 ∷ v ∷ 9 ∷ [])
+  plain-only (is_update {op = op} h l t c d) = only-knowns (op ∷ [])
+  plain-only (is_update_with {op = op} {v = v} h l t u c d) = only-knowns (13 ∷ v ∷ op ∷ [])
 
-  sel-only : {p e : ℕ} {s : Selector} → IsSel cs n p e s → Only (Allowed n) (selectorMarks s)
-  unfolding selectorMarks knowns
-  sel-only (sel-token h l t) = only_none
-  sel-only (sel-rule h l t u b) = only-known (only-wait (for-call b) only_none)
-  sel-only (sel-op {op = op} h l t c d) = only-knowns (op ∷ [])
-  sel-only (sel-opWith {op = op} {v = v} h l t u c d) = only-knowns (13 ∷ v ∷ op ∷ [])
+  sel-only : {p e : ℕ} {s : Selector} → IsSel cs n p e s → Only (Allowed n) (selector_marks s)
+  unfolding selector_marks knowns
+  sel-only (sel_token h l t) = only_none
+  sel-only (sel_rule h l t u b) = only-known (only-wait (for-call b) only_none)
+  sel-only (sel_op {op = op} h l t c d) = only-knowns (op ∷ [])
+  sel-only (sel_op_with {op = op} {v = v} h l t u c d) = only-knowns (13 ∷ v ∷ op ∷ [])
 
   mutual
     unfolding marks
 
     pub act-only : {p e : ℕ} {a : Act} → Is cs n p e a → Only (Allowed n) (marks a)
     act-only (is_plain h) = plain-only h
-    act-only (is-cycle h t q) = only-filled outside (λ k. k + 1) (λ t h a. a) (only-append (all-only q) (only-known (only-known only_none)))
-    act-only (is-choice {s = s} {q = q} h x y w) = only-append (sel-only h) (only-known (only-known (choice-only (countLabels q) (tableWords 1 q) (alts-only x) (other-only (absentWords s (firstLabel q) (sizeAlts q + (1 + 2 * countLabels q + 3))) y))))
+    act-only (is_cycle h t q) = only-filled outside (λ k. k + 1) (λ t h a. a) (only-append (all-only q) (only-known (only-known only_none)))
+    act-only (is_choice {s = s} {q = q} h x y w) = only-append (sel-only h) (only-known (only-known (choice-only (count_labels q) (table_words 1 q) (alts-only x) (other-only (absent_words s (first_label q) (size_alts q + (1 + 2 * count_labels q + 3))) y))))
 
-    pub other-only : {g e : ℕ} {s : Selector} {o : Other} (vs : List ℕ) → IsOther cs n s g e o → Only (Allowed n) (marksOther o vs)
+    pub other-only : {g e : ℕ} {s : Selector} {o : Other} (vs : List ℕ) → IsOther cs n s g e o → Only (Allowed n) (marks_other o vs)
     other-only vs (is_stop h l t) = only-knowns vs
-    other-only vs (is-other h t b) = all-only b
+    other-only vs (is_other h t b) = all-only b
 
-    pub all-only : {p e : ℕ} {q : Acts} → IsAll cs n p e q → Only (Allowed n) (marksAll q)
-    all-only (is-done h l t) = only_none
-    all-only (is-cons x y) = only-append (act-only x) (all-only y)
+    pub all-only : {p e : ℕ} {q : Acts} → IsAll cs n p e q → Only (Allowed n) (marks_all q)
+    all-only (is_done h l t) = only_none
+    all-only (is_cons x y) = only-append (act-only x) (all-only y)
 
-    pub alts-only : {p e : ℕ} {q : Alts} → IsAlts cs n p e q → Only (Within n) (marksAlts q)
-    alts-only (is-nil h) = only_none
-    alts-only (is-alt t g u l x y) = let z = all-only x in only-append (record { only = λ i t a. for-more (z.only i t a) }) (only-wait for-head (only-wait for-end (alts-only y)))
+    pub alts-only : {p e : ℕ} {q : Alts} → IsAlts cs n p e q → Only (Within n) (marks_alts q)
+    alts-only (is_nil h) = only_none
+    alts-only (is_alt t g u l x y) = let z = all-only x in only-append (record { only = λ i t a. for-more (z.only i t a) }) (only-wait for-head (only-wait for-end (alts-only y)))
 
 not-allowed : {n : ℕ} {t : Target} → 0 < number t → number t < 4 → Allowed n t → ⊥
 unfolding number
@@ -134,16 +134,16 @@ not-allowed h k for-exit = omega arith
 not-allowed h k (for-call l) = omega arith
 
 module _ {cs : List ℕ} {n : ℕ} where
-  pub all_closed : {p e : ℕ} {q : Acts} → IsAll cs n p e q → (t : Target) → 0 < number t → number t < 4 → (l : ℕ) → places t l (marksAll q) ≡ []
-  all_closed {q = q} h t i k l = places-none t l (marksAll q) (λ j a. not-allowed i k ((all-only h).only j t a))
+  pub all_closed : {p e : ℕ} {q : Acts} → IsAll cs n p e q → (t : Target) → 0 < number t → number t < 4 → (l : ℕ) → places t l (marks_all q) ≡ []
+  all_closed {q = q} h t i k l = places-none t l (marks_all q) (λ j a. not-allowed i k ((all-only h).only j t a))
 
-  pub other-closed : {s : Selector} {p e : ℕ} {o : Other} → IsOther cs n s p e o → (t : Target) → 0 < number t → number t < 4 → (l : ℕ) (vs : List ℕ) → places t l (marksOther o vs) ≡ []
-  other-closed {o = o} h t i k l vs = places-none t l (marksOther o vs) (λ j a. not-allowed i k ((other-only vs h).only j t a))
+  pub other-closed : {s : Selector} {p e : ℕ} {o : Other} → IsOther cs n s p e o → (t : Target) → 0 < number t → number t < 4 → (l : ℕ) (vs : List ℕ) → places t l (marks_other o vs) ≡ []
+  other-closed {o = o} h t i k l vs = places-none t l (marks_other o vs) (λ j a. not-allowed i k ((other-only vs h).only j t a))
 
   pub alts-closed : {p e : ℕ} {q : Alts} → IsAlts cs n p e q → Closed q
   unfolding Closed number
-  alts-closed (is-nil h) = tt
-  alts-closed (is-alt t g u l x y) = (λ i. all_closed x head (omega arith) (omega arith) i, λ i. all_closed x end (omega arith) (omega arith) i, alts-closed y)
+  alts-closed (is_nil h) = tt
+  alts-closed (is_alt t g u l x y) = (λ i. all_closed x head (omega arith) (omega arith) i, λ i. all_closed x end (omega arith) (omega arith) i, alts-closed y)
 
 -- a rule waits for calls alone
 pub data Calls (n : ℕ) : Target → Type 0 where
@@ -153,7 +153,7 @@ no-exit : (n : ℕ) (t : Target) → waits outside (waiting t) ≡ false → All
 no-exit n t h for-exit = absurd (ne-waits outside outside h refl)
 no-exit n t h (for-call k) = calls k
 
-pub rules-only : {cs sorts : List ℕ} {n p r : ℕ} {bs : List Rule} → IsRules cs sorts n p r bs → Only (Calls n) (marksRules bs)
-unfolding marksRules marksRule
-rules-only rules-none = only_none
-rules-only {n = n} (rules-more {b = b} x y z) = only-append (only-append (only-filled outside (λ k. k + 1) (no-exit n) (all-only x)) (only-knowns (endWords b.valued))) (rules-only z)
+pub rules-only : {cs sorts : List ℕ} {n p r : ℕ} {bs : List Rule} → IsRules cs sorts n p r bs → Only (Calls n) (marks_rules bs)
+unfolding marks_rules marks_rule
+rules-only rules_none = only_none
+rules-only {n = n} (rules_more {b = b} x y z) = only-append (only-append (only-filled outside (λ k. k + 1) (no-exit n) (all-only x)) (only-knowns (end_words b.valued))) (rules-only z)

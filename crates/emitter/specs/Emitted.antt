@@ -1,15 +1,14 @@
 -- What the emitter is for: the cells of a program become its table in the lent bytes, if it fits.
-use Rattle.std.specs.Prelude.{ℕ, ◌+◌, ◌*◌, ◌-◌, ◌<◌, ◌≤◌, ◌≡◌, Bool, false, ◌&&◌, List, [], ◌∷◌, ◌++◌, leb, length, get_or, drop, replicate, set}
-use Rattle.base.specs.Common.{if◌then◌else◌}
+use Rattle.std.specs.Prelude.{ℕ, ◌+◌, ◌*◌, ◌-◌, ◌<◌, ◌≤◌, ◌≡◌, Bool, false, ◌&&◌, List, [], ◌∷◌, ◌++◌, leb, length, get_or, drop, replicate, set, if◌then◌else◌}
 use Rattle.base.specs.Tree.{plain, cycle, choice, done, ◌▸◌, nil, alternative, absent, otherwise}
-use Rattle.program.specs.Program.{Act, Acts, Alts, Other, Rule, ruleOf, body_of}
-use Rattle.program.specs.Table.{sizeRules, table}
+use Rattle.program.specs.Program.{Act, Acts, Alts, Other, Rule, rule_of, body_of}
+use Rattle.program.specs.Table.{size_rules, table}
 use Rattle.program.specs.Accepted.{Oks}
-use Rattle.cells.specs.Cells.{rulesCells}
-unfoldable pub use Rattle.cells.specs.Cells.{sortOf}
+use Rattle.cells.specs.Cells.{rules_cells}
+unfoldable pub use Rattle.cells.specs.Cells.{sort_of}
 use Rattle.machine.specs.Bytes.{count, bytes_of}
 use Rattle.emitter.specs.Stands.{IsAll}
-use Rattle.chains.specs.Marks.{marksRule}
+use Rattle.chains.specs.Marks.{marks_rule}
 use Rattle.chains.specs.Chain.{placed}
 use Rattle.emitter.specs.Words.{words, puts}
 use Rattle.emitter.specs.Work.{Done, PatchDone}
@@ -36,38 +35,38 @@ unfoldable mutual
 -- the cells, from the first on, are those of this program, and `sorts` tells its choice rules
 pub record CellsOf (cells sorts : List ℕ) (rules : ℕ) (prog : List Rule) : Type 0 where
   pub rest : List ℕ
-  pub same : cells ≡ rulesCells prog ++ rest
+  pub same : cells ≡ rules_cells prog ++ rest
   pub short : length cells ≤ 65536
   pub count : rules ≡ length prog
   pub few : rules ≤ 128
-  pub sort : (r : ℕ) → r < length prog → get_or sorts r 0 ≡ sortOf (ruleOf prog r).valued
-  pub in_order : (r : ℕ) → r < length prog → Oks prog (body_of prog r) (ruleOf prog r).valued false
+  pub sort : (r : ℕ) → r < length prog → get_or sorts r 0 ≡ sort_of (rule_of prog r).valued
+  pub in_order : (r : ℕ) → r < length prog → Oks prog (body_of prog r) (rule_of prog r).valued false
   pub labels : (r : ℕ) → r < length prog → FewLabelsAll (body_of prog r)
 
 -- "20 the table passes the lent buffer or 4,096 words"
 unfoldable pub fits : List Rule → ℕ → Bool
-fits prog room = leb (sizeRules prog) room && leb (sizeRules prog) 4096
+fits prog room = leb (size_rules prog) room && leb (size_rules prog) 4096
 
 -- "On acceptance the words after the table are zero."; "lent table all zero words"
-unfoldable pub emittedWords : List Rule → ℕ → List ℕ
-emittedWords prog n = if fits prog n then table prog ++ replicate (n - length (table prog)) 0 else replicate n 0
+unfoldable pub emitted_words : List Rule → ℕ → List ℕ
+emitted_words prog n = if fits prog n then table prog ++ replicate (n - length (table prog)) 0 else replicate n 0
 
 -- "an odd last byte counts for nothing and is not touched"
-unfoldable pub emittedBytes : List Rule → List ℕ → List ℕ
-emittedBytes prog lent = bytes_of (emittedWords prog (count lent)) ++ drop (2 * count lent) lent
+unfoldable pub emitted_bytes : List Rule → List ℕ → List ℕ
+emitted_bytes prog lent = bytes_of (emitted_words prog (count lent)) ++ drop (2 * count lent) lent
 
 -- the lent bytes of a refusal
-unfoldable pub zeroedBytes : List ℕ → List ℕ
-zeroedBytes lent = bytes_of (replicate (count lent) 0) ++ drop (2 * count lent) lent
+unfoldable pub zeroed_bytes : List ℕ → List ℕ
+zeroed_bytes lent = bytes_of (replicate (count lent) 0) ++ drop (2 * count lent) lent
 
-unfoldable pub faultOf : List Rule → ℕ → ℕ
-faultOf prog room = if fits prog room then 0 else 20
+unfoldable pub fault_of : List Rule → ℕ → ℕ
+fault_of prog room = if fits prog room then 0 else 20
 
 -- the lent bytes, the number and the size in words
 pub record EmitDone (prog : List Rule) (old new : List ℕ) (fault size : ℕ) : Type 0 where
-  pub bytes : new ≡ emittedBytes prog old
-  pub number : fault ≡ faultOf prog (count old)
-  pub words : size ≡ sizeRules prog
+  pub bytes : new ≡ emitted_bytes prog old
+  pub number : fault ≡ fault_of prog (count old)
+  pub words : size ≡ size_rules prog
 
 unfoldable pub Emits : List ℕ → List ℕ → ℕ → List ℕ → List ℕ → ℕ → ℕ → Type 0
 Emits cells sorts rules old new fault size = (prog : List Rule) → CellsOf cells sorts rules prog → EmitDone prog old new fault size
@@ -75,11 +74,11 @@ Emits cells sorts rules old new fault size = (prog : List Rule) → CellsOf cell
 -- Inside: rules one after the other, by places
 
 pub data IsRules (cs sorts : List ℕ) (n : ℕ) : ℕ → ℕ → List Rule → Type 0 where
-  rules-none : {p r : ℕ} → IsRules cs sorts n p r []
-  rules-more : {p r e : ℕ} {b : Rule} {bs : List Rule} → IsAll cs n p e b.body → get_or sorts r 0 ≡ sortOf b.valued → IsRules cs sorts n e (r + 1) bs → IsRules cs sorts n p r (b ∷ bs)
+  rules_none : {p r : ℕ} → IsRules cs sorts n p r []
+  rules_more : {p r e : ℕ} {b : Rule} {bs : List Rule} → IsAll cs n p e b.body → get_or sorts r 0 ≡ sort_of b.valued → IsRules cs sorts n e (r + 1) bs → IsRules cs sorts n p r (b ∷ bs)
 
 unfoldable pub RuleDone : List ℕ → ℕ → List ℕ → List ℕ → ℕ → ℕ → List ℕ → List ℕ → ℕ → ℕ → Type 0
-RuleDone cs p old new at sort slots slots' p' at' = (n : ℕ) (b : Rule) (e : ℕ) → n ≤ length slots → IsAll cs n p e b.body → sort ≡ sortOf b.valued → Done (marksRule b) e old new at 0 slots slots' p' at' 0
+RuleDone cs p old new at sort slots slots' p' at' = (n : ℕ) (b : Rule) (e : ℕ) → n ≤ length slots → IsAll cs n p e b.body → sort ≡ sort_of b.valued → Done (marks_rule b) e old new at 0 slots slots' p' at' 0
 
 -- rule r begins at `at`
 unfoldable pub PlaceDone : List ℕ → List ℕ → ℕ → List ℕ → List ℕ → ℕ → Type 0
@@ -87,4 +86,4 @@ PlaceDone slots slots' r old new at = (slots' ≡ set slots r (placed + at + 1))
 
 unfoldable pub RulesDone : List ℕ → List ℕ → ℕ → List ℕ → List ℕ → List ℕ → ℕ → Type 0
 RulesDone cs sorts rules slots old new size = (prog : List Rule) → IsRules cs sorts (length prog) 0 0 prog → rules ≡ length prog → slots ≡ replicate 128 0
-    → (size ≡ sizeRules prog) × (sizeRules prog ≤ words old → sizeRules prog ≤ 4096 → new ≡ puts old 0 (table prog))
+    → (size ≡ size_rules prog) × (size_rules prog ≤ words old → size_rules prog ≤ 4096 → new ≡ puts old 0 (table prog))

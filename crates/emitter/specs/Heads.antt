@@ -6,19 +6,19 @@ use Rattle.emitter.specs.Words.{cut}
 use Rattle.emitter.specs.declared.Item.{Item}
 
 -- how many labels the alternative at a cell has, 0: it is none
-unfoldable pub labelsIn : ℕ → ℕ
-labelsIn k = cond (ltb k 64) 0 (cond (ltb k 256) (k - 64) 0)
+unfoldable pub labels_in : ℕ → ℕ
+labels_in k = cond (ltb k 64) 0 (cond (ltb k 256) (k - 64) 0)
 
 -- the same at p, 0 too where they do not fit into the cells
-unfoldable pub labelsAt : List ℕ → ℕ → ℕ
-labelsAt cs p = cond (ltb (p + labelsIn (get_or cs p 0)) (length cs)) (labelsIn (get_or cs p 0)) 0
+unfoldable pub labels_at : List ℕ → ℕ → ℕ
+labels_at cs p = cond (ltb (p + labels_in (get_or cs p 0)) (length cs)) (labels_in (get_or cs p 0)) 0
 
 -- 1: a choice
 unfoldable pub chooses : ℕ → ℕ
 chooses k = cond (eqb k 7) 1 (cond (eqb k 11) 1 (cond (ltb k 768) 0 1))
 
-unfoldable pub insOf : ℕ → ℕ
-insOf k = cond (eqb k 7) 7 11
+unfoldable pub ins_of : ℕ → ℕ
+ins_of k = cond (eqb k 7) 7 11
 
 -- a plain action by its cells k and v; t: where rule v starts
 abbrev pub one : ℕ → Item
@@ -40,8 +40,8 @@ plain_of k v t =
 abbrev pub none : Item
 none = record { cells = 1; count = 0; a = 0; b = 0; d = 0 }
 
-unfoldable pub selOf : ℕ → ℕ → ℕ → Item
-selOf k v t = cond (eqb k 7) none (cond (eqb k 11) (two 8 t) (cond (ltb k 1024) (one k) (three 13 v k)))
+unfoldable pub sel_of : ℕ → ℕ → ℕ → Item
+sel_of k v t = cond (eqb k 7) none (cond (eqb k 11) (two 8 t) (cond (ltb k 1024) (one k) (three 13 v k)))
 
 -- at most three of the words
 unfoldable pub firsts : ℕ → ℕ → ℕ → ℕ → List ℕ
@@ -54,22 +54,22 @@ words_in w = firsts w.count w.a w.b w.d
 unfoldable pub start_of : List ℕ → ℕ → ℕ
 start_of starts r = cut (get_or starts r 0)
 
-unfoldable pub plainAt : List ℕ → List ℕ → ℕ → Item
-plainAt cs starts p = plain_of (get_or cs p 0) (get_or cs (p + 1) 0) (start_of starts (get_or cs (p + 1) 0))
+unfoldable pub plain_at : List ℕ → List ℕ → ℕ → Item
+plain_at cs starts p = plain_of (get_or cs p 0) (get_or cs (p + 1) 0) (start_of starts (get_or cs (p + 1) 0))
 
-unfoldable pub selAt : List ℕ → List ℕ → ℕ → Item
-selAt cs starts p = selOf (get_or cs p 0) (get_or cs (p + 1) 0) (start_of starts (get_or cs (p + 1) 0))
+unfoldable pub sel_at : List ℕ → List ℕ → ℕ → Item
+sel_at cs starts p = sel_of (get_or cs p 0) (get_or cs (p + 1) 0) (start_of starts (get_or cs (p + 1) 0))
 
 -- the slots after a call of rule r whose word stands at `place`
 unfoldable pub called : List ℕ → ℕ → ℕ → List ℕ
 called slots r place = cond (ltb (get_or slots r 0) placed) (set slots r place) slots
 
 -- the same after an item whose first cell is k, where `call` is that of a call
-abbrev pub calledBy : ℕ → ℕ → List ℕ → ℕ → ℕ → List ℕ
-calledBy k call slots r place = cond (eqb k call) (called slots r place) slots
+abbrev pub called_by : ℕ → ℕ → List ℕ → ℕ → ℕ → List ℕ
+called_by k call slots r place = cond (eqb k call) (called slots r place) slots
 
-unfoldable pub calledAt : List ℕ → ℕ → ℕ → List ℕ → ℕ → List ℕ
-calledAt cs p call slots place = calledBy (get_or cs p 0) call slots (get_or cs (p + 1) 0) place
+unfoldable pub called_at : List ℕ → ℕ → ℕ → List ℕ → ℕ → List ℕ
+called_at cs p call slots place = called_by (get_or cs p 0) call slots (get_or cs (p + 1) 0) place
 
 -- the next older word of a chain, 0: there is none
 unfoldable pub link_at : List ℕ → ℕ → ℕ

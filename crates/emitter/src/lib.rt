@@ -1,10 +1,10 @@
 // The emitter: from a program's cells to the words of its table, in one pass.
 // Nothing is asked of the cells: on any cells each function ends and keeps to its bounds.
 ghost use Rattle.std.specs.Prelude.{◌≡◌, [], ◌∷◌, ℕ, ◌+◌, ◌*◌, ◌-◌, ◌<◌, ◌≤◌, length, get_or, replicate, set};
-ghost use Rattle.emitter.specs.Words.{words, setWord, puts, cut};
-ghost use Rattle.emitter.specs.Heads.{firsts, one, two, three, plain_of, plainAt, chooses, insOf, selOf, selAt, labelsIn, labelsAt, start_of, calledBy, calledAt, link_at, anchor, behind};
+ghost use Rattle.emitter.specs.Words.{words, set_word, puts, cut};
+ghost use Rattle.emitter.specs.Heads.{firsts, one, two, three, plain_of, plain_at, chooses, ins_of, sel_of, sel_at, labels_in, labels_at, start_of, called_by, called_at, link_at, anchor, behind};
 ghost use Rattle.emitter.specs.Work.{Room, Moved, Passed, ItemDone, PatchDone, ListDone, ActDone, CycleDone, LabelsDone, TableDone, AltsDone, OtherDone, AbsentDone};
-ghost use Rattle.emitter.specs.Emitted.{Emits, RuleDone, PlaceDone, RulesDone, zeroedBytes};
+ghost use Rattle.emitter.specs.Emitted.{Emits, RuleDone, PlaceDone, RulesDone, zeroed_bytes};
 
 use base::{cell, least, wide};
 use cells::sort_at;
@@ -19,7 +19,7 @@ const TOO_SHORT: usize = base::TOO_SHORT as usize;
 // Writing words: past the last whole word nothing is written.
 
 fn put_word(out: &mut [u8], i: usize, x: u16)
-    ensures { out.new ≡ setWord out.old i x }
+    ensures { out.new ≡ set_word out.old i x }
 {
     if i < out.len() / 2 {
         out[2 * i] = (x / 256) as u8;
@@ -108,7 +108,7 @@ fn start_at(slots: &[usize], r: usize) -> u16
 // After an item whose first cell is k, a call if that is `call`, of rule r and with its word at `place`: that is the rule's newest open call, if it is
 // not placed.
 fn call_at(slots: &mut [usize], k: u16, call: u16, r: usize, place: usize)
-    ensures { slots.new ≡ calledBy k call slots.old r place }
+    ensures { slots.new ≡ called_by k call slots.old r place }
 {
     if k == call {
         if slot(slots, r) < PLACED {
@@ -246,8 +246,8 @@ fn emit_plain(
     x: usize,
 ) -> Spot
     requires { Room cells.now p at × (p < length cells.now) }
-    ensures item_done { ItemDone cells.now (plainAt cells.now slots.old p) p at out.old out.new result.p result.at }
-    ensures slots_after { (slots.new ≡ calledAt cells.now p 8 slots.old (at + 1)) × (result.exit ≡ x) }
+    ensures item_done { ItemDone cells.now (plain_at cells.now slots.old p) p at out.old out.new result.p result.at }
+    ensures slots_after { (slots.new ≡ called_at cells.now p 8 slots.old (at + 1)) × (result.exit ≡ x) }
 {
     let k = cell(cells, p);
     let v = cell(cells, p + 1);
@@ -263,7 +263,7 @@ fn emit_plain(
 }
 
 fn labels_in(k: u16) -> usize
-    ensures { (result ≡ labelsIn k) × (result < 192) }
+    ensures { (result ≡ labels_in k) × (result < 192) }
 {
     if k < cells::ALTERNATIVE {
         return 0;
@@ -278,7 +278,7 @@ fn labels_in(k: u16) -> usize
 // The labels of the alternative at p, 0: there is none.
 fn labels_at(cells: &[u16], p: usize) -> usize
     requires { p < 2000000000 }
-    ensures { (result ≡ labelsAt cells.now p) × (result < 192) × (0 < result → p + 1 + result ≤ length cells.now) }
+    ensures { (result ≡ labels_at cells.now p) × (result < 192) × (0 < result → p + 1 + result ≤ length cells.now) }
 {
     let j = labels_in(cell(cells, p));
     if p + j < cells.len() { j } else { 0 }
@@ -286,7 +286,7 @@ fn labels_at(cells: &[u16], p: usize) -> usize
 
 // The selector's words.
 fn sel_of(k: u16, v: u16, to: u16) -> Item
-    ensures { result ≡ selOf k v to }
+    ensures { result ≡ sel_of k v to }
 {
     if k == cells::BY_TOKEN {
         return Item {
@@ -315,8 +315,8 @@ fn emit_sel(
     x: usize,
 ) -> Spot
     requires { Room cells.now p at × (p < length cells.now) }
-    ensures item_done { ItemDone cells.now (selAt cells.now slots.old p) p at out.old out.new result.p result.at }
-    ensures slots_after { (slots.new ≡ calledAt cells.now p 11 slots.old (at + 1)) × (result.exit ≡ x) }
+    ensures item_done { ItemDone cells.now (sel_at cells.now slots.old p) p at out.old out.new result.p result.at }
+    ensures slots_after { (slots.new ≡ called_at cells.now p 11 slots.old (at + 1)) × (result.exit ≡ x) }
 {
     let k = cell(cells, p);
     let v = cell(cells, p + 1);
@@ -394,7 +394,7 @@ fn chooses(k: u16) -> usize
 }
 
 fn ins_of(k: u16) -> u16
-    ensures { result ≡ insOf k }
+    ensures { result ≡ ins_of k }
 {
     if k == cells::BY_TOKEN {
         machine::INPUT_CHOICE
@@ -639,7 +639,7 @@ fn zero_from(out: &mut [u8], at: usize)
 
 // Every word zero, as on a refusal.
 pub fn zero(table: &mut [u8])
-    ensures { table.new ≡ zeroedBytes table.old }
+    ensures { table.new ≡ zeroed_bytes table.old }
 {
     zero_from(table, 0);
 }

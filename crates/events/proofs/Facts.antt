@@ -6,7 +6,7 @@ use Prim.Native.Nat.{ℕ}
 use lib.Dec.{T, eqb}
 use Rattle.base.specs.Common.{same}
 use Rattle.events.specs.Events
-use Rattle.events.specs.Events.{Event, output, signal, repair, operation, operationWith, eventWords, Reason, finished, differs, missing, unlabelled, deep, unanswered, outside, reasonNumber, isChoice, choices, Io, present, answer, took, wrote, answered, mends, spent, repaired, is}
+use Rattle.events.specs.Events.{Event, output, signal, repair, operation, operation_with, event_words, Reason, finished, differs, missing, unlabelled, deep, unanswered, outside, reason_number, is_choice, choices, Io, present, answer, took, wrote, answered, mends, spent, repaired, is}
 
 -- Events and reasons
 
@@ -27,22 +27,22 @@ events =
     ∷ says (repair 900) 4 900 0
     ∷ says (operation 256) 3 256 0
     ∷ says (operation 1023) 3 1023 0
-    ∷ says (operationWith 512 9) 3 512 9
-    ∷ says (operationWith 1024 0) 3 1024 0
-    ∷ says (operationWith 1279 65535) 3 1279 65535
+    ∷ says (operation_with 512 9) 3 512 9
+    ∷ says (operation_with 1024 0) 3 1024 0
+    ∷ says (operation_with 1279 65535) 3 1279 65535
     ∷ []
 
-pub allSay : List Words → Bool
-allSay [] = true
-allSay (w ∷ ws) = same (eventWords w.event) w.words && allSay ws
+pub all_say : List Words → Bool
+all_say [] = true
+all_say (w ∷ ws) = same (event_words w.event) w.words && all_say ws
 
-pub events-say : T (allSay events)
-unfolding events allSay Events.opened
+pub events-say : T (all_say events)
+unfolding events all_say Events.opened
 events-say = tt
 
 pub numbers : List Reason → List ℕ
 numbers [] = []
-numbers (r ∷ rs) = reasonNumber r ∷ numbers rs
+numbers (r ∷ rs) = reason_number r ∷ numbers rs
 
 -- 0, 30 to 34 and 37, in this order
 pub reasons-number : T (same (numbers (finished ∷ differs ∷ missing ∷ unlabelled ∷ deep ∷ unanswered ∷ outside ∷ [])) (0 ∷ 30 ∷ 31 ∷ 32 ∷ 33 ∷ 34 ∷ 37 ∷ []))
@@ -50,9 +50,9 @@ unfolding numbers Events.opened
 reasons-number = tt
 
 -- choice operations are those from 768 on: the others, output tokens, errors and repaired tokens are none, whatever their numbers
-pub choices-counted : T (not (isChoice (operation 256)) && not (isChoice (operationWith 767 800)) && isChoice (operation 768) && isChoice (operationWith 1024 0)
-    && not (isChoice (output 768)) && not (isChoice (signal 1024)) && eqb (choices []) 0
-    && eqb (choices (operation 768 ∷ output 900 ∷ repair 768 ∷ operationWith 512 768 ∷ operationWith 1279 3 ∷ signal 768 ∷ operation 1023 ∷ operation 511 ∷ [])) 3)
+pub choices-counted : T (not (is_choice (operation 256)) && not (is_choice (operation_with 767 800)) && is_choice (operation 768) && is_choice (operation_with 1024 0)
+    && not (is_choice (output 768)) && not (is_choice (signal 1024)) && eqb (choices []) 0
+    && eqb (choices (operation 768 ∷ output 900 ∷ repair 768 ∷ operation_with 512 768 ∷ operation_with 1279 3 ∷ signal 768 ∷ operation 1023 ∷ operation 511 ∷ [])) 3)
 unfolding Events.opened
 choices-counted = tt
 
@@ -93,14 +93,14 @@ alike none (some v) = false
 alike (some u) none = false
 alike (some u) (some v) = eqb u v
 
-pub allLook : List Look → Bool
-allLook [] = true
-allLook (l ∷ ls) =
+pub all_look : List Look → Bool
+all_look [] = true
+all_look (l ∷ ls) =
     let at = io l.read l.used [] in
-    alike (present l.list at) l.token && alike (answer l.list at) l.reply && allLook ls
+    alike (present l.list at) l.token && alike (answer l.list at) l.reply && all_look ls
 
-pub all-look : T (allLook looks)
-unfolding looks allLook Events.opened
+pub all-look : T (all_look looks)
+unfolding looks all_look Events.opened
 all-look = tt
 
 -- "30 token differs from the one required, or none": also where the token required is 0
@@ -112,24 +112,24 @@ tokens-required = tt
 
 pub words_of : List Event → List ℕ
 words_of [] = []
-words_of (e ∷ es) = eventWords e ++ words_of es
+words_of (e ∷ es) = event_words e ++ words_of es
 
-pub isIo : Io → ℕ → ℕ → List ℕ → Bool
-isIo x r u ws = eqb x.read r && eqb x.used u && eqb x.allowance 7 && same (words_of x.events) ws
+pub is_io : Io → ℕ → ℕ → List ℕ → Bool
+is_io x r u ws = eqb x.read r && eqb x.used u && eqb x.allowance 7 && same (words_of x.events) ws
 
 -- one token more is read, an event is written behind the others, one answer more is used; nothing else changes
-pub changes : T (isIo (took (io 3 4 (output 1 ∷ []))) 4 4 (1 ∷ 1 ∷ 0 ∷ [])
-    && isIo (wrote (signal 2) (io 3 4 (output 1 ∷ []))) 3 4 (1 ∷ 1 ∷ 0 ∷ 2 ∷ 2 ∷ 0 ∷ [])
-    && isIo (wrote (operationWith 512 8) (io 0 0 [])) 0 0 (3 ∷ 512 ∷ 8 ∷ [])
-    && isIo (answered (io 3 4 (output 1 ∷ []))) 3 5 (1 ∷ 1 ∷ 0 ∷ []))
-unfolding isIo words_of Events.opened
+pub changes : T (is_io (took (io 3 4 (output 1 ∷ []))) 4 4 (1 ∷ 1 ∷ 0 ∷ [])
+    && is_io (wrote (signal 2) (io 3 4 (output 1 ∷ []))) 3 4 (1 ∷ 1 ∷ 0 ∷ 2 ∷ 2 ∷ 0 ∷ [])
+    && is_io (wrote (operation_with 512 8) (io 0 0 [])) 0 0 (3 ∷ 512 ∷ 8 ∷ [])
+    && is_io (answered (io 3 4 (output 1 ∷ []))) 3 5 (1 ∷ 1 ∷ 0 ∷ []))
+unfolding is_io words_of Events.opened
 changes = tt
 
 -- "answers used, 64 bits wide, stops at its greatest"
-pub greatest : T (isIo (answered (io 0 18446744073709551613 [])) 0 18446744073709551614 []
-    && isIo (answered (io 0 18446744073709551614 [])) 0 18446744073709551615 []
-    && isIo (answered (io 0 18446744073709551615 [])) 0 18446744073709551615 [])
-unfolding isIo words_of Events.opened
+pub greatest : T (is_io (answered (io 0 18446744073709551613 [])) 0 18446744073709551614 []
+    && is_io (answered (io 0 18446744073709551614 [])) 0 18446744073709551615 []
+    && is_io (answered (io 0 18446744073709551615 [])) 0 18446744073709551615 [])
+unfolding is_io words_of Events.opened
 greatest = tt
 
 -- What a repair changes
@@ -137,11 +137,11 @@ greatest = tt
 abbrev pub left : ℕ → Io
 left a = record { read = 3; used = 4; allowance = a; events = output 1 ∷ [] }
 
-pub isLeft : Io → ℕ → List ℕ → Bool
-isLeft x a ws = eqb x.read 3 && eqb x.used 4 && eqb x.allowance a && same (words_of x.events) ws
+pub is_left : Io → ℕ → List ℕ → Bool
+is_left x a ws = eqb x.read 3 && eqb x.used 4 && eqb x.allowance a && same (words_of x.events) ws
 
 -- "the event 4, required token, 0 is written, the allowance falls by one"; "A repaired token isn't counted as read."
-pub repairs : T (isLeft (repaired 9 (left 65535)) 65534 (1 ∷ 1 ∷ 0 ∷ 4 ∷ 9 ∷ 0 ∷ []) && isLeft (repaired 9 (left 1)) 0 (1 ∷ 1 ∷ 0 ∷ 4 ∷ 9 ∷ 0 ∷ [])
-    && isLeft (spent (left 1)) 0 (1 ∷ 1 ∷ 0 ∷ []) && mends (left 1) && mends (left 65535) && not (mends (left 0)))
-unfolding isLeft words_of Events.opened
+pub repairs : T (is_left (repaired 9 (left 65535)) 65534 (1 ∷ 1 ∷ 0 ∷ 4 ∷ 9 ∷ 0 ∷ []) && is_left (repaired 9 (left 1)) 0 (1 ∷ 1 ∷ 0 ∷ 4 ∷ 9 ∷ 0 ∷ [])
+    && is_left (spent (left 1)) 0 (1 ∷ 1 ∷ 0 ∷ []) && mends (left 1) && mends (left 65535) && not (mends (left 0)))
+unfolding is_left words_of Events.opened
 repairs = tt

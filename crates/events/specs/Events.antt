@@ -1,22 +1,21 @@
 -- What both walks, over a table and over the rules, read and write, and why they stop.
-use Rattle.std.specs.Prelude.{Bool, true, false, List, [], ◌∷◌, ◌++◌, ℕ, ◌+◌, ◌-◌, ◌^◌, min, eqb, leb, ltb}
+use Rattle.std.specs.Prelude.{Bool, true, false, List, [], ◌∷◌, ◌++◌, ℕ, ◌+◌, ◌-◌, ◌^◌, min, eqb, leb, ltb, if◌then◌else◌}
 use Rattle.std.proofs.Math.Option.{Option, none, some}
 use Rattle.std.proofs.Math.ListN.{get_elem?}
-use Rattle.base.specs.Common.{if◌then◌else◌}
 
 -- the decoded event: an output token, an error, a repaired token, an operation's instruction number, one with its parameter
 pub data Event : Type 0 where
   output signal repair operation : ℕ → Event
-  operationWith : ℕ → ℕ → Event
+  operation_with : ℕ → ℕ → Event
 
 -- "An event is three words: 1, output token, 0; 2, error, 0; 3, the operation's instruction number, its parameter or 0."; of a
 -- repair "the event 4, required token, 0"
-unfoldable pub eventWords : Event → List ℕ
-eventWords (output t) = 1 ∷ t ∷ 0 ∷ []
-eventWords (signal n) = 2 ∷ n ∷ 0 ∷ []
-eventWords (repair t) = 4 ∷ t ∷ 0 ∷ []
-eventWords (operation op) = 3 ∷ op ∷ 0 ∷ []
-eventWords (operationWith op v) = 3 ∷ op ∷ v ∷ []
+unfoldable pub event_words : Event → List ℕ
+event_words (output t) = 1 ∷ t ∷ 0 ∷ []
+event_words (signal n) = 2 ∷ n ∷ 0 ∷ []
+event_words (repair t) = 4 ∷ t ∷ 0 ∷ []
+event_words (operation op) = 3 ∷ op ∷ 0 ∷ []
+event_words (operation_with op v) = 3 ∷ op ∷ v ∷ []
 
 -- why a walk has stopped for good
 pub data Reason : Type 0 where
@@ -24,14 +23,14 @@ pub data Reason : Type 0 where
 
 -- "0 is a return with nothing pending", "30 token differs from the one required, or none; 31 `?` with none; 32 endChoice; 33 a
 -- call with 64 pending", "34 answers used up", "37 fetch, operand, choice table or target outside the table"
-unfoldable pub reasonNumber : Reason → ℕ
-reasonNumber finished = 0
-reasonNumber differs = 30
-reasonNumber missing = 31
-reasonNumber unlabelled = 32
-reasonNumber deep = 33
-reasonNumber unanswered = 34
-reasonNumber outside = 37
+unfoldable pub reason_number : Reason → ℕ
+reason_number finished = 0
+reason_number differs = 30
+reason_number missing = 31
+reason_number unlabelled = 32
+reason_number deep = 33
+reason_number unanswered = 34
+reason_number outside = 37
 
 -- tokens read, answers used, what is left of the repair allowance, events written
 pub record Io : Type 0 where
@@ -41,17 +40,17 @@ pub record Io : Type 0 where
   pub events : List Event
 
 -- an operation's event, with its instruction number; "choice operations from 768"
-unfoldable pub isChoice : Event → Bool
-isChoice (output t) = false
-isChoice (signal n) = false
-isChoice (repair t) = false
-isChoice (operation op) = leb 768 op
-isChoice (operationWith op v) = leb 768 op
+unfoldable pub is_choice : Event → Bool
+is_choice (output t) = false
+is_choice (signal n) = false
+is_choice (repair t) = false
+is_choice (operation op) = leb 768 op
+is_choice (operation_with op v) = leb 768 op
 
 -- how many choice operations stand in the events
 unfoldable pub choices : List Event → ℕ
 choices [] = 0
-choices (e ∷ es) = (if isChoice e then 1 else 0) + choices es
+choices (e ∷ es) = (if is_choice e then 1 else 0) + choices es
 
 -- "The present token is the first unread one, or none past the end."
 unfoldable pub present : List ℕ → Io → Option ℕ
@@ -91,5 +90,5 @@ is t (some u) = eqb t u
 
 -- all of this file computes where this is unfolded
 unfoldable pub opened : Unit {0}
-unfolding eventWords reasonNumber isChoice choices present answer took wrote answered mends spent repaired is
+unfolding event_words reason_number is_choice choices present answer took wrote answered mends spent repaired is
 opened = tt

@@ -13,41 +13,42 @@ use borrow.Author.Tests.{eqb-true, eq-eqb}
 use Rattle.agreement.proofs.Lists.{going-stopped, going-waiting}
 use Rattle.agreement.specs.Demand.{begin, Suffices}
 use Rattle.base.specs.Bools.{never}
-use Rattle.base.specs.Common.{if◌then◌else◌, member}
+use Rattle.std.specs.Prelude.{if◌then◌else◌}
+use Rattle.base.specs.Common.{member}
 use Rattle.finishing.specs.Finishing.{Finishing}
-use Rattle.machine.specs.Decode.{callRule, decode}
+use Rattle.machine.specs.Decode.{call_rule, decode}
 use Rattle.machine.specs.Walk.{stopped, fresh}
 use Rattle.program.specs.Accepted.{Accepted}
 use Rattle.program.specs.Program.{Rule}
 use Rattle.program.specs.Table.{place, table}
 use Rattle.figure.specs.Figure.{Reached, Bounds, Figure, Long}
-use Rattle.figure.specs.Count.{startsOf, mostFigure, figure}
-use Rattle.figure.specs.Promise.{RuleStart, rule-start, IsFigure, FigureExact, FigureEnough, FigureSteps, BoundEnough, FigureLong, Settles, FigureSettles}
+use Rattle.figure.specs.Count.{starts_of, most_figure, figure}
+use Rattle.figure.specs.Promise.{RuleStart, rule_start, IsFigure, FigureExact, FigureEnough, FigureSteps, BoundEnough, FigureLong, Settles, FigureSettles}
 use Rattle.figure.proofs.Counted.{Start, From, counted-bounds, counted-figure, counted-small, counted-long}
 use Rattle.figure.proofs.Enough.{enough, steps}
 use Rattle.figure.proofs.Spots.{reached-rule}
 
 -- one figure at most
 one-figure : {T : List ℕ} {Start : ℕ → Type 0} {q r : ℕ} → Figure T Start q → Figure T Start r → q ≡ r
-one-figure f g = omega (arith, g.bounds.most f.is-start f.reached f.path, f.bounds.most g.is-start g.reached g.path)
+one-figure f g = omega (arith, g.bounds.most f.is_start f.reached f.path, f.bounds.most g.is_start g.reached g.path)
 
 -- the starts that are listed are the rules'
 
-listed-rule : (prog : List Rule) (n s : ℕ) → n ≤ length prog → member s (startsOf prog n) ≡ true → RuleStart prog s
-unfolding startsOf
+listed-rule : (prog : List Rule) (n s : ℕ) → n ≤ length prog → member s (starts_of prog n) ≡ true → RuleStart prog s
+unfolding starts_of
 listed-rule prog zero s h e = never e
 listed-rule prog (suc n) s h e = go (eqb s (place 1 prog n)) refl e (λ z. listed-rule prog n s (omega arith) z)
   where
-    go : (t : Bool) → eqb s (place 1 prog n) ≡ t → (if t then true else member s (startsOf prog n)) ≡ true → (member s (startsOf prog n) ≡ true → RuleStart prog s) → RuleStart prog s
-    go true d z ih = rule-start n (omega arith) (eqb-true s (place 1 prog n) d)
+    go : (t : Bool) → eqb s (place 1 prog n) ≡ t → (if t then true else member s (starts_of prog n)) ≡ true → (member s (starts_of prog n) ≡ true → RuleStart prog s) → RuleStart prog s
+    go true d z ih = rule_start n (omega arith) (eqb-true s (place 1 prog n) d)
     go false d z ih = ih z
 
-rule-listed : (prog : List Rule) (n r s : ℕ) → r < n → s ≡ place 1 prog r → member s (startsOf prog n) ≡ true
-unfolding startsOf
+rule-listed : (prog : List Rule) (n r s : ℕ) → r < n → s ≡ place 1 prog r → member s (starts_of prog n) ≡ true
+unfolding starts_of
 rule-listed prog zero r s h e = absurd (omega arith)
 rule-listed prog (suc n) r s h e = go (eqb s (place 1 prog n)) refl (λ z. rule-listed prog n r s z e)
   where
-    go : (t : Bool) → eqb s (place 1 prog n) ≡ t → (r < n → member s (startsOf prog n) ≡ true) → (if t then true else member s (startsOf prog n)) ≡ true
+    go : (t : Bool) → eqb s (place 1 prog n) ≡ t → (r < n → member s (starts_of prog n) ≡ true) → (if t then true else member s (starts_of prog n)) ≡ true
     go true d ih = refl
     go false d ih = elim (dec_lt r n) [
       | yes z ↦ ih z
@@ -61,26 +62,26 @@ module _ (prog : List Rule) (a : Accepted prog) where
   T = table prog
 
   abbrev Starts : List ℕ
-  Starts = startsOf prog (length prog)
+  Starts = starts_of prog (length prog)
 
   as-listed : {s : ℕ} → RuleStart prog s → Start T Starts s
-  as-listed {s} (rule-start r l e) = rule-listed prog (length prog) r s l e
+  as-listed {s} (rule_start r l e) = rule-listed prog (length prog) r s l e
 
   as-rule : {s : ℕ} → Start T Starts s → RuleStart prog s
   as-rule {s} e = listed-rule prog (length prog) s (omega arith) e
 
-  reached-rule-here : {s l m : ℕ} → RuleStart prog s → Reached T s l → decode T l ≡ callRule m → RuleStart prog m
+  reached-rule-here : {s l m : ℕ} → RuleStart prog s → Reached T s l → decode T l ≡ call_rule m → RuleStart prog m
   reached-rule-here {s} {l} {m} h r d =
       let r₁ : Reached (table prog ++ []) s l = rw (append-nil (table prog)) r in
-      let d₁ : decode (table prog ++ []) l ≡ callRule m = rw (append-nil (table prog)) d in
+      let d₁ : decode (table prog ++ []) l ≡ call_rule m = rw (append-nil (table prog)) d in
       reached-rule prog [] a h r₁ d₁
 
-  calls : (l s : ℕ) → From T Starts l → decode T l ≡ callRule s → Start T Starts s
-  calls l s f d = as-listed (reached-rule-here (as-rule f.is-start) f.way d)
+  calls : (l s : ℕ) → From T Starts l → decode T l ≡ call_rule s → Start T Starts s
+  calls l s f d = as-listed (reached-rule-here (as-rule f.is_start) f.way d)
 
   bounds_of : (q : ℕ) → figure prog ≡ some q → Bounds (table prog) (RuleStart prog) q
   unfolding figure
-  bounds_of q e = record { most = λ s r p. (counted-bounds T Starts calls (suc mostFigure) q e).most (as-listed s) r p }
+  bounds_of q e = record { most = λ s r p. (counted-bounds T Starts calls (suc most_figure) q e).most (as-listed s) r p }
 
   -- a budget of 0 suffices for no walk
   not-nothing : (tokens answers : List ℕ) → Suffices prog (table prog ++ []) tokens answers 0 0 → ⊥
@@ -97,30 +98,30 @@ module _ (prog : List Rule) (a : Accepted prog) where
   is-figure : Finishing prog → (q : ℕ) → figure prog ≡ some q → IsFigure prog q
   unfolding figure
   is-figure f q e =
-      let z = counted-figure T Starts calls (suc mostFigure) q e (not-0 f q e) in
+      let z = counted-figure T Starts calls (suc most_figure) q e (not-0 f q e) in
       record {
-        exact = record { bounds = bounds_of q e; start = z.start; location = z.location; end = z.end; is-start = as-rule z.is-start; reached = z.reached; path = z.path };
-        small = omega (arith, counted-small T Starts calls (suc mostFigure) q e (not-0 f q e));
+        exact = record { bounds = bounds_of q e; start = z.start; location = z.location; end = z.end; is_start = as-rule z.is_start; reached = z.reached; path = z.path };
+        small = omega (arith, counted-small T Starts calls (suc most_figure) q e (not-0 f q e));
       }
 
-  is-long : figure prog ≡ none → Long (table prog) (RuleStart prog) (suc mostFigure)
+  is-long : figure prog ≡ none → Long (table prog) (RuleStart prog) (suc most_figure)
   unfolding figure
   is-long e =
-      let z = counted-long T Starts calls (suc mostFigure) (omega arith) e in
-      record { start = z.start; location = z.location; end = z.end; count = z.count; is-start = as-rule z.is-start; reached = z.reached; path = z.path; long = z.long }
+      let z = counted-long T Starts calls (suc most_figure) (omega arith) e in
+      record { start = z.start; location = z.location; end = z.end; count = z.count; is_start = as-rule z.is_start; reached = z.reached; path = z.path; long = z.long }
 
   -- a path that is too long has no bound below that
-  long-bound : {q : ℕ} → Long (table prog) (RuleStart prog) (suc mostFigure) → Bounds (table prog) (RuleStart prog) q → mostFigure < q
-  long-bound h b = omega (arith, h.long, b.most h.is-start h.reached h.path)
+  long-bound : {q : ℕ} → Long (table prog) (RuleStart prog) (suc most_figure) → Bounds (table prog) (RuleStart prog) q → most_figure < q
+  long-bound h b = omega (arith, h.long, b.most h.is_start h.reached h.path)
 
   settled : Finishing prog → Settles prog
-  settled f = record { figure-only = λ q i. only q i (figure prog) refl; long-only = λ h. too_long h (figure prog) refl }
+  settled f = record { figure_only = λ q i. only q i (figure prog) refl; long_only = λ h. too_long h (figure prog) refl }
     where
       only : (q : ℕ) → IsFigure prog q → (o : Option ℕ) → figure prog ≡ o → o ≡ some q
       only q i none e = absurd (omega (arith, i.small, long-bound (is-long e) i.exact.bounds))
       only q i (some r) e = ap some (one-figure (is-figure f r e).exact i.exact)
 
-      too_long : Long (table prog) (RuleStart prog) (suc mostFigure) → (o : Option ℕ) → figure prog ≡ o → o ≡ none
+      too_long : Long (table prog) (RuleStart prog) (suc most_figure) → (o : Option ℕ) → figure prog ≡ o → o ≡ none
       too_long h none e = refl
       too_long h (some r) e = let z = is-figure f r e in absurd (omega (arith, z.small, long-bound h z.exact.bounds))
 

@@ -11,11 +11,12 @@ use lib.Dec.{eqb, ltb}
 use lib.ListN.{length}
 use borrow.Author.Tests.{eqb-true, eq-eqb, ltb-true, lt-ltb}
 use Rattle.base.specs.Bools.{never, or, and, or₁, or₂, both}
-use Rattle.base.specs.Common.{if◌then◌else◌, member}
+use Rattle.std.specs.Prelude.{if◌then◌else◌}
+use Rattle.base.specs.Common.{member}
 use Rattle.events.specs.Events.{is}
-use Rattle.machine.specs.Decode.{fetch, Instruction, invalid, jump, input, inputAny, write, inputChoice, callRule, return, setResult, choice, endChoice, setParameter, update, updateWith, choose, chooseWith, decodeAt, decode}
-use Rattle.figure.specs.Figure.{label_at, labelBy, wayAmong, way_of, wayOut, Leads, leads-jump, leads-input, leads_any, leads-write, leads-token, leads-call, leads-result, leads-choice, leads-parameter, leads-update, leads-updateWith, leads-choose, leads-chooseWith, Reached, at-start, further, End, over, back, Quiet, quiet, Does, does-jump, does-input, does-any, does-write, does-token, does-default, does-call-over, does_call, does-call-stop, does-return, does-result, does-choice, does-end, does-parameter, does-update, does-updateWith, does-choose, does-chooseWith, does-choose-stop, does-chooseWith-stop, Goes, any_way, by_result, Bounds, Figure, Long}
-use Rattle.figure.specs.Count.{value, raises, grow, grown, most, somes, truth, each, filter, Key, at, sameOption, sameEnd, sameKey, more, joined, is_over, overIn, isBack, backs, withLabel, labels_from, labelsIf, labelsOf, ways_of, someWay, leadsTo, from, locations, reaches, reached, result_of, results, waysBy, offerAt, offer, ends, keys, reachable, counts, below, greatest, figureAt}
+use Rattle.machine.specs.Decode.{fetch, Instruction, invalid, jump, input, input_any, write, input_choice, call_rule, return, set_result, choice, end_choice, set_parameter, update, update_with, choose, choose_with, decode_at, decode}
+use Rattle.figure.specs.Figure.{label_at, label_by, way_among, way_of, way_out, Leads, leads_jump, leads_input, leads_any, leads_write, leads_token, leads_call, leads_result, leads_choice, leads_parameter, leads_update, leads_update_with, leads_choose, leads_choose_with, Reached, at_start, further, End, over, back, Quiet, quiet, Does, does_jump, does_input, does_any, does_write, does_token, does_default, does_call_over, does_call, does_call_stop, does_return, does_result, does_choice, does_end, does_parameter, does_update, does_update_with, does_choose, does_choose_with, does_choose_stop, does_choose_with_stop, Goes, any_way, by_result, Bounds, Figure, Long}
+use Rattle.figure.specs.Count.{value, raises, grow, grown, most, somes, truth, each, filter, Key, at, same_option, same_end, same_key, more, joined, is_over, over_in, is_back, backs, with_label, labels_from, labels_if, labels_of, ways_of, some_way, leads_to, from, locations, reaches, reached, result_of, results, ways_by, offer_at, offer, ends, keys, reachable, counts, below, greatest, figure_at}
 use Rattle.figure.proofs.Growing.{stands, settles}
 
 -- Greatest of two, and of many
@@ -118,40 +119,40 @@ filter-in {A} {a} p (b ∷ as₁) m = go (p b) refl m (λ j. filter-in p as₁ j
 
 -- Keys
 
-same-option : (x y : Option ℕ) → sameOption x y ≡ true → x ≡ y
-unfolding sameOption
+same-option : (x y : Option ℕ) → same_option x y ≡ true → x ≡ y
+unfolding same_option
 same-option none none e = refl
 same-option none (some v) e = never e
 same-option (some u) none e = never e
 same-option (some u) (some v) e = ap some (eqb-true u v e)
 
-option-self : (x : Option ℕ) → sameOption x x ≡ true
-unfolding sameOption
+option-self : (x : Option ℕ) → same_option x x ≡ true
+unfolding same_option
 option-self none = refl
 option-self (some u) = eq-eqb u u refl
 
-same_end : (x y : End) → sameEnd x y ≡ true → x ≡ y
-unfolding sameEnd
-same_end over over e = refl
-same_end over (back y) e = never e
-same_end (back x) over e = never e
-same_end (back x) (back y) e = ap back (same-option x y e)
+same_end_lem : (x y : End) → same_end x y ≡ true → x ≡ y
+unfolding same_end
+same_end_lem over over e = refl
+same_end_lem over (back y) e = never e
+same_end_lem (back x) over e = never e
+same_end_lem (back x) (back y) e = ap back (same-option x y e)
 
-end-self : (x : End) → sameEnd x x ≡ true
-unfolding sameEnd
+end-self : (x : End) → same_end x x ≡ true
+unfolding same_end
 end-self over = refl
 end-self (back x) = option-self x
 
-same_key : (j k : Key) → sameKey j k ≡ true → j ≡ k
-unfolding sameKey
-same_key (at l x e) (at m y f) h =
-    let a = and (eqb l m) (sameOption x y && sameEnd e f) h in
-    let b = and (sameOption x y) (sameEnd e f) a.1 in
-    rw (eqb-true l m a.0, same-option x y b.0, same_end e f b.1) refl
+same_key_lem : (j k : Key) → same_key j k ≡ true → j ≡ k
+unfolding same_key
+same_key_lem (at l x e) (at m y f) h =
+    let a = and (eqb l m) (same_option x y && same_end e f) h in
+    let b = and (same_option x y) (same_end e f) a.1 in
+    rw (eqb-true l m a.0, same-option x y b.0, same_end_lem e f b.1) refl
 
-key-self : (k : Key) → sameKey k k ≡ true
-unfolding sameKey
-key-self (at l x e) = both (eqb l l) (sameOption x x && sameEnd e e) (eq-eqb l l refl) (both (sameOption x x) (sameEnd e e) (option-self x) (end-self e))
+key-self : (k : Key) → same_key k k ≡ true
+unfolding same_key
+key-self (at l x e) = both (eqb l l) (same_option x x && same_end e e) (eq-eqb l l refl) (both (same_option x x) (same_end e e) (option-self x) (end-self e))
 
 -- Numbers of paths
 
@@ -182,12 +183,12 @@ unfolding is_over
 over-pos over h = (refl, refl)
 over-pos (back y) h = absurd (omega arith)
 
-back-pos : (x : Option ℕ) (e : End) → 0 < isBack x e → (e ≡ back x) × (isBack x e ≡ 1)
-unfolding isBack
+back-pos : (x : Option ℕ) (e : End) → 0 < is_back x e → (e ≡ back x) × (is_back x e ≡ 1)
+unfolding is_back
 back-pos x over h = absurd (omega arith)
 back-pos x (back y) h =
-    let t = truth-true (sameOption x y) h in
-    (ap back (sym (same-option x y t)), true-truth (sameOption x y) t)
+    let t = truth-true (same_option x y) h in
+    (ap back (sym (same-option x y t)), true-truth (same_option x y) t)
 
 module _ (T : List ℕ) where
   -- What is offered is a path
@@ -205,64 +206,64 @@ module _ (T : List ℕ) where
         let z = more-pos (v (at m y e)) p in
         as_long (sym z.1) (f (v (at m y e)) (h m y e z.0))
 
-    is-over : {l : ℕ} {x : Option ℕ} {i : Instruction} (e : End) → Does T l x i 1 over → 0 < is_over e → Does T l x i (is_over e) e
+    is_over_lem : {l : ℕ} {x : Option ℕ} {i : Instruction} (e : End) → Does T l x i 1 over → 0 < is_over e → Does T l x i (is_over e) e
     unfolding is_over
-    is-over over d p = d
-    is-over (back y) d p = absurd (omega arith)
+    is_over_lem over d p = d
+    is_over_lem (back y) d p = absurd (omega arith)
 
     of_two : {l : ℕ} {x : Option ℕ} {i : Instruction} {e : End} (a b : ℕ) → (0 < a → Does T l x i a e) → (0 < b → Does T l x i b e) → 0 < max a b → Does T l x i (max a b) e
     of_two a b f g p = elim (max-is a b) [ inl z ↦ as_long (sym z) (f (omega arith)) | inr z ↦ as_long (sym z) (g (omega arith)) ]
 
-    over-in : {l : ℕ} {x : Option ℕ} {s : ℕ} (e : End) (n : ℕ) → (0 < n → Quiet T s none n over) → 0 < overIn e n → Does T l x (callRule s) (overIn e n) e
-    unfolding overIn
-    over-in over zero q p = does-call-stop
-    over-in over (suc n) q p = does-call-over (q (omega arith))
+    over-in : {l : ℕ} {x : Option ℕ} {s : ℕ} (e : End) (n : ℕ) → (0 < n → Quiet T s none n over) → 0 < over_in e n → Does T l x (call_rule s) (over_in e n) e
+    unfolding over_in
+    over-in over zero q p = does_call_stop
+    over-in over (suc n) q p = does_call_over (q (omega arith))
     over-in (back y) n q p = absurd (omega arith)
 
     call_back : {l s : ℕ} {x : Option ℕ} {e : End} (xs : List (Option ℕ)) → 0 < most xs (λ y. joined (v (at s none (back y))) (v (at (l + 2) y e)))
-        → Does T l x (callRule s) (most xs (λ y. joined (v (at s none (back y))) (v (at (l + 2) y e)))) e
+        → Does T l x (call_rule s) (most xs (λ y. joined (v (at s none (back y))) (v (at (l + 2) y e)))) e
     call_back {l} {s} {x} {e} xs p =
         let o = most-of xs (λ y. joined (v (at s none (back y))) (v (at (l + 2) y e))) p in
         let y = o.one in
         let z = joined-pos (v (at s none (back y))) (v (at (l + 2) y e)) (omega (arith, o.is-most)) in
         as_long (sym (o.is-most ∙ z.2)) (does_call (h s none (back y) z.0) (h (l + 2) y e z.1) refl)
 
-    ways : {l c : ℕ} {x : Option ℕ} {e : End} (us : List (Option ℕ)) → ((u : Option ℕ) → Memᴰ u us → Goes x u) → 0 < most us (λ u. more (v (at (wayOut T c u) none e)))
-        → Does T l x (choice c) (most us (λ u. more (v (at (wayOut T c u) none e)))) e
+    ways : {l c : ℕ} {x : Option ℕ} {e : End} (us : List (Option ℕ)) → ((u : Option ℕ) → Memᴰ u us → Goes x u) → 0 < most us (λ u. more (v (at (way_out T c u) none e)))
+        → Does T l x (choice c) (most us (λ u. more (v (at (way_out T c u) none e)))) e
     ways {c = c} {e = e} us g p =
-        let o = most-of us (λ u. more (v (at (wayOut T c u) none e))) p in
+        let o = most-of us (λ u. more (v (at (way_out T c u) none e))) p in
         let u = o.one in
-        as_long (sym o.is-most) (one_more (wayOut T c u) none (λ n q. does-choice u (g u o.in-them) q) (omega (arith, o.is-most)))
+        as_long (sym o.is-most) (one_more (way_out T c u) none (λ n q. does_choice u (g u o.in-them) q) (omega (arith, o.is-most)))
 
-    goes_by : (x : Option ℕ) (c : ℕ) (u : Option ℕ) → Memᴰ u (waysBy T x c) → Goes x u
-    unfolding waysBy
+    goes_by : (x : Option ℕ) (c : ℕ) (u : Option ℕ) → Memᴰ u (ways_by T x c) → Goes x u
+    unfolding ways_by
     goes_by none c u m = any_way
     goes_by (some w) c u (mathlib.Core.List.Memᴰ.head p) = rw p by_result
     goes_by (some w) c u (mathlib.Core.List.Memᴰ.tail i) = elim i [ ]
 
-    is-return : {l : ℕ} (x : Option ℕ) (e : End) → 0 < isBack x e → Does T l x return (isBack x e) e
+    is-return : {l : ℕ} (x : Option ℕ) (e : End) → 0 < is_back x e → Does T l x return (is_back x e) e
     is-return x e p =
         let z = back-pos x e p in
-        as_long (sym z.1) (rw z.0 does-return)
+        as_long (sym z.1) (rw z.0 does_return)
 
-    offered : (l : ℕ) (x : Option ℕ) (e : End) (i : Instruction) → 0 < offerAt T v l x e i → Does T l x i (offerAt T v l x e i) e
-    unfolding offerAt
+    offered : (l : ℕ) (x : Option ℕ) (e : End) (i : Instruction) → 0 < offer_at T v l x e i → Does T l x i (offer_at T v l x e i) e
+    unfolding offer_at
     offered l x e invalid p = absurd (omega arith)
-    offered l x e (jump m) p = one_more m x (λ n q. does-jump q) p
-    offered l x e (input t) p = is-over e does-input p
-    offered l x e inputAny p = is-over e does-any p
-    offered l x e (write ev) p = one_more (l + 2) x (λ n q. does-write q) p
-    offered l x e (inputChoice c) p = of_two (is_over e) (more (v (at (wayOut T c none) none e))) (is-over e does-token) (one_more (wayOut T c none) none (λ n q. does-default q)) p
-    offered l x e (callRule s) p = of_two (overIn e (v (at s none over))) (most (results T) (λ y. joined (v (at s none (back y))) (v (at (l + 2) y e)))) (over-in e (v (at s none over)) (h s none over)) (call_back (results T)) p
+    offered l x e (jump m) p = one_more m x (λ n q. does_jump q) p
+    offered l x e (input t) p = is_over_lem e does_input p
+    offered l x e input_any p = is_over_lem e does_any p
+    offered l x e (write ev) p = one_more (l + 2) x (λ n q. does_write q) p
+    offered l x e (input_choice c) p = of_two (is_over e) (more (v (at (way_out T c none) none e))) (is_over_lem e does_token) (one_more (way_out T c none) none (λ n q. does_default q)) p
+    offered l x e (call_rule s) p = of_two (over_in e (v (at s none over))) (most (results T) (λ y. joined (v (at s none (back y))) (v (at (l + 2) y e)))) (over-in e (v (at s none over)) (h s none over)) (call_back (results T)) p
     offered l x e return p = is-return x e p
-    offered l x e (setResult u) p = one_more (l + 2) (some u) (λ n q. does-result q) p
-    offered l x e (choice c) p = ways (waysBy T x c) (goes_by x c) p
-    offered l x e endChoice p = is-over e does-end p
-    offered l x e (setParameter u) p = one_more (l + 2) x (λ n q. does-parameter q) p
-    offered l x e (update op) p = one_more (l + 1) x (λ n q. does-update q) p
-    offered l x e (updateWith op) p = one_more (l + 1) x (λ n q. does-updateWith q) p
-    offered l x e (choose op) p = of_two (is_over e) (more (v (at (l + 1) none e))) (is-over e does-choose-stop) (one_more (l + 1) none (λ n q. does-choose q)) p
-    offered l x e (chooseWith op) p = of_two (is_over e) (more (v (at (l + 1) none e))) (is-over e does-chooseWith-stop) (one_more (l + 1) none (λ n q. does-chooseWith q)) p
+    offered l x e (set_result u) p = one_more (l + 2) (some u) (λ n q. does_result q) p
+    offered l x e (choice c) p = ways (ways_by T x c) (goes_by x c) p
+    offered l x e end_choice p = is_over_lem e does_end p
+    offered l x e (set_parameter u) p = one_more (l + 2) x (λ n q. does_parameter q) p
+    offered l x e (update op) p = one_more (l + 1) x (λ n q. does_update q) p
+    offered l x e (update_with op) p = one_more (l + 1) x (λ n q. does_update_with q) p
+    offered l x e (choose op) p = of_two (is_over e) (more (v (at (l + 1) none e))) (is_over_lem e does_choose_stop) (one_more (l + 1) none (λ n q. does_choose q)) p
+    offered l x e (choose_with op) p = of_two (is_over e) (more (v (at (l + 1) none e))) (is_over_lem e does_choose_with_stop) (one_more (l + 1) none (λ n q. does_choose_with q)) p
 
   Path : Key → ℕ → Type 0
   Path (at l x e) n = Quiet T l x n e
@@ -272,10 +273,10 @@ module _ (T : List ℕ) where
   offer-path v h (at l x e) p = quiet (offered v (λ l x e p. h (at l x e) p) l x e (decode T l) p)
 
   -- every number is that of a path
-  count-path : (cap : ℕ) (ls : List ℕ) (l : ℕ) (x : Option ℕ) (e : End) → 0 < value sameKey (counts T cap ls) (at l x e) → Quiet T l x (value sameKey (counts T cap ls) (at l x e)) e
+  count-path : (cap : ℕ) (ls : List ℕ) (l : ℕ) (x : Option ℕ) (e : End) → 0 < value same_key (counts T cap ls) (at l x e) → Quiet T l x (value same_key (counts T cap ls) (at l x e)) e
   unfolding counts grown Path value
   count-path cap ls l x e p =
-      stands sameKey same_key key-self cap (offer T) Path offer-path (keys T ls) (length (keys T ls) * cap) [] (λ k z. absurd (omega arith)) (at l x e) p
+      stands same_key same_key_lem key-self cap (offer T) Path offer-path (keys T ls) (length (keys T ls) * cap) [] (λ k z. absurd (omega arith)) (at l x e) p
 
   -- Every path is counted
 
@@ -283,10 +284,10 @@ module _ (T : List ℕ) where
   record Listed (c : ℕ) (u : Option ℕ) : Type 0 where
     by : Option ℕ
     listed : Memᴰ by (ways_of T c)
-    same_way : wayOut T c u ≡ wayOut T c by
+    same_way : way_out T c u ≡ way_out T c by
 
   label-in : (a n l : ℕ) → (label_at T a n l ≡ none) ⊎ Memᴰ a (labels_from T n l)
-  unfolding label_at labels_from is withLabel
+  unfolding label_at labels_from is with_label
   label-in a zero l = inl refl
   label-in a (suc n) l = go (fetch T l) (label-in a n (l + 2))
     where
@@ -297,18 +298,18 @@ module _ (T : List ℕ) where
       found b w false e (inr z) = inr (mathlib.Core.List.Memᴰ.tail z)
 
       go : (f : Option ℕ) → (label_at T a n (l + 2) ≡ none) ⊎ Memᴰ a (labels_from T n (l + 2))
-          → ((if is a f then some (l + 1) else label_at T a n (l + 2)) ≡ none) ⊎ Memᴰ a (withLabel f (labels_from T n (l + 2)))
+          → ((if is a f then some (l + 1) else label_at T a n (l + 2)) ≡ none) ⊎ Memᴰ a (with_label f (labels_from T n (l + 2)))
       go none h = h
       go (some w) h = found a w (eqb a w) refl h
 
   way-listed : (c : ℕ) (u : Option ℕ) → Listed c u
-  unfolding wayOut way_of labelBy ways_of labelsOf labelsIf
+  unfolding way_out way_of label_by ways_of labels_of labels_if
   way-listed c none = record { by = none; listed = mathlib.Core.List.Memᴰ.head refl; same_way = refl }
   way-listed c (some a) = go (fetch T c) refl
     where
       among : (n : ℕ) → fetch T c ≡ some n → (label_at T a n (c + 1) ≡ none) ⊎ Memᴰ a (labels_from T n (c + 1)) → Listed c (some a)
-      among n e (inl z) = record { by = none; listed = mathlib.Core.List.Memᴰ.head refl; same_way = rw e (ap (wayAmong T c n) z) }
-      among n e (inr z) = record { by = some a; listed = mathlib.Core.List.Memᴰ.tail (in-somes {vs = labelsIf T (fetch T c) c} (rw e z)); same_way = refl }
+      among n e (inl z) = record { by = none; listed = mathlib.Core.List.Memᴰ.head refl; same_way = rw e (ap (way_among T c n) z) }
+      among n e (inr z) = record { by = some a; listed = mathlib.Core.List.Memᴰ.tail (in-somes {vs = labels_if T (fetch T c) c} (rw e z)); same_way = refl }
 
       go : (f : Option ℕ) → fetch T c ≡ f → Listed c (some a)
       go none e = record { by = none; listed = mathlib.Core.List.Memᴰ.head refl; same_way = rw e refl }
@@ -323,19 +324,19 @@ module _ (T : List ℕ) where
   Real invalid = ⊥
   Real (jump m) = Unit {0}
   Real (input t) = Unit {0}
-  Real inputAny = Unit {0}
+  Real input_any = Unit {0}
   Real (write e) = Unit {0}
-  Real (inputChoice c) = Unit {0}
-  Real (callRule s) = Unit {0}
+  Real (input_choice c) = Unit {0}
+  Real (call_rule s) = Unit {0}
   Real return = Unit {0}
-  Real (setResult v) = Unit {0}
+  Real (set_result v) = Unit {0}
   Real (choice c) = Unit {0}
-  Real endChoice = Unit {0}
-  Real (setParameter v) = Unit {0}
+  Real end_choice = Unit {0}
+  Real (set_parameter v) = Unit {0}
   Real (update op) = Unit {0}
-  Real (updateWith op) = Unit {0}
+  Real (update_with op) = Unit {0}
   Real (choose op) = Unit {0}
-  Real (chooseWith op) = Unit {0}
+  Real (choose_with op) = Unit {0}
 
   fetch-le : (S : List ℕ) (l w : ℕ) → fetch S l ≡ some w → (0 < l) × (l ≤ length S)
   unfolding fetch
@@ -345,35 +346,35 @@ module _ (T : List ℕ) where
   fetch-le (v ∷ S) (suc (suc i)) w h = (omega arith, omega (arith, (fetch-le S (suc i) w h).1))
 
   real-in : (l : ℕ) → Real (decode T l) → Memᴰ l (locations T)
-  unfolding Real decode decodeAt locations
+  unfolding Real decode decode_at locations
   real-in l r = go (fetch T l) refl r
     where
-      go : (f : Option ℕ) → fetch T l ≡ f → Real (decodeAt l f (fetch T (suc l))) → Memᴰ l (from T (length T) 1)
+      go : (f : Option ℕ) → fetch T l ≡ f → Real (decode_at l f (fetch T (suc l))) → Memᴰ l (from T (length T) 1)
       go none e z = absurd z
       go (some w) e z = let y = fetch-le T l w e in in-from (length T) 1 l (omega (arith, y.0)) (omega (arith, y.1))
 
   does-real : {l n : ℕ} {x : Option ℕ} {i : Instruction} {e : End} → Does T l x i n e → Real i
   unfolding Real
-  does-real (does-jump p) = tt
-  does-real does-input = tt
-  does-real does-any = tt
-  does-real (does-write p) = tt
-  does-real does-token = tt
-  does-real (does-default p) = tt
-  does-real (does-call-over p) = tt
+  does-real (does_jump p) = tt
+  does-real does_input = tt
+  does-real does_any = tt
+  does-real (does_write p) = tt
+  does-real does_token = tt
+  does-real (does_default p) = tt
+  does-real (does_call_over p) = tt
   does-real (does_call p q j) = tt
-  does-real does-call-stop = tt
-  does-real does-return = tt
-  does-real (does-result p) = tt
-  does-real (does-choice v g p) = tt
-  does-real does-end = tt
-  does-real (does-parameter p) = tt
-  does-real (does-update p) = tt
-  does-real (does-updateWith p) = tt
-  does-real (does-choose p) = tt
-  does-real (does-chooseWith p) = tt
-  does-real does-choose-stop = tt
-  does-real does-chooseWith-stop = tt
+  does-real does_call_stop = tt
+  does-real does_return = tt
+  does-real (does_result p) = tt
+  does-real (does_choice v g p) = tt
+  does-real does_end = tt
+  does-real (does_parameter p) = tt
+  does-real (does_update p) = tt
+  does-real (does_update_with p) = tt
+  does-real (does_choose p) = tt
+  does-real (does_choose_with p) = tt
+  does-real does_choose_stop = tt
+  does-real does_choose_with_stop = tt
 
   quiet-in : {l n : ℕ} {x : Option ℕ} {e : End} → Quiet T l x n e → Memᴰ l (locations T)
   quiet-in (quiet {l = l} d) = real-in l (does-real d)
@@ -397,7 +398,7 @@ module _ (T : List ℕ) where
   unfolding results
   none_in = mathlib.Core.List.Memᴰ.head refl
 
-  result-in : (l u : ℕ) → decode T l ≡ setResult u → Memᴰ (some u) (results T)
+  result-in : (l u : ℕ) → decode T l ≡ set_result u → Memᴰ (some u) (results T)
   unfolding results result_of Real
   result-in l u d =
       let r : Real (decode T l) = rw d tt in
@@ -407,8 +408,8 @@ module _ (T : List ℕ) where
   -- the places are closed, and so are the numbers
   pub record Complete (ls : List ℕ) (v : Key → ℕ) : Type 0 where
     pub onward : (l m : ℕ) → Memᴰ l ls → Leads T l (decode T l) m → Memᴰ m (locations T) → Memᴰ m ls
-    pub called : (l s : ℕ) → Memᴰ l ls → decode T l ≡ callRule s → Memᴰ s (locations T) → Memᴰ s ls
-    pub settled : (l : ℕ) (x : Option ℕ) (e : End) → Memᴰ l ls → Memᴰ x (results T) → Memᴰ e (ends T) → offerAt T v l x e (decode T l) ≤ v (at l x e)
+    pub called : (l s : ℕ) → Memᴰ l ls → decode T l ≡ call_rule s → Memᴰ s (locations T) → Memᴰ s ls
+    pub settled : (l : ℕ) (x : Option ℕ) (e : End) → Memᴰ l ls → Memᴰ x (results T) → Memᴰ e (ends T) → offer_at T v l x e (decode T l) ≤ v (at l x e)
 
   module _ (ls : List ℕ) (v : Key → ℕ) (c : Complete ls v) where
     -- a path to an end that is listed, and counted
@@ -433,52 +434,52 @@ module _ (T : List ℕ) where
     unfolding ends
     back-listed x r = mathlib.Core.List.Memᴰ.tail (in-backs r)
 
-    by_way : (l t : ℕ) (x u : Option ℕ) (e : End) → Goes x u → more (v (at (wayOut T t u) none e)) ≤ offerAt T v l x e (choice t)
-    unfolding offerAt waysBy
+    by_way : (l t : ℕ) (x u : Option ℕ) (e : End) → Goes x u → more (v (at (way_out T t u) none e)) ≤ offer_at T v l x e (choice t)
+    unfolding offer_at ways_by
     by_way l t none u e any_way =
         let z = way-listed t u in
-        rw z.same_way (most-le (ways_of T t) (λ w. more (v (at (wayOut T t w) none e))) z.listed)
-    by_way l t (some w) u e by_result = most-le (some w ∷ []) (λ w. more (v (at (wayOut T t w) none e))) (mathlib.Core.List.Memᴰ.head refl)
+        rw z.same_way (most-le (ways_of T t) (λ w. more (v (at (way_out T t w) none e))) z.listed)
+    by_way l t (some w) u e by_result = most-le (some w ∷ []) (λ w. more (v (at (way_out T t w) none e))) (mathlib.Core.List.Memᴰ.head refl)
 
     mutual
-      unfolding offerAt is_over overIn isBack truth
+      unfolding offer_at is_over over_in is_back truth
 
       pub quiet-counted : {l n : ℕ} {x : Option ℕ} {e : End} → Quiet T l x n e → Memᴰ l ls → Memᴰ x (results T) → Counted l x n e (v (at l x e))
       quiet-counted (quiet {l = l} {n = n} {x = x} {e = e} d) b r =
           let z = does-counted d refl b r in
           record { listed-end = z.listed-end; some-instruction = z.some-instruction; counted = omega (arith, z.counted, c.settled l x e b r z.listed-end) }
 
-      does-counted : {l n : ℕ} {x : Option ℕ} {i : Instruction} {e : End} → Does T l x i n e → decode T l ≡ i → Memᴰ l ls → Memᴰ x (results T) → Counted l x n e (offerAt T v l x e i)
-      does-counted (does-jump {l = l} {m = m} p) d b r = on_one (quiet-counted p (goes_to l m _ d leads-jump b (quiet-in p)) r) _ (omega arith)
-      does-counted does-input d b r = one _ (omega arith)
-      does-counted does-any d b r = one _ (omega arith)
-      does-counted (does-write {l = l} p) d b r = on_one (quiet-counted p (goes_to l (l + 2) _ d leads-write b (quiet-in p)) r) _ (omega arith)
-      does-counted does-token d b r = one _ (omega arith)
-      does-counted (does-default {l = l} {c = t} p) d b r = on_one (quiet-counted p (goes_to l (wayOut T t none) _ d (leads-token none) b (quiet-in p)) none_in) _ (omega arith)
-      does-counted (does-call-over {l = l} {s = s} {n = n} p) d b r =
+      does-counted : {l n : ℕ} {x : Option ℕ} {i : Instruction} {e : End} → Does T l x i n e → decode T l ≡ i → Memᴰ l ls → Memᴰ x (results T) → Counted l x n e (offer_at T v l x e i)
+      does-counted (does_jump {l = l} {m = m} p) d b r = on_one (quiet-counted p (goes_to l m _ d leads_jump b (quiet-in p)) r) _ (omega arith)
+      does-counted does_input d b r = one _ (omega arith)
+      does-counted does_any d b r = one _ (omega arith)
+      does-counted (does_write {l = l} p) d b r = on_one (quiet-counted p (goes_to l (l + 2) _ d leads_write b (quiet-in p)) r) _ (omega arith)
+      does-counted does_token d b r = one _ (omega arith)
+      does-counted (does_default {l = l} {c = t} p) d b r = on_one (quiet-counted p (goes_to l (way_out T t none) _ d (leads_token none) b (quiet-in p)) none_in) _ (omega arith)
+      does-counted (does_call_over {l = l} {s = s} {n = n} p) d b r =
           let z = quiet-counted p (c.called l s b d (quiet-in p)) none_in in
           record { listed-end = over-in-ends; some-instruction = omega arith; counted = omega (arith, z.counted) }
       does-counted (does_call {l = l} {s = s} {m = m} {n = n} {y = y} {e = e} p q j) d b r =
           let z = quiet-counted p (c.called l s b d (quiet-in p)) none_in in
           let k = back-known y z.listed-end in
-          let w = quiet-counted q (goes_to l (l + 2) _ d leads-call b (quiet-in q)) k in
+          let w = quiet-counted q (goes_to l (l + 2) _ d leads_call b (quiet-in q)) k in
           let a = joined-le m n (v (at s none (back y))) (v (at (l + 2) y e)) z.some-instruction w.some-instruction z.counted w.counted in
           let t = most-le (results T) (λ y. joined (v (at s none (back y))) (v (at (l + 2) y e))) k in
           record { listed-end = w.listed-end; some-instruction = omega arith; counted = omega (arith, a, t, j) }
-      does-counted does-call-stop d b r = one _ (omega arith)
-      does-counted (does-return {x = x}) d b r = record { listed-end = back-listed x r; some-instruction = omega arith; counted = rw (option-self x) (omega arith) }
-      does-counted (does-result {l = l} {v = u} p) d b r = on_one (quiet-counted p (goes_to l (l + 2) _ d leads-result b (quiet-in p)) (result-in l u d)) _ (omega arith)
-      does-counted (does-choice {l = l} {x = x} {c = t} {e = e} u g p) d b r =
-          let z = quiet-counted p (goes_to l (wayOut T t u) _ d (leads-choice u) b (quiet-in p)) none_in in
+      does-counted does_call_stop d b r = one _ (omega arith)
+      does-counted (does_return {x = x}) d b r = record { listed-end = back-listed x r; some-instruction = omega arith; counted = rw (option-self x) (omega arith) }
+      does-counted (does_result {l = l} {v = u} p) d b r = on_one (quiet-counted p (goes_to l (l + 2) _ d leads_result b (quiet-in p)) (result-in l u d)) _ (omega arith)
+      does-counted (does_choice {l = l} {x = x} {c = t} {e = e} u g p) d b r =
+          let z = quiet-counted p (goes_to l (way_out T t u) _ d (leads_choice u) b (quiet-in p)) none_in in
           on_one z _ (by_way l t x u e g)
-      does-counted does-end d b r = one _ (omega arith)
-      does-counted (does-parameter {l = l} p) d b r = on_one (quiet-counted p (goes_to l (l + 2) _ d leads-parameter b (quiet-in p)) r) _ (omega arith)
-      does-counted (does-update {l = l} p) d b r = on_one (quiet-counted p (goes_to l (l + 1) _ d leads-update b (quiet-in p)) r) _ (omega arith)
-      does-counted (does-updateWith {l = l} p) d b r = on_one (quiet-counted p (goes_to l (l + 1) _ d leads-updateWith b (quiet-in p)) r) _ (omega arith)
-      does-counted (does-choose {l = l} p) d b r = on_one (quiet-counted p (goes_to l (l + 1) _ d leads-choose b (quiet-in p)) none_in) _ (omega arith)
-      does-counted (does-chooseWith {l = l} p) d b r = on_one (quiet-counted p (goes_to l (l + 1) _ d leads-chooseWith b (quiet-in p)) none_in) _ (omega arith)
-      does-counted does-choose-stop d b r = one _ (omega arith)
-      does-counted does-chooseWith-stop d b r = one _ (omega arith)
+      does-counted does_end d b r = one _ (omega arith)
+      does-counted (does_parameter {l = l} p) d b r = on_one (quiet-counted p (goes_to l (l + 2) _ d leads_parameter b (quiet-in p)) r) _ (omega arith)
+      does-counted (does_update {l = l} p) d b r = on_one (quiet-counted p (goes_to l (l + 1) _ d leads_update b (quiet-in p)) r) _ (omega arith)
+      does-counted (does_update_with {l = l} p) d b r = on_one (quiet-counted p (goes_to l (l + 1) _ d leads_update_with b (quiet-in p)) r) _ (omega arith)
+      does-counted (does_choose {l = l} p) d b r = on_one (quiet-counted p (goes_to l (l + 1) _ d leads_choose b (quiet-in p)) none_in) _ (omega arith)
+      does-counted (does_choose_with {l = l} p) d b r = on_one (quiet-counted p (goes_to l (l + 1) _ d leads_choose_with b (quiet-in p)) none_in) _ (omega arith)
+      does-counted does_choose_stop d b r = one _ (omega arith)
+      does-counted does_choose_with_stop d b r = one _ (omega arith)
 
   -- a path that knows the result is also one that does not
 
@@ -495,92 +496,92 @@ module _ (T : List ℕ) where
     unknown (quiet d) = let z = unknown-does d in record { end = z.end; path = quiet z.does }
 
     unknown-does : {l n : ℕ} {x : Option ℕ} {i : Instruction} {e : End} → Does T l x i n e → UnknownDoes l i n
-    unknown-does (does-jump p) = let z = unknown p in record { end = z.end; does = does-jump z.path }
-    unknown-does does-input = record { end = over; does = does-input }
-    unknown-does does-any = record { end = over; does = does-any }
-    unknown-does (does-write p) = let z = unknown p in record { end = z.end; does = does-write z.path }
-    unknown-does does-token = record { end = over; does = does-token }
-    unknown-does (does-default {e = e} p) = record { end = e; does = does-default p }
-    unknown-does (does-call-over p) = record { end = over; does = does-call-over p }
+    unknown-does (does_jump p) = let z = unknown p in record { end = z.end; does = does_jump z.path }
+    unknown-does does_input = record { end = over; does = does_input }
+    unknown-does does_any = record { end = over; does = does_any }
+    unknown-does (does_write p) = let z = unknown p in record { end = z.end; does = does_write z.path }
+    unknown-does does_token = record { end = over; does = does_token }
+    unknown-does (does_default {e = e} p) = record { end = e; does = does_default p }
+    unknown-does (does_call_over p) = record { end = over; does = does_call_over p }
     unknown-does (does_call {e = e} p q j) = record { end = e; does = does_call p q j }
-    unknown-does does-call-stop = record { end = over; does = does-call-stop }
-    unknown-does does-return = record { end = back none; does = does-return }
-    unknown-does (does-result {e = e} p) = record { end = e; does = does-result p }
-    unknown-does (does-choice {e = e} v g p) = record { end = e; does = does-choice v any_way p }
-    unknown-does does-end = record { end = over; does = does-end }
-    unknown-does (does-parameter p) = let z = unknown p in record { end = z.end; does = does-parameter z.path }
-    unknown-does (does-update p) = let z = unknown p in record { end = z.end; does = does-update z.path }
-    unknown-does (does-updateWith p) = let z = unknown p in record { end = z.end; does = does-updateWith z.path }
-    unknown-does (does-choose {e = e} p) = record { end = e; does = does-choose p }
-    unknown-does (does-chooseWith {e = e} p) = record { end = e; does = does-chooseWith p }
-    unknown-does does-choose-stop = record { end = over; does = does-choose-stop }
-    unknown-does does-chooseWith-stop = record { end = over; does = does-chooseWith-stop }
+    unknown-does does_call_stop = record { end = over; does = does_call_stop }
+    unknown-does does_return = record { end = back none; does = does_return }
+    unknown-does (does_result {e = e} p) = record { end = e; does = does_result p }
+    unknown-does (does_choice {e = e} v g p) = record { end = e; does = does_choice v any_way p }
+    unknown-does does_end = record { end = over; does = does_end }
+    unknown-does (does_parameter p) = let z = unknown p in record { end = z.end; does = does_parameter z.path }
+    unknown-does (does_update p) = let z = unknown p in record { end = z.end; does = does_update z.path }
+    unknown-does (does_update_with p) = let z = unknown p in record { end = z.end; does = does_update_with z.path }
+    unknown-does (does_choose {e = e} p) = record { end = e; does = does_choose p }
+    unknown-does (does_choose_with {e = e} p) = record { end = e; does = does_choose_with p }
+    unknown-does does_choose_stop = record { end = over; does = does_choose_stop }
+    unknown-does does_choose_with_stop = record { end = over; does = does_choose_with_stop }
 
   -- Reachable places
 
-  some-way : (us : List (Option ℕ)) (c m : ℕ) {u : Option ℕ} → Memᴰ u us → wayOut T c u ≡ m → someWay T us c m ≡ true
-  unfolding someWay
-  some-way (w ∷ us) c m {u} (mathlib.Core.List.Memᴰ.head p) e = or₁ (eqb (wayOut T c w) m) (someWay T us c m) (eq-eqb (wayOut T c w) m (rw p at e))
-  some-way (w ∷ us) c m (mathlib.Core.List.Memᴰ.tail i) e = or₂ (eqb (wayOut T c w) m) (someWay T us c m) (some-way us c m i e)
+  some-way : (us : List (Option ℕ)) (c m : ℕ) {u : Option ℕ} → Memᴰ u us → way_out T c u ≡ m → some_way T us c m ≡ true
+  unfolding some_way
+  some-way (w ∷ us) c m {u} (mathlib.Core.List.Memᴰ.head p) e = or₁ (eqb (way_out T c w) m) (some_way T us c m) (eq-eqb (way_out T c w) m (rw p at e))
+  some-way (w ∷ us) c m (mathlib.Core.List.Memᴰ.tail i) e = or₂ (eqb (way_out T c w) m) (some_way T us c m) (some-way us c m i e)
 
-  way-some : (us : List (Option ℕ)) (c m : ℕ) → someWay T us c m ≡ true → (u : Option ℕ) × (wayOut T c u ≡ m)
-  unfolding someWay
+  way-some : (us : List (Option ℕ)) (c m : ℕ) → some_way T us c m ≡ true → (u : Option ℕ) × (way_out T c u ≡ m)
+  unfolding some_way
   way-some [] c m e = never e
-  way-some (w ∷ us) c m e = elim (or (eqb (wayOut T c w) m) (someWay T us c m) e) [ inl z ↦ (w, eqb-true (wayOut T c w) m z) | inr z ↦ way-some us c m z ]
+  way-some (w ∷ us) c m e = elim (or (eqb (way_out T c w) m) (some_way T us c m) e) [ inl z ↦ (w, eqb-true (way_out T c w) m z) | inr z ↦ way-some us c m z ]
 
-  leads-true : {l m : ℕ} {i : Instruction} → Leads T l i m → leadsTo T l i m ≡ true
-  unfolding leadsTo
-  leads-true (leads-jump {m = m}) = eq-eqb m m refl
-  leads-true {l} leads-input = eq-eqb (l + 2) (l + 2) refl
+  leads-true : {l m : ℕ} {i : Instruction} → Leads T l i m → leads_to T l i m ≡ true
+  unfolding leads_to
+  leads-true (leads_jump {m = m}) = eq-eqb m m refl
+  leads-true {l} leads_input = eq-eqb (l + 2) (l + 2) refl
   leads-true {l} leads_any = eq-eqb (l + 1) (l + 1) refl
-  leads-true {l} leads-write = eq-eqb (l + 2) (l + 2) refl
-  leads-true (leads-token {c = c} v) = let z = way-listed c v in some-way (ways_of T c) c (wayOut T c v) z.listed (sym z.same_way)
-  leads-true {l} leads-call = eq-eqb (l + 2) (l + 2) refl
-  leads-true {l} leads-result = eq-eqb (l + 2) (l + 2) refl
-  leads-true (leads-choice {c = c} v) = let z = way-listed c v in some-way (ways_of T c) c (wayOut T c v) z.listed (sym z.same_way)
-  leads-true {l} leads-parameter = eq-eqb (l + 2) (l + 2) refl
-  leads-true {l} leads-update = eq-eqb (l + 1) (l + 1) refl
-  leads-true {l} leads-updateWith = eq-eqb (l + 1) (l + 1) refl
-  leads-true {l} leads-choose = eq-eqb (l + 1) (l + 1) refl
-  leads-true {l} leads-chooseWith = eq-eqb (l + 1) (l + 1) refl
+  leads-true {l} leads_write = eq-eqb (l + 2) (l + 2) refl
+  leads-true (leads_token {c = c} v) = let z = way-listed c v in some-way (ways_of T c) c (way_out T c v) z.listed (sym z.same_way)
+  leads-true {l} leads_call = eq-eqb (l + 2) (l + 2) refl
+  leads-true {l} leads_result = eq-eqb (l + 2) (l + 2) refl
+  leads-true (leads_choice {c = c} v) = let z = way-listed c v in some-way (ways_of T c) c (way_out T c v) z.listed (sym z.same_way)
+  leads-true {l} leads_parameter = eq-eqb (l + 2) (l + 2) refl
+  leads-true {l} leads_update = eq-eqb (l + 1) (l + 1) refl
+  leads-true {l} leads_update_with = eq-eqb (l + 1) (l + 1) refl
+  leads-true {l} leads_choose = eq-eqb (l + 1) (l + 1) refl
+  leads-true {l} leads_choose_with = eq-eqb (l + 1) (l + 1) refl
 
   leads-at : {l a m : ℕ} {i : Instruction} → a ≡ m → Leads T l i a → Leads T l i m
   leads-at e h = rw (← e) h
 
-  leads-is : (l m : ℕ) (i : Instruction) → leadsTo T l i m ≡ true → Leads T l i m
-  unfolding leadsTo
+  leads-is : (l m : ℕ) (i : Instruction) → leads_to T l i m ≡ true → Leads T l i m
+  unfolding leads_to
   leads-is l m invalid e = never e
-  leads-is l m (jump k) e = leads-at (eqb-true k m e) leads-jump
-  leads-is l m (input t) e = leads-at (eqb-true (l + 2) m e) leads-input
-  leads-is l m inputAny e = leads-at (eqb-true (l + 1) m e) leads_any
-  leads-is l m (write ev) e = leads-at (eqb-true (l + 2) m e) leads-write
-  leads-is l m (inputChoice c) e = let z = way-some (ways_of T c) c m e in leads-at z.1 (leads-token z.0)
-  leads-is l m (callRule s) e = leads-at (eqb-true (l + 2) m e) leads-call
+  leads-is l m (jump k) e = leads-at (eqb-true k m e) leads_jump
+  leads-is l m (input t) e = leads-at (eqb-true (l + 2) m e) leads_input
+  leads-is l m input_any e = leads-at (eqb-true (l + 1) m e) leads_any
+  leads-is l m (write ev) e = leads-at (eqb-true (l + 2) m e) leads_write
+  leads-is l m (input_choice c) e = let z = way-some (ways_of T c) c m e in leads-at z.1 (leads_token z.0)
+  leads-is l m (call_rule s) e = leads-at (eqb-true (l + 2) m e) leads_call
   leads-is l m return e = never e
-  leads-is l m (setResult v) e = leads-at (eqb-true (l + 2) m e) leads-result
-  leads-is l m (choice c) e = let z = way-some (ways_of T c) c m e in leads-at z.1 (leads-choice z.0)
-  leads-is l m endChoice e = never e
-  leads-is l m (setParameter v) e = leads-at (eqb-true (l + 2) m e) leads-parameter
-  leads-is l m (update op) e = leads-at (eqb-true (l + 1) m e) leads-update
-  leads-is l m (updateWith op) e = leads-at (eqb-true (l + 1) m e) leads-updateWith
-  leads-is l m (choose op) e = leads-at (eqb-true (l + 1) m e) leads-choose
-  leads-is l m (chooseWith op) e = leads-at (eqb-true (l + 1) m e) leads-chooseWith
+  leads-is l m (set_result v) e = leads-at (eqb-true (l + 2) m e) leads_result
+  leads-is l m (choice c) e = let z = way-some (ways_of T c) c m e in leads-at z.1 (leads_choice z.0)
+  leads-is l m end_choice e = never e
+  leads-is l m (set_parameter v) e = leads-at (eqb-true (l + 2) m e) leads_parameter
+  leads-is l m (update op) e = leads-at (eqb-true (l + 1) m e) leads_update
+  leads-is l m (update_with op) e = leads-at (eqb-true (l + 1) m e) leads_update_with
+  leads-is l m (choose op) e = leads-at (eqb-true (l + 1) m e) leads_choose
+  leads-is l m (choose_with op) e = leads-at (eqb-true (l + 1) m e) leads_choose_with
 
   leads-real : {l m : ℕ} {i : Instruction} → Leads T l i m → Real i
   unfolding Real
-  leads-real leads-jump = tt
-  leads-real leads-input = tt
+  leads-real leads_jump = tt
+  leads-real leads_input = tt
   leads-real leads_any = tt
-  leads-real leads-write = tt
-  leads-real (leads-token v) = tt
-  leads-real leads-call = tt
-  leads-real leads-result = tt
-  leads-real (leads-choice v) = tt
-  leads-real leads-parameter = tt
-  leads-real leads-update = tt
-  leads-real leads-updateWith = tt
-  leads-real leads-choose = tt
-  leads-real leads-chooseWith = tt
+  leads-real leads_write = tt
+  leads-real (leads_token v) = tt
+  leads-real leads_call = tt
+  leads-real leads_result = tt
+  leads-real (leads_choice v) = tt
+  leads-real leads_parameter = tt
+  leads-real leads_update = tt
+  leads-real leads_update_with = tt
+  leads-real leads_choose = tt
+  leads-real leads_choose_with = tt
 
   module _ (starts : List ℕ) where
     abbrev pub Start : ℕ → Type 0
@@ -588,18 +589,18 @@ module _ (T : List ℕ) where
 
     pub record From (m : ℕ) : Type 0 where
       pub start : ℕ
-      pub is-start : Start start
+      pub is_start : Start start
       pub way : Reached T start m
 
     reach_step : (v : ℕ → ℕ) → ((k : ℕ) → 0 < v k → From k) → (m : ℕ) → 0 < reaches T starts v m → From m
     unfolding reaches
-    reach_step v h m p = elim (max-is (truth (member m starts)) (most (locations T) (λ l. truth (ltb 0 (v l) && leadsTo T l (decode T l) m)))) [
-      | inl e ↦ record { start = m; is-start = truth-true (member m starts) (omega arith); way = at-start }
-      | inr e ↦ let o = most-of (locations T) (λ l. truth (ltb 0 (v l) && leadsTo T l (decode T l) m)) (omega arith) in
+    reach_step v h m p = elim (max-is (truth (member m starts)) (most (locations T) (λ l. truth (ltb 0 (v l) && leads_to T l (decode T l) m)))) [
+      | inl e ↦ record { start = m; is_start = truth-true (member m starts) (omega arith); way = at_start }
+      | inr e ↦ let o = most-of (locations T) (λ l. truth (ltb 0 (v l) && leads_to T l (decode T l) m)) (omega arith) in
           let l = o.one in
-          let z = and (ltb 0 (v l)) (leadsTo T l (decode T l) m) (truth-true (ltb 0 (v l) && leadsTo T l (decode T l) m) (omega (arith, o.is-most))) in
+          let z = and (ltb 0 (v l)) (leads_to T l (decode T l) m) (truth-true (ltb 0 (v l) && leads_to T l (decode T l) m) (omega (arith, o.is-most))) in
           let y = h l (ltb-true 0 (v l) z.0) in
-          record { start = y.start; is-start = y.is-start; way = further y.way (leads-is l m (decode T l) z.1) }
+          record { start = y.start; is_start = y.is_start; way = further y.way (leads-is l m (decode T l) z.1) }
     ]
 
     reached-from : (m : ℕ) → 0 < value eqb (reached T starts) m → From m
@@ -621,11 +622,11 @@ module _ (T : List ℕ) where
     reach-on : (l m : ℕ) → Memᴰ l (locations T) → 0 < value eqb (reached T starts) l → Leads T l (decode T l) m → Memᴰ m (locations T) → 0 < value eqb (reached T starts) m
     unfolding reaches
     reach-on l m i h c j =
-        let z = true-truth (ltb 0 (value eqb (reached T starts) l) && leadsTo T l (decode T l) m) (both (ltb 0 (value eqb (reached T starts) l)) (leadsTo T l (decode T l) m) (lt-ltb 0 (value eqb (reached T starts) l) h) (leads-true c)) in
-        reached-more m j (omega (arith, z, most-le (locations T) (λ l. truth (ltb 0 (value eqb (reached T starts) l) && leadsTo T l (decode T l) m)) i))
+        let z = true-truth (ltb 0 (value eqb (reached T starts) l) && leads_to T l (decode T l) m) (both (ltb 0 (value eqb (reached T starts) l)) (leads_to T l (decode T l) m) (lt-ltb 0 (value eqb (reached T starts) l) h) (leads-true c)) in
+        reached-more m j (omega (arith, z, most-le (locations T) (λ l. truth (ltb 0 (value eqb (reached T starts) l) && leads_to T l (decode T l) m)) i))
 
     all-reached : {s l : ℕ} → Start s → Reached T s l → Memᴰ l (locations T) → 0 < value eqb (reached T starts) l
-    all-reached {s} h at-start i = reach-start s h i
+    all-reached {s} h at_start i = reach-start s h i
     all-reached h (further {l = l} {m = m} r c) i = let j = real-in l (leads-real c) in reach-on l m j (all-reached h r j) c i
 
     in-places : (m : ℕ) → Memᴰ m (locations T) → 0 < value eqb (reached T starts) m → Memᴰ m (reachable T starts)
@@ -680,31 +681,31 @@ module _ (T : List ℕ) where
       | inr i ↦ let z = each_in as₁ f i in (z.0, mathlib.Core.List.Memᴰ.tail z.1, z.2)
     ]
 
-    module _ (calls : (l s : ℕ) → From l → decode T l ≡ callRule s → Start s) (cap : ℕ) where
+    module _ (calls : (l s : ℕ) → From l → decode T l ≡ call_rule s → Start s) (cap : ℕ) where
       abbrev Places : List ℕ
       Places = reachable T starts
 
-      complete : below T cap (keys T Places) (value sameKey (counts T cap Places)) ≡ true → Complete Places (value sameKey (counts T cap Places))
+      complete : below T cap (keys T Places) (value same_key (counts T cap Places)) ≡ true → Complete Places (value same_key (counts T cap Places))
       unfolding counts grown offer
       complete e = record {
         onward = λ l m i c j. let z = place-in l i in in-places m j (reach-on l m z.0 z.1 c j);
         called = λ l s i d j. in-places s j (reach-start s (calls l s (reached-from l (place-in l i).1) d) j);
         settled = λ l x e₁ a b c.
             let k = key_in Places l x e₁ a b c in
-            let es = grow sameKey cap (offer T) (keys T Places) (length (keys T Places) * cap) [] in
-            unraised sameKey cap (offer T) es (at l x e₁) (settles sameKey same_key key-self cap (offer T) (keys T Places) k) (below_all cap (keys T Places) (value sameKey (counts T cap Places)) e k);
+            let es = grow same_key cap (offer T) (keys T Places) (length (keys T Places) * cap) [] in
+            unraised same_key cap (offer T) es (at l x e₁) (settles same_key same_key_lem key-self cap (offer T) (keys T Places) k) (below_all cap (keys T Places) (value same_key (counts T cap Places)) e k);
       }
 
-      figure-is : (q : ℕ) → figureAt T cap Places ≡ some q → (below T cap (keys T Places) (value sameKey (counts T cap Places)) ≡ true) × (q ≡ greatest T Places (value sameKey (counts T cap Places)))
-      unfolding figureAt
-      figure-is q e = go (below T cap (keys T Places) (value sameKey (counts T cap Places))) refl e
+      figure_is : (q : ℕ) → figure_at T cap Places ≡ some q → (below T cap (keys T Places) (value same_key (counts T cap Places)) ≡ true) × (q ≡ greatest T Places (value same_key (counts T cap Places)))
+      unfolding figure_at
+      figure_is q e = go (below T cap (keys T Places) (value same_key (counts T cap Places))) refl e
         where
-          go : (t : Bool) → below T cap (keys T Places) (value sameKey (counts T cap Places)) ≡ t → (if t then some (greatest T Places (value sameKey (counts T cap Places))) else none) ≡ some q
-              → (below T cap (keys T Places) (value sameKey (counts T cap Places)) ≡ true) × (q ≡ greatest T Places (value sameKey (counts T cap Places)))
-          go true d h = let z : q ≡ greatest T Places (value sameKey (counts T cap Places)) = cc in (d, z)
+          go : (t : Bool) → below T cap (keys T Places) (value same_key (counts T cap Places)) ≡ t → (if t then some (greatest T Places (value same_key (counts T cap Places))) else none) ≡ some q
+              → (below T cap (keys T Places) (value same_key (counts T cap Places)) ≡ true) × (q ≡ greatest T Places (value same_key (counts T cap Places)))
+          go true d h = let z : q ≡ greatest T Places (value same_key (counts T cap Places)) = cc in (d, z)
           go false d h = let z : ◌≡◌ {A = ℕ} 0 1 = cc in absurd (omega arith)
 
-      long-key : 0 < cap → (k : Key) → Memᴰ k (keys T Places) → cap ≤ value sameKey (counts T cap Places) k → Long T Start cap
+      long-key : 0 < cap → (k : Key) → Memᴰ k (keys T Places) → cap ≤ value same_key (counts T cap Places) k → Long T Start cap
       unfolding keys
       long-key h (at l x e) m c =
           let a = each_in Places (λ l. each (results T) (λ x. each (ends T) (λ e. at l x e ∷ []))) m in
@@ -713,53 +714,53 @@ module _ (T : List ℕ) where
           let z : l ≡ a.0 = only-key d.2 in
           let p = unknown (count-path cap Places l x e (omega arith)) in
           let f : From l = rw z (reached-from a.0 (place-in a.0 a.1).1) in
-          record { start = f.start; location = l; end = p.end; count = value sameKey (counts T cap Places) (at l x e); is-start = f.is-start; reached = f.way; path = p.path; long = c }
+          record { start = f.start; location = l; end = p.end; count = value same_key (counts T cap Places) (at l x e); is_start = f.is_start; reached = f.way; path = p.path; long = c }
 
       -- without a figure some path is as long as the cap
-      pub counted-long : 0 < cap → figureAt T cap Places ≡ none → Long T Start cap
-      unfolding figureAt
-      counted-long h e = go (below T cap (keys T Places) (value sameKey (counts T cap Places))) refl e
+      pub counted-long : 0 < cap → figure_at T cap Places ≡ none → Long T Start cap
+      unfolding figure_at
+      counted-long h e = go (below T cap (keys T Places) (value same_key (counts T cap Places))) refl e
         where
-          go : (t : Bool) → below T cap (keys T Places) (value sameKey (counts T cap Places)) ≡ t → (if t then some (greatest T Places (value sameKey (counts T cap Places))) else none) ≡ none → Long T Start cap
+          go : (t : Bool) → below T cap (keys T Places) (value same_key (counts T cap Places)) ≡ t → (if t then some (greatest T Places (value same_key (counts T cap Places))) else none) ≡ none → Long T Start cap
           go true d z = let y : ◌≡◌ {A = ℕ} 0 1 = cc in absurd (omega arith)
-          go false d z = let k = not-below cap (keys T Places) (value sameKey (counts T cap Places)) d in long-key h k.key k.in-keys k.much
+          go false d z = let k = not-below cap (keys T Places) (value same_key (counts T cap Places)) d in long-key h k.key k.in-keys k.much
 
       -- no quiet path from a reachable place has more
-      pub counted-bounds : (q : ℕ) → figureAt T cap Places ≡ some q → Bounds T Start q
+      pub counted-bounds : (q : ℕ) → figure_at T cap Places ≡ some q → Bounds T Start q
       unfolding greatest
       counted-bounds q e =
-          let z = figure-is q e in
+          let z = figure_is q e in
           let c = complete z.0 in
           record {
             most = λ {s} {l} {n} {e = en} st r p.
                 let i = quiet-in p in
                 let m = in-places l i (all-reached st r i) in
-                let k = quiet-counted Places (value sameKey (counts T cap Places)) c p m none_in in
-                let a = most-le (ends T) (λ e. value sameKey (counts T cap Places) (at l none e)) k.listed-end in
-                let b = most-le Places (λ l. most (ends T) (λ e. value sameKey (counts T cap Places) (at l none e))) m in
+                let k = quiet-counted Places (value same_key (counts T cap Places)) c p m none_in in
+                let a = most-le (ends T) (λ e. value same_key (counts T cap Places) (at l none e)) k.listed-end in
+                let b = most-le Places (λ l. most (ends T) (λ e. value same_key (counts T cap Places) (at l none e))) m in
                 omega (arith, k.counted, a, b, z.1);
           }
 
       -- and one has as many
-      pub counted-figure : (q : ℕ) → figureAt T cap Places ≡ some q → 0 < q → Figure T Start q
+      pub counted-figure : (q : ℕ) → figure_at T cap Places ≡ some q → 0 < q → Figure T Start q
       unfolding greatest
       counted-figure q e h =
-          let z = figure-is q e in
-          let o = most-of Places (λ l. most (ends T) (λ e. value sameKey (counts T cap Places) (at l none e))) (omega (arith, z.1)) in
+          let z = figure_is q e in
+          let o = most-of Places (λ l. most (ends T) (λ e. value same_key (counts T cap Places) (at l none e))) (omega (arith, z.1)) in
           let l = o.one in
-          let u = most-of (ends T) (λ e. value sameKey (counts T cap Places) (at l none e)) (omega (arith, z.1, o.is-most)) in
+          let u = most-of (ends T) (λ e. value same_key (counts T cap Places) (at l none e)) (omega (arith, z.1, o.is-most)) in
           let w = u.one in
-          let s : value sameKey (counts T cap Places) (at l none w) ≡ q = sym (z.1 ∙ o.is-most ∙ u.is-most) in
+          let s : value same_key (counts T cap Places) (at l none w) ≡ q = sym (z.1 ∙ o.is-most ∙ u.is-most) in
           let p = count-path cap Places l none w (omega (arith, s)) in
           let f = reached-from l (place-in l o.in-them).1 in
-          record { bounds = counted-bounds q e; start = f.start; location = l; end = w; is-start = f.is-start; reached = f.way; path = rw s at p }
+          record { bounds = counted-bounds q e; start = f.start; location = l; end = w; is_start = f.is_start; reached = f.way; path = rw s at p }
 
       -- and so q is below the cap
-      pub counted-small : (q : ℕ) → figureAt T cap Places ≡ some q → 0 < q → q < cap
+      pub counted-small : (q : ℕ) → figure_at T cap Places ≡ some q → 0 < q → q < cap
       unfolding greatest
       counted-small q e h =
-          let z = figure-is q e in
-          let o = most-of Places (λ l. most (ends T) (λ e. value sameKey (counts T cap Places) (at l none e))) (omega (arith, z.1)) in
-          let u = most-of (ends T) (λ e. value sameKey (counts T cap Places) (at o.one none e)) (omega (arith, z.1, o.is-most)) in
+          let z = figure_is q e in
+          let o = most-of Places (λ l. most (ends T) (λ e. value same_key (counts T cap Places) (at l none e))) (omega (arith, z.1)) in
+          let u = most-of (ends T) (λ e. value same_key (counts T cap Places) (at o.one none e)) (omega (arith, z.1, o.is-most)) in
           let k = key_in Places o.one none u.one o.in-them none_in u.in-them in
-          omega (arith, z.1, o.is-most, u.is-most, below_all cap (keys T Places) (value sameKey (counts T cap Places)) z.0 k)
+          omega (arith, z.1, o.is-most, u.is-most, below_all cap (keys T Places) (value same_key (counts T cap Places)) z.0 k)

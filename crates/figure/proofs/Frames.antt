@@ -7,16 +7,16 @@ use mathlib.Core.Path.{◌≡◌, refl, sym, ap, ◌∙◌}
 use native.Mathlib.Omega.{arith}
 use Prim.Native.Nat.{ℕ, zero, suc, ◌+◌, ◌*◌, ◌≤◌, ◌<◌}
 use lib.ListN.{length}
-use Rattle.machine.specs.Decode.{Instruction, callRule, return, decode}
+use Rattle.machine.specs.Decode.{Instruction, call_rule, return, decode}
 use Rattle.machine.specs.Walk.{going, stopped, Walk}
 use Rattle.events.specs.Events.{Reason}
-use Rattle.figure.specs.Figure.{Leads, leads-call, Reached, at-start, further, End, over, back, Quiet, quiet, Does, does-call-over, does_call, does-return, Bounds}
+use Rattle.figure.specs.Figure.{Leads, leads_call, Reached, at_start, further, End, over, back, Quiet, quiet, Does, does_call_over, does_call, does_return, Bounds}
 use Rattle.figure.proofs.Steps.{left, Knows, knows-none, After, Last}
 
 -- the starts of the rules that are in progress: the first rule's, and every one called from an instruction reachable in such a rule
 pub data Called (T : List ℕ) : ℕ → Type 0 where
   called-first : Called T 1
-  called-from : {s l m : ℕ} → Called T s → Reached T s l → decode T l ≡ callRule m → Called T m
+  called-from : {s l m : ℕ} → Called T s → Reached T s l → decode T l ≡ call_rule m → Called T m
 
 module _ (T tokens answers : List ℕ) where
   -- a location in such a rule
@@ -43,7 +43,7 @@ module _ (T tokens answers : List ℕ) where
   pub data Quietly (w v : Walk) : Type 0 where
     quietly-on : left tokens v ≡ left tokens w → v.returns ≡ w.returns → Leads T w.location (decode T w.location) v.location
         → ((x : Option ℕ) → Knows x w.result → After T tokens answers w.location x (decode T w.location) v.location v.result) → Quietly w v
-    quietly-call : left tokens v ≡ left tokens w → decode T w.location ≡ callRule v.location → v.returns ≡ (w.location + 2) ∷ w.returns → length w.returns < 64 → Quietly w v
+    quietly-call : left tokens v ≡ left tokens w → decode T w.location ≡ call_rule v.location → v.returns ≡ (w.location + 2) ∷ w.returns → length w.returns < 64 → Quietly w v
     quietly-back : left tokens v ≡ left tokens w → decode T w.location ≡ return → w.returns ≡ v.location ∷ v.returns → v.result ≡ w.result → Quietly w v
 
   -- n steps, the last of which stops, reads or repairs, and only that
@@ -82,7 +82,7 @@ module _ (T tokens answers : List ℕ) where
   on-frame a r (behind m k u y e q kn rs t) = behind (suc m) k u y (omega arith) (quiet (a.onward m (back y) q)) kn (sym r ∙ rs) t
 
   -- behind the call, the path of the called rule being known
-  call-frame : {n m k s : ℕ} {w u v : Walk} {x y : Option ℕ} → decode T w.location ≡ callRule s → n ≡ m + k → Quiet T s none m (back y) → u.location ≡ w.location + 2 → u.returns ≡ w.returns
+  call-frame : {n m k s : ℕ} {w u v : Walk} {x y : Option ℕ} → decode T w.location ≡ call_rule s → n ≡ m + k → Quiet T s none m (back y) → u.location ≡ w.location + 2 → u.returns ≡ w.returns
       → Framed k u v y → Framed (suc n) w v x
   call-frame {n = n} {m = m} {k = k} d c p l r (inside e q h) =
       let z : suc (m + k) ≡ suc n = omega arith in
@@ -100,20 +100,20 @@ module _ (T tokens answers : List ℕ) where
   frame (suc f) n w v h (until-more {n = n₁} {u = u} (quietly-call e d r b) t) x k = go (frame f n₁ u v (omega arith) t none knows-none) (λ k₁ u₁ y₁ z t₁ kn. frame f k₁ u₁ v z t₁ y₁ kn)
     where
       go : Framed n₁ u v none → ((k₁ : ℕ) (u₁ : Walk) (y₁ : Option ℕ) → k₁ ≤ f → Until k₁ u₁ v → Knows y₁ u₁.result → Framed k₁ u₁ v y₁) → Framed (suc n₁) w v x
-      go (inside e q (inl z)) ih = inside over (by-instruction d (does-call-over (rw z at q))) (inl refl)
+      go (inside e q (inl z)) ih = inside over (by-instruction d (does_call_over (rw z at q))) (inl refl)
       go (inside e q (inr z)) ih = let z₁ : ◌≡◌ {A = ℕ} 0 1 = cc in absurd (omega arith)
       go (behind m k₁ u₁ y₁ e q kn rs t₁) ih =
           let s = sym rs ∙ r in
           call-frame d e q (same_head s) (same-tail s) (ih k₁ u₁ y₁ (omega arith) t₁ kn)
-  frame (suc f) n w v h (until-more {n = n₁} {u = u} (quietly-back e d r b) t) x k = behind 1 n₁ u x (omega arith) (by-instruction d does-return) (knows_as b k) r t
+  frame (suc f) n w v h (until-more {n = n₁} {u = u} (quietly-back e d r b) t) x k = behind 1 n₁ u x (omega arith) (by-instruction d does_return) (knows_as b k) r t
 
   -- Where the walk is
 
   here-leads : {l m : ℕ} → Here l → Leads T l (decode T l) m → Here m
   here-leads (is-here c r) h = is-here c (further r h)
 
-  here-start : {l m : ℕ} → Here l → decode T l ≡ callRule m → Here m
-  here-start (is-here c r) d = is-here (called-from c r d) at-start
+  here-start : {l m : ℕ} → Here l → decode T l ≡ call_rule m → Here m
+  here-start (is-here c r) d = is-here (called-from c r d) at_start
 
   head-here : {l : ℕ} {ls rs : List ℕ} → rs ≡ l ∷ ls → AllHere rs → Here l × AllHere ls
   head-here e all_none = let z : ◌≡◌ {A = ℕ} 0 1 = cc in absurd (omega arith)
@@ -128,7 +128,7 @@ module _ (T tokens answers : List ℕ) where
   step-placed : {w v : Walk} → Quietly w v → Placed w → Placed v
   step-placed (quietly-on e r l a) p = record { here = here-leads p.here l; behind = rw r p.behind; few = rw r p.few }
   step-placed {w} {v} (quietly-call e d r b) p =
-      let c : Leads T w.location (decode T w.location) (w.location + 2) = rw d leads-call in
+      let c : Leads T w.location (decode T w.location) (w.location + 2) = rw d leads_call in
       record { here = here-start p.here d; behind = rw r (all_more (here-leads p.here c) p.behind); few = rw r (omega arith) }
   step-placed (quietly-back e d r b) p = let z = head-here r p.behind in record { here = z.0; behind = z.1; few = omega (arith, p.few, longer r) }
 

@@ -9,14 +9,15 @@ use lib.Dec.{eqb, leb, ltb}
 use lib.ListN.{length, get_elem?, length-append}
 use borrow.Author.Tests.{leb-true, le-leb}
 use Rattle.agreement.proofs.Lists.{one-going}
-use Rattle.agreement.proofs.Single.{done, oneIn, one, runs}
+use Rattle.agreement.proofs.Single.{done, one_in, one, runs}
 use Rattle.agreement.proofs.Theorem.{stays}
-use Rattle.base.specs.Common.{if◌then◌else◌, given}
+use Rattle.std.specs.Prelude.{if◌then◌else◌}
+use Rattle.base.specs.Common.{given}
 use Rattle.events.specs.Events.{Reason, deep, outside, present, took}
-use Rattle.machine.specs.Decode.{fetch, Instruction, invalid, jump, input, inputAny, write, inputChoice, callRule, return, setResult, choice, endChoice, setParameter, update, updateWith, choose, chooseWith, decode_one, decodeTwo, decodeWord, decodeAt, decode}
+use Rattle.machine.specs.Decode.{fetch, Instruction, invalid, jump, input, input_any, write, input_choice, call_rule, return, set_result, choice, end_choice, set_parameter, update, update_with, choose, choose_with, decode_one, decode_two, decode_word, decode_at, decode}
 use Rattle.machine.specs.Lengths.{length_of}
-use Rattle.machine.specs.Step.{Next, goesOutside, stops, goes, goTo, seek, seekBy, landed, branched, inputChoosing, calling, returning, requiring, exec, step}
-use Rattle.machine.specs.Walk.{Phase, going, waiting, stopped, Walk, moved, withReturns, withResult, withIo, inPhase}
+use Rattle.machine.specs.Step.{Next, goes_outside, stops, goes, go_to, seek, seek_by, landed, branched, input_choosing, calling, returning, requiring, exec, step}
+use Rattle.machine.specs.Walk.{Phase, going, waiting, stopped, Walk, moved, with_returns, with_result, with_io, in_phase}
 
 element-more : (T more : List ℕ) (i x : ℕ) → get_elem? T i ≡ some x → get_elem? (T ++ more) i ≡ some x
 element-more [] more i x e = let z : ◌≡◌ {A = ℕ} 0 1 = cc in absurd (omega arith)
@@ -40,7 +41,7 @@ fetch-within T more (suc i) h = element-within T more i (omega arith)
 
 -- out of the shorter table, or the same
 pub data Alike : Next → Next → Type 0 where
-  alike-out : {n : Next} → Alike goesOutside n
+  alike-out : {n : Next} → Alike goes_outside n
   alike : {n : Next} → Alike n n
 
 pub data AlikeAt : Instruction → Instruction → Type 0 where
@@ -51,15 +52,15 @@ if-at : (b : Bool) (i j : Instruction) → AlikeAt (if b then i else invalid) (i
 if-at true i j = alike_at
 if-at false i j = alike-none
 
-word-alike : (l i : ℕ) (f g : Option ℕ) → ((x : ℕ) → f ≡ some x → g ≡ some x) → AlikeAt (decodeWord l i f) (decodeWord l i g)
-unfolding decodeWord
+word-alike : (l i : ℕ) (f g : Option ℕ) → ((x : ℕ) → f ≡ some x → g ≡ some x) → AlikeAt (decode_word l i f) (decode_word l i g)
+unfolding decode_word
 word-alike l i none none h = alike_at
-word-alike l i none (some y) h = if-at (eqb (length_of i) 1) (decode_one i) (if eqb (length_of i) 2 then decodeTwo l i y else invalid)
+word-alike l i none (some y) h = if-at (eqb (length_of i) 1) (decode_one i) (if eqb (length_of i) 2 then decode_two l i y else invalid)
 word-alike l i (some x) g h = rw (h x refl) alike_at
 
 -- the word at l and the one behind it, in the one table and in the other
-pub words-alike : (l : ℕ) (f f₁ g g₁ : Option ℕ) → ((x : ℕ) → f ≡ some x → g ≡ some x) → ((x : ℕ) → f₁ ≡ some x → g₁ ≡ some x) → AlikeAt (decodeAt l f f₁) (decodeAt l g g₁)
-unfolding decodeAt
+pub words-alike : (l : ℕ) (f f₁ g g₁ : Option ℕ) → ((x : ℕ) → f ≡ some x → g ≡ some x) → ((x : ℕ) → f₁ ≡ some x → g₁ ≡ some x) → AlikeAt (decode_at l f f₁) (decode_at l g g₁)
+unfolding decode_at
 words-alike l none f₁ g g₁ h k = alike-none
 words-alike l (some i) f₁ g g₁ h k = rw (h i refl) (word-alike l i f₁ g₁ k)
 
@@ -70,11 +71,11 @@ module _ (T more : List ℕ) where
       words-alike l (fetch T l) (fetch T (suc l)) (fetch (T ++ more) l) (fetch (T ++ more) (suc l)) (λ x e. fetch-more T more l x e) (λ x e. fetch-more T more (suc l) x e)
 
   module _ (tokens : List ℕ) where
-    goTo-alike : (l : ℕ) (w : Walk) → Alike (goTo T tokens l w) (goTo (T ++ more) tokens l w)
-    unfolding goTo
-    goTo-alike l w = go (fetch T l) (fetch (T ++ more) l) (λ x e. fetch-more T more l x e)
+    go_to-alike : (l : ℕ) (w : Walk) → Alike (go_to T tokens l w) (go_to (T ++ more) tokens l w)
+    unfolding go_to
+    go_to-alike l w = go (fetch T l) (fetch (T ++ more) l) (λ x e. fetch-more T more l x e)
       where
-        go : (f g : Option ℕ) → ((x : ℕ) → f ≡ some x → g ≡ some x) → Alike (if given f then goes (moved l w) else goesOutside) (if given g then goes (moved l w) else goesOutside)
+        go : (f g : Option ℕ) → ((x : ℕ) → f ≡ some x → g ≡ some x) → Alike (if given f then goes (moved l w) else goes_outside) (if given g then goes (moved l w) else goes_outside)
         go none g h = alike-out
         go (some x) g h = rw (h x refl) alike
 
@@ -83,27 +84,27 @@ module _ (T more : List ℕ) where
     seek-within v zero l h = refl
     seek-within v (suc n) l h = rw (fetch-within T more l (omega arith), seek-within v n (l + 2) (omega arith)) refl
 
-    seekBy-within : (v : Option ℕ) (n l : ℕ) → l + 2 * n ≤ suc (length T) → seekBy (T ++ more) tokens v n l ≡ seekBy T tokens v n l
-    unfolding seekBy
-    seekBy-within none n l h = refl
-    seekBy-within (some v) n l h = seek-within v n l h
+    seek_by-within : (v : Option ℕ) (n l : ℕ) → l + 2 * n ≤ suc (length T) → seek_by (T ++ more) tokens v n l ≡ seek_by T tokens v n l
+    unfolding seek_by
+    seek_by-within none n l h = refl
+    seek_by-within (some v) n l h = seek-within v n l h
 
-    landed-out : (l d : ℕ) (taken w : Walk) → fetch T l ≡ none → landed T tokens (some l) d taken w ≡ goesOutside
+    landed-out : (l d : ℕ) (taken w : Walk) → fetch T l ≡ none → landed T tokens (some l) d taken w ≡ goes_outside
     unfolding landed
     landed-out l d taken w e = rw (e, landed) refl
 
-    landed-on : (T : List ℕ) (l x d : ℕ) (taken w : Walk) → fetch T l ≡ some x → landed T tokens (some l) d taken w ≡ goTo T tokens (l - x) taken
+    landed-on : (T : List ℕ) (l x d : ℕ) (taken w : Walk) → fetch T l ≡ some x → landed T tokens (some l) d taken w ≡ go_to T tokens (l - x) taken
     unfolding landed
     landed-on T l x d taken w e = rw (e, landed) refl
 
     landed-alike : (s : Option ℕ) (d : ℕ) (taken w : Walk) → Alike (landed T tokens s d taken w) (landed (T ++ more) tokens s d taken w)
     unfolding landed
-    landed-alike none d taken w = goTo-alike d w
+    landed-alike none d taken w = go_to-alike d w
     landed-alike (some l) d taken w = go (fetch T l) refl
       where
         go : (f : Option ℕ) → fetch T l ≡ f → Alike (landed T tokens (some l) d taken w) (landed (T ++ more) tokens (some l) d taken w)
         go none e = rw (landed-out l d taken w e) alike-out
-        go (some x) e = rw (landed-on T l x d taken w e, landed-on (T ++ more) l x d taken w (fetch-more T more l x e)) (goTo-alike (l - x) taken)
+        go (some x) e = rw (landed-on T l x d taken w e, landed-on (T ++ more) l x d taken w (fetch-more T more l x e)) (go_to-alike (l - x) taken)
 
     branched-alike : (v : Option ℕ) (c : ℕ) (taken w : Walk) (f g : Option ℕ) → ((x : ℕ) → f ≡ some x → g ≡ some x)
         → Alike (branched T tokens f v c taken w) (branched (T ++ more) tokens g v c taken w)
@@ -112,52 +113,52 @@ module _ (T more : List ℕ) where
     branched-alike v c taken w (some n) g h = rw (h n refl) (go (leb (c + 2 * n) (length T)) refl)
       where
         go : (b : Bool) → leb (c + 2 * n) (length T) ≡ b
-            → Alike (if b then landed T tokens (seekBy T tokens v n (c + 1)) (c + 1 + 2 * n) taken w else goesOutside)
-            (if leb (c + 2 * n) (length (T ++ more)) then landed (T ++ more) tokens (seekBy (T ++ more) tokens v n (c + 1)) (c + 1 + 2 * n) taken w else goesOutside)
+            → Alike (if b then landed T tokens (seek_by T tokens v n (c + 1)) (c + 1 + 2 * n) taken w else goes_outside)
+            (if leb (c + 2 * n) (length (T ++ more)) then landed (T ++ more) tokens (seek_by (T ++ more) tokens v n (c + 1)) (c + 1 + 2 * n) taken w else goes_outside)
         go false e = alike-out
         go true e =
             let z : c + 2 * n ≤ length T = leb-true (c + 2 * n) (length T) e in
             let y : leb (c + 2 * n) (length (T ++ more)) ≡ true = le-leb (c + 2 * n) (length (T ++ more)) (omega (arith, length-append T more)) in
-            rw (y, seekBy-within v n (c + 1) (omega arith)) (landed-alike (seekBy T tokens v n (c + 1)) (c + 1 + 2 * n) taken w)
+            rw (y, seek_by-within v n (c + 1) (omega arith)) (landed-alike (seek_by T tokens v n (c + 1)) (c + 1 + 2 * n) taken w)
 
-    choosing-alike : (o : Option ℕ) (c : ℕ) (w : Walk) → Alike (inputChoosing T tokens o c w) (inputChoosing (T ++ more) tokens o c w)
-    unfolding inputChoosing
+    choosing-alike : (o : Option ℕ) (c : ℕ) (w : Walk) → Alike (input_choosing T tokens o c w) (input_choosing (T ++ more) tokens o c w)
+    unfolding input_choosing
     choosing-alike none c w = branched-alike none c w w (fetch T c) (fetch (T ++ more) c) (λ x e. fetch-more T more c x e)
-    choosing-alike (some t) c w = branched-alike (some t) c (withIo (took w.io) (withResult t w)) (withResult t w) (fetch T c) (fetch (T ++ more) c) (λ x e. fetch-more T more c x e)
+    choosing-alike (some t) c w = branched-alike (some t) c (with_io (took w.io) (with_result t w)) (with_result t w) (fetch T c) (fetch (T ++ more) c) (λ x e. fetch-more T more c x e)
 
     calling-alike : (l : ℕ) (w : Walk) → Alike (calling T tokens l w) (calling (T ++ more) tokens l w)
     unfolding calling
     calling-alike l w = go (fetch T l) (fetch (T ++ more) l) (λ x e. fetch-more T more l x e)
       where
         go : (f g : Option ℕ) → ((x : ℕ) → f ≡ some x → g ≡ some x)
-            → Alike (if given f then (if ltb (length w.returns) 64 then goes (moved l (withReturns ((w.location + 2) ∷ w.returns) w)) else stops deep) else goesOutside)
-            (if given g then (if ltb (length w.returns) 64 then goes (moved l (withReturns ((w.location + 2) ∷ w.returns) w)) else stops deep) else goesOutside)
+            → Alike (if given f then (if ltb (length w.returns) 64 then goes (moved l (with_returns ((w.location + 2) ∷ w.returns) w)) else stops deep) else goes_outside)
+            (if given g then (if ltb (length w.returns) 64 then goes (moved l (with_returns ((w.location + 2) ∷ w.returns) w)) else stops deep) else goes_outside)
         go none g h = alike-out
         go (some x) g h = rw (h x refl) alike
 
     returning-alike : (rs : List ℕ) (w : Walk) → Alike (returning T tokens rs w) (returning (T ++ more) tokens rs w)
     unfolding returning
     returning-alike [] w = alike
-    returning-alike (l ∷ rs) w = goTo-alike l (withReturns rs w)
+    returning-alike (l ∷ rs) w = go_to-alike l (with_returns rs w)
 
     exec-alike : (i : Instruction) (w : Walk) → Alike (exec T tokens i w) (exec (T ++ more) tokens i w)
     unfolding exec requiring
     exec-alike invalid w = alike
-    exec-alike (jump l) w = goTo-alike l w
+    exec-alike (jump l) w = go_to-alike l w
     exec-alike (input t) w = alike
-    exec-alike inputAny w = alike
+    exec-alike input_any w = alike
     exec-alike (write e) w = alike
-    exec-alike (inputChoice c) w = choosing-alike (present tokens w.io) c w
-    exec-alike (callRule l) w = calling-alike l w
+    exec-alike (input_choice c) w = choosing-alike (present tokens w.io) c w
+    exec-alike (call_rule l) w = calling-alike l w
     exec-alike return w = returning-alike w.returns w
-    exec-alike (setResult v) w = alike
+    exec-alike (set_result v) w = alike
     exec-alike (choice c) w = branched-alike (some w.result) c w w (fetch T c) (fetch (T ++ more) c) (λ x e. fetch-more T more c x e)
-    exec-alike endChoice w = alike
-    exec-alike (setParameter v) w = alike
+    exec-alike end_choice w = alike
+    exec-alike (set_parameter v) w = alike
     exec-alike (update op) w = alike
-    exec-alike (updateWith op) w = alike
+    exec-alike (update_with op) w = alike
     exec-alike (choose op) w = alike
-    exec-alike (chooseWith op) w = alike
+    exec-alike (choose_with op) w = alike
 
     by-decode : (i j : Instruction) (w : Walk) → AlikeAt i j → Alike (exec T tokens i w) (exec (T ++ more) tokens j w)
     unfolding exec
@@ -174,7 +175,7 @@ module _ (T more : List ℕ) where
 
       -- a walk over the table that stops, and not with 37, is the same over a longer one
       pub same-run : (k : ℕ) (w : Walk) (r : Reason) → (runs T tokens answers k w).phase ≡ stopped r → (r ≡ outside → ⊥) → runs (T ++ more) tokens answers k w ≡ runs T tokens answers k w
-      unfolding runs done inPhase one oneIn
+      unfolding runs done in_phase one one_in
       same-run zero w r e h = refl
       same-run (suc k) w r e h = ap (runs (T ++ more) tokens answers k) (go w.phase refl) ∙ same-run k (one T tokens answers w) r e h
         where

@@ -6,12 +6,12 @@ use native.Mathlib.Omega.{arith}
 use Prim.Native.Nat.{ℕ, zero, suc, ◌+◌, ◌-◌, ◌*◌, ◌≤◌, ◌<◌}
 use lib.ListN.{length}
 use Rattle.agreement.proofs.Lists.{going-stopped, one-going}
-use Rattle.agreement.proofs.Single.{oneIn, one, runs}
+use Rattle.agreement.proofs.Single.{one_in, one, runs}
 use Rattle.events.specs.Events.{Reason, outside}
 use Rattle.machine.specs.Decode.{decode}
 use Rattle.machine.specs.Step.{step}
 use Rattle.machine.specs.Walk.{Phase, going, stopped, Walk, fresh}
-use Rattle.figure.specs.Figure.{at-start, over, quiet, Bounds}
+use Rattle.figure.specs.Figure.{at_start, over, quiet, Bounds}
 use Rattle.figure.proofs.Steps.{left, Sorted, goes-outside, stops-here, reads_here, goes_on, calls, returns, step-sort}
 use Rattle.figure.proofs.Frames.{Called, called-first, is-here, all_none, Placed, ending-stop, ending-read, Quietly, quietly-on, quietly-call, quietly-back, Until, until-last, until-more, Ended, ended-stop, ended-read, until-ended, stretch}
 
@@ -32,7 +32,7 @@ module _ (T tokens answers : List ℕ) where
   sort w g = rw (one-going T tokens answers w g) (step-sort T tokens answers w g (decode T w.location))
 
   one-stopped : (w : Walk) (r : Reason) → w.phase ≡ stopped r → Next w ≡ w
-  unfolding one oneIn
+  unfolding one one_in
   one-stopped w r e = rw e refl
 
   stays : (k : ℕ) (w : Walk) (r : Reason) → w.phase ≡ stopped r → After k w ≡ w
@@ -119,7 +119,7 @@ module _ (T tokens answers : List ℕ) where
     pub needs : (allowance n : ℕ) (r : Reason) → (After n (fresh allowance)).phase ≡ stopped r → (r ≡ outside → ⊥) → Stops (q + (length tokens + allowance) * (65 * q)) r (fresh allowance)
     unfolding fresh left
     needs allowance n r e h =
-        let p : Placed T tokens answers (fresh allowance) = record { here = is-here called-first at-start; behind = all_none; few = omega arith } in
+        let p : Placed T tokens answers (fresh allowance) = record { here = is-here called-first at_start; behind = all_none; few = omega arith } in
         let c = cut n (fresh allowance) r refl e h in
         let z : c.steps ≤ q = omega (arith, cut-few n (fresh allowance) p c) in
         rest q (length tokens + allowance) n (fresh allowance) r e (omega arith) c z (until-ended T tokens answers c.until p)

@@ -11,14 +11,15 @@ use lib.ListN.{length, get_elem?}
 use borrow.Author.Tests.{ltb-true}
 use Rattle.agreement.proofs.BoundWalk.{given-lt, is-given}
 use Rattle.agreement.proofs.Single.{taking, done}
-use Rattle.base.specs.Common.{if◌then◌else◌, given}
-use Rattle.events.specs.Events.{Event, repair, operation, operationWith, Reason, finished, differs, missing, unlabelled, deep, unanswered, outside, choices, present, took, wrote, answered, mends, spent, is}
+use Rattle.std.specs.Prelude.{if◌then◌else◌}
+use Rattle.base.specs.Common.{given}
+use Rattle.events.specs.Events.{Event, repair, operation, operation_with, Reason, finished, differs, missing, unlabelled, deep, unanswered, outside, choices, present, took, wrote, answered, mends, spent, is}
 use Rattle.machine.specs.Call.{writing}
-use Rattle.machine.specs.Decode.{fetch, Instruction, invalid, jump, input, inputAny, write, inputChoice, callRule, return, setResult, choice, endChoice, setParameter, update, updateWith, choose, chooseWith}
-use Rattle.machine.specs.Step.{Next, goesOutside, stops, goes, tells, asks, goTo, seek, seekBy, landed, branched, inputChoosing, calling, returning, requiring, exec}
+use Rattle.machine.specs.Decode.{fetch, Instruction, invalid, jump, input, input_any, write, input_choice, call_rule, return, set_result, choice, end_choice, set_parameter, update, update_with, choose, choose_with}
+use Rattle.machine.specs.Step.{Next, goes_outside, stops, goes, tells, asks, go_to, seek, seek_by, landed, branched, input_choosing, calling, returning, requiring, exec}
 use Rattle.machine.specs.Walk
-use Rattle.machine.specs.Walk.{going, stopped, Walk, moved, withReturns, withResult, withParameter, withIo, inPhase}
-use Rattle.figure.specs.Figure.{label_at, labelBy, backFrom, wayAmong, way_of, wayOut, Leads, leads-jump, leads-input, leads_any, leads-write, leads-token, leads-result, leads-choice, leads-parameter, leads-update, leads-updateWith, leads-choose, leads-chooseWith, End, over, back, Quiet, Does, does-jump, does-input, does-any, does-write, does-token, does-default, does-call-stop, does-return, does-result, does-choice, does-end, does-parameter, does-update, does-updateWith, does-choose, does-chooseWith, does-choose-stop, does-chooseWith-stop, Goes, any_way, by_result}
+use Rattle.machine.specs.Walk.{going, stopped, Walk, moved, with_returns, with_result, with_parameter, with_io, in_phase}
+use Rattle.figure.specs.Figure.{label_at, label_by, back_from, way_among, way_of, way_out, Leads, leads_jump, leads_input, leads_any, leads_write, leads_token, leads_result, leads_choice, leads_parameter, leads_update, leads_update_with, leads_choose, leads_choose_with, End, over, back, Quiet, Does, does_jump, does_input, does_any, does_write, does_token, does_default, does_call_stop, does_return, does_result, does_choice, does_end, does_parameter, does_update, does_update_with, does_choose, does_choose_with, does_choose_stop, does_choose_with_stop, Goes, any_way, by_result}
 
 -- what a path knows of the result is true
 pub data Knows : Option ℕ → ℕ → Type 0 where
@@ -54,7 +55,7 @@ module _ (T tokens answers : List ℕ) where
         → ((x : Option ℕ) → Does T w.location x i 1 over) → Sorted i w v
     goes_on : v.phase ≡ going → left tokens v ≡ left tokens w → v.returns ≡ w.returns → Leads T w.location i v.location
         → ((x : Option ℕ) → Knows x w.result → After w.location x i v.location v.result) → Sorted i w v
-    calls : v.phase ≡ going → left tokens v ≡ left tokens w → i ≡ callRule v.location → v.returns ≡ (w.location + 2) ∷ w.returns → length w.returns < 64 → Sorted i w v
+    calls : v.phase ≡ going → left tokens v ≡ left tokens w → i ≡ call_rule v.location → v.returns ≡ (w.location + 2) ∷ w.returns → length w.returns < 64 → Sorted i w v
     returns : v.phase ≡ going → left tokens v ≡ left tokens w → i ≡ return → w.returns ≡ v.location ∷ v.returns → v.result ≡ w.result → Sorted i w v
 
   -- Choices
@@ -64,45 +65,45 @@ module _ (T tokens answers : List ℕ) where
   label-seek v zero l = refl
   label-seek v (suc n) l = rw (label-seek v n (l + 2))
 
-  pub labels-seek : (v : Option ℕ) (n l : ℕ) → seekBy T tokens v n l ≡ labelBy T v n l
-  unfolding seekBy labelBy
+  pub labels-seek : (v : Option ℕ) (n l : ℕ) → seek_by T tokens v n l ≡ label_by T v n l
+  unfolding seek_by label_by
   labels-seek none n l = refl
   labels-seek (some v) n l = label-seek v n l
 
   -- what holds of every outcome of going to m
-  went : (P : Next → Type 0) (m : ℕ) (w : Walk) → P goesOutside → P (goes (moved m w)) → P (goTo T tokens m w)
-  unfolding goTo
+  went : (P : Next → Type 0) (m : ℕ) (w : Walk) → P goes_outside → P (goes (moved m w)) → P (go_to T tokens m w)
+  unfolding go_to
   went P m w o g = go (given (fetch T m))
     where
-      go : (b : Bool) → P (if b then goes (moved m w) else goesOutside)
+      go : (b : Bool) → P (if b then goes (moved m w) else goes_outside)
       go true = g
       go false = o
 
-  back-landed : (P : Next → Type 0) (d c : ℕ) (taken w : Walk) (f : Option ℕ) → fetch T d ≡ f → P goesOutside → P (goes (moved (backFrom T d f) taken)) → P (landed T tokens (some d) c taken w)
-  unfolding landed backFrom
+  back-landed : (P : Next → Type 0) (d c : ℕ) (taken w : Walk) (f : Option ℕ) → fetch T d ≡ f → P goes_outside → P (goes (moved (back_from T d f) taken)) → P (landed T tokens (some d) c taken w)
+  unfolding landed back_from
   back-landed P d c taken w none e o g = rw (e, landed) o
   back-landed P d c taken w (some x) e o g = rw (e, landed) (went P (d - x) taken o g)
 
-  among : (P : Next → Type 0) (c n : ℕ) (v : Option ℕ) (taken w : Walk) (s : Option ℕ) → P goesOutside → P (goes (moved (wayAmong T c n s) taken))
-      → (s ≡ none → P (goes (moved (wayAmong T c n s) w))) → P (landed T tokens s (c + 1 + 2 * n) taken w)
-  unfolding wayAmong landed
+  among : (P : Next → Type 0) (c n : ℕ) (v : Option ℕ) (taken w : Walk) (s : Option ℕ) → P goes_outside → P (goes (moved (way_among T c n s) taken))
+      → (s ≡ none → P (goes (moved (way_among T c n s) w))) → P (landed T tokens s (c + 1 + 2 * n) taken w)
+  unfolding way_among landed
   among P c n v taken w none o g d = went P (c + 1 + 2 * n) w o (d refl)
   among P c n v taken w (some s) o g d = back-landed P s (c + 1 + 2 * n) taken w (fetch T s) refl o g
 
-  branch-of : (P : Next → Type 0) (c : ℕ) (v : Option ℕ) (taken w : Walk) (f : Option ℕ) → P goesOutside → P (goes (moved (way_of T c v f) taken))
+  branch-of : (P : Next → Type 0) (c : ℕ) (v : Option ℕ) (taken w : Walk) (f : Option ℕ) → P goes_outside → P (goes (moved (way_of T c v f) taken))
       → (way_of T c v f ≡ way_of T c none f → P (goes (moved (way_of T c v f) w))) → P (branched T tokens f v c taken w)
-  unfolding branched way_of labelBy
+  unfolding branched way_of label_by
   branch-of P c v taken w none o g d = o
   branch-of P c v taken w (some n) o g d = go (leb (c + 2 * n) (length T))
     where
-      go : (b : Bool) → P (if b then landed T tokens (seekBy T tokens v n (c + 1)) (c + 1 + 2 * n) taken w else goesOutside)
-      go true = rw (labels-seek v n (c + 1)) (among P c n v taken w (labelBy T v n (c + 1)) o g (λ e. d (ap (wayAmong T c n) e)))
+      go : (b : Bool) → P (if b then landed T tokens (seek_by T tokens v n (c + 1)) (c + 1 + 2 * n) taken w else goes_outside)
+      go true = rw (labels-seek v n (c + 1)) (among P c n v taken w (label_by T v n (c + 1)) o g (λ e. d (ap (way_among T c n) e)))
       go false = o
 
   -- what holds of every outcome of a choice: with `taken` by a label, with w to the default
-  branch : (P : Next → Type 0) (c : ℕ) (v : Option ℕ) (taken w : Walk) → P goesOutside → P (goes (moved (wayOut T c v) taken))
-      → (wayOut T c v ≡ wayOut T c none → P (goes (moved (wayOut T c v) w))) → P (branched T tokens (fetch T c) v c taken w)
-  unfolding wayOut
+  branch : (P : Next → Type 0) (c : ℕ) (v : Option ℕ) (taken w : Walk) → P goes_outside → P (goes (moved (way_out T c v) taken))
+      → (way_out T c v ≡ way_out T c none → P (goes (moved (way_out T c v) w))) → P (branched T tokens (fetch T c) v c taken w)
+  unfolding way_out
   branch P c v taken w o g d = branch-of P c v taken w (fetch T c) o g d
 
   -- Instructions
@@ -111,12 +112,12 @@ module _ (T tokens answers : List ℕ) where
     abbrev Step : Instruction → Next → Type 0
     Step i nx = Sorted i w (done T tokens answers nx w)
 
-    out : (i : Instruction) → Step i goesOutside
-    unfolding done inPhase
+    out : (i : Instruction) → Step i goes_outside
+    unfolding done in_phase
     out i = goes-outside refl
 
     stop : (i : Instruction) (r : Reason) → ((x : Option ℕ) → Does T w.location x i 1 over) → Step i (stops r)
-    unfolding done inPhase
+    unfolding done in_phase
     stop i r d = stops-here r refl (λ x. record { end = over; path = d x; how = inl refl })
 
     if-step : (i : Instruction) (b : Bool) (x y : Next) → (b ≡ true → Step i x) → (b ≡ false → Step i y) → Step i (if b then x else y)
@@ -124,14 +125,14 @@ module _ (T tokens answers : List ℕ) where
     if-step i false x y p q = q refl
 
     reads : (i : Instruction) (m : ℕ) → Leads T w.location i m → ((x : Option ℕ) → Does T w.location x i 1 over) → w.io.read < length tokens
-        → Step i (goes (moved m (withIo (took w.io) w)))
+        → Step i (goes (moved m (with_io (took w.io) w)))
     unfolding left done Walk.opened took
     reads i m l d h = reads_here g (omega arith) refl l d
 
     -- a repair uses the allowance up as a read uses the tokens up
-    repairs : (t : ℕ) → mends w.io ≡ true → Step (input t) (tells (repair t) (moved (w.location + 2) (withIo (spent w.io) w)))
+    repairs : (t : ℕ) → mends w.io ≡ true → Step (input t) (tells (repair t) (moved (w.location + 2) (with_io (spent w.io) w)))
     unfolding left done Walk.opened writing wrote spent mends
-    repairs t h = reads_here g (omega (arith, ltb-true 0 w.io.allowance h)) refl leads-input (λ x. does-input)
+    repairs t h = reads_here g (omega (arith, ltb-true 0 w.io.allowance h)) refl leads_input (λ x. does_input)
 
     -- a step that keeps the result
     plain_step : (i : Instruction) (m : ℕ) → Leads T w.location i m → ((x : Option ℕ) (n : ℕ) (e : End) → Quiet T m x n e → Does T w.location x i (suc n) e) → Step i (goes (moved m w))
@@ -152,65 +153,65 @@ module _ (T tokens answers : List ℕ) where
         go none = stops-here unanswered refl (λ x. record { end = over; path = s x; how = inl refl })
         go (some v) = goes_on refl refl refl l (λ x k. record { known = none; true_of = knows-none; onward = d x })
 
-    token-step : (c : ℕ) (o : Option ℕ) → present tokens w.io ≡ o → Step (inputChoice c) (inputChoosing T tokens o c w)
-    unfolding left inputChoosing done Walk.opened took
-    token-step c none e = branch (Step (inputChoice c)) c none w w (out (inputChoice c)) default (λ z. default)
+    token-step : (c : ℕ) (o : Option ℕ) → present tokens w.io ≡ o → Step (input_choice c) (input_choosing T tokens o c w)
+    unfolding left input_choosing done Walk.opened took
+    token-step c none e = branch (Step (input_choice c)) c none w w (out (input_choice c)) default (λ z. default)
       where
-        default : Step (inputChoice c) (goes (moved (wayOut T c none) w))
-        default = goes_on g refl refl (leads-token none) (λ x k. record { known = none; true_of = knows-none; onward = λ n e q. does-default q })
+        default : Step (input_choice c) (goes (moved (way_out T c none) w))
+        default = goes_on g refl refl (leads_token none) (λ x k. record { known = none; true_of = knows-none; onward = λ n e q. does_default q })
     token-step c (some t) e =
-        branch (Step (inputChoice c)) c (some t) (withIo (took w.io) (withResult t w)) (withResult t w) (out (inputChoice c))
-        (reads_here g (omega (arith, given-lt tokens w.io (some t) e refl)) refl (leads-token (some t)) (λ x. does-token))
-        (λ z. goes_on g refl refl (leads-token (some t)) (λ x k. record { known = none; true_of = knows-none; onward = λ n e q. does-default (rw z at q) }))
+        branch (Step (input_choice c)) c (some t) (with_io (took w.io) (with_result t w)) (with_result t w) (out (input_choice c))
+        (reads_here g (omega (arith, given-lt tokens w.io (some t) e refl)) refl (leads_token (some t)) (λ x. does_token))
+        (λ z. goes_on g refl refl (leads_token (some t)) (λ x k. record { known = none; true_of = knows-none; onward = λ n e q. does_default (rw z at q) }))
 
     choice-step : (c : ℕ) → Step (choice c) (branched T tokens (fetch T c) (some w.result) c w w)
     unfolding left done Walk.opened
     choice-step c = branch (Step (choice c)) c (some w.result) w w (out (choice c)) taken (λ z. taken)
       where
-        taken : Step (choice c) (goes (moved (wayOut T c (some w.result)) w))
-        taken = goes_on g refl refl (leads-choice (some w.result)) (λ x k. record { known = none; true_of = knows-none; onward = λ n e q. does-choice (some w.result) (knows-goes k) q })
+        taken : Step (choice c) (goes (moved (way_out T c (some w.result)) w))
+        taken = goes_on g refl refl (leads_choice (some w.result)) (λ x k. record { known = none; true_of = knows-none; onward = λ n e q. does_choice (some w.result) (knows-goes k) q })
 
-    call_step : (s : ℕ) → Step (callRule s) (calling T tokens s w)
+    call_step : (s : ℕ) → Step (call_rule s) (calling T tokens s w)
     unfolding left calling done Walk.opened
     call_step s =
-        if-step (callRule s) (given (fetch T s)) _ _
-        (λ a. if-step (callRule s) (ltb (length w.returns) 64) _ _ (λ b. calls g refl refl refl (ltb-true (length w.returns) 64 b)) (λ b. stop (callRule s) deep (λ x. does-call-stop)))
-        (λ a. out (callRule s))
+        if-step (call_rule s) (given (fetch T s)) _ _
+        (λ a. if-step (call_rule s) (ltb (length w.returns) 64) _ _ (λ b. calls g refl refl refl (ltb-true (length w.returns) 64 b)) (λ b. stop (call_rule s) deep (λ x. does_call_stop)))
+        (λ a. out (call_rule s))
 
     return-step : (rs : List ℕ) → w.returns ≡ rs → Step return (returning T tokens rs w)
     unfolding left returning done Walk.opened
-    return-step [] e = stops-here finished refl (λ x. record { end = back x; path = does-return; how = inr e })
-    return-step (l ∷ rs) e = went (Step return) l (withReturns rs w) (out return) (returns g refl refl e refl)
+    return-step [] e = stops-here finished refl (λ x. record { end = back x; path = does_return; how = inr e })
+    return-step (l ∷ rs) e = went (Step return) l (with_returns rs w) (out return) (returns g refl refl e refl)
 
-    result-step : (v : ℕ) → Step (setResult v) (goes (moved (w.location + 2) (withResult v w)))
+    result-step : (v : ℕ) → Step (set_result v) (goes (moved (w.location + 2) (with_result v w)))
     unfolding left done Walk.opened
-    result-step v = goes_on g refl refl leads-result (λ x k. record { known = some v; true_of = knows; onward = λ n e q. does-result q })
+    result-step v = goes_on g refl refl leads_result (λ x k. record { known = some v; true_of = knows; onward = λ n e q. does_result q })
 
-    parameter-step : (v : ℕ) → Step (setParameter v) (goes (moved (w.location + 2) (withParameter v w)))
+    parameter-step : (v : ℕ) → Step (set_parameter v) (goes (moved (w.location + 2) (with_parameter v w)))
     unfolding left done Walk.opened
-    parameter-step v = goes_on g refl refl leads-parameter (λ x k. record { known = x; true_of = k; onward = λ n e q. does-parameter q })
+    parameter-step v = goes_on g refl refl leads_parameter (λ x k. record { known = x; true_of = k; onward = λ n e q. does_parameter q })
 
     pub step-sort : (i : Instruction) → Step i (exec T tokens i w)
     unfolding exec requiring
     step-sort invalid = out invalid
-    step-sort (jump m) = went (Step (jump m)) m w (out (jump m)) (plain_step (jump m) m leads-jump (λ x n e q. does-jump q))
+    step-sort (jump m) = went (Step (jump m)) m w (out (jump m)) (plain_step (jump m) m leads_jump (λ x n e q. does_jump q))
     step-sort (input t) =
         if-step (input t) (is t (present tokens w.io)) _ _
-        (λ b. reads (input t) (w.location + 2) leads-input (λ x. does-input) (given-lt tokens w.io (present tokens w.io) refl (is-given t (present tokens w.io) b)))
-        (λ b. if-step (input t) (mends w.io) _ _ (λ c. repairs t c) (λ c. stop (input t) differs (λ x. does-input)))
-    step-sort inputAny =
-        if-step inputAny (given (present tokens w.io)) _ _
-        (λ b. reads inputAny (w.location + 1) leads_any (λ x. does-any) (given-lt tokens w.io (present tokens w.io) refl b))
-        (λ b. stop inputAny missing (λ x. does-any))
-    step-sort (write e) = told-step (write e) (w.location + 2) e leads-write (λ x n e₁ q. does-write q)
-    step-sort (inputChoice c) = token-step c (present tokens w.io) refl
-    step-sort (callRule s) = call_step s
+        (λ b. reads (input t) (w.location + 2) leads_input (λ x. does_input) (given-lt tokens w.io (present tokens w.io) refl (is-given t (present tokens w.io) b)))
+        (λ b. if-step (input t) (mends w.io) _ _ (λ c. repairs t c) (λ c. stop (input t) differs (λ x. does_input)))
+    step-sort input_any =
+        if-step input_any (given (present tokens w.io)) _ _
+        (λ b. reads input_any (w.location + 1) leads_any (λ x. does_any) (given-lt tokens w.io (present tokens w.io) refl b))
+        (λ b. stop input_any missing (λ x. does_any))
+    step-sort (write e) = told-step (write e) (w.location + 2) e leads_write (λ x n e₁ q. does_write q)
+    step-sort (input_choice c) = token-step c (present tokens w.io) refl
+    step-sort (call_rule s) = call_step s
     step-sort return = return-step w.returns refl
-    step-sort (setResult v) = result-step v
+    step-sort (set_result v) = result-step v
     step-sort (choice c) = choice-step c
-    step-sort endChoice = stop endChoice unlabelled (λ x. does-end)
-    step-sort (setParameter v) = parameter-step v
-    step-sort (update op) = told-step (update op) (w.location + 1) (operation op) leads-update (λ x n e q. does-update q)
-    step-sort (updateWith op) = told-step (updateWith op) (w.location + 1) (operationWith op w.parameter) leads-updateWith (λ x n e q. does-updateWith q)
-    step-sort (choose op) = asked-step (choose op) (w.location + 1) (operation op) leads-choose (λ x n e q. does-choose q) (λ x. does-choose-stop)
-    step-sort (chooseWith op) = asked-step (chooseWith op) (w.location + 1) (operationWith op w.parameter) leads-chooseWith (λ x n e q. does-chooseWith q) (λ x. does-chooseWith-stop)
+    step-sort end_choice = stop end_choice unlabelled (λ x. does_end)
+    step-sort (set_parameter v) = parameter-step v
+    step-sort (update op) = told-step (update op) (w.location + 1) (operation op) leads_update (λ x n e q. does_update q)
+    step-sort (update_with op) = told-step (update_with op) (w.location + 1) (operation_with op w.parameter) leads_update_with (λ x n e q. does_update_with q)
+    step-sort (choose op) = asked-step (choose op) (w.location + 1) (operation op) leads_choose (λ x n e q. does_choose q) (λ x. does_choose_stop)
+    step-sort (choose_with op) = asked-step (choose_with op) (w.location + 1) (operation_with op w.parameter) leads_choose_with (λ x n e q. does_choose_with q) (λ x. does_choose_with_stop)

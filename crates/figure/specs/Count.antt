@@ -1,12 +1,12 @@
 -- The figure as a function that computes: numbers by keys, raised one at a time until nothing is left to be raised or one has come to the
 -- cap. `Counted` in proofs/ shows that it is the figure, or that some quiet path has as many instructions as the cap.
-use Rattle.std.specs.Prelude.{Bool, true, false, ◌&&◌, ◌||◌, List, [], ◌∷◌, ◌++◌, ℕ, zero, suc, ◌+◌, ◌*◌, max, eqb, ltb, length}
+use Rattle.std.specs.Prelude.{Bool, true, false, ◌&&◌, ◌||◌, List, [], ◌∷◌, ◌++◌, ℕ, zero, suc, ◌+◌, ◌*◌, max, eqb, ltb, length, if◌then◌else◌}
 use Rattle.std.proofs.Math.Option.{Option, none, some}
-use Rattle.base.specs.Common.{if◌then◌else◌, member}
-use Rattle.machine.specs.Decode.{fetch, Instruction, invalid, jump, input, inputAny, write, inputChoice, callRule, return, setResult, choice, endChoice, setParameter, update, updateWith, choose, chooseWith, decode}
+use Rattle.base.specs.Common.{member}
+use Rattle.machine.specs.Decode.{fetch, Instruction, invalid, jump, input, input_any, write, input_choice, call_rule, return, set_result, choice, end_choice, set_parameter, update, update_with, choose, choose_with, decode}
 use Rattle.program.specs.Program.{Rule}
 use Rattle.program.specs.Table.{place, table}
-use Rattle.figure.specs.Figure.{wayOut, End, over, back}
+use Rattle.figure.specs.Figure.{way_out, End, over, back}
 
 -- Numbers that grow
 
@@ -65,20 +65,20 @@ filter p (a ∷ as₁) = let later = filter p as₁ in if p a then a ∷ later e
 pub data Key : Type 0 where
   at : ℕ → Option ℕ → End → Key
 
-unfoldable pub sameOption : Option ℕ → Option ℕ → Bool
-sameOption none none = true
-sameOption none (some v) = false
-sameOption (some u) none = false
-sameOption (some u) (some v) = eqb u v
+unfoldable pub same_option : Option ℕ → Option ℕ → Bool
+same_option none none = true
+same_option none (some v) = false
+same_option (some u) none = false
+same_option (some u) (some v) = eqb u v
 
-unfoldable pub sameEnd : End → End → Bool
-sameEnd over over = true
-sameEnd over (back y) = false
-sameEnd (back x) over = false
-sameEnd (back x) (back y) = sameOption x y
+unfoldable pub same_end : End → End → Bool
+same_end over over = true
+same_end over (back y) = false
+same_end (back x) over = false
+same_end (back x) (back y) = same_option x y
 
-unfoldable pub sameKey : Key → Key → Bool
-sameKey (at l x e) (at m y f) = eqb l m && (sameOption x y && sameEnd e f)
+unfoldable pub same_key : Key → Key → Bool
+same_key (at l x e) (at m y f) = eqb l m && (same_option x y && same_end e f)
 
 -- 0 stands for no path
 
@@ -99,64 +99,64 @@ is_over over = 1
 is_over (back y) = 0
 
 -- a call that stops, or a path that is over in the called rule
-unfoldable pub overIn : End → ℕ → ℕ
-overIn over n = suc n
-overIn (back y) n = 0
+unfoldable pub over_in : End → ℕ → ℕ
+over_in over n = suc n
+over_in (back y) n = 0
 
-unfoldable pub isBack : Option ℕ → End → ℕ
-isBack x over = 0
-isBack x (back y) = truth (sameOption x y)
+unfoldable pub is_back : Option ℕ → End → ℕ
+is_back x over = 0
+is_back x (back y) = truth (same_option x y)
 
 unfoldable pub backs : List (Option ℕ) → List End
 backs [] = []
 backs (x ∷ xs) = back x ∷ backs xs
 
-unfoldable pub withLabel : Option ℕ → List ℕ → List ℕ
-withLabel none vs = vs
-withLabel (some v) vs = v ∷ vs
+unfoldable pub with_label : Option ℕ → List ℕ → List ℕ
+with_label none vs = vs
+with_label (some v) vs = v ∷ vs
 
 module _ (T : List ℕ) where
   -- Ways out of a choice
 
   unfoldable pub labels_from : ℕ → ℕ → List ℕ
   labels_from zero l = []
-  labels_from (suc n) l = let later = labels_from n (l + 2) in withLabel (fetch T l) later
+  labels_from (suc n) l = let later = labels_from n (l + 2) in with_label (fetch T l) later
 
-  unfoldable pub labelsIf : Option ℕ → ℕ → List ℕ
-  labelsIf none c = []
-  labelsIf (some n) c = labels_from n (c + 1)
+  unfoldable pub labels_if : Option ℕ → ℕ → List ℕ
+  labels_if none c = []
+  labels_if (some n) c = labels_from n (c + 1)
 
-  unfoldable pub labelsOf : ℕ → List ℕ
-  labelsOf c = labelsIf (fetch T c) c
+  unfoldable pub labels_of : ℕ → List ℕ
+  labels_of c = labels_if (fetch T c) c
 
   -- what a choice with its table at c can go by
   unfoldable pub ways_of : ℕ → List (Option ℕ)
-  ways_of c = none ∷ somes (labelsOf c)
+  ways_of c = none ∷ somes (labels_of c)
 
   -- Reachable
 
-  unfoldable pub someWay : List (Option ℕ) → ℕ → ℕ → Bool
-  someWay [] c m = false
-  someWay (v ∷ vs) c m = eqb (wayOut T c v) m || someWay vs c m
+  unfoldable pub some_way : List (Option ℕ) → ℕ → ℕ → Bool
+  some_way [] c m = false
+  some_way (v ∷ vs) c m = eqb (way_out T c v) m || some_way vs c m
 
   -- m can come after the instruction i at l
-  unfoldable pub leadsTo : ℕ → Instruction → ℕ → Bool
-  leadsTo l invalid m = false
-  leadsTo l (jump k) m = eqb k m
-  leadsTo l (input t) m = eqb (l + 2) m
-  leadsTo l inputAny m = eqb (l + 1) m
-  leadsTo l (write e) m = eqb (l + 2) m
-  leadsTo l (inputChoice c) m = someWay (ways_of c) c m
-  leadsTo l (callRule s) m = eqb (l + 2) m
-  leadsTo l return m = false
-  leadsTo l (setResult v) m = eqb (l + 2) m
-  leadsTo l (choice c) m = someWay (ways_of c) c m
-  leadsTo l endChoice m = false
-  leadsTo l (setParameter v) m = eqb (l + 2) m
-  leadsTo l (update op) m = eqb (l + 1) m
-  leadsTo l (updateWith op) m = eqb (l + 1) m
-  leadsTo l (choose op) m = eqb (l + 1) m
-  leadsTo l (chooseWith op) m = eqb (l + 1) m
+  unfoldable pub leads_to : ℕ → Instruction → ℕ → Bool
+  leads_to l invalid m = false
+  leads_to l (jump k) m = eqb k m
+  leads_to l (input t) m = eqb (l + 2) m
+  leads_to l input_any m = eqb (l + 1) m
+  leads_to l (write e) m = eqb (l + 2) m
+  leads_to l (input_choice c) m = some_way (ways_of c) c m
+  leads_to l (call_rule s) m = eqb (l + 2) m
+  leads_to l return m = false
+  leads_to l (set_result v) m = eqb (l + 2) m
+  leads_to l (choice c) m = some_way (ways_of c) c m
+  leads_to l end_choice m = false
+  leads_to l (set_parameter v) m = eqb (l + 2) m
+  leads_to l (update op) m = eqb (l + 1) m
+  leads_to l (update_with op) m = eqb (l + 1) m
+  leads_to l (choose op) m = eqb (l + 1) m
+  leads_to l (choose_with op) m = eqb (l + 1) m
 
   -- n locations, from l on
   unfoldable pub from : ℕ → ℕ → List ℕ
@@ -168,7 +168,7 @@ module _ (T : List ℕ) where
 
   -- a start, or behind a location that is reached
   unfoldable pub reaches : List ℕ → (ℕ → ℕ) → ℕ → ℕ
-  reaches starts v m = max (truth (member m starts)) (most locations (λ l. truth (ltb 0 (v l) && leadsTo l (decode T l) m)))
+  reaches starts v m = max (truth (member m starts)) (most locations (λ l. truth (ltb 0 (v l) && leads_to l (decode T l) m)))
 
   unfoldable pub reached : List ℕ → List (ℕ × ℕ)
   reached starts = grown eqb 1 (reaches starts) locations
@@ -179,50 +179,50 @@ module _ (T : List ℕ) where
   result_of invalid = []
   result_of (jump k) = []
   result_of (input t) = []
-  result_of inputAny = []
+  result_of input_any = []
   result_of (write e) = []
-  result_of (inputChoice c) = []
-  result_of (callRule s) = []
+  result_of (input_choice c) = []
+  result_of (call_rule s) = []
   result_of return = []
-  result_of (setResult v) = v ∷ []
+  result_of (set_result v) = v ∷ []
   result_of (choice c) = []
-  result_of endChoice = []
-  result_of (setParameter v) = []
+  result_of end_choice = []
+  result_of (set_parameter v) = []
   result_of (update op) = []
-  result_of (updateWith op) = []
+  result_of (update_with op) = []
   result_of (choose op) = []
-  result_of (chooseWith op) = []
+  result_of (choose_with op) = []
 
   -- what a path can know of the result
   unfoldable pub results : List (Option ℕ)
   results = none ∷ somes (each locations (λ l. result_of (decode T l)))
 
   -- what a choice goes by, the result being known or not
-  unfoldable pub waysBy : Option ℕ → ℕ → List (Option ℕ)
-  waysBy none c = ways_of c
-  waysBy (some v) c = some v ∷ []
+  unfoldable pub ways_by : Option ℕ → ℕ → List (Option ℕ)
+  ways_by none c = ways_of c
+  ways_by (some v) c = some v ∷ []
 
   -- the most instructions of a path from l, x being known, to the end e, where v has those from elsewhere; the instruction is i
-  unfoldable pub offerAt : (Key → ℕ) → ℕ → Option ℕ → End → Instruction → ℕ
-  offerAt v l x e invalid = 0
-  offerAt v l x e (jump m) = more (v (at m x e))
-  offerAt v l x e (input t) = is_over e
-  offerAt v l x e inputAny = is_over e
-  offerAt v l x e (write ev) = more (v (at (l + 2) x e))
-  offerAt v l x e (inputChoice c) = max (is_over e) (more (v (at (wayOut T c none) none e)))
-  offerAt v l x e (callRule s) = max (overIn e (v (at s none over))) (most results (λ y. joined (v (at s none (back y))) (v (at (l + 2) y e))))
-  offerAt v l x e return = isBack x e
-  offerAt v l x e (setResult u) = more (v (at (l + 2) (some u) e))
-  offerAt v l x e (choice c) = most (waysBy x c) (λ u. more (v (at (wayOut T c u) none e)))
-  offerAt v l x e endChoice = is_over e
-  offerAt v l x e (setParameter u) = more (v (at (l + 2) x e))
-  offerAt v l x e (update op) = more (v (at (l + 1) x e))
-  offerAt v l x e (updateWith op) = more (v (at (l + 1) x e))
-  offerAt v l x e (choose op) = max (is_over e) (more (v (at (l + 1) none e)))
-  offerAt v l x e (chooseWith op) = max (is_over e) (more (v (at (l + 1) none e)))
+  unfoldable pub offer_at : (Key → ℕ) → ℕ → Option ℕ → End → Instruction → ℕ
+  offer_at v l x e invalid = 0
+  offer_at v l x e (jump m) = more (v (at m x e))
+  offer_at v l x e (input t) = is_over e
+  offer_at v l x e input_any = is_over e
+  offer_at v l x e (write ev) = more (v (at (l + 2) x e))
+  offer_at v l x e (input_choice c) = max (is_over e) (more (v (at (way_out T c none) none e)))
+  offer_at v l x e (call_rule s) = max (over_in e (v (at s none over))) (most results (λ y. joined (v (at s none (back y))) (v (at (l + 2) y e))))
+  offer_at v l x e return = is_back x e
+  offer_at v l x e (set_result u) = more (v (at (l + 2) (some u) e))
+  offer_at v l x e (choice c) = most (ways_by x c) (λ u. more (v (at (way_out T c u) none e)))
+  offer_at v l x e end_choice = is_over e
+  offer_at v l x e (set_parameter u) = more (v (at (l + 2) x e))
+  offer_at v l x e (update op) = more (v (at (l + 1) x e))
+  offer_at v l x e (update_with op) = more (v (at (l + 1) x e))
+  offer_at v l x e (choose op) = max (is_over e) (more (v (at (l + 1) none e)))
+  offer_at v l x e (choose_with op) = max (is_over e) (more (v (at (l + 1) none e)))
 
   unfoldable pub offer : (Key → ℕ) → Key → ℕ
-  offer v (at l x e) = offerAt v l x e (decode T l)
+  offer v (at l x e) = offer_at v l x e (decode T l)
 
   unfoldable pub ends : List End
   ends = over ∷ backs results
@@ -235,7 +235,7 @@ module _ (T : List ℕ) where
 
   -- the numbers of all paths from reachable places
   unfoldable pub counts : ℕ → List ℕ → List (Key × ℕ)
-  counts cap ls = grown sameKey cap offer (keys ls)
+  counts cap ls = grown same_key cap offer (keys ls)
 
   unfoldable pub below : ℕ → List Key → (Key → ℕ) → Bool
   below cap [] v = true
@@ -245,23 +245,23 @@ module _ (T : List ℕ) where
   greatest ls v = most ls (λ l. most ends (λ e. v (at l none e)))
 
   -- the figure over these starts, none where some path has as many instructions as the cap
-  unfoldable pub figureAt : ℕ → List ℕ → Option ℕ
-  figureAt cap ls = let es = counts cap ls in if below cap (keys ls) (value sameKey es) then some (greatest ls (value sameKey es)) else none
+  unfoldable pub figure_at : ℕ → List ℕ → Option ℕ
+  figure_at cap ls = let es = counts cap ls in if below cap (keys ls) (value same_key es) then some (greatest ls (value same_key es)) else none
 
 -- the starts of the first n rules
-unfoldable pub startsOf : List Rule → ℕ → List ℕ
-startsOf prog zero = []
-startsOf prog (suc n) = place 1 prog n ∷ startsOf prog n
+unfoldable pub starts_of : List Rule → ℕ → List ℕ
+starts_of prog zero = []
+starts_of prog (suc n) = place 1 prog n ∷ starts_of prog n
 
 -- "47 for Q above 4,294,967,295": the greatest figure
-abbrev pub mostFigure : ℕ
-mostFigure = 4294967295
+abbrev pub most_figure : ℕ
+most_figure = 4294967295
 
 -- the figure of a program; none for 47
 unfoldable pub figure : List Rule → Option ℕ
-figure prog = figureAt (table prog) (suc mostFigure) (reachable (table prog) (startsOf prog (length prog)))
+figure prog = figure_at (table prog) (suc most_figure) (reachable (table prog) (starts_of prog (length prog)))
 
 -- all of this file computes where this is unfolded
 unfoldable pub opened : Unit {0}
-unfolding value raises next grow grown most somes truth each filter sameOption sameEnd sameKey more joined is_over overIn isBack backs withLabel labels_from labelsIf labelsOf ways_of someWay leadsTo from locations reaches reached result_of results waysBy offerAt offer ends keys reachable counts below greatest figureAt startsOf figure
+unfolding value raises next grow grown most somes truth each filter same_option same_end same_key more joined is_over over_in is_back backs with_label labels_from labels_if labels_of ways_of some_way leads_to from locations reaches reached result_of results ways_by offer_at offer ends keys reachable counts below greatest figure_at starts_of figure
 opened = tt

@@ -6,18 +6,18 @@ use Rattle.finishing.specs.Finishing.{Finishing}
 use Rattle.program.specs.Accepted.{Accepted}
 use Rattle.program.specs.Program.{Rule}
 use Rattle.program.specs.Table.{place, table}
-use Rattle.figure.specs.Count.{mostFigure, figure}
+use Rattle.figure.specs.Count.{most_figure, figure}
 use Rattle.figure.specs.Figure.{Bounds, Figure, Long}
 
 -- "that rule's own start": a location at which one of the program's rules begins
 pub data RuleStart (prog : List Rule) (s : ℕ) : Type 0 where
-  rule-start : (r : ℕ) → r < length prog → s ≡ place 1 prog r → RuleStart prog s
+  rule_start : (r : ℕ) → r < length prog → s ≡ place 1 prog r → RuleStart prog s
 
 -- "For a finishing program let Q be the most instructions on a quiet path from any instruction of a rule, .. to that rule's return or to a stop": what is
 -- computed is that number, and 47 is not due
 pub record IsFigure (prog : List Rule) (q : ℕ) : Type 0 where
   pub exact : Figure (table prog) (RuleStart prog) q
-  pub small : q ≤ mostFigure
+  pub small : q ≤ most_figure
 
 abbrev pub FigureExact : Type 0
 FigureExact = (prog : List Rule) → Accepted prog → Finishing prog → (q : ℕ) → figure prog ≡ some q → IsFigure prog q
@@ -47,12 +47,12 @@ BoundEnough = (prog : List Rule) → Accepted prog → Finishing prog → (q : �
 
 -- "47 for Q above 4,294,967,295": where no number is computed, some quiet path has more
 abbrev pub FigureLong : Type 0
-FigureLong = (prog : List Rule) → Accepted prog → figure prog ≡ none → Long (table prog) (RuleStart prog) (suc mostFigure)
+FigureLong = (prog : List Rule) → Accepted prog → figure prog ≡ none → Long (table prog) (RuleStart prog) (suc most_figure)
 
 -- there is one figure at most, and none where some path is so long: whoever finds the one or the other has found what is computed
 pub record Settles (prog : List Rule) : Type 0 where
-  pub figure-only : (q : ℕ) → IsFigure prog q → figure prog ≡ some q
-  pub long-only : Long (table prog) (RuleStart prog) (suc mostFigure) → figure prog ≡ none
+  pub figure_only : (q : ℕ) → IsFigure prog q → figure prog ≡ some q
+  pub long_only : Long (table prog) (RuleStart prog) (suc most_figure) → figure prog ≡ none
 
 abbrev pub FigureSettles : Type 0
 FigureSettles = (prog : List Rule) → Accepted prog → Finishing prog → Settles prog

@@ -21,20 +21,20 @@ told (some q) = record { figure = q; number = 0 }
 told none = record { figure = 0; number = 47 }
 
 -- "For a finishing program let Q be ..": by the processor's answer
-unfoldable pub toldIf : Answer → List Rule → Told
-toldIf (accepted words true) prog = told (figure prog)
-toldIf (accepted words false) prog = untold
-toldIf (refused number at) prog = untold
+unfoldable pub told_if : Answer → List Rule → Told
+told_if (accepted words true) prog = told (figure prog)
+told_if (accepted words false) prog = untold
+told_if (refused number at) prog = untold
 
-unfoldable pub toldFor : Answer → Understood → Told
-toldFor a (meaning prog) = toldIf a prog
-toldFor a (faulty n w) = untold
+unfoldable pub told_for : Answer → Understood → Told
+told_for a (meaning prog) = told_if a prog
+told_for a (faulty n w) = untold
 
 -- of a text, with a lent buffer of so many words; "the table is still given": the answer is `process`'s all the same
-unfoldable pub figureOf : List ℕ → ℕ → Told
-figureOf text room = toldFor (process text room) (understood text)
+unfoldable pub figure_of : List ℕ → ℕ → Told
+figure_of text room = told_for (process text room) (understood text)
 
 -- all of this file computes where this is unfolded
 unfoldable pub opened : Unit {0}
-unfolding untold told toldIf toldFor figureOf
+unfolding untold told told_if told_for figure_of
 opened = tt

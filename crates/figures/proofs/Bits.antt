@@ -14,7 +14,7 @@ use borrow.Author.Tests.{ltb-true, ltb-false}
 use Rattle.base.specs.Bools.{split}
 use Rattle.figures.proofs.Steps.{Every, Inside}
 use Rattle.figures.proofs.Sums.{length-bump}
-use Rattle.figures.specs.Figures.{bump, mark, bumps, marks, covered, flag, packed, bitsOf}
+use Rattle.figures.specs.Figures.{bump, mark, bumps, marks, covered, flag, packed, bits_of}
 use Rattle.figures.specs.Shelf.{executed, bit_at}
 
 flag_small : (c : ℕ) → flag c < 2
@@ -43,8 +43,8 @@ unfolding executed
 executed-append [] b = omega arith
 executed-append (c ∷ a) b = let ih = executed-append a b in omega arith
 
-covered-bits : (n : ℕ) (cs : List ℕ) → covered (bitsOf n cs) ≡ executed (take (n * 64) cs)
-unfolding covered bitsOf executed
+covered-bits : (n : ℕ) (cs : List ℕ) → covered (bits_of n cs) ≡ executed (take (n * 64) cs)
+unfolding covered bits_of executed
 covered-bits zero cs = refl
 covered-bits (suc n) cs =
     let e : suc n * 64 ≡ 64 + n * 64 = omega arith in
@@ -52,7 +52,7 @@ covered-bits (suc n) cs =
     ∙ sym (ap (λ (k : ℕ). executed (take k cs)) e ∙ ap executed (take-add 64 (n * 64) cs) ∙ executed-append (take 64 cs) (take (n * 64) (drop 64 cs)))
 
 -- "how many locations were executed at all .. counted from those bits"
-pub covered-is : (cs : List ℕ) → length cs ≡ 4096 → covered (bitsOf 64 cs) ≡ executed cs
+pub covered-is : (cs : List ℕ) → length cs ≡ 4096 → covered (bits_of 64 cs) ≡ executed cs
 covered-is cs h = covered-bits 64 cs ∙ ap executed (take_all 4096 cs (omega arith))
 
 -- A bit by itself
@@ -67,8 +67,8 @@ bit-packed (c ∷ cs) (suc k) =
     ∙ bit-packed cs k
 
 -- word j of the bits
-pub get_d_bits : (n : ℕ) (cs : List ℕ) (j : ℕ) → j < n → get_or (bitsOf n cs) j 0 ≡ packed (take 64 (drop (j * 64) cs))
-unfolding bitsOf
+pub get_d_bits : (n : ℕ) (cs : List ℕ) (j : ℕ) → j < n → get_or (bits_of n cs) j 0 ≡ packed (take 64 (drop (j * 64) cs))
+unfolding bits_of
 get_d_bits zero cs j h = absurd (omega arith)
 get_d_bits (suc n) cs zero h = refl
 get_d_bits (suc n) cs (suc j) h =
@@ -76,7 +76,7 @@ get_d_bits (suc n) cs (suc j) h =
     get_d_bits n (drop 64 cs) j (omega arith) ∙ ap (λ (l : List ℕ). packed (take 64 l)) (drop-drop (j * 64) 64 cs ∙ ap (λ (k : ℕ). drop k cs) e)
 
 -- "one bit a location": set exactly if the count is not 0
-pub bit_is : (cs : List ℕ) (l : ℕ) → 0 < l → l ≤ 4096 → bit_at (bitsOf 64 cs) l ≡ flag (get_or cs (l - 1) 0)
+pub bit_is : (cs : List ℕ) (l : ℕ) → 0 < l → l ≤ 4096 → bit_at (bits_of 64 cs) l ≡ flag (get_or cs (l - 1) 0)
 unfolding bit_at
 bit_is cs l p h =
     let i = l - 1 in
@@ -109,39 +109,39 @@ or-packed (c ∷ cs) (suc k) y h =
     ap (λ (p : ℕ). bit_or (packed cs * 2 + flag c) p) (pow-suc 2 k) ∙ or-twice (packed cs) (flag c) (2 ^ k) (flag_small c)
     ∙ ap (λ (x : ℕ). x * 2 + flag c) (or-packed cs k y (omega arith))
 
-abbrev setBit : List ℕ → ℕ → List ℕ
-setBit ws i = set ws (i / 64) (bit_or (get_or ws (i / 64) 0) (2 ^ (i % 64)))
+abbrev set_bit : List ℕ → ℕ → List ℕ
+set_bit ws i = set ws (i / 64) (bit_or (get_or ws (i / 64) 0) (2 ^ (i % 64)))
 
-bits-set : (n : ℕ) (cs : List ℕ) (i y : ℕ) → i < n * 64 → i < length cs → bitsOf n (set cs i (suc y)) ≡ setBit (bitsOf n cs) i
-unfolding bitsOf
+bits-set : (n : ℕ) (cs : List ℕ) (i y : ℕ) → i < n * 64 → i < length cs → bits_of n (set cs i (suc y)) ≡ set_bit (bits_of n cs) i
+unfolding bits_of
 bits-set zero cs i y h k = absurd (omega arith)
 bits-set (suc n) cs i y h k = split (ltb i 64) near (far (λ j a b. bits-set n (drop 64 cs) j y a b))
   where
-    near : ltb i 64 ≡ true → bitsOf (suc n) (set cs i (suc y)) ≡ setBit (bitsOf (suc n) cs) i
+    near : ltb i 64 ≡ true → bits_of (suc n) (set cs i (suc y)) ≡ set_bit (bits_of (suc n) cs) i
     near t =
         let b = ltb-true i 64 t in
         let q : i / 64 ≡ 0 = omega arith in
         let m : i % 64 ≡ i = omega arith in
         let l = length-take 64 cs in
-        rw (q, m) (ap₂ (λ (x : ℕ) (l : List ℕ). x ∷ bitsOf n l)
+        rw (q, m) (ap₂ (λ (x : ℕ) (l : List ℕ). x ∷ bits_of n l)
         (ap packed (take-set-lt 64 cs i (suc y) b) ∙ sym (or-packed (take 64 cs) i y (omega arith))) (drop-set-lt 64 cs i (suc y) b))
 
-    far : ((j : ℕ) → j < n * 64 → j < length (drop 64 cs) → bitsOf n (set (drop 64 cs) j (suc y)) ≡ setBit (bitsOf n (drop 64 cs)) j) → ltb i 64 ≡ false → bitsOf (suc n) (set cs i (suc y)) ≡ setBit (bitsOf (suc n) cs) i
+    far : ((j : ℕ) → j < n * 64 → j < length (drop 64 cs) → bits_of n (set (drop 64 cs) j (suc y)) ≡ set_bit (bits_of n (drop 64 cs)) j) → ltb i 64 ≡ false → bits_of (suc n) (set cs i (suc y)) ≡ set_bit (bits_of (suc n) cs) i
     far ih f =
         let b = ltb-false i 64 f in
         let j = i - 64 in
         let e : i ≡ 64 + j = omega arith in
         let q : i / 64 ≡ suc (j / 64) = omega arith in
         let m : i % 64 ≡ j % 64 = omega arith in
-        rw (q, m) (ap₂ (λ (x : List ℕ) (l : List ℕ). packed x ∷ bitsOf n l) (take-set-le 64 cs i (suc y) b) (ap (λ (d : ℕ). drop 64 (set cs d (suc y))) e ∙ drop-set-add 64 cs j (suc y))
+        rw (q, m) (ap₂ (λ (x : List ℕ) (l : List ℕ). packed x ∷ bits_of n l) (take-set-le 64 cs i (suc y) b) (ap (λ (d : ℕ). drop 64 (set cs d (suc y))) e ∙ drop-set-add 64 cs j (suc y))
         ∙ ap (λ (l : List ℕ). packed (take 64 cs) ∷ l) (ih j (omega arith) (omega (arith, length-drop 64 cs))))
 
-bits-bump : (cs : List ℕ) (l : ℕ) → length cs ≡ 4096 → Inside 4096 l → bitsOf 64 (bump cs l) ≡ mark (bitsOf 64 cs) l
+bits-bump : (cs : List ℕ) (l : ℕ) → length cs ≡ 4096 → Inside 4096 l → bits_of 64 (bump cs l) ≡ mark (bits_of 64 cs) l
 unfolding bump mark
 bits-bump cs l h k = bits-set 64 cs (l - 1) (get_or cs (l - 1) 0) (omega (arith, k.0, k.1)) (omega (arith, k.0, k.1))
 
 -- the bits stay those of the counts
-pub bits-bumps : (cs ls : List ℕ) → length cs ≡ 4096 → Every (Inside 4096) ls → bitsOf 64 (bumps cs ls) ≡ marks (bitsOf 64 cs) ls
+pub bits-bumps : (cs ls : List ℕ) → length cs ≡ 4096 → Every (Inside 4096) ls → bits_of 64 (bumps cs ls) ≡ marks (bits_of 64 cs) ls
 unfolding bumps marks
 bits-bumps cs [] h k = refl
 bits-bumps cs (l ∷ ls) h k =

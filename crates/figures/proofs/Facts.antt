@@ -9,11 +9,11 @@ use lib.ListN.{replicate}
 use Rattle.base.specs.Common.{same}
 use Rattle.events.specs.Events
 use Rattle.figures.specs.Figures
-use Rattle.figures.specs.Figures.{Figures, bumps, marks, plus, meanWhole, meanRest, within64, sound}
+use Rattle.figures.specs.Figures.{Figures, bumps, marks, plus, mean_whole, mean_rest, within64, sound}
 use Rattle.figures.specs.Form
-use Rattle.figures.specs.Form.{Outcome, added, figuresBytes, given_of, Report, reportOf}
+use Rattle.figures.specs.Form.{Outcome, added, figures_bytes, given_of, Report, report_of}
 use Rattle.figures.specs.Spans
-use Rattle.figures.specs.Spans.{Total, tells, spanTotal, spanTotals, locationsIn, span_of, togetherOf}
+use Rattle.figures.specs.Spans.{Total, tells, span_total, span_totals, locations_in, span_of, together_of}
 use Rattle.figures.specs.Visits
 use Rattle.figures.specs.Visits.{Given, visited}
 use Rattle.machine.specs.Bytes
@@ -73,7 +73,7 @@ abbrev shelf : ℕ → ℕ → Figures
 shelf books total = record { counts = []; bits = []; books = books; total = total }
 
 pub sums : T (same (bumps (0 ∷ 4 ∷ 0 ∷ []) (1 ∷ 3 ∷ 1 ∷ [])) (2 ∷ 4 ∷ 1 ∷ []) && same (marks (0 ∷ 0 ∷ []) (1 ∷ 3 ∷ 1 ∷ 64 ∷ 65 ∷ [])) (9223372036854775813 ∷ 1 ∷ [])
-    && same (meanWhole (shelf 0 0) ∷ meanRest (shelf 0 0) ∷ meanWhole (shelf 3 17) ∷ meanRest (shelf 3 17) ∷ []) (0 ∷ 0 ∷ 5 ∷ 2 ∷ []))
+    && same (mean_whole (shelf 0 0) ∷ mean_rest (shelf 0 0) ∷ mean_whole (shelf 3 17) ∷ mean_rest (shelf 3 17) ∷ []) (0 ∷ 0 ∷ 5 ∷ 2 ∷ []))
 unfolding Rattle.figures.specs.Figures.opened
 sums = tt
 
@@ -111,7 +111,7 @@ unfolding row Rattle.events.specs.Events.opened Rattle.figures.specs.Figures.ope
 adding = tt
 
 -- the order of the numbers: counts, bits, books, total, each in eight bytes, high byte first
-pub ordered : T (same (figuresBytes (record { counts = 1 ∷ 258 ∷ []; bits = 3 ∷ []; books = 4; total = 5 }))
+pub ordered : T (same (figures_bytes (record { counts = 1 ∷ 258 ∷ []; bits = 3 ∷ []; books = 4; total = 5 }))
     (replicate 7 0 ++ (1 ∷ (replicate 6 0 ++ (1 ∷ 2 ∷ (replicate 7 0 ++ (3 ∷ (replicate 7 0 ++ (4 ∷ (replicate 7 0 ++ (5 ∷ [])))))))))))
 unfolding Rattle.figures.specs.Form.opened Rattle.machine.specs.Bytes.opened form.opened
 ordered = tt
@@ -120,8 +120,8 @@ ordered = tt
 unfoldable pub said : Report → List ℕ
 said r = r.number ∷ r.books ∷ r.total ∷ r.covered ∷ r.mean ∷ r.rest ∷ []
 
-pub reporting : T (same (said (reportOf (some (record { counts = []; bits = 5 ∷ 1 ∷ []; books = 3; total = 17 })))) (0 ∷ 3 ∷ 17 ∷ 3 ∷ 5 ∷ 2 ∷ [])
-    && same (said (reportOf none)) (21 ∷ 0 ∷ 0 ∷ 0 ∷ 0 ∷ 0 ∷ []))
+pub reporting : T (same (said (report_of (some (record { counts = []; bits = 5 ∷ 1 ∷ []; books = 3; total = 17 })))) (0 ∷ 3 ∷ 17 ∷ 3 ∷ 5 ∷ 2 ∷ [])
+    && same (said (report_of none)) (21 ∷ 0 ∷ 0 ∷ 0 ∷ 0 ∷ 0 ∷ []))
 unfolding said Rattle.figures.specs.Figures.opened Rattle.figures.specs.Form.opened lib.Count.ones
 reporting = tt
 
@@ -141,13 +141,13 @@ abbrev row_at : ℕ → List ℕ
 row_at l = replicate 16 7 ++ (replicate 7 0 ++ (l ∷ []))
 
 -- Rule by rule. One span: a rule in the middle, the last one, an empty one, one that goes back, from location 0 (which has no count), past the last count
-pub spans : T (same (spanTotal 2 4 eights ∷ spanTotal 4 5 eights ∷ spanTotal 3 3 eights ∷ spanTotal 3 2 eights ∷ spanTotal 0 3 eights ∷ spanTotal 1 3 eights ∷ spanTotal 3 99 eights ∷ spanTotal 6 9 eights ∷ [])
+pub spans : T (same (span_total 2 4 eights ∷ span_total 4 5 eights ∷ span_total 3 3 eights ∷ span_total 3 2 eights ∷ span_total 0 3 eights ∷ span_total 1 3 eights ∷ span_total 3 99 eights ∷ span_total 6 9 eights ∷ [])
     (6 ∷ 8 ∷ 0 ∷ 0 ∷ 3 ∷ 3 ∷ 12 ∷ 0 ∷ []))
 unfolding Spans.opened Rattle.figures.specs.Figures.opened
 spans = tt
 
 -- rows at locations 1, 2 and 4, the table's end behind location 4: each up to the next, the last up to the end
-pub by_rows : T (same (locationsIn (row_at 1 ++ (row_at 2 ++ (row_at 4 ++ (9 ∷ []))))) (1 ∷ 2 ∷ 4 ∷ []) && same (spanTotals (1 ∷ 2 ∷ 4 ∷ []) 5 eights) (1 ∷ 6 ∷ 8 ∷ []))
+pub by_rows : T (same (locations_in (row_at 1 ++ (row_at 2 ++ (row_at 4 ++ (9 ∷ []))))) (1 ∷ 2 ∷ 4 ∷ []) && same (span_totals (1 ∷ 2 ∷ 4 ∷ []) 5 eights) (1 ∷ 6 ∷ 8 ∷ []))
 unfolding Spans.opened Rattle.figures.specs.Figures.opened Rattle.figures.specs.Form.opened Rattle.machine.specs.Bytes.opened form.opened
 by_rows = tt
 
@@ -156,8 +156,8 @@ unfoldable pub totalled : Total → List ℕ
 totalled t = t.number ∷ t.total ∷ []
 
 pub totalling : T (same (totalled (span_of (some counted) 2 4)) (0 ∷ 6 ∷ []) && same (totalled (span_of none 2 4)) (21 ∷ 0 ∷ [])
-    && same (totalled (togetherOf (some counted) (1 ∷ 2 ∷ 4 ∷ []) 5)) (0 ∷ 15 ∷ []) && same (totalled (togetherOf none [] 5)) (21 ∷ 0 ∷ [])
-    && same (totalled (togetherOf (some (lone 18446744073709551615 1 1 18446744073709551615)) (1 ∷ []) 2)) (0 ∷ 18446744073709551615 ∷ [])
-    && same (totalled (togetherOf (some (lone 18446744073709551615 1 1 18446744073709551615)) (1 ∷ 2 ∷ 1 ∷ []) 2)) (46 ∷ 0 ∷ []) && same (totalled (tells 46 7)) (46 ∷ 7 ∷ []))
+    && same (totalled (together_of (some counted) (1 ∷ 2 ∷ 4 ∷ []) 5)) (0 ∷ 15 ∷ []) && same (totalled (together_of none [] 5)) (21 ∷ 0 ∷ [])
+    && same (totalled (together_of (some (lone 18446744073709551615 1 1 18446744073709551615)) (1 ∷ []) 2)) (0 ∷ 18446744073709551615 ∷ [])
+    && same (totalled (together_of (some (lone 18446744073709551615 1 1 18446744073709551615)) (1 ∷ 2 ∷ 1 ∷ []) 2)) (46 ∷ 0 ∷ []) && same (totalled (tells 46 7)) (46 ∷ 7 ∷ []))
 unfolding totalled Spans.opened Rattle.figures.specs.Figures.opened
 totalling = tt

@@ -11,9 +11,9 @@ use lib.Seq.{drop-drop, drop-cons, take-add, take_all, take-append-le, drop-appe
 use borrow.Author.Tests.{eq-eqb, eqb-true}
 use Rattle.base.specs.Bools.{split}
 use Rattle.figures.proofs.Shelves.{Balanced, balanced}
-use Rattle.figures.specs.Figures.{Figures, bitsOf, sound}
-use Rattle.figures.specs.Form.{numberWords, numbers, figuresBytes, number_at, numbersAt, figuresNamed, figuresOf}
-use Rattle.machine.proofs.Bytes.{length-wordsOf, length-bytesOf, wordsOf-bytesOf, bytesOf-wordsOf}
+use Rattle.figures.specs.Figures.{Figures, bits_of, sound}
+use Rattle.figures.specs.Form.{number_words, numbers, figures_bytes, number_at, numbers_at, figures_named, figures_of}
+use Rattle.machine.proofs.Bytes.{length-words_of, length-bytes_of, words_of-bytes_of, bytes_of-words_of}
 use Rattle.machine.specs.Bytes.{count, words_of, bytes_of}
 use Rattle.machine.proofs.Words.{small-words, number64-words64, words64-number64}
 use Rattle.machine.specs.Form.{words64, number64}
@@ -21,35 +21,35 @@ use Rattle.machine.specs.Small.{Small}
 
 -- Numbers and their words
 
-pub length-numberWords : (ns : List ℕ) → length (numberWords ns) ≡ 4 * length ns
-unfolding numberWords words64
-length-numberWords [] = refl
-length-numberWords (n ∷ ns) = let ih = length-numberWords ns in omega arith
+pub length-number_words : (ns : List ℕ) → length (number_words ns) ≡ 4 * length ns
+unfolding number_words words64
+length-number_words [] = refl
+length-number_words (n ∷ ns) = let ih = length-number_words ns in omega arith
 
-pub length-numbersAt : (ws : List ℕ) (i n : ℕ) → length (numbersAt ws i n) ≡ n
-unfolding numbersAt
-length-numbersAt ws i zero = refl
-length-numbersAt ws i (suc n) = ap suc (length-numbersAt ws (i + 1) n)
+pub length-numbers_at : (ws : List ℕ) (i n : ℕ) → length (numbers_at ws i n) ≡ n
+unfolding numbers_at
+length-numbers_at ws i zero = refl
+length-numbers_at ws i (suc n) = ap suc (length-numbers_at ws (i + 1) n)
 
-pub getD-numbersAt : (ws : List ℕ) (i n j : ℕ) → j < n → get_or (numbersAt ws i n) j 0 ≡ number_at ws (i + j)
-unfolding numbersAt
-getD-numbersAt ws i zero j h = absurd (omega arith)
-getD-numbersAt ws i (suc n) zero h = let e : i ≡ i + 0 = omega arith in ap (number_at ws) e
-getD-numbersAt ws i (suc n) (suc j) h = let e : i + 1 + j ≡ i + suc j = omega arith in getD-numbersAt ws (i + 1) n j (omega arith) ∙ ap (number_at ws) e
+pub get_d-numbers_at : (ws : List ℕ) (i n j : ℕ) → j < n → get_or (numbers_at ws i n) j 0 ≡ number_at ws (i + j)
+unfolding numbers_at
+get_d-numbers_at ws i zero j h = absurd (omega arith)
+get_d-numbers_at ws i (suc n) zero h = let e : i ≡ i + 0 = omega arith in ap (number_at ws) e
+get_d-numbers_at ws i (suc n) (suc j) h = let e : i + 1 + j ≡ i + suc j = omega arith in get_d-numbers_at ws (i + 1) n j (omega arith) ∙ ap (number_at ws) e
 
-drop-numberWords : (ns : List ℕ) (i : ℕ) → drop (4 * i) (numberWords ns) ≡ numberWords (drop i ns)
-unfolding numberWords words64
-drop-numberWords ns zero = refl
-drop-numberWords [] (suc i) = let e : 4 * suc i ≡ suc (suc (suc (suc (4 * i)))) = omega arith in rw e refl
-drop-numberWords (n ∷ ns) (suc i) = let e : 4 * suc i ≡ suc (suc (suc (suc (4 * i)))) = omega arith in rw e (drop-numberWords ns i)
+drop-number_words : (ns : List ℕ) (i : ℕ) → drop (4 * i) (number_words ns) ≡ number_words (drop i ns)
+unfolding number_words words64
+drop-number_words ns zero = refl
+drop-number_words [] (suc i) = let e : 4 * suc i ≡ suc (suc (suc (suc (4 * i)))) = omega arith in rw e refl
+drop-number_words (n ∷ ns) (suc i) = let e : 4 * suc i ≡ suc (suc (suc (suc (4 * i)))) = omega arith in rw e (drop-number_words ns i)
 
-pub number-words : (ns : List ℕ) (i : ℕ) → i < length ns → number_at (numberWords ns) i ≡ get_or ns i 0
-unfolding number_at numberWords
+pub number-words : (ns : List ℕ) (i : ℕ) → i < length ns → number_at (number_words ns) i ≡ get_or ns i 0
+unfolding number_at number_words
 number-words ns i h =
-    ap number64 (drop-numberWords ns i ∙ ap numberWords (drop-cons ns i 0 h)) ∙ number64-words64 (get_or ns i 0) (numberWords (drop (suc i) ns))
+    ap number64 (drop-number_words ns i ∙ ap number_words (drop-cons ns i 0 h)) ∙ number64-words64 (get_or ns i 0) (number_words (drop (suc i) ns))
 
-numbers-words : (ns : List ℕ) (i n : ℕ) → i + n ≤ length ns → numbersAt (numberWords ns) i n ≡ take n (drop i ns)
-unfolding numbersAt
+numbers-words : (ns : List ℕ) (i n : ℕ) → i + n ≤ length ns → numbers_at (number_words ns) i n ≡ take n (drop i ns)
+unfolding numbers_at
 numbers-words ns i zero h = refl
 numbers-words ns i (suc n) h =
     let e : i + 1 ≡ suc i = omega arith in
@@ -72,7 +72,7 @@ module _ (f : Figures) (size : length f.counts ≡ 4096) (words : length f.bits 
       let e : 4160 + i ≡ 4096 + (64 + i) = omega arith in
       ap (λ (n : ℕ). drop n (numbers f)) e ∙ behind (64 + i) ∙ ap (λ (n : ℕ). drop (n + i) (f.bits ++ (f.books ∷ f.total ∷ []))) (sym words) ∙ drop-append-add f.bits (f.books ∷ f.total ∷ []) i
 
-  last : (i : ℕ) → i < 2 → number_at (numberWords (numbers f)) (4160 + i) ≡ get_or (f.books ∷ f.total ∷ []) i 0
+  last : (i : ℕ) → i < 2 → number_at (number_words (numbers f)) (4160 + i) ≡ get_or (f.books ∷ f.total ∷ []) i 0
   last i h =
       let z : i + 0 ≡ i = omega arith in
       number-words (numbers f) (4160 + i) (omega (arith, length-numbers))
@@ -80,21 +80,21 @@ module _ (f : Figures) (size : length f.counts ≡ 4096) (words : length f.bits 
       ∙ sym (get_or-drop (4160 + i) (numbers f) 0 0) ∙ ap (λ (l : List ℕ). get_or l 0 0) (behind-bits i) ∙ get_or-drop i (f.books ∷ f.total ∷ []) 0 0
       ∙ ap (λ (k : ℕ). get_or (f.books ∷ f.total ∷ []) k 0) z
 
-  named_again : figuresNamed (numberWords (numbers f)) ≡ f
-  unfolding figuresNamed numbers
+  named_again : figures_named (number_words (numbers f)) ≡ f
+  unfolding figures_named numbers
   named_again =
-      let c : numbersAt (numberWords (numbers f)) 0 4096 ≡ f.counts =
+      let c : numbers_at (number_words (numbers f)) 0 4096 ≡ f.counts =
       numbers-words (numbers f) 0 4096 (omega (arith, length-numbers)) ∙ take-append-le 4096 f.counts (f.bits ++ (f.books ∷ f.total ∷ [])) (omega arith) ∙ take_all 4096 f.counts (omega arith) in
-      let b : numbersAt (numberWords (numbers f)) 4096 64 ≡ f.bits =
+      let b : numbers_at (number_words (numbers f)) 4096 64 ≡ f.bits =
       numbers-words (numbers f) 4096 64 (omega (arith, length-numbers)) ∙ ap (take 64) (behind 0) ∙ take-append-le 64 f.bits (f.books ∷ f.total ∷ []) (omega arith) ∙ take_all 64 f.bits (omega arith) in
       λ i. record { counts = c i; bits = b i; books = last 0 (omega arith) i; total = last 1 (omega arith) i }
 
-  pub length-bytes : length (figuresBytes f) ≡ 33296
-  unfolding figuresBytes
-  length-bytes = omega (arith, length-bytesOf (numberWords (numbers f)), length-numberWords (numbers f), length-numbers)
+  pub length-bytes : length (figures_bytes f) ≡ 33296
+  unfolding figures_bytes
+  length-bytes = omega (arith, length-bytes_of (number_words (numbers f)), length-number_words (numbers f), length-numbers)
 
-pub length-bits : (n : ℕ) (cs : List ℕ) → length (bitsOf n cs) ≡ n
-unfolding bitsOf
+pub length-bits : (n : ℕ) (cs : List ℕ) → length (bits_of n cs) ≡ n
+unfolding bits_of
 length-bits zero cs = refl
 length-bits (suc n) cs = ap suc (length-bits n (drop 64 cs))
 
@@ -102,13 +102,13 @@ pub sixty-four : (f : Figures) → Balanced f → length f.bits ≡ 64
 sixty-four f b = ap (λ (l : List ℕ). length l) b.bits ∙ length-bits 64 f.counts
 
 -- the bytes of figures that an entry takes are these figures
-pub figuresOf-bytes : (f : Figures) → sound f ≡ true → figuresOf (figuresBytes f) ≡ some f
-unfolding figuresOf figuresBytes
-figuresOf-bytes f e =
+pub figures_of-bytes : (f : Figures) → sound f ≡ true → figures_of (figures_bytes f) ≡ some f
+unfolding figures_of figures_bytes
+figures_of-bytes f e =
     let b = balanced f e in
     let w = sixty-four f b in
-    let n : figuresNamed (words_of (bytes_of (numberWords (numbers f)))) ≡ f = ap figuresNamed (wordsOf-bytesOf (numberWords (numbers f))) ∙ named_again f b.size w in
-    rw (eq-eqb (length (bytes_of (numberWords (numbers f)))) 33296 (length-bytes f b.size w), n, e) refl
+    let n : figures_named (words_of (bytes_of (number_words (numbers f)))) ≡ f = ap figures_named (words_of-bytes_of (number_words (numbers f))) ∙ named_again f b.size w in
+    rw (eq-eqb (length (bytes_of (number_words (numbers f)))) 33296 (length-bytes f b.size w), n, e) refl
 
 -- And the other way round: bytes that are figures are written so
 
@@ -123,8 +123,8 @@ module _ (ws : List ℕ) (small : Small ws) where
       let d₃ = drop-cons ws (suc (suc (suc k))) 0 (omega arith) in
       rw (d₀, d₁, d₂, d₃) (words64-number64 (get_or ws k 0) (get_or ws (suc k) 0) (get_or ws (suc (suc k)) 0) (get_or ws (suc (suc (suc k))) 0) (drop (suc (suc (suc (suc k)))) ws) (small (suc k)) (small (suc (suc k))) (small (suc (suc (suc k)))))
 
-  all-written : (i n : ℕ) → 4 * (i + n) ≤ length ws → numberWords (numbersAt ws i n) ≡ take (4 * n) (drop (4 * i) ws)
-  unfolding numberWords numbersAt
+  all-written : (i n : ℕ) → 4 * (i + n) ≤ length ws → number_words (numbers_at ws i n) ≡ take (4 * n) (drop (4 * i) ws)
+  unfolding number_words numbers_at
   all-written i zero h = refl
   all-written i (suc n) h =
       let e : 4 * suc n ≡ 4 + 4 * n = omega arith in
@@ -133,40 +133,40 @@ module _ (ws : List ℕ) (small : Small ws) where
       ∙ sym (ap (λ (k : ℕ). take k (drop (4 * i) ws)) e ∙ take-add 4 (4 * n) (drop (4 * i) ws)
       ∙ ap (λ (l : List ℕ). take 4 (drop (4 * i) ws) ++ take (4 * n) l) (drop-drop 4 (4 * i) ws ∙ ap (λ (k : ℕ). drop k ws) g))
 
-numbers-append : (ws : List ℕ) (i m n : ℕ) → numbersAt ws i (m + n) ≡ numbersAt ws i m ++ numbersAt ws (i + m) n
-unfolding numbersAt
+numbers-append : (ws : List ℕ) (i m n : ℕ) → numbers_at ws i (m + n) ≡ numbers_at ws i m ++ numbers_at ws (i + m) n
+unfolding numbers_at
 numbers-append ws i zero n =
     let e : 0 + n ≡ n = omega arith in
     let z : i ≡ i + 0 = omega arith in
-    ap (numbersAt ws i) e ∙ ap (λ (k : ℕ). numbersAt ws k n) z
+    ap (numbers_at ws i) e ∙ ap (λ (k : ℕ). numbers_at ws k n) z
 numbers-append ws i (suc m) n =
     let e : suc m + n ≡ suc (m + n) = omega arith in
     let z : i + 1 + m ≡ i + suc m = omega arith in
-    ap (numbersAt ws i) e ∙ ap (λ (l : List ℕ). number_at ws i ∷ l) (numbers-append ws (i + 1) m n ∙ ap (λ (k : ℕ). numbersAt ws (i + 1) m ++ numbersAt ws k n) z)
+    ap (numbers_at ws i) e ∙ ap (λ (l : List ℕ). number_at ws i ∷ l) (numbers-append ws (i + 1) m n ∙ ap (λ (k : ℕ). numbers_at ws (i + 1) m ++ numbers_at ws k n) z)
 
-two-numbers : (ws : List ℕ) (i : ℕ) → numbersAt ws i 2 ≡ number_at ws i ∷ number_at ws (i + 1) ∷ []
-unfolding numbersAt
+two-numbers : (ws : List ℕ) (i : ℕ) → numbers_at ws i 2 ≡ number_at ws i ∷ number_at ws (i + 1) ∷ []
+unfolding numbers_at
 two-numbers ws i = refl
 
 -- figures as they are named are all the numbers
-all_named : (ws : List ℕ) → numbers (figuresNamed ws) ≡ numbersAt ws 0 4162
-unfolding numbers figuresNamed
+all_named : (ws : List ℕ) → numbers (figures_named ws) ≡ numbers_at ws 0 4162
+unfolding numbers figures_named
 all_named ws =
     sym (numbers-append ws 0 4096 66
-    ∙ ap (λ (l : List ℕ). numbersAt ws 0 4096 ++ l) (numbers-append ws 4096 64 2 ∙ ap (λ (l : List ℕ). numbersAt ws 4096 64 ++ l) (two-numbers ws 4160)))
+    ∙ ap (λ (l : List ℕ). numbers_at ws 0 4096 ++ l) (numbers-append ws 4096 64 2 ∙ ap (λ (l : List ℕ). numbers_at ws 4096 64 ++ l) (two-numbers ws 4160)))
 
 -- what bytes that are figures are
 pub record Figured (s : List ℕ) (f : Figures) : Type 0 where
   pub long : length s ≡ 33296
-  pub is : f ≡ figuresNamed (words_of s)
+  pub is : f ≡ figures_named (words_of s)
   pub sounds : sound f ≡ true
 
-pub figured : (s : List ℕ) (f : Figures) → figuresOf s ≡ some f → Figured s f
-unfolding figuresOf
+pub figured : (s : List ℕ) (f : Figures) → figures_of s ≡ some f → Figured s f
+unfolding figures_of
 figured s f e =
     split (eqb (length s) 33296)
-    (λ a. split (sound (figuresNamed (words_of s)))
-    (λ b. let q : some (figuresNamed (words_of s)) ≡ some f = rw (a, b) at e in
+    (λ a. split (sound (figures_named (words_of s)))
+    (λ b. let q : some (figures_named (words_of s)) ≡ some f = rw (a, b) at e in
     let r = some_inj q in
     record { long = eqb-true (length s) 33296 a; is = sym r; sounds = ap sound (sym r) ∙ b })
     (λ b. let q : none ≡ some f = rw (a, b) at e in absurd (none-some q)))
@@ -186,11 +186,11 @@ figured s f e =
     none-some : none ≡ some f → ⊥
     none-some q = subst given q tt
 
-pub bytes-figuresOf : (s : List ℕ) (f : Figures) → ((i : ℕ) → get_or s i 0 < 256) → figuresOf s ≡ some f → figuresBytes f ≡ s
-unfolding figuresBytes count
-bytes-figuresOf s f b e =
+pub bytes-figures_of : (s : List ℕ) (f : Figures) → ((i : ℕ) → get_or s i 0 < 256) → figures_of s ≡ some f → figures_bytes f ≡ s
+unfolding figures_bytes count
+bytes-figures_of s f b e =
     let g = figured s f e in
     let ws = words_of s in
-    let n : length ws ≡ 16648 = omega (arith, length-wordsOf s, g.long) in
-    ap (λ (x : Figures). bytes_of (numberWords (numbers x))) g.is ∙ ap (λ (l : List ℕ). bytes_of (numberWords l)) (all_named ws)
-    ∙ ap bytes_of (all-written ws (small-words s b) 0 4162 (omega arith) ∙ take_all 16648 ws (omega arith)) ∙ bytesOf-wordsOf s b (omega (arith, g.long))
+    let n : length ws ≡ 16648 = omega (arith, length-words_of s, g.long) in
+    ap (λ (x : Figures). bytes_of (number_words (numbers x))) g.is ∙ ap (λ (l : List ℕ). bytes_of (number_words l)) (all_named ws)
+    ∙ ap bytes_of (all-written ws (small-words s b) 0 4162 (omega arith) ∙ take_all 16648 ws (omega arith)) ∙ bytes_of-words_of s b (omega (arith, g.long))

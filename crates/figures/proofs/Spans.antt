@@ -7,7 +7,7 @@ use native.Mathlib.Omega.{arith}
 use lib.ListN.{length, take, drop, get_or, length-take, drop_of_length-le}
 use lib.Seq.{take_all, take-nil}
 use Rattle.figures.specs.Figures.{sum}
-use Rattle.figures.specs.Spans.{spanTotal, next_at, spanTotals, locationAt, locationsAt}
+use Rattle.figures.specs.Spans.{span_total, next_at, span_totals, location_at, locations_at}
 
 -- a beginning past the end is all
 take_min : (n m : ℕ) (l : List ℕ) → length l ≡ m → take (min n m) l ≡ take n l
@@ -18,8 +18,8 @@ take_min n m l e = elim (dec_le n m) [
 
 -- the span inside the counts
 pub span-within : (from to start end : ℕ) (counts : List ℕ) → start ≡ min (from - 1) (length counts) → end ≡ min (to - 1) (length counts)
-    → sum (drop start (take end counts)) ≡ spanTotal from to counts
-unfolding spanTotal
+    → sum (drop start (take end counts)) ≡ span_total from to counts
+unfolding span_total
 span-within from to start end counts e f =
     ap (λ (l : List ℕ). sum (drop start l)) (ap (λ (k : ℕ). take k counts) f ∙ take_min (to - 1) (length counts) counts refl) ∙ ap sum (dropped (take (to - 1) counts) (length-take (to - 1) counts))
   where
@@ -42,37 +42,37 @@ sum_drop l zero = omega arith
 sum_drop [] (suc i) = omega arith
 sum_drop (c ∷ l) (suc i) = let h = sum_drop l i in omega arith
 
-pub length-spanTotals : (ls : List ℕ) (e : ℕ) (counts : List ℕ) → length (spanTotals ls e counts) ≡ length ls
-unfolding spanTotals
-length-spanTotals [] e counts = refl
-length-spanTotals (l ∷ ls) e counts = ap suc (length-spanTotals ls e counts)
+pub length-span_totals : (ls : List ℕ) (e : ℕ) (counts : List ℕ) → length (span_totals ls e counts) ≡ length ls
+unfolding span_totals
+length-span_totals [] e counts = refl
+length-span_totals (l ∷ ls) e counts = ap suc (length-span_totals ls e counts)
 
-pub length-locationsAt : (ws : List ℕ) (i n : ℕ) → length (locationsAt ws i n) ≡ n
-unfolding locationsAt
-length-locationsAt ws i zero = refl
-length-locationsAt ws i (suc n) = ap suc (length-locationsAt ws (i + 1) n)
+pub length-locations_at : (ws : List ℕ) (i n : ℕ) → length (locations_at ws i n) ≡ n
+unfolding locations_at
+length-locations_at ws i zero = refl
+length-locations_at ws i (suc n) = ap suc (length-locations_at ws (i + 1) n)
 
 -- the total of row j, where another follows, and of the last
-pub getD-spanTotals : (ws : List ℕ) (i n j e : ℕ) (counts : List ℕ) → j + 1 < n
-    → get_or (spanTotals (locationsAt ws i n) e counts) j 0 ≡ spanTotal (locationAt ws (i + j)) (locationAt ws (i + j + 1)) counts
-unfolding locationsAt spanTotals next_at
-getD-spanTotals ws i zero j e counts h = absurd (omega arith)
-getD-spanTotals ws i (suc zero) j e counts h = absurd (omega arith)
-getD-spanTotals ws i (suc (suc n)) zero e counts h =
+pub get_d-span_totals : (ws : List ℕ) (i n j e : ℕ) (counts : List ℕ) → j + 1 < n
+    → get_or (span_totals (locations_at ws i n) e counts) j 0 ≡ span_total (location_at ws (i + j)) (location_at ws (i + j + 1)) counts
+unfolding locations_at span_totals next_at
+get_d-span_totals ws i zero j e counts h = absurd (omega arith)
+get_d-span_totals ws i (suc zero) j e counts h = absurd (omega arith)
+get_d-span_totals ws i (suc (suc n)) zero e counts h =
     let a : i ≡ i + 0 = omega arith in
     let b : i + 1 ≡ i + 0 + 1 = omega arith in
-    (λ k. spanTotal (locationAt ws (a k)) (locationAt ws (b k)) counts)
-getD-spanTotals ws i (suc (suc n)) (suc j) e counts h =
+    (λ k. span_total (location_at ws (a k)) (location_at ws (b k)) counts)
+get_d-span_totals ws i (suc (suc n)) (suc j) e counts h =
     let a : i + 1 + j ≡ i + suc j = omega arith in
     let b : i + 1 + j + 1 ≡ i + suc j + 1 = omega arith in
-    getD-spanTotals ws (i + 1) (suc n) j e counts (omega arith) ∙ (λ k. spanTotal (locationAt ws (a k)) (locationAt ws (b k)) counts)
+    get_d-span_totals ws (i + 1) (suc n) j e counts (omega arith) ∙ (λ k. span_total (location_at ws (a k)) (location_at ws (b k)) counts)
 
-pub getD-lastTotal : (ws : List ℕ) (i n j e : ℕ) (counts : List ℕ) → j + 1 ≡ n → get_or (spanTotals (locationsAt ws i n) e counts) j 0 ≡ spanTotal (locationAt ws (i + j)) e counts
-unfolding locationsAt spanTotals next_at
-getD-lastTotal ws i zero j e counts h = absurd (omega arith)
-getD-lastTotal ws i (suc zero) zero e counts h = let a : i ≡ i + 0 = omega arith in (λ k. spanTotal (locationAt ws (a k)) e counts)
-getD-lastTotal ws i (suc zero) (suc j) e counts h = absurd (omega arith)
-getD-lastTotal ws i (suc (suc n)) zero e counts h = absurd (omega arith)
-getD-lastTotal ws i (suc (suc n)) (suc j) e counts h =
+pub get_d-last_total : (ws : List ℕ) (i n j e : ℕ) (counts : List ℕ) → j + 1 ≡ n → get_or (span_totals (locations_at ws i n) e counts) j 0 ≡ span_total (location_at ws (i + j)) e counts
+unfolding locations_at span_totals next_at
+get_d-last_total ws i zero j e counts h = absurd (omega arith)
+get_d-last_total ws i (suc zero) zero e counts h = let a : i ≡ i + 0 = omega arith in (λ k. span_total (location_at ws (a k)) e counts)
+get_d-last_total ws i (suc zero) (suc j) e counts h = absurd (omega arith)
+get_d-last_total ws i (suc (suc n)) zero e counts h = absurd (omega arith)
+get_d-last_total ws i (suc (suc n)) (suc j) e counts h =
     let a : i + 1 + j ≡ i + suc j = omega arith in
-    getD-lastTotal ws (i + 1) (suc n) j e counts (omega arith) ∙ (λ k. spanTotal (locationAt ws (a k)) e counts)
+    get_d-last_total ws (i + 1) (suc n) j e counts (omega arith) ∙ (λ k. span_total (location_at ws (a k)) e counts)

@@ -9,15 +9,15 @@ use native.Mathlib.Omega.{arith}
 use lib.Dec.{ltb}
 use lib.ListN.{length, get_elem?, replicate}
 use borrow.Author.Tests.{lt-ltb, le-ltb}
-use Rattle.base.specs.Common.{if◌then◌else◌}
+use Rattle.std.specs.Prelude.{if◌then◌else◌}
 use Rattle.events.specs.Events.{Event, answer}
 use Rattle.figures.specs.Visits.{visits, Given, called, visited}
-use Rattle.machine.specs.Call.{Mode, whole, paused, Called, Turn, over, further, ends, endsFor, writing, takes, handsOut, turn, run, call_in, callWalk}
-use Rattle.machine.specs.Decode.{fetch, Instruction, invalid, decodeAt, decode}
+use Rattle.machine.specs.Call.{Mode, whole, paused, Called, Turn, over, further, ends, ends_for, writing, takes, hands_out, turn, run, call_in, call_walk}
+use Rattle.machine.specs.Decode.{fetch, Instruction, invalid, decode_at, decode}
 use Rattle.machine.specs.Decode as decodes
 use Rattle.machine.specs.Lengths as lengths
-use Rattle.machine.specs.Step.{Next, goesOutside, stops, goes, tells, asks, exec, step}
-use Rattle.machine.specs.Walk.{Walk, fresh, atRest}
+use Rattle.machine.specs.Step.{Next, goes_outside, stops, goes, tells, asks, exec, step}
+use Rattle.machine.specs.Walk.{Walk, fresh, at_rest}
 
 -- As many as steps
 
@@ -27,26 +27,26 @@ Ends n (over c) = (c.steps ≡ n) ⊎ (c.steps ≡ n + 1)
 Ends n (further left v) = Unit {0}
 
 ends-takes : (o : Option ℕ) (room n : ℕ) (w : Walk) (e : Event) (v : Walk) → Ends n (takes o room n w e v)
-unfolding takes endsFor ends
+unfolding takes ends_for ends
 ends-takes none room n w e v = inr refl
 ends-takes (some x) room n w e v = tt
 
-ends-handsOut : (m : Mode) (room n : ℕ) (w : Walk) (e : Event) (v : Walk) → Ends n (handsOut m room n w e v)
-unfolding handsOut ends
-ends-handsOut (whole given) room n w e v = ends-takes (answer given w.io) room n w e v
-ends-handsOut (paused x) room n w e v = inr refl
+ends-hands_out : (m : Mode) (room n : ℕ) (w : Walk) (e : Event) (v : Walk) → Ends n (hands_out m room n w e v)
+unfolding hands_out ends
+ends-hands_out (whole given) room n w e v = ends-takes (answer given w.io) room n w e v
+ends-hands_out (paused x) room n w e v = inr refl
 
 ends-if : (n : ℕ) (t : Bool) (x y : Turn) → Ends n x → Ends n y → Ends n (if t then x else y)
 ends-if n true x y p q = p
 ends-if n false x y p q = q
 
 ends-turn : (m : Mode) (room n : ℕ) (w : Walk) (nx : Next) → Ends n (turn m room n w nx)
-unfolding turn endsFor ends
-ends-turn m room n w goesOutside = inl refl
+unfolding turn ends_for ends
+ends-turn m room n w goes_outside = inl refl
 ends-turn m room n w (stops r) = inr refl
 ends-turn m room n w (goes v) = tt
 ends-turn m room n w (tells e v) = ends-if n (ltb room 3) (over (ends 35 n w)) (further (room - 3) (writing e v)) (inl refl) tt
-ends-turn m room n w (asks e v) = ends-if n (ltb room 3) (over (ends 35 n w)) (handsOut m room n w e v) (inl refl) (ends-handsOut m room n w e v)
+ends-turn m room n w (asks e v) = ends-if n (ltb room 3) (over (ends 35 n w)) (hands_out m room n w e v) (inl refl) (ends-hands_out m room n w e v)
 
 one-or-none : (n k l : ℕ) → (k ≡ n) ⊎ (k ≡ n + 1) → length (if ltb n k then l ∷ [] else []) + n ≡ k
 one-or-none n k l (inl e) = rw (le-ltb n k (omega arith)) (omega arith)
@@ -66,8 +66,8 @@ module _ (T tokens : List ℕ) where
 
 -- the locations visited are as many as the steps of the call
 pub length-visited : (T : List ℕ) (g : Given) → length (visited T g) ≡ (called T g).steps
-unfolding visited called callWalk call_in fresh
-length-visited T g = omega (arith, length-visits T g.tokens g.budget (whole g.answers) g.room 0 (atRest (fresh g.allowance)))
+unfolding visited called call_walk call_in fresh
+length-visited T g = omega (arith, length-visits T g.tokens g.budget (whole g.answers) g.room 0 (at_rest (fresh g.allowance)))
 
 -- Inside the table
 
@@ -85,7 +85,7 @@ every_one P false l h = tt
 
 -- all but 37
 abbrev Done : Next → Type 0
-Done goesOutside = ⊥
+Done goes_outside = ⊥
 Done (stops r) = Unit {0}
 Done (goes v) = Unit {0}
 Done (tells e v) = Unit {0}
@@ -96,7 +96,7 @@ nothing-at-37 : (n l : ℕ) (P : ℕ → Type 0) → Every P (if ltb n n then l 
 nothing-at-37 n l P = rw (le-ltb n n (omega arith)) tt
 
 module _ (T tokens : List ℕ) where
-  step-outside : (w : Walk) → decode T w.location ≡ invalid → step T tokens w ≡ goesOutside
+  step-outside : (w : Walk) → decode T w.location ≡ invalid → step T tokens w ≡ goes_outside
   unfolding step exec
   step-outside w e = ap (λ (i : Instruction). exec T tokens i w) e
 
@@ -104,7 +104,7 @@ module _ (T tokens : List ℕ) where
   done-valid w nx d h e = subst Done (sym d ∙ step-outside w e) h
 
   valid-visits : (b : ℕ) (m : Mode) (room n : ℕ) (w : Walk) → Every (Valid T) (visits T tokens b m room n w)
-  unfolding visits turn endsFor ends
+  unfolding visits turn ends_for ends
   valid-visits zero m room n w = tt
   valid-visits (suc b) m room n w = next (step T tokens w) refl (λ left v. valid-visits b m left (n + 1) v)
     where
@@ -115,7 +115,7 @@ module _ (T tokens : List ℕ) where
 
       next : (nx : Next) → step T tokens w ≡ nx → ((left : ℕ) (v : Walk) → Every (Valid T) (visits T tokens b m left (n + 1) v))
           → Every (Valid T) (elim (turn m room n w nx) as (λ _. List ℕ) [ over c ↦ if ltb n c.steps then w.location ∷ [] else [] | further left v ↦ w.location ∷ visits T tokens b m left (n + 1) v ])
-      next goesOutside d rest = nothing-at-37 n w.location (Valid T)
+      next goes_outside d rest = nothing-at-37 n w.location (Valid T)
       next (stops r) d rest = go (done-valid w (stops r) d tt) (turn m room n w (stops r)) rest
       next (goes v) d rest = go (done-valid w (goes v) d tt) (turn m room n w (goes v)) rest
       next (tells e v) d rest = go (done-valid w (tells e v) d tt) (turn m room n w (tells e v)) rest
@@ -123,7 +123,7 @@ module _ (T tokens : List ℕ) where
 
 pub valid-visited : (T : List ℕ) (g : Given) → Every (Valid T) (visited T g)
 unfolding visited
-valid-visited T g = valid-visits T g.tokens g.budget (whole g.answers) g.room 0 (atRest (fresh g.allowance))
+valid-visited T g = valid-visits T g.tokens g.budget (whole g.answers) g.room 0 (at_rest (fresh g.allowance))
 
 -- An instruction begins inside the table, and not on a 0: what the processor leaves behind the table is never executed
 
@@ -133,7 +133,7 @@ Stands none = ⊥
 Stands (some zero) = ⊥
 Stands (some (suc x)) = Unit {0}
 
-stands_at : (l : ℕ) (o x : Option ℕ) → (decodeAt l o x ≡ invalid → ⊥) → Stands o
+stands_at : (l : ℕ) (o x : Option ℕ) → (decode_at l o x ≡ invalid → ⊥) → Stands o
 unfolding decodes.opened lengths.opened
 stands_at l none x h = h refl
 stands_at l (some zero) none h = h refl

@@ -9,9 +9,9 @@ use lib.ListN.{length, get_or, set, length-set}
 use lib.Seq.{get_or-set_same, get_or-set_other}
 use borrow.Author.Tests.{lt-ltb, ltb-true, eqb-true, eqb-false}
 use Rattle.base.specs.Bools.{both, split}
-use Rattle.base.specs.Common.{if◌then◌else◌}
+use Rattle.std.specs.Prelude.{if◌then◌else◌}
 use Rattle.figures.proofs.Steps.{Every, Inside}
-use Rattle.figures.specs.Figures.{sum, Figures, bump, bumps, below64, allBelow64, within64}
+use Rattle.figures.specs.Figures.{sum, Figures, bump, bumps, below64, all_below64, within64}
 use Rattle.figures.specs.Visits.{tally}
 
 pub length-bump : (cs : List ℕ) (l : ℕ) → length (bump cs l) ≡ length cs
@@ -38,9 +38,9 @@ sum-bumps cs (l ∷ ls) h =
     let rest : Every (Inside (length (bump cs l))) ls = subst (λ (n : ℕ). Every (Inside n) ls) (sym (length-bump cs l)) h.1 in
     omega (arith, sum-bumps (bump cs l) ls rest)
 
-getD-bump : (cs : List ℕ) (l i : ℕ) → Inside (length cs) l → get_or (bump cs l) i 0 ≡ get_or cs i 0 + (if eqb l (suc i) then 1 else 0)
+get_d-bump : (cs : List ℕ) (l i : ℕ) → Inside (length cs) l → get_or (bump cs l) i 0 ≡ get_or cs i 0 + (if eqb l (suc i) then 1 else 0)
 unfolding bump
-getD-bump cs l i h =
+get_d-bump cs l i h =
     split (eqb l (suc i))
     (λ t. let e = eqb-true l (suc i) t in
     let k : l - 1 ≡ i = omega arith in
@@ -48,12 +48,12 @@ getD-bump cs l i h =
     (λ f. rw f (get_or-set_other cs (l - 1) i (suc (get_or cs (l - 1) 0)) 0 (λ e. eqb-false l (suc i) f (omega (arith, h.0))) ∙ (omega arith)))
 
 -- the count of a location is how often it stands in what was visited
-pub getD-bumps : (cs ls : List ℕ) (i : ℕ) → Every (Inside (length cs)) ls → get_or (bumps cs ls) i 0 ≡ get_or cs i 0 + tally (suc i) ls
+pub get_d-bumps : (cs ls : List ℕ) (i : ℕ) → Every (Inside (length cs)) ls → get_or (bumps cs ls) i 0 ≡ get_or cs i 0 + tally (suc i) ls
 unfolding bumps tally
-getD-bumps cs [] i h = omega arith
-getD-bumps cs (l ∷ ls) i h =
+get_d-bumps cs [] i h = omega arith
+get_d-bumps cs (l ∷ ls) i h =
     let rest : Every (Inside (length (bump cs l))) ls = subst (λ (n : ℕ). Every (Inside n) ls) (sym (length-bump cs l)) h.1 in
-    omega (arith, getD-bumps (bump cs l) ls i rest, getD-bump cs l i h.0)
+    omega (arith, get_d-bumps (bump cs l) ls i rest, get_d-bump cs l i h.0)
 
 -- 46
 
@@ -64,10 +64,10 @@ count_most [] i = omega arith
 count_most (c ∷ cs) zero = omega arith
 count_most (c ∷ cs) (suc i) = let ih = count_most cs i in omega arith
 
-all-below : (cs : List ℕ) → sum cs < 18446744073709551616 → allBelow64 cs ≡ true
-unfolding sum allBelow64
+all-below : (cs : List ℕ) → sum cs < 18446744073709551616 → all_below64 cs ≡ true
+unfolding sum all_below64
 all-below [] h = refl
-all-below (c ∷ cs) h = both (below64 c) (allBelow64 cs) (lt-ltb c 18446744073709551616 (omega arith)) (all-below cs (omega arith))
+all-below (c ∷ cs) h = both (below64 c) (all_below64 cs) (lt-ltb c 18446744073709551616 (omega arith)) (all-below cs (omega arith))
 
 and-false : (a b : Bool) → (a && (b && false)) ≡ (b && false)
 and-false true b = refl
@@ -80,4 +80,4 @@ unfolding within64
 decided f e =
     split (below64 f.total)
     (λ t. let h = ltb-true f.total 18446744073709551616 t in rw (all-below f.counts (omega arith)))
-    (λ n. rw n (and-false (allBelow64 f.counts) (below64 f.books)))
+    (λ n. rw n (and-false (all_below64 f.counts) (below64 f.books)))

@@ -1,8 +1,8 @@
 -- Figures over a shelf of books, over one table.
-use Rattle.std.specs.Prelude.{Bool, true, ◌&&◌, List, [], ◌∷◌, ℕ, zero, suc, ◌+◌, ◌*◌, ◌-◌, ◌/◌, ◌%◌, ◌^◌, eqb, ltb, length, take, drop, get_or, set, replicate}
+use Rattle.std.specs.Prelude.{Bool, true, ◌&&◌, List, [], ◌∷◌, ℕ, zero, suc, ◌+◌, ◌*◌, ◌-◌, ◌/◌, ◌%◌, ◌^◌, eqb, ltb, length, take, drop, get_or, set, replicate, if◌then◌else◌}
 use Rattle.std.specs.Int.Bits.{bit_or}
 use Rattle.std.specs.Int.Count.{ones}
-use Rattle.base.specs.Common.{if◌then◌else◌, same}
+use Rattle.base.specs.Common.{same}
 use Rattle.figures.specs.Visits.{Given, called, visited}
 
 unfoldable pub sum : List ℕ → ℕ
@@ -50,23 +50,23 @@ covered [] = 0
 covered (w ∷ ws) = ones w + covered ws
 
 -- "Mean steps a book are a whole part and a remainder, both 0 for an empty shelf."
-unfoldable pub meanWhole : Figures → ℕ
-meanWhole f = if eqb f.books 0 then 0 else f.total / f.books
+unfoldable pub mean_whole : Figures → ℕ
+mean_whole f = if eqb f.books 0 then 0 else f.total / f.books
 
-unfoldable pub meanRest : Figures → ℕ
-meanRest f = if eqb f.books 0 then 0 else f.total % f.books
+unfoldable pub mean_rest : Figures → ℕ
+mean_rest f = if eqb f.books 0 then 0 else f.total % f.books
 
 -- "46 for any of these numbers past 64 bits"
 
 abbrev pub below64 : ℕ → Bool
 below64 n = ltb n 18446744073709551616
 
-unfoldable pub allBelow64 : List ℕ → Bool
-allBelow64 [] = true
-allBelow64 (c ∷ cs) = below64 c && allBelow64 cs
+unfoldable pub all_below64 : List ℕ → Bool
+all_below64 [] = true
+all_below64 (c ∷ cs) = below64 c && all_below64 cs
 
 unfoldable pub within64 : Figures → Bool
-within64 f = allBelow64 f.counts && (below64 f.books && below64 f.total)
+within64 f = all_below64 f.counts && (below64 f.books && below64 f.total)
 
 -- Figures that are sums: what an entry asks of figures that it is handed
 
@@ -81,17 +81,17 @@ packed [] = 0
 packed (c ∷ cs) = packed cs * 2 + flag c
 
 -- n words of 64 bits each
-unfoldable pub bitsOf : ℕ → List ℕ → List ℕ
-bitsOf zero cs = []
-bitsOf (suc n) cs = packed (take 64 cs) ∷ bitsOf n (drop 64 cs)
+unfoldable pub bits_of : ℕ → List ℕ → List ℕ
+bits_of zero cs = []
+bits_of (suc n) cs = packed (take 64 cs) ∷ bits_of n (drop 64 cs)
 
 -- 4,096 counts, their bits, their sum; no count without a book
 unfoldable pub sound : Figures → Bool
 sound f =
-    eqb (length f.counts) 4096 && (same f.bits (bitsOf 64 f.counts) && (eqb f.total (sum f.counts)
+    eqb (length f.counts) 4096 && (same f.bits (bits_of 64 f.counts) && (eqb f.total (sum f.counts)
     && (if eqb f.books 0 then eqb f.total 0 else true)))
 
 -- all of this file computes where this is unfolded
 unfoldable pub opened : Unit {0}
-unfolding sum empty bump mark bumps marks plus covered meanWhole meanRest allBelow64 within64 flag packed bitsOf sound
+unfolding sum empty bump mark bumps marks plus covered mean_whole mean_rest all_below64 within64 flag packed bits_of sound
 opened = tt

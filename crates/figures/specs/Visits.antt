@@ -1,9 +1,8 @@
 -- Where the steps of a call are done: "how many times it was executed" is how often a location stands here.
-use Rattle.std.specs.Prelude.{List, [], ◌∷◌, ℕ, zero, suc, ◌+◌, eqb, ltb}
-use Rattle.base.specs.Common.{if◌then◌else◌}
-use Rattle.machine.specs.Walk.{Walk, fresh, atRest}
+use Rattle.std.specs.Prelude.{List, [], ◌∷◌, ℕ, zero, suc, ◌+◌, eqb, ltb, if◌then◌else◌}
+use Rattle.machine.specs.Walk.{Walk, fresh, at_rest}
 use Rattle.machine.specs.Step.{step}
-use Rattle.machine.specs.Call.{Mode, whole, Called, over, further, turn, callWalk}
+use Rattle.machine.specs.Call.{Mode, whole, Called, over, further, turn, call_walk}
 
 module _ (T tokens : List ℕ) where
   -- the locations of the steps that `run` does, in order: "The stopping instruction counts as done"; 35, 36 and 37 do nothing
@@ -22,10 +21,10 @@ pub record Given : Type 0 where
 
 -- "each added by a whole call from a fresh walk over the one table"
 unfoldable pub called : List ℕ → Given → Called
-called T g = callWalk T g.tokens (whole g.answers) g.budget g.room (fresh g.allowance)
+called T g = call_walk T g.tokens (whole g.answers) g.budget g.room (fresh g.allowance)
 
 unfoldable pub visited : List ℕ → Given → List ℕ
-visited T g = visits T g.tokens g.budget (whole g.answers) g.room 0 (atRest (fresh g.allowance))
+visited T g = visits T g.tokens g.budget (whole g.answers) g.room 0 (at_rest (fresh g.allowance))
 
 -- how often a location stands in a list
 unfoldable pub tally : ℕ → List ℕ → ℕ

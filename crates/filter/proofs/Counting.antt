@@ -11,8 +11,8 @@ use lib.Seq.{get_or-set_same, get_or-set_other}
 use borrow.Author.Tests.{eqb-true, eqb-false, le-leb, lt-leb}
 use Rattle.base.proofs.Laws.{above_zero}
 use Rattle.base.specs.Bools.{split}
-use Rattle.filtering.specs.Filter.{entries, has, holders, doubled, missing, tokenOf}
-use Rattle.filter.specs.Working.{entry_at, turned, lowestDoubled, lowestMissing, Counts, Sofar, Tallied, Mapped}
+use Rattle.filtering.specs.Filter.{entries, has, holders, doubled, missing, token_of}
+use Rattle.filter.specs.Working.{entry_at, turned, lowest_doubled, lowest_missing, Counts, Sofar, Tallied, Mapped}
 use Rattle.filter.proofs.Laws.{drop-entries, drop-none, low_same}
 
 -- Whether entry i has a byte
@@ -39,14 +39,14 @@ module _ (s : List ℕ) (i x : ℕ) where
 module _ (s : List ℕ) (i x : ℕ) (h : i < length s / 4) where
   -- the entry does not have it
   pub sofar-on : (k t : ℕ) → has x (entry_at s i) ≡ false → Sofar s i x k t → Sofar s (i + 1) x k t
-  unfolding holders tokenOf
+  unfolding holders token_of
   sofar-on k t n p =
       let c = rw (drop-entries s i h, n) at p.count in
       record { few = omega (arith, p.few); count = omega (arith, c); none_yet = λ z. (rw (drop-entries s i h, n) at (p.none_yet z)); found = p.found }
 
   -- the first entry that has it
   pub sofar-first : (k t token : ℕ) → turned token ≡ (entry_at s i).token → has x (entry_at s i) ≡ true → k ≡ 0 → Sofar s i x k t → Sofar s (i + 1) x (k + 1) token
-  unfolding holders tokenOf
+  unfolding holders token_of
   sofar-first k t token g n z p =
       let c = rw (drop-entries s i h, n) at p.count in
       let d = rw (drop-entries s i h, n) at (p.none_yet z) in
@@ -70,24 +70,24 @@ counts-first b token held map z = record { count = sym (ap (λ (k : ℕ). set he
 
 -- the bytes below b with entry i, those from b on without it
 pub record Partly (s : List ℕ) (i b : ℕ) (held map : List ℕ) : Type 0 where
-  pub held-size : length held ≡ 256
-  pub map-size : length map ≡ 256
+  pub held_size : length held ≡ 256
+  pub map_size : length map ≡ 256
   pub with_it : (x : ℕ) → x < b → x < 256 → Sofar s (i + 1) x (get_or held x 0) (get_or map x 0)
   pub without : (x : ℕ) → b ≤ x → x < 256 → Sofar s i x (get_or held x 0) (get_or map x 0)
 
 module _ (s : List ℕ) (i : ℕ) (h : i < length s / 4) where
   pub partly-start : (b : ℕ) (held map : List ℕ) → b ≡ get_or s (4 * i) 0 → Tallied s i held map → Partly s i b held map
   partly-start b held map e p = record {
-    held-size = p.held-size;
-    map-size = p.map-size;
+    held_size = p.held_size;
+    map_size = p.map_size;
     with_it = λ x u v. sofar-on s i x h (get_or held x 0) (get_or map x 0) (before-entry s i x (omega arith)) (p.each x v);
     without = λ x u v. p.each x v;
   }
 
   pub partly-end : (b : ℕ) (held map : List ℕ) → get_or s (4 * i + 1) 0 < b → Partly s i b held map → Tallied s (i + 1) held map
   partly-end b held map u p = record {
-    held-size = p.held-size;
-    map-size = p.map-size;
+    held_size = p.held_size;
+    map_size = p.map_size;
     each = λ x v. elim (dec_lt x b) [
       | yes w ↦ p.with_it x w v
       | no w ↦ sofar-on s i x h (get_or held x 0) (get_or map x 0) (behind-entry s i x (omega arith)) (p.without x (omega arith) v)
@@ -100,11 +100,11 @@ module _ (s : List ℕ) (i : ℕ) (h : i < length s / 4) where
     here p c = split (eqb (get_or held b 0) 0) (λ q. first (eqb-true (get_or held b 0) 0 q)) (λ q. later (eqb-false (get_or held b 0) 0 q))
       where
         held-is : get_or held' b 0 ≡ get_or held b 0 + 1
-        held-is = ap (λ (l : List ℕ). get_or l b 0) c.count ∙ get_or-set_same held b (get_or held b 0 + 1) 0 (omega (arith, p.held-size))
+        held-is = ap (λ (l : List ℕ). get_or l b 0) c.count ∙ get_or-set_same held b (get_or held b 0 + 1) 0 (omega (arith, p.held_size))
 
         first : get_or held b 0 ≡ 0 → Sofar s (i + 1) b (get_or held' b 0) (get_or map' b 0)
         first z =
-            let m : get_or map' b 0 ≡ token = ap (λ (l : List ℕ). get_or l b 0) (c.first z) ∙ get_or-set_same map b token 0 (omega (arith, p.map-size)) in
+            let m : get_or map' b 0 ≡ token = ap (λ (l : List ℕ). get_or l b 0) (c.first z) ∙ get_or-set_same map b token 0 (omega (arith, p.map_size)) in
             rw (held-is, m) (sofar-first s i b h (get_or held b 0) (get_or map b 0) token t (in_entry s i b low high) z (p.without b (omega arith) u))
 
         later : (get_or held b 0 ≡ 0 → ⊥) → Sofar s (i + 1) b (get_or held' b 0) (get_or map' b 0)
@@ -122,13 +122,13 @@ module _ (s : List ℕ) (i : ℕ) (h : i < length s / 4) where
         (λ q. ap (λ (l : List ℕ). get_or l x 0) (c.later (eqb-false (get_or held b 0) 0 q)))
 
     map-long : Partly s i b held map → Counts b token held map held' map' → length map' ≡ 256
-    map-long p c = split (eqb (get_or held b 0) 0) (λ q. ap length (c.first (eqb-true (get_or held b 0) 0 q)) ∙ length-set map b token ∙ p.map-size)
-        (λ q. ap length (c.later (eqb-false (get_or held b 0) 0 q)) ∙ p.map-size)
+    map-long p c = split (eqb (get_or held b 0) 0) (λ q. ap length (c.first (eqb-true (get_or held b 0) 0 q)) ∙ length-set map b token ∙ p.map_size)
+        (λ q. ap length (c.later (eqb-false (get_or held b 0) 0 q)) ∙ p.map_size)
 
     pub partly-next : Partly s i b held map → Counts b token held map held' map' → Partly s i (b + 1) held' map'
     partly-next p c = record {
-      held-size = ap length c.count ∙ length-set held b (get_or held b 0 + 1) ∙ p.held-size;
-      map-size = map-long p c;
+      held_size = ap length c.count ∙ length-set held b (get_or held b 0 + 1) ∙ p.held_size;
+      map_size = map-long p c;
       with_it = λ x v w. split (eqb x b) (λ q. let z = eqb-true x b q in rw z (here p c))
           (λ q. let n = eqb-false x b q in rw (held_kept c x n, map-kept c x n) (p.with_it x (less x b v n) w));
       without = λ x v w. let n : x ≡ b → ⊥ = λ z. omega (arith, z) in rw (held_kept c x n, map-kept c x n) (p.without x (omega arith) w);
@@ -141,8 +141,8 @@ module _ (s : List ℕ) (i : ℕ) (h : i < length s / 4) where
 
 pub tally-start : (s held map : List ℕ) → length held ≡ 256 → length map ≡ 256 → ((x : ℕ) → get_or held x 0 ≡ 0) → Tallied s 0 held map
 tally-start s held map a b z = record {
-  held-size = a;
-  map-size = b;
+  held_size = a;
+  map_size = b;
   each = λ x u. record { few = omega (arith, z x); count = omega (arith, z x); none_yet = λ e. refl; found = λ e. absurd (omega (arith, z x)) };
 }
 
@@ -155,14 +155,14 @@ module _ (s : List ℕ) (n : ℕ) (e : n ≡ length s / 4) (held map : List ℕ)
   unfolding holders
   count-is x u = let c = rw (drop-none s n (omega arith)) at (p.each x u).count in omega (arith, c)
 
-  pub doubled-is : lowestDoubled held ≡ doubled (entries s)
-  unfolding lowestDoubled doubled
+  pub doubled-is : lowest_doubled held ≡ doubled (entries s)
+  unfolding lowest_doubled doubled
   doubled-is = low_same (λ b. leb 2 (get_or held b 0)) (λ b. leb 2 (holders b (entries s))) 256 0 (λ x u. ap (leb 2) (count-is x (omega arith)))
 
-  pub missing-is : lowestMissing held ≡ missing (entries s)
-  unfolding lowestMissing missing
+  pub missing-is : lowest_missing held ≡ missing (entries s)
+  unfolding lowest_missing missing
   missing-is = low_same (λ b. eqb (get_or held b 0) 0) (λ b. eqb (holders b (entries s)) 0) 256 0 (λ x u. ap (λ (k : ℕ). eqb k 0) (count-is x (omega arith)))
 
   -- where each byte value is held, the map has their tokens
   pub map_is : ((x : ℕ) → x < 256 → 1 ≤ holders x (entries s)) → Mapped (entries s) map
-  map_is all = record { size = p.map-size; tokens = λ x u. (p.each x u).found (omega (arith, all x u, count-is x u)) }
+  map_is all = record { size = p.map_size; tokens = λ x u. (p.each x u).found (omega (arith, all x u, count-is x u)) }

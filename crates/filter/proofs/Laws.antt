@@ -10,7 +10,7 @@ use lib.Dec.{eqb, ltb}
 use lib.ListN.{length, get_or, drop, drop_of_length-le}
 use borrow.Author.Tests.{lt-ltb, le-ltb}
 use Rattle.filtering.specs.Filter.{entries, crossed, lowest}
-use Rattle.filter.specs.Working.{entry_at, orNone}
+use Rattle.filter.specs.Working.{entry_at, or_none}
 
 pub length-entries : (s : List ℕ) → length (entries s) ≡ length s / 4
 unfolding entries
@@ -50,16 +50,16 @@ module _ (s : List ℕ) where
       ap (λ (k : ℕ). crossed k (drop (i + 1) (entries s))) e ∙ (rw (drop-entries s i h, z) at c)
 
   pub crossed-here : (i : ℕ) → i < length s / 4 → get_or s (4 * i + 1) 0 < get_or s (4 * i) 0 → crossed i (drop i (entries s)) ≡ crossed 0 (entries s)
-      → i ≡ orNone (crossed 0 (entries s))
-  unfolding crossed entry_at orNone
+      → i ≡ or_none (crossed 0 (entries s))
+  unfolding crossed entry_at or_none
   crossed-here i h u c =
       let z = lt-ltb (get_or s (4 * i + 1) 0) (get_or s (4 * i) 0) u in
       let d : some i ≡ crossed 0 (entries s) = rw (drop-entries s i h, z) at c in
-      ap orNone d
+      ap or_none d
 
-  pub crossed-end : (i : ℕ) → length s / 4 ≤ i → crossed i (drop i (entries s)) ≡ crossed 0 (entries s) → 65536 ≡ orNone (crossed 0 (entries s))
-  unfolding crossed orNone
-  crossed-end i h c = let d : none ≡ crossed 0 (entries s) = rw (drop-none s i h) at c in ap orNone d
+  pub crossed-end : (i : ℕ) → length s / 4 ≤ i → crossed i (drop i (entries s)) ≡ crossed 0 (entries s) → 65536 ≡ or_none (crossed 0 (entries s))
+  unfolding crossed or_none
+  crossed-end i h c = let d : none ≡ crossed 0 (entries s) = rw (drop-none s i h) at c in ap or_none d
 
 -- The lowest byte that passes a test
 
@@ -71,16 +71,16 @@ module _ (f : ℕ → Bool) where
       let g : b + 1 ≡ suc b = add-one b in
       rw g (rw (e, t) at c)
 
-  pub low-here : (b : ℕ) → b < 256 → f b ≡ true → lowest f (256 - b) b ≡ lowest f 256 0 → b ≡ orNone (lowest f 256 0)
-  unfolding lowest orNone
+  pub low-here : (b : ℕ) → b < 256 → f b ≡ true → lowest f (256 - b) b ≡ lowest f 256 0 → b ≡ or_none (lowest f 256 0)
+  unfolding lowest or_none
   low-here b h t c =
       let e : 256 - b ≡ suc (256 - suc b) = omega arith in
       let d : some b ≡ lowest f 256 0 = rw (e, t) at c in
-      ap orNone d
+      ap or_none d
 
-  pub low_end : (b : ℕ) → 256 ≤ b → lowest f (256 - b) b ≡ lowest f 256 0 → 65536 ≡ orNone (lowest f 256 0)
-  unfolding lowest orNone
-  low_end b h c = let e : 256 - b ≡ 0 = omega arith in let d : none ≡ lowest f 256 0 = rw e at c in ap orNone d
+  pub low_end : (b : ℕ) → 256 ≤ b → lowest f (256 - b) b ≡ lowest f 256 0 → 65536 ≡ or_none (lowest f 256 0)
+  unfolding lowest or_none
+  low_end b h c = let e : 256 - b ≡ 0 = omega arith in let d : none ≡ lowest f 256 0 = rw e at c in ap or_none d
 
 -- tests that agree find the same
 pub low_same : (f g : ℕ → Bool) (n b : ℕ) → ((x : ℕ) → x < b + n → f x ≡ g x) → lowest f n b ≡ lowest g n b

@@ -9,20 +9,20 @@ use lib.Dec.{eqb, leb, ltb}
 use lib.ListN.{length, get_or, set, take, length-set}
 use borrow.Author.Tests.{eqb-false, le-leb, lt-leb}
 use Rattle.base.proofs.Laws.{above_zero}
-use Rattle.base.specs.Common.{if◌then◌else◌}
+use Rattle.std.specs.Prelude.{if◌then◌else◌}
 use Rattle.buffers.proofs.Writes.{upto-start, upto_put, upto-end}
-use Rattle.buffers.specs.Words.{putWord}
+use Rattle.buffers.specs.Words.{put_word}
 use Rattle.filtering.proofs.Exact.{lowest-none}
-use Rattle.filtering.specs.Filter.{Entry, entries, holders, crossed, lowest, doubled, missing, tokensOf, Answer, folded, refused, unless, filter, bufferAfter, numbersOf, tells}
+use Rattle.filtering.specs.Filter.{Entry, entries, holders, crossed, lowest, doubled, missing, tokens_of, Answer, folded, refused, unless, filter, buffer_after, numbers_of, tells}
 use Rattle.machine.specs.Bytes.{count, bytes_of, over}
-use Rattle.filter.specs.Working.{entry_at, turned, orNone, lowestDoubled, lowestMissing, Tallied, Mapped, mapTokens, putWords}
+use Rattle.filter.specs.Working.{entry_at, turned, or_none, lowest_doubled, lowest_missing, Tallied, Mapped, map_tokens, put_words}
 use Rattle.filter.proofs.Laws.{length-entries}
 use Rattle.filter.proofs.Counting.{doubled-is, missing-is, map_is}
 
 -- The tokens by the map
 
-pub put-turned-is : (out : List ℕ) (i x : ℕ) → x < 65536 → set (set out (2 * i) (x % 256)) (2 * i + 1) (x / 256) ≡ putWord out i (turned x)
-unfolding putWord turned
+pub put-turned-is : (out : List ℕ) (i x : ℕ) → x < 65536 → set (set out (2 * i) (x % 256)) (2 * i + 1) (x / 256) ≡ put_word out i (turned x)
+unfolding put_word turned
 put-turned-is out i x h =
     let a : (x % 256 * 256 + x / 256) / 256 ≡ x % 256 = omega arith in
     let b : (x % 256 * 256 + x / 256) % 256 ≡ x / 256 = omega arith in
@@ -32,86 +32,86 @@ pub turned-is : (s : List ℕ) (i h l : ℕ) → h ≡ get_or s (4 * i + 2) 0 �
 unfolding turned entry_at
 turned-is s i h l d e p q = omega arith
 
-pub tokens-length : (map text : List ℕ) → length (mapTokens map text) ≡ length text
-unfolding mapTokens
+pub tokens-length : (map text : List ℕ) → length (map_tokens map text) ≡ length text
+unfolding map_tokens
 tokens-length map [] = refl
 tokens-length map (b ∷ text) = ap suc (tokens-length map text)
 
-pub token-at : (map text : List ℕ) (k b : ℕ) → k < length text → b ≡ get_or text k 0 → turned (get_or map b 0) ≡ get_or (mapTokens map text) k 0
-unfolding mapTokens
+pub token-at : (map text : List ℕ) (k b : ℕ) → k < length text → b ≡ get_or text k 0 → turned (get_or map b 0) ≡ get_or (map_tokens map text) k 0
+unfolding map_tokens
 token-at map [] k b h e = absurd (omega arith)
 token-at map (x ∷ text) zero b h e = ap (λ (i : ℕ). turned (get_or map i 0)) e
 token-at map (x ∷ text) (suc k) b h e = token-at map text k b (omega arith) e
 
-pub tokens-fit : (map text out : List ℕ) → 2 * length text ≤ length out → 2 * length (mapTokens map text) ≤ length out
+pub tokens-fit : (map text out : List ℕ) → 2 * length text ≤ length out → 2 * length (map_tokens map text) ≤ length out
 tokens-fit map text out h = omega (arith, tokens-length map text)
 
 -- Words behind words
 
-pub length-words : (ws : List ℕ) (n k : ℕ) (out : List ℕ) → length (putWords ws n k out) ≡ length out
-unfolding putWords putWord
+pub length-words : (ws : List ℕ) (n k : ℕ) (out : List ℕ) → length (put_words ws n k out) ≡ length out
+unfolding put_words put_word
 length-words ws zero k out = refl
 length-words ws (suc n) k out =
     length-words ws n (suc k) (set (set out (2 * k) (get_or ws k 0 / 256)) (2 * k + 1) (get_or ws k 0 % 256))
     ∙ length-set (set out (2 * k) (get_or ws k 0 / 256)) (2 * k + 1) (get_or ws k 0 % 256) ∙ length-set out (2 * k) (get_or ws k 0 / 256)
 
 -- m words behind n words
-words-then : (ws : List ℕ) (n m k : ℕ) (out : List ℕ) → putWords ws m (k + n) (putWords ws n k out) ≡ putWords ws (n + m) k out
-unfolding putWords
+words-then : (ws : List ℕ) (n m k : ℕ) (out : List ℕ) → put_words ws m (k + n) (put_words ws n k out) ≡ put_words ws (n + m) k out
+unfolding put_words
 words-then ws zero m k out = let e : k + 0 ≡ k = omega arith in let f : 0 + m ≡ m = omega arith in rw (e, f)
 words-then ws (suc n) m k out =
     let e : k + suc n ≡ suc k + n = omega arith in
     let f : suc n + m ≡ suc (n + m) = omega arith in
-    rw (e, f) (words-then ws n m (suc k) (putWord out k (get_or ws k 0)))
+    rw (e, f) (words-then ws n m (suc k) (put_word out k (get_or ws k 0)))
 
 -- the same of what a function left, and what the next one left
-pub words-next : (ws out₀ : List ℕ) {out out' : List ℕ} (n m k j l : ℕ) → out' ≡ putWords ws m j out → out ≡ putWords ws n k out₀ → j ≡ k + n → l ≡ n + m
-    → out' ≡ putWords ws l k out₀
+pub words-next : (ws out₀ : List ℕ) {out out' : List ℕ} (n m k j l : ℕ) → out' ≡ put_words ws m j out → out ≡ put_words ws n k out₀ → j ≡ k + n → l ≡ n + m
+    → out' ≡ put_words ws l k out₀
 words-next ws out₀ n m k j l e f g h = e ∙ rw (f, g, h) (words-then ws n m k out₀)
 
-pub words-one : (map text out : List ℕ) (k b : ℕ) (x : List ℕ) → k < length text → b ≡ get_or text k 0 → x ≡ putWord out k (turned (get_or map b 0))
-    → x ≡ putWords (mapTokens map text) 1 k out
-unfolding putWords
-words-one map text out k b x h e f = f ∙ ap (λ (v : ℕ). putWord out k v) (token-at map text k b h e)
+pub words-one : (map text out : List ℕ) (k b : ℕ) (x : List ℕ) → k < length text → b ≡ get_or text k 0 → x ≡ put_word out k (turned (get_or map b 0))
+    → x ≡ put_words (map_tokens map text) 1 k out
+unfolding put_words
+words-one map text out k b x h e f = f ∙ ap (λ (v : ℕ). put_word out k v) (token-at map text k b h e)
 
-pub words-none : (ws : List ℕ) (n k : ℕ) (out : List ℕ) → n ≡ 0 → out ≡ putWords ws n k out
-unfolding putWords
+pub words-none : (ws : List ℕ) (n k : ℕ) (out : List ℕ) → n ≡ 0 → out ≡ put_words ws n k out
+unfolding put_words
 words-none ws n k out e = rw e
 
 -- all words from k on
-pub words_last : (ws out₀ : List ℕ) {out : List ℕ} (i k m : ℕ) → i ≤ m → m ≤ i → out ≡ putWords ws (i - k) k out₀ → out ≡ putWords ws (m - k) k out₀
+pub words_last : (ws out₀ : List ℕ) {out : List ℕ} (i k m : ℕ) → i ≤ m → m ≤ i → out ≡ put_words ws (i - k) k out₀ → out ≡ put_words ws (m - k) k out₀
 words_last ws out₀ i k m a b e = let q : m ≡ i = omega arith in rw q e
 
 -- all words from the start
-words-over : (ws out : List ℕ) → 2 * length ws ≤ length out → (n : ℕ) → n ≤ length ws → putWords ws n 0 out ≡ over (bytes_of (take n ws)) out
-unfolding putWords
+words-over : (ws out : List ℕ) → 2 * length ws ≤ length out → (n : ℕ) → n ≤ length ws → put_words ws n 0 out ≡ over (bytes_of (take n ws)) out
+unfolding put_words
 words-over ws out h zero l = upto-start ws out h
 words-over ws out h (suc n) l =
     let e : n + 1 ≡ suc n = omega arith in
-    let p = upto_put ws out h {out = putWords ws n 0 out} {out' = putWord (putWords ws n 0 out) n (get_or ws n 0)} n (get_or ws n 0) refl (words-over ws out h n (omega arith)) (omega arith) refl in
+    let p = upto_put ws out h {out = put_words ws n 0 out} {out' = put_word (put_words ws n 0 out) n (get_or ws n 0)} n (get_or ws n 0) refl (words-over ws out h n (omega arith)) (omega arith) refl in
     let z : n ≡ 0 + n = omega arith in
-    let q : putWord (putWords ws n 0 out) n (get_or ws n 0) ≡ putWords ws (n + 1) 0 out =
-    ap (λ (j : ℕ). putWord (putWords ws n 0 out) j (get_or ws j 0)) z ∙ words-then ws n 1 0 out in
-    ap (λ (j : ℕ). putWords ws j 0 out) (sym e) ∙ sym q ∙ p ∙ ap (λ (j : ℕ). over (bytes_of (take j ws)) out) e
+    let q : put_word (put_words ws n 0 out) n (get_or ws n 0) ≡ put_words ws (n + 1) 0 out =
+    ap (λ (j : ℕ). put_word (put_words ws n 0 out) j (get_or ws j 0)) z ∙ words-then ws n 1 0 out in
+    ap (λ (j : ℕ). put_words ws j 0 out) (sym e) ∙ sym q ∙ p ∙ ap (λ (j : ℕ). over (bytes_of (take j ws)) out) e
 
-pub words-all : (ws out : List ℕ) (n : ℕ) → 2 * length ws ≤ length out → n ≡ length ws → putWords ws n 0 out ≡ over (bytes_of ws) out
+pub words-all : (ws out : List ℕ) (n : ℕ) → 2 * length ws ≤ length out → n ≡ length ws → put_words ws n 0 out ≡ over (bytes_of ws) out
 words-all ws out n h e = words-over ws out h n (omega arith) ∙ upto-end ws out h n (omega arith)
 
 -- by the map, or by the entries
-pub map-tokens : (es : List Entry) (map text : List ℕ) → Mapped es map → ((i : ℕ) → get_or text i 0 < 256) → mapTokens map text ≡ tokensOf es text
-unfolding mapTokens tokensOf
+pub map-tokens : (es : List Entry) (map text : List ℕ) → Mapped es map → ((i : ℕ) → get_or text i 0 < 256) → map_tokens map text ≡ tokens_of es text
+unfolding map_tokens tokens_of
 map-tokens es map [] m b = refl
 map-tokens es map (x ∷ text) m b = let e = m.tokens x (b 0) in let r = map-tokens es map text m (λ i. b (suc i)) in λ i. e i ∷ r i
 
 -- Answers
 
-some_is : (o : Option ℕ) (c : ℕ) → c ≡ orNone o → c < 65536 → o ≡ some c
-unfolding orNone
+some_is : (o : Option ℕ) (c : ℕ) → c ≡ or_none o → c < 65536 → o ≡ some c
+unfolding or_none
 some_is none c e h = absurd (omega arith)
 some_is (some x) c e h = ap some (sym e)
 
-none_is : (o : Option ℕ) (c : ℕ) → c ≡ orNone o → 65536 ≤ c → ((x : ℕ) → o ≡ some x → x < 65536) → o ≡ none
-unfolding orNone
+none_is : (o : Option ℕ) (c : ℕ) → c ≡ or_none o → 65536 ≤ c → ((x : ℕ) → o ≡ some x → x < 65536) → o ≡ none
+unfolding or_none
 none_is none c e h f = refl
 none_is (some x) c e h f = let l = f x refl in absurd (omega arith)
 
@@ -135,18 +135,18 @@ lowest-low f (suc n) b x e = go (f b) e (lowest-low f n (suc b) x)
 
 -- what a call leaves with its caller: the numbers and the buffer are the answer's
 abbrev pub Leaves : Answer → ℕ → ℕ → ℕ → List ℕ → List ℕ → Type 0
-Leaves a number at written before after = (tells number at written ≡ numbersOf a) × (after ≡ bufferAfter a before)
+Leaves a number at written before after = (tells number at written ≡ numbers_of a) × (after ≡ buffer_after a before)
 
 -- by what a function told
 pub told : (a : Answer) (before : List ℕ) {number at written n i w : ℕ} {after : List ℕ} → tells n i w ≡ tells number at written → Leaves a number at written before after → Leaves a n i w before after
 told a before e l = (e ∙ l.0, l.1)
 
 refusal : (a : Answer) (number at : ℕ) (out : List ℕ) → a ≡ refused number at → Leaves a number at 0 out out
-unfolding numbersOf bufferAfter
+unfolding numbers_of buffer_after
 refusal a number at out e = (rw e, rw e)
 
 tokens-put : (a : Answer) (ts : List ℕ) (n : ℕ) (out after : List ℕ) → a ≡ folded ts → n ≡ length ts → after ≡ over (bytes_of ts) out → Leaves a 0 0 n out after
-unfolding numbersOf bufferAfter
+unfolding numbers_of buffer_after
 tokens-put a ts n out after e f g = (rw (e, f), rw e g)
 
 module _ (s text out : List ℕ) where
@@ -157,7 +157,7 @@ module _ (s text out : List ℕ) where
   unfolding filter
   too_many h = let l = length-entries s in let t = lt-leb (length (entries s)) 64 (omega arith) in refusal _ 9 0 out (rw t)
 
-  module _ (h : length s / 4 ≤ 64) (c : ℕ) (ec : c ≡ orNone (crossed 0 (entries s))) where
+  module _ (h : length s / 4 ≤ 64) (c : ℕ) (ec : c ≡ or_none (crossed 0 (entries s))) where
     pub at-crossed : c < 65536 → Leaves (filter s text (count out)) 42 c 0 out out
     unfolding filter unless
     at-crossed u = refusal _ 42 c out (rw (few h, some_is (crossed 0 (entries s)) c ec u))
@@ -165,9 +165,9 @@ module _ (s text out : List ℕ) where
     no-crossed : 65536 ≤ c → crossed 0 (entries s) ≡ none
     no-crossed u = none_is (crossed 0 (entries s)) c ec u (λ x e. let l = length-entries s in omega (arith, crossed-low 0 (entries s) x e))
 
-    module _ (uc : 65536 ≤ c) (held map : List ℕ) (p : Tallied s (length s / 4) held map) (d : ℕ) (ed : d ≡ orNone (lowestDoubled held)) where
-      is-doubled : d ≡ orNone (doubled (entries s))
-      is-doubled = ed ∙ ap orNone (doubled-is s (length s / 4) refl held map p)
+    module _ (uc : 65536 ≤ c) (held map : List ℕ) (p : Tallied s (length s / 4) held map) (d : ℕ) (ed : d ≡ or_none (lowest_doubled held)) where
+      is-doubled : d ≡ or_none (doubled (entries s))
+      is-doubled = ed ∙ ap or_none (doubled-is s (length s / 4) refl held map p)
 
       pub at-doubled : d < 65536 → Leaves (filter s text (count out)) 43 d 0 out out
       unfolding filter unless
@@ -177,9 +177,9 @@ module _ (s text out : List ℕ) where
       unfolding doubled
       no-doubled u = none_is (doubled (entries s)) d is-doubled u (λ x e. omega (arith, lowest-low (λ b. leb 2 (holders b (entries s))) 256 0 x e))
 
-      module _ (ud : 65536 ≤ d) (m : ℕ) (em : m ≡ orNone (lowestMissing held)) where
-        is-missing : m ≡ orNone (missing (entries s))
-        is-missing = em ∙ ap orNone (missing-is s (length s / 4) refl held map p)
+      module _ (ud : 65536 ≤ d) (m : ℕ) (em : m ≡ or_none (lowest_missing held)) where
+        is-missing : m ≡ or_none (missing (entries s))
+        is-missing = em ∙ ap or_none (missing-is s (length s / 4) refl held map p)
 
         pub at-missing : m < 65536 → Leaves (filter s text (count out)) 44 m 0 out out
         unfolding filter unless
@@ -194,7 +194,7 @@ module _ (s text out : List ℕ) where
           unfolding filter unless
           too_short u = refusal _ 20 0 out (rw (few h, no-crossed uc, no-doubled ud, no-missing um, lt-leb (length text) (count out) u))
 
-          accepted : length text ≤ count out → filter s text (count out) ≡ folded (tokensOf (entries s) text)
+          accepted : length text ≤ count out → filter s text (count out) ≡ folded (tokens_of (entries s) text)
           unfolding filter unless
           accepted v = rw (few h, no-crossed uc, no-doubled ud, no-missing um, le-leb (length text) (count out) v)
 
@@ -203,9 +203,9 @@ module _ (s text out : List ℕ) where
           mapped = map_is s (length s / 4) refl held map p (λ x u. above_zero (holders x (entries s))
               (eqb-false (holders x (entries s)) 0 (lowest-none (λ b. eqb (holders b (entries s)) 0) 256 0 (no-missing um) x (omega arith) (omega arith))))
 
-          pub all-written : (after : List ℕ) → length text ≤ count out → ((i : ℕ) → get_or text i 0 < 256) → after ≡ over (bytes_of (mapTokens map text)) out
+          pub all-written : (after : List ℕ) → length text ≤ count out → ((i : ℕ) → get_or text i 0 < 256) → after ≡ over (bytes_of (map_tokens map text)) out
               → Leaves (filter s text (count out)) 0 0 (length text) out after
           all-written after u b e =
               let t = map-tokens (entries s) map text mapped b in
-              tokens-put (filter s text (count out)) (tokensOf (entries s) text) (length text) out after (accepted u) (sym (tokens-length map text) ∙ ap length t)
+              tokens-put (filter s text (count out)) (tokens_of (entries s) text) (length text) out after (accepted u) (sym (tokens-length map text) ∙ ap length t)
               (e ∙ ap (λ (z : List ℕ). over (bytes_of z) out) t)

@@ -1,8 +1,8 @@
 -- What the filter's functions compute, over bytes.
 use Rattle.std.specs.Prelude.{true, List, [], ◌∷◌, ◌≡◌, ℕ, zero, suc, ◌+◌, ◌*◌, ◌/◌, ◌%◌, ◌<◌, ◌≤◌, eqb, leb, length, get_or, set, drop}
 use Rattle.std.proofs.Math.Option.{Option, none, some}
-use Rattle.buffers.specs.Words.{putWord}
-use Rattle.filtering.specs.Filter.{Entry, entries, has, holders, lowest, tokenOf}
+use Rattle.buffers.specs.Words.{put_word}
+use Rattle.filtering.specs.Filter.{Entry, entries, has, holders, lowest, token_of}
 
 -- the entry at place i
 unfoldable pub entry_at : List ℕ → ℕ → Entry
@@ -13,16 +13,16 @@ unfoldable pub turned : ℕ → ℕ
 turned x = x % 256 * 256 + x / 256
 
 -- a number for a place or a byte, 65,536 for none
-unfoldable pub orNone : Option ℕ → ℕ
-orNone none = 65536
-orNone (some x) = x
+unfoldable pub or_none : Option ℕ → ℕ
+or_none none = 65536
+or_none (some x) = x
 
 -- the first byte value that is held twice, or not at all
-unfoldable pub lowestDoubled : List ℕ → Option ℕ
-lowestDoubled held = lowest (λ b. leb 2 (get_or held b 0)) 256 0
+unfoldable pub lowest_doubled : List ℕ → Option ℕ
+lowest_doubled held = lowest (λ b. leb 2 (get_or held b 0)) 256 0
 
-unfoldable pub lowestMissing : List ℕ → Option ℕ
-lowestMissing held = lowest (λ b. eqb (get_or held b 0) 0) 256 0
+unfoldable pub lowest_missing : List ℕ → Option ℕ
+lowest_missing held = lowest (λ b. eqb (get_or held b 0) 0) 256 0
 
 -- one entry with this token more has the byte b
 pub record Counts (b token : ℕ) (held map held' map' : List ℕ) : Type 0 where
@@ -34,31 +34,31 @@ pub record Counts (b token : ℕ) (held map held' map' : List ℕ) : Type 0 wher
 pub record Sofar (s : List ℕ) (i x k token : ℕ) : Type 0 where
   pub few : k ≤ i
   pub count : k + holders x (drop i (entries s)) ≡ holders x (entries s)
-  pub none_yet : k ≡ 0 → tokenOf (drop i (entries s)) x ≡ tokenOf (entries s) x
-  pub found : 1 ≤ k → turned token ≡ tokenOf (entries s) x
+  pub none_yet : k ≡ 0 → token_of (drop i (entries s)) x ≡ token_of (entries s) x
+  pub found : 1 ≤ k → turned token ≡ token_of (entries s) x
 
 -- after i entries, for every byte value
 pub record Tallied (s : List ℕ) (i : ℕ) (held map : List ℕ) : Type 0 where
-  pub held-size : length held ≡ 256
-  pub map-size : length map ≡ 256
+  pub held_size : length held ≡ 256
+  pub map_size : length map ≡ 256
   pub each : (x : ℕ) → x < 256 → Sofar s i x (get_or held x 0) (get_or map x 0)
 
 -- every byte value has its token in the map, turned
 pub record Mapped (es : List Entry) (map : List ℕ) : Type 0 where
   pub size : length map ≡ 256
-  pub tokens : (b : ℕ) → b < 256 → turned (get_or map b 0) ≡ tokenOf es b
+  pub tokens : (b : ℕ) → b < 256 → turned (get_or map b 0) ≡ token_of es b
 
 -- the tokens of a byte string by the map
-unfoldable pub mapTokens : List ℕ → List ℕ → List ℕ
-mapTokens map [] = []
-mapTokens map (b ∷ bs) = turned (get_or map b 0) ∷ mapTokens map bs
+unfoldable pub map_tokens : List ℕ → List ℕ → List ℕ
+map_tokens map [] = []
+map_tokens map (b ∷ bs) = turned (get_or map b 0) ∷ map_tokens map bs
 
 -- n of the words ws from k on, each written at its index
-unfoldable pub putWords : List ℕ → ℕ → ℕ → List ℕ → List ℕ
-putWords ws zero k out = out
-putWords ws (suc n) k out = putWords ws n (suc k) (putWord out k (get_or ws k 0))
+unfoldable pub put_words : List ℕ → ℕ → ℕ → List ℕ → List ℕ
+put_words ws zero k out = out
+put_words ws (suc n) k out = put_words ws n (suc k) (put_word out k (get_or ws k 0))
 
 -- all of this file computes where this is unfolded
 unfoldable pub opened : Unit {0}
-unfolding entry_at turned orNone lowestDoubled lowestMissing mapTokens putWords
+unfolding entry_at turned or_none lowest_doubled lowest_missing map_tokens put_words
 opened = tt

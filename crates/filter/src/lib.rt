@@ -1,9 +1,9 @@
 // The character filter: entries of four bytes, first byte, last byte and token, that name a token for each byte value.
 ghost use Rattle.std.specs.Prelude.{◌≡◌, ◌+◌, ◌*◌, ◌-◌, ◌<◌, ◌≤◌, ◌/◌, length, get_or};
-ghost use Rattle.buffers.specs.Words.{putWord};
+ghost use Rattle.buffers.specs.Words.{put_word};
 ghost use Rattle.machine.specs.Bytes.{count, bytes_of, over};
-ghost use Rattle.filtering.specs.Filter.{entries, crossed, filter, numbersOf, tells, bufferAfter};
-ghost use Rattle.filter.specs.Working.{entry_at, turned, orNone, lowestDoubled, lowestMissing, Counts, Tallied, mapTokens, putWords};
+ghost use Rattle.filtering.specs.Filter.{entries, crossed, filter, numbers_of, tells, buffer_after};
+ghost use Rattle.filter.specs.Working.{entry_at, turned, or_none, lowest_doubled, lowest_missing, Counts, Tallied, map_tokens, put_words};
 
 use base::{BYTE_VALUES, byte};
 
@@ -35,7 +35,7 @@ pub struct Filtered {
 // The first entry whose first exceeds its last.
 fn first_crossed(s: &[u8], n: usize) -> usize
     requires { n ≡ length s.now / 4 }
-    ensures { result ≡ orNone (crossed 0 (entries s.now)) }
+    ensures { result ≡ or_none (crossed 0 (entries s.now)) }
 {
     let mut i: usize = 0;
     while i < n {
@@ -98,7 +98,7 @@ fn tally(s: &[u8], n: usize, held: &mut [u8], map: &mut [u16])
 // The lowest byte in two entries.
 fn lowest_doubled(held: &[u8]) -> usize
     requires { length held.now ≡ 256 }
-    ensures { result ≡ orNone (lowestDoubled held.now) }
+    ensures { result ≡ or_none (lowest_doubled held.now) }
 {
     let mut b: usize = 0;
     while b < BYTE_VALUES {
@@ -113,7 +113,7 @@ fn lowest_doubled(held: &[u8]) -> usize
 // The lowest byte in none.
 fn lowest_missing(held: &[u8]) -> usize
     requires { length held.now ≡ 256 }
-    ensures { result ≡ orNone (lowestMissing held.now) }
+    ensures { result ≡ or_none (lowest_missing held.now) }
 {
     let mut b: usize = 0;
     while b < BYTE_VALUES {
@@ -128,7 +128,7 @@ fn lowest_missing(held: &[u8]) -> usize
 // The word x, whose bytes are exchanged, at index i.
 fn put_turned(out: &mut [u8], i: usize, x: u16)
     requires { 2 * i + 1 < length out.old }
-    ensures { out.new ≡ putWord out.old i (turned x) }
+    ensures { out.new ≡ put_word out.old i (turned x) }
 {
     out[2 * i] = (x % 256) as u8;
     out[2 * i + 1] = (x / 256) as u8;
@@ -137,7 +137,7 @@ fn put_turned(out: &mut [u8], i: usize, x: u16)
 // The token of byte k of the text.
 fn put_token(map: &[u16], text: &[u8], k: usize, out: &mut [u8])
     requires { (length map.now ≡ 256) × (k < length text.now) × (2 * length text.now ≤ length out.old) }
-    ensures { out.new ≡ putWords (mapTokens map.now text.now) 1 k out.old }
+    ensures { out.new ≡ put_words (map_tokens map.now text.now) 1 k out.old }
 {
     let b = byte(text[k]);
     put_turned(out, k, map[b]);
@@ -145,7 +145,7 @@ fn put_token(map: &[u16], text: &[u8], k: usize, out: &mut [u8])
 
 fn put_two(map: &[u16], text: &[u8], k: usize, out: &mut [u8])
     requires { (length map.now ≡ 256) × (k + 1 < length text.now) × (2 * length text.now ≤ length out.old) }
-    ensures { out.new ≡ putWords (mapTokens map.now text.now) 2 k out.old }
+    ensures { out.new ≡ put_words (map_tokens map.now text.now) 2 k out.old }
 {
     put_token(map, text, k, out);
     put_token(map, text, k + 1, out);
@@ -154,7 +154,7 @@ fn put_two(map: &[u16], text: &[u8], k: usize, out: &mut [u8])
 // The tokens of the text four at a time, as long as there are four; how many. One at a time takes a fifth longer.
 fn put_fours(map: &[u16], text: &[u8], out: &mut [u8]) -> usize
     requires { (length map.now ≡ 256) × (2 * length text.now ≤ length out.old) }
-    ensures { (result ≤ length text.now) × (out.new ≡ putWords (mapTokens map.now text.now) result 0 out.old) }
+    ensures { (result ≤ length text.now) × (out.new ≡ put_words (map_tokens map.now text.now) result 0 out.old) }
 {
     let mut k: usize = 0;
     while AT_A_TIME <= text.len() - k {
@@ -168,7 +168,7 @@ fn put_fours(map: &[u16], text: &[u8], out: &mut [u8]) -> usize
 // The tokens of the text from byte k on.
 fn put_rest(map: &[u16], text: &[u8], k: usize, out: &mut [u8])
     requires { (length map.now ≡ 256) × (k ≤ length text.now) × (2 * length text.now ≤ length out.old) }
-    ensures { out.new ≡ putWords (mapTokens map.now text.now) (length text.now - k) k out.old }
+    ensures { out.new ≡ put_words (map_tokens map.now text.now) (length text.now - k) k out.old }
 {
     let mut i = k;
     while i < text.len() {
@@ -180,7 +180,7 @@ fn put_rest(map: &[u16], text: &[u8], k: usize, out: &mut [u8])
 // The token of each byte of the text.
 fn put_tokens(map: &[u16], text: &[u8], out: &mut [u8])
     requires { (length map.now ≡ 256) × (2 * length text.now ≤ length out.old) }
-    ensures { out.new ≡ over (bytes_of (mapTokens map.now text.now)) out.old }
+    ensures { out.new ≡ over (bytes_of (map_tokens map.now text.now)) out.old }
 {
     let k = put_fours(map, text, out);
     put_rest(map, text, k, out);
@@ -198,8 +198,8 @@ fn refuse(number: u16, at: usize) -> Filtered
 
 // The tokens of a byte string under a filter, written from the start of a lent buffer.
 pub fn fold(s: &[u8], text: &[u8], out: &mut [u8]) -> Filtered
-    ensures written_value { tells result.number result.at result.written ≡ numbersOf (filter s.now text.now (count out.old)) }
-    ensures lent { out.new ≡ bufferAfter (filter s.now text.now (count out.old)) out.old }
+    ensures written_value { tells result.number result.at result.written ≡ numbers_of (filter s.now text.now (count out.old)) }
+    ensures lent { out.new ≡ buffer_after (filter s.now text.now (count out.old)) out.old }
 {
     let n = s.len() / ENTRY_BYTES;
     if MOST_ENTRIES < n {

@@ -11,9 +11,9 @@ use lib.Dec.{eqb, leb, ltb}
 use lib.ListN.{length, get_or, get_elem?}
 use borrow.Author.Tests.{eqb-true, eqb-false, leb-true, leb-false, ltb-false, le-leb, lt-leb, le-ltb, ne_eqb}
 use Rattle.base.specs.Bools.{split}
-use Rattle.base.specs.Common.{if◌then◌else◌}
+use Rattle.std.specs.Prelude.{if◌then◌else◌}
 use Rattle.filtering.specs.Accepted.{Accepted, Folds}
-use Rattle.filtering.specs.Filter.{Entry, entries, has, holders, crossed, lowest, doubled, missing, tokenOf, tokensOf, Answer, folded, refused, unless, filter}
+use Rattle.filtering.specs.Filter.{Entry, entries, has, holders, crossed, lowest, doubled, missing, token_of, tokens_of, Answer, folded, refused, unless, filter}
 
 -- Searches
 
@@ -64,21 +64,21 @@ exactly-one h a b = only h (leb-false 2 h a) (eqb-false h 0 b)
     only (suc (suc k)) p q = absurd (omega arith)
 
 -- what is accepted, and its tokens
-pub accepted : (s text : List ℕ) (room : ℕ) (ts : List ℕ) → filter s text room ≡ folded ts → Accepted s text room × (ts ≡ tokensOf (entries s) text)
+pub accepted : (s text : List ℕ) (room : ℕ) (ts : List ℕ) → filter s text room ≡ folded ts → Accepted s text room × (ts ≡ tokens_of (entries s) text)
 unfolding filter doubled missing unless
 accepted s text room ts e = one (leb (length (entries s)) 64) refl e
   where
     Result : Type 0
-    Result = Accepted s text room × (ts ≡ tokensOf (entries s) text)
+    Result = Accepted s text room × (ts ≡ tokens_of (entries s) text)
 
     no : {n at : ℕ} → refused n at ≡ folded ts → Result
     no d = let z : ◌≡◌ {A = ℕ} 0 1 = cc in absurd (omega arith)
 
     fitting : Answer
-    fitting = if leb (length text) room then folded (tokensOf (entries s) text) else refused 20 0
+    fitting = if leb (length text) room then folded (tokens_of (entries s) text) else refused 20 0
 
     five : leb (length (entries s)) 64 ≡ true → crossed 0 (entries s) ≡ none → doubled (entries s) ≡ none → missing (entries s) ≡ none → (t : Bool)
-        → leb (length text) room ≡ t → (if t then folded (tokensOf (entries s) text) else refused 20 0) ≡ folded ts → Result
+        → leb (length text) room ≡ t → (if t then folded (tokens_of (entries s) text) else refused 20 0) ≡ folded ts → Result
     five f c d m true x y = (
       record {
         few = leb-true (length (entries s)) 64 f;
@@ -112,7 +112,7 @@ accepted s text room ts e = one (leb (length (entries s)) 64) refl e
     one false f y = no y
 
 -- nothing else is refused
-pub accepts : (s text : List ℕ) (room : ℕ) → Accepted s text room → filter s text room ≡ folded (tokensOf (entries s) text)
+pub accepts : (s text : List ℕ) (room : ℕ) → Accepted s text room → filter s text room ≡ folded (tokens_of (entries s) text)
 unfolding filter doubled missing unless
 accepts s text room a =
     let few = le-leb (length (entries s)) 64 a.few in
@@ -130,24 +130,24 @@ counted b [] k e q h = let z : ◌≡◌ {A = ℕ} 0 1 = cc in absurd (omega ari
 counted b (e₀ ∷ es) zero e q h = let z : e₀ ≡ e = cc in let g : has b e₀ ≡ true = rw z h in rw g (omega arith)
 counted b (e₀ ∷ es) (suc k) e q h = let r = counted b es k e q h in omega arith
 
-token-its : (b : ℕ) (es : List Entry) → holders b es ≤ 1 → (k : ℕ) (e : Entry) → get_elem? es k ≡ some e → has b e ≡ true → tokenOf es b ≡ e.token
-unfolding holders tokenOf
+token-its : (b : ℕ) (es : List Entry) → holders b es ≤ 1 → (k : ℕ) (e : Entry) → get_elem? es k ≡ some e → has b e ≡ true → token_of es b ≡ e.token
+unfolding holders token_of
 token-its b [] n k e q h = let z : ◌≡◌ {A = ℕ} 0 1 = cc in absurd (omega arith)
 token-its b (e₀ ∷ es) n zero e q h = let z : e₀ ≡ e = cc in let g : has b e₀ ≡ true = rw z h in rw g (ap (λ (x : Entry). x.token) z)
 token-its b (e₀ ∷ es) n (suc k) e q h = go (has b e₀) n (counted b es k e q h) (λ m. token-its b es m k e q h)
   where
-    go : (t : Bool) → (if t then 1 else 0) + holders b es ≤ 1 → 1 ≤ holders b es → (holders b es ≤ 1 → tokenOf es b ≡ e.token)
-        → (if t then e₀.token else tokenOf es b) ≡ e.token
+    go : (t : Bool) → (if t then 1 else 0) + holders b es ≤ 1 → 1 ≤ holders b es → (holders b es ≤ 1 → token_of es b ≡ e.token)
+        → (if t then e₀.token else token_of es b) ≡ e.token
     go true m c r = absurd (omega arith)
     go false m c r = r (omega arith)
 
-length-tokens : (es : List Entry) (text : List ℕ) → length (tokensOf es text) ≡ length text
-unfolding tokensOf
+length-tokens : (es : List Entry) (text : List ℕ) → length (tokens_of es text) ≡ length text
+unfolding tokens_of
 length-tokens es [] = refl
 length-tokens es (b ∷ text) = ap suc (length-tokens es text)
 
-tokens-at : (es : List Entry) (text : List ℕ) (k : ℕ) → k < length text → get_or (tokensOf es text) k 0 ≡ tokenOf es (get_or text k 0)
-unfolding tokensOf
+tokens-at : (es : List Entry) (text : List ℕ) (k : ℕ) → k < length text → get_or (tokens_of es text) k 0 ≡ token_of es (get_or text k 0)
+unfolding tokens_of
 tokens-at es [] k h = absurd (omega arith)
 tokens-at es (b ∷ text) zero h = refl
 tokens-at es (b ∷ text) (suc k) h = tokens-at es text k (omega arith)
@@ -158,6 +158,6 @@ folds s text room ts small f =
     let a = accepted s text room ts f in
     record {
       one_each = ap length a.1 ∙ length-tokens (entries s) text;
-      its-entry = λ k e l q h. ap (λ (l : List ℕ). get_or l k 0) a.1 ∙ tokens-at (entries s) text k l
+      its_entry = λ k e l q h. ap (λ (l : List ℕ). get_or l k 0) a.1 ∙ tokens-at (entries s) text k l
           ∙ token-its (get_or text k 0) (entries s) (omega (arith, a.0.once (get_or text k 0) (small k))) q.0 e q.1 h;
     }

@@ -5,10 +5,11 @@ use mathlib.Core.Path.{◌≡◌, refl}
 use Prim.Native.Nat.{ℕ, zero, suc, ◌/◌}
 use lib.Dec.{T, eqb}
 use lib.ListN.{length, replicate}
-use Rattle.base.specs.Common.{if◌then◌else◌, same, bytes}
+use Rattle.std.specs.Prelude.{if◌then◌else◌}
+use Rattle.base.specs.Common.{same, bytes}
 use Rattle.machine.specs.Bytes
 use Rattle.filtering.specs.Filter
-use Rattle.filtering.specs.Filter.{filter, folded, refused, bufferAfter, numbersOf, tells}
+use Rattle.filtering.specs.Filter.{filter, folded, refused, buffer_after, numbers_of, tells}
 
 -- filter, byte string, token buffer; number, what it names, the buffer afterwards
 pub data Case : Type 0 where
@@ -17,8 +18,8 @@ pub data Case : Type 0 where
 unfoldable pub holds : Case → Bool
 holds (gives s text buffer number at after) =
     let a = filter s text (length buffer / 2) in
-    let n = numbersOf a in
-    eqb n.number number && eqb n.at at && eqb n.written (if eqb number 0 then length text else 0) && same (bufferAfter a buffer) after
+    let n = numbers_of a in
+    eqb n.number number && eqb n.at at && eqb n.written (if eqb number 0 then length text else 0) && same (buffer_after a buffer) after
 
 unfoldable pub all : List Case → Bool
 all [] = true
@@ -71,6 +72,6 @@ unfolding all holds cases classes turned fours Bytes.opened Filter.opened
 all_hold = tt
 
 -- what the C caller reads: the number, what it names, the tokens written
-told : numbersOf (folded (5 ∷ 6 ∷ [])) ∷ numbersOf (refused 43 65) ∷ [] ≡ tells 0 0 2 ∷ tells 43 65 0 ∷ []
+told : numbers_of (folded (5 ∷ 6 ∷ [])) ∷ numbers_of (refused 43 65) ∷ [] ≡ tells 0 0 2 ∷ tells 43 65 0 ∷ []
 unfolding Filter.opened
 told = refl

@@ -18,4 +18,4 @@ pub record Accepted (s text : List ℕ) (room : ℕ) : Type 0 where
 -- "An accepted filter turns a byte string into tokens, one each, that of its entry"
 pub record Folds (s text tokens : List ℕ) : Type 0 where
   pub one_each : length tokens ≡ length text
-  pub its-entry : (k : ℕ) (e : Entry) → k < length text → Among s e → has (get_or text k 0) e ≡ true → get_or tokens k 0 ≡ e.token
+  pub its_entry : (k : ℕ) (e : Entry) → k < length text → Among s e → has (get_or text k 0) e ≡ true → get_or tokens k 0 ≡ e.token

@@ -1,7 +1,6 @@
 -- "A character filter that publishers edit": entries of four bytes, the checks, and the tokens of a byte string.
-use Rattle.std.specs.Prelude.{Bool, true, ◌&&◌, List, [], ◌∷◌, ◌++◌, ℕ, zero, suc, ◌+◌, ◌*◌, eqb, leb, ltb, length}
+use Rattle.std.specs.Prelude.{Bool, true, ◌&&◌, List, [], ◌∷◌, ◌++◌, ℕ, zero, suc, ◌+◌, ◌*◌, eqb, leb, ltb, length, if◌then◌else◌}
 use Rattle.std.proofs.Math.Option.{Option, none, some}
-use Rattle.base.specs.Common.{if◌then◌else◌}
 use Rattle.machine.specs.Bytes.{bytes_of, over}
 
 -- "entries of four bytes: first byte, last byte, input token number"
@@ -46,14 +45,14 @@ unfoldable pub missing : List Entry → Option ℕ
 missing es = lowest (λ b. eqb (holders b es) 0) 256 0
 
 -- the token of the byte's entry; 0 where none has it
-unfoldable pub tokenOf : List Entry → ℕ → ℕ
-tokenOf [] b = 0
-tokenOf (e ∷ es) b = let later = tokenOf es b in if has b e then e.token else later
+unfoldable pub token_of : List Entry → ℕ → ℕ
+token_of [] b = 0
+token_of (e ∷ es) b = let later = token_of es b in if has b e then e.token else later
 
 -- "turns a byte string into tokens, one each, that of its entry"
-unfoldable pub tokensOf : List Entry → List ℕ → List ℕ
-tokensOf es [] = []
-tokensOf es (b ∷ bs) = tokenOf es b ∷ tokensOf es bs
+unfoldable pub tokens_of : List Entry → List ℕ → List ℕ
+tokens_of es [] = []
+tokens_of es (b ∷ bs) = token_of es b ∷ tokens_of es bs
 
 -- what filtering answers: the tokens; or a number and the entry or byte that it names
 pub data Answer : Type 0 where
@@ -70,14 +69,14 @@ unless (some at) number rest = refused number at
 unfoldable pub filter : List ℕ → List ℕ → ℕ → Answer
 filter s text room =
     let es = entries s in
-    let fits = if leb (length text) room then folded (tokensOf es text) else refused 20 0 in
+    let fits = if leb (length text) room then folded (tokens_of es text) else refused 20 0 in
     let checked = unless (crossed 0 es) 42 (unless (doubled es) 43 (unless (missing es) 44 fits)) in
     if leb (length es) 64 then checked else refused 9 0
 
 -- "nothing is written"; "touches nothing past them"
-unfoldable pub bufferAfter : Answer → List ℕ → List ℕ
-bufferAfter (folded ts) buffer = over (bytes_of ts) buffer
-bufferAfter (refused number at) buffer = buffer
+unfoldable pub buffer_after : Answer → List ℕ → List ℕ
+buffer_after (folded ts) buffer = over (bytes_of ts) buffer
+buffer_after (refused number at) buffer = buffer
 
 -- what a caller reads: the number, the entry or byte that it names, the tokens written
 pub record Numbers : Type 0 where
@@ -85,9 +84,9 @@ pub record Numbers : Type 0 where
   pub at : ℕ
   pub written : ℕ
 
-unfoldable pub numbersOf : Answer → Numbers
-numbersOf (folded ts) = record { number = 0; at = 0; written = length ts }
-numbersOf (refused number at) = record { number = number; at = at; written = 0 }
+unfoldable pub numbers_of : Answer → Numbers
+numbers_of (folded ts) = record { number = 0; at = 0; written = length ts }
+numbers_of (refused number at) = record { number = number; at = at; written = 0 }
 
 -- what a call leaves with its caller
 abbrev pub tells : ℕ → ℕ → ℕ → Numbers
@@ -95,5 +94,5 @@ tells number at written = record { number = number; at = at; written = written }
 
 -- all of this file computes where this is unfolded
 unfoldable pub opened : Unit {0}
-unfolding entries has holders crossed lowest doubled missing tokenOf tokensOf unless filter bufferAfter numbersOf
+unfolding entries has holders crossed lowest doubled missing token_of tokens_of unless filter buffer_after numbers_of
 opened = tt

@@ -4,14 +4,14 @@ use Prim.Native.Nat.{ℕ, ◌<◌}
 use lib.ListN.{length}
 use Rattle.base.specs.Tree.{plain, cycle, choice, done, ◌▸◌, nil, alternative, absent, otherwise}
 use Rattle.program.specs.Program.{Selector, Act, Acts, Alts, Other, Rule, body_of}
-use Rattle.finishing.specs.Finishing.{toEnd, toCall, Paths, Loop, loop-here, loop-in, loop-labelled, loop-otherwise, Loops, loops-here, loops-later, LoopsSome, loops-this, loops-that, Comes, directly, through, Finishing}
+use Rattle.finishing.specs.Finishing.{to_end, to_call, Paths, Loop, loop_here, loop_in, loop_labelled, loop_otherwise, Loops, loops_here, loops_later, LoopsSome, loops_this, loops_that, Comes, directly, through, Finishing}
 
 module _ (prog : List Rule) where
   -- no cycle in it has a quiet path from its start to its end; the tree says it part by part
   unfoldable mutual
     pub Calm : Act → Type 0
     Calm (plain p) = Unit {0}
-    Calm (cycle b) = (¬ (Paths prog toEnd b)) × Calms b
+    Calm (cycle b) = (¬ (Paths prog to_end b)) × Calms b
     Calm (choice s q o) = CalmAlts q × CalmOther o
 
     pub Calms : Acts → Type 0
@@ -31,25 +31,25 @@ module _ (prog : List Rule) where
 
     calm : (a : Act) → (Loop prog a → ⊥) → Calm a
     calm (plain p) n = tt
-    calm (cycle b) n = ((λ p. n (loop-here p)), calms b (λ l. n (loop-in l)))
-    calm (choice s q o) n = (calm-alts q (λ l. n (loop-labelled l)), calm-other o s q n)
+    calm (cycle b) n = ((λ p. n (loop_here p)), calms b (λ l. n (loop_in l)))
+    calm (choice s q o) n = (calm-alts q (λ l. n (loop_labelled l)), calm-other o s q n)
 
     pub calms : (q : Acts) → (Loops prog q → ⊥) → Calms q
     calms done n = tt
-    calms (a ▸ q) n = (calm a (λ l. n (loops-here l)), calms q (λ l. n (loops-later l)))
+    calms (a ▸ q) n = (calm a (λ l. n (loops_here l)), calms q (λ l. n (loops_later l)))
 
     calm-alts : (q : Alts) → (LoopsSome prog q → ⊥) → CalmAlts q
     calm-alts nil n = tt
-    calm-alts (alternative ls b q) n = (calms b (λ l. n (loops-this l)), calm-alts q (λ l. n (loops-that l)))
+    calm-alts (alternative ls b q) n = (calms b (λ l. n (loops_this l)), calm-alts q (λ l. n (loops_that l)))
 
     calm-other : (o : Other) (s : Selector) (q : Alts) → (Loop prog (choice s q o) → ⊥) → CalmOther o
     calm-other absent s q n = tt
-    calm-other (otherwise b) s q n = calms b (λ l. n (loop-otherwise l))
+    calm-other (otherwise b) s q n = calms b (λ l. n (loop_otherwise l))
 
   -- `Comes` as a chain, so that an induction takes off one call at a time
   pub data Reach : ℕ → ℕ → Type 0 where
-    reach-one : {r s : ℕ} → r < length prog → Paths prog (toCall s) (body_of prog r) → Reach r s
-    reach-more : {r s t : ℕ} → r < length prog → Paths prog (toCall s) (body_of prog r) → Reach s t → Reach r t
+    reach-one : {r s : ℕ} → r < length prog → Paths prog (to_call s) (body_of prog r) → Reach r s
+    reach-more : {r s t : ℕ} → r < length prog → Paths prog (to_call s) (body_of prog r) → Reach s t → Reach r t
 
   pub comes : {r s : ℕ} → Reach r s → Comes prog r s
   comes (reach-one l p) = directly l p

@@ -7,7 +7,7 @@ use native.Mathlib.Omega.{arith}
 use native.Mathlib.Nat.{zero-add}
 use Prim.Native.Nat.{ℕ, zero, suc, ◌+◌, ◌<◌, ◌≤◌}
 use lib.ListN.{length, get_or}
-use Rattle.base.specs.Bools.{never, or, and, or₁, or₂, both, same, not-both, not-intro}
+use Rattle.base.specs.Bools.{never, or, and, or₁, or₂, both, same, not_both, not_intro}
 use Rattle.program.specs.Program.{Rule, body_of}
 use Rattle.finishing.specs.Finishing.{Comes, directly, through, Finishing}
 use Rattle.finishing.specs.Test.{Known, calls, loops, known, reach, build, look, matrix, closure, some_below, arrow, finishing, Exact}
@@ -15,17 +15,17 @@ use Rattle.finishing.proofs.Paths.{meets_call, to-call, Sound, Closed, sounds, c
 use Rattle.finishing.proofs.Rounds.{last, known-sound, known-closed}
 
 -- what stands in a matrix
-getD-build : {A : Type 0} (n i r : ℕ) (g : ℕ → A) (d : A) → r < n → get_or (build n i g) r d ≡ g (i + r)
+get_d-build : {A : Type 0} (n i r : ℕ) (g : ℕ → A) (d : A) → r < n → get_or (build n i g) r d ≡ g (i + r)
 unfolding build
-getD-build zero i r g d l = absurd (omega arith)
-getD-build (suc n) i zero g d l = ap g (omega arith)
-getD-build (suc n) i (suc r) g d l = getD-build n (suc i) r g d (omega arith) ∙ ap g (omega arith)
+get_d-build zero i r g d l = absurd (omega arith)
+get_d-build (suc n) i zero g d l = ap g (omega arith)
+get_d-build (suc n) i (suc r) g d l = get_d-build n (suc i) r g d (omega arith) ∙ ap g (omega arith)
 
 look-matrix : (g : ℕ → ℕ → Bool) (n r s : ℕ) → r < n → s < n → look (matrix n g) r s ≡ g r s
 unfolding look matrix
 look-matrix g n r s l h =
-    ap (λ (x : List Bool). get_or x s false) (getD-build n 0 r (λ r. build n 0 (λ s. g r s)) [] l ∙ ap (λ (r : ℕ). build n 0 (λ s. g r s)) (zero-add r))
-    ∙ (getD-build n 0 s (λ s. g r s) false h ∙ ap (λ (s : ℕ). g r s) (zero-add s))
+    ap (λ (x : List Bool). get_or x s false) (get_d-build n 0 r (λ r. build n 0 (λ s. g r s)) [] l ∙ ap (λ (r : ℕ). build n 0 (λ s. g r s)) (zero-add r))
+    ∙ (get_d-build n 0 s (λ s. g r s) false h ∙ ap (λ (s : ℕ). g r s) (zero-add s))
 
 -- places between that are below k may be gone through
 module _ (f : ℕ → ℕ → Bool) where
@@ -121,8 +121,8 @@ module _ (prog : List Rule) (kn : Known) (so : Sound prog kn) (cl : Closed prog 
       let n = length prog in
       let x = and (not (some_below n (λ r. loops kn (body_of prog r)))) (not (some_below n (λ r. reach (arrow prog kn) n r r))) e in
       record {
-        cycles = λ r l d. not-both (some_below n (λ r. loops kn (body_of prog r))) x.0 (below_true n (λ r. loops kn (body_of prog r)) r l (loops-complete prog kn cl d));
-        rules = λ r d. not-both (some_below n (λ r. reach (arrow prog kn) n r r)) x.1 (below_true n (λ r. reach (arrow prog kn) n r r) r (comes-from d) (comes-reach d));
+        cycles = λ r l d. not_both (some_below n (λ r. loops kn (body_of prog r))) x.0 (below_true n (λ r. loops kn (body_of prog r)) r l (loops-complete prog kn cl d));
+        rules = λ r d. not_both (some_below n (λ r. reach (arrow prog kn) n r r)) x.1 (below_true n (λ r. reach (arrow prog kn) n r r) r (comes-from d) (comes-reach d));
       }
 
   pub tells-complete : Finishing prog → tells prog kn ≡ true
@@ -130,8 +130,8 @@ module _ (prog : List Rule) (kn : Known) (so : Sound prog kn) (cl : Closed prog 
   tells-complete fin =
       let n = length prog in
       both (not (some_below n (λ r. loops kn (body_of prog r)))) (not (some_below n (λ r. reach (arrow prog kn) n r r)))
-      (not-intro (some_below n (λ r. loops kn (body_of prog r))) (λ e. let y = true_below n (λ r. loops kn (body_of prog r)) e in fin.cycles y.0 y.1 (loops-sound prog kn so (body_of prog y.0) y.2)))
-      (not-intro (some_below n (λ r. reach (arrow prog kn) n r r)) (λ e. let y = true_below n (λ r. reach (arrow prog kn) n r r) e in fin.rules y.0 (reach-comes n y.0 y.0 y.1 (omega arith) y.2)))
+      (not_intro (some_below n (λ r. loops kn (body_of prog r))) (λ e. let y = true_below n (λ r. loops kn (body_of prog r)) e in fin.cycles y.0 y.1 (loops-sound prog kn so (body_of prog y.0) y.2)))
+      (not_intro (some_below n (λ r. reach (arrow prog kn) n r r)) (λ e. let y = true_below n (λ r. reach (arrow prog kn) n r r) e in fin.rules y.0 (reach-comes n y.0 y.0 y.1 (omega arith) y.2)))
 
 pub below-same : (n : ℕ) (f g : ℕ → Bool) → ((r : ℕ) → r < n → f r ≡ g r) → some_below n f ≡ some_below n g
 unfolding some_below

@@ -12,9 +12,9 @@ use lib.ListN.{length}
 use borrow.Author.Tests.{eqb-true, eq-eqb, not-true}
 use Rattle.base.specs.Bools.{never, or, and, or₁, or₂, both, split}
 use Rattle.base.specs.Tree.{plain, cycle, choice, done, ◌▸◌, nil, alternative, absent, otherwise}
-use Rattle.program.specs.Program.{Plain, match, any, emit, error, exit, call, back, give, update, updateWith, byToken, byRule, byOperation, byOperationWith, Act, Acts, Alts, Other, Rule, body_of}
+use Rattle.program.specs.Program.{Plain, match, any, emit, error, exit, call, back, give, update, update_with, by_token, by_rule, by_operation, by_operation_with, Act, Acts, Alts, Other, Rule, body_of}
 use Rattle.finishing.specs.Finishing.{named, Gives, Passed}
-use Rattle.finishing.specs.Test.{end, gives, isEnd, isLeave, isReturn, isGive, is_call, isFar, Known, quietPlain, quiet, quiets, quietSome, quietNamed, quietOther, Fact, passing, giving, same, within, tells-of, some_of, known_of, holds, find, onward, grow, valuesPlain, values, valuesAll, valuesSome, valuesOther, givings, facts, known}
+use Rattle.finishing.specs.Test.{end, gives, is_end, is_leave, is_return, is_give, is_call, is_far, Known, quiet_plain, quiet, quiets, quiet_some, quiet_named, quiet_other, Fact, passing, giving, same, within, tells_of, some_of, known_of, holds, find, onward, grow, values_plain, values, values_all, values_some, values_other, givings, facts, known}
 use Rattle.finishing.proofs.Paths.{Given, Sound, Closed, passes-sound, gives-sound}
 
 -- a number below n + 1
@@ -98,9 +98,9 @@ module _ (prog : List Rule) where
   Is (passing r) = Passed prog r
   Is (giving r v) = Gives prog r v
 
-  pub ofRule : Fact → Type 0
-  ofRule (passing r) = r < length prog
-  ofRule (giving r v) = r < length prog
+  pub of_rule : Fact → Type 0
+  of_rule (passing r) = r < length prog
+  of_rule (giving r v) = r < length prog
 
   abbrev AllAre : List Fact → Type 0
   AllAre es = (f : Fact) → within es f ≡ true → Is f
@@ -117,8 +117,8 @@ module _ (prog : List Rule) where
   unfolding within
   are-more e es x h f d = elim (or (same e f) (within es f) d) [ inl y ↦ rw (← same_true e f y) x | inr y ↦ h f y ]
 
-  told : (e : Fact) (r : ℕ) (p : ℕ → Bool) → Is e → tells-of e r p ≡ true → Given prog r p
-  unfolding tells-of Is
+  told : (e : Fact) (r : ℕ) (p : ℕ → Bool) → Is e → tells_of e r p ≡ true → Given prog r p
+  unfolding tells_of Is
   told (passing s) r p x h = never h
   told (giving s v) r p x h =
       let y = and (eqb s r) (p v) h in
@@ -127,7 +127,7 @@ module _ (prog : List Rule) where
   values-are : (es : List Fact) (r : ℕ) (p : ℕ → Bool) → AllAre es → some_of es r p ≡ true → Given prog r p
   unfolding some_of
   values-are [] r p h d = never d
-  values-are (e ∷ es) r p h d = elim (or (tells-of e r p) (some_of es r p) d) [
+  values-are (e ∷ es) r p h d = elim (or (tells_of e r p) (some_of es r p) d) [
     | inl y ↦ told e r p (are-first e es h) y
     | inr y ↦ values-are es r p (are-rest e es h) y
   ]
@@ -136,13 +136,13 @@ module _ (prog : List Rule) where
   unfolding known_of Is
   sound-known es h = record { of-passed = λ r d. h (passing r) d; of_values = λ r p d. values-are es r p h d }
 
-  holds-is : (es : List Fact) (f : Fact) → AllAre es → ofRule f → holds prog (known_of es) f ≡ true → Is f
-  unfolding holds Is ofRule
+  holds-is : (es : List Fact) (f : Fact) → AllAre es → of_rule f → holds prog (known_of es) f ≡ true → Is f
+  unfolding holds Is of_rule
   holds-is es (passing r) h l d = passes-sound prog (known_of es) (sound-known es h) r l d
   holds-is es (giving r v) h l d = gives-sound prog (known_of es) (sound-known es h) r v l d
 
   module _ (fs : List Fact) where
-    grow-are : ((f : Fact) → Memᴰ f fs → ofRule f) → (i : ℕ) (es : List Fact) → AllAre es → AllAre (grow prog fs i es)
+    grow-are : ((f : Fact) → Memᴰ f fs → of_rule f) → (i : ℕ) (es : List Fact) → AllAre es → AllAre (grow prog fs i es)
     unfolding grow
     grow-are l zero es h = h
     grow-are l (suc i) es h = go (find (λ f. not (within es f) && holds prog (known_of es) f) fs) refl (λ f h₁. grow-are l i (f ∷ es) h₁)
@@ -171,13 +171,13 @@ module _ (prog : List Rule) where
 
 -- A value that is returned stands after a `>>`
 
-is-give : (v u : ℕ) → isGive v (gives u) ≡ true → Memᴰ u (v ∷ [])
-unfolding isGive
-is-give v u e = mathlib.Core.List.Memᴰ.head (sym (eqb-true v u e))
+is_give : (v u : ℕ) → is_give v (gives u) ≡ true → Memᴰ u (v ∷ [])
+unfolding is_give
+is_give v u e = mathlib.Core.List.Memᴰ.head (sym (eqb-true v u e))
 
 module _ (k : Known) (u : ℕ) where
-  plain_value : (p : Plain) → quietPlain k p (gives u) ≡ true → Memᴰ u (valuesPlain p)
-  unfolding quietPlain valuesPlain isEnd isLeave isReturn is_call
+  plain_value : (p : Plain) → quiet_plain k p (gives u) ≡ true → Memᴰ u (values_plain p)
+  unfolding quiet_plain values_plain is_end is_leave is_return is_call
   plain_value (match t) e = never e
   plain_value any e = never e
   plain_value (emit t) e = never e
@@ -185,72 +185,72 @@ module _ (k : Known) (u : ℕ) where
   plain_value exit e = never e
   plain_value (call r) e = never e
   plain_value back e = never e
-  plain_value (give v) e = is-give v u e
+  plain_value (give v) e = is_give v u e
   plain_value (update op) e = never e
-  plain_value (updateWith op v) e = never e
+  plain_value (update_with op v) e = never e
 
   mutual
-    unfolding quiet values isEnd isFar is_call
+    unfolding quiet values is_end is_far is_call
 
     value_in : (a : Act) → quiet k a (gives u) ≡ true → Memᴰ u (values a)
     value_in (plain p) e = plain_value p e
-    value_in (cycle b) e = values-in b e
-    value_in (choice byToken q o) e = mathlib.Core.List.Memᴰ.append_right (valuesSome q) (value-other o e)
-    value_in (choice (byRule r) q o) e = elim (or (quietNamed k r q (gives u)) (k.some-value r (λ v. not (named v q)) && quietOther k o (gives u)) e) [
-      | inl y ↦ mathlib.Core.List.Memᴰ.append_left (valuesOther o) (value-named q r y)
-      | inr y ↦ mathlib.Core.List.Memᴰ.append_right (valuesSome q) (value-other o (and (k.some-value r (λ v. not (named v q))) (quietOther k o (gives u)) y).1)
+    value_in (cycle b) e = values_in b e
+    value_in (choice by_token q o) e = mathlib.Core.List.Memᴰ.append_right (values_some q) (value-other o e)
+    value_in (choice (by_rule r) q o) e = elim (or (quiet_named k r q (gives u)) (k.some_value r (λ v. not (named v q)) && quiet_other k o (gives u)) e) [
+      | inl y ↦ mathlib.Core.List.Memᴰ.append_left (values_other o) (value-named q r y)
+      | inr y ↦ mathlib.Core.List.Memᴰ.append_right (values_some q) (value-other o (and (k.some_value r (λ v. not (named v q))) (quiet_other k o (gives u)) y).1)
     ]
-    value_in (choice (byOperation op) q o) e = elim (or (quietSome k q (gives u)) (quietOther k o (gives u)) e) [
-      | inl y ↦ mathlib.Core.List.Memᴰ.append_left (valuesOther o) (value-some q y)
-      | inr y ↦ mathlib.Core.List.Memᴰ.append_right (valuesSome q) (value-other o y)
+    value_in (choice (by_operation op) q o) e = elim (or (quiet_some k q (gives u)) (quiet_other k o (gives u)) e) [
+      | inl y ↦ mathlib.Core.List.Memᴰ.append_left (values_other o) (value-some q y)
+      | inr y ↦ mathlib.Core.List.Memᴰ.append_right (values_some q) (value-other o y)
     ]
-    value_in (choice (byOperationWith op v) q o) e = elim (or (quietSome k q (gives u)) (quietOther k o (gives u)) e) [
-      | inl y ↦ mathlib.Core.List.Memᴰ.append_left (valuesOther o) (value-some q y)
-      | inr y ↦ mathlib.Core.List.Memᴰ.append_right (valuesSome q) (value-other o y)
-    ]
-
-    pub values-in : (q : Acts) → quiets k q (gives u) ≡ true → Memᴰ u (valuesAll q)
-    values-in done e = never e
-    values-in (a ▸ q) e = elim (or (quiet k a (gives u)) (quiet k a end && quiets k q (gives u)) e) [
-      | inl y ↦ mathlib.Core.List.Memᴰ.append_left (valuesAll q) (value_in a y)
-      | inr y ↦ mathlib.Core.List.Memᴰ.append_right (values a) (values-in q (and (quiet k a end) (quiets k q (gives u)) y).1)
+    value_in (choice (by_operation_with op v) q o) e = elim (or (quiet_some k q (gives u)) (quiet_other k o (gives u)) e) [
+      | inl y ↦ mathlib.Core.List.Memᴰ.append_left (values_other o) (value-some q y)
+      | inr y ↦ mathlib.Core.List.Memᴰ.append_right (values_some q) (value-other o y)
     ]
 
-    value-some : (q : Alts) → quietSome k q (gives u) ≡ true → Memᴰ u (valuesSome q)
+    pub values_in : (q : Acts) → quiets k q (gives u) ≡ true → Memᴰ u (values_all q)
+    values_in done e = never e
+    values_in (a ▸ q) e = elim (or (quiet k a (gives u)) (quiet k a end && quiets k q (gives u)) e) [
+      | inl y ↦ mathlib.Core.List.Memᴰ.append_left (values_all q) (value_in a y)
+      | inr y ↦ mathlib.Core.List.Memᴰ.append_right (values a) (values_in q (and (quiet k a end) (quiets k q (gives u)) y).1)
+    ]
+
+    value-some : (q : Alts) → quiet_some k q (gives u) ≡ true → Memᴰ u (values_some q)
     value-some nil e = never e
-    value-some (alternative ls b q) e = elim (or (quiets k b (gives u)) (quietSome k q (gives u)) e) [
-      | inl y ↦ mathlib.Core.List.Memᴰ.append_left (valuesSome q) (values-in b y)
-      | inr y ↦ mathlib.Core.List.Memᴰ.append_right (valuesAll b) (value-some q y)
+    value-some (alternative ls b q) e = elim (or (quiets k b (gives u)) (quiet_some k q (gives u)) e) [
+      | inl y ↦ mathlib.Core.List.Memᴰ.append_left (values_some q) (values_in b y)
+      | inr y ↦ mathlib.Core.List.Memᴰ.append_right (values_all b) (value-some q y)
     ]
 
-    value-named : (q : Alts) (r : ℕ) → quietNamed k r q (gives u) ≡ true → Memᴰ u (valuesSome q)
+    value-named : (q : Alts) (r : ℕ) → quiet_named k r q (gives u) ≡ true → Memᴰ u (values_some q)
     value-named nil r e = never e
-    value-named (alternative ls b q) r e = elim (or (k.some-value r _ && quiets k b (gives u)) (quietNamed k r q (gives u)) e) [
-      | inl y ↦ mathlib.Core.List.Memᴰ.append_left (valuesSome q) (values-in b (and (k.some-value r _) (quiets k b (gives u)) y).1)
-      | inr y ↦ mathlib.Core.List.Memᴰ.append_right (valuesAll b) (value-named q r y)
+    value-named (alternative ls b q) r e = elim (or (k.some_value r _ && quiets k b (gives u)) (quiet_named k r q (gives u)) e) [
+      | inl y ↦ mathlib.Core.List.Memᴰ.append_left (values_some q) (values_in b (and (k.some_value r _) (quiets k b (gives u)) y).1)
+      | inr y ↦ mathlib.Core.List.Memᴰ.append_right (values_all b) (value-named q r y)
     ]
 
-    value-other : (o : Other) → quietOther k o (gives u) ≡ true → Memᴰ u (valuesOther o)
+    value-other : (o : Other) → quiet_other k o (gives u) ≡ true → Memᴰ u (values_other o)
     value-other absent e = never e
-    value-other (otherwise b) e = values-in b e
+    value-other (otherwise b) e = values_in b e
 
 pub giving-in : (r v : ℕ) {vs : List ℕ} → Memᴰ v vs → Memᴰ (giving r v) (givings r vs)
 unfolding givings
 giving-in r v (mathlib.Core.List.Memᴰ.head p) = mathlib.Core.List.Memᴰ.head (ap (giving r) p)
 giving-in r v (mathlib.Core.List.Memᴰ.tail i) = mathlib.Core.List.Memᴰ.tail (giving-in r v i)
 
-givings-of : (prog : List Rule) (r : ℕ) (vs : List ℕ) → r < length prog → {f : Fact} → Memᴰ f (givings r vs) → ofRule prog f
-unfolding givings ofRule
+givings-of : (prog : List Rule) (r : ℕ) (vs : List ℕ) → r < length prog → {f : Fact} → Memᴰ f (givings r vs) → of_rule prog f
+unfolding givings of_rule
 givings-of prog r (v ∷ vs) l (mathlib.Core.List.Memᴰ.head p) = rw p l
 givings-of prog r (v ∷ vs) l (mathlib.Core.List.Memᴰ.tail i) = givings-of prog r vs l i
 
 module _ (prog : List Rule) where
-  facts-of : (n : ℕ) → n ≤ length prog → (f : Fact) → Memᴰ f (facts prog n) → ofRule prog f
-  unfolding facts ofRule
+  facts-of : (n : ℕ) → n ≤ length prog → (f : Fact) → Memᴰ f (facts prog n) → of_rule prog f
+  unfolding facts of_rule
   facts-of zero h f m = elim m [ ]
   facts-of (suc n) h f (mathlib.Core.List.Memᴰ.head p) = rw p (omega arith)
-  facts-of (suc n) h f (mathlib.Core.List.Memᴰ.tail i) = elim (mathlib.Core.List.Memᴰ.append_cases (givings n (valuesAll (body_of prog n))) i) [
-    | inl j ↦ givings-of prog n (valuesAll (body_of prog n)) (omega arith) j
+  facts-of (suc n) h f (mathlib.Core.List.Memᴰ.tail i) = elim (mathlib.Core.List.Memᴰ.append_cases (givings n (values_all (body_of prog n))) i) [
+    | inl j ↦ givings-of prog n (values_all (body_of prog n)) (omega arith) j
     | inr j ↦ facts-of n (omega arith) f j
   ]
 
@@ -258,30 +258,30 @@ module _ (prog : List Rule) where
   unfolding facts
   passing-in zero r l = absurd (omega arith)
   passing-in (suc n) r l = elim (last n r l) [
-    | inl x ↦ mathlib.Core.List.Memᴰ.tail (mathlib.Core.List.Memᴰ.append_right (givings n (valuesAll (body_of prog n))) (passing-in n r x))
+    | inl x ↦ mathlib.Core.List.Memᴰ.tail (mathlib.Core.List.Memᴰ.append_right (givings n (values_all (body_of prog n))) (passing-in n r x))
     | inr x ↦ mathlib.Core.List.Memᴰ.head (ap passing x)
   ]
 
-  value-fact : (n r v : ℕ) → r < n → Memᴰ v (valuesAll (body_of prog r)) → Memᴰ (giving r v) (facts prog n)
+  value-fact : (n r v : ℕ) → r < n → Memᴰ v (values_all (body_of prog r)) → Memᴰ (giving r v) (facts prog n)
   unfolding facts
   value-fact zero r v l m = absurd (omega arith)
   value-fact (suc n) r v l m = elim (last n r l) [
-    | inl x ↦ mathlib.Core.List.Memᴰ.tail (mathlib.Core.List.Memᴰ.append_right (givings n (valuesAll (body_of prog n))) (value-fact n r v x m))
-    | inr x ↦ let y : Memᴰ v (valuesAll (body_of prog n)) = rw x at m in
+    | inl x ↦ mathlib.Core.List.Memᴰ.tail (mathlib.Core.List.Memᴰ.append_right (givings n (values_all (body_of prog n))) (value-fact n r v x m))
+    | inr x ↦ let y : Memᴰ v (values_all (body_of prog n)) = rw x at m in
         let z : Memᴰ (giving n v) (facts prog (suc n)) = mathlib.Core.List.Memᴰ.tail (mathlib.Core.List.Memᴰ.append_left (facts prog n) (giving-in n v y)) in
         rw x z
   ]
 
   -- a value among the facts that has the property
   some-of-true : (es : List Fact) (r v : ℕ) (p : ℕ → Bool) → within es (giving r v) ≡ true → p v ≡ true → some_of es r p ≡ true
-  unfolding within some_of tells-of
+  unfolding within some_of tells_of
   some-of-true [] r v p d e = d
   some-of-true (f ∷ es) r v p d e = elim (or (same f (giving r v)) (within es (giving r v)) d) [
-    | inl y ↦ or₁ (tells-of f r p) (some_of es r p) (rw (same_true f (giving r v) y) (tells r v p e))
-    | inr y ↦ or₂ (tells-of f r p) (some_of es r p) (some-of-true es r v p y e)
+    | inl y ↦ or₁ (tells_of f r p) (some_of es r p) (rw (same_true f (giving r v) y) (tells r v p e))
+    | inr y ↦ or₂ (tells_of f r p) (some_of es r p) (some-of-true es r v p y e)
   ]
     where
-      tells : (r v : ℕ) (p : ℕ → Bool) → p v ≡ true → tells-of (giving r v) r p ≡ true
+      tells : (r v : ℕ) (p : ℕ → Bool) → p v ≡ true → tells_of (giving r v) r p ≡ true
       tells r v p e = both (eqb r r) (p v) (eq-eqb r r refl) e
 
   found : List Fact
@@ -299,7 +299,7 @@ module _ (prog : List Rule) where
   unfolding known_of holds
   closed = record {
     of-passed = λ r l d. found-closed (passing r) (passing-in (length prog) r l) d;
-    of_values = λ r v p l d e. some-of-true found r v p (found-closed (giving r v) (value-fact (length prog) r v l (values-in (known_of found) v (body_of prog r) d)) d) e;
+    of_values = λ r v p l d e. some-of-true found r v p (found-closed (giving r v) (value-fact (length prog) r v l (values_in (known_of found) v (body_of prog r) d)) d) e;
   }
 
   pub known-closed : Closed prog (known prog)

@@ -3,7 +3,7 @@ use Rattle.std.specs.Prelude.{Bool, true, false, cond, ◌&&◌, ◌||◌, not, 
 use Rattle.std.proofs.Math.Option.{Option, none, some}
 use Rattle.base.specs.Common.{member}
 use Rattle.base.specs.Tree.{plain, cycle, choice, done, ◌▸◌, nil, alternative, absent, otherwise}
-use Rattle.program.specs.Program.{Plain, match, any, emit, error, exit, call, back, give, update, updateWith, byToken, byRule, byOperation, byOperationWith, Act, Acts, Alts, Other, Rule, body_of}
+use Rattle.program.specs.Program.{Plain, match, any, emit, error, exit, call, back, give, update, update_with, by_token, by_rule, by_operation, by_operation_with, Act, Acts, Alts, Other, Rule, body_of}
 use Rattle.finishing.specs.Finishing.{named, Finishing}
 
 -- where a path is sought to: a way; `return` is a return with any value or none
@@ -11,35 +11,35 @@ pub data Goal : Type 0 where
   end leave return : Goal
   gives calls : ℕ → Goal
 
-unfoldable pub isEnd : Goal → Bool
-isEnd end = true
-isEnd leave = false
-isEnd return = false
-isEnd (gives v) = false
-isEnd (calls r) = false
+unfoldable pub is_end : Goal → Bool
+is_end end = true
+is_end leave = false
+is_end return = false
+is_end (gives v) = false
+is_end (calls r) = false
 
-unfoldable pub isLeave : Goal → Bool
-isLeave end = false
-isLeave leave = true
-isLeave return = false
-isLeave (gives v) = false
-isLeave (calls r) = false
+unfoldable pub is_leave : Goal → Bool
+is_leave end = false
+is_leave leave = true
+is_leave return = false
+is_leave (gives v) = false
+is_leave (calls r) = false
 
 -- a return without a value comes to it
-unfoldable pub isReturn : Goal → Bool
-isReturn end = false
-isReturn leave = false
-isReturn return = true
-isReturn (gives v) = false
-isReturn (calls r) = false
+unfoldable pub is_return : Goal → Bool
+is_return end = false
+is_return leave = false
+is_return return = true
+is_return (gives v) = false
+is_return (calls r) = false
 
 -- a return with the value v comes to it
-unfoldable pub isGive : ℕ → Goal → Bool
-isGive v end = false
-isGive v leave = false
-isGive v return = true
-isGive v (gives u) = eqb v u
-isGive v (calls r) = false
+unfoldable pub is_give : ℕ → Goal → Bool
+is_give v end = false
+is_give v leave = false
+is_give v return = true
+is_give v (gives u) = eqb v u
+is_give v (calls r) = false
 
 unfoldable pub is_call : ℕ → Goal → Bool
 is_call r end = false
@@ -48,57 +48,57 @@ is_call r return = false
 is_call r (gives v) = false
 is_call r (calls s) = eqb r s
 
-unfoldable pub isFar : Goal → Bool
-isFar end = false
-isFar leave = false
-isFar return = true
-isFar (gives v) = true
-isFar (calls r) = true
+unfoldable pub is_far : Goal → Bool
+is_far end = false
+is_far leave = false
+is_far return = true
+is_far (gives v) = true
+is_far (calls r) = true
 
 -- what is known of the rules: which are passed quietly, and whether some value that a rule can return quietly has a property
 pub record Known : Type 0 where
   pub passed : ℕ → Bool
-  pub some-value : ℕ → (ℕ → Bool) → Bool
+  pub some_value : ℕ → (ℕ → Bool) → Bool
 
-unfoldable pub quietPlain : Known → Plain → Goal → Bool
-quietPlain k (match t) g = false
-quietPlain k any g = false
-quietPlain k (emit t) g = isEnd g
-quietPlain k (error t) g = isEnd g
-quietPlain k exit g = isLeave g
-quietPlain k (call r) g = is_call r g || (isEnd g && k.passed r)
-quietPlain k back g = isReturn g
-quietPlain k (give v) g = isGive v g
-quietPlain k (update op) g = isEnd g
-quietPlain k (updateWith op v) g = isEnd g
+unfoldable pub quiet_plain : Known → Plain → Goal → Bool
+quiet_plain k (match t) g = false
+quiet_plain k any g = false
+quiet_plain k (emit t) g = is_end g
+quiet_plain k (error t) g = is_end g
+quiet_plain k exit g = is_leave g
+quiet_plain k (call r) g = is_call r g || (is_end g && k.passed r)
+quiet_plain k back g = is_return g
+quiet_plain k (give v) g = is_give v g
+quiet_plain k (update op) g = is_end g
+quiet_plain k (update_with op v) g = is_end g
 
 -- there is a quiet path to the goal
 unfoldable mutual
   pub quiet : Known → Act → Goal → Bool
-  quiet k (plain p) g = quietPlain k p g
-  quiet k (cycle b) g = (isEnd g && quiets k b leave) || (isFar g && quiets k b g)
-  quiet k (choice byToken q o) g = quietOther k o g
-  quiet k (choice (byRule r) q o) g = is_call r g || (quietNamed k r q g || (k.some-value r (λ v. not (named v q)) && quietOther k o g))
-  quiet k (choice (byOperation op) q o) g = quietSome k q g || quietOther k o g
-  quiet k (choice (byOperationWith op v) q o) g = quietSome k q g || quietOther k o g
+  quiet k (plain p) g = quiet_plain k p g
+  quiet k (cycle b) g = (is_end g && quiets k b leave) || (is_far g && quiets k b g)
+  quiet k (choice by_token q o) g = quiet_other k o g
+  quiet k (choice (by_rule r) q o) g = is_call r g || (quiet_named k r q g || (k.some_value r (λ v. not (named v q)) && quiet_other k o g))
+  quiet k (choice (by_operation op) q o) g = quiet_some k q g || quiet_other k o g
+  quiet k (choice (by_operation_with op v) q o) g = quiet_some k q g || quiet_other k o g
 
   pub quiets : Known → Acts → Goal → Bool
-  quiets k done g = isEnd g
-  quiets k (a ▸ q) g = (not (isEnd g) && quiet k a g) || (quiet k a end && quiets k q g)
+  quiets k done g = is_end g
+  quiets k (a ▸ q) g = (not (is_end g) && quiet k a g) || (quiet k a end && quiets k q g)
 
   -- through any labelled alternative
-  pub quietSome : Known → Alts → Goal → Bool
-  quietSome k nil g = false
-  quietSome k (alternative ls b q) g = quiets k b g || quietSome k q g
+  pub quiet_some : Known → Alts → Goal → Bool
+  quiet_some k nil g = false
+  quiet_some k (alternative ls b q) g = quiets k b g || quiet_some k q g
 
   -- through one that a value of rule r matches
-  pub quietNamed : Known → ℕ → Alts → Goal → Bool
-  quietNamed k r nil g = false
-  quietNamed k r (alternative ls b q) g = (k.some-value r (λ v. member v ls) && quiets k b g) || quietNamed k r q g
+  pub quiet_named : Known → ℕ → Alts → Goal → Bool
+  quiet_named k r nil g = false
+  quiet_named k r (alternative ls b q) g = (k.some_value r (λ v. member v ls) && quiets k b g) || quiet_named k r q g
 
-  pub quietOther : Known → Other → Goal → Bool
-  quietOther k absent g = false
-  quietOther k (otherwise b) g = quiets k b g
+  pub quiet_other : Known → Other → Goal → Bool
+  quiet_other k absent g = false
+  quiet_other k (otherwise b) g = quiets k b g
 
 -- a rule's actions have a quiet path to a return
 unfoldable pub passes : Known → Acts → Bool
@@ -109,19 +109,19 @@ unfoldable mutual
   pub loop : Known → Act → Bool
   loop k (plain p) = false
   loop k (cycle b) = quiets k b end || loops k b
-  loop k (choice s q o) = loopsSome k q || loopsOther k o
+  loop k (choice s q o) = loops_some k q || loops_other k o
 
   pub loops : Known → Acts → Bool
   loops k done = false
   loops k (a ▸ q) = loop k a || loops k q
 
-  pub loopsSome : Known → Alts → Bool
-  loopsSome k nil = false
-  loopsSome k (alternative ls b q) = loops k b || loopsSome k q
+  pub loops_some : Known → Alts → Bool
+  loops_some k nil = false
+  loops_some k (alternative ls b q) = loops k b || loops_some k q
 
-  pub loopsOther : Known → Other → Bool
-  loopsOther k absent = false
-  loopsOther k (otherwise b) = loops k b
+  pub loops_other : Known → Other → Bool
+  loops_other k absent = false
+  loops_other k (otherwise b) = loops k b
 
 -- What is known: the least, grown by one fact at a time
 
@@ -142,16 +142,16 @@ within [] f = false
 within (e ∷ es) f = same e f || within es f
 
 -- the fact is that rule r returns a value with the property
-unfoldable pub tells-of : Fact → ℕ → (ℕ → Bool) → Bool
-tells-of (passing s) r p = false
-tells-of (giving s v) r p = eqb s r && p v
+unfoldable pub tells_of : Fact → ℕ → (ℕ → Bool) → Bool
+tells_of (passing s) r p = false
+tells_of (giving s v) r p = eqb s r && p v
 
 unfoldable pub some_of : List Fact → ℕ → (ℕ → Bool) → Bool
 some_of [] r p = false
-some_of (e ∷ es) r p = tells-of e r p || some_of es r p
+some_of (e ∷ es) r p = tells_of e r p || some_of es r p
 
 unfoldable pub known_of : List Fact → Known
-known_of es = record { passed = λ r. within es (passing r); some-value = λ r p. some_of es r p }
+known_of es = record { passed = λ r. within es (passing r); some_value = λ r p. some_of es r p }
 
 -- what is known makes it a fact
 unfoldable pub holds : List Rule → Known → Fact → Bool
@@ -173,35 +173,35 @@ grow prog fs zero es = es
 grow prog fs (suc i) es = onward (find (λ f. not (within es f) && holds prog (known_of es) f) fs) (λ f. grow prog fs i (f ∷ es)) es
 
 -- the values that stand after a `>>`
-unfoldable pub valuesPlain : Plain → List ℕ
-valuesPlain (match t) = []
-valuesPlain any = []
-valuesPlain (emit t) = []
-valuesPlain (error t) = []
-valuesPlain exit = []
-valuesPlain (call r) = []
-valuesPlain back = []
-valuesPlain (give v) = v ∷ []
-valuesPlain (update op) = []
-valuesPlain (updateWith op v) = []
+unfoldable pub values_plain : Plain → List ℕ
+values_plain (match t) = []
+values_plain any = []
+values_plain (emit t) = []
+values_plain (error t) = []
+values_plain exit = []
+values_plain (call r) = []
+values_plain back = []
+values_plain (give v) = v ∷ []
+values_plain (update op) = []
+values_plain (update_with op v) = []
 
 unfoldable mutual
   pub values : Act → List ℕ
-  values (plain p) = valuesPlain p
-  values (cycle b) = valuesAll b
-  values (choice s q o) = valuesSome q ++ valuesOther o
+  values (plain p) = values_plain p
+  values (cycle b) = values_all b
+  values (choice s q o) = values_some q ++ values_other o
 
-  pub valuesAll : Acts → List ℕ
-  valuesAll done = []
-  valuesAll (a ▸ q) = values a ++ valuesAll q
+  pub values_all : Acts → List ℕ
+  values_all done = []
+  values_all (a ▸ q) = values a ++ values_all q
 
-  pub valuesSome : Alts → List ℕ
-  valuesSome nil = []
-  valuesSome (alternative ls b q) = valuesAll b ++ valuesSome q
+  pub values_some : Alts → List ℕ
+  values_some nil = []
+  values_some (alternative ls b q) = values_all b ++ values_some q
 
-  pub valuesOther : Other → List ℕ
-  valuesOther absent = []
-  valuesOther (otherwise b) = valuesAll b
+  pub values_other : Other → List ℕ
+  values_other absent = []
+  values_other (otherwise b) = values_all b
 
 unfoldable pub givings : ℕ → List ℕ → List Fact
 givings r [] = []
@@ -210,7 +210,7 @@ givings r (v ∷ vs) = giving r v ∷ givings r vs
 -- what can be a fact of the first n rules
 unfoldable pub facts : List Rule → ℕ → List Fact
 facts prog zero = []
-facts prog (suc n) = passing n ∷ (givings n (valuesAll (body_of prog n)) ++ facts prog n)
+facts prog (suc n) = passing n ∷ (givings n (values_all (body_of prog n)) ++ facts prog n)
 
 unfoldable pub known : List Rule → Known
 known prog = let fs = facts prog (length prog) in known_of (grow prog fs (length fs) [])
@@ -260,5 +260,5 @@ pub record Exact (prog : List Rule) : Type 0 where
 
 -- all of this file computes where this is unfolded
 unfoldable pub opened : Unit {0}
-unfolding named isEnd isLeave isReturn isGive is_call isFar quietPlain quiet passes loop same within tells-of some_of known_of holds find grow valuesPlain values givings facts known reach build look matrix closure some_below arrow finishing
+unfolding named is_end is_leave is_return is_give is_call is_far quiet_plain quiet passes loop same within tells_of some_of known_of holds find grow values_plain values givings facts known reach build look matrix closure some_below arrow finishing
 opened = tt

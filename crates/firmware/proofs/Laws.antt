@@ -13,10 +13,10 @@ use borrow.Author.Tests.{eqb-true, eq-eqb}
 use Rattle.base.specs.Bools.{never, split}
 use Rattle.base.specs.Common.{same}
 use Rattle.base.proofs.Laws.{zeros-at, same_next, same_not}
-use Rattle.machine.proofs.Bytes.{length-bytesOf, bytesOf-append}
+use Rattle.machine.proofs.Bytes.{length-bytes_of, bytes_of-append}
 use Rattle.machine.specs.Bytes.{bytes_of}
-use Rattle.machine.specs.Form.{words64, returnWords}
-use Rattle.buffers.specs.Words.{putWord, put64}
+use Rattle.machine.specs.Form.{words64, return_words}
+use Rattle.buffers.specs.Words.{put_word, put64}
 use Rattle.firmware.specs.Writes.{puts}
 
 -- Writing
@@ -30,17 +30,17 @@ sets_then l i (x ∷ a) b =
 pub puts_then : (s : List ℕ) (i : ℕ) (a b : List ℕ) (j : ℕ) → j ≡ i + length a → puts (puts s i a) j b ≡ puts s i (a ++ b)
 unfolding puts
 puts_then s i a b j e =
-    let n = length-bytesOf a in
+    let n = length-bytes_of a in
     let d : 2 * j ≡ 2 * i + length (bytes_of a) = omega arith in
-    rw (d, sets_then s (2 * i) (bytes_of a) (bytes_of b), bytesOf-append a b)
+    rw (d, sets_then s (2 * i) (bytes_of a) (bytes_of b), bytes_of-append a b)
 
 pub length-puts : (s : List ℕ) (i : ℕ) (ws : List ℕ) → length (puts s i ws) ≡ length s
 unfolding puts
 length-puts s i ws = length-sets s (2 * i) (bytes_of ws)
 
 -- one word
-pub puts_one : (s : List ℕ) (i x : ℕ) → putWord s i x ≡ puts s i (x ∷ [])
-unfolding putWord puts bytes_of
+pub puts_one : (s : List ℕ) (i x : ℕ) → put_word s i x ≡ puts s i (x ∷ [])
+unfolding put_word puts bytes_of
 puts_one s i x = rw add-one
 
 -- the four words of a number
@@ -59,7 +59,7 @@ puts-64 s i n =
 pub puts-all : (s ws : List ℕ) → length s ≡ 2 * length ws → puts s 0 ws ≡ bytes_of ws
 unfolding puts
 puts-all s ws e =
-    let n = length-bytesOf ws in
+    let n = length-bytes_of ws in
     let h : length s ≤ 0 + length (bytes_of ws) = omega arith in
     let d : drop (0 + length (bytes_of ws)) s ≡ [] = drop_of_length-le s h in
     sets-eq (bytes_of ws) s 0 (omega arith) ∙ rw (d, append-nil)
@@ -67,19 +67,19 @@ puts-all s ws e =
 -- The words of the return locations
 
 -- those that are held, the oldest first, and then 0
-return-words : (d : ℕ) (rs : List ℕ) → returnWords (reverse (take d rs)) ≡ take d rs ++ replicate (64 - length (take d rs)) 0
-unfolding returnWords
+return-words : (d : ℕ) (rs : List ℕ) → return_words (reverse (take d rs)) ≡ take d rs ++ replicate (64 - length (take d rs)) 0
+unfolding return_words
 return-words d rs = rw (reverse-reverse, length-reverse)
 
-pub length-return-words : (d : ℕ) (rs : List ℕ) → length rs ≡ 64 → length (returnWords (reverse (take d rs))) ≡ 64
+pub length-return-words : (d : ℕ) (rs : List ℕ) → length rs ≡ 64 → length (return_words (reverse (take d rs))) ≡ 64
 length-return-words d rs e = rw return-words (simp (length-append, length-replicate, length-take) (omega arith))
 
-pub return_held : (d : ℕ) (rs : List ℕ) (i : ℕ) → i < d → i < length rs → get_or (returnWords (reverse (take d rs))) i 0 ≡ get_or rs i 0
+pub return_held : (d : ℕ) (rs : List ℕ) (i : ℕ) → i < d → i < length rs → get_or (return_words (reverse (take d rs))) i 0 ≡ get_or rs i 0
 return_held d rs i h l =
     let n : i < length (take d rs) = simp length-take (omega arith) in
     rw return-words (get_or-append (take d rs) (replicate (64 - length (take d rs)) 0) 0 i n ∙ get_or-take d rs i 0 h)
 
-pub return-free : (d : ℕ) (rs : List ℕ) (i : ℕ) → d ≤ i → get_or (returnWords (reverse (take d rs))) i 0 ≡ 0
+pub return-free : (d : ℕ) (rs : List ℕ) (i : ℕ) → d ≤ i → get_or (return_words (reverse (take d rs))) i 0 ≡ 0
 return-free d rs i h =
     let n : length (take d rs) ≤ i = simp length-take (omega arith) in
     let e : i ≡ length (take d rs) + (i - length (take d rs)) = omega arith in

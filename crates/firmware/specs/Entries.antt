@@ -1,54 +1,53 @@
 -- What the entries for C answer of a walk's parts (include/sst.h): none stands for bytes that are no walk.
-use Rattle.std.specs.Prelude.{List, ℕ, eqb, length}
+use Rattle.std.specs.Prelude.{List, ℕ, eqb, length, if◌then◌else◌}
 use Rattle.std.proofs.Math.Option.{Option, none, some}
-use Rattle.base.specs.Common.{if◌then◌else◌}
-use Rattle.events.specs.Events.{reasonNumber}
+use Rattle.events.specs.Events.{reason_number}
 use Rattle.machine.specs.Walk.{Phase, going, waiting, stopped, Walk, fresh}
 use Rattle.machine.specs.Call.{Mode, paused}
-use Rattle.machine.specs.Form.{walkBytes, Outcome}
+use Rattle.machine.specs.Form.{walk_bytes, Outcome}
 
 -- "0 going on, 1 waiting, 2 stopped"
-unfoldable pub phaseIn : Phase → ℕ
-phaseIn going = 0
-phaseIn waiting = 1
-phaseIn (stopped r) = 2
+unfoldable pub phase_in : Phase → ℕ
+phase_in going = 0
+phase_in waiting = 1
+phase_in (stopped r) = 2
 
 -- "The number that a stopped walk answers; 65535 for a walk that has not stopped"
-unfoldable pub reasonIn : Phase → ℕ
-reasonIn going = 65535
-reasonIn waiting = 65535
-reasonIn (stopped r) = reasonNumber r
+unfoldable pub reason_in : Phase → ℕ
+reason_in going = 65535
+reason_in waiting = 65535
+reason_in (stopped r) = reason_number r
 
-unfoldable pub phaseNumber : Option Walk → ℕ
-phaseNumber none = 3
-phaseNumber (some w) = phaseIn w.phase
+unfoldable pub phase_number : Option Walk → ℕ
+phase_number none = 3
+phase_number (some w) = phase_in w.phase
 
-unfoldable pub reasonOrNone : Option Walk → ℕ
-reasonOrNone none = 65535
-reasonOrNone (some w) = reasonIn w.phase
+unfoldable pub reason_or_none : Option Walk → ℕ
+reason_or_none none = 65535
+reason_or_none (some w) = reason_in w.phase
 
-unfoldable pub locationOr0 : Option Walk → ℕ
-locationOr0 none = 0
-locationOr0 (some w) = w.location
+unfoldable pub location_or0 : Option Walk → ℕ
+location_or0 none = 0
+location_or0 (some w) = w.location
 
-unfoldable pub readOr0 : Option Walk → ℕ
-readOr0 none = 0
-readOr0 (some w) = w.io.read
+unfoldable pub read_or0 : Option Walk → ℕ
+read_or0 none = 0
+read_or0 (some w) = w.io.read
 
-unfoldable pub usedOr0 : Option Walk → ℕ
-usedOr0 none = 0
-usedOr0 (some w) = w.io.used
+unfoldable pub used_or0 : Option Walk → ℕ
+used_or0 none = 0
+used_or0 (some w) = w.io.used
 
-unfoldable pub allowanceOr0 : Option Walk → ℕ
-allowanceOr0 none = 0
-allowanceOr0 (some w) = w.io.allowance
+unfoldable pub allowance_or0 : Option Walk → ℕ
+allowance_or0 none = 0
+allowance_or0 (some w) = w.io.allowance
 
 -- "Answers 0; 21 where the length is another, and then nothing is written."
-unfoldable pub freshNumber : List ℕ → ℕ
-freshNumber s = if eqb (length s) 158 then 0 else 21
+unfoldable pub fresh_number : List ℕ → ℕ
+fresh_number s = if eqb (length s) 158 then 0 else 21
 
-unfoldable pub freshIn : ℕ → List ℕ → List ℕ
-freshIn allowance s = if eqb (length s) 158 then walkBytes (fresh allowance) else s
+unfoldable pub fresh_in : ℕ → List ℕ → List ℕ
+fresh_in allowance s = if eqb (length s) 158 then walk_bytes (fresh allowance) else s
 
 -- "`given` 1 and the answer; `given` 0 otherwise (any other value counts as 1)"
 unfoldable pub handing : ℕ → ℕ → Mode

@@ -13,12 +13,12 @@ unfoldable pub puts : List ℕ → ℕ → List ℕ → List ℕ
 puts s i ws = sets s (2 * i) (bytes_of ws)
 
 -- words 2 to 14 of a walk
-unfoldable pub registerWords : Registers → List ℕ
-registerWords r = r.location ∷ r.result % 65536 ∷ r.parameter % 65536 ∷ min r.depth 64 ∷ r.allowance % 65536 ∷ (form.words64 r.read ++ form.words64 r.used)
+unfoldable pub register_words : Registers → List ℕ
+register_words r = r.location ∷ r.result % 65536 ∷ r.parameter % 65536 ∷ min r.depth 64 ∷ r.allowance % 65536 ∷ (form.words64 r.read ++ form.words64 r.used)
 
 -- the registers that a walk's words name
-unfoldable pub registersIn : List ℕ → Registers
-registersIn ws = record {
+unfoldable pub registers_in : List ℕ → Registers
+registers_in ws = record {
   location = get_or ws 2 0;
   depth = get_or ws 5 0;
   result = get_or ws 3 0;

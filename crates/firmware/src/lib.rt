@@ -1,22 +1,22 @@
 // The C entries (include/sst.h): numbers and byte slices, the walk as its 158 bytes (docs/LAYOUT.md).
 ghost use Rattle.std.specs.Prelude.{[], ◌∷◌, reverse, false, ◌≡◌, ◌+◌, ◌*◌, ◌<◌, ◌≤◌, min, length, take, drop, get_or};
-ghost use Rattle.base.specs.Common.{same as sameBytes};
+ghost use Rattle.base.specs.Common.{same as same_bytes};
 ghost use Rattle.machine.specs.Bytes.{words_of, table_of, count};
 ghost use Rattle.machine.specs.Walk.{fresh};
 ghost use Rattle.machine.specs.Call.{whole};
 ghost use Rattle.machine.specs.Form as form;
 ghost use Rattle.loading.specs.File as files;
 ghost use Rattle.rights.specs.Rights as rights;
-ghost use Rattle.processor.specs.Process.{process, lentBytes};
+ghost use Rattle.processor.specs.Process.{process, lent_bytes};
 ghost use Rattle.filtering.specs.Filter as filtering;
-ghost use Rattle.screen.specs.Screen.{isBook, screenNumber, freshBook, freshBytes, refillNumber, refillBytes, turnBytes};
+ghost use Rattle.screen.specs.Screen.{is_book, screen_number, fresh_book, fresh_bytes, refill_number, refill_bytes, turn_bytes};
 ghost use Rattle.firmware.specs.Filing.{hands};
 ghost use Rattle.firmware.specs.Turning.{leaves};
-ghost use Rattle.figure.specs.Told.{figureOf};
-ghost use Rattle.firmware.specs.Processing.{flagOf, numbersOf, tells};
+ghost use Rattle.figure.specs.Told.{figure_of};
+ghost use Rattle.firmware.specs.Processing.{flag_of, numbers_of, tells};
 ghost use Rattle.walker.specs.View as view;
-ghost use Rattle.firmware.specs.Writes.{puts, registerWords, registersIn, Holds};
-ghost use Rattle.firmware.specs.Entries.{phaseIn, reasonIn, phaseNumber, reasonOrNone, locationOr0, readOr0, usedOr0, allowanceOr0, freshNumber, freshIn, handing, gives};
+ghost use Rattle.firmware.specs.Writes.{puts, register_words, registers_in, Holds};
+ghost use Rattle.firmware.specs.Entries.{phase_in, reason_in, phase_number, reason_or_none, location_or0, read_or0, used_or0, allowance_or0, fresh_number, fresh_in, handing, gives};
 
 use base::{PENDING, low_word};
 use buffers::{put_64, put_word, read_64, wide_word};
@@ -97,7 +97,7 @@ fn put_four(out: &mut [u8], i: usize, a: u16, b: u16, d: u16, e: u16)
 // Words 0 and 1 of a walk.
 fn put_phase(out: &mut [u8], p: Phase)
     requires { 4 ≤ length out.old }
-    ensures { out.new ≡ puts out.old 0 (form.phaseWords (view.phaseOf p)) }
+    ensures { out.new ≡ puts out.old 0 (form.phase_words (view.phase_of p)) }
 {
     match p {
         Phase::Going => put_two(out, PHASE_WORD, GOING, 0),
@@ -120,7 +120,7 @@ fn held_of(depth: usize) -> u16
 // Words 2 to 14.
 fn put_registers(out: &mut [u8], r: Registers)
     requires { (30 ≤ length out.old) × (r.location < 65536) }
-    ensures { out.new ≡ puts out.old 2 (registerWords r) }
+    ensures { out.new ≡ puts out.old 2 (register_words r) }
 {
     put_four(
         out,
@@ -138,7 +138,7 @@ fn put_registers(out: &mut [u8], r: Registers)
 // Words 15 to 78.
 fn put_returns(out: &mut [u8], returns: &[u16], depth: usize)
     requires { (158 ≤ length out.old) × (length returns.now ≡ 64) }
-    ensures { out.new ≡ puts out.old 15 (form.returnWords (reverse (take depth returns.now))) }
+    ensures { out.new ≡ puts out.old 15 (form.return_words (reverse (take depth returns.now))) }
 {
     let held = held_of(depth) as usize;
     let mut i = 0;
@@ -155,7 +155,7 @@ fn put_returns(out: &mut [u8], returns: &[u16], depth: usize)
 // The form of a walk: 79 words.
 pub fn put_walk(out: &mut [u8], w: Walk)
     requires { (length out.old ≡ 158) × (w.at.location < 65536) }
-    ensures { out.new ≡ form.walkBytes (view.walk_of w) }
+    ensures { out.new ≡ form.walk_bytes (view.walk_of w) }
 {
     let phase = w.phase;
     let at = w.at;
@@ -168,7 +168,7 @@ pub fn put_walk(out: &mut [u8], w: Walk)
 // Reading words
 
 fn reason_of(n: u16) -> Reason
-    ensures { view.reasonOf result ≡ form.reasonOf n }
+    ensures { view.reason_of result ≡ form.reason_of n }
 {
     match n {
         base::DIFFERS => Reason::Differs,
@@ -182,7 +182,7 @@ fn reason_of(n: u16) -> Reason
 }
 
 fn phase_of(p: u16, n: u16) -> Phase
-    ensures { view.phaseOf result ≡ form.phaseOf p n }
+    ensures { view.phase_of result ≡ form.phase_of p n }
 {
     match p {
         GOING => Phase::Going,
@@ -193,7 +193,7 @@ fn phase_of(p: u16, n: u16) -> Phase
 
 // The registers by words 2 to 14.
 fn registers_of(s: &[u8]) -> Registers
-    ensures { (result ≡ registersIn (words_of s.now)) × (result.location < 65536) }
+    ensures { (result ≡ registers_in (words_of s.now)) × (result.location < 65536) }
 {
     Registers {
         location: wide_word(s, LOCATION_WORD) as usize,
@@ -223,7 +223,7 @@ fn returns_of(s: &[u8]) -> [u16; PENDING]
 // What the words name, if they are a walk's.
 fn named(s: &[u8]) -> Walk
     requires { length s.now ≡ 158 }
-    ensures { (view.walk_of result ≡ form.walkNamed (words_of s.now)) × (result.at.location < 65536) }
+    ensures { (view.walk_of result ≡ form.walk_named (words_of s.now)) × (result.at.location < 65536) }
 {
     let phase = phase_of(machine::word(s, PHASE_WORD), machine::word(s, REASON_WORD));
     let at = registers_of(s);
@@ -242,7 +242,7 @@ fn agrees(all: bool, x: u8, y: u8) -> bool
 // Whether a and b have the same bytes.
 fn same(a: &[u8], b: &[u8]) -> bool
     requires { length a.now ≡ length b.now }
-    ensures { result ≡ sameBytes a.now b.now }
+    ensures { result ≡ same_bytes a.now b.now }
 {
     let mut all = true;
     let mut i = 0;
@@ -285,7 +285,7 @@ pub fn read_walk(s: &[u8]) -> Held
 // A fresh walk with a repair allowance, in a buffer of the right length.
 #[unsafe(no_mangle)]
 pub extern "C" fn sst_fresh(walk: &mut [u8], allowance: u16) -> u16
-    ensures { (result ≡ freshNumber walk.old) × (walk.new ≡ freshIn allowance walk.old) }
+    ensures { (result ≡ fresh_number walk.old) × (walk.new ≡ fresh_in allowance walk.old) }
 {
     if walk.len() == WALK_BYTES {
         put_walk(walk, fresh_walk(allowance));
@@ -307,7 +307,7 @@ fn refuse(written: &mut u64, steps: &mut u64) -> u16
 // A call is done: the walk is written.
 fn give(r: Called, walk: &mut [u8], written: &mut u64, steps: &mut u64) -> u16
     requires { (length walk.old ≡ 158) × (r.walk.at.location < 65536) }
-    ensures { (result ≡ r.number) × (walk.new ≡ form.walkBytes (view.walk_of r.walk)) × (written.new ≡ r.events) × (steps.new ≡ r.steps) }
+    ensures { (result ≡ r.number) × (walk.new ≡ form.walk_bytes (view.walk_of r.walk)) × (written.new ≡ r.events) × (steps.new ≡ r.steps) }
 {
     *written = r.events;
     *steps = r.steps;
@@ -328,7 +328,7 @@ pub extern "C" fn sst_whole(
     written: &mut u64,
     steps: &mut u64,
 ) -> u16
-    ensures { gives result walk.new events.new written.new steps.new ≡ form.callBytes table.now tokens.now (whole (words_of answers.now)) budget walk.old events.old }
+    ensures { gives result walk.new events.new written.new steps.new ≡ form.call_bytes table.now tokens.now (whole (words_of answers.now)) budget walk.old events.old }
 {
     let h = read_walk(walk);
     if h.ok {
@@ -353,7 +353,7 @@ pub extern "C" fn sst_paused(
     written: &mut u64,
     steps: &mut u64,
 ) -> u16
-    ensures { gives result walk.new events.new written.new steps.new ≡ form.callBytes table.now tokens.now (handing given answer) budget walk.old events.old }
+    ensures { gives result walk.new events.new written.new steps.new ≡ form.call_bytes table.now tokens.now (handing given answer) budget walk.old events.old }
 {
     let h = read_walk(walk);
     if h.ok {
@@ -370,7 +370,7 @@ pub extern "C" fn sst_paused(
 
 // Whether the screen has its length and this book.
 fn is_book(book: u16, screen: &[u8]) -> bool
-    ensures { result ≡ isBook book screen.now }
+    ensures { result ≡ is_book book screen.now }
 {
     if book < BOOKS {
         screen.len() == SCREEN_BYTES
@@ -382,7 +382,7 @@ fn is_book(book: u16, screen: &[u8]) -> bool
 // A fresh walk with its repair allowance, and no steps left.
 fn fresh_book(seat: &mut [u8], allowance: u16)
     requires { length seat.old ≡ 166 }
-    ensures { seat.new ≡ freshBook allowance }
+    ensures { seat.new ≡ fresh_book allowance }
 {
     put_walk(&mut seat[..WALK_BYTES], fresh_walk(allowance));
     put_64(seat, LEFT_WORD, 0);
@@ -391,7 +391,7 @@ fn fresh_book(seat: &mut [u8], allowance: u16)
 // Both books begin.
 #[unsafe(no_mangle)]
 pub extern "C" fn sst_screen_fresh(screen: &mut [u8], allowance_0: u16, allowance_1: u16) -> u16
-    ensures { (result ≡ screenNumber screen.old) × (screen.new ≡ freshBytes allowance_0 allowance_1 screen.old) }
+    ensures { (result ≡ screen_number screen.old) × (screen.new ≡ fresh_bytes allowance_0 allowance_1 screen.old) }
 {
     if screen.len() != SCREEN_BYTES {
         return base::REFUSED;
@@ -411,7 +411,7 @@ fn left_word(book: u16) -> usize
 // The steps left to a book are set anew.
 #[unsafe(no_mangle)]
 pub extern "C" fn sst_refill(screen: &mut [u8], book: u16, left: u64) -> u16
-    ensures { (result ≡ refillNumber book screen.old) × (screen.new ≡ refillBytes book left screen.old) }
+    ensures { (result ≡ refill_number book screen.old) × (screen.new ≡ refill_bytes book left screen.old) }
 {
     if !is_book(book, screen) {
         return base::REFUSED;
@@ -432,7 +432,7 @@ pub extern "C" fn sst_turn_whole(
     written: &mut u64,
     steps: &mut u64,
 ) -> u16
-    ensures { leaves result screen.new events.new written.new steps.new ≡ turnBytes table.now tokens.now (whole (words_of answers.now)) book screen.old events.old }
+    ensures { leaves result screen.new events.new written.new steps.new ≡ turn_bytes table.now tokens.now (whole (words_of answers.now)) book screen.old events.old }
 {
     if !is_book(book, screen) {
         return refuse(written, steps);
@@ -469,7 +469,7 @@ pub extern "C" fn sst_turn_paused(
     written: &mut u64,
     steps: &mut u64,
 ) -> u16
-    ensures { leaves result screen.new events.new written.new steps.new ≡ turnBytes table.now tokens.now (handing given answer) book screen.old events.old }
+    ensures { leaves result screen.new events.new written.new steps.new ≡ turn_bytes table.now tokens.now (handing given answer) book screen.old events.old }
 {
     if !is_book(book, screen) {
         return refuse(written, steps);
@@ -498,7 +498,7 @@ pub extern "C" fn sst_turn_paused(
 
 // 0 going on, 1 waiting, 2 stopped.
 fn phase_number(p: Phase) -> u16
-    ensures { result ≡ phaseIn (view.phaseOf p) }
+    ensures { result ≡ phase_in (view.phase_of p) }
 {
     match p {
         Phase::Going => GOING,
@@ -509,7 +509,7 @@ fn phase_number(p: Phase) -> u16
 
 // The number of a stopped walk, 65535 of another.
 fn reason_or_none(p: Phase) -> u16
-    ensures { result ≡ reasonIn (view.phaseOf p) }
+    ensures { result ≡ reason_in (view.phase_of p) }
 {
     match p {
         Phase::Going => NO_REASON,
@@ -520,7 +520,7 @@ fn reason_or_none(p: Phase) -> u16
 
 #[unsafe(no_mangle)]
 pub extern "C" fn sst_phase(walk: &[u8]) -> u16
-    ensures { result ≡ phaseNumber (form.walk_of walk.now) }
+    ensures { result ≡ phase_number (form.walk_of walk.now) }
 {
     let h = read_walk(walk);
     if h.ok {
@@ -534,7 +534,7 @@ pub extern "C" fn sst_phase(walk: &[u8]) -> u16
 
 #[unsafe(no_mangle)]
 pub extern "C" fn sst_reason(walk: &[u8]) -> u16
-    ensures { result ≡ reasonOrNone (form.walk_of walk.now) }
+    ensures { result ≡ reason_or_none (form.walk_of walk.now) }
 {
     let h = read_walk(walk);
     if h.ok {
@@ -548,7 +548,7 @@ pub extern "C" fn sst_reason(walk: &[u8]) -> u16
 
 #[unsafe(no_mangle)]
 pub extern "C" fn sst_location(walk: &[u8]) -> u16
-    ensures { result ≡ locationOr0 (form.walk_of walk.now) }
+    ensures { result ≡ location_or0 (form.walk_of walk.now) }
 {
     let h = read_walk(walk);
     if h.ok {
@@ -562,7 +562,7 @@ pub extern "C" fn sst_location(walk: &[u8]) -> u16
 
 #[unsafe(no_mangle)]
 pub extern "C" fn sst_read(walk: &[u8]) -> u64
-    ensures { result ≡ readOr0 (form.walk_of walk.now) }
+    ensures { result ≡ read_or0 (form.walk_of walk.now) }
 {
     let h = read_walk(walk);
     if h.ok {
@@ -576,7 +576,7 @@ pub extern "C" fn sst_read(walk: &[u8]) -> u64
 
 #[unsafe(no_mangle)]
 pub extern "C" fn sst_used(walk: &[u8]) -> u64
-    ensures { result ≡ usedOr0 (form.walk_of walk.now) }
+    ensures { result ≡ used_or0 (form.walk_of walk.now) }
 {
     let h = read_walk(walk);
     if h.ok {
@@ -590,7 +590,7 @@ pub extern "C" fn sst_used(walk: &[u8]) -> u64
 
 #[unsafe(no_mangle)]
 pub extern "C" fn sst_allowance(walk: &[u8]) -> u16
-    ensures { result ≡ allowanceOr0 (form.walk_of walk.now) }
+    ensures { result ≡ allowance_or0 (form.walk_of walk.now) }
 {
     let h = read_walk(walk);
     if h.ok {
@@ -603,7 +603,7 @@ pub extern "C" fn sst_allowance(walk: &[u8]) -> u16
 }
 
 fn flag(b: bool) -> u64
-    ensures { result ≡ flagOf b }
+    ensures { result ≡ flag_of b }
 {
     if b { 1 } else { 0 }
 }
@@ -620,8 +620,8 @@ pub extern "C" fn sst_process(
     figure: &mut u64,
     check: &mut u64,
 ) -> u16
-    ensures check_after { tells result start.new len.new words.new finishing.new figure.new check.new ≡ numbersOf (process text.now (count table.old)) (figureOf text.now (count table.old)) }
-    ensures lent { table.new ≡ lentBytes (process text.now (count table.old)) table.old }
+    ensures check_after { tells result start.new len.new words.new finishing.new figure.new check.new ≡ numbers_of (process text.now (count table.old)) (figure_of text.now (count table.old)) }
+    ensures lent { table.new ≡ lent_bytes (process text.now (count table.old)) table.old }
 {
     let a = translator::process(text, table);
     *start = a.start as u64;
@@ -638,8 +638,8 @@ pub extern "C" fn sst_process(
 // A file's table is put into the lent one, if the loader takes it.
 #[unsafe(no_mangle)]
 pub extern "C" fn sst_load(file: &[u8], table: &mut [u8], words: &mut u64, verdict: &mut u64) -> u16
-    ensures verdict_after { hands result words.new verdict.new ≡ files.numbersOf (files.load file.now (count table.old)) }
-    ensures lent { table.new ≡ files.lentBytes (files.load file.now (count table.old)) table.old }
+    ensures verdict_after { hands result words.new verdict.new ≡ files.numbers_of (files.load file.now (count table.old)) }
+    ensures lent { table.new ≡ files.lent_bytes (files.load file.now (count table.old)) table.old }
 {
     let a = loader::load(file, table);
     *words = a.words as u64;
@@ -655,9 +655,9 @@ pub extern "C" fn sst_write_file(
     file: &mut [u8],
     words: &mut u64,
 ) -> u16
-    ensures value { result ≡ (files.numbersOf (files.store (words_of table.now) verdict (count file.old))).number }
-    ensures words { words.new ≡ (files.numbersOf (files.store (words_of table.now) verdict (count file.old))).words }
-    ensures lent { file.new ≡ files.lentBytes (files.store (words_of table.now) verdict (count file.old)) file.old }
+    ensures value { result ≡ (files.numbers_of (files.store (words_of table.now) verdict (count file.old))).number }
+    ensures words { words.new ≡ (files.numbers_of (files.store (words_of table.now) verdict (count file.old))).words }
+    ensures lent { file.new ≡ files.lent_bytes (files.store (words_of table.now) verdict (count file.old)) file.old }
 {
     let a = writer::write_file(table, verdict, file);
     *words = a.words as u64;
@@ -684,8 +684,8 @@ pub extern "C" fn sst_load_admitted(
     verdict: &mut u64,
     location: &mut u64,
 ) -> u16
-    ensures location_after { rights.tells result words.new verdict.new location.new ≡ rights.admitLoaded set.now (files.load file.now (count table.old)) }
-    ensures lent { table.new ≡ files.lentBytes (files.load file.now (count table.old)) table.old }
+    ensures location_after { rights.tells result words.new verdict.new location.new ≡ rights.admit_loaded set.now (files.load file.now (count table.old)) }
+    ensures lent { table.new ≡ files.lent_bytes (files.load file.now (count table.old)) table.old }
 {
     let a = admission::load_admitted(file, set, table);
     *words = a.words as u64;
@@ -703,8 +703,8 @@ pub extern "C" fn sst_filter(
     at: &mut u64,
     written: &mut u64,
 ) -> u16
-    ensures written_after { filtering.tells result at.new written.new ≡ filtering.numbersOf (filtering.filter filter.now text.now (count tokens.old)) }
-    ensures lent { tokens.new ≡ filtering.bufferAfter (filtering.filter filter.now text.now (count tokens.old)) tokens.old }
+    ensures written_after { filtering.tells result at.new written.new ≡ filtering.numbers_of (filtering.filter filter.now text.now (count tokens.old)) }
+    ensures lent { tokens.new ≡ filtering.buffer_after (filtering.filter filter.now text.now (count tokens.old)) tokens.old }
 {
     let r = filter::fold(filter, text, tokens);
     *at = r.at as u64;

@@ -7,7 +7,7 @@ use native.Mathlib.Omega.{arith}
 use Rattle.acceptance.proofs.Shape.{Each}
 use Rattle.acceptance.proofs.Used.{UseOk}
 use Rattle.declarations.specs.Decls.{Agrees, Decl, index_of, mapped}
-use Rattle.maker.specs.Pairs.{sectionRow, operand_row, Ordered, AllOrdered}
+use Rattle.maker.specs.Pairs.{section_row, operand_row, Ordered, AllOrdered}
 use Rattle.names.specs.Known.{KnownRule, Names}
 use Rattle.names.specs.Uses.{Use}
 use Rattle.symbols.specs.Rows.{number_of}
@@ -19,7 +19,7 @@ found f (some i) e = refl
 
 module _ {p : Program} {names : Names} {ks : List KnownRule} {ds : List Decl} (ag : Agrees p names ks ds) where
   ordered : (u : Use) → UseOk names ks u → Ordered ds u
-  unfolding sectionRow operand_row
+  unfolding section_row operand_row
   ordered u h = record {
     section = found _ (index_of 600 u.section.text 0 ds) (sym (ag.operators u.section.text) ∙ h.section);
     operand = found _ (index_of 7 u.operand.text 0 ds) (sym (ag.rules u.operand.text) ∙ h.found);

@@ -8,7 +8,7 @@ use Rattle.collector.specs.Collecting.{CollectedFor, Collects}
 use Rattle.collector.specs.declared.Collected.{Collected}
 use Rattle.declarations.proofs.Declaring.{declares-wrong, declares-good}
 use Rattle.declarations.proofs.Whole.{length-sections, length-decls, few-decls}
-use Rattle.declarations.specs.Decls.{EntriesAt, declsOf, declFaults, entriesOf}
+use Rattle.declarations.specs.Decls.{EntriesAt, decls_of, decl_faults, entries_of}
 use Rattle.declarer.specs.Faults.{Faults, clean, faulty}
 use Rattle.grammar.proofs.ProgramIn.{few-in, parse-in}
 use Rattle.grammar.specs.Derived.{ProgramIn}
@@ -19,13 +19,13 @@ use Rattle.syntax.specs.Parse.{parse}
 use Rattle.syntax.specs.Reading.{got}
 use Rattle.syntax.specs.Written.{Operator, Program}
 use Rattle.frontend.proofs.Steps.{understand-wrong, understand-good, rules-accepted}
-use Rattle.frontend.specs.Resolving.{rulesBy, Resolves, mistaken, ResolvesRules}
+use Rattle.frontend.specs.Resolving.{rules_by, Resolves, mistaken, ResolvesRules}
 use Rattle.frontend.specs.declared.Resolved.{Resolved}
-use Rattle.words.specs.Words.{Word, words, wordsAt}
+use Rattle.words.specs.Words.{Word, words, words_at}
 
 -- the whole text is its words from place 0 on
-derives : (text : List ℕ) (p : Program) (ws : List Word) → parse text ≡ got p ws → ProgramIn (wordsAt text 0) p
-unfolding words wordsAt
+derives : (text : List ℕ) (p : Program) (ws : List Word) → parse text ≡ got p ws → ProgramIn (words_at text 0) p
+unfolding words words_at
 derives text p ws e = parse-in text p ws e
 
 module _ (text : List ℕ) (p : Program) (ws : List Word) (e : parse text ≡ got p ws) {rows rows' : List ℕ} (rows'' : List ℕ) {c : Collected} (collected : Collects text rows rows' c) (size : length rows ≡ 6017)
@@ -34,27 +34,27 @@ module _ (text : List ℕ) (p : Program) (ws : List Word) (e : parse text ≡ go
   its = collected.collects p (derives text p ws e) size
 
   abbrev asked : Checked (Unit {0})
-  asked = declFaults (declsOf p) (entriesOf p) [] (declsOf p)
+  asked = decl_faults (decls_of p) (entries_of p) [] (decls_of p)
 
   -- what the checks tell of the rows, for all entries that stand at their places
   abbrev Checks : ℕ → ℕ → ℕ → Type 0
   Checks fault at len = (entries : ℕ → List Operator) → EntriesAt text (held text rows'' c.count) entries
-      → Faults fault at len (declFaults (held text rows'' c.count) entries [] (held text rows'' c.count))
+      → Faults fault at len (decl_faults (held text rows'' c.count) entries [] (held text rows'' c.count))
 
-  held-is : held text rows'' c.count ≡ declsOf p
+  held-is : held text rows'' c.count ≡ decls_of p
   held-is = kept text ∙ its.rows
 
   -- the outcome of the checks is that of the whole row of declarations
   outcome : {fault at len : ℕ} → Checks fault at len → Faults fault at len asked
   outcome {fault} {at} {len} f =
-      subst (λ ds. Faults fault at len (declFaults ds (entriesOf p) [] ds)) held-is (f (entriesOf p) (subst (λ ds. EntriesAt text ds (entriesOf p)) (sym held-is) its.entries))
+      subst (λ ds. Faults fault at len (decl_faults ds (entries_of p) [] ds)) held-is (f (entries_of p) (subst (λ ds. EntriesAt text ds (entries_of p)) (sym held-is) its.entries))
 
-  few : length (declsOf p) ≤ 512
+  few : length (decls_of p) ≤ 512
   few = few-decls (derives text p ws e)
 
-  pub declared-wrong : {rows''' cells starts sorts : List ℕ} {fault at len : ℕ} {r : Resolved} → Checks fault at len → (fault ≡ 0 → ⊥) → r.fault ≡ fault → r.at ≡ at → r.len ≡ len
+  pub declared_wrong : {rows''' cells starts sorts : List ℕ} {fault at len : ℕ} {r : Resolved} → Checks fault at len → (fault ≡ 0 → ⊥) → r.fault ≡ fault → r.at ≡ at → r.len ≡ len
       → Resolves text rows''' cells starts sorts r p (understand p)
-  declared-wrong {rows'''} {cells} {starts} {sorts} {fault} {at} {len} {r} f z e₁ e₂ e₃ = go asked refl (outcome f)
+  declared_wrong {rows'''} {cells} {starts} {sorts} {fault} {at} {len} {r} f z e₁ e₂ e₃ = go asked refl (outcome f)
     where
       go : (m : Checked (Unit {0})) → asked ≡ m → Faults fault at len m → Resolves text rows''' cells starts sorts r p (understand p)
       go (good tt) d (clean q) = absurd (z q)
@@ -62,20 +62,20 @@ module _ (text : List ℕ) (p : Program) (ws : List Word) (e : parse text ≡ go
           let u : understand p ≡ wrong k w = understand-wrong p k w (declares-wrong p few k w d) in
           rw u (mistaken (e₁ ∙ q) nonzero (e₂ ∙ start) (e₃ ∙ l))
 
-  pub declared-good : {rows''' cells starts sorts : List ℕ} {fault at len : ℕ} {r : Resolved} → Checks fault at len → fault ≡ 0 → ResolvesRules text rows'' rows''' c cells starts sorts r
+  pub declared_good : {rows''' cells starts sorts : List ℕ} {fault at len : ℕ} {r : Resolved} → Checks fault at len → fault ≡ 0 → ResolvesRules text rows'' rows''' c cells starts sorts r
       → Resolves text rows''' cells starts sorts r p (understand p)
-  declared-good {rows'''} {cells} {starts} {sorts} {fault} {at} {len} {r} f z rests = go asked refl (outcome f)
+  declared_good {rows'''} {cells} {starts} {sorts} {fault} {at} {len} {r} f z rests = go asked refl (outcome f)
     where
       go : (m : Checked (Unit {0})) → asked ≡ m → Faults fault at len m → Resolves text rows''' cells starts sorts r p (understand p)
       go (wrong k w) d (faulty q nonzero start l) = absurd (nonzero (sym q ∙ z))
       go (good tt) d (clean q) =
           let x = declares-good p few d in
           let n : Names = x.0 in
-          let u : understand p ≡ rulesBy p n = understand-good p n x.1 in
+          let u : understand p ≡ rules_by p n = understand-good p n x.1 in
           rw u (rests.rules p n (record {
             small = collected.small;
-            held-are = held-is;
-            first-is = its.rules;
+            held_are = held-is;
+            first_is = its.rules;
             count = omega (arith, its.count, its.rules, length-decls p, length-sections 0 p.sections);
             declares = x.1;
             agrees = x.2;
@@ -84,6 +84,6 @@ module _ (text : List ℕ) (p : Program) (ws : List Word) (e : parse text ≡ go
             again = its.again;
             ending = its.ending;
             few = (few-in (derives text p ws e)).0;
-            few-names = omega (arith, few, length-decls p);
+            few_names = omega (arith, few, length-decls p);
             accepts = rules-accepted text p ws n e x.1;
           }))

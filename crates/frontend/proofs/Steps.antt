@@ -4,11 +4,11 @@ use mathlib.Core.Path.{◌≡◌, refl, sym, ap, ◌∙◌}
 use Prim.Native.Nat.{ℕ}
 use lib.ListN.{length}
 use Rattle.acceptance.proofs.Accepts.{understood-accepted}
-use Rattle.frontend.specs.Resolving.{rulesBy}
-use Rattle.names.specs.Declare.{declareSections}
+use Rattle.frontend.specs.Resolving.{rules_by}
+use Rattle.names.specs.Declare.{declare_sections}
 use Rattle.names.specs.Known.{good, wrong, Names}
 use Rattle.names.specs.Understand.{nobody, understand}
-use Rattle.processor.specs.Process.{refused, meaning, part_of, checked, readIn, understood, answerFor, process}
+use Rattle.processor.specs.Process.{refused, meaning, part_of, checked, read_in, understood, answer_for, process}
 use Rattle.program.specs.Accepted.{Accepted}
 use Rattle.program.specs.Program.{Rule}
 use Rattle.reader.specs.Counting.{Decides, fine, wrong as mistaken}
@@ -40,35 +40,35 @@ decides-fault (fine e) f = absurd (f e)
 decides-fault (mistaken {n = n} {w = w} z e at len) f = record { word = w; is = ap (λ k. fault k w) (sym e); at = at; len = len }
 
 pub process-fault : (text : List ℕ) (room n : ℕ) (w : Word) → parse text ≡ fault n w → process text room ≡ refused n (part_of w)
-unfolding process understood readIn answerFor
+unfolding process understood read_in answer_for
 process-fault text room n w e = rw e refl
 
-pub process-read : (text : List ℕ) (room : ℕ) (p : Program) (ws : List Word) → parse text ≡ got p ws → process text room ≡ answerFor text room (checked (understand p))
-unfolding process understood readIn
+pub process-read : (text : List ℕ) (room : ℕ) (p : Program) (ws : List Word) → parse text ≡ got p ws → process text room ≡ answer_for text room (checked (understand p))
+unfolding process understood read_in
 process-read text room p ws e = rw e refl
 
 pub understood-read : (text : List ℕ) (p : Program) (ws : List Word) → parse text ≡ got p ws → understood text ≡ checked (understand p)
-unfolding understood readIn
+unfolding understood read_in
 understood-read text p ws e = rw e refl
 
-pub understand-wrong : (p : Program) (n : ℕ) (w : Word) → declareSections p p.sections nobody ≡ wrong n w → understand p ≡ wrong n w
+pub understand-wrong : (p : Program) (n : ℕ) (w : Word) → declare_sections p p.sections nobody ≡ wrong n w → understand p ≡ wrong n w
 unfolding understand
 understand-wrong p n w e = rw e refl
 
-pub understand-good : (p : Program) (n : Names) → declareSections p p.sections nobody ≡ good n → understand p ≡ rulesBy p n
+pub understand-good : (p : Program) (n : Names) → declare_sections p p.sections nobody ≡ good n → understand p ≡ rules_by p n
 unfolding understand
 understand-good p n e = rw e refl
 
-pub checked-wrong : (text : List ℕ) (room n : ℕ) (w : Word) → answerFor text room (checked (wrong n w)) ≡ refused n (part_of w)
-unfolding answerFor checked
+pub checked-wrong : (text : List ℕ) (room n : ℕ) (w : Word) → answer_for text room (checked (wrong n w)) ≡ refused n (part_of w)
+unfolding answer_for checked
 checked-wrong text room n w = refl
 
-pub checked-good : (text : List ℕ) (room : ℕ) (prog : List Rule) → answerFor text room (checked (good prog)) ≡ answerFor text room (meaning prog)
+pub checked-good : (text : List ℕ) (room : ℕ) (prog : List Rule) → answer_for text room (checked (good prog)) ≡ answer_for text room (meaning prog)
 unfolding checked
 checked-good text room prog = refl
 
 -- whatever the rules mean is an accepted program
-pub rules-accepted : (text : List ℕ) (p : Program) (ws : List Word) (n : Names) → parse text ≡ got p ws → declareSections p p.sections nobody ≡ good n
-    → (prog : List Rule) → rulesBy p n ≡ good prog → Accepted prog
+pub rules-accepted : (text : List ℕ) (p : Program) (ws : List Word) (n : Names) → parse text ≡ got p ws → declare_sections p p.sections nobody ≡ good n
+    → (prog : List Rule) → rules_by p n ≡ good prog → Accepted prog
 unfolding checked
 rules-accepted text p ws n e d prog m = understood-accepted text prog (understood-read text p ws e ∙ ap checked (understand-good p n d ∙ m))

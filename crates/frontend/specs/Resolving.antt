@@ -1,27 +1,27 @@
 -- What the passes over a text that was read promise: its rules' cells in the buffers and its declarations in the rows, or a fault of 3 to 8, of 45 or of 9.
 use Rattle.std.specs.Prelude.{List, [], ◌++◌, ◌≡◌, ℕ, ◌+◌, ◌<◌, ◌≤◌, length, get_or}
-use Rattle.cells.specs.Cells.{rulesCells, cellsStart}
+use Rattle.cells.specs.Cells.{rules_cells, cells_start}
 use Rattle.collector.specs.declared.Collected.{Collected}
-use Rattle.declarations.specs.Decls.{Agrees, EntriesAt, declsOf, entriesOf, sectionsDecls}
-use Rattle.emitter.specs.Emitted.{FewLabelsAll, sortOf}
+use Rattle.declarations.specs.Decls.{Agrees, EntriesAt, decls_of, entries_of, sections_decls}
+use Rattle.emitter.specs.Emitted.{FewLabelsAll, sort_of}
 use Rattle.frontend.specs.declared.Resolved.{Resolved}
 use Rattle.grammar.specs.Derived.{RulesIn}
 use Rattle.maker.specs.Pairs.{AllOrdered, PairsAre}
-use Rattle.names.specs.Declare.{declareSections, knownRules}
+use Rattle.names.specs.Declare.{declare_sections, known_rules}
 use Rattle.names.specs.Known.{Checked, good, wrong, ◌>>=◌, Names}
-use Rattle.names.specs.Understand.{nobody, rulesMean, understand}
-use Rattle.names.specs.Uses.{rulesUses, pairsOf, madeFor}
+use Rattle.names.specs.Understand.{nobody, rules_mean, understand}
+use Rattle.names.specs.Uses.{rules_uses, pairs_of, made_for}
 use Rattle.program.specs.Accepted.{Accepted}
-use Rattle.program.specs.Program.{Rule, ruleOf, body_of}
+use Rattle.program.specs.Program.{Rule, rule_of, body_of}
 use Rattle.resolver.specs.Resolved.{Appends}
 use Rattle.symbols.specs.Index.{Kept}
 use Rattle.symbols.specs.Rows.{held}
 use Rattle.syntax.specs.Parse.{parse}
 use Rattle.syntax.specs.Reading.{got, peek}
-use Rattle.syntax.specs.Sections.{namesInAll}
+use Rattle.syntax.specs.Sections.{names_in_all}
 use Rattle.syntax.specs.Written.{Program}
 use Rattle.verdict.specs.Lies.{FewAll}
-use Rattle.words.specs.Words.{Word, wordsAt}
+use Rattle.words.specs.Words.{Word, words_at}
 
 -- what stands in the buffers once the rules are resolved: the cells of prog, or as many as there was room for; its rules' starts and sorts
 pub record Ready (cells starts sorts : List ℕ) (rules filled : ℕ) (prog : List Rule) : Type 0 where
@@ -32,37 +32,37 @@ pub record Ready (cells starts sorts : List ℕ) (rules filled : ℕ) (prog : Li
   pub few : rules ≤ 128
   pub before : List ℕ
   pub room : length before ≡ 4224
-  pub appends : Appends before 0 (rulesCells prog) cells filled
-  pub sorted : (r : ℕ) → r < length prog → get_or sorts r 0 ≡ sortOf (ruleOf prog r).valued
-  pub begins : filled ≤ 4224 → (r : ℕ) → r < length prog → get_or starts r 0 ≡ cellsStart 0 prog r
+  pub appends : Appends before 0 (rules_cells prog) cells filled
+  pub sorted : (r : ℕ) → r < length prog → get_or sorts r 0 ≡ sort_of (rule_of prog r).valued
+  pub begins : filled ≤ 4224 → (r : ℕ) → r < length prog → get_or starts r 0 ≡ cells_start 0 prog r
 
 -- the rules written, by the names that are declared
 abbrev pub written_by : Program → Names → Checked (List Rule)
-written_by p names = rulesMean p names (knownRules 0 p.rules) [] p.rules
+written_by p names = rules_mean p names (known_rules 0 p.rules) [] p.rules
 
 -- those made for operators
-abbrev pub madeBy : Program → Names → Checked (List Rule)
-madeBy p names = madeFor names (knownRules 0 p.rules) (namesInAll p.sections) (length p.rules) (pairsOf p.rules)
+abbrev pub made_by : Program → Names → Checked (List Rule)
+made_by p names = made_for names (known_rules 0 p.rules) (names_in_all p.sections) (length p.rules) (pairs_of p.rules)
 
 -- both, "as if written after the last rule"
-abbrev pub rulesBy : Program → Names → Checked (List Rule)
-rulesBy p names = ◌>>=◌ (written_by p names) (λ own. ◌>>=◌ (madeBy p names) (λ made. good (own ++ made)))
+abbrev pub rules_by : Program → Names → Checked (List Rule)
+rules_by p names = ◌>>=◌ (written_by p names) (λ own. ◌>>=◌ (made_by p names) (λ made. good (own ++ made)))
 
 -- what is known of the text p once its declarations are in order: the rows, the names, and where its rules are read again
 pub record Declared (text rows : List ℕ) (n first at : ℕ) (p : Program) (names : Names) : Type 0 where
   pub small : n ≤ 512
-  pub held-are : held text rows n ≡ declsOf p
-  pub first-is : first ≡ length (sectionsDecls 0 p.sections)
+  pub held_are : held text rows n ≡ decls_of p
+  pub first_is : first ≡ length (sections_decls 0 p.sections)
   pub count : n ≡ first + length p.rules
-  pub declares : declareSections p p.sections nobody ≡ good names
-  pub agrees : Agrees p names (knownRules 0 p.rules) (declsOf p)
-  pub entries : EntriesAt text (declsOf p) (entriesOf p)
+  pub declares : declare_sections p p.sections nobody ≡ good names
+  pub agrees : Agrees p names (known_rules 0 p.rules) (decls_of p)
+  pub entries : EntriesAt text (decls_of p) (entries_of p)
   pub left : List Word
-  pub again : RulesIn (wordsAt text at) left p.rules
+  pub again : RulesIn (words_at text at) left p.rules
   pub ending : (peek left).kind ≡ 266
   pub few : length p.rules ≤ 128
-  pub few-names : namesInAll p.sections + length p.rules ≤ 512
-  pub accepts : (prog : List Rule) → rulesBy p names ≡ good prog → Accepted prog
+  pub few_names : names_in_all p.sections + length p.rules ≤ 512
+  pub accepts : (prog : List Rule) → rules_by p names ≡ good prog → Accepted prog
 
 -- the declarations of p stand in the rows, those of its rules from row `first` on, and the pairs of its uses of operators
 pub record Rowed (text rows : List ℕ) (r : Resolved) (p : Program) : Type 0 where
@@ -71,7 +71,7 @@ pub record Rowed (text rows : List ℕ) (r : Resolved) (p : Program) : Type 0 wh
   pub number : r.written ≡ length p.rules
   pub inside : r.body ≤ length text
   pub kept : Kept text rows r.declared
-  pub ordered : AllOrdered (held text rows r.declared) (rulesUses p.rules)
+  pub ordered : AllOrdered (held text rows r.declared) (rules_uses p.rules)
   pub pairs : PairsAre text rows r.declared p names
 
 -- what the text means is in the buffers, or it has a fault
@@ -82,7 +82,7 @@ pub data Resolves (text rows cells starts sorts : List ℕ) (r : Resolved) (p : 
 -- the rules of a text whose declarations are in order, resolved
 pub record ResolvesRules (text rows rows' : List ℕ) (c : Collected) (cells starts sorts : List ℕ) (r : Resolved) : Type 0 where
   pub size : length rows' ≡ length rows
-  pub rules : (p : Program) (names : Names) → Declared text rows c.count c.rules c.at p names → Resolves text rows' cells starts sorts r p (rulesBy p names)
+  pub rules : (p : Program) (names : Names) → Declared text rows c.count c.rules c.at p names → Resolves text rows' cells starts sorts r p (rules_by p names)
 
 -- a text that is read, resolved
 abbrev pub ResolvesRead : List ℕ → List ℕ → List ℕ → List ℕ → List ℕ → Resolved → Type 0

@@ -7,55 +7,55 @@ use Prim.Native.Nat.{ℕ, zero, suc, ◌-◌, ◌<◌, ◌≤◌}
 use lib.ListN.{length}
 use native.Mathlib.Omega.{arith}
 use Rattle.base.specs.Tree.{plain, cycle, choice, done, ◌▸◌, nil, alternative, absent, otherwise}
-use Rattle.grammar.specs.Derived.{Took, Not, Reference, by_name, by-string, ConstantIn, no-constant, a-constant, ValueIn, no_value, a-value, PlainIn, named_in, any-in, emit-in, error-in, exit_in, call-in, give-in, ranked-in, SelectorIn, token-in, rule-in, operation-in, LabelsIn, last-label, more-labels, ActIn, plain_in, cycle-in, choice-in, ActsIn, none_in, more-in, AltsIn, other-in, last-in, next-in}
+use Rattle.grammar.specs.Derived.{Took, Not, Reference, by_name, by_string, ConstantIn, no_constant, a_constant, ValueIn, no_value, a_value, PlainIn, named_in, any_in, emit_in, error_in, exit_in, call_in, give_in, ranked_in, SelectorIn, token_in, rule_in, operation_in, LabelsIn, last_label, more_labels, ActIn, plain_in, cycle_in, choice_in, ActsIn, none_in, more_in, AltsIn, other_in, last_in, next_in}
 use Rattle.grammar.proofs.Laws.{From, bind, next, gives, refuses, either, on-kind, limited, weaken, passes, expects, shorts, a-name, name-or-string}
-use Rattle.syntax.specs.Actions.{aConstant, aValue, aRanked, aPlain, aSelector, aLabel, someLabels, closes, aCycle, aChoice, anAction, anOtherwise, anAlternative, actions, alternatives}
-use Rattle.syntax.specs.Reading.{Reader, ◌>>◌, pure, peek, pass, on◌then◌else◌, expect, short, aName, nameOrString}
-use Rattle.syntax.specs.Written.{named, any, exit, emit, error, call, give, ranked, byToken, byRule, byOperation, Acts, Choices}
+use Rattle.syntax.specs.Actions.{a_constant, a_value, a_ranked, a_plain, a_selector, a_label, some_labels, closes, a_cycle, a_choice, an_action, an_otherwise, an_alternative, actions, alternatives}
+use Rattle.syntax.specs.Reading.{Reader, ◌>>◌, pure, peek, pass, on◌then◌else◌, expect, short, a_name, name_or_string}
+use Rattle.syntax.specs.Written.{named, any, exit, emit, error, call, give, ranked, by_token, by_rule, by_operation, Acts, Choices}
 use Rattle.words.specs.Words.{Word, twice, name, string}
 
 -- Plain actions and selectors
 
-pub constant-in : {ws : List Word} → From ws aConstant (λ rest c. ConstantIn ws rest c)
-unfolding aConstant
+pub constant-in : {ws : List Word} → From ws a_constant (λ rest c. ConstantIn ws rest c)
+unfolding a_constant
 constant-in =
     on-kind (code "(") _ _
     (λ d. bind pass _ (passes 40 refl d) (λ ws₁ paren t.
-    bind nameOrString _ name-or-string (λ ws₂ c r.
+    bind name_or_string _ name-or-string (λ ws₂ c r.
     next (expect (code ")")) _ (expects 41 refl) (λ ws₃ close u.
-    gives (some (record { paren = paren; constant = c })) (a-constant t r u)))))
-    (λ d. gives none (no-constant d refl))
+    gives (some (record { paren = paren; constant = c })) (a_constant t r u)))))
+    (λ d. gives none (no_constant d refl))
 
-pub value_in : {ws : List Word} → From ws aValue (λ rest v. ValueIn ws rest v)
-unfolding aValue
+pub value_in : {ws : List Word} → From ws a_value (λ rest v. ValueIn ws rest v)
+unfolding a_value
 value_in =
-    on-kind name _ _ (λ d. bind aName _ a-name (λ ws₁ v t. gives (some v) (a-value (by_name t))))
-    (λ n. on-kind string _ _ (λ d. bind pass _ (passes 259 refl d) (λ ws₁ v t. gives (some v) (a-value (by-string t))))
+    on-kind name _ _ (λ d. bind a_name _ a-name (λ ws₁ v t. gives (some v) (a_value (by_name t))))
+    (λ n. on-kind string _ _ (λ d. bind pass _ (passes 259 refl d) (λ ws₁ v t. gives (some v) (a_value (by_string t))))
     (λ m. gives none (no_value n m refl)))
 
-pub some-plain-in : {ws : List Word} → From ws aPlain (λ rest a. PlainIn ws rest a)
-unfolding aPlain aRanked
+pub some-plain-in : {ws : List Word} → From ws a_plain (λ rest a. PlainIn ws rest a)
+unfolding a_plain a_ranked
 some-plain-in =
-    on-kind name _ _ (λ d. bind aName _ a-name (λ ws₁ w t. bind aConstant _ constant-in (λ ws₂ c u. gives (named w c) (named_in (by_name t) u))))
-    (λ _. on-kind string _ _ (λ d. bind pass _ (passes 259 refl d) (λ ws₁ w t. bind aConstant _ constant-in (λ ws₂ c u. gives (named w c) (named_in (by-string t) u))))
-    (λ _. on-kind (code "?") _ _ (λ d. bind pass _ (passes 63 refl d) (λ ws₁ w t. gives (any w) (any-in t)))
-    (λ _. on-kind (code ".") _ _ (λ d. next pass _ (passes 46 refl d) (λ ws₁ dot t. bind nameOrString _ name-or-string (λ ws₂ w r. gives (emit w) (emit-in t r))))
-    (λ _. on-kind (code "#") _ _ (λ d. next pass _ (passes 35 refl d) (λ ws₁ hash t. bind nameOrString _ name-or-string (λ ws₂ w r. gives (error w) (error-in t r))))
+    on-kind name _ _ (λ d. bind a_name _ a-name (λ ws₁ w t. bind a_constant _ constant-in (λ ws₂ c u. gives (named w c) (named_in (by_name t) u))))
+    (λ _. on-kind string _ _ (λ d. bind pass _ (passes 259 refl d) (λ ws₁ w t. bind a_constant _ constant-in (λ ws₂ c u. gives (named w c) (named_in (by_string t) u))))
+    (λ _. on-kind (code "?") _ _ (λ d. bind pass _ (passes 63 refl d) (λ ws₁ w t. gives (any w) (any_in t)))
+    (λ _. on-kind (code ".") _ _ (λ d. next pass _ (passes 46 refl d) (λ ws₁ dot t. bind name_or_string _ name-or-string (λ ws₂ w r. gives (emit w) (emit_in t r))))
+    (λ _. on-kind (code "#") _ _ (λ d. next pass _ (passes 35 refl d) (λ ws₁ hash t. bind name_or_string _ name-or-string (λ ws₂ w r. gives (error w) (error_in t r))))
     (λ _. on-kind (code ">") _ _ (λ d. bind pass _ (passes 62 refl d) (λ ws₁ w t. gives (exit w) (exit_in t)))
-    (λ _. on-kind (code "@") _ _ (λ d. next pass _ (passes 64 refl d) (λ ws₁ at t. bind aName _ a-name (λ ws₂ w u. gives (call w) (call-in t u))))
-    (λ _. on-kind twice _ _ (λ d. bind pass _ (passes 256 refl d) (λ ws₁ w t. bind aValue _ value_in (λ ws₂ v u. gives (give w v) (give-in t u))))
+    (λ _. on-kind (code "@") _ _ (λ d. next pass _ (passes 64 refl d) (λ ws₁ at t. bind a_name _ a-name (λ ws₂ w u. gives (call w) (call_in t u))))
+    (λ _. on-kind twice _ _ (λ d. bind pass _ (passes 256 refl d) (λ ws₁ w t. bind a_value _ value_in (λ ws₂ v u. gives (give w v) (give_in t u))))
     (λ _. on-kind (code "^") _ _ (λ d. bind pass _ (passes 94 refl d) (λ ws₁ s t.
-    bind aName _ a-name (λ ws₂ w u.
+    bind a_name _ a-name (λ ws₂ w u.
     next (expect (code "@")) _ (expects 64 refl) (λ ws₃ at v.
-    bind aName _ a-name (λ ws₄ o x. gives (ranked s w o) (ranked-in t u v x))))))
+    bind a_name _ a-name (λ ws₄ o x. gives (ranked s w o) (ranked_in t u v x))))))
     (λ _. refuses)))))))))
 
-pub selector-in : {ws : List Word} → From ws aSelector (λ rest s. SelectorIn ws rest s)
-unfolding aSelector
+pub selector-in : {ws : List Word} → From ws a_selector (λ rest s. SelectorIn ws rest s)
+unfolding a_selector
 selector-in =
-    on-kind (code "@") _ _ (λ d. next pass _ (passes 64 refl d) (λ ws₁ at t. bind aName _ a-name (λ ws₂ w u. gives (byRule w) (rule-in t u))))
-    (λ n. on-kind name _ _ (λ d. bind aName _ a-name (λ ws₁ w t. bind aConstant _ constant-in (λ ws₂ c u. gives (byOperation w c) (operation-in t u))))
-    (λ m. gives byToken (token-in n m refl)))
+    on-kind (code "@") _ _ (λ d. next pass _ (passes 64 refl d) (λ ws₁ at t. bind a_name _ a-name (λ ws₂ w u. gives (by_rule w) (rule_in t u))))
+    (λ n. on-kind name _ _ (λ d. bind a_name _ a-name (λ ws₁ w t. bind a_constant _ constant-in (λ ws₂ c u. gives (by_operation w c) (operation_in t u))))
+    (λ m. gives by_token (token_in n m refl)))
 
 -- Labels
 
@@ -64,10 +64,10 @@ record Label (room : ℕ) (ws rest : List Word) (w : Word) : Type 0 where
   pub word : Reference ws w rest
   pub some-room : 0 < room
 
-label-in : {ws : List Word} (room : ℕ) → From ws (aLabel room) (λ rest w. Label room ws rest w)
-unfolding aLabel
+label-in : {ws : List Word} (room : ℕ) → From ws (a_label room) (λ rest w. Label room ws rest w)
+unfolding a_label
 label-in room =
-    on-kind string _ _ (λ d. limited room pass (λ h. weaken (passes 259 refl d) (λ rest w t. record { word = by-string t; some-room = h })))
+    on-kind string _ _ (λ d. limited room pass (λ h. weaken (passes 259 refl d) (λ rest w t. record { word = by_string t; some-room = h })))
     (λ _. on-kind name _ _ (λ d. limited room short (λ h. weaken (shorts d) (λ rest w t. record { word = by_name t; some-room = h })))
     (λ _. refuses))
 
@@ -82,15 +82,15 @@ data Behind (room : ℕ) (ws rest : List Word) : List Word → Type 0 where
   comma : {c : Word} {ws₁ ls : List Word} → Took 44 ws c ws₁ → Labels room ws₁ rest ls → Behind room ws rest ls
 
 behind : {room : ℕ} {ws ws₁ rest ls : List Word} {w : Word} → Label room ws ws₁ w → Behind (room - 1) ws₁ rest ls → Labels room ws rest (w ∷ ls)
-behind l (no-comma n d) = record { labels = rw (← d) at (last-label l.word n); few = let h = l.some-room in omega arith }
-behind l (comma t m) = record { labels = more-labels l.word t m.labels; few = let h = l.some-room in let g = m.few in omega arith }
+behind l (no-comma n d) = record { labels = rw (← d) at (last_label l.word n); few = let h = l.some-room in omega arith }
+behind l (comma t m) = record { labels = more_labels l.word t m.labels; few = let h = l.some-room in let g = m.few in omega arith }
 
-pub labels_in : {ws : List Word} (k room : ℕ) → From ws (someLabels k room) (λ rest ls. Labels room ws rest ls)
-unfolding someLabels
+pub labels_in : {ws : List Word} (k room : ℕ) → From ws (some_labels k room) (λ rest ls. Labels room ws rest ls)
+unfolding some_labels
 labels_in zero room = refuses
 labels_in (suc k) room =
-    bind (aLabel room) _ (label-in room) (λ ws₁ w l.
-    bind (on code "," then (◌>>◌ pass (someLabels k (room - 1))) else pure []) _
+    bind (a_label room) _ (label-in room) (λ ws₁ w l.
+    bind (on code "," then (◌>>◌ pass (some_labels k (room - 1))) else pure []) _
     (on-kind (code ",") _ _ (λ d. next pass _ (passes 44 refl d) (λ ws₂ c t. weaken (labels_in k (room - 1)) (λ rest ls m. comma t m)))
     (λ n. gives [] (no-comma n refl)))
     (λ ws₂ ls b. gives (w ∷ ls) (behind l b)))
@@ -103,35 +103,35 @@ ActsFrom inner = (ws : List Word) → From ws inner (λ rest b. ActsIn ws rest b
 abbrev pub AltsFrom : ℕ → Reader Choices → Type 0
 AltsFrom room choices = (ws : List Word) → From ws choices (λ rest c. AltsIn ws rest room c.labelled c.default)
 
-cycle-from : {ws ws₁ : List Word} {opening : Word} (inner : Reader Acts) → ActsFrom inner → Took 123 ws opening ws₁ → From ws₁ (aCycle inner) (λ rest a. ActIn ws rest a)
-unfolding aCycle
+cycle-from : {ws ws₁ : List Word} {opening : Word} (inner : Reader Acts) → ActsFrom inner → Took 123 ws opening ws₁ → From ws₁ (a_cycle inner) (λ rest a. ActIn ws rest a)
+unfolding a_cycle
 cycle-from {ws₁ = ws₁} inner h t =
-    bind inner _ (h ws₁) (λ ws₂ b q. next (expect (code "}")) _ (expects 125 refl) (λ ws₃ close u. gives (cycle b) (cycle-in t q u)))
+    bind inner _ (h ws₁) (λ ws₂ b q. next (expect (code "}")) _ (expects 125 refl) (λ ws₃ close u. gives (cycle b) (cycle_in t q u)))
 
 choice-from : {ws ws₁ : List Word} {opening : Word} (choices : Reader Choices) → AltsFrom 64 choices → Took 91 ws opening ws₁
-    → From ws₁ (aChoice choices) (λ rest a. ActIn ws rest a)
-unfolding aChoice
+    → From ws₁ (a_choice choices) (λ rest a. ActIn ws rest a)
+unfolding a_choice
 choice-from choices h t =
-    bind aSelector _ selector-in (λ ws₂ s u.
+    bind a_selector _ selector-in (λ ws₂ s u.
     next (expect (code "|")) _ (expects 124 refl) (λ ws₃ bar v.
-    bind choices _ (h ws₃) (λ ws₄ c q. gives (choice s c.labelled c.default) (choice-in t u v q))))
+    bind choices _ (h ws₃) (λ ws₄ c q. gives (choice s c.labelled c.default) (choice_in t u v q))))
 
 action-from : (inner : ℕ → Reader Acts) (choices : ℕ → Reader Choices) (left : ℕ) → ((n : ℕ) → ActsFrom (inner n)) → ((n : ℕ) → AltsFrom 64 (choices n))
-    → (ws : List Word) → From ws (anAction inner choices left) (λ rest a. ActIn ws rest a)
-unfolding anAction
+    → (ws : List Word) → From ws (an_action inner choices left) (λ rest a. ActIn ws rest a)
+unfolding an_action
 action-from inner choices left h g ws =
     on-kind (code "{") _ _ (λ d. limited left _ (λ _. next pass _ (passes 123 refl d) (λ ws₁ opening t. cycle-from (inner (left - 1)) (h (left - 1)) t)))
     (λ _. on-kind (code "[") _ _ (λ d. limited left _ (λ _. next pass _ (passes 91 refl d) (λ ws₁ opening t. choice-from (choices (left - 1)) (g (left - 1)) t)))
-    (λ _. bind aPlain _ some-plain-in (λ ws₁ p t. gives (plain p) (plain_in t))))
+    (λ _. bind a_plain _ some-plain-in (λ ws₁ p t. gives (plain p) (plain_in t))))
 
 otherwise-from : {ws ws₁ : List Word} {star : Word} (room : ℕ) (inner : Reader Acts) → ActsFrom inner → Took 42 ws star ws₁
-    → From ws₁ (anOtherwise inner) (λ rest c. AltsIn ws rest room c.labelled c.default)
-unfolding anOtherwise
+    → From ws₁ (an_otherwise inner) (λ rest c. AltsIn ws rest room c.labelled c.default)
+unfolding an_otherwise
 otherwise-from room inner h t =
     next (expect (code ":")) _ (expects 58 refl) (λ ws₂ colon u.
     bind inner _ (h ws₂) (λ ws₃ b q.
     next (expect (code "]")) _ (expects 93 refl) (λ ws₄ close v.
-    gives (record { labelled = nil; default = otherwise b }) (other-in t u q v))))
+    gives (record { labelled = nil; default = otherwise b }) (other_in t u q v))))
 
 -- what stands behind an alternative
 data Follows (room : ℕ) (ws rest : List Word) : Choices → Type 0 where
@@ -141,14 +141,14 @@ data Follows (room : ℕ) (ws rest : List Word) : Choices → Type 0 where
 followed : {room : ℕ} {ws ws₁ ws₂ ws₃ rest ls : List Word} {colon : Word} {b : Acts} {c : Choices}
     → Labels room ws ws₁ ls → Took 58 ws₁ colon ws₂ → ActsIn ws₂ ws₃ b → Follows (room - length ls) ws₃ rest c
     → AltsIn ws rest room (alternative ls b c.labelled) c.default
-followed l t q (closed u) = last-in l.labels l.few t q u
-followed l t q (barred u m) = next-in l.labels l.few t q u m
+followed l t q (closed u) = last_in l.labels l.few t q u
+followed l t q (barred u m) = next_in l.labels l.few t q u m
 
 alternative-from : (k room : ℕ) (inner : Reader Acts) (more : ℕ → Reader Choices) → ActsFrom inner → ((n : ℕ) → AltsFrom n (more n))
-    → AltsFrom room (anAlternative k room inner more)
-unfolding anAlternative
+    → AltsFrom room (an_alternative k room inner more)
+unfolding an_alternative
 alternative-from k room inner more h g ws =
-    bind (someLabels k room) _ (labels_in k room) (λ ws₁ ls l.
+    bind (some_labels k room) _ (labels_in k room) (λ ws₁ ls l.
     next (expect (code ":")) _ (expects 58 refl) (λ ws₂ colon t.
     bind inner _ (h ws₂) (λ ws₃ b q.
     bind (on code "|" then (◌>>◌ pass (more (room - length ls))) else (◌>>◌ (expect (code "]")) (pure (record { labelled = nil; default = absent })))) _
@@ -165,9 +165,9 @@ mutual
   actions-in (suc k) left ws =
       record {
         holds = (either (closes (peek ws).kind) (pure done) _ (λ t. gives done (none_in t refl))
-            (λ t. bind (anAction (λ l ws. actions k l ws) (λ l ws. alternatives k l 64 ws) left) _
+            (λ t. bind (an_action (λ l ws. actions k l ws) (λ l ws. alternatives k l 64 ws) left) _
             (action-from (λ l ws. actions k l ws) (λ l ws. alternatives k l 64 ws) left (λ n ws₁. actions-in k n ws₁) (λ n ws₁. alternatives-in k n 64 ws₁) ws)
-            (λ ws₁ a x. bind (actions k left) _ (actions-in k left ws₁) (λ ws₂ q y. gives (a ▸ q) (more-in t x y))))).holds;
+            (λ ws₁ a x. bind (actions k left) _ (actions-in k left ws₁) (λ ws₂ q y. gives (a ▸ q) (more_in t x y))))).holds;
       }
 
   pub alternatives-in : (k left room : ℕ) → AltsFrom room (alternatives k left room)

@@ -7,9 +7,9 @@ use lib.Dec.{eqb, ltb}
 use lib.ListN.{length}
 use borrow.Author.Tests.{eqb-true, eqb-false}
 use native.Mathlib.Omega.{arith}
-use Rattle.base.specs.Common.{if◌then◌else◌}
-use Rattle.grammar.specs.Derived.{Took, Not, Reference, by_name, by-string}
-use Rattle.syntax.specs.Reading.{Read, got, fault, Reader, onward, ◌>>=◌, ◌>>◌, pure, peek, pass, refuse, over, within, on◌then◌else◌, expect, short, aName, oneName, nameOrString}
+use Rattle.std.specs.Prelude.{if◌then◌else◌}
+use Rattle.grammar.specs.Derived.{Took, Not, Reference, by_name, by_string}
+use Rattle.syntax.specs.Reading.{Read, got, fault, Reader, onward, ◌>>=◌, ◌>>◌, pure, peek, pass, refuse, over, within, on◌then◌else◌, expect, short, a_name, one_name, name_or_string}
 use Rattle.words.specs.Words.{Word, name, string}
 
 -- whatever m gives of ws has P, with the words left
@@ -89,8 +89,8 @@ shorts {ws} d = record { holds = λ rest w e. go rest w (ltb 32 (length (peek ws
     go rest w true e₁ = no-got e₁
     go rest w false e₁ = (passes 257 refl d).holds rest w e₁
 
-pub a-name : {ws : List Word} → From ws aName (λ rest w. Took 257 ws w rest)
-unfolding aName
+pub a-name : {ws : List Word} → From ws a_name (λ rest w. Took 257 ws w rest)
+unfolding a_name
 a-name = on-kind name short refuse (λ d. shorts d) (λ _. refuses)
 
 -- a name where `left` more may stand
@@ -98,16 +98,16 @@ pub record Named (left : ℕ) (ws rest : List Word) (w : Word) : Type 0 where
   pub word : Took 257 ws w rest
   pub some_left : 0 < left
 
-pub one_name : {ws : List Word} (left : ℕ) → From ws (oneName left) (λ rest w. Named left ws rest w)
-unfolding oneName
-one_name left =
+pub one_name_lem : {ws : List Word} (left : ℕ) → From ws (one_name left) (λ rest w. Named left ws rest w)
+unfolding one_name
+one_name_lem left =
     on-kind name (within left short) refuse
     (λ d. limited left short (λ h. weaken (shorts d) (λ rest w t. record { word = t; some_left = h })))
     (λ _. refuses)
 
-pub name-or-string : {ws : List Word} → From ws nameOrString (λ rest w. Reference ws w rest)
-unfolding nameOrString
+pub name-or-string : {ws : List Word} → From ws name_or_string (λ rest w. Reference ws w rest)
+unfolding name_or_string
 name-or-string =
-    on-kind string pass aName
-    (λ d. weaken (passes 259 refl d) (λ rest w t. by-string t))
+    on-kind string pass a_name
+    (λ d. weaken (passes 259 refl d) (λ rest w t. by_string t))
     (λ _. weaken a-name (λ rest w t. by_name t))

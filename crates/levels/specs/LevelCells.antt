@@ -3,29 +3,29 @@ use Rattle.std.specs.Prelude.{Bool, true, false, List, [], ◌∷◌, ℕ}
 use Rattle.program.specs.Made.{Operator}
 
 -- `| token: @called.emits`
-unfoldable pub operatorCells : ℕ → List Operator → List ℕ → List ℕ
-operatorCells c [] k = k
-operatorCells c (o ∷ os) k = 65 ∷ o.token ∷ 8 ∷ c ∷ 5 ∷ o.emits ∷ 0 ∷ operatorCells c os k
+unfoldable pub operator_cells : ℕ → List Operator → List ℕ → List ℕ
+operator_cells c [] k = k
+operator_cells c (o ∷ os) k = 65 ∷ o.token ∷ 8 ∷ c ∷ 5 ∷ o.emits ∷ 0 ∷ operator_cells c os k
 
-unfoldable pub levelCells : Bool → ℕ → ℕ → List Operator → List ℕ → List ℕ
-levelCells false own h os k = 8 ∷ h ∷ 2 ∷ 7 ∷ operatorCells h os (13 ∷ 1 ∷ 0 ∷ 0 ∷ 0 ∷ k)
-levelCells true own h os k = 8 ∷ h ∷ 7 ∷ operatorCells own os (13 ∷ 0 ∷ 0 ∷ k)
+unfoldable pub level_cells : Bool → ℕ → ℕ → List Operator → List ℕ → List ℕ
+level_cells false own h os k = 8 ∷ h ∷ 2 ∷ 7 ∷ operator_cells h os (13 ∷ 1 ∷ 0 ∷ 0 ∷ 0 ∷ k)
+level_cells true own h os k = 8 ∷ h ∷ 7 ∷ operator_cells own os (13 ∷ 0 ∷ 0 ∷ k)
 
 -- before the operators, and behind them
-unfoldable pub openCells : Bool → ℕ → List ℕ
-openCells false h = 8 ∷ h ∷ 2 ∷ 7 ∷ []
-openCells true h = 8 ∷ h ∷ 7 ∷ []
+unfoldable pub open_cells : Bool → ℕ → List ℕ
+open_cells false h = 8 ∷ h ∷ 2 ∷ 7 ∷ []
+open_cells true h = 8 ∷ h ∷ 7 ∷ []
 
-unfoldable pub closeCells : Bool → List ℕ
-closeCells false = 13 ∷ 1 ∷ 0 ∷ 0 ∷ 0 ∷ []
-closeCells true = 13 ∷ 0 ∷ 0 ∷ []
+unfoldable pub close_cells : Bool → List ℕ
+close_cells false = 13 ∷ 1 ∷ 0 ∷ 0 ∷ 0 ∷ []
+close_cells true = 13 ∷ 0 ∷ 0 ∷ []
 
 -- the rule that the alternatives call
-unfoldable pub calledBy : Bool → ℕ → ℕ → ℕ
-calledBy false own h = h
-calledBy true own h = own
+unfoldable pub called_by : Bool → ℕ → ℕ → ℕ
+called_by false own h = h
+called_by true own h = own
 
 -- all of this file computes where this is unfolded
 unfoldable pub opened : Unit {0}
-unfolding operatorCells levelCells openCells closeCells calledBy
+unfolding operator_cells level_cells open_cells close_cells called_by
 opened = tt

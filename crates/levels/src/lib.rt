@@ -1,15 +1,15 @@
 // The rules made for operators, one for each level of each pair, as cells behind those of the rules written.
 ghost use Rattle.std.specs.Prelude.{◌≡◌, [], ◌∷◌, ℕ, ◌+◌, ◌<◌, ◌≤◌, ◌%◌, length, set};
-ghost use Rattle.declarations.specs.Decls.{valueIn};
-ghost use Rattle.levels.specs.LevelCells.{openCells, closeCells, calledBy};
-ghost use Rattle.levels.specs.Making.{entryCells, OperatorsPut, LevelPut, SiteDone, SiteOf, MakeDone};
+ghost use Rattle.declarations.specs.Decls.{value_in};
+ghost use Rattle.levels.specs.LevelCells.{open_cells, close_cells, called_by};
+ghost use Rattle.levels.specs.Making.{entry_cells, OperatorsPut, LevelPut, SiteDone, SiteOf, MakeDone};
 ghost use Rattle.levels.specs.Naming.{Names, WordOf, FirstDone};
-ghost use Rattle.maker.specs.Marks.{useOf};
+ghost use Rattle.maker.specs.Marks.{use_of};
 ghost use Rattle.resolver.specs.Resolved.{Appends};
-ghost use Rattle.scanner.specs.Next.{asWord};
+ghost use Rattle.scanner.specs.Next.{as_word};
 ghost use Rattle.symbols.specs.Index.{Kept};
 ghost use Rattle.symbols.specs.Rows.{held, word_of};
-ghost use Rattle.words.specs.Words.{wordsAt};
+ghost use Rattle.words.specs.Words.{words_at};
 
 use maker::{Entry, NO_LEVEL, Rank};
 use scanner::WordAt;
@@ -77,7 +77,7 @@ pub struct Made {
 // The value of a word in a class, 0 where it has none.
 fn value_in(text: &[u8], rows: &[u16], n: usize, class: usize, start: usize, len: usize) -> usize
     requires { Kept text.now rows.now n }
-    ensures same { (kind : ℕ) → result ≡ valueIn (held text.now rows.now n) class (word_of text.now kind start len) }
+    ensures same { (kind : ℕ) → result ≡ value_in (held text.now rows.now n) class (word_of text.now kind start len) }
     ensures low { result < 65536 }
 {
     let v = symbols::find_value(text, rows, n, class, start, len);
@@ -98,7 +98,7 @@ fn put_operator(
     count: usize,
 ) -> usize
     requires { Kept text.now rows.now n × (called < 65536) }
-    ensures { Appends cells.old count (65 ∷ valueIn (held text.now rows.now n) 1 (asWord text.now e.token) ∷ 8 ∷ called ∷ 5 ∷ valueIn (held text.now rows.now n) 2 (asWord text.now e.emits) ∷ 0 ∷ []) cells.new result }
+    ensures { Appends cells.old count (65 ∷ value_in (held text.now rows.now n) 1 (as_word text.now e.token) ∷ 8 ∷ called ∷ 5 ∷ value_in (held text.now rows.now n) 2 (as_word text.now e.emits) ∷ 0 ∷ []) cells.new result }
 {
     let token = e.token;
     let emits = e.emits;
@@ -121,7 +121,7 @@ fn put_if(
     count: usize,
 ) -> usize
     requires { Kept text.now rows.now n × (aim.called < 65536) × (count ≤ length cells.old + 1) }
-    ensures { Appends cells.old count (entryCells (held text.now rows.now n) text.now aim.level aim.called e) cells.new result }
+    ensures { Appends cells.old count (entry_cells (held text.now rows.now n) text.now aim.level aim.called e) cells.new result }
 {
     if e.level == aim.level {
         return put_operator(text, rows, n, aim.called, e, cells, count);
@@ -161,7 +161,7 @@ fn put_operators(
 
 fn open_level(cells: &mut [u16], count: usize, right: bool, higher: usize) -> usize
     requires { higher < 65536 }
-    ensures { Appends cells.old count (openCells right higher) cells.new result }
+    ensures { Appends cells.old count (open_cells right higher) cells.new result }
 {
     let c = resolver::put_two(cells, count, cells::CALL, higher);
     if right {
@@ -171,7 +171,7 @@ fn open_level(cells: &mut [u16], count: usize, right: bool, higher: usize) -> us
 }
 
 fn close_level(cells: &mut [u16], count: usize, right: bool) -> usize
-    ensures { Appends cells.old count (closeCells right) cells.new result }
+    ensures { Appends cells.old count (close_cells right) cells.new result }
 {
     if right {
         let c = resolver::put_two(cells, count, cells::OTHERWISE, END);
@@ -184,7 +184,7 @@ fn close_level(cells: &mut [u16], count: usize, right: bool) -> usize
 
 // The rule that the alternatives call: a left level the next higher one, a right level itself.
 fn called_by(x: Nested) -> usize
-    ensures { result ≡ calledBy x.right x.own x.higher }
+    ensures { result ≡ called_by x.right x.own x.higher }
 {
     if x.right {
         return x.own;
@@ -334,7 +334,7 @@ fn is_use_of(text: &[u8], rows: &[u16], n: usize, w: WordAt, section: usize, ope
 // What stands from the `^` w to the end of the operand rule's name.
 fn name_of(text: &[u8], w: WordAt) -> Part
     requires { w.next ≤ length text.now }
-    ensures { (useOf (asWord text.now w) (wordsAt text.now w.next)).operand.kind ≡ 257 → Names (useOf (asWord text.now w) (wordsAt text.now w.next)) result }
+    ensures { (use_of (as_word text.now w) (words_at text.now w.next)).operand.kind ≡ 257 → Names (use_of (as_word text.now w) (words_at text.now w.next)) result }
 {
     let s = scanner::next_word(text, w.next);
     let c = scanner::next_word(text, s.next);

@@ -10,21 +10,21 @@ use Rattle.linkage.specs.declared.Body.{Body}
 use Rattle.linkage.specs.declared.Names.{Names}
 use Rattle.linkage.specs.declared.Uses.{Uses}
 use Rattle.linker.proofs.Placing.{letters-are}
-use Rattle.linker.specs.Place.{letters, textAt, behindName, textsFrom, textsEnd}
+use Rattle.linker.specs.Place.{letters, text_at, behind_name, texts_from, texts_end}
 use Rattle.objects.proofs.Looked.{name-at, ends-took}
 use Rattle.objects.proofs.TakeLaws.{times-exact}
 use Rattle.objects.proofs.Views.{name-exact, option-exact}
 use Rattle.objects.specs.Places.{EndsAt, Ends, NameAt}
 use Rattle.objects.specs.Take.{Taken, took, missing, times}
-use Rattle.objects.specs.View.{Name, RuleView, nameWords, optionWords, ruleWords, all, aName, anOption}
-use Rattle.objects.specs.Whole.{textsOf}
+use Rattle.objects.specs.View.{Name, RuleView, name_words, option_words, rule_words, all, a_name, an_option}
+use Rattle.objects.specs.Whole.{texts_of}
 
 -- Names
 
 -- the name at a place is read by its length
-pub text-is : (words : List ℕ) (p : ℕ) (n : Name) (k : List ℕ) → drop p words ≡ nameWords n ++ k → textAt words p ≡ n.text
-unfolding textAt nameWords
-text-is words p n k e =
+pub text_is : (words : List ℕ) (p : ℕ) (n : Name) (k : List ℕ) → drop p words ≡ name_words n ++ k → text_at words p ≡ n.text
+unfolding text_at name_words
+text_is words p n k e =
     let x = name-at words p n k e in
     let h = x.there in
     let d : drop (p + 2) words ≡ n.text ++ k = sym (drop-drop 2 p words) ∙ ap (λ (ws : List ℕ). drop 2 ws) e in
@@ -33,48 +33,48 @@ text-is words p n k e =
     text_of : ℕ → List ℕ
     text_of i = letters words (p + 2) i
 
-size_of : (words : List ℕ) (p : ℕ) (n : Name) → get_or words (p + 1) 0 ≡ length n.text → p + 2 + get_or words (p + 1) 0 ≡ p + length (nameWords n)
-unfolding nameWords
+size_of : (words : List ℕ) (p : ℕ) (n : Name) → get_or words (p + 1) 0 ≡ length n.text → p + 2 + get_or words (p + 1) 0 ≡ p + length (name_words n)
+unfolding name_words
 size_of words p n e = omega (arith, e)
 
-names_at : (words : List ℕ) (p : ℕ) (ns : List Name) (k : List ℕ) → drop p words ≡ all nameWords ns ++ k
-    → (textsFrom words p (length ns) ≡ textsOf ns) × (textsEnd words p (length ns) ≡ p + length (all nameWords ns))
-unfolding textsFrom textsEnd textsOf all behindName
+names_at : (words : List ℕ) (p : ℕ) (ns : List Name) (k : List ℕ) → drop p words ≡ all name_words ns ++ k
+    → (texts_from words p (length ns) ≡ texts_of ns) × (texts_end words p (length ns) ≡ p + length (all name_words ns))
+unfolding texts_from texts_end texts_of all behind_name
 names_at words p [] k e = (refl, omega arith)
 names_at words p (n ∷ ns) k e =
-    let a : drop p words ≡ nameWords n ++ (all nameWords ns ++ k) = e ∙ append_assoc (nameWords n) (all nameWords ns) k in
-    let x = name-at words p n (all nameWords ns ++ k) a in
-    let z : p + 2 + get_or words (p + 1) 0 ≡ p + length (nameWords n) = size_of words p n x.size in
-    let d : drop (p + 2 + get_or words (p + 1) 0) words ≡ all nameWords ns ++ k =
-    ap (λ i. drop i words) z ∙ sym (drop-drop (length (nameWords n)) p words) ∙ ap (drop (length (nameWords n))) a ∙ drop-append_seam (nameWords n) (all nameWords ns ++ k) in
+    let a : drop p words ≡ name_words n ++ (all name_words ns ++ k) = e ∙ append_assoc (name_words n) (all name_words ns) k in
+    let x = name-at words p n (all name_words ns ++ k) a in
+    let z : p + 2 + get_or words (p + 1) 0 ≡ p + length (name_words n) = size_of words p n x.size in
+    let d : drop (p + 2 + get_or words (p + 1) 0) words ≡ all name_words ns ++ k =
+    ap (λ i. drop i words) z ∙ sym (drop-drop (length (name_words n)) p words) ∙ ap (drop (length (name_words n))) a ∙ drop-append_seam (name_words n) (all name_words ns ++ k) in
     let ih = names_at words (p + 2 + get_or words (p + 1) 0) ns k d in
-    let l = length-append (nameWords n) (all nameWords ns) in
+    let l = length-append (name_words n) (all name_words ns) in
     let y = ih.1 in
-    (ap (λ t. t ∷ textsFrom words (p + 2 + get_or words (p + 1) 0) (length ns)) (text-is words p n (all nameWords ns ++ k) a) ∙ ap (λ ts. n.text ∷ ts) ih.0, omega (arith, y, z, l))
+    (ap (λ t. t ∷ texts_from words (p + 2 + get_or words (p + 1) 0) (length ns)) (text_is words p n (all name_words ns ++ k) a) ∙ ap (λ ts. n.text ∷ ts) ih.0, omega (arith, y, z, l))
 
 -- they end where the code says
-pub names-end : (words : List ℕ) (p m r : ℕ) → Ends (times m aName) words p r → p ≤ length words → r ≤ length words → textsEnd words p m ≡ r
+pub names-end : (words : List ℕ) (p m r : ℕ) → Ends (times m a_name) words p r → p ≤ length words → r ≤ length words → texts_end words p m ≡ r
 unfolding EndsAt
-names-end words p m r x l h = go (times m aName (drop p words)) refl x.is
+names-end words p m r x l h = go (times m a_name (drop p words)) refl x.is
   where
-    go : (t : Taken (List Name)) → times m aName (drop p words) ≡ t → EndsAt words t r → textsEnd words p m ≡ r
+    go : (t : Taken (List Name)) → times m a_name (drop p words) ≡ t → EndsAt words t r → texts_end words p m ≡ r
     go (took ns rest) d e =
         let f = (times-exact name-exact m).forth (drop p words) ns rest d in
         let g = (names_at words p ns rest f.0).1 in
         let a = ap length f.0 in
-        let b = length-append (all nameWords ns) rest in
+        let b = length-append (all name_words ns) rest in
         let c = ap length e.0 in
         let i = length-drop p words in
         let j = length-drop r words in
-        ap (textsEnd words p) (sym f.1) ∙ g ∙ omega (arith, a, b, c, i, j, l, h)
+        ap (texts_end words p) (sym f.1) ∙ g ∙ omega (arith, a, b, c, i, j, l, h)
     go missing d e = absurd (omega (arith, e, h))
 
 -- A rule
 
 pub record Parts (words : List ℕ) (v : RuleView) (k : List ℕ) (gives : ℕ) : Type 0 where
   pub inside : gives ≤ length words
-  pub count : (q : ℕ) → Ends anOption words gives q → (q < length words) × (get_or words q 0 ≡ length v.calls)
-  pub calls : (q : ℕ) → Ends anOption words gives q → drop (q + 1) words ≡ all nameWords v.calls ++ (length v.cells ∷ (v.cells ++ k))
+  pub count : (q : ℕ) → Ends an_option words gives q → (q < length words) × (get_or words q 0 ≡ length v.calls)
+  pub calls : (q : ℕ) → Ends an_option words gives q → drop (q + 1) words ≡ all name_words v.calls ++ (length v.cells ∷ (v.cells ++ k))
 
 at_first : (words : List ℕ) (q x : ℕ) (xs : List ℕ) → x ∷ xs ≡ drop q words → (q < length words) × (get_or words q 0 ≡ x) × (drop (q + 1) words ≡ xs)
 at_first words q x xs e =
@@ -83,38 +83,38 @@ at_first words q x xs e =
     let n : q + 0 ≡ q = omega arith in
     (omega (arith, l, d), ap (λ (i : ℕ). get_or words i 0) (sym n) ∙ sym (get_or-drop q words 0 0) ∙ ap (λ (ws : List ℕ). get_or ws 0 0) (sym e), sym (drop-drop 1 q words) ∙ ap (λ (ws : List ℕ). drop 1 ws) (sym e))
 
-pub parts : (words : List ℕ) (at gives : ℕ) (v : RuleView) (k : List ℕ) → drop at words ≡ ruleWords v ++ k → Ends aName words at gives → Parts words v k gives
-unfolding ruleWords
+pub parts : (words : List ℕ) (at gives : ℕ) (v : RuleView) (k : List ℕ) → drop at words ≡ rule_words v ++ k → Ends a_name words at gives → Parts words v k gives
+unfolding rule_words
 parts words at gives v k e x = record { inside = a.1; count = λ q y. let z = at_first words q _ _ (b q y) in (z.0, z.1); calls = λ q y. (at_first words q _ _ (b q y)).2 }
   where
     calls₁ : List ℕ
-    calls₁ = length v.calls ∷ (all nameWords v.calls ++ (length v.cells ∷ (v.cells ++ k)))
+    calls₁ = length v.calls ∷ (all name_words v.calls ++ (length v.cells ∷ (v.cells ++ k)))
 
-    pieces : ruleWords v ++ k ≡ nameWords v.name ++ (optionWords v.gives ++ calls₁)
-    pieces = append_assoc (nameWords v.name) _ k ∙ ap (λ ws. nameWords v.name ++ ws) (append_assoc (optionWords v.gives) _ k
-        ∙ ap (λ ws. optionWords v.gives ++ (length v.calls ∷ ws)) (append_assoc (all nameWords v.calls) (length v.cells ∷ v.cells) k))
+    pieces : rule_words v ++ k ≡ name_words v.name ++ (option_words v.gives ++ calls₁)
+    pieces = append_assoc (name_words v.name) _ k ∙ ap (λ ws. name_words v.name ++ ws) (append_assoc (option_words v.gives) _ k
+        ∙ ap (λ ws. option_words v.gives ++ (length v.calls ∷ ws)) (append_assoc (all name_words v.calls) (length v.cells ∷ v.cells) k))
 
-    a : (optionWords v.gives ++ calls₁ ≡ drop gives words) × (gives ≤ length words)
-    a = ends-took v.name (optionWords v.gives ++ calls₁) (ap aName (e ∙ pieces) ∙ name-exact.back v.name tt (optionWords v.gives ++ calls₁)) x
+    a : (option_words v.gives ++ calls₁ ≡ drop gives words) × (gives ≤ length words)
+    a = ends-took v.name (option_words v.gives ++ calls₁) (ap a_name (e ∙ pieces) ∙ name-exact.back v.name tt (option_words v.gives ++ calls₁)) x
 
-    b : (q : ℕ) → Ends anOption words gives q → calls₁ ≡ drop q words
-    b q y = (ends-took v.gives calls₁ (ap anOption (sym a.0) ∙ option-exact.back v.gives tt calls₁) y).0
+    b : (q : ℕ) → Ends an_option words gives q → calls₁ ≡ drop q words
+    b q y = (ends-took v.gives calls₁ (ap an_option (sym a.0) ∙ option-exact.back v.gives tt calls₁) y).0
 
 -- the cells stand behind the names
-pub cells_at : (words : List ℕ) (v : RuleView) (k : List ℕ) (p m r : ℕ) → drop p words ≡ all nameWords v.calls ++ (length v.cells ∷ (v.cells ++ k)) → m ≡ length v.calls → Ends (times m aName) words p r
+pub cells_at : (words : List ℕ) (v : RuleView) (k : List ℕ) (p m r : ℕ) → drop p words ≡ all name_words v.calls ++ (length v.cells ∷ (v.cells ++ k)) → m ≡ length v.calls → Ends (times m a_name) words p r
     → (r < length words) × (get_or words r 0 ≡ length v.cells) × (drop (r + 1) words ≡ v.cells ++ k)
 cells_at words v k p m r e d x =
     let b = (times-exact name-exact m).back v.calls (sym d) (length v.cells ∷ (v.cells ++ k)) in
-    at_first words r _ _ (ends-took v.calls _ (ap (times m aName) e ∙ b) x).0
+    at_first words r _ _ (ends-took v.calls _ (ap (times m a_name) e ∙ b) x).0
 
-pub is_body : (words : List ℕ) (v : RuleView) (k : List ℕ) (p m r n : ℕ) (uses : Uses) → drop p words ≡ all nameWords v.calls ++ (length v.cells ∷ (v.cells ++ k)) → m ≡ length v.calls
-    → Ends (times m aName) words p r → n ≡ get_or words r 0 → IsBody words v k (record { at = r + 1; count = n; calls = record { at = p; left = m }; uses = uses })
+pub is_body : (words : List ℕ) (v : RuleView) (k : List ℕ) (p m r n : ℕ) (uses : Uses) → drop p words ≡ all name_words v.calls ++ (length v.cells ∷ (v.cells ++ k)) → m ≡ length v.calls
+    → Ends (times m a_name) words p r → n ≡ get_or words r 0 → IsBody words v k (record { at = r + 1; count = n; calls = record { at = p; left = m }; uses = uses })
 is_body words v k p m r n uses e d x z =
     let c = cells_at words v k p m r e d x in
     let s : n ≡ length v.cells = z ∙ c.1 in
     record {
       cells = ap (λ i. take i (drop (r + 1) words)) s ∙ ap (take (length v.cells)) c.2 ∙ take-append_seam v.cells k;
-      calls = ap (textsFrom words p) d ∙ (names_at words p v.calls _ e).0;
+      calls = ap (texts_from words p) d ∙ (names_at words p v.calls _ e).0;
       behind = ap (λ i. drop (r + 1 + i) words) s ∙ sym (drop-drop (length v.cells) (r + 1) words) ∙ ap (drop (length v.cells)) c.2 ∙ drop-append_seam v.cells k;
     }
 
@@ -122,26 +122,26 @@ is_body words v k p m r n uses e d x z =
 
 module _ {words : List ℕ} {at : ℕ} where
   pub nobody : {uses : Uses} {r : Body} → r.at ≡ length words → r.count ≡ 0 → r.calls.at ≡ length words → r.calls.left ≡ 0 → r.uses ≡ uses
-      → ((v : RuleView) (k : List ℕ) → drop at words ≡ ruleWords v ++ k → ⊥) → BodyAt words at uses r
-  unfolding textsEnd
+      → ((v : RuleView) (k : List ℕ) → drop at words ≡ rule_words v ++ k → ⊥) → BodyAt words at uses r
+  unfolding texts_end
   nobody a b c d e f = record { inside = omega (arith, a, b); names = rw (c, d) (omega arith); pairs = e; is = λ v k h. absurd (f v k h) }
 
-  module _ {gives end : ℕ} (x : Ends aName words at gives) (z : end ≡ length words) where
-    pub no-gives : end < gives → (v : RuleView) (k : List ℕ) → drop at words ≡ ruleWords v ++ k → ⊥
+  module _ {gives end : ℕ} (x : Ends a_name words at gives) (z : end ≡ length words) where
+    pub no-gives : end < gives → (v : RuleView) (k : List ℕ) → drop at words ≡ rule_words v ++ k → ⊥
     no-gives l v k e = let h = (parts words at gives v k e x).inside in omega (arith, h, l, z)
 
-    module _ {calls left : ℕ} (y : Ends anOption words gives calls) (m : left ≡ get_or words calls 0) where
-      pub no-calls : end ≤ calls → (v : RuleView) (k : List ℕ) → drop at words ≡ ruleWords v ++ k → ⊥
+    module _ {calls left : ℕ} (y : Ends an_option words gives calls) (m : left ≡ get_or words calls 0) where
+      pub no-calls : end ≤ calls → (v : RuleView) (k : List ℕ) → drop at words ≡ rule_words v ++ k → ⊥
       no-calls l v k e = let h = ((parts words at gives v k e x).count calls y).0 in omega (arith, h, l, z)
 
-      module _ {cells count : ℕ} (w : Ends (times left aName) words (calls + 1) cells) (n : count ≡ get_or words cells 0) where
-        found : (v : RuleView) (k : List ℕ) → drop at words ≡ ruleWords v ++ k → (cells < length words) × (get_or words cells 0 ≡ length v.cells) × (drop (cells + 1) words ≡ v.cells ++ k)
+      module _ {cells count : ℕ} (w : Ends (times left a_name) words (calls + 1) cells) (n : count ≡ get_or words cells 0) where
+        found : (v : RuleView) (k : List ℕ) → drop at words ≡ rule_words v ++ k → (cells < length words) × (get_or words cells 0 ≡ length v.cells) × (drop (cells + 1) words ≡ v.cells ++ k)
         found v k e = let p = parts words at gives v k e x in cells_at words v k (calls + 1) left cells (p.calls calls y) (m ∙ (p.count calls y).1) w
 
-        pub no_cells : end ≤ cells → (v : RuleView) (k : List ℕ) → drop at words ≡ ruleWords v ++ k → ⊥
+        pub no_cells : end ≤ cells → (v : RuleView) (k : List ℕ) → drop at words ≡ rule_words v ++ k → ⊥
         no_cells l v k e = let h = (found v k e).0 in omega (arith, h, l, z)
 
-        pub few-cells : end - (cells + 1) < count → (v : RuleView) (k : List ℕ) → drop at words ≡ ruleWords v ++ k → ⊥
+        pub few-cells : end - (cells + 1) < count → (v : RuleView) (k : List ℕ) → drop at words ≡ rule_words v ++ k → ⊥
         few-cells l v k e =
             let h = found v k e in
             let a = ap length h.2 in
@@ -159,7 +159,7 @@ module _ {words : List ℕ} {at : ℕ} where
         }
 
 -- how many cells the rule has
-pub body-size : {words : List ℕ} {at : ℕ} {uses : Uses} {b : Body} → BodyAt words at uses b → (v : RuleView) (k : List ℕ) → drop at words ≡ ruleWords v ++ k → b.count ≡ length v.cells
+pub body-size : {words : List ℕ} {at : ℕ} {uses : Uses} {b : Body} → BodyAt words at uses b → (v : RuleView) (k : List ℕ) → drop at words ≡ rule_words v ++ k → b.count ≡ length v.cells
 body-size {words} {at} {uses} {b} x v k e =
     let a = ap length (x.is v k e).cells in
     let l = length-take b.count (drop b.at words) in

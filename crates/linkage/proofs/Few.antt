@@ -8,11 +8,11 @@ use Rattle.base.specs.Tree.{plain, cycle, choice, done, ◌▸◌, nil, alternat
 use Rattle.emitter.specs.Emitted.{FewLabels, FewLabelsAll, FewLabelsAlts, FewLabelsOther}
 use Rattle.parts.specs.Sound as sound
 use Rattle.program.specs.Program.{Act, Acts, Alts, Other}
-use Rattle.program.specs.Table.{countLabels}
+use Rattle.program.specs.Table.{count_labels}
 use Rattle.verdict.specs.Lies as verdict
 
 mutual
-  unfolding sound.Few FewLabels verdict.Few verdict.labelled countLabels
+  unfolding sound.Few FewLabels verdict.Few verdict.labelled count_labels
 
   act-few : (a : Act) → sound.Few a → FewLabels a × verdict.Few a
   act-few (plain p) h = (tt, tt)
@@ -28,7 +28,7 @@ mutual
   acts-few done h = (tt, tt)
   acts-few (a ▸ q) h = let x = act-few a h.0 in let y = acts-few q h.1 in ((x.0, y.0), (x.1, y.1))
 
-  alts-few : (q : Alts) → countLabels q ≤ 64 → sound.FewSome q → (verdict.labelled q ≡ countLabels q) × FewLabelsAlts q × verdict.FewSome q
+  alts-few : (q : Alts) → count_labels q ≤ 64 → sound.FewSome q → (verdict.labelled q ≡ count_labels q) × FewLabelsAlts q × verdict.FewSome q
   alts-few nil l h = (refl, tt, tt)
   alts-few (alternative ls b q) l h =
       let x = acts-few b h.1 in

@@ -1,9 +1,9 @@
 -- The answer for a program whose rules' cells stand in the buffers: table, verdict and figure, or 20.
 use Rattle.std.specs.Prelude.{List, ◌≡◌, ℕ, length}
-use Rattle.figure.specs.Told.{toldIf}
+use Rattle.figure.specs.Told.{told_if}
 use Rattle.frontend.specs.Resolving.{Ready}
 use Rattle.machine.specs.Bytes.{count}
-use Rattle.processor.specs.Process.{meaning, answerFor}
+use Rattle.processor.specs.Process.{meaning, answer_for}
 use Rattle.program.specs.Program.{Rule}
 use Rattle.translator.specs.Answered.{Settles}
 use Rattle.translator.specs.declared.Answer.{Answer}
@@ -17,4 +17,4 @@ pub record IsReady (cells starts sorts : List ℕ) (rules filled : ℕ) : Type 0
 abbrev pub Concludes : ℕ → List ℕ → List ℕ → List ℕ → ℕ → ℕ → List ℕ → List ℕ → Answer → Type 0
 Concludes size cells starts sorts rules filled old new r =
     (text : List ℕ) (prog : List Rule) → length text ≡ size → Ready cells starts sorts rules filled prog
-    → Settles (answerFor text (count old) (meaning prog)) (toldIf (answerFor text (count old) (meaning prog)) prog) old new r
+    → Settles (answer_for text (count old) (meaning prog)) (told_if (answer_for text (count old) (meaning prog)) prog) old new r

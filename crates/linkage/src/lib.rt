@@ -1,18 +1,18 @@
 // Linking as a whole.
 ghost use Rattle.std.specs.Prelude.{List, ◌++◌, ◌≡◌, ℕ, ◌+◌, ◌<◌, ◌≤◌, length, take, drop};
 ghost use Rattle.base.specs.Common.{given};
-ghost use Rattle.cells.specs.Cells.{sortOf};
+ghost use Rattle.cells.specs.Cells.{sort_of};
 ghost use Rattle.linkage.specs.Bodies.{BodyAt};
 ghost use Rattle.linkage.specs.Closing.{Lows, places_of, Behind, Turned};
 ghost use Rattle.linkage.specs.Concluded.{IsReady, Concludes};
 ghost use Rattle.linkage.specs.Groups.{GroupAt, ClosesGroup, ClosesAll};
 ghost use Rattle.linkage.specs.Placed.{Placed, Put};
-ghost use Rattle.linkchecks.specs.Row.{rowFrom};
+ghost use Rattle.linkchecks.specs.Row.{row_from};
 ghost use Rattle.linkchecks.specs.Walk.{Viewed};
 ghost use Rattle.linker.specs.Close as close;
-ghost use Rattle.linker.specs.Place.{textsEnd};
+ghost use Rattle.linker.specs.Place.{texts_end};
 ghost use Rattle.machine.specs.Bytes.{words_of};
-ghost use Rattle.objects.specs.View.{RuleView, View, ruleWords};
+ghost use Rattle.objects.specs.View.{RuleView, View, rule_words};
 ghost use Rattle.resolver.specs.Resolved.{Appends};
 
 use base::{least, wide};
@@ -112,7 +112,7 @@ fn aimed(
 
 // The names behind the first.
 fn next_names(objects: &[u8], calls: Names) -> Names
-    requires { textsEnd (words_of objects.now) calls.at calls.left < 9223372036854775808 }
+    requires { texts_end (words_of objects.now) calls.at calls.left < 9223372036854775808 }
     ensures { Behind (words_of objects.now) calls result }
 {
     if calls.left == 0 {
@@ -135,8 +135,8 @@ fn turn(
     x: u16,
 ) -> Spot
     requires { (uses.collected ≤ length sites.now) × (uses.collected ≤ length lowest.now) × (uses.at ≤ length (words_of objects.now))
-        × (textsEnd (words_of objects.now) spot.calls.at spot.calls.left < 9223372036854775808) × (length names.now < 65536) }
-    ensures end { textsEnd (words_of objects.now) result.calls.at result.calls.left ≡ textsEnd (words_of objects.now) spot.calls.at spot.calls.left }
+        × (texts_end (words_of objects.now) spot.calls.at spot.calls.left < 9223372036854775808) × (length names.now < 65536) }
+    ensures end { texts_end (words_of objects.now) result.calls.at result.calls.left ≡ texts_end (words_of objects.now) spot.calls.at spot.calls.left }
     ensures turned { (low : ℕ → ℕ) → Lows (words_of objects.now) sites.now lowest.now uses low → Turned low (words_of objects.now) names.now spot x result }
 {
     let calls = spot.calls;
@@ -178,10 +178,10 @@ fn close(
     from: usize,
 ) -> usize
     requires { (body.at + body.count ≤ length (words_of objects.now)) × (body.uses.collected ≤ length sites.now) × (body.uses.collected ≤ length lowest.now) × (body.uses.at ≤ length (words_of objects.now))
-        × (textsEnd (words_of objects.now) body.calls.at body.calls.left < 9223372036854775808) × (length names.now < 65536) }
+        × (texts_end (words_of objects.now) body.calls.at body.calls.left < 9223372036854775808) × (length names.now < 65536) }
     ensures bound { (result ≤ length cells.old + 1) × (length cells.new ≡ length cells.old) }
     ensures closed { (low : ℕ → ℕ) → Lows (words_of objects.now) sites.now lowest.now body.uses low
-        → Appends cells.old from (close.closeCells low (places_of (words_of objects.now) names.now body.calls) (take body.count (drop body.at (words_of objects.now)))) cells.new result }
+        → Appends cells.old from (close.close_cells low (places_of (words_of objects.now) names.now body.calls) (take body.count (drop body.at (words_of objects.now)))) cells.new result }
 {
     let end = body.at + body.count;
     let mut p = body.at;
@@ -325,7 +325,7 @@ pub fn close_all(
 // The sort of the rule at a place: 1 for a choice rule, 0 for a procedure rule.
 fn rule_sort(objects: &[u8], at: usize) -> u8
     requires { at ≤ length (words_of objects.now) }
-    ensures { (v : RuleView) (k : List ℕ) → drop at (words_of objects.now) ≡ ruleWords v ++ k → result ≡ sortOf (given v.gives) }
+    ensures { (v : RuleView) (k : List ℕ) → drop at (words_of objects.now) ≡ rule_words v ++ k → result ≡ sort_of (given v.gives) }
 {
     let gives = objects::past_name(objects, at);
     if gives >= total(objects) {
@@ -340,7 +340,7 @@ fn rule_sort(objects: &[u8], at: usize) -> u8
 // How many cells it has.
 fn rule_size(objects: &[u8], at: usize) -> usize
     requires { at ≤ length (words_of objects.now) }
-    ensures { (result < 9223372036854775808) × ((v : RuleView) (k : List ℕ) → drop at (words_of objects.now) ≡ ruleWords v ++ k → result ≡ length v.cells) }
+    ensures { (result < 9223372036854775808) × ((v : RuleView) (k : List ℕ) → drop at (words_of objects.now) ≡ rule_words v ++ k → result ≡ length v.cells) }
 {
     let uses = Uses {
         at: 0,
@@ -372,7 +372,7 @@ fn put_sort(sorts: &mut [u8], k: usize, sort: u8)
 // Where the cells of each rule begin, closed or not, and its sort, for as many rules as there is room; how many rules there are.
 pub fn place_rules(objects: &[u8], common: &[u8], starts: &mut [u16], sorts: &mut [u8]) -> usize
     ensures same { (length starts.new ≡ length starts.old) × (length sorts.new ≡ length sorts.old) }
-    ensures placed { (vs : List View) → Viewed common.now (words_of objects.now) vs → (result ≡ length (rowFrom 1 vs)) × Placed (rowFrom 1 vs) result starts.new sorts.new }
+    ensures placed { (vs : List View) → Viewed common.now (words_of objects.now) vs → (result ≡ length (row_from 1 vs)) × Placed (row_from 1 vs) result starts.new sorts.new }
 {
     let end = total(objects);
     let mut cursor = linkchecks::first_rule(objects, common);

@@ -6,7 +6,7 @@ use Prim.Native.Nat.{ℕ}
 use Rattle.parts.specs.Link
 use Rattle.objects.specs.View.{Name}
 use Rattle.linkchecks.specs.Row
-use Rattle.linkchecks.specs.Row.{Item, Shown, typedFirst, pastRow, unlikeRule, twiceRule}
+use Rattle.linkchecks.specs.Row.{Item, Shown, typed_first, past_row, unlike_rule, twice_rule}
 
 reading : Unit {0}
 unfolding Link.opened Row.opened
@@ -27,44 +27,44 @@ both : List Item
 both = item 1 (name 6 77) none (name 10 78 ∷ []) ∷ item 2 (name 6 78) none [] ∷ []
 
 -- 49: a called rule may stand in a later part
-called-later : unlikeRule 3 both [] (item 1 (name 6 77) none (name 10 78 ∷ [])) ≡ none
+called-later : unlike_rule 3 both [] (item 1 (name 6 77) none (name 10 78 ∷ [])) ≡ none
 unfolding reading name item both
 called-later = refl
 
 -- a call of O, which is in no part
-called-nowhere : unlikeRule 3 both [] (item 1 (name 6 77) none (name 10 79 ∷ [])) ≡ shows 1 (name 10 79)
+called-nowhere : unlike_rule 3 both [] (item 1 (name 6 77) none (name 10 79 ∷ [])) ≡ shows 1 (name 10 79)
 unfolding reading name item both shows
 called-nowhere = refl
 
 -- a choice rule that is not on the list: its own name before its calls
-name-before-calls : unlikeRule 3 both [] (item 1 (name 6 77) (some (name 8 84)) (name 10 79 ∷ [])) ≡ shows 1 (name 6 77)
+name-before-calls : unlike_rule 3 both [] (item 1 (name 6 77) (some (name 8 84)) (name 10 79 ∷ [])) ≡ shows 1 (name 6 77)
 unfolding reading name item both shows
 name-before-calls = refl
 
 -- 50: another part before has the name
-in-two-parts : twiceRule both (item 2 (name 20 77) none []) ≡ shows 2 (name 20 77)
+in-two-parts : twice_rule both (item 2 (name 20 77) none []) ≡ shows 2 (name 20 77)
 unfolding reading name item both shows
 in-two-parts = refl
 
 -- the same part has it, or a later one
-in-one-part : twiceRule both (item 1 (name 20 77) none []) ≡ none
+in-one-part : twice_rule both (item 1 (name 20 77) none []) ≡ none
 unfolding reading name item both
 in-one-part = refl
 
 -- 9: the second rule where one may be
-past_one : pastRow 1 both ≡ shows 2 (name 6 78)
+past_one : past_row 1 both ≡ shows 2 (name 6 78)
 unfolding reading name item both shows
 past_one = refl
 
-past_two : pastRow 2 both ≡ none
+past_two : past_row 2 both ≡ none
 unfolding reading name item both
 past_two = refl
 
 -- 5
-first-has-a-type : typedFirst (item 1 (name 6 77) (some (name 8 84)) [] ∷ both) ≡ shows 1 (name 6 77)
+first-has-a-type : typed_first (item 1 (name 6 77) (some (name 8 84)) [] ∷ both) ≡ shows 1 (name 6 77)
 unfolding reading name item both shows
 first-has-a-type = refl
 
-second-has-a-type : typedFirst (item 1 (name 6 77) none [] ∷ item 1 (name 9 78) (some (name 11 84)) [] ∷ []) ≡ none
+second-has-a-type : typed_first (item 1 (name 6 77) none [] ∷ item 1 (name 9 78) (some (name 11 84)) [] ∷ []) ≡ none
 unfolding reading name item
 second-has-a-type = refl

@@ -12,9 +12,9 @@ use Rattle.objects.proofs.TakeLaws.{Exact, times-exact}
 use Rattle.objects.proofs.Views.{pair-exact, rule-exact}
 use Rattle.objects.specs.Places.{EndsAt, Ends}
 use Rattle.objects.specs.Take.{Taken, took, missing, Taker, times}
-use Rattle.objects.specs.View.{RuleView, View, all, nameWords, pairWords, ruleWords, bodyWords, viewWords, aPair, aRule}
+use Rattle.objects.specs.View.{RuleView, View, all, name_words, pair_words, rule_words, body_words, view_words, a_pair, a_rule}
 use Rattle.parts.specs.Form.{packed}
-use Rattle.linkchecks.specs.Row.{Item, inText, rowFrom, lastSize}
+use Rattle.linkchecks.specs.Row.{Item, in_text, row_from, last_size}
 use Rattle.linkchecks.specs.Walk.{Ruled, Viewed, Before, Stands}
 use Rattle.linkchecks.specs.declared.Cursor.{Cursor}
 
@@ -38,15 +38,15 @@ before-end {A} {m} {w} {P} {words} {at} {r} x f y l = go (m (drop at words)) ref
         omega (arith, z, n, s, k, i, j, h, l)
     go missing d e = omega (arith, e, l)
 
-pub rule-some : (r : RuleView) → 1 ≤ length (ruleWords r)
-unfolding ruleWords nameWords
+pub rule-some : (r : RuleView) → 1 ≤ length (rule_words r)
+unfolding rule_words name_words
 rule-some r = omega arith
 
 -- a rule takes words
-pub rule-ahead : {words : List ℕ} {at r : ℕ} → Ends aRule words at r → at ≤ length words → at < r
+pub rule-ahead : {words : List ℕ} {at r : ℕ} → Ends a_rule words at r → at ≤ length words → at < r
 rule-ahead y l = before-end rule-exact rule-some y l
 
-pub pairs-ahead : (n : ℕ) {words : List ℕ} {at r : ℕ} → Ends (times n aPair) words at r → at ≤ length words → at ≤ r
+pub pairs-ahead : (n : ℕ) {words : List ℕ} {at r : ℕ} → Ends (times n a_pair) words at r → at ≤ length words → at ≤ r
 pairs-ahead n y l = ahead (times-exact pair-exact n) y l
 
 all_none : (words : List ℕ) (at : ℕ) → length words ≤ at → drop at words ≡ []
@@ -55,36 +55,36 @@ all_none words at l = drop_of_length-le words l
 no_words : (words : List ℕ) (at : ℕ) → at < length words → drop at words ≡ [] → ⊥
 no_words words at l e = let a = length-drop at words in let b = ap length e in omega (arith, a, b, l)
 
-abbrev pub firstPairAt : List ℕ → ℕ → ℕ
-firstPairAt common at = at + 7 + length common / 2 + length common % 2
+abbrev pub first_pair_at : List ℕ → ℕ → ℕ
+first_pair_at common at = at + 7 + length common / 2 + length common % 2
 
-abbrev allViews : List ℕ → List View → List ℕ
-allViews common us = all (viewWords common) us
+abbrev all_views : List ℕ → List View → List ℕ
+all_views common us = all (view_words common) us
 
 module _ (common words : List ℕ) (vs : List View) where
   record Header (at : ℕ) (v : View) (more : List ℕ) : Type 0 where
-    pub long : firstPairAt common at ≤ length words
+    pub long : first_pair_at common at ≤ length words
     pub size : get_or words (at + 4) 0 ≡ v.size
     pub rules : get_or words (at + 5) 0 ≡ length v.rules
     pub pairs : get_or words (at + 6) 0 ≡ length v.pairs
-    pub behind : drop (firstPairAt common at) words ≡ all pairWords v.pairs ++ (all ruleWords v.rules ++ more)
+    pub behind : drop (first_pair_at common at) words ≡ all pair_words v.pairs ++ (all rule_words v.rules ++ more)
 
   -- the place behind the pairs
   pub record Entered (c : Cursor) (left : List View) (n size rules r : ℕ) : Type 0 where
     pub near : r ≤ length words
     pub stands : size ≡ get_or words (c.at + 4) 0 → rules ≡ get_or words (c.at + 5) 0
-        → Stands common words vs (record { text = c.text + 1; size = size; at = r; left = rules }) (rowFrom (suc c.text) left)
+        → Stands common words vs (record { text = c.text + 1; size = size; at = r; left = rules }) (row_from (suc c.text) left)
 
   pub record Steps (c : Cursor) (x : Item) (row : List Item) : Type 0 where
     pub later : List RuleView
     pub views : List View
-    pub here : drop c.at words ≡ ruleWords x.rule ++ (all ruleWords later ++ allViews common views)
-    pub text-is : x.text ≡ c.text
+    pub here : drop c.at words ≡ rule_words x.rule ++ (all rule_words later ++ all_views common views)
+    pub text_is : x.text ≡ c.text
     pub as_many : c.left ≡ suc (length later)
     pub ruled : Each Ruled views
     pub count : c.text + length views ≡ length vs
-    pub last : lastSize c.size views ≡ lastSize 0 vs
-    pub are : row ≡ inText c.text later ++ rowFrom (suc c.text) views
+    pub last : last_size c.size views ≡ last_size 0 vs
+    pub are : row ≡ in_text c.text later ++ row_from (suc c.text) views
 
   -- A row that decides: where the cursor stands, the answer b is what f says of the row left
 
@@ -100,33 +100,33 @@ module _ (common words : List ℕ) (vs : List View) where
     pub is : b ≡ f (first ∷ later)
 
 -- an object takes words
-views-long : (common : List ℕ) (vs : List View) → length vs ≤ length (allViews common vs)
-unfolding all viewWords
+views-long : (common : List ℕ) (vs : List View) → length vs ≤ length (all_views common vs)
+unfolding all view_words
 views-long common [] = omega arith
-views-long common (v ∷ vs) = let a = length-append (viewWords common v) (allViews common vs) in let b = views-long common vs in omega (arith, a, b)
+views-long common (v ∷ vs) = let a = length-append (view_words common v) (all_views common vs) in let b = views-long common vs in omega (arith, a, b)
 
 pub views-few : {common words : List ℕ} {vs : List View} → Viewed common words vs → length vs ≤ length words
 views-few {common} {words} {vs} v = let a = views-long common vs in let b = ap length v.are in omega (arith, a, b)
 
 module _ {common words : List ℕ} {vs : List View} where
-  header : (at : ℕ) (v : View) (more : List ℕ) → drop at words ≡ viewWords common v ++ more → Header common words vs at v more
-  unfolding viewWords bodyWords
+  header : (at : ℕ) (v : View) (more : List ℕ) → drop at words ≡ view_words common v ++ more → Header common words vs at v more
+  unfolding view_words body_words
   header at v more e = record {
     long = let a = length-drop at words in let b = ap length e in let d = length-append (packed common) (content ++ more) in let s = ap length joined in omega (arith, a, b, d, s, size₁);
     size = sym (get_or-drop at words 4 0) ∙ ap (λ (ws : List ℕ). get_or ws 4 0) e;
     rules = sym (get_or-drop at words 5 0) ∙ ap (λ (ws : List ℕ). get_or ws 5 0) e;
     pairs = sym (get_or-drop at words 6 0) ∙ ap (λ (ws : List ℕ). get_or ws 6 0) e;
     behind = ap (λ i. drop i words) place ∙ sym (drop-drop (length (packed common)) (at + 7) words) ∙ ap (λ (ws : List ℕ). drop (length (packed common)) ws) seventh
-        ∙ drop-append_seam (packed common) (content ++ more) ∙ append_assoc (all pairWords v.pairs) (all ruleWords v.rules) more;
+        ∙ drop-append_seam (packed common) (content ++ more) ∙ append_assoc (all pair_words v.pairs) (all rule_words v.rules) more;
   }
     where
       content : List ℕ
-      content = all pairWords v.pairs ++ all ruleWords v.rules
+      content = all pair_words v.pairs ++ all rule_words v.rules
 
       size₁ : length (packed common) ≡ length common / 2 + length common % 2
       size₁ = packed-length common
 
-      place : firstPairAt common at ≡ at + 7 + length (packed common)
+      place : first_pair_at common at ≡ at + 7 + length (packed common)
       place = omega (arith, size₁)
 
       joined : (packed common ++ content) ++ more ≡ packed common ++ (content ++ more)
@@ -136,45 +136,45 @@ module _ {common words : List ℕ} {vs : List View} where
       seventh = sym (drop-drop 7 at words) ∙ ap (λ (ws : List ℕ). drop 7 ws) e ∙ joined
 
   -- at the end of the words nothing is left
-  pub over : (text size at : ℕ) → length words ≤ at → text ≡ length vs → size ≡ lastSize 0 vs → Stands common words vs (record { text = text; size = size; at = at; left = 0 }) []
-  unfolding all inText rowFrom lastSize Each
+  pub over : (text size at : ℕ) → length words ≤ at → text ≡ length vs → size ≡ last_size 0 vs → Stands common words vs (record { text = text; size = size; at = at; left = 0 }) []
+  unfolding all in_text row_from last_size Each
   over text size at l e d = record { rules = []; views = []; here = all_none words at l; as_many = refl; settled = λ _. refl; ruled = tt; count = omega (arith, e); last = d; are = refl }
 
   -- fewer words than an object has before its pairs
-  pub enters_none : (c : Cursor) (left : List View) (end : ℕ) → Before common words vs c left → length words < firstPairAt common c.at → end ≡ length words
-      → Stands common words vs (record { text = c.text; size = c.size; at = end; left = 0 }) (rowFrom (suc c.text) left)
-  unfolding all rowFrom lastSize
+  pub enters_none : (c : Cursor) (left : List View) (end : ℕ) → Before common words vs c left → length words < first_pair_at common c.at → end ≡ length words
+      → Stands common words vs (record { text = c.text; size = c.size; at = end; left = 0 }) (row_from (suc c.text) left)
+  unfolding all row_from last_size
   enters_none c [] end x l n = let k = x.count in over c.text c.size end (omega (arith, n)) (omega (arith, k)) x.last
-  enters_none c (v ∷ left) end x l n = let y = (header c.at v (allViews common left) x.here).long in absurd (omega (arith, y, l))
+  enters_none c (v ∷ left) end x l n = let y = (header c.at v (all_views common left) x.here).long in absurd (omega (arith, y, l))
 
-  pub enters : (c : Cursor) (left : List View) (n size rules r : ℕ) → Before common words vs c left → firstPairAt common c.at ≤ length words → n ≡ get_or words (c.at + 6) 0
-      → Ends (times n aPair) words (firstPairAt common c.at) r → Entered common words vs c left n size rules r
-  unfolding all rowFrom lastSize Each NotEmpty
+  pub enters : (c : Cursor) (left : List View) (n size rules r : ℕ) → Before common words vs c left → first_pair_at common c.at ≤ length words → n ≡ get_or words (c.at + 6) 0
+      → Ends (times n a_pair) words (first_pair_at common c.at) r → Entered common words vs c left n size rules r
+  unfolding all row_from last_size Each NotEmpty
   enters c [] n size rules r x l d y = absurd (no_words words c.at (omega (arith, l)) x.here)
   enters c (v ∷ left) n size rules r x l d y = record { near = behind.1; stands = stands }
     where
-      h : Header common words vs c.at v (allViews common left)
-      h = header c.at v (allViews common left) x.here
+      h : Header common words vs c.at v (all_views common left)
+      h = header c.at v (all_views common left) x.here
 
       rest : List ℕ
-      rest = all ruleWords v.rules ++ allViews common left
+      rest = all rule_words v.rules ++ all_views common left
 
       behind : (rest ≡ drop r words) × (r ≤ length words)
-      behind = ends-took v.pairs rest (ap (λ i. times i aPair (drop (firstPairAt common c.at) words)) (d ∙ h.pairs) ∙ ap (times (length v.pairs) aPair) h.behind ∙ (times-exact pair-exact (length v.pairs)).back v.pairs refl rest) y
+      behind = ends-took v.pairs rest (ap (λ i. times i a_pair (drop (first_pair_at common c.at) words)) (d ∙ h.pairs) ∙ ap (times (length v.pairs) a_pair) h.behind ∙ (times-exact pair-exact (length v.pairs)).back v.pairs refl rest) y
 
-      some-rule : (rs : List RuleView) → NotEmpty rs → 1 ≤ length rs
-      some-rule [] n = absurd n
-      some-rule (r ∷ rs) n = omega arith
+      some_rule : (rs : List RuleView) → NotEmpty rs → 1 ≤ length rs
+      some_rule [] n = absurd n
+      some_rule (r ∷ rs) n = omega arith
 
       one : c.text + 1 ≡ suc c.text
       one = omega arith
 
       stands : size ≡ get_or words (c.at + 4) 0 → rules ≡ get_or words (c.at + 5) 0
-          → Stands common words vs (record { text = c.text + 1; size = size; at = r; left = rules }) (rowFrom (suc c.text) (v ∷ left))
+          → Stands common words vs (record { text = c.text + 1; size = size; at = r; left = rules }) (row_from (suc c.text) (v ∷ left))
       stands ds dr =
           let k = x.count in
           let m = dr ∙ h.rules in
-          let s = some-rule v.rules x.ruled.0 in
+          let s = some_rule v.rules x.ruled.0 in
           record {
             rules = v.rules;
             views = left;
@@ -183,29 +183,29 @@ module _ {common words : List ℕ} {vs : List View} where
             settled = λ e. absurd (omega (arith, e, m, s));
             ruled = x.ruled.1;
             count = omega (arith, k);
-            last = ap (λ i. lastSize i left) (ds ∙ h.size) ∙ x.last;
-            are = ap (λ i. inText i v.rules ++ rowFrom (suc i) left) (sym one);
+            last = ap (λ i. last_size i left) (ds ∙ h.size) ∙ x.last;
+            are = ap (λ i. in_text i v.rules ++ row_from (suc i) left) (sym one);
           }
 
   -- At a rule
 
   pub steps : {c : Cursor} {x : Item} {row : List Item} → Stands common words vs c (x ∷ row) → Steps common words vs c x row
-  unfolding inText rowFrom all
+  unfolding in_text row_from all
   steps {c} {x} {row} s = go s.rules s.here s.as_many s.are
     where
-      none_here : (views : List View) → views ≡ [] → x ∷ row ≡ inText c.text [] ++ rowFrom (suc c.text) views → ⊥
-      none_here views e d = no-cons (d ∙ ap (rowFrom (suc c.text)) e)
+      none_here : (views : List View) → views ≡ [] → x ∷ row ≡ in_text c.text [] ++ row_from (suc c.text) views → ⊥
+      none_here views e d = no-cons (d ∙ ap (row_from (suc c.text)) e)
 
-      go : (rs : List RuleView) → drop c.at words ≡ all ruleWords rs ++ allViews common s.views → length rs ≡ c.left → x ∷ row ≡ inText c.text rs ++ rowFrom (suc c.text) s.views → Steps common words vs c x row
+      go : (rs : List RuleView) → drop c.at words ≡ all rule_words rs ++ all_views common s.views → length rs ≡ c.left → x ∷ row ≡ in_text c.text rs ++ row_from (suc c.text) s.views → Steps common words vs c x row
       go [] e l d = absurd (none_here s.views (s.settled (sym l)) d)
       go (r ∷ rs) e l d =
           let p : x ≡ record { text = c.text; rule = r } = cc in
-          let q : row ≡ inText c.text rs ++ rowFrom (suc c.text) s.views = cc in
+          let q : row ≡ in_text c.text rs ++ row_from (suc c.text) s.views = cc in
           record {
             later = rs;
             views = s.views;
-            here = e ∙ append_assoc (ruleWords r) (all ruleWords rs) (allViews common s.views) ∙ ap (λ (y : Item). ruleWords y.rule ++ (all ruleWords rs ++ allViews common s.views)) (sym p);
-            text-is = ap (λ (y : Item). y.text) p;
+            here = e ∙ append_assoc (rule_words r) (all rule_words rs) (all_views common s.views) ∙ ap (λ (y : Item). rule_words y.rule ++ (all rule_words rs ++ all_views common s.views)) (sym p);
+            text_is = ap (λ (y : Item). y.text) p;
             as_many = sym l;
             ruled = s.ruled;
             count = s.count;
@@ -213,27 +213,27 @@ module _ {common words : List ℕ} {vs : List View} where
             are = q;
           }
 
-  module _ {c : Cursor} {x : Item} {row : List Item} (s : Steps common words vs c x row) {at : ℕ} (y : Ends aRule words c.at at) where
+  module _ {c : Cursor} {x : Item} {row : List Item} (s : Steps common words vs c x row) {at : ℕ} (y : Ends a_rule words c.at at) where
     abbrev tail : List ℕ
-    tail = all ruleWords s.later ++ allViews common s.views
+    tail = all rule_words s.later ++ all_views common s.views
 
     behind-rule : (tail ≡ drop at words) × (at ≤ length words)
-    behind-rule = ends-took x.rule tail (ap aRule s.here ∙ rule-exact.back x.rule tt tail) y
+    behind-rule = ends-took x.rule tail (ap a_rule s.here ∙ rule-exact.back x.rule tt tail) y
 
     -- the last of all
     pub next-over : (end : ℕ) → end ≡ length words → length words ≤ at → Stands common words vs (record { text = c.text; size = c.size; at = end; left = 0 }) row
-    unfolding all inText rowFrom lastSize viewWords
+    unfolding all in_text row_from last_size view_words
     next-over end n l = go s.later s.views (sym (all_none words at l) ∙ sym behind-rule.0) s.are s.count s.last
       where
-        go : (rs : List RuleView) (left : List View) → [] ≡ all ruleWords rs ++ allViews common left → row ≡ inText c.text rs ++ rowFrom (suc c.text) left → c.text + length left ≡ length vs
-            → lastSize c.size left ≡ lastSize 0 vs → Stands common words vs (record { text = c.text; size = c.size; at = end; left = 0 }) row
+        go : (rs : List RuleView) (left : List View) → [] ≡ all rule_words rs ++ all_views common left → row ≡ in_text c.text rs ++ row_from (suc c.text) left → c.text + length left ≡ length vs
+            → last_size c.size left ≡ last_size 0 vs → Stands common words vs (record { text = c.text; size = c.size; at = end; left = 0 }) row
         go [] [] e d k f = rw d (over c.text c.size end (omega (arith, n)) (omega (arith, k)) f)
         go [] (v ∷ left) e d k f = no-cons (sym e)
         go (r ∷ rs) left e d k f =
             let a = ap length e in
             let b = rule-some r in
-            let g = length-append (ruleWords r ++ all ruleWords rs) (allViews common left) in
-            let h = length-append (ruleWords r) (all ruleWords rs) in
+            let g = length-append (rule_words r ++ all rule_words rs) (all_views common left) in
+            let h = length-append (rule_words r) (all rule_words rs) in
             absurd (omega (arith, a, b, g, h))
 
     -- another of the same object
@@ -254,11 +254,11 @@ module _ {common words : List ℕ} {vs : List View} where
 
     -- the first of the next object
     pub next-object : (r : Cursor) → (c.left ≤ 1)
-        → ((left : List View) → Before common words vs (record { text = c.text; size = c.size; at = at; left = 0 }) left → Stands common words vs r (rowFrom (suc c.text) left)) → Stands common words vs r row
-    unfolding inText all
+        → ((left : List View) → Before common words vs (record { text = c.text; size = c.size; at = at; left = 0 }) left → Stands common words vs r (row_from (suc c.text) left)) → Stands common words vs r row
+    unfolding in_text all
     next-object r l h = let m = s.as_many in go s.later (omega (arith, m, l)) s.are behind-rule.0
       where
-        go : (rs : List RuleView) → length rs ≡ 0 → row ≡ inText c.text rs ++ rowFrom (suc c.text) s.views → all ruleWords rs ++ allViews common s.views ≡ drop at words → Stands common words vs r row
+        go : (rs : List RuleView) → length rs ≡ 0 → row ≡ in_text c.text rs ++ row_from (suc c.text) s.views → all rule_words rs ++ all_views common s.views ≡ drop at words → Stands common words vs r row
         go [] n d e = rw d (h s.views (record { here = sym e; ruled = s.ruled; count = s.count; last = s.last }))
         go (q ∷ rs) n d e = absurd (omega (arith, n))
 
@@ -271,32 +271,32 @@ module _ {common words : List ℕ} {vs : List View} where
           let h = steps s in
           let a = ap length (sym (all_none words c.at l) ∙ h.here) in
           let b = rule-some x.rule in
-          let d = length-append (ruleWords x.rule) (all ruleWords h.later ++ allViews common h.views) in
+          let d = length-append (rule_words x.rule) (all rule_words h.later ++ all_views common h.views) in
           absurd (omega (arith, a, b, d))
 
   -- at the end all is known
-  pub ended : {c : Cursor} {row : List Item} → Stands common words vs c row → length words ≤ c.at → (c.text ≡ length vs) × (c.size ≡ lastSize 0 vs)
-  unfolding all lastSize viewWords
+  pub ended : {c : Cursor} {row : List Item} → Stands common words vs c row → length words ≤ c.at → (c.text ≡ length vs) × (c.size ≡ last_size 0 vs)
+  unfolding all last_size view_words
   ended {c} s l = go s.rules s.views (sym (all_none words c.at l) ∙ s.here) s.count s.last
     where
-      go : (rs : List RuleView) (left : List View) → [] ≡ all ruleWords rs ++ allViews common left → c.text + length left ≡ length vs → lastSize c.size left ≡ lastSize 0 vs → (c.text ≡ length vs) × (c.size ≡ lastSize 0 vs)
+      go : (rs : List RuleView) (left : List View) → [] ≡ all rule_words rs ++ all_views common left → c.text + length left ≡ length vs → last_size c.size left ≡ last_size 0 vs → (c.text ≡ length vs) × (c.size ≡ last_size 0 vs)
       go [] [] e k f = (omega (arith, k), f)
       go [] (v ∷ left) e k f = no-cons (sym e)
       go (r ∷ rs) left e k f =
           let a = ap length e in
           let b = rule-some r in
-          let g = length-append (ruleWords r ++ all ruleWords rs) (allViews common left) in
-          let h = length-append (ruleWords r) (all ruleWords rs) in
+          let g = length-append (rule_words r ++ all rule_words rs) (all_views common left) in
+          let h = length-append (rule_words r) (all rule_words rs) in
           absurd (omega (arith, a, b, g, h))
 
   stands-some : {c : Cursor} → Stands common words vs c [] → c.at < length words → ⊥
-  unfolding all inText
+  unfolding all in_text
   stands-some {c} s l = go s.rules s.here s.as_many s.are
     where
-      none_here : (views : List View) → views ≡ [] → drop c.at words ≡ all ruleWords [] ++ allViews common views → ⊥
-      none_here views d e = no_words words c.at l (e ∙ ap (allViews common) d)
+      none_here : (views : List View) → views ≡ [] → drop c.at words ≡ all rule_words [] ++ all_views common views → ⊥
+      none_here views d e = no_words words c.at l (e ∙ ap (all_views common) d)
 
-      go : (rs : List RuleView) → drop c.at words ≡ all ruleWords rs ++ allViews common s.views → length rs ≡ c.left → [] ≡ inText c.text rs ++ rowFrom (suc c.text) s.views → ⊥
+      go : (rs : List RuleView) → drop c.at words ≡ all rule_words rs ++ all_views common s.views → length rs ≡ c.left → [] ≡ in_text c.text rs ++ row_from (suc c.text) s.views → ⊥
       go [] e n d = none_here s.views (s.settled (sym n)) e
       go (r ∷ rs) e n d = no-cons (sym d)
 

@@ -8,8 +8,8 @@ use Rattle.linkchecks.specs.Row.{Shown}
 use Rattle.linkchecks.specs.declared.Found.{Found}
 
 pub record IsAt (text start size : ℕ) (r : Found) : Type 0 where
-  pub there-is : r.there ≡ true
-  pub text-is : r.text ≡ text
+  pub there_is : r.there ≡ true
+  pub text_is : r.text ≡ text
   pub start_is : r.start ≡ start
   pub len_is : r.len ≡ size
 

@@ -6,12 +6,12 @@ ghost use Rattle.machine.specs.Bytes.{words_of};
 ghost use Rattle.names.specs.Known.{Names};
 ghost use Rattle.objects.specs.Places.{NameAt, HeadsAt};
 ghost use Rattle.objects.specs.Take.{took, times};
-ghost use Rattle.objects.specs.View.{Name, RuleView, View, nameWords, ruleWords, aName};
-ghost use Rattle.parts.specs.Form.{AreObjects, lastLength};
-ghost use Rattle.parts.specs.Link.{rulesOf, firstTyped, listedType, unlikeIn, twiceIn, pastLimitIn};
+ghost use Rattle.objects.specs.View.{Name, RuleView, View, name_words, rule_words, a_name};
+ghost use Rattle.parts.specs.Form.{AreObjects, last_length};
+ghost use Rattle.parts.specs.Link.{rules_of, first_typed, listed_type, unlike_in, twice_in, past_limit_in};
 ghost use Rattle.syntax.specs.Texts.{Head, Common};
 ghost use Rattle.linkchecks.specs.Checks.{Finds, Shows, name_at};
-ghost use Rattle.linkchecks.specs.Row.{Item, rowFrom, lastSize, firstShown, isNamedBelow, typeAgrees, line_of, openName, unlikeRule};
+ghost use Rattle.linkchecks.specs.Row.{Item, row_from, last_size, first_shown, is_named_below, type_agrees, line_of, open_name, unlike_rule};
 ghost use Rattle.linkchecks.specs.Walk.{Viewed, Before, Stands};
 
 use base::wide;
@@ -61,7 +61,7 @@ pub struct Found {
 fn enter(objects: &[u8], common: &[u8], cursor: Cursor) -> Cursor
     requires { (cursor.at ≤ length (words_of objects.now)) × (cursor.text ≤ cursor.at) }
     ensures { (cursor.at ≤ result.at) × (result.at ≤ length (words_of objects.now)) × (result.text ≤ result.at)
-        × ((vs left : List View) → Before common.now (words_of objects.now) vs cursor left → Stands common.now (words_of objects.now) vs result (rowFrom (suc cursor.text) left)) }
+        × ((vs left : List View) → Before common.now (words_of objects.now) vs cursor left → Stands common.now (words_of objects.now) vs result (row_from (suc cursor.text) left)) }
 {
     let end = total(objects);
     let over = Cursor {
@@ -89,7 +89,7 @@ fn enter(objects: &[u8], common: &[u8], cursor: Cursor) -> Cursor
 // The first rule of all.
 pub fn first_rule(objects: &[u8], common: &[u8]) -> Cursor
     ensures { (result.at ≤ length (words_of objects.now)) × (result.text ≤ result.at)
-        × ((vs : List View) → Viewed common.now (words_of objects.now) vs → Stands common.now (words_of objects.now) vs result (rowFrom 1 vs)) }
+        × ((vs : List View) → Viewed common.now (words_of objects.now) vs → Stands common.now (words_of objects.now) vs result (row_from 1 vs)) }
 {
     enter(
         objects,
@@ -149,7 +149,7 @@ struct Totals {
 
 fn count_all(objects: &[u8], common: &[u8]) -> Totals
     ensures { (vs : List View) → Viewed common.now (words_of objects.now) vs
-        → (result.objects ≡ length vs) × (result.rules ≡ length (rowFrom 1 vs)) × (result.size ≡ lastSize 0 vs) }
+        → (result.objects ≡ length vs) × (result.rules ≡ length (row_from 1 vs)) × (result.size ≡ last_size 0 vs) }
 {
     let end = total(objects);
     let mut cursor = first_rule(objects, common);
@@ -173,13 +173,13 @@ pub fn count_objects(objects: &[u8], common: &[u8]) -> usize
 
 // The bytes of the last object's part.
 pub fn last_size(objects: &[u8], common: &[u8]) -> usize
-    ensures { (c : Common) (n : Names) (h : AreObjects common.now c n (words_of objects.now)) → result ≡ lastLength h.lengths }
+    ensures { (c : Common) (n : Names) (h : AreObjects common.now c n (words_of objects.now)) → result ≡ last_length h.lengths }
 {
     count_all(objects, common).size
 }
 
 pub fn count_rules(objects: &[u8], common: &[u8]) -> usize
-    ensures { (c : Common) (n : Names) (h : AreObjects common.now c n (words_of objects.now)) → result ≡ length (rulesOf h.objects) }
+    ensures { (c : Common) (n : Names) (h : AreObjects common.now c n (words_of objects.now)) → result ≡ length (rules_of h.objects) }
 {
     count_all(objects, common).rules
 }
@@ -198,7 +198,7 @@ fn nothing() -> Found
 // The name at a place.
 fn found_at(objects: &[u8], text: usize, p: usize) -> Found
     requires { p ≤ length (words_of objects.now) }
-    ensures { (n : Name) (k : List ℕ) → drop p (words_of objects.now) ≡ nameWords n ++ k → Shows (some (record { text = text; name = n })) result }
+    ensures { (n : Name) (k : List ℕ) → drop p (words_of objects.now) ≡ name_words n ++ k → Shows (some (record { text = text; name = n })) result }
 {
     let end = total(objects);
     if p == end {
@@ -214,7 +214,7 @@ fn found_at(objects: &[u8], text: usize, p: usize) -> Found
 
 // 5: the first rule of all has a type.
 pub fn first_typed(objects: &[u8], common: &[u8]) -> Found
-    ensures { (c : Common) (n : Names) (h : AreObjects common.now c n (words_of objects.now)) → Finds (firstTyped (rulesOf h.objects)) result }
+    ensures { (c : Common) (n : Names) (h : AreObjects common.now c n (words_of objects.now)) → Finds (first_typed (rules_of h.objects)) result }
 {
     let end = total(objects);
     let cursor = first_rule(objects, common);
@@ -242,7 +242,7 @@ fn has_name(objects: &[u8], cursor: Cursor, below: usize, p: usize) -> bool
 // A rule of a text before the text `below` has the name at p.
 fn is_named(objects: &[u8], common: &[u8], below: usize, p: usize) -> bool
     requires { p ≤ length (words_of objects.now) }
-    ensures { (vs : List View) (m : Name) → Viewed common.now (words_of objects.now) vs → NameAt (words_of objects.now) p m → result ≡ isNamedBelow below m.text (rowFrom 1 vs) }
+    ensures { (vs : List View) (m : Name) → Viewed common.now (words_of objects.now) vs → NameAt (words_of objects.now) p m → result ≡ is_named_below below m.text (row_from 1 vs) }
 {
     let end = total(objects);
     let mut cursor = first_rule(objects, common);
@@ -276,7 +276,7 @@ fn find_line(objects: &[u8], p: usize, common: &[u8], heads: &[u16]) -> usize
 // The rule at a place is of the sort and type that the list says.
 fn is_alike(objects: &[u8], at: usize, common: &[u8], heads: &[u16]) -> bool
     requires { at ≤ length (words_of objects.now) }
-    ensures { (hs : List Head) (v : RuleView) (k : List ℕ) → HeadsAt common.now heads.now hs → drop at (words_of objects.now) ≡ ruleWords v ++ k → result ≡ typeAgrees v.gives (listedType v.name.text hs) }
+    ensures { (hs : List Head) (v : RuleView) (k : List ℕ) → HeadsAt common.now heads.now hs → drop at (words_of objects.now) ≡ rule_words v ++ k → result ≡ type_agrees v.gives (listed_type v.name.text hs) }
 {
     let count = heads.len() / HEAD_NUMBERS;
     let line = find_line(objects, at, common, heads);
@@ -298,8 +298,8 @@ fn is_alike(objects: &[u8], at: usize, common: &[u8], heads: &[u16]) -> bool
 // The first of n names from a place on that no rule has.
 fn open_name(objects: &[u8], common: &[u8], text: usize, at: usize, n: usize) -> Found
     requires { at ≤ length (words_of objects.now) }
-    ensures { (vs : List View) (ns : List Name) (rest : List ℕ) → Viewed common.now (words_of objects.now) vs → times n aName (drop at (words_of objects.now)) ≡ took ns rest
-        → Shows (firstShown (openName (length (words_of objects.now) + 1) (rowFrom 1 vs) text) ns) result }
+    ensures { (vs : List View) (ns : List Name) (rest : List ℕ) → Viewed common.now (words_of objects.now) vs → times n a_name (drop at (words_of objects.now)) ≡ took ns rest
+        → Shows (first_shown (open_name (length (words_of objects.now) + 1) (row_from 1 vs) text) ns) result }
 {
     let end = total(objects);
     let mut q = at;
@@ -320,8 +320,8 @@ fn open_name(objects: &[u8], common: &[u8], text: usize, at: usize, n: usize) ->
 // The first call of the rule at a place that calls no rule.
 fn open_call(objects: &[u8], common: &[u8], text: usize, at: usize) -> Found
     requires { at ≤ length (words_of objects.now) }
-    ensures { (vs : List View) (v : RuleView) (k : List ℕ) → Viewed common.now (words_of objects.now) vs → drop at (words_of objects.now) ≡ ruleWords v ++ k
-        → Shows (firstShown (openName (length (words_of objects.now) + 1) (rowFrom 1 vs) text) v.calls) result }
+    ensures { (vs : List View) (v : RuleView) (k : List ℕ) → Viewed common.now (words_of objects.now) vs → drop at (words_of objects.now) ≡ rule_words v ++ k
+        → Shows (first_shown (open_name (length (words_of objects.now) + 1) (row_from 1 vs) text) v.calls) result }
 {
     let end = total(objects);
     let gives = past_name(objects, at);
@@ -339,7 +339,7 @@ fn open_call(objects: &[u8], common: &[u8], text: usize, at: usize) -> Found
 fn unlike_rule(objects: &[u8], common: &[u8], heads: &[u16], cursor: Cursor) -> Found
     requires { cursor.at ≤ length (words_of objects.now) }
     ensures { (hs : List Head) (vs : List View) (x : Item) (row : List Item) → HeadsAt common.now heads.now hs → Viewed common.now (words_of objects.now) vs
-        → Stands common.now (words_of objects.now) vs cursor (x ∷ row) → Shows (unlikeRule (length (words_of objects.now) + 1) (rowFrom 1 vs) hs x) result }
+        → Stands common.now (words_of objects.now) vs cursor (x ∷ row) → Shows (unlike_rule (length (words_of objects.now) + 1) (row_from 1 vs) hs x) result }
 {
     if !is_alike(objects, cursor.at, common, heads) {
         return found_at(objects, cursor.text, cursor.at);
@@ -350,7 +350,7 @@ fn unlike_rule(objects: &[u8], common: &[u8], heads: &[u16], cursor: Cursor) -> 
 // 49: a rule of another sort or type than the list says, or a called rule in no part.
 pub fn find_unlike(objects: &[u8], common: &[u8], heads: &[u16]) -> Found
     ensures { (c : Common) (n : Names) (h : AreObjects common.now c n (words_of objects.now)) → HeadsAt common.now heads.now c.listed
-        → Finds (unlikeIn c.listed (rulesOf h.objects) 1 h.objects) result }
+        → Finds (unlike_in c.listed (rules_of h.objects) 1 h.objects) result }
 {
     let end = total(objects);
     let mut cursor = first_rule(objects, common);
@@ -366,7 +366,7 @@ pub fn find_unlike(objects: &[u8], common: &[u8], heads: &[u16]) -> Found
 
 // 50: a rule whose name a part before has.
 pub fn find_twice(objects: &[u8], common: &[u8]) -> Found
-    ensures { (c : Common) (n : Names) (h : AreObjects common.now c n (words_of objects.now)) → Finds (twiceIn [] 1 h.objects) result }
+    ensures { (c : Common) (n : Names) (h : AreObjects common.now c n (words_of objects.now)) → Finds (twice_in [] 1 h.objects) result }
 {
     let end = total(objects);
     let mut cursor = first_rule(objects, common);
@@ -381,7 +381,7 @@ pub fn find_twice(objects: &[u8], common: &[u8]) -> Found
 
 // 9: the first rule past so many.
 pub fn past_limit(objects: &[u8], common: &[u8], left: usize) -> Found
-    ensures { (c : Common) (n : Names) (h : AreObjects common.now c n (words_of objects.now)) → Finds (pastLimitIn left 1 h.objects) result }
+    ensures { (c : Common) (n : Names) (h : AreObjects common.now c n (words_of objects.now)) → Finds (past_limit_in left 1 h.objects) result }
 {
     let end = total(objects);
     let mut cursor = first_rule(objects, common);
@@ -408,8 +408,8 @@ fn put_place(names: &mut [usize], i: usize, p: usize)
 
 // Where the names of the rules stand, of as many as there is room for; how many rules there are in all.
 pub fn name_places(objects: &[u8], common: &[u8], names: &mut [usize]) -> usize
-    ensures { (c : Common) (n : Names) (h : AreObjects common.now c n (words_of objects.now)) → (result ≡ length (rulesOf h.objects))
-        × ((k : ℕ) → k < result → k < length names.new → NameAt (words_of objects.now) (get_or names.new k 0) (name_at (rulesOf h.objects) k)) }
+    ensures { (c : Common) (n : Names) (h : AreObjects common.now c n (words_of objects.now)) → (result ≡ length (rules_of h.objects))
+        × ((k : ℕ) → k < result → k < length names.new → NameAt (words_of objects.now) (get_or names.new k 0) (name_at (rules_of h.objects) k)) }
 {
     let end = total(objects);
     let mut cursor = first_rule(objects, common);

@@ -6,19 +6,19 @@ use Prim.Native.Nat.{ℕ, zero, suc, ◌+◌, ◌-◌, ◌≤◌, min}
 use lib.ListN.{length}
 use Rattle.resolver.proofs.Appending.{appends-none, appends-then}
 use Rattle.resolver.specs.Resolved.{Appends}
-use Rattle.linker.specs.Close.{behind, operand, placesAfter, closeFrom}
+use Rattle.linker.specs.Close.{behind, operand, places_after, close_from}
 
 -- A turn
 
 module _ (low : ℕ → ℕ) where
-  pub first-turn : (f l x b : ℕ) (places cells : List ℕ) → l ≡ 0 → b ≡ behind x → closeFrom low f l places (x ∷ cells) ≡ x ∷ closeFrom low x b places cells
-  unfolding closeFrom
+  pub first-turn : (f l x b : ℕ) (places cells : List ℕ) → l ≡ 0 → b ≡ behind x → close_from low f l places (x ∷ cells) ≡ x ∷ close_from low x b places cells
+  unfolding close_from
   first-turn f zero x b places cells e h = rw h
   first-turn f (suc l) x b places cells e h = absurd (omega arith)
 
-  pub operand-turn : (f l x y : ℕ) (places more cells : List ℕ) → (l ≡ 0 → ⊥) → y ≡ operand low f places x → more ≡ placesAfter low f places
-      → closeFrom low f l places (x ∷ cells) ≡ y ∷ closeFrom low f (l - 1) more cells
-  unfolding closeFrom
+  pub operand-turn : (f l x y : ℕ) (places more cells : List ℕ) → (l ≡ 0 → ⊥) → y ≡ operand low f places x → more ≡ places_after low f places
+      → close_from low f l places (x ∷ cells) ≡ y ∷ close_from low f (l - 1) more cells
+  unfolding close_from
   operand-turn f zero x y places more cells n h k = absurd (n refl)
   operand-turn f (suc l) x y places more cells n h k = let z : suc l - 1 ≡ l = omega arith in rw (h, k, z)
 

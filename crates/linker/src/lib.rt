@@ -2,7 +2,7 @@
 ghost use Rattle.std.specs.Prelude.{◌≡◌, ◌+◌, ◌<◌};
 ghost use Rattle.base.specs.Common.{same};
 ghost use Rattle.linker.specs.Close as close;
-ghost use Rattle.linker.specs.Place.{letters, textAt, textsAt, place_of};
+ghost use Rattle.linker.specs.Place.{letters, text_at, texts_at, place_of};
 ghost use Rattle.machine.specs.Bytes.{words_of};
 
 use base::{byte, least, wide};
@@ -50,7 +50,7 @@ pub fn is_call(first: u16) -> bool
 
 // A place inside the words or at their end: past the end every name is empty.
 fn within(words: &[u8], p: usize) -> usize
-    ensures { (textAt (words_of words.now) result ≡ textAt (words_of words.now) p) × (result < 9223372036854775808) }
+    ensures { (text_at (words_of words.now) result ≡ text_at (words_of words.now) p) × (result < 9223372036854775808) }
 {
     least(p, objects::total(words))
 }
@@ -73,7 +73,7 @@ fn same_words(words: &[u8], p: usize, q: usize, n: usize) -> bool
 // The names at p and at q are the same.
 fn same_name(words: &[u8], p: usize, q: usize) -> bool
     requires { (p < 9223372036854775808) × (q < 9223372036854775808) }
-    ensures { result ≡ same (textAt (words_of words.now) p) (textAt (words_of words.now) q) }
+    ensures { result ≡ same (text_at (words_of words.now) p) (text_at (words_of words.now) q) }
 {
     let n = wide(machine::word(words, p + NAME_SIZE));
     if n != wide(machine::word(words, q + NAME_SIZE)) {
@@ -85,7 +85,7 @@ fn same_name(words: &[u8], p: usize, q: usize) -> bool
 // The number of the first rule with the name at p, the rules' names standing at `names`; where none has it, the number of rules.
 pub fn place_of(words: &[u8], names: &[usize], p: usize) -> usize
     requires { p < 9223372036854775808 }
-    ensures { result ≡ place_of (textAt (words_of words.now) p) (textsAt (words_of words.now) names.now) }
+    ensures { result ≡ place_of (text_at (words_of words.now) p) (texts_at (words_of words.now) names.now) }
 {
     let mut i = 0;
     while i < names.len() {

@@ -6,10 +6,10 @@ use native.Mathlib.Omega.{arith}
 use Prim.Native.Nat.{ℕ, ◌+◌, ◌*◌, ◌-◌, ◌≤◌, min}
 use borrow.Author.Tests.{ltb-false}
 use lib.ListN.{length}
-use Rattle.base.specs.Common.{if◌then◌else◌}
-use Rattle.declarations.specs.Decls.{Decl, Agrees, EntriesAt, declsOf, entriesOf}
+use Rattle.std.specs.Prelude.{if◌then◌else◌}
+use Rattle.declarations.specs.Decls.{Decl, Agrees, EntriesAt, decls_of, entries_of}
 use Rattle.declarer.specs.declared.Fault as found
-use Rattle.linking.specs.Answered.{IsCommon, Answered, over-long, unread, misnamed, Leaves, Links}
+use Rattle.linking.specs.Answered.{IsCommon, Answered, over_long, unread, misnamed, Leaves, Links}
 use Rattle.linking.specs.Linking.{IsRead, Rowed, Named, Declared}
 use Rattle.linking.specs.declared.Linked.{Linked}
 use Rattle.linking.specs.declared.Shared.{Shared}
@@ -19,7 +19,7 @@ use Rattle.names.specs.Known.{Checked, good, wrong, KnownRule, Names}
 use Rattle.objects.proofs.Sections.{sections-agree}
 use Rattle.objects.specs.Places.{HeadsAt}
 use Rattle.parts.specs.Link.{refused}
-use Rattle.parts.specs.Objects.{commonMeans, together}
+use Rattle.parts.specs.Objects.{common_means, together}
 use Rattle.partnames.proofs.Commons.{listed-in-text, end-no-line}
 use Rattle.partnames.proofs.HeadLaws.{heads-at}
 use Rattle.partnames.proofs.Together.{rows-alone}
@@ -32,14 +32,14 @@ use Rattle.processor.specs.Process.{part_of}
 use Rattle.reader.specs.Answers.{Holds, held, void}
 use Rattle.reader.specs.Counting.{Decides, fine, wrong as unreadable}
 use Rattle.reader.specs.Texts as reads
-use Rattle.reader.specs.Texts.{Listed, unlessLong}
+use Rattle.reader.specs.Texts.{Listed, unless_long}
 use Rattle.reader.specs.declared.Counted.{Counted}
 use Rattle.symbols.specs.Rows as symbols
 use Rattle.syntax.specs.Parse.{end_of}
 use Rattle.syntax.specs.Reading.{Read, got, fault}
-use Rattle.syntax.specs.Sections.{namesInAll}
-use Rattle.syntax.specs.Texts.{Common, tooLong, readCommon}
-use Rattle.words.specs.Words.{Word, wordsAt}
+use Rattle.syntax.specs.Sections.{names_in_all}
+use Rattle.syntax.specs.Texts.{Common, too_long, read_common}
+use Rattle.words.specs.Words.{Word, words_at}
 
 -- The reading
 
@@ -52,7 +52,7 @@ abbrev Reading : List ℕ → Counted → Read Common → Type 0
 Reading common r m = reads.Settles (Listed common r.out.at r.room) r.out m
 
 module _ (common : List ℕ) (r : Counted) where
-  got_read : (m : Read Common) → readCommon common ≡ m → tooLong common ≡ false → Reading common r m → r.out.fault ≡ 0 → IsRead common r.room
+  got_read : (m : Read Common) → read_common common ≡ m → too_long common ≡ false → Reading common r m → r.out.fault ≡ 0 → IsRead common r.room
   got_read (got c ws) e l s z = go s.holds
     where
       go : Holds (Listed common r.out.at r.room) (got c ws) → IsRead common r.room
@@ -62,68 +62,68 @@ module _ (common : List ℕ) (r : Counted) where
       go : Decides {A = Common} r.out (fault n w) → IsRead common r.room
       go (unreadable k f a b) = absurd (k (sym f ∙ z))
 
-  pub is_read : Reading common r (unlessLong common (readCommon common)) → r.out.fault ≡ 0 → IsRead common r.room
-  unfolding unlessLong
-  is_read s z = go (tooLong common) refl s
+  pub is_read : Reading common r (unless_long common (read_common common)) → r.out.fault ≡ 0 → IsRead common r.room
+  unfolding unless_long
+  is_read s z = go (too_long common) refl s
     where
-      go : (t : Bool) → tooLong common ≡ t → Reading common r (if t then fault 9 (end_of common) else readCommon common) → IsRead common r.room
-      go true e s₁ = at-end s₁.decides
+      go : (t : Bool) → too_long common ≡ t → Reading common r (if t then fault 9 (end_of common) else read_common common) → IsRead common r.room
+      go true e s₁ = at_end s₁.decides
         where
-          at-end : Decides {A = Common} r.out (fault 9 (end_of common)) → IsRead common r.room
-          at-end (unreadable k f a b) = absurd (k (sym f ∙ z))
-      go false e s₁ = got_read (readCommon common) refl e s₁ z
+          at_end : Decides {A = Common} r.out (fault 9 (end_of common)) → IsRead common r.room
+          at_end (unreadable k f a b) = absurd (k (sym f ∙ z))
+      go false e s₁ = got_read (read_common common) refl e s₁ z
 
   module _ {objects old new : List ℕ} {q : Linked} (left : Leaves (refused r.out.fault 0 (record { start = r.out.at; size = r.out.len })) old new q) where
-    at-word : (m : Read Common) → readCommon common ≡ m → tooLong common ≡ false → Decides r.out m → (r.out.fault ≡ 0 → ⊥) → Links common objects old new q
-    at-word (got c ws) e l (fine z) f = absurd (f z)
-    at-word (fault n w) e l (unreadable k d a b) f = record { answer = refused n 0 (part_of w); answers = unread k l e; leaves = shown-at w d a b left }
+    at_word : (m : Read Common) → read_common common ≡ m → too_long common ≡ false → Decides r.out m → (r.out.fault ≡ 0 → ⊥) → Links common objects old new q
+    at_word (got c ws) e l (fine z) f = absurd (f z)
+    at_word (fault n w) e l (unreadable k d a b) f = record { answer = refused n 0 (part_of w); answers = unread k l e; leaves = shown-at w d a b left }
 
-    pub not-read : Reading common r (unlessLong common (readCommon common)) → (r.out.fault ≡ 0 → ⊥) → Links common objects old new q
-    unfolding unlessLong
-    not-read s f = go (tooLong common) refl s
+    pub not-read : Reading common r (unless_long common (read_common common)) → (r.out.fault ≡ 0 → ⊥) → Links common objects old new q
+    unfolding unless_long
+    not-read s f = go (too_long common) refl s
       where
-        go : (t : Bool) → tooLong common ≡ t → Reading common r (if t then fault 9 (end_of common) else readCommon common) → Links common objects old new q
-        go true e s₁ = at-end s₁.decides
+        go : (t : Bool) → too_long common ≡ t → Reading common r (if t then fault 9 (end_of common) else read_common common) → Links common objects old new q
+        go true e s₁ = at_end s₁.decides
           where
-            at-end : Decides {A = Common} r.out (fault 9 (end_of common)) → Links common objects old new q
-            at-end (unreadable k d a b) = record { answer = refused 9 0 (part_of (end_of common)); answers = over-long e; leaves = shown-at (end_of common) d a b left }
-        go false e s₁ = at-word (readCommon common) refl e s₁.decides f
+            at_end : Decides {A = Common} r.out (fault 9 (end_of common)) → Links common objects old new q
+            at_end (unreadable k d a b) = record { answer = refused 9 0 (part_of (end_of common)); answers = over_long e; leaves = shown-at (end_of common) d a b left }
+        go false e s₁ = at_word (read_common common) refl e s₁.decides f
 
 -- The names
 
-pub short-size : (common : List ℕ) → tooLong common ≡ false → length common ≤ 32768
-unfolding tooLong
+pub short-size : (common : List ℕ) → too_long common ≡ false → length common ≤ 32768
+unfolding too_long
 short-size common e = ltb-false 32768 (length common) e
 
 module _ {common rows rows₁ : List ℕ} {room : ℕ} {d : code.Declared} (i : IsRead common room) (declares : Declares common rows rows₁ d) (size : length rows ≡ 6017) where
-  common-in : CommonIn (wordsAt common 0) (i.listed.keyword ∷ i.listed.rest) i.tree
-  common-in = listed-in-text i.listed
+  common_in : CommonIn (words_at common 0) (i.listed.keyword ∷ i.listed.rest) i.tree
+  common_in = listed-in-text i.listed
 
   pub common-rows : CommonRows common rows₁ d (i.listed.keyword ∷ i.listed.rest) i.tree
-  common-rows = declares.common i.tree _ common-in (end-no-line i.listed) size
+  common-rows = declares.common i.tree _ common_in (end-no-line i.listed) size
 
   pub few-lines : d.count - d.first ≤ 128
-  few-lines = omega (arith, common-rows.count, common-in.few)
+  few-lines = omega (arith, common-rows.count, common_in.few)
 
   module _ {rows₂ : List ℕ} {f : found.Fault} {lines : ℕ} (l : lines ≡ d.count - d.first) (settles : Settles common rows₁ rows₂ d.count d.first lines f) where
     rows_of : RowsOf common rows₁ d.count d.first lines i.tree []
-    rows_of = rw l (rows-alone common-in common-rows)
+    rows_of = rw l (rows-alone common_in common-rows)
 
-    settled : Settled common rows₂ d.count f i.tree [] (commonMeans i.tree [])
+    settled : Settled common rows₂ d.count f i.tree [] (common_means i.tree [])
     settled = settles.settled i.tree [] rows_of
 
     pub wrong-names : {objects old new : List ℕ} {q : Linked} → Leaves (refused f.fault 0 (record { start = f.at; size = f.len })) old new q → (f.fault ≡ 0 → ⊥) → Links common objects old new q
-    wrong-names {objects} {old} {new} {q} left z = go (commonMeans i.tree []) refl settled
+    wrong-names {objects} {old} {new} {q} left z = go (common_means i.tree []) refl settled
       where
-        go : (m : Checked Names) → commonMeans i.tree [] ≡ m → Settled common rows₂ d.count f i.tree [] m → Links common objects old new q
+        go : (m : Checked Names) → common_means i.tree [] ≡ m → Settled common rows₂ d.count f i.tree [] m → Links common objects old new q
         go (good n) e (in_order k x y) = absurd (z k)
         go (wrong k w) e (faulty a x b g) = record { answer = refused k 0 (part_of w); answers = misnamed x i.short i.reads e; leaves = shown-at w a b g left }
 
     -- the rows are those of c alone
-    held-are : symbols.held common rows₂ d.count ≡ declsOf (together i.tree [])
-    held-are = settles.same common ∙ rows_of.rows_are
+    held_are : symbols.held common rows₂ d.count ≡ decls_of (together i.tree [])
+    held_are = settles.same common ∙ rows_of.rows_are
 
-    rowed : (n : Names) → commonMeans i.tree [] ≡ good n → {rs : List KnownRule} → Agrees (together i.tree []) n rs (symbols.held common rows₂ d.count) → (shared : Shared) → shared.n ≡ d.count → shared.others ≡ d.first → shared.room ≡ room → Rowed common rows₂ shared i.tree n
+    rowed : (n : Names) → common_means i.tree [] ≡ good n → {rs : List KnownRule} → Agrees (together i.tree []) n rs (symbols.held common rows₂ d.count) → (shared : Shared) → shared.n ≡ d.count → shared.others ≡ d.first → shared.room ≡ room → Rowed common rows₂ shared i.tree n
     rowed n e {rs} a shared x y z = record {
       is = record { short = i.short; rest = i.rest; reads = i.reads; means = e };
       size = short-size common i.short;
@@ -131,21 +131,21 @@ module _ {common rows rows₁ : List ℕ} {room : ℕ} {d : code.Declared} (i : 
       others = y ∙ common-rows.first;
       few = omega (arith, y, declares.early, declares.small);
       room = z ∙ sym i.listed.leaves;
-      all-names = common-in.names;
+      all_names = common_in.names;
       kept = rw x settles.kept;
       found = rw x (sections-agree a common rows₂ d.count refl);
-      sections = rw x (record { entries = rw held-are rows_of.entries; operators = a.operators });
+      sections = rw x (record { entries = rw held_are rows_of.entries; operators = a.operators });
     }
 
     pub named : {heads : List ℕ} → f.fault ≡ 0 → length heads ≡ 4 * lines → (shared : Shared) → shared.n ≡ d.count → shared.others ≡ d.first → shared.room ≡ room → Named common rows₂ heads shared
-    named {heads} z long shared x y w = go (commonMeans i.tree []) refl settled
+    named {heads} z long shared x y w = go (common_means i.tree []) refl settled
       where
-        go : (m : Checked Names) → commonMeans i.tree [] ≡ m → Settled common rows₂ d.count f i.tree [] m → Named common rows₂ heads shared
+        go : (m : Checked Names) → common_means i.tree [] ≡ m → Settled common rows₂ d.count f i.tree [] m → Named common rows₂ heads shared
         go (good n) e (in_order k v a) = record {
-          common-is = i.tree;
+          common_is = i.tree;
           names = n;
           rowed = rowed n e a shared x y w;
-          held-are = rw x held-are;
+          held_are = rw x held_are;
           lines = omega (arith, x, y, common-rows.count);
           room = omega (arith, long, l, common-rows.count);
         }
@@ -157,8 +157,8 @@ named-lines n = (omega (arith, n.lines), omega (arith, n.lines, n.rowed.small), 
 
 pub declared : {common rows heads heads' : List ℕ} {shared : Shared} (n : Named common rows heads shared) → CopiesHeads common rows shared.others (shared.n - shared.others) heads heads' → Declared common rows heads' shared
 declared {common} {rows} {heads} {heads'} {shared} n copies = record {
-  common-is = n.common-is;
+  common_is = n.common_is;
   names = n.names;
   rowed = n.rowed;
-  heads-are = heads-at common rows shared.n shared.others n.common-is [] n.held-are n.rowed.others (omega (arith, n.lines)) (omega (arith, n.lines)) (omega (arith, n.lines, n.room)) copies;
+  heads_are = heads-at common rows shared.n shared.others n.common_is [] n.held_are n.rowed.others (omega (arith, n.lines)) (omega (arith, n.lines)) (omega (arith, n.lines, n.room)) copies;
 }

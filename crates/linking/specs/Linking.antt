@@ -1,9 +1,8 @@
 -- What the steps of linking promise each other.
-use Rattle.std.specs.Prelude.{true, false, ◌||◌, List, [], ◌≡◌, ℕ, ◌+◌, ◌*◌, ◌≤◌, min, eqb, ltb, length, replicate}
+use Rattle.std.specs.Prelude.{true, false, ◌||◌, List, [], ◌≡◌, ℕ, ◌+◌, ◌*◌, ◌≤◌, min, eqb, ltb, length, replicate, if◌then◌else◌}
 use Rattle.std.proofs.Math.Option.{none}
-use Rattle.base.specs.Common.{if◌then◌else◌}
-use Rattle.cells.specs.Cells.{rulesCells}
-use Rattle.declarations.specs.Decls.{declsOf}
+use Rattle.cells.specs.Cells.{rules_cells}
+use Rattle.declarations.specs.Decls.{decls_of}
 use Rattle.linking.specs.Answered.{IsCommon, Leaves}
 use Rattle.linking.specs.declared.Fault.{Fault}
 use Rattle.linking.specs.declared.Linked as code
@@ -15,10 +14,10 @@ use Rattle.linkpairs.specs.Standing.{Sections}
 use Rattle.linkpairs.specs.declared.Work.{Work}
 use Rattle.machine.specs.Bytes.{count, words_of}
 use Rattle.names.specs.Known.{good, Names}
-use Rattle.names.specs.Uses.{madeFor}
+use Rattle.names.specs.Uses.{made_for}
 use Rattle.objects.specs.Places.{HeadsAt, SectionsAt}
-use Rattle.parts.specs.Form.{AreObjects, lastLength}
-use Rattle.parts.specs.Link.{Linked, refused, rulesOf, firstTyped, unlikeIn, twiceIn, pastLimitIn, pairsIn, pastMade, known_of, closed_in, program, refusedAt, asOne}
+use Rattle.parts.specs.Form.{AreObjects, last_length}
+use Rattle.parts.specs.Link.{Linked, refused, rules_of, first_typed, unlike_in, twice_in, past_limit_in, pairs_in, past_made, known_of, closed_in, program, refused_at, as_one}
 use Rattle.parts.specs.Objects.{Object, together}
 use Rattle.processor.specs.Process.{part_of}
 use Rattle.program.specs.Program.{Rule}
@@ -28,16 +27,16 @@ use Rattle.symbols.specs.Index.{Kept}
 use Rattle.symbols.specs.Rows.{held}
 use Rattle.syntax.specs.Parse.{end_of}
 use Rattle.syntax.specs.Reading.{got}
-use Rattle.syntax.specs.Sections.{namesInAll}
-use Rattle.syntax.specs.Texts.{Common, tooLong, readCommon}
+use Rattle.syntax.specs.Sections.{names_in_all}
+use Rattle.syntax.specs.Texts.{Common, too_long, read_common}
 use Rattle.words.specs.Words.{Word}
 
 -- a common part that is read; its sections leave `room` names
 pub record IsRead (common : List ℕ) (room : ℕ) : Type 0 where
-  pub short : tooLong common ≡ false
+  pub short : too_long common ≡ false
   pub tree : Common
   pub rest : List Word
-  pub reads : readCommon common ≡ got tree rest
+  pub reads : read_common common ≡ got tree rest
   pub at : ℕ
   pub listed : Listed common at room tree
 
@@ -46,46 +45,46 @@ pub record Rowed (common rows : List ℕ) (shared : Shared) (c : Common) (n : Na
   pub is : IsCommon common c n
   pub size : length common ≤ 32768
   pub small : shared.n ≤ 512
-  pub others : shared.others ≡ namesInAll c.sections
+  pub others : shared.others ≡ names_in_all c.sections
   pub few : shared.others ≤ 512
   pub room : shared.room ≡ c.left
-  pub all-names : namesInAll c.sections + c.left ≡ 512
+  pub all_names : names_in_all c.sections + c.left ≡ 512
   pub kept : Kept common rows shared.n
   pub found : SectionsAt common rows shared.n n
   pub sections : Sections common rows shared.n (together c []) n
 
 -- these are its sections', then its list's, and there is just room for the list in the heads
 pub record Named (common rows heads : List ℕ) (shared : Shared) : Type 0 where
-  pub common-is : Common
+  pub common_is : Common
   pub names : Names
-  pub rowed : Rowed common rows shared common-is names
-  pub held-are : held common rows shared.n ≡ declsOf (together common-is [])
-  pub lines : shared.n ≡ shared.others + length common-is.listed
-  pub room : length heads ≡ 4 * length common-is.listed
+  pub rowed : Rowed common rows shared common_is names
+  pub held_are : held common rows shared.n ≡ decls_of (together common_is [])
+  pub lines : shared.n ≡ shared.others + length common_is.listed
+  pub room : length heads ≡ 4 * length common_is.listed
 
 -- and its list stands in the heads
 pub record Declared (common rows heads : List ℕ) (shared : Shared) : Type 0 where
-  pub common-is : Common
+  pub common_is : Common
   pub names : Names
-  pub rowed : Rowed common rows shared common-is names
-  pub heads-are : HeadsAt common heads common-is.listed
+  pub rowed : Rowed common rows shared common_is names
+  pub heads_are : HeadsAt common heads common_is.listed
 
 -- the checks of `link` up to the number of rules, and the answer behind them
 unfoldable pub checked : List ℕ → Common → List Object → Linked → Linked
 checked common c os other =
     if eqb (length os) 0 || ltb 16 (length os) then refused 9 0 (part_of (end_of common))
-    else refusedAt 5 (firstTyped (rulesOf os))
-    (refusedAt 49 (unlikeIn c.listed (rulesOf os) 1 os)
-    (refusedAt 50 (twiceIn [] 1 os)
-    (refusedAt 9 (pastLimitIn (min 128 c.left) 1 os) other)))
+    else refused_at 5 (first_typed (rules_of os))
+    (refused_at 49 (unlike_in c.listed (rules_of os) 1 os)
+    (refused_at 50 (twice_in [] 1 os)
+    (refused_at 9 (past_limit_in (min 128 c.left) 1 os) other)))
 
 -- they find nothing
 pub record Passed (common : List ℕ) (c : Common) (os : List Object) : Type 0 where
   pub number : (eqb (length os) 0 || ltb 16 (length os)) ≡ false
-  pub untyped : firstTyped (rulesOf os) ≡ none
-  pub alike : unlikeIn c.listed (rulesOf os) 1 os ≡ none
-  pub once : twiceIn [] 1 os ≡ none
-  pub few : pastLimitIn (min 128 c.left) 1 os ≡ none
+  pub untyped : first_typed (rules_of os) ≡ none
+  pub alike : unlike_in c.listed (rules_of os) 1 os ≡ none
+  pub once : twice_in [] 1 os ≡ none
+  pub few : past_limit_in (min 128 c.left) 1 os ≡ none
 
 -- the first fault, or none
 pub data Finds (common : List ℕ) (c : Common) (os : List Object) (r : Fault) : Type 0 where
@@ -93,27 +92,27 @@ pub data Finds (common : List ℕ) (c : Common) (os : List Object) (r : Fault) :
   passed : r.number ≡ 0 → Passed common c os → Finds common c os r
 
 -- the answer behind these checks
-unfoldable pub behindChecks : Common → Names → List ℕ → List Object → ℕ → Linked
-behindChecks c n last os room =
-    refusedAt 9 (pastMade n (namesInAll c.sections) (length (rulesOf os)) os (pairsIn os)) (asOne (length os) last room (program n (namesInAll c.sections) os))
+unfoldable pub behind_checks : Common → Names → List ℕ → List Object → ℕ → Linked
+behind_checks c n last os room =
+    refused_at 9 (past_made n (names_in_all c.sections) (length (rules_of os)) os (pairs_in os)) (as_one (length os) last room (program n (names_in_all c.sections) os))
 
 -- objects of a common part that have passed the checks
 pub record Sound (common rows objects : List ℕ) (shared : Shared) : Type 0 where
-  pub common-is : Common
+  pub common_is : Common
   pub names : Names
-  pub rowed : Rowed common rows shared common-is names
-  pub are : AreObjects common common-is names (words_of objects)
-  pub passes : Passed common common-is are.objects
+  pub rowed : Rowed common rows shared common_is names
+  pub are : AreObjects common common_is names (words_of objects)
+  pub passes : Passed common common_is are.objects
 
 -- what is left for them
 abbrev pub LinksSound : List ℕ → List ℕ → List ℕ → Shared → List ℕ → List ℕ → code.Linked → Type 0
 LinksSound common rows objects shared old new r =
     (c : Common) (n : Names) → Rowed common rows shared c n → (h : AreObjects common c n (words_of objects)) → Passed common c h.objects
-    → Leaves (behindChecks c n (replicate (lastLength h.lengths) 0) h.objects (count old)) old new r
+    → Leaves (behind_checks c n (replicate (last_length h.lengths) 0) h.objects (count old)) old new r
 
 -- any reading of the objects has so many rules
 abbrev pub SoMany : List ℕ → List ℕ → ℕ → Type 0
-SoMany common objects own = (c : Common) (n : Names) (h : AreObjects common c n (words_of objects)) → own ≡ length (rulesOf h.objects)
+SoMany common objects own = (c : Common) (n : Names) (h : AreObjects common c n (words_of objects)) → own ≡ length (rules_of h.objects)
 
 -- the rules of the objects are closed: their cells stand in the buffer; and by these places the rules are made for all pairs of section and operand rule
 pub record Closed (common rows objects places cells : List ℕ) (work : Work) (c : Common) (n : Names) (h : AreObjects common c n (words_of objects)) : Type 0 where
@@ -121,31 +120,31 @@ pub record Closed (common rows objects places cells : List ℕ) (work : Work) (c
   pub rowed : Rowed common rows shared c n
   pub passes : Passed common c h.objects
   pub rows_are : work.n ≡ shared.n
-  pub rules-are : work.rules ≡ length (rulesOf h.objects)
-  pub few-pairs : work.count ≤ 128
+  pub rules_are : work.rules ≡ length (rules_of h.objects)
+  pub few_pairs : work.count ≤ 128
   pub before : List ℕ
   pub room : length before ≡ 4224
   pub size : length cells ≡ 4224
   pub filled : work.cells ≤ 4225
-  pub closes : Appends before 0 (rulesCells (closed_in n (known_of 0 (rulesOf h.objects)) (length (rulesOf h.objects)) (pairsIn h.objects) h.objects)) cells work.cells
+  pub closes : Appends before 0 (rules_cells (closed_in n (known_of 0 (rules_of h.objects)) (length (rules_of h.objects)) (pairs_in h.objects) h.objects)) cells work.cells
   pub makes : {cs : List ℕ} {k : ℕ} {starts sorts cs' starts' sorts' : List ℕ} {r : Made} → RulesMade common rows work.n places 0 work.count work.rules cs k starts sorts cs' starts' sorts' r
-      → (ms : List Rule) × ((madeFor n (known_of 0 (rulesOf h.objects)) (namesInAll c.sections) (length (rulesOf h.objects)) (pairsIn h.objects) ≡ good ms)
-      × MadeEnd (length (rulesOf h.objects)) cs k cs' starts sorts starts' sorts' r ms)
+      → (ms : List Rule) × ((made_for n (known_of 0 (rules_of h.objects)) (names_in_all c.sections) (length (rules_of h.objects)) (pairs_in h.objects) ≡ good ms)
+      × MadeEnd (length (rules_of h.objects)) cs k cs' starts sorts starts' sorts' r ms)
 
 -- so it is for some reading
 pub record IsClosed (common rows objects places cells : List ℕ) (work : Work) : Type 0 where
-  pub common-is : Common
+  pub common_is : Common
   pub names : Names
-  pub are : AreObjects common common-is names (words_of objects)
-  pub closed : Closed common rows objects places cells work common-is names are
+  pub are : AreObjects common common_is names (words_of objects)
+  pub closed : Closed common rows objects places cells work common_is names are
 
 -- what is left for them
 abbrev pub LinksClosed : List ℕ → List ℕ → List ℕ → List ℕ → List ℕ → Work → List ℕ → List ℕ → code.Linked → Type 0
 LinksClosed common rows objects places cells work old new r =
     (c : Common) (n : Names) (h : AreObjects common c n (words_of objects)) → Closed common rows objects places cells work c n h
-    → Leaves (asOne (length h.objects) (replicate (lastLength h.lengths) 0) (count old) (program n (namesInAll c.sections) h.objects)) old new r
+    → Leaves (as_one (length h.objects) (replicate (last_length h.lengths) 0) (count old) (program n (names_in_all c.sections) h.objects)) old new r
 
 -- all of this file computes where this is unfolded
 unfoldable pub opened : Unit {0}
-unfolding checked behindChecks
+unfolding checked behind_checks
 opened = tt

@@ -19,9 +19,9 @@ use Rattle.linkpairs.specs.declared.Scope.{Scope}
 use Rattle.linkpairs.specs.declared.Spot.{Spot}
 use Rattle.maker.specs.declared.Levels.{Levels}
 use Rattle.names.specs.Known.{Names}
-use Rattle.names.specs.Uses.{Use, isUsed, levelsUsed}
+use Rattle.names.specs.Uses.{Use, is_used, levels_used}
 use Rattle.objects.specs.Places.{Ends}
-use Rattle.objects.specs.View.{pairsOf, all, pairWords, aPair}
+use Rattle.objects.specs.View.{pairs_of, all, pair_words, a_pair}
 use Rattle.parts.specs.Link.{passes}
 use Rattle.program.specs.Made.{crowded}
 use Rattle.syntax.specs.Written.{Program}
@@ -37,16 +37,16 @@ stand-more words sites k p u l x (v ∷ us) j e h =
     (rw (get_or-set_other sites k j p 0 (λ d. omega (arith, d, e))) h.0, stand-more words sites k p u l x us (suc j) (omega (arith, e)) h.1)
 
 numbered_more : (lowest : List ℕ) (names : Names) (k after : ℕ) (u : Use) → k < length lowest → (us : List Use) (j own : ℕ) → k ≡ j + length us → Numbered lowest names j own us after
-    → Numbered (set lowest k after) names j own (us ++ (u ∷ [])) (after + length (levelsUsed names u))
+    → Numbered (set lowest k after) names j own (us ++ (u ∷ [])) (after + length (levels_used names u))
 unfolding Numbered
 numbered_more lowest names k after u l [] j own e h =
     let f : k ≡ j = omega (arith, e) in
-    (rw (← f, get_or-set_same lowest k after 0 l) h, ap (λ (i : ℕ). i + length (levelsUsed names u)) h)
+    (rw (← f, get_or-set_same lowest k after 0 l) h, ap (λ (i : ℕ). i + length (levels_used names u)) h)
 numbered_more lowest names k after u l (v ∷ us) j own e h =
-    (get_or-set_other lowest k j after 0 (λ d. omega (arith, d, e)) ∙ h.0, numbered_more lowest names k after u l us (suc j) (own + length (levelsUsed names v)) (omega (arith, e)) h.1)
+    (get_or-set_other lowest k j after 0 (λ d. omega (arith, d, e)) ∙ h.0, numbered_more lowest names k after u l us (suc j) (own + length (levels_used names v)) (omega (arith, e)) h.1)
 
 held_more : {words sites lowest : List ℕ} {names : Names} {own k after p : ℕ} {us : List Use} {u : Use} → k < length sites → k < length lowest → PairAt words p u → Held words sites lowest names own k after us
-    → Held words (set sites k p) (set lowest k after) names own (k + 1) (after + length (levelsUsed names u)) (us ++ (u ∷ []))
+    → Held words (set sites k p) (set lowest k after) names own (k + 1) (after + length (levels_used names u)) (us ++ (u ∷ []))
 held_more {words} {sites} {lowest} {names} {own} {k} {after} {p} {us} {u} l m x h =
     let e : k ≡ 0 + length us = omega (arith, h.as_many) in
     let n = length-append us (u ∷ []) in
@@ -66,14 +66,14 @@ abbrev Looked : List ℕ → List ℕ → ℕ → ℕ → ℕ → Type 0
 Looked words sites count at r = (us : List Use) (u : Use) → count ≡ length us → Stand words sites 0 us → PairAt words at u → r ≡ index_of u us
 
 used : {words sites lowest : List ℕ} {names : Names} {own count at after r : ℕ} {us : List Use} {u : Use} → Looked words sites count at r → r < count → Held words sites lowest names own count after us → PairAt words at u
-    → isUsed u us ≡ true
+    → is_used u us ≡ true
 used {us = us} {u} f l h x = let e = f us u h.as_many h.stand x in let m = h.as_many in index-used u us (omega (arith, e, m, l))
 
 unused : {words sites lowest : List ℕ} {names : Names} {own count at after r : ℕ} {us : List Use} {u : Use} → Looked words sites count at r → count ≤ r → Held words sites lowest names own count after us → PairAt words at u
-    → isUsed u us ≡ false
+    → is_used u us ≡ false
 unused {us = us} {u} f l h x = let e = f us u h.as_many h.stand x in let m = h.as_many in index-not u us (omega (arith, e, m, l))
 
-over-is : {names : Names} {u : Use} {l : Levels} (others own : ℕ) {t v : Bool} → Counts names u l → t ≡ (ltb 128 (own + l.count) || ltb 512 (others + (own + l.count)) || l.crowded) → t ≡ v → passes others own (levelsUsed names u) ≡ v
+over-is : {names : Names} {u : Use} {l : Levels} (others own : ℕ) {t v : Bool} → Counts names u l → t ≡ (ltb 128 (own + l.count) || ltb 512 (others + (own + l.count)) || l.crowded) → t ≡ v → passes others own (levels_used names u) ≡ v
 unfolding passes
 over-is {l = l} others own c e t = rw (sym c.count, sym c.crowd) (sym e ∙ t)
 
@@ -92,7 +92,7 @@ module _ {text rows : List ℕ} {scope : Scope} {words sites lowest : List ℕ} 
   pub taken-again : {r : ℕ} → s.count ≤ s.own → s.own ≤ 128 → Looked words sites s.count s.at r → r < s.count → PairTaken text rows scope words sites lowest s sites lowest s
   unfolding gather Gives
   taken-again a b f l = record {
-    kept = record { sites-same = refl; lowest-same = refl; few = b; count = a };
+    kept = record { sites_same = refl; lowest_same = refl; few = b; count = a };
     at = refl;
     left = refl;
     gives = λ p names sec own seen h z u x k. rw (used f l h x) (z, h, refl);
@@ -100,7 +100,7 @@ module _ {text rows : List ℕ} {scope : Scope} {words sites lowest : List ℕ} 
 
   pub taken-empty : {r : Spot} {l : Levels} → s.count ≤ s.own → s.own ≤ 128 → Faulty s r → LevelsOf text rows scope.n words s.at l → l.count ≡ 0 → PairTaken text rows scope words sites lowest s sites lowest r
   taken-empty a b q y z = record {
-    kept = record { sites-same = refl; lowest-same = refl; few = omega (arith, b, q.3); count = omega (arith, a, q.2, q.3) };
+    kept = record { sites_same = refl; lowest_same = refl; few = omega (arith, b, q.3); count = omega (arith, a, q.2, q.3) };
     at = q.0;
     left = q.1;
     gives = λ p names sec own seen h z₁ u x k. let o = (y.counts p names sec u x k).one in absurd (omega (arith, o, z));
@@ -110,7 +110,7 @@ module _ {text rows : List ℕ} {scope : Scope} {words sites lowest : List ℕ} 
       → t ≡ Over scope s l → t ≡ true → PairTaken text rows scope words sites lowest s sites lowest r
   unfolding gather Gives
   taken-over a b q f l y e t = record {
-    kept = record { sites-same = refl; lowest-same = refl; few = omega (arith, b, q.3); count = omega (arith, a, q.2, q.3) };
+    kept = record { sites_same = refl; lowest_same = refl; few = omega (arith, b, q.3); count = omega (arith, a, q.2, q.3) };
     at = q.0;
     left = q.1;
     gives = λ p names sec own seen h z u x k. rw (unused f l h x, over-is scope.others s.own (y.counts p names sec u x k) e t) (q.4, rw q.0 x);
@@ -124,18 +124,18 @@ module _ {text rows : List ℕ} {scope : Scope} {words sites lowest : List ℕ} 
       let few = few-more scope s l e t in
       let one = above_zero l.count nz in
       record {
-        kept = record { sites-same = length-set sites s.count s.at; lowest-same = length-set lowest s.count s.own; few = few; count = omega (arith, a, one) };
+        kept = record { sites_same = length-set sites s.count s.at; lowest_same = length-set lowest s.count s.own; few = few; count = omega (arith, a, one) };
         at = refl;
         left = refl;
         gives = λ p names sec own seen h z u x k.
             let c = y.counts p names sec u x k in
-            let n : s.own + l.count ≡ s.own + length (levelsUsed names u) = omega (arith, c.count) in
+            let n : s.own + l.count ≡ s.own + length (levels_used names u) = omega (arith, c.count) in
             rw (unused f i h x, over-is scope.others s.own c e t) (refl, held-as n (held_more (omega (arith, ls, a, few, one)) (omega (arith, lo, a, few, one)) x h), sym n);
       }
 
 -- Pair after pair
 
-ends_at : {words : List ℕ} {p q r : ℕ} → q ≡ p → Ends aPair words p r → Ends aPair words q r
+ends_at : {words : List ℕ} {p q r : ℕ} → q ≡ p → Ends a_pair words p r → Ends a_pair words q r
 ends_at e x = rw e x
 
 gathered_next : (names : Names) (others own : ℕ) (seen : List Use) (u : Use) (us : List Use) (g : Gathered) → gather names others own seen (u ∷ []) ≡ g → gather names others own seen (u ∷ us) ≡ behind names others g us
@@ -145,7 +145,7 @@ module _ {text rows : List ℕ} {scope : Scope} {words sites lowest : List ℕ} 
   pub pairs-done : s.count ≤ s.own → s.own ≤ 128 → s.left ≡ 0 → PairsTaken text rows scope words sites lowest s sites lowest s
   unfolding gather Gives
   pairs-done a b z = record {
-    kept = record { sites-same = refl; lowest-same = refl; few = b; count = a };
+    kept = record { sites_same = refl; lowest_same = refl; few = b; count = a };
     gives = λ p names sec own seen h f us k e n ks. go names own seen h f us n;
   }
     where
@@ -165,27 +165,27 @@ module _ {text rows : List ℕ} {scope : Scope} {words sites lowest : List ℕ} 
         at-fault names own seen u us (past v) e h = rw (gathered_next names scope.others s.own seen u us (past v) e) h
 
         go : (p : Program) (names : Names) → Sections text rows scope.n p names → (own : ℕ) (seen : List Use) → Held words sites lowest names own s.count s.own seen → s.fault ≡ 0
-            → (us : List Use) (k : List ℕ) → drop s.at words ≡ all pairWords (pairsOf us) ++ k → length us ≡ s.left → Each (KnownUse names) us
+            → (us : List Use) (k : List ℕ) → drop s.at words ≡ all pair_words (pairs_of us) ++ k → length us ≡ s.left → Each (KnownUse names) us
             → Gives words sites₁ lowest₁ names own t (gather names scope.others s.own seen us)
         go p names sec own seen h f [] k e n ks = absurd (omega (arith, n, some))
         go p names sec own seen h f (u ∷ us) k e n ks = at-fault names own seen u us (gather names scope.others s.own seen (u ∷ [])) refl (x.gives p names sec own seen h f u (first-pair words s.at u us k e) ks.0)
 
-    pub pairs-off : {next : ℕ} → Ends aPair words t.at next → length words < next → PairsTaken text rows scope words sites lowest s sites₁ lowest₁ t
+    pub pairs-off : {next : ℕ} → Ends a_pair words t.at next → length words < next → PairsTaken text rows scope words sites lowest s sites₁ lowest₁ t
     pairs-off {next} y l = record { kept = x.kept; gives = λ p names sec own seen h f us k e n ks. absurd (go us k e n) }
       where
-        go : (us : List Use) (k : List ℕ) → drop s.at words ≡ all pairWords (pairsOf us) ++ k → length us ≡ s.left → ⊥
+        go : (us : List Use) (k : List ℕ) → drop s.at words ≡ all pair_words (pairs_of us) ++ k → length us ≡ s.left → ⊥
         go [] k e n = omega (arith, n, some)
         go (u ∷ us) k e n = let i = (later-pairs words s.at u us k e (ends_at (sym x.at) y)).1 in omega (arith, i, l)
 
-    pub pairs-step : {next left : ℕ} {sites' lowest' : List ℕ} {r : Spot} → t.fault ≡ 0 → Ends aPair words t.at next → left ≡ t.left - 1
+    pub pairs-step : {next left : ℕ} {sites' lowest' : List ℕ} {r : Spot} → t.fault ≡ 0 → Ends a_pair words t.at next → left ≡ t.left - 1
         → PairsTaken text rows scope words sites₁ lowest₁ (moved_to t next left) sites' lowest' r → PairsTaken text rows scope words sites lowest s sites' lowest' r
     unfolding Gives behind Each
     pairs-step {next} {left} {sites'} {lowest'} {r} z y l more = record {
-      kept = record { sites-same = more.kept.sites-same ∙ x.kept.sites-same; lowest-same = more.kept.lowest-same ∙ x.kept.lowest-same; few = more.kept.few; count = more.kept.count };
+      kept = record { sites_same = more.kept.sites_same ∙ x.kept.sites_same; lowest_same = more.kept.lowest_same ∙ x.kept.lowest_same; few = more.kept.few; count = more.kept.count };
       gives = λ p names sec own seen h f us k e n ks. go p names sec own seen h f us k e n ks;
     }
       where
-        onward : (p : Program) (names : Names) → Sections text rows scope.n p names → (own : ℕ) (seen : List Use) (u : Use) (us : List Use) (k : List ℕ) → drop next words ≡ all pairWords (pairsOf us) ++ k → length us ≡ left → Each (KnownUse names) us
+        onward : (p : Program) (names : Names) → Sections text rows scope.n p names → (own : ℕ) (seen : List Use) (u : Use) (us : List Use) (k : List ℕ) → drop next words ≡ all pair_words (pairs_of us) ++ k → length us ≡ left → Each (KnownUse names) us
             → (g : Gathered) → gather names scope.others s.own seen (u ∷ []) ≡ g → Gives words sites₁ lowest₁ names own t g
             → Gives words sites' lowest' names own r (gather names scope.others s.own seen (u ∷ us))
         onward p names sec own seen u us k e n ks (gathered after seen₁) d h =
@@ -193,7 +193,7 @@ module _ {text rows : List ℕ} {scope : Scope} {words sites lowest : List ℕ} 
         onward p names sec own seen u us k e n ks (past v) d h = let q = h.0 in absurd (omega (arith, q, z))
 
         go : (p : Program) (names : Names) → Sections text rows scope.n p names → (own : ℕ) (seen : List Use) → Held words sites lowest names own s.count s.own seen → s.fault ≡ 0
-            → (us : List Use) (k : List ℕ) → drop s.at words ≡ all pairWords (pairsOf us) ++ k → length us ≡ s.left → Each (KnownUse names) us
+            → (us : List Use) (k : List ℕ) → drop s.at words ≡ all pair_words (pairs_of us) ++ k → length us ≡ s.left → Each (KnownUse names) us
             → Gives words sites' lowest' names own r (gather names scope.others s.own seen us)
         go p names sec own seen h f [] k e n ks = absurd (omega (arith, n, some))
         go p names sec own seen h f (u ∷ us) k e n ks =

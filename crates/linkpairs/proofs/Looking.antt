@@ -5,11 +5,12 @@ use mathlib.Core.Path.{◌≡◌, refl, sym, ap, ◌∙◌}
 use native.Mathlib.Omega.{arith}
 use Prim.Native.Nat.{ℕ, suc, ◌+◌, ◌<◌, ◌≤◌}
 use lib.ListN.{length, get_or}
-use Rattle.base.specs.Common.{if◌then◌else◌, same}
+use Rattle.std.specs.Prelude.{if◌then◌else◌}
+use Rattle.base.specs.Common.{same}
 use Rattle.linkpairs.specs.Gather.{index_of}
 use Rattle.linkpairs.specs.Standing.{PairAt, Stand, Numbered}
 use Rattle.names.specs.Known.{Names}
-use Rattle.names.specs.Uses.{Use, same_pair, isUsed, levelsUsed, lowestOf}
+use Rattle.names.specs.Uses.{Use, same_pair, is_used, levels_used, lowest_of}
 use Rattle.objects.specs.View.{name_of}
 
 -- Two pairs
@@ -63,42 +64,42 @@ module _ (words sites : List ℕ) (us : List Use) (u : Use) (count i : ℕ) (x :
 
 -- Whether a pair stands there
 
-pub index-used : (u : Use) (us : List Use) → index_of u us < length us → isUsed u us ≡ true
-unfolding index_of isUsed
+pub index-used : (u : Use) (us : List Use) → index_of u us < length us → is_used u us ≡ true
+unfolding index_of is_used
 index-used u [] l = absurd (omega (arith, l))
 index-used u (v ∷ us) l = go (same_pair u v) refl (index-used u us) l
   where
-    go : (t : Bool) → same_pair u v ≡ t → (index_of u us < length us → isUsed u us ≡ true) → (if t then 0 else suc (index_of u us)) < suc (length us) → isUsed u (v ∷ us) ≡ true
-    go true e f l = rw (isUsed, e)
-    go false e f l = rw (isUsed, e) (f (omega (arith, l)))
+    go : (t : Bool) → same_pair u v ≡ t → (index_of u us < length us → is_used u us ≡ true) → (if t then 0 else suc (index_of u us)) < suc (length us) → is_used u (v ∷ us) ≡ true
+    go true e f l = rw (is_used, e)
+    go false e f l = rw (is_used, e) (f (omega (arith, l)))
 
-pub index-not : (u : Use) (us : List Use) → length us ≤ index_of u us → isUsed u us ≡ false
-unfolding index_of isUsed
+pub index-not : (u : Use) (us : List Use) → length us ≤ index_of u us → is_used u us ≡ false
+unfolding index_of is_used
 index-not u [] l = refl
 index-not u (v ∷ us) l = go (same_pair u v) refl (index-not u us) l
   where
-    go : (t : Bool) → same_pair u v ≡ t → (length us ≤ index_of u us → isUsed u us ≡ false) → suc (length us) ≤ (if t then 0 else suc (index_of u us)) → isUsed u (v ∷ us) ≡ false
+    go : (t : Bool) → same_pair u v ≡ t → (length us ≤ index_of u us → is_used u us ≡ false) → suc (length us) ≤ (if t then 0 else suc (index_of u us)) → is_used u (v ∷ us) ≡ false
     go true e f l = absurd (omega (arith, l))
-    go false e f l = rw (isUsed, e) (f (omega (arith, l)))
+    go false e f l = rw (is_used, e) (f (omega (arith, l)))
 
 -- The number of the lowest rule
 
-pub lowest-there : (lowest : List ℕ) (names : Names) (u : Use) (us : List Use) (j own after : ℕ) → Numbered lowest names j own us after → index_of u us < length us → get_or lowest (j + index_of u us) 0 ≡ lowestOf names u own us
-unfolding Numbered index_of lowestOf
+pub lowest-there : (lowest : List ℕ) (names : Names) (u : Use) (us : List Use) (j own after : ℕ) → Numbered lowest names j own us after → index_of u us < length us → get_or lowest (j + index_of u us) 0 ≡ lowest_of names u own us
+unfolding Numbered index_of lowest_of
 lowest-there lowest names u [] j own after h l = absurd (omega (arith, l))
-lowest-there lowest names u (v ∷ us) j own after h l = go (same_pair u v) refl (lowest-there lowest names u us (suc j) (own + length (levelsUsed names v)) after h.1) l
+lowest-there lowest names u (v ∷ us) j own after h l = go (same_pair u v) refl (lowest-there lowest names u us (suc j) (own + length (levels_used names v)) after h.1) l
   where
-    go : (t : Bool) → same_pair u v ≡ t → (index_of u us < length us → get_or lowest (suc j + index_of u us) 0 ≡ lowestOf names u (own + length (levelsUsed names v)) us)
-        → (if t then 0 else suc (index_of u us)) < suc (length us) → get_or lowest (j + index_of u (v ∷ us)) 0 ≡ lowestOf names u own (v ∷ us)
-    go true e f l = let z : j + 0 ≡ j = omega arith in rw (index_of, lowestOf, e) (ap (λ (i : ℕ). get_or lowest i 0) z ∙ h.0)
-    go false e f l = let z : j + suc (index_of u us) ≡ suc j + index_of u us = omega arith in rw (index_of, lowestOf, e) (ap (λ (i : ℕ). get_or lowest i 0) z ∙ f (omega (arith, l)))
+    go : (t : Bool) → same_pair u v ≡ t → (index_of u us < length us → get_or lowest (suc j + index_of u us) 0 ≡ lowest_of names u (own + length (levels_used names v)) us)
+        → (if t then 0 else suc (index_of u us)) < suc (length us) → get_or lowest (j + index_of u (v ∷ us)) 0 ≡ lowest_of names u own (v ∷ us)
+    go true e f l = let z : j + 0 ≡ j = omega arith in rw (index_of, lowest_of, e) (ap (λ (i : ℕ). get_or lowest i 0) z ∙ h.0)
+    go false e f l = let z : j + suc (index_of u us) ≡ suc j + index_of u us = omega arith in rw (index_of, lowest_of, e) (ap (λ (i : ℕ). get_or lowest i 0) z ∙ f (omega (arith, l)))
 
-pub lowest-none : (names : Names) (u : Use) (us : List Use) (own : ℕ) → length us ≤ index_of u us → lowestOf names u own us ≡ 0
-unfolding index_of lowestOf
+pub lowest-none : (names : Names) (u : Use) (us : List Use) (own : ℕ) → length us ≤ index_of u us → lowest_of names u own us ≡ 0
+unfolding index_of lowest_of
 lowest-none names u [] own l = refl
-lowest-none names u (v ∷ us) own l = go (same_pair u v) refl (lowest-none names u us (own + length (levelsUsed names v))) l
+lowest-none names u (v ∷ us) own l = go (same_pair u v) refl (lowest-none names u us (own + length (levels_used names v))) l
   where
-    go : (t : Bool) → same_pair u v ≡ t → (length us ≤ index_of u us → lowestOf names u (own + length (levelsUsed names v)) us ≡ 0)
-        → suc (length us) ≤ (if t then 0 else suc (index_of u us)) → lowestOf names u own (v ∷ us) ≡ 0
+    go : (t : Bool) → same_pair u v ≡ t → (length us ≤ index_of u us → lowest_of names u (own + length (levels_used names v)) us ≡ 0)
+        → suc (length us) ≤ (if t then 0 else suc (index_of u us)) → lowest_of names u own (v ∷ us) ≡ 0
     go true e f l = absurd (omega (arith, l))
-    go false e f l = rw (lowestOf, e) (f (omega (arith, l)))
+    go false e f l = rw (lowest_of, e) (f (omega (arith, l)))

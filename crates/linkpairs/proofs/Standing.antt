@@ -13,21 +13,21 @@ use Rattle.objects.proofs.Looked.{name-at, ends-took}
 use Rattle.objects.proofs.Views.{name-exact, pair-exact, pairs-length, object-words}
 use Rattle.objects.specs.Places.{Ends, NameAt}
 use Rattle.objects.specs.View as view
-use Rattle.objects.specs.View.{name_of, pair_of, pairsOf, view_of, nameWords, all, pairWords, ruleWords, bodyWords, viewWords, aName, aPair}
-use Rattle.parts.specs.Form.{packed, objectWords, firstPair}
+use Rattle.objects.specs.View.{name_of, pair_of, pairs_of, view_of, name_words, all, pair_words, rule_words, body_words, view_words, a_name, a_pair}
+use Rattle.parts.specs.Form.{packed, object_words, first_pair}
 use Rattle.parts.specs.Objects.{Object}
 
 -- A pair
 
 module _ (words : List ℕ) (p : ℕ) (u : Use) (x : PairAt words p u) where
-  here : drop p words ≡ u.sign.start ∷ length u.sign.text ∷ (nameWords (name_of u.section) ++ (nameWords (name_of u.operand) ++ x.rest))
-  unfolding pairWords pair_of
-  here = x.is ∙ ap (λ (ws : List ℕ). u.sign.start ∷ length u.sign.text ∷ ws) (append_assoc (nameWords (name_of u.section)) (nameWords (name_of u.operand)) x.rest)
+  here : drop p words ≡ u.sign.start ∷ length u.sign.text ∷ (name_words (name_of u.section) ++ (name_words (name_of u.operand) ++ x.rest))
+  unfolding pair_words pair_of
+  here = x.is ∙ ap (λ (ws : List ℕ). u.sign.start ∷ length u.sign.text ∷ ws) (append_assoc (name_words (name_of u.section)) (name_words (name_of u.operand)) x.rest)
 
   pub pair_inside : p + 2 ≤ length words
   pair_inside = let a = length-drop p words in let b = ap length here in omega (arith, a, b)
 
-  behind : drop (p + 2) words ≡ nameWords (name_of u.section) ++ (nameWords (name_of u.operand) ++ x.rest)
+  behind : drop (p + 2) words ≡ name_words (name_of u.section) ++ (name_words (name_of u.operand) ++ x.rest)
   behind = sym (drop-drop 2 p words) ∙ ap (λ (ws : List ℕ). drop 2 ws) here
 
   pub sign-start : get_or words p 0 ≡ u.sign.start
@@ -37,94 +37,94 @@ module _ (words : List ℕ) (p : ℕ) (u : Use) (x : PairAt words p u) where
   sign-size = sym (get_or-drop p words 1 0) ∙ ap (λ (ws : List ℕ). get_or ws 1 0) here
 
   pub section-name : {r : ℕ} → r ≡ p + 2 → NameAt words r (name_of u.section)
-  section-name {r} e = name-at words r (name_of u.section) (nameWords (name_of u.operand) ++ x.rest) (ap (λ (i : ℕ). drop i words) e ∙ behind)
+  section-name {r} e = name-at words r (name_of u.section) (name_words (name_of u.operand) ++ x.rest) (ap (λ (i : ℕ). drop i words) e ∙ behind)
 
-  pub operand-name : {s r : ℕ} → s ≡ p + 2 → Ends aName words s r → (r ≤ length words) × NameAt words r (name_of u.operand)
+  pub operand-name : {s r : ℕ} → s ≡ p + 2 → Ends a_name words s r → (r ≤ length words) × NameAt words r (name_of u.operand)
   operand-name {s} {r} e y =
-      let k = nameWords (name_of u.operand) ++ x.rest in
-      let z = ends-took (name_of u.section) k (ap aName (ap (λ (i : ℕ). drop i words) e ∙ behind) ∙ name-exact.back (name_of u.section) tt k) y in
+      let k = name_words (name_of u.operand) ++ x.rest in
+      let z = ends-took (name_of u.section) k (ap a_name (ap (λ (i : ℕ). drop i words) e ∙ behind) ∙ name-exact.back (name_of u.section) tt k) y in
       (z.1, name-at words r (name_of u.operand) x.rest (sym z.0))
 
 -- the first of pairs, and those behind it
-module _ (words : List ℕ) (at : ℕ) (u : Use) (us : List Use) (k : List ℕ) (e : drop at words ≡ all pairWords (pairsOf (u ∷ us)) ++ k) where
-  first : drop at words ≡ pairWords (pair_of u) ++ (all pairWords (pairsOf us) ++ k)
-  unfolding all pairsOf
-  first = e ∙ append_assoc (pairWords (pair_of u)) (all pairWords (pairsOf us)) k
+module _ (words : List ℕ) (at : ℕ) (u : Use) (us : List Use) (k : List ℕ) (e : drop at words ≡ all pair_words (pairs_of (u ∷ us)) ++ k) where
+  first : drop at words ≡ pair_words (pair_of u) ++ (all pair_words (pairs_of us) ++ k)
+  unfolding all pairs_of
+  first = e ∙ append_assoc (pair_words (pair_of u)) (all pair_words (pairs_of us)) k
 
   pub first-pair : PairAt words at u
-  first-pair = record { rest = all pairWords (pairsOf us) ++ k; is = first }
+  first-pair = record { rest = all pair_words (pairs_of us) ++ k; is = first }
 
-  pub later-pairs : {r : ℕ} → Ends aPair words at r → (all pairWords (pairsOf us) ++ k ≡ drop r words) × (r ≤ length words)
-  later-pairs y = ends-took (pair_of u) (all pairWords (pairsOf us) ++ k) (ap aPair first ∙ pair-exact.back (pair_of u) tt (all pairWords (pairsOf us) ++ k)) y
+  pub later-pairs : {r : ℕ} → Ends a_pair words at r → (all pair_words (pairs_of us) ++ k ≡ drop r words) × (r ≤ length words)
+  later-pairs y = ends-took (pair_of u) (all pair_words (pairs_of us) ++ k) (ap a_pair first ∙ pair-exact.back (pair_of u) tt (all pair_words (pairs_of us) ++ k)) y
 
 -- An object
 
-module _ (words : List ℕ) (at : ℕ) (common : List ℕ) (size : ℕ) (o : Object) (k : List ℕ) (e : drop at words ≡ objectWords common size o ++ k) where
+module _ (words : List ℕ) (at : ℕ) (common : List ℕ) (size : ℕ) (o : Object) (k : List ℕ) (e : drop at words ≡ object_words common size o ++ k) where
   abbrev v : view.View
   v = view_of size o
 
-  object : drop at words ≡ viewWords common v ++ k
+  object : drop at words ≡ view_words common v ++ k
   object = e ∙ ap (λ (ws : List ℕ). ws ++ k) (object-words common size o)
 
   pub common-size : get_or words (at + 3) 0 ≡ length common
-  unfolding viewWords bodyWords
+  unfolding view_words body_words
   common-size = sym (get_or-drop at words 3 0) ∙ ap (λ (ws : List ℕ). get_or ws 3 0) object
 
   pub pair-count : get_or words (at + 6) 0 ≡ length o.uses
-  unfolding viewWords bodyWords view_of
+  unfolding view_words body_words view_of
   pair-count = sym (get_or-drop at words 6 0) ∙ ap (λ (ws : List ℕ). get_or ws 6 0) object ∙ pairs-length o.uses
 
   abbrev rules : List ℕ
-  rules = all ruleWords (view.rulesOf o.aims (firstPair o) o.rules)
+  rules = all rule_words (view.rules_of o.aims (first_pair o) o.rules)
 
-  in-common : drop (at + 7) words ≡ packed common ++ (all pairWords (pairsOf o.uses) ++ (rules ++ k))
-  unfolding viewWords bodyWords view_of
+  in-common : drop (at + 7) words ≡ packed common ++ (all pair_words (pairs_of o.uses) ++ (rules ++ k))
+  unfolding view_words body_words view_of
   in-common = sym (drop-drop 7 at words) ∙ ap (λ (ws : List ℕ). drop 7 ws) object
-      ∙ append_assoc (packed common) (all pairWords (pairsOf o.uses) ++ rules) k ∙ ap (λ (ws : List ℕ). packed common ++ ws) (append_assoc (all pairWords (pairsOf o.uses)) rules k)
+      ∙ append_assoc (packed common) (all pair_words (pairs_of o.uses) ++ rules) k ∙ ap (λ (ws : List ℕ). packed common ++ ws) (append_assoc (all pair_words (pairs_of o.uses)) rules k)
 
-  pub pairs-at : {r n : ℕ} → n ≡ get_or words (at + 3) 0 → r ≡ at + (7 + n / 2 + n % 2) → (more : List ℕ) × (drop r words ≡ all pairWords (pairsOf o.uses) ++ more)
+  pub pairs-at : {r n : ℕ} → n ≡ get_or words (at + 3) 0 → r ≡ at + (7 + n / 2 + n % 2) → (more : List ℕ) × (drop r words ≡ all pair_words (pairs_of o.uses) ++ more)
   pairs-at {r} {n} f g =
       let m = n / 2 + n % 2 in
       let h : length (packed common) ≡ m = packed-length common ∙ ap (λ (i : ℕ). i / 2 + i % 2) (sym (f ∙ common-size)) in
       let q : r ≡ (at + 7) + m = omega (arith, g) in
-      (rules ++ k, ap (λ (i : ℕ). drop i words) q ∙ sym (drop-drop m (at + 7) words) ∙ ap (λ (ws : List ℕ). drop m ws) in-common ∙ drop_at (packed common) (all pairWords (pairsOf o.uses) ++ (rules ++ k)) m h)
+      (rules ++ k, ap (λ (i : ℕ). drop i words) q ∙ sym (drop-drop m (at + 7) words) ∙ ap (λ (ws : List ℕ). drop m ws) in-common ∙ drop_at (packed common) (all pair_words (pairs_of o.uses) ++ (rules ++ k)) m h)
 
   seven : at ≤ length words → at + 7 ≤ length words
-  unfolding viewWords bodyWords
+  unfolding view_words body_words
   seven i = let a = ap length object in let b = length-drop at words in omega (arith, a, b, i)
 
   abbrev body-length : ℕ
-  body-length = length (bodyWords common v)
+  body-length = length (body_words common v)
 
   high : get_or words (at + 1) 0 ≡ body-length / 65536
-  unfolding viewWords
+  unfolding view_words
   high = sym (get_or-drop at words 1 0) ∙ ap (λ (ws : List ℕ). get_or ws 1 0) object
 
   low : get_or words (at + 2) 0 ≡ body-length % 65536
-  unfolding viewWords
+  unfolding view_words
   low = sym (get_or-drop at words 2 0) ∙ ap (λ (ws : List ℕ). get_or ws 2 0) object
 
-  body : drop (at + 3) words ≡ bodyWords common v ++ k
-  unfolding viewWords
+  body : drop (at + 3) words ≡ body_words common v ++ k
+  unfolding view_words
   body = sym (drop-drop 3 at words) ∙ ap (λ (ws : List ℕ). drop 3 ws) object
 
   object-size : {m : ℕ} → m ≡ 3 + 65536 * get_or words (at + 1) 0 + get_or words (at + 2) 0 → m ≡ 3 + body-length
   object-size f = let d = div-add-mod' body-length 65536 in let a = high in let b = low in omega (arith, f, d, a, b)
 
   pub object-inside : (m : ℕ) → m ≡ 3 + 65536 * get_or words (at + 1) 0 + get_or words (at + 2) 0 → at ≤ length words → at + m ≤ length words
-  object-inside m f i = let s = object-size f in let a = length-drop (at + 3) words in let b = ap length body in let c = length-append (bodyWords common v) k in let d = seven i in omega (arith, s, a, b, c, d, i)
+  object-inside m f i = let s = object-size f in let a = length-drop (at + 3) words in let b = ap length body in let c = length-append (body_words common v) k in let d = seven i in omega (arith, s, a, b, c, d, i)
 
   pub behind-object : {r : ℕ} (m : ℕ) → m ≡ 3 + 65536 * get_or words (at + 1) 0 + get_or words (at + 2) 0 → r ≡ at + m → drop r words ≡ k
   behind-object {r} m f g =
       let s = object-size f in
       let q : r ≡ (at + 3) + body-length = omega (arith, g, s) in
-      ap (λ (i : ℕ). drop i words) q ∙ sym (drop-drop body-length (at + 3) words) ∙ ap (λ (ws : List ℕ). drop body-length ws) body ∙ drop_at (bodyWords common v) k body-length refl
+      ap (λ (i : ℕ). drop i words) q ∙ sym (drop-drop body-length (at + 3) words) ∙ ap (λ (ws : List ℕ). drop body-length ws) body ∙ drop_at (body_words common v) k body-length refl
 
-  pub pairs-inside : {n : ℕ} → n ≡ get_or words (at + 3) 0 → at ≤ length words → at + (7 + n / 2 + n % 2) ≤ length words
-  pairs-inside {n} f i =
+  pub pairs_inside : {n : ℕ} → n ≡ get_or words (at + 3) 0 → at ≤ length words → at + (7 + n / 2 + n % 2) ≤ length words
+  pairs_inside {n} f i =
       let h : length (packed common) ≡ n / 2 + n % 2 = packed-length common ∙ ap (λ (i : ℕ). i / 2 + i % 2) (sym (f ∙ common-size)) in
       let a = length-drop (at + 7) words in
       let b = ap length in-common in
-      let c = length-append (packed common) (all pairWords (pairsOf o.uses) ++ (rules ++ k)) in
+      let c = length-append (packed common) (all pair_words (pairs_of o.uses) ++ (rules ++ k)) in
       let d = seven i in
       omega (arith, h, a, b, c, d, i)

@@ -1,8 +1,7 @@
 -- The pairs of section and operand rule in one pass over uses, as the code goes: each use is of a pair that stands there, or is the first of its pair.
-use Rattle.std.specs.Prelude.{List, [], ◌∷◌, ◌++◌, ℕ, suc, ◌+◌, length}
-use Rattle.base.specs.Common.{if◌then◌else◌}
+use Rattle.std.specs.Prelude.{List, [], ◌∷◌, ◌++◌, ℕ, suc, ◌+◌, length, if◌then◌else◌}
 use Rattle.names.specs.Known.{Names}
-use Rattle.names.specs.Uses.{Use, same_pair, isUsed, levelsUsed}
+use Rattle.names.specs.Uses.{Use, same_pair, is_used, levels_used}
 use Rattle.parts.specs.Link.{passes}
 
 -- all pairs, and how many rules there are with those made for them; or the first use of the pair whose rules pass a limit
@@ -16,8 +15,8 @@ module _ (n : Names) (others : ℕ) where
   gather own seen [] = gathered own seen
   gather own seen (u ∷ us) =
       let again = gather own seen us in
-      let first = gather (own + length (levelsUsed n u)) (seen ++ (u ∷ [])) us in
-      if isUsed u seen then again else if passes others own (levelsUsed n u) then past u else first
+      let first = gather (own + length (levels_used n u)) (seen ++ (u ∷ [])) us in
+      if is_used u seen then again else if passes others own (levels_used n u) then past u else first
 
 -- the number of the first pair that is that of u; where none is, how many they are
 unfoldable pub index_of : Use → List Use → ℕ

@@ -3,32 +3,32 @@ use Rattle.std.specs.Prelude.{List, [], ◌∷◌, ◌++◌, ◌≡◌, ℕ, suc
 use Rattle.std.proofs.Math.Option.{Option, none, some}
 use Rattle.acceptance.proofs.Shape.{Each}
 use Rattle.declarations.specs.Decls as decls
-use Rattle.declarations.specs.Decls.{EntriesAt, entriesOf, operatorsFrom, mapped}
+use Rattle.declarations.specs.Decls.{EntriesAt, entries_of, operators_from, mapped}
 use Rattle.grammar.specs.Derived.{OperatorsIn}
 use Rattle.linkpairs.specs.Gather.{Gathered, gathered, past, gather}
 use Rattle.linkpairs.specs.declared.Pairs.{Pairs}
 use Rattle.linkpairs.specs.declared.Scope.{Scope}
 use Rattle.linkpairs.specs.declared.Spot.{Spot}
 use Rattle.maker.specs.declared.Levels.{Levels}
-use Rattle.names.specs.Known.{Names, findOperators}
-use Rattle.names.specs.Uses.{Use, levelsUsed}
+use Rattle.names.specs.Known.{Names, find_operators}
+use Rattle.names.specs.Uses.{Use, levels_used}
 use Rattle.objects.specs.Places.{NameAt}
-use Rattle.objects.specs.View.{name_of, pair_of, pairsOf, all, pairWords}
-use Rattle.parts.specs.Form.{AreObjects, objectWords}
-use Rattle.parts.specs.Link.{Found, pairsIn, pastMade}
+use Rattle.objects.specs.View.{name_of, pair_of, pairs_of, all, pair_words}
+use Rattle.parts.specs.Form.{AreObjects, object_words}
+use Rattle.parts.specs.Link.{Found, pairs_in, past_made}
 use Rattle.parts.specs.Objects.{Object}
-use Rattle.program.specs.Made.{Level, levelsOf, crowded}
+use Rattle.program.specs.Made.{Level, levels_of, crowded}
 use Rattle.symbols.specs.Rows.{held}
 use Rattle.syntax.specs.Texts.{Common}
 use Rattle.syntax.specs.Written.{Operator, Program}
-use Rattle.words.specs.Words.{Word, wordsAt}
+use Rattle.words.specs.Words.{Word, words_at}
 
 -- A pair in the words
 
 -- the first use u of a pair stands at the place p
 pub record PairAt (words : List ℕ) (p : ℕ) (u : Use) : Type 0 where
   pub rest : List ℕ
-  pub is : drop p words ≡ pairWords (pair_of u) ++ rest
+  pub is : drop p words ≡ pair_words (pair_of u) ++ rest
 
 -- its section's name stands at r
 pub record SectionName (words : List ℕ) (p r : ℕ) : Type 0 where
@@ -46,32 +46,32 @@ pub record OperandName (words : List ℕ) (p r : ℕ) : Type 0 where
 -- its first pair stands at r
 pub record PairsFrom (words : List ℕ) (at r : ℕ) : Type 0 where
   pub inside : r ≤ length words
-  pub rest : (common : List ℕ) (size : ℕ) (o : Object) (k : List ℕ) → drop at words ≡ objectWords common size o ++ k → (more : List ℕ) × (drop r words ≡ all pairWords (pairsOf o.uses) ++ more)
+  pub rest : (common : List ℕ) (size : ℕ) (o : Object) (k : List ℕ) → drop at words ≡ object_words common size o ++ k → (more : List ℕ) × (drop r words ≡ all pair_words (pairs_of o.uses) ++ more)
 
 -- it ends at r
 pub record ObjectEnds (words : List ℕ) (at r : ℕ) : Type 0 where
   pub past : at < r
   pub inside : r ≤ length words
-  pub rest : (common : List ℕ) (size : ℕ) (o : Object) (k : List ℕ) → drop at words ≡ objectWords common size o ++ k → drop r words ≡ k
+  pub rest : (common : List ℕ) (size : ℕ) (o : Object) (k : List ℕ) → drop at words ≡ object_words common size o ++ k → drop r words ≡ k
 
 -- The sections of the common part, as the rows hold them
 
 pub record Sections (text rows : List ℕ) (n : ℕ) (p : Program) (names : Names) : Type 0 where
-  pub entries : EntriesAt text (held text rows n) (entriesOf p)
-  pub operators : (w : List ℕ) → findOperators w names.operators ≡ mapped (λ i. levelsOf (operatorsFrom (held text rows n) (entriesOf p i))) (decls.index_of 600 w 0 (held text rows n))
+  pub entries : EntriesAt text (held text rows n) (entries_of p)
+  pub operators : (w : List ℕ) → find_operators w names.operators ≡ mapped (λ i. levels_of (operators_from (held text rows n) (entries_of p i))) (decls.index_of 600 w 0 (held text rows n))
 
 -- there is such a section
 pub record KnownUse (names : Names) (u : Use) : Type 0 where
   pub levels : List Level
-  pub section : findOperators u.section.text names.operators ≡ some levels
+  pub section : find_operators u.section.text names.operators ≡ some levels
 
 -- the entries of the section that u uses stand at r in the text
 pub record EntriesAre (text rows : List ℕ) (n : ℕ) (names : Names) (u : Use) (r : ℕ) : Type 0 where
   pub inside : r ≤ length text
   pub operators : List Operator
   pub behind : List Word
-  pub entries : OperatorsIn (wordsAt text r) behind operators
-  pub levels : levelsUsed names u ≡ levelsOf (operatorsFrom (held text rows n) operators)
+  pub entries : OperatorsIn (words_at text r) behind operators
+  pub levels : levels_used names u ≡ levels_of (operators_from (held text rows n) operators)
 
 -- those of the pair at the place p
 pub record EntriesOf (text rows : List ℕ) (n : ℕ) (words : List ℕ) (p r : ℕ) : Type 0 where
@@ -80,8 +80,8 @@ pub record EntriesOf (text rows : List ℕ) (n : ℕ) (words : List ℕ) (p r : 
 
 -- how many levels they have, one or more, and whether one has too many operators
 pub record Counts (names : Names) (u : Use) (l : Levels) : Type 0 where
-  pub count : l.count ≡ length (levelsUsed names u)
-  pub crowd : l.crowded ≡ crowded (levelsUsed names u)
+  pub count : l.count ≡ length (levels_used names u)
+  pub crowd : l.crowded ≡ crowded (levels_used names u)
   pub one : 1 ≤ l.count
 
 pub record LevelsOf (text rows : List ℕ) (n : ℕ) (words : List ℕ) (p : ℕ) (l : Levels) : Type 0 where
@@ -98,7 +98,7 @@ Stand words sites j (u ∷ us) = PairAt words (get_or sites j 0) u × Stand word
 -- the numbers of their lowest rules stand in `lowest`, those made for the first of them being `own` and up; behind them all comes the number `after`
 unfoldable pub Numbered : List ℕ → Names → ℕ → ℕ → List Use → ℕ → Type 0
 Numbered lowest names j own [] after = after ≡ own
-Numbered lowest names j own (u ∷ us) after = (get_or lowest j 0 ≡ own) × Numbered lowest names (suc j) (own + length (levelsUsed names u)) us after
+Numbered lowest names j own (u ∷ us) after = (get_or lowest j 0 ≡ own) × Numbered lowest names (suc j) (own + length (levels_used names u)) us after
 
 -- as many pairs as `count`, these
 pub record Held (words sites lowest : List ℕ) (names : Names) (own count after : ℕ) (us : List Use) : Type 0 where
@@ -119,8 +119,8 @@ Gives words sites lowest names own r (past u) = (r.fault ≡ 9) × PairAt words 
 
 -- what is kept from pair to pair
 pub record SpotKept (sites lowest sites' lowest' : List ℕ) (r : Spot) : Type 0 where
-  pub sites-same : length sites' ≡ length sites
-  pub lowest-same : length lowest' ≡ length lowest
+  pub sites_same : length sites' ≡ length sites
+  pub lowest_same : length lowest' ≡ length lowest
   pub few : r.own ≤ 128
   pub count : r.count ≤ r.own
 
@@ -136,7 +136,7 @@ pub record PairTaken (text rows : List ℕ) (scope : Scope) (words sites lowest 
 pub record PairsTaken (text rows : List ℕ) (scope : Scope) (words sites lowest : List ℕ) (s : Spot) (sites' lowest' : List ℕ) (r : Spot) : Type 0 where
   pub kept : SpotKept sites lowest sites' lowest' r
   pub gives : (p : Program) (names : Names) → Sections text rows scope.n p names → (own : ℕ) (seen : List Use) → Held words sites lowest names own s.count s.own seen → s.fault ≡ 0
-      → (us : List Use) (k : List ℕ) → drop s.at words ≡ all pairWords (pairsOf us) ++ k → length us ≡ s.left → Each (KnownUse names) us
+      → (us : List Use) (k : List ℕ) → drop s.at words ≡ all pair_words (pairs_of us) ++ k → length us ≡ s.left → Each (KnownUse names) us
       → Gives words sites' lowest' names own r (gather names scope.others s.own seen us)
 
 -- the fault of the pair where s stands, in text i
@@ -154,7 +154,7 @@ Tells words sites lowest names own us r none = (r.fault ≡ 0) × ((after : ℕ)
 pub record Collected (text rows : List ℕ) (scope : Scope) (words sites lowest : List ℕ) (r : Pairs) : Type 0 where
   pub few : r.count ≤ 128
   pub tells : (p : Program) (names : Names) → Sections text rows scope.n p names → (common : List ℕ) (c : Common) (h : AreObjects common c names words)
-      → Tells words sites lowest names scope.own (pairsIn h.objects) r (pastMade names scope.others scope.own h.objects (pairsIn h.objects))
+      → Tells words sites lowest names scope.own (pairs_in h.objects) r (past_made names scope.others scope.own h.objects (pairs_in h.objects))
 
 -- all of this file computes where this is unfolded
 unfoldable pub opened : Unit {0}

@@ -5,7 +5,7 @@ ghost use Rattle.linkpairs.specs.Places.{SitesFound, SiteIs, RulesMade};
 ghost use Rattle.linkpairs.specs.Standing.{PairAt, SectionName, OperandName, PairsFrom, ObjectEnds, EntriesOf, LevelsOf, Stand, Held, moved_to, PairTaken, PairsTaken, PastLimit, Collected};
 ghost use Rattle.machine.specs.Bytes.{words_of};
 ghost use Rattle.names.specs.Known.{Names};
-ghost use Rattle.names.specs.Uses.{Use, same_pair, lowestOf};
+ghost use Rattle.names.specs.Uses.{Use, same_pair, lowest_of};
 ghost use Rattle.symbols.specs.Index.{Kept};
 
 use levels::{Made, Site};
@@ -128,7 +128,7 @@ fn look(objects: &[u8], sites: &[usize], count: usize, p: usize) -> usize
 // The number of the lowest rule of the pair at p, which is collected.
 pub fn lowest_at(objects: &[u8], sites: &[usize], lowest: &[u16], count: usize, p: usize) -> u16
     requires { (count ≤ length sites.now) × (count ≤ length lowest.now) }
-    ensures { (names : Names) (own after : ℕ) (us : List Use) (u : Use) → Held (words_of objects.now) sites.now lowest.now names own count after us → PairAt (words_of objects.now) p u → result ≡ lowestOf names u own us }
+    ensures { (names : Names) (own after : ℕ) (us : List Use) (u : Use) → Held (words_of objects.now) sites.now lowest.now names own count after us → PairAt (words_of objects.now) p u → result ≡ lowest_of names u own us }
 {
     let i = look(objects, sites, count, p);
     if i < count {

@@ -6,7 +6,7 @@ ghost use Rattle.lister.specs.Prints.{Prints, Counted, most};
 
 use libc::{STDERR_FILENO, STDIN_FILENO, STDOUT_FILENO};
 
-// One byte more than a program may have: enough to see that a text is over-long.
+// One byte more than a program may have: enough to see that a text is over_long.
 const KEPT: usize = base::TEXT_BYTES + 1;
 
 // The bytes of the longest table.

@@ -9,9 +9,9 @@ use borrow.Author.Tests.{ltb-true, ltb-false}
 use lib.Dec.{ltb}
 use lib.ListN.{length, get_or, set, take, drop, length-append, length-drop, take-append-drop}
 use lib.Seq.{sets, sets-eq, length-sets, set_out, drop-cons, drop-length, length-take-le, take_all, take-append-le, take-take, take-append_seam}
-use Rattle.base.specs.Common.{if◌then◌else◌}
+use Rattle.std.specs.Prelude.{if◌then◌else◌}
 use Rattle.machine.specs.Bytes.{over}
-use Rattle.listing.specs.Listing.{digits, decimal, figureLine}
+use Rattle.listing.specs.Listing.{digits, decimal, figure_line}
 use Rattle.listing.specs.Written.{Puts, filled, longest, Listed}
 
 -- Writing
@@ -182,11 +182,11 @@ decimal-short {n} h p = omega (arith, length-tens 19 n (omega arith), p.next)
 
 -- The line of the figure
 
-pub figure-none : {q : ℕ} (s : List ℕ) (i : ℕ) → q ≡ 0 → Puts (figureLine q) s i s i
-unfolding figureLine
+pub figure-none : {q : ℕ} (s : List ℕ) (i : ℕ) → q ≡ 0 → Puts (figure_line q) s i s i
+unfolding figure_line
 figure-none s i e = rw e (record { bytes = refl; next = omega arith })
 
-pub figure-some : (n : ℕ) {s t u : List ℕ} {i j k : ℕ} → (n ≡ 0 → ⊥) → Puts (decimal n) s i t j → Puts (10 ∷ []) t j u k → Puts (figureLine n) s i u k
-unfolding figureLine
+pub figure-some : (n : ℕ) {s t u : List ℕ} {i j k : ℕ} → (n ≡ 0 → ⊥) → Puts (decimal n) s i t j → Puts (10 ∷ []) t j u k → Puts (figure_line n) s i u k
+unfolding figure_line
 figure-some zero z p q = absurd (z refl)
 figure-some (suc n) z p q = puts_then p q

@@ -10,40 +10,40 @@ use borrow.Author.Tests.{eqb-true, ltb-true, ltb-false}
 use lib.Dec.{eqb, ltb}
 use lib.ListN.{length, get_or, take, drop, length-append, length-take}
 use lib.Seq.{get_or-take, length-take-le, take-suc, take_all, take-length, take-take, drop-cons, drop-length}
-use Rattle.base.specs.Common.{if◌then◌else◌}
+use Rattle.std.specs.Prelude.{if◌then◌else◌}
 use Rattle.machine.specs.Bytes.{count, words_of, table_of}
-use Rattle.machine.proofs.Bytes.{length-wordsOf}
-use Rattle.listing.specs.Listing.{lineFeeds, line_at, word_line, wordLines, decimal}
+use Rattle.machine.proofs.Bytes.{length-words_of}
+use Rattle.listing.specs.Listing.{line_feeds, line_at, word_line, word_lines, decimal}
 use Rattle.listing.specs.Written.{Puts}
 use Rattle.listing.proofs.Laws.{Left, left-then, left-done, length-4, length-5}
 
-pub feeds-append : (s t : List ℕ) → lineFeeds (s ++ t) ≡ lineFeeds s + lineFeeds t
-unfolding lineFeeds
+pub feeds-append : (s t : List ℕ) → line_feeds (s ++ t) ≡ line_feeds s + line_feeds t
+unfolding line_feeds
 feeds-append [] t = omega arith
 feeds-append (b ∷ s) t = go (eqb b 10) (feeds-append s t)
   where
-    go : (e : Bool) → lineFeeds (s ++ t) ≡ lineFeeds s + lineFeeds t
-        → (if e then suc (lineFeeds (s ++ t)) else lineFeeds (s ++ t)) ≡ (if e then suc (lineFeeds s) else lineFeeds s) + lineFeeds t
+    go : (e : Bool) → line_feeds (s ++ t) ≡ line_feeds s + line_feeds t
+        → (if e then suc (line_feeds (s ++ t)) else line_feeds (s ++ t)) ≡ (if e then suc (line_feeds s) else line_feeds s) + line_feeds t
     go true h = omega arith
     go false h = omega arith
 
 -- Counting a text byte by byte
 
-pub feeds-none : (text : List ℕ) → 0 ≡ lineFeeds (take 0 text)
-unfolding lineFeeds
+pub feeds-none : (text : List ℕ) → 0 ≡ line_feeds (take 0 text)
+unfolding line_feeds
 feeds-none text = refl
 
-feeds-next : (text : List ℕ) (i : ℕ) → i < length text → lineFeeds (take (i + 1) text) ≡ lineFeeds (take i text) + lineFeeds (get_or text i 0 ∷ [])
+feeds-next : (text : List ℕ) (i : ℕ) → i < length text → line_feeds (take (i + 1) text) ≡ line_feeds (take i text) + line_feeds (get_or text i 0 ∷ [])
 feeds-next text i h =
     let e : take (i + 1) text ≡ take i text ++ (get_or text i 0 ∷ []) = rw add-one (take-suc text i 0 h) in
-    ap lineFeeds e ∙ feeds-append (take i text) (get_or text i 0 ∷ [])
+    ap line_feeds e ∙ feeds-append (take i text) (get_or text i 0 ∷ [])
 
-one-feed : lineFeeds (10 ∷ []) ≡ 1
-unfolding lineFeeds
+one-feed : line_feeds (10 ∷ []) ≡ 1
+unfolding line_feeds
 one-feed = refl
 
-no-feed : (b : ℕ) → (b ≡ 10 → ⊥) → lineFeeds (b ∷ []) ≡ 0
-unfolding lineFeeds
+no-feed : (b : ℕ) → (b ≡ 10 → ⊥) → line_feeds (b ∷ []) ≡ 0
+unfolding line_feeds
 no-feed b f = go (eqb b 10) refl
   where
     go : (t : Bool) → eqb b 10 ≡ t → ◌≡◌ {A = ℕ} (if t then 1 else 0) 0
@@ -51,18 +51,18 @@ no-feed b f = go (eqb b 10) refl
     go false q = refl
 
 -- behind a line feed, and behind another byte
-pub feed-more : (text : List ℕ) (i : ℕ) → i < length text → get_or text i 0 ≡ 10 → lineFeeds (take i text) + 1 ≡ lineFeeds (take (i + 1) text)
-feed-more text i h e = omega (arith, feeds-next text i h, ap (λ (b : ℕ). lineFeeds (b ∷ [])) e, one-feed)
+pub feed-more : (text : List ℕ) (i : ℕ) → i < length text → get_or text i 0 ≡ 10 → line_feeds (take i text) + 1 ≡ line_feeds (take (i + 1) text)
+feed-more text i h e = omega (arith, feeds-next text i h, ap (λ (b : ℕ). line_feeds (b ∷ [])) e, one-feed)
 
-pub feed-same : (text : List ℕ) (i : ℕ) → i < length text → (get_or text i 0 ≡ 10 → ⊥) → lineFeeds (take i text) ≡ lineFeeds (take (i + 1) text)
+pub feed-same : (text : List ℕ) (i : ℕ) → i < length text → (get_or text i 0 ≡ 10 → ⊥) → line_feeds (take i text) ≡ line_feeds (take (i + 1) text)
 feed-same text i h e = omega (arith, feeds-next text i h, no-feed (get_or text i 0) e)
 
-pub feeds-few : (s : List ℕ) → lineFeeds s ≤ length s
-unfolding lineFeeds
+pub feeds-few : (s : List ℕ) → line_feeds s ≤ length s
+unfolding line_feeds
 feeds-few [] = omega arith
 feeds-few (b ∷ s) = go (eqb b 10) (feeds-few s)
   where
-    go : (t : Bool) → lineFeeds s ≤ length s → (if t then suc (lineFeeds s) else lineFeeds s) ≤ suc (length s)
+    go : (t : Bool) → line_feeds s ≤ length s → (if t then suc (line_feeds s) else line_feeds s) ≤ suc (length s)
     go true h = omega arith
     go false h = omega arith
 
@@ -74,16 +74,16 @@ take_min n s = go (ltb n (length s)) refl
     go false e = let h : length s ≤ n = omega (arith, ltb-false n (length s) e) in rw (min-eq_right h) (take-length s ∙ sym (take_all n s h))
 
 -- past the end there are no more
-pub line-end : (text : List ℕ) (start : ℕ) {feeds : ℕ} → feeds ≡ lineFeeds (take (min start (length text)) text) → 1 + feeds ≡ line_at text start
+pub line-end : (text : List ℕ) (start : ℕ) {feeds : ℕ} → feeds ≡ line_feeds (take (min start (length text)) text) → 1 + feeds ≡ line_at text start
 unfolding line_at
-line-end text start e = ap (λ (n : ℕ). 1 + n) e ∙ ap (λ (s : List ℕ). 1 + lineFeeds s) (take_min start text)
+line-end text start e = ap (λ (n : ℕ). 1 + n) e ∙ ap (λ (s : List ℕ). 1 + line_feeds s) (take_min start text)
 
 -- The lines of words
 
 -- the first n words of a buffer
 pub first-words : (s : List ℕ) (n : ℕ) → 2 * n ≤ length s → length (take n (words_of s)) ≡ n
 unfolding count
-first-words s n h = length-take-le n (words_of s) (omega (arith, length-wordsOf s))
+first-words s n h = length-take-le n (words_of s) (omega (arith, length-words_of s))
 
 take-both : (a b : ℕ) (l : List ℕ) → take (min (min a b) (length l)) l ≡ take a (take b l)
 take-both a b l = take_min (min a b) l ∙ go (ltb a b) refl
@@ -96,32 +96,32 @@ take-both a b l = take_min (min a b) l ∙ go (ltb a b) refl
 pub listed-words : (s : List ℕ) (words n : ℕ) → n ≡ min words (min (length s / 2) 4096) → take n (words_of s) ≡ take words (table_of s)
 unfolding table_of count
 listed-words s words n e =
-    let q : n ≡ min (min words 4096) (length (words_of s)) = omega (arith, length-wordsOf s) in
+    let q : n ≡ min (min words 4096) (length (words_of s)) = omega (arith, length-words_of s) in
     rw q (take-both words 4096 (words_of s))
 
-lines_next : (ws : List ℕ) (i : ℕ) → i < length ws → wordLines (i + 1) (drop i ws) ≡ word_line (i + 1) (get_or ws i 0) ++ wordLines (i + 1 + 1) (drop (i + 1) ws)
-unfolding wordLines
+lines_next : (ws : List ℕ) (i : ℕ) → i < length ws → word_lines (i + 1) (drop i ws) ≡ word_line (i + 1) (get_or ws i 0) ++ word_lines (i + 1 + 1) (drop (i + 1) ws)
+unfolding word_lines
 lines_next ws i h =
     let e : i + 1 + 1 ≡ suc (i + 1) = omega arith in
     rw (drop-cons ws i 0 h, e, add-one i) refl
 
-lines_none : (ws : List ℕ) (n : ℕ) → wordLines n (drop (length ws) ws) ≡ []
-unfolding wordLines
+lines_none : (ws : List ℕ) (n : ℕ) → word_lines n (drop (length ws) ws) ≡ []
+unfolding word_lines
 lines_none ws n = rw (drop-length ws) refl
 
 -- one line more is written
 pub left-line : {xs old t u : List ℕ} {i j k w : ℕ} (s : List ℕ) (n m : ℕ) → 2 * n ≤ length s → m < n → w ≡ get_or (words_of s) m 0
-    → Left xs old i (wordLines (m + 1) (drop m (take n (words_of s)))) t j → Puts (word_line (m + 1) w) t j u k
-    → Left xs old i (wordLines (m + 1 + 1) (drop (m + 1) (take n (words_of s)))) u k
+    → Left xs old i (word_lines (m + 1) (drop m (take n (words_of s)))) t j → Puts (word_line (m + 1) w) t j u k
+    → Left xs old i (word_lines (m + 1 + 1) (drop (m + 1) (take n (words_of s)))) u k
 left-line {w = w} s n m h g e l p =
     let x : get_or (take n (words_of s)) m 0 ≡ w = get_or-take n (words_of s) m 0 g ∙ sym e in
     let y = lines_next (take n (words_of s)) m (omega (arith, first-words s n h)) in
-    left-then (rw (y ∙ ap (λ (v : ℕ). word_line (m + 1) v ++ wordLines (m + 1 + 1) (drop (m + 1) (take n (words_of s)))) x) at l) p
+    left-then (rw (y ∙ ap (λ (v : ℕ). word_line (m + 1) v ++ word_lines (m + 1 + 1) (drop (m + 1) (take n (words_of s)))) x) at l) p
 
-pub left-lines : {xs old t : List ℕ} {i j : ℕ} (s : List ℕ) (n m : ℕ) → 2 * n ≤ length s → m ≡ n → Left xs old i (wordLines (m + 1) (drop m (take n (words_of s)))) t j → Puts xs old i t j
+pub left-lines : {xs old t : List ℕ} {i j : ℕ} (s : List ℕ) (n m : ℕ) → 2 * n ≤ length s → m ≡ n → Left xs old i (word_lines (m + 1) (drop m (take n (words_of s)))) t j → Puts xs old i t j
 left-lines s n m h e l =
     let z : m ≡ length (take n (words_of s)) = e ∙ sym (first-words s n h) in
-    let y : wordLines (m + 1) (drop m (take n (words_of s))) ≡ [] = ap (λ (k : ℕ). wordLines (m + 1) (drop k (take n (words_of s)))) z ∙ lines_none (take n (words_of s)) (m + 1) in
+    let y : word_lines (m + 1) (drop m (take n (words_of s))) ≡ [] = ap (λ (k : ℕ). word_lines (m + 1) (drop k (take n (words_of s)))) z ∙ lines_none (take n (words_of s)) (m + 1) in
     left-done (rw y at l)
 
 pub line-short : (location word : ℕ) → location < 10000 → word < 65536 → length (word_line location word) ≤ 11

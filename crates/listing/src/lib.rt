@@ -1,7 +1,7 @@
 // The listing of the processor's answer, written into a lent buffer.
 ghost use Rattle.std.specs.Prelude.{◌≡◌, [], ◌∷◌, ◌+◌, ◌*◌, ◌%◌, ◌<◌, ◌≤◌, length, take};
 ghost use Rattle.machine.specs.Bytes.{words_of, table_of};
-ghost use Rattle.listing.specs.Listing.{decimal, lineFeeds, line_at, word_line, wordLines, verdictEnd, heading, figureLine, tableListing, refusalListing};
+ghost use Rattle.listing.specs.Listing.{decimal, line_feeds, line_at, word_line, word_lines, verdict_end, heading, figure_line, table_listing, refusal_listing};
 ghost use Rattle.listing.specs.Written.{Puts, Listed};
 
 use base::{TABLE_WORDS, least, wide};
@@ -11,7 +11,7 @@ pub const LONGEST: usize = 12 * TABLE_WORDS;
 
 // The line feeds in a text, or in a piece of one.
 pub fn line_feeds(text: &[u8]) -> usize
-    ensures value { result ≡ lineFeeds text.now }
+    ensures value { result ≡ line_feeds text.now }
     ensures upper_bound { result ≤ length text.now }
 {
     let mut feeds = 0;
@@ -92,7 +92,7 @@ fn put_line(out: &mut [u8], at: usize, location: usize, word: usize) -> usize
 // The lines of the table's first words.
 fn put_words(table: &[u8], words: usize, out: &mut [u8], at: usize) -> usize
     requires { (words ≤ 4096) × (2 * words ≤ length table.now) × (at ≤ 71) }
-    ensures puts { Puts (wordLines 1 (take words (words_of table.now))) out.old at out.new result }
+    ensures puts { Puts (word_lines 1 (take words (words_of table.now))) out.old at out.new result }
     ensures upper_bound { result ≤ at + 11 * words }
 {
     let mut i = 0;
@@ -107,7 +107,7 @@ fn put_words(table: &[u8], words: usize, out: &mut [u8], at: usize) -> usize
 
 fn put_verdict(out: &mut [u8], at: usize, finishing: bool) -> usize
     requires { at < 1000 }
-    ensures puts { Puts (verdictEnd finishing) out.old at out.new result }
+    ensures puts { Puts (verdict_end finishing) out.old at out.new result }
     ensures upper_bound { result ≤ at + 4 }
 {
     if finishing {
@@ -130,7 +130,7 @@ fn put_heading(out: &mut [u8], words: usize, finishing: bool) -> usize
 // The line of the figure, none for 0.
 fn put_figure(out: &mut [u8], at: usize, figure: u64) -> usize
     requires { at ≤ 50 }
-    ensures puts { Puts (figureLine figure) out.old at out.new result }
+    ensures puts { Puts (figure_line figure) out.old at out.new result }
     ensures upper_bound { result ≤ at + 21 }
 {
     if figure == 0 {
@@ -145,7 +145,7 @@ fn put_figure(out: &mut [u8], at: usize, figure: u64) -> usize
 
 // The listing of a table's first words, high byte first, its verdict and its figure, 0 for none; `words` past the end of the table are not there.
 pub fn list_table(table: &[u8], words: usize, finishing: bool, figure: u64, out: &mut [u8]) -> usize
-    ensures { Listed (tableListing (take words (table_of table.now)) finishing figure) out.old out.new result }
+    ensures { Listed (table_listing (take words (table_of table.now)) finishing figure) out.old out.new result }
 {
     let n = least(words, least(table.len() / 2, TABLE_WORDS));
     let a = put_heading(out, n, finishing);
@@ -155,7 +155,7 @@ pub fn list_table(table: &[u8], words: usize, finishing: bool, figure: u64, out:
 
 // The listing of a refusal.
 pub fn list_refusal(number: u16, line: usize, out: &mut [u8]) -> usize
-    ensures { Listed (refusalListing number line) out.old out.new result }
+    ensures { Listed (refusal_listing number line) out.old out.new result }
 {
     let a = put_bytes(out, 0, b"refused ");
     let b = put_decimal(out, a, wide(number));

@@ -10,13 +10,13 @@ use lib.Seq.{get_or-drop, drop-drop}
 use borrow.Author.Tests.{eqb-true, eq-eqb, ne_eqb, leb-true, le-leb, lt-leb}
 use Rattle.base.proofs.Laws.{above_zero}
 use Rattle.base.specs.Bools.{never, and, both, same}
-use Rattle.base.specs.Common.{if◌then◌else◌}
-use Rattle.machine.proofs.Bytes.{length-wordsOf}
+use Rattle.std.specs.Prelude.{if◌then◌else◌}
+use Rattle.machine.proofs.Bytes.{length-words_of}
 use Rattle.machine.specs.Bytes.{count, words_of}
-use Rattle.loading.specs.File.{hd, tw, tableNamed, allowed, isFile}
+use Rattle.loading.specs.File.{hd, tw, table_named, allowed, is_file}
 use Rattle.loading.specs.Reading.{formed, headed}
 use Rattle.loading.proofs.Readings.{headed-file, file-headed, heads, file-words}
-use Rattle.loader.specs.Records.{fullAt, last_at, Read, sizeNamed}
+use Rattle.loader.specs.Records.{full_at, last_at, Read, size_named}
 
 -- the word at p, and the one after it
 first-at : (ws : List ℕ) (p : ℕ) → get_or (drop p ws) 0 0 ≡ get_or ws p 0
@@ -52,22 +52,22 @@ module _ (s : List ℕ) (p w x total : ℕ) (ew : w ≡ get_or (words_of s) p 0)
   count-not : (k : ℕ) → (x ≡ k → ⊥) → eqb (get_or (drop p (words_of s)) 1 0) k ≡ false
   count-not k e = ne_eqb (get_or (drop p (words_of s)) 1 0) k (λ q. e (ex ∙ sym (second_at (words_of s) p) ∙ q))
 
-  pub full-mark : (w ≡ tw → ⊥) → false ≡ fullAt (words_of s) p
-  unfolding fullAt
+  pub full-mark : (w ≡ tw → ⊥) → false ≡ full_at (words_of s) p
+  unfolding full_at
   full-mark e = and_first _ _ (mark-not e)
 
-  pub full-count : w ≡ tw → (x ≡ 256 → ⊥) → false ≡ fullAt (words_of s) p
-  unfolding fullAt
+  pub full-count : w ≡ tw → (x ≡ 256 → ⊥) → false ≡ full_at (words_of s) p
+  unfolding full_at
   full-count e f = and_second _ _ _ (mark-is e) (count-not 256 f)
 
-  pub full-there : w ≡ tw → x ≡ 256 → leb (p + 258) total ≡ fullAt (words_of s) p
-  unfolding fullAt
+  pub full-there : w ≡ tw → x ≡ 256 → leb (p + 258) total ≡ full_at (words_of s) p
+  unfolding full_at
   full-there e f = long ∙ and-true _ _ _ (mark-is e) (count-is 256 f)
     where
       long : leb (p + 258) total ≡ leb 258 (length (drop p (words_of s)))
       long =
           let l = length-drop p (words_of s) in
-          let m = length-wordsOf s in
+          let m = length-words_of s in
           same (leb (p + 258) total) (leb 258 (length (drop p (words_of s))))
           (λ t. let u = leb-true (p + 258) total t in le-leb 258 (length (drop p (words_of s))) (omega arith))
           (λ t. let u = leb-true 258 (length (drop p (words_of s))) t in le-leb (p + 258) total (omega arith))
@@ -87,7 +87,7 @@ module _ (s : List ℕ) (p w x total : ℕ) (ew : w ≡ get_or (words_of s) p 0)
       long : eqb (p + left + 2) total ≡ eqb (length (drop p (words_of s))) (left + 2)
       long =
           let l = length-drop p (words_of s) in
-          let m = length-wordsOf s in
+          let m = length-words_of s in
           same (eqb (p + left + 2) total) (eqb (length (drop p (words_of s))) (left + 2))
           (λ t. let u = eqb-true (p + left + 2) total t in eq-eqb (length (drop p (words_of s))) (left + 2) (omega arith))
           (λ t. let u = eqb-true (length (drop p (words_of s))) (left + 2) t in eq-eqb (p + left + 2) total (omega arith))
@@ -105,8 +105,8 @@ module _ {ws : List ℕ} {n p left : ℕ} (r : Read ws n p left) where
       let e : suc k - 1 ≡ k = omega arith in
       rw (lt-leb left 256 u, drop-drop 258 p ws, e)
 
-  pub read-on : 256 < left → fullAt ws p ≡ true → Read ws n (p + 258) (left - 256)
-  unfolding fullAt
+  pub read-on : 256 < left → full_at ws p ≡ true → Read ws n (p + 258) (left - 256)
+  unfolding full_at
   read-on u f =
       let a = and (eqb (get_or (drop p ws) 0 0) tw) (eqb (get_or (drop p ws) 1 0) 256 && leb 258 (length (drop p ws))) f in
       let b = and (eqb (get_or (drop p ws) 1 0) 256) (leb 258 (length (drop p ws))) a.1 in
@@ -119,8 +119,8 @@ module _ {ws : List ℕ} {n p left : ℕ} (r : Read ws n p left) where
         rest = sym e ∙ r.rest;
       }
 
-  pub read-bad : 256 < left → fullAt ws p ≡ false → false ≡ formed 16 n (drop 4 ws)
-  unfolding fullAt
+  pub read-bad : 256 < left → full_at ws p ≡ false → false ≡ formed 16 n (drop 4 ws)
+  unfolding full_at
   read-bad u f =
       go (eqb (get_or (drop p ws) 0 0) tw) (eqb (get_or (drop p ws) 1 0) 256) (leb 258 (length (drop p ws))) (formed (r.fuel - 1) (left - 256) (drop (p + 258) ws)) f
       ∙ sym (step r.fuel r.enough u) ∙ r.rest
@@ -161,37 +161,37 @@ heading : (ws : List ℕ) → get_or ws 0 0 ≡ hd → get_or ws 1 0 ≡ 2 → a
 unfolding headed
 heading ws a b c d = rw (eq-eqb (get_or ws 0 0) hd a, eq-eqb (get_or ws 1 0) 2 b, c) d
 
-not-file : (s : List ℕ) → (isFile s ≡ true → ⊥) → 0 ≡ sizeNamed s
-unfolding sizeNamed
-not-file s f = go (isFile s) refl
+not-file : (s : List ℕ) → (is_file s ≡ true → ⊥) → 0 ≡ size_named s
+unfolding size_named
+not-file s f = go (is_file s) refl
   where
-    go : (t : Bool) → isFile s ≡ t → 0 ≡ (if t then length (tableNamed s) else 0)
+    go : (t : Bool) → is_file s ≡ t → 0 ≡ (if t then length (table_named s) else 0)
     go true e = absurd (f e)
     go false e = refl
 
 module _ (s : List ℕ) where
-  pub odd-file : (length s % 2 ≡ 0 → ⊥) → 0 ≡ sizeNamed s
+  pub odd-file : (length s % 2 ≡ 0 → ⊥) → 0 ≡ size_named s
   odd-file h = not-file s (λ e. h (file-headed s e).1)
 
   -- what a file's first words are
-  pub first-file : (w : ℕ) → w ≡ get_or (words_of s) 0 0 → (w ≡ hd → ⊥) → 0 ≡ sizeNamed s
+  pub first-file : (w : ℕ) → w ≡ get_or (words_of s) 0 0 → (w ≡ hd → ⊥) → 0 ≡ size_named s
   first-file w e h = not-file s (λ f. h (e ∙ (heads (words_of s) (file-headed s f).0).mark))
 
-  pub second-file : (w : ℕ) → w ≡ get_or (words_of s) 1 0 → (w ≡ 2 → ⊥) → 0 ≡ sizeNamed s
+  pub second-file : (w : ℕ) → w ≡ get_or (words_of s) 1 0 → (w ≡ 2 → ⊥) → 0 ≡ size_named s
   second-file w e h = not-file s (λ f. h (e ∙ (heads (words_of s) (file-headed s f).0).two))
 
-  pub length-file : (n : ℕ) → n ≡ get_or (words_of s) 2 0 → (1 ≤ n → n ≤ 4096 → ⊥) → 0 ≡ sizeNamed s
+  pub length-file : (n : ℕ) → n ≡ get_or (words_of s) 2 0 → (1 ≤ n → n ≤ 4096 → ⊥) → 0 ≡ size_named s
   length-file n e h = not-file s (λ f. let a = (heads (words_of s) (file-headed s f).0).right in let b = bounds (get_or (words_of s) 2 0) (get_or (words_of s) 3 0) a in h (omega (arith, b.0)) (omega (arith, b.1)))
 
-  pub verdict-file : (v : ℕ) → v ≡ get_or (words_of s) 3 0 → 1 < v → 0 ≡ sizeNamed s
-  verdict-file v e h = not-file s (λ f. let a = (heads (words_of s) (file-headed s f).0).right in let b = bounds (get_or (words_of s) 2 0) (get_or (words_of s) 3 0) a in omega (arith, b.2))
+  pub verdict_file : (v : ℕ) → v ≡ get_or (words_of s) 3 0 → 1 < v → 0 ≡ size_named s
+  verdict_file v e h = not-file s (λ f. let a = (heads (words_of s) (file-headed s f).0).right in let b = bounds (get_or (words_of s) 2 0) (get_or (words_of s) 3 0) a in omega (arith, b.2))
 
-  pub records-file : (n : ℕ) (x : Bool) → n ≡ get_or (words_of s) 2 0 → x ≡ formed 16 n (drop 4 (words_of s)) → x ≡ false → 0 ≡ sizeNamed s
+  pub records-file : (n : ℕ) (x : Bool) → n ≡ get_or (words_of s) 2 0 → x ≡ formed 16 n (drop 4 (words_of s)) → x ≡ false → 0 ≡ size_named s
   records-file n x e g h = not-file s (λ f. let a = (heads (words_of s) (file-headed s f).0).rest in never (sym h ∙ g ∙ ap (λ (m : ℕ). formed 16 m (drop 4 (words_of s))) e ∙ a))
 
   pub whole-file : (w₀ w₁ n v : ℕ) (x : Bool) → ((i : ℕ) → get_or s i 0 < 256) → length s % 2 ≡ 0 → w₀ ≡ get_or (words_of s) 0 0 → w₀ ≡ hd → w₁ ≡ get_or (words_of s) 1 0 → w₁ ≡ 2
-      → n ≡ get_or (words_of s) 2 0 → (n ≡ 0 → ⊥) → n ≤ 4096 → v ≡ get_or (words_of s) 3 0 → v ≤ 1 → x ≡ formed 16 n (drop 4 (words_of s)) → x ≡ true → n ≡ sizeNamed s
-  unfolding sizeNamed tableNamed
+      → n ≡ get_or (words_of s) 2 0 → (n ≡ 0 → ⊥) → n ≤ 4096 → v ≡ get_or (words_of s) 3 0 → v ≤ 1 → x ≡ formed 16 n (drop 4 (words_of s)) → x ≡ true → n ≡ size_named s
+  unfolding size_named table_named
   whole-file w₀ w₁ n v x b o e₀ m₀ e₁ m₁ e₂ a u e₃ l g t =
       let h = heading (words_of s) (sym e₀ ∙ m₀) (sym e₁ ∙ m₁) (allowed-is (get_or (words_of s) 2 0) (get_or (words_of s) 3 0) (above_zero (get_or (words_of s) 2 0) (λ q. a (e₂ ∙ q))) (omega arith) (omega arith))
       (ap (λ (m : ℕ). formed 16 m (drop 4 (words_of s))) (sym e₂) ∙ sym g ∙ t) in

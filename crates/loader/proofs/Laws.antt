@@ -10,18 +10,18 @@ use lib.ListN.{length, get_or, set, take, length-set, length-take}
 use lib.Seq.{get_or-take}
 use borrow.Author.Tests.{eq-eqb, ne_eqb, le-leb, lt-leb}
 use Rattle.base.specs.Bools.{never}
-use Rattle.base.specs.Common.{if◌then◌else◌}
-use Rattle.machine.proofs.Bytes.{length-wordsOf, elem_in}
+use Rattle.std.specs.Prelude.{if◌then◌else◌}
+use Rattle.machine.proofs.Bytes.{length-words_of, elem_in}
 use Rattle.machine.specs.Bytes.{count, words_of, table_of}
 use Rattle.machine.specs.Decode.{fetch}
-use Rattle.loading.specs.Taking.{backFrom, labelled}
-use Rattle.loader.specs.Marking.{Work, work, mark_of, marksOf, zeros, Kept, Marked}
+use Rattle.loading.specs.Taking.{back_from, labelled}
+use Rattle.loader.specs.Marking.{Work, work, mark_of, marks_of, zeros, Kept, Marked}
 
 -- The table
 
 pub table-length : (s : List ℕ) → length (table_of s) ≡ min 4096 (count s)
 unfolding table_of
-table-length s = length-take 4096 (words_of s) ∙ ap (min 4096) (length-wordsOf s)
+table-length s = length-take 4096 (words_of s) ∙ ap (min 4096) (length-words_of s)
 
 pub table-fetch : (s : List ℕ) (l : ℕ) → 1 ≤ l → l ≤ length (table_of s) → fetch (table_of s) l ≡ some (get_or (words_of s) (l - 1) 0)
 unfolding fetch table_of
@@ -96,47 +96,47 @@ module _ {size tail : ℕ} {seen order : List ℕ} (k : Kept size tail seen orde
 
 -- Several locations
 
-pub marks-one : (size m : ℕ) (w : Work) → marksOf size (m ∷ []) w ≡ mark_of size m w
-unfolding marksOf
+pub marks-one : (size m : ℕ) (w : Work) → marks_of size (m ∷ []) w ≡ mark_of size m w
+unfolding marks_of
 marks-one size m w = go (mark_of size m w) (mark_of size m w).ok
   where
     go : (u : Work) (t : Bool) → (if t then u else u) ≡ u
     go u true = refl
     go u false = refl
 
-pub marks-on : (size m : ℕ) (ms : List ℕ) (w u : Work) → mark_of size m w ≡ u → u.ok ≡ true → marksOf size (m ∷ ms) w ≡ marksOf size ms u
-unfolding marksOf
+pub marks-on : (size m : ℕ) (ms : List ℕ) (w u : Work) → mark_of size m w ≡ u → u.ok ≡ true → marks_of size (m ∷ ms) w ≡ marks_of size ms u
+unfolding marks_of
 marks-on size m ms w u e t = rw (e, t)
 
-pub marks-stop : (size m : ℕ) (ms : List ℕ) (w u : Work) → mark_of size m w ≡ u → u.ok ≡ false → marksOf size (m ∷ ms) w ≡ u
-unfolding marksOf
+pub marks-stop : (size m : ℕ) (ms : List ℕ) (w u : Work) → mark_of size m w ≡ u → u.ok ≡ false → marks_of size (m ∷ ms) w ≡ u
+unfolding marks_of
 marks-stop size m ms w u e t = rw (e, t)
 
-pub append-on : (size : ℕ) (a b : List ℕ) (w u : Work) → w.ok ≡ true → marksOf size a w ≡ u → u.ok ≡ true → marksOf size (a ++ b) w ≡ marksOf size b u
-unfolding marksOf
-append-on size [] b w u o e t = ap (marksOf size b) e
+pub append-on : (size : ℕ) (a b : List ℕ) (w u : Work) → w.ok ≡ true → marks_of size a w ≡ u → u.ok ≡ true → marks_of size (a ++ b) w ≡ marks_of size b u
+unfolding marks_of
+append-on size [] b w u o e t = ap (marks_of size b) e
 append-on size (m ∷ a) b w u o e t = go (mark_of size m w).ok refl e (append-on size a b (mark_of size m w) u)
   where
-    go : (k : Bool) → (mark_of size m w).ok ≡ k → (if k then marksOf size a (mark_of size m w) else mark_of size m w) ≡ u
-        → ((mark_of size m w).ok ≡ true → marksOf size a (mark_of size m w) ≡ u → u.ok ≡ true → marksOf size (a ++ b) (mark_of size m w) ≡ marksOf size b u)
-        → (if k then marksOf size (a ++ b) (mark_of size m w) else mark_of size m w) ≡ marksOf size b u
+    go : (k : Bool) → (mark_of size m w).ok ≡ k → (if k then marks_of size a (mark_of size m w) else mark_of size m w) ≡ u
+        → ((mark_of size m w).ok ≡ true → marks_of size a (mark_of size m w) ≡ u → u.ok ≡ true → marks_of size (a ++ b) (mark_of size m w) ≡ marks_of size b u)
+        → (if k then marks_of size (a ++ b) (mark_of size m w) else mark_of size m w) ≡ marks_of size b u
     go true f d i = i f d t
     go false f d i = never (sym f ∙ ap (λ (x : Work). x.ok) d ∙ t)
 
-pub append-stop : (size : ℕ) (a b : List ℕ) (w u : Work) → w.ok ≡ true → marksOf size a w ≡ u → u.ok ≡ false → marksOf size (a ++ b) w ≡ u
-unfolding marksOf
+pub append-stop : (size : ℕ) (a b : List ℕ) (w u : Work) → w.ok ≡ true → marks_of size a w ≡ u → u.ok ≡ false → marks_of size (a ++ b) w ≡ u
+unfolding marks_of
 append-stop size [] b w u o e t = never (sym t ∙ ap (λ (x : Work). x.ok) (sym e) ∙ o)
 append-stop size (m ∷ a) b w u o e t = go (mark_of size m w).ok refl e (append-stop size a b (mark_of size m w) u)
   where
-    go : (k : Bool) → (mark_of size m w).ok ≡ k → (if k then marksOf size a (mark_of size m w) else mark_of size m w) ≡ u
-        → ((mark_of size m w).ok ≡ true → marksOf size a (mark_of size m w) ≡ u → u.ok ≡ false → marksOf size (a ++ b) (mark_of size m w) ≡ u)
-        → (if k then marksOf size (a ++ b) (mark_of size m w) else mark_of size m w) ≡ u
+    go : (k : Bool) → (mark_of size m w).ok ≡ k → (if k then marks_of size a (mark_of size m w) else mark_of size m w) ≡ u
+        → ((mark_of size m w).ok ≡ true → marks_of size a (mark_of size m w) ≡ u → u.ok ≡ false → marks_of size (a ++ b) (mark_of size m w) ≡ u)
+        → (if k then marks_of size (a ++ b) (mark_of size m w) else mark_of size m w) ≡ u
     go true f d i = i f d t
     go false f d i = d
 
 -- one more label
 pub labels_next : (T : List ℕ) (n i from : ℕ) → i < n
-    → labelled T (n - i) (from + 2 * i) ≡ backFrom T (from + 2 * i + 1) ∷ labelled T (n - (i + 1)) (from + 2 * (i + 1))
+    → labelled T (n - i) (from + 2 * i) ≡ back_from T (from + 2 * i + 1) ∷ labelled T (n - (i + 1)) (from + 2 * (i + 1))
 unfolding labelled
 labels_next T n i from h =
     let e : n - i ≡ suc (n - (i + 1)) = omega arith in
@@ -147,16 +147,16 @@ pub labels-none : (T : List ℕ) (n i from : ℕ) → n ≤ i → labelled T (n 
 unfolding labelled
 labels-none T n i from h = let e : n - i ≡ 0 = omega arith in rw e
 
-pub back_is : (T : List ℕ) (l x m : ℕ) → fetch T l ≡ some x → m ≡ l - x → backFrom T l ≡ m
-unfolding backFrom
-back_is T l x m e f = rw (backFrom, e) (sym f)
+pub back_is : (T : List ℕ) (l x m : ℕ) → fetch T l ≡ some x → m ≡ l - x → back_from T l ≡ m
+unfolding back_from
+back_is T l x m e f = rw (back_from, e) (sym f)
 
 -- The loop over labels: what is still to be marked gives what all of it gives
 
 pub record Along (T : List ℕ) (n from size tail : ℕ) (seen₀ order₀ seen order : List ℕ) (at i : ℕ) : Type 0 where
   pub low : i ≤ n
   pub kept : Kept size at seen order
-  pub rest : marksOf size (labelled T (n - i) (from + 2 * i)) (work true at seen order) ≡ marksOf size (labelled T n from) (work true tail seen₀ order₀)
+  pub rest : marks_of size (labelled T (n - i) (from + 2 * i)) (work true at seen order) ≡ marks_of size (labelled T n from) (work true tail seen₀ order₀)
 
 pub along-start : {T : List ℕ} {n from size tail : ℕ} {seen order : List ℕ} → Kept size tail seen order → Along T n from size tail seen order seen order tail 0
 along-start {T} {n} {from} {size} {tail} {seen} {order} k = record {
@@ -165,37 +165,37 @@ along-start {T} {n} {from} {size} {tail} {seen} {order} k = record {
   rest = same (n - 0) (from + 2 * 0) (omega arith) (omega arith);
 }
   where
-    same : (a b : ℕ) → a ≡ n → b ≡ from → marksOf size (labelled T a b) (work true tail seen order) ≡ marksOf size (labelled T n from) (work true tail seen order)
+    same : (a b : ℕ) → a ≡ n → b ≡ from → marks_of size (labelled T a b) (work true tail seen order) ≡ marks_of size (labelled T n from) (work true tail seen order)
     same a b e f = rw (e, f)
 
 module _ {T : List ℕ} {n from size tail : ℕ} {seen₀ order₀ seen order : List ℕ} {at i : ℕ} (a : Along T n from size tail seen₀ order₀ seen order at i) where
   -- label i leads to m
-  pub along-next : (m : ℕ) {ok : Bool} {tail' : ℕ} {seen' order' : List ℕ} → i < n → backFrom T (from + 2 * i + 1) ≡ m
+  pub along-next : (m : ℕ) {ok : Bool} {tail' : ℕ} {seen' order' : List ℕ} → i < n → back_from T (from + 2 * i + 1) ≡ m
       → Marked size (mark_of size m (work true at seen order)) ok tail' seen' order' → ok ≡ true → Along T n from size tail seen₀ order₀ seen' order' tail' (i + 1)
   along-next m {ok} {tail'} {seen'} {order'} h b k t = record {
     low = omega arith;
     kept = k.kept;
     rest =
-        ap (λ (b : Bool). marksOf size (labelled T (n - (i + 1)) (from + 2 * (i + 1))) (work b tail' seen' order')) (sym t)
+        ap (λ (b : Bool). marks_of size (labelled T (n - (i + 1)) (from + 2 * (i + 1))) (work b tail' seen' order')) (sym t)
         ∙ (sym (marks-on size m (labelled T (n - (i + 1)) (from + 2 * (i + 1))) (work true at seen order) (work ok tail' seen' order') (sym k.is) t)
-        ∙ ap (λ (ms : List ℕ). marksOf size ms (work true at seen order)) (sym (labels_next T n i from h ∙ ap (λ (x : ℕ). x ∷ labelled T (n - (i + 1)) (from + 2 * (i + 1))) b))
+        ∙ ap (λ (ms : List ℕ). marks_of size ms (work true at seen order)) (sym (labels_next T n i from h ∙ ap (λ (x : ℕ). x ∷ labelled T (n - (i + 1)) (from + 2 * (i + 1))) b))
         ∙ a.rest);
   }
 
-  pub along-stop : (m : ℕ) {ok : Bool} {tail' : ℕ} {seen' order' : List ℕ} → i < n → backFrom T (from + 2 * i + 1) ≡ m
+  pub along-stop : (m : ℕ) {ok : Bool} {tail' : ℕ} {seen' order' : List ℕ} → i < n → back_from T (from + 2 * i + 1) ≡ m
       → Marked size (mark_of size m (work true at seen order)) ok tail' seen' order' → ok ≡ false
-      → Marked size (marksOf size (labelled T n from) (work true tail seen₀ order₀)) ok tail' seen' order'
+      → Marked size (marks_of size (labelled T n from) (work true tail seen₀ order₀)) ok tail' seen' order'
   along-stop m {ok} {tail'} {seen'} {order'} h b k t = record {
     is =
         sym (marks-stop size m (labelled T (n - (i + 1)) (from + 2 * (i + 1))) (work true at seen order) (work ok tail' seen' order') (sym k.is) t)
-        ∙ ap (λ (ms : List ℕ). marksOf size ms (work true at seen order)) (sym (labels_next T n i from h ∙ ap (λ (x : ℕ). x ∷ labelled T (n - (i + 1)) (from + 2 * (i + 1))) b))
+        ∙ ap (λ (ms : List ℕ). marks_of size ms (work true at seen order)) (sym (labels_next T n i from h ∙ ap (λ (x : ℕ). x ∷ labelled T (n - (i + 1)) (from + 2 * (i + 1))) b))
         ∙ a.rest;
     kept = k.kept;
   }
 
-  pub along-end : n ≤ i → Marked size (marksOf size (labelled T n from) (work true tail seen₀ order₀)) true at seen order
-  unfolding marksOf
+  pub along-end : n ≤ i → Marked size (marks_of size (labelled T n from) (work true tail seen₀ order₀)) true at seen order
+  unfolding marks_of
   along-end h = record {
-    is = ap (λ (ms : List ℕ). marksOf size ms (work true at seen order)) (sym (labels-none T n i from h)) ∙ a.rest;
+    is = ap (λ (ms : List ℕ). marks_of size ms (work true at seen order)) (sym (labels-none T n i from h)) ∙ a.rest;
     kept = a.kept;
   }

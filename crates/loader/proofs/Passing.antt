@@ -11,12 +11,12 @@ use lib.Seq.{get_or-set_same, get_or-set_other}
 use borrow.Author.Tests.{eqb-true, eqb-false, leb-true, le-leb}
 use Rattle.base.proofs.Laws.{zeros-at}
 use Rattle.base.specs.Bools.{never, and, split}
-use Rattle.base.specs.Common.{if◌then◌else◌}
+use Rattle.std.specs.Prelude.{if◌then◌else◌}
 use Rattle.loading.proofs.Members.{member-head, member-tail, member-cons}
 use Rattle.loading.specs.Reach.{gives37}
-use Rattle.loading.specs.Taking.{ways, labelled, backFrom}
+use Rattle.loading.specs.Taking.{ways, labelled, back_from}
 use Rattle.loader.proofs.Laws.{append-on, append-stop, Along}
-use Rattle.loader.specs.Marking.{Work, work, mark_of, marksOf, failed, visitOf, Kept, Marked, Lies}
+use Rattle.loader.specs.Marking.{Work, work, mark_of, marks_of, failed, visit_of, Kept, Marked, Lies}
 use Rattle.loader.specs.Passing.{AllMarked, Passed, Through, Whole}
 
 -- Flags stay
@@ -40,22 +40,22 @@ mark-grows size m w i h = go (leb 1 m && leb m size) (eqb (get_or w.seen (m - 1)
     go true false = h
     go false f = h
 
-marks-grow : (size : ℕ) (ms : List ℕ) (w : Work) → Grows w.seen (marksOf size ms w).seen
-unfolding marksOf
+marks-grow : (size : ℕ) (ms : List ℕ) (w : Work) → Grows w.seen (marks_of size ms w).seen
+unfolding marks_of
 marks-grow size [] w i h = h
 marks-grow size (m ∷ ms) w i h = go (mark_of size m w).ok (mark-grows size m w i h) (marks-grow size ms (mark_of size m w) i)
   where
     go : (t : Bool) → eqb (get_or (mark_of size m w).seen i 0) 0 ≡ false
-        → (eqb (get_or (mark_of size m w).seen i 0) 0 ≡ false → eqb (get_or (marksOf size ms (mark_of size m w)).seen i 0) 0 ≡ false)
-        → eqb (get_or (if t then marksOf size ms (mark_of size m w) else mark_of size m w).seen i 0) 0 ≡ false
+        → (eqb (get_or (mark_of size m w).seen i 0) 0 ≡ false → eqb (get_or (marks_of size ms (mark_of size m w)).seen i 0) 0 ≡ false)
+        → eqb (get_or (if t then marks_of size ms (mark_of size m w) else mark_of size m w).seen i 0) 0 ≡ false
     go true a b = b a
     go false a b = a
 
-visit-grows : (T : List ℕ) (l : ℕ) (w : Work) → Grows w.seen (visitOf T l w).seen
-unfolding visitOf failed
+visit-grows : (T : List ℕ) (l : ℕ) (w : Work) → Grows w.seen (visit_of T l w).seen
+unfolding visit_of failed
 visit-grows T l w i h = go (gives37 T l)
   where
-    go : (t : Bool) → eqb (get_or (if t then work false w.tail w.seen w.order else marksOf (length T) (ways T l) w).seen i 0) 0 ≡ false
+    go : (t : Bool) → eqb (get_or (if t then work false w.tail w.seen w.order else marks_of (length T) (ways T l) w).seen i 0) 0 ≡ false
     go true = h
     go false = marks-grow (length T) (ways T l) w i h
 
@@ -73,12 +73,12 @@ module _ {T : List ℕ} {size : ℕ} {seen passed : List ℕ} (tail : ℕ) (orde
   pub through-mark : (m : ℕ) → Marked size (mark_of size m (work true tail seen order)) ok tail' seen' order' → Passed T size seen' passed
   through-mark m k = passed_on seen' p (left-grows seen k (mark-grows size m (work true tail seen order)))
 
-  pub through-marks : (ms : List ℕ) → Marked size (marksOf size ms (work true tail seen order)) ok tail' seen' order'
-      → Through T size (marksOf size ms (work true tail seen order)) ok tail' seen' order' passed
+  pub through-marks : (ms : List ℕ) → Marked size (marks_of size ms (work true tail seen order)) ok tail' seen' order'
+      → Through T size (marks_of size ms (work true tail seen order)) ok tail' seen' order' passed
   through-marks ms k = record { marked = k; passes = passed_on seen' p (left-grows seen k (marks-grow size ms (work true tail seen order))) }
 
-  pub through-visit : (l : ℕ) → Marked size (visitOf T l (work true tail seen order)) ok tail' seen' order'
-      → Through T size (visitOf T l (work true tail seen order)) ok tail' seen' order' passed
+  pub through-visit : (l : ℕ) → Marked size (visit_of T l (work true tail seen order)) ok tail' seen' order'
+      → Through T size (visit_of T l (work true tail seen order)) ok tail' seen' order' passed
   through-visit l k = record { marked = k; passes = passed_on seen' p (left-grows seen k (visit-grows T l (work true tail seen order))) }
 
 pub same-through : {T : List ℕ} {size : ℕ} {w v : Work} {ok : Bool} {tail : ℕ} {seen order passed : List ℕ} → Through T size v ok tail seen order passed → w ≡ v
@@ -112,14 +112,14 @@ mark-sets size m w h e = go (leb 1 m && leb m size) refl (eqb (get_or w.seen (m 
         inner true y a b = record { from = a; low = b; flag = rw (get_or-set_same w.seen (m - 1) 1 0 (omega arith)); long = length-set w.seen (m - 1) 1 }
         inner false y a b = record { from = a; low = b; flag = y; long = refl }
 
-marks-all : (size : ℕ) (ms : List ℕ) (w : Work) → size ≤ length w.seen → (marksOf size ms w).ok ≡ true → AllMarked size (marksOf size ms w).seen ms
-unfolding marksOf
+marks-all : (size : ℕ) (ms : List ℕ) (w : Work) → size ≤ length w.seen → (marks_of size ms w).ok ≡ true → AllMarked size (marks_of size ms w).seen ms
+unfolding marks_of
 marks-all size [] w h e = record { each = λ m x. never x }
 marks-all size (m ∷ ms) w h e = go (mark_of size m w).ok refl e (λ s. marks-all size ms (mark_of size m w) (omega (arith, s.long)))
   where
-    go : (t : Bool) → (mark_of size m w).ok ≡ t → (if t then marksOf size ms (mark_of size m w) else mark_of size m w).ok ≡ true
-        → (Set size m w (mark_of size m w) → (marksOf size ms (mark_of size m w)).ok ≡ true → AllMarked size (marksOf size ms (mark_of size m w)).seen ms)
-        → AllMarked size (if t then marksOf size ms (mark_of size m w) else mark_of size m w).seen (m ∷ ms)
+    go : (t : Bool) → (mark_of size m w).ok ≡ t → (if t then marks_of size ms (mark_of size m w) else mark_of size m w).ok ≡ true
+        → (Set size m w (mark_of size m w) → (marks_of size ms (mark_of size m w)).ok ≡ true → AllMarked size (marks_of size ms (mark_of size m w)).seen ms)
+        → AllMarked size (if t then marks_of size ms (mark_of size m w) else mark_of size m w).seen (m ∷ ms)
     go false x d i = never (sym x ∙ d)
     go true x d i =
         let s = mark-sets size m w h x in
@@ -132,8 +132,8 @@ mark-same : (size m tail : ℕ) (seen order : List ℕ) → 1 ≤ m → m ≤ si
 unfolding mark_of
 mark-same size m tail seen order a b f = rw (le-leb 1 m a, le-leb m size b, f)
 
-marks-same : (size : ℕ) (ms : List ℕ) (tail : ℕ) (seen order : List ℕ) → AllMarked size seen ms → marksOf size ms (work true tail seen order) ≡ work true tail seen order
-unfolding marksOf
+marks-same : (size : ℕ) (ms : List ℕ) (tail : ℕ) (seen order : List ℕ) → AllMarked size seen ms → marks_of size ms (work true tail seen order) ≡ work true tail seen order
+unfolding marks_of
 marks-same size [] tail seen order a = refl
 marks-same size (m ∷ ms) tail seen order a =
     let h = a.each m (member-head m ms) in
@@ -161,13 +161,13 @@ module _ {T : List ℕ} {n first size tail : ℕ} {seen order passed : List ℕ}
       two : (i j x y : ℕ) → i ≡ j → x ≡ y → labelled T i x ≡ labelled T j y
       two i j x y f g = rw (f, g)
 
-  pub piece-done : (get_or passed b 0 ≡ 0 → ⊥) → Through T size (marksOf size (labelled T n first) (work true tail seen order)) true tail seen order passed
+  pub piece-done : (get_or passed b 0 ≡ 0 → ⊥) → Through T size (marks_of size (labelled T n first) (work true tail seen order)) true tail seen order passed
   piece-done f =
       let a : AllMarked size seen (labelled T n first) = rw block-is at (p.ways b f) in
       record { marked = record { is = sym (marks-same size (labelled T n first) tail seen order a); kept = k }; passes = p }
 
-  pub piece-new : {ok : Bool} {tail' : ℕ} {seen' order' : List ℕ} → Marked size (marksOf size (labelled T n first) (work true tail seen order)) ok tail' seen' order' → ok ≡ true
-      → b < 256 → Through T size (marksOf size (labelled T n first) (work true tail seen order)) ok tail' seen' order' (set passed b 1)
+  pub piece-new : {ok : Bool} {tail' : ℕ} {seen' order' : List ℕ} → Marked size (marks_of size (labelled T n first) (work true tail seen order)) ok tail' seen' order' → ok ≡ true
+      → b < 256 → Through T size (marks_of size (labelled T n first) (work true tail seen order)) ok tail' seen' order' (set passed b 1)
   piece-new {ok} {tail'} {seen'} {order'} m t u = record {
     marked = m;
     passes = record {
@@ -196,7 +196,7 @@ labels-split T zero m p = two (0 + m) m p (p + 2 * 0) (omega arith) (omega arith
 labels-split T (suc k) m p =
     let e : suc k + m ≡ suc (k + m) = omega arith in
     let f : p + 2 + 2 * k ≡ p + 2 * suc k = omega arith in
-    rw e (ap (λ (z : List ℕ). backFrom T (p + 1) ∷ z) (labels-split T k m (p + 2) ∙ ap (λ (x : ℕ). labelled T k (p + 2) ++ labelled T m x) f))
+    rw e (ap (λ (z : List ℕ). back_from T (p + 1) ∷ z) (labels-split T k m (p + 2) ∙ ap (λ (x : ℕ). labelled T k (p + 2) ++ labelled T m x) f))
 
 labels-by : (T : List ℕ) (n i k from : ℕ) → i + k ≤ n
     → labelled T (n - i) (from + 2 * i) ≡ labelled T k (from + 2 * i) ++ labelled T (n - (i + k)) (from + 2 * (i + k))
@@ -207,21 +207,21 @@ labels-by T n i k from h =
     ∙ ap (λ (x : ℕ). labelled T k (from + 2 * i) ++ labelled T (n - (i + k)) x) f
 
 module _ {T : List ℕ} {n from size tail : ℕ} {seen₀ order₀ seen order : List ℕ} {at i : ℕ} (a : Along T n from size tail seen₀ order₀ seen order at i) (k : ℕ) (h : i + k ≤ n)
-    {ok : Bool} {tail' : ℕ} {seen' order' : List ℕ} (m : Marked size (marksOf size (labelled T k (from + 2 * i)) (work true at seen order)) ok tail' seen' order') where
-  rest-is : marksOf size (labelled T k (from + 2 * i) ++ labelled T (n - (i + k)) (from + 2 * (i + k))) (work true at seen order) ≡ marksOf size (labelled T n from) (work true tail seen₀ order₀)
-  rest-is = ap (λ (ms : List ℕ). marksOf size ms (work true at seen order)) (sym (labels-by T n i k from h)) ∙ a.rest
+    {ok : Bool} {tail' : ℕ} {seen' order' : List ℕ} (m : Marked size (marks_of size (labelled T k (from + 2 * i)) (work true at seen order)) ok tail' seen' order') where
+  rest-is : marks_of size (labelled T k (from + 2 * i) ++ labelled T (n - (i + k)) (from + 2 * (i + k))) (work true at seen order) ≡ marks_of size (labelled T n from) (work true tail seen₀ order₀)
+  rest-is = ap (λ (ms : List ℕ). marks_of size ms (work true at seen order)) (sym (labels-by T n i k from h)) ∙ a.rest
 
   pub along-by : ok ≡ true → Along T n from size tail seen₀ order₀ seen' order' tail' (i + k)
   along-by t = record {
     low = h;
     kept = m.kept;
     rest =
-        ap (λ (b : Bool). marksOf size (labelled T (n - (i + k)) (from + 2 * (i + k))) (work b tail' seen' order')) (sym t)
+        ap (λ (b : Bool). marks_of size (labelled T (n - (i + k)) (from + 2 * (i + k))) (work b tail' seen' order')) (sym t)
         ∙ sym (append-on size (labelled T k (from + 2 * i)) (labelled T (n - (i + k)) (from + 2 * (i + k))) (work true at seen order) (work ok tail' seen' order') refl (sym m.is) t)
         ∙ rest-is;
   }
 
-  pub along-halt : ok ≡ false → Marked size (marksOf size (labelled T n from) (work true tail seen₀ order₀)) ok tail' seen' order'
+  pub along-halt : ok ≡ false → Marked size (marks_of size (labelled T n from) (work true tail seen₀ order₀)) ok tail' seen' order'
   along-halt t = record {
     is = sym (append-stop size (labelled T k (from + 2 * i)) (labelled T (n - (i + k)) (from + 2 * (i + k))) (work true at seen order) (work ok tail' seen' order') refl (sym m.is) t) ∙ rest-is;
     kept = m.kept;

@@ -12,14 +12,15 @@ use lib.ListN.{length, get_or, set, replicate, length-replicate, get_or-replicat
 use lib.Seq.{get_or-set_same, get_or-set_other}
 use borrow.Author.Tests.{eqb-true, eqb-false, leb-true, le-leb}
 use Rattle.base.specs.Bools.{never, and, split}
-use Rattle.base.specs.Common.{if◌then◌else◌, member}
-use Rattle.loading.specs.Reach.{gives37, Reachable, at-start, Taken}
+use Rattle.std.specs.Prelude.{if◌then◌else◌}
+use Rattle.base.specs.Common.{member}
+use Rattle.loading.specs.Reach.{gives37, Reachable, at_start, Taken}
 use Rattle.loading.specs.Taking.{ways, reached, taken}
 use Rattle.loading.proofs.Exact.{reached-reach, reach-reached, taken-Taken, Taken-taken, good-there}
 use Rattle.loading.proofs.Members.{member-head, member-tail, member-cons, fetch-inside}
 use Rattle.loading.proofs.Ways.{ByWays, from_start, by_way, way, by-ways}
 use Rattle.loader.proofs.Laws.{room, mark-new}
-use Rattle.loader.specs.Marking.{Work, work, mark_of, marksOf, failed, visitOf, zeros, Kept, Marked, Ready, Tells}
+use Rattle.loader.specs.Marking.{Work, work, mark_of, marks_of, failed, visit_of, zeros, Kept, Marked, Ready, Tells}
 
 -- location m is marked
 pub record Flag (seen : List ℕ) (m : ℕ) : Type 0 where
@@ -160,8 +161,8 @@ module _ (T : List ℕ) (head : ℕ) where
     flags : (m : ℕ) → member m ms ≡ true → Flag v.seen m
 
   marks-steps : (ms : List ℕ) (w : Work) → Going T head w → head ≤ w.tail → ((m : ℕ) → member m ms ≡ true → Reachable T m)
-      → (marksOf (length T) ms w).ok ≡ true → Steps w (marksOf (length T) ms w) ms
-  unfolding marksOf
+      → (marks_of (length T) ms w).ok ≡ true → Steps w (marks_of (length T) ms w) ms
+  unfolding marks_of
   marks-steps [] w g h r e = record { going = g; more = record { flags = λ k x. x; row = λ i u. refl; longer = omega arith }; flags = λ m x. never x }
   marks-steps (m ∷ ms) w g h r e =
       go (mark_of (length T) m w).ok refl e (λ d s. marks-steps ms (mark_of (length T) m w) s.going (omega (arith, s.more.longer)) (λ n x. r n (member-tail n m ms x)) d)
@@ -169,16 +170,16 @@ module _ (T : List ℕ) (head : ℕ) where
       n₀ : Work
       n₀ = mark_of (length T) m w
 
-      go : (t : Bool) → (mark_of (length T) m w).ok ≡ t → (if t then marksOf (length T) ms (mark_of (length T) m w) else mark_of (length T) m w).ok ≡ true
-          → ((marksOf (length T) ms (mark_of (length T) m w)).ok ≡ true → Step w (mark_of (length T) m w) m → Steps (mark_of (length T) m w) (marksOf (length T) ms (mark_of (length T) m w)) ms)
-          → Steps w (if t then marksOf (length T) ms (mark_of (length T) m w) else mark_of (length T) m w) (m ∷ ms)
+      go : (t : Bool) → (mark_of (length T) m w).ok ≡ t → (if t then marks_of (length T) ms (mark_of (length T) m w) else mark_of (length T) m w).ok ≡ true
+          → ((marks_of (length T) ms (mark_of (length T) m w)).ok ≡ true → Step w (mark_of (length T) m w) m → Steps (mark_of (length T) m w) (marks_of (length T) ms (mark_of (length T) m w)) ms)
+          → Steps w (if t then marks_of (length T) ms (mark_of (length T) m w) else mark_of (length T) m w) (m ∷ ms)
       go false x d i = never (sym x ∙ d)
       go true x d i =
           let s = mark-step w m g h (r m (member-head m ms)) x in
           let a = i d s in
           record {
             going = a.going;
-            more = more-then w (mark_of (length T) m w) (marksOf (length T) ms (mark_of (length T) m w)) s.more a.more;
+            more = more-then w (mark_of (length T) m w) (marks_of (length T) ms (mark_of (length T) m w)) s.more a.more;
             flags = λ n y. elim (member-cons n m ms y) [ inl q ↦ rw q (a.more.flags m s.flag) | inr q ↦ a.flags n q ];
           }
 
@@ -198,13 +199,13 @@ record Out (size : ℕ) (ms : List ℕ) : Type 0 where
   among : member which ms ≡ true
   out : (leb 1 which && leb which size) ≡ false
 
-marks-fail : (size : ℕ) (ms : List ℕ) (w : Work) → w.ok ≡ true → (marksOf size ms w).ok ≡ false → Out size ms
-unfolding marksOf
+marks-fail : (size : ℕ) (ms : List ℕ) (w : Work) → w.ok ≡ true → (marks_of size ms w).ok ≡ false → Out size ms
+unfolding marks_of
 marks-fail size [] w o e = never (sym e ∙ o)
 marks-fail size (m ∷ ms) w o e = go (mark_of size m w).ok refl e (marks-fail size ms (mark_of size m w))
   where
-    go : (t : Bool) → (mark_of size m w).ok ≡ t → (if t then marksOf size ms (mark_of size m w) else mark_of size m w).ok ≡ false
-        → ((mark_of size m w).ok ≡ true → (marksOf size ms (mark_of size m w)).ok ≡ false → Out size ms) → Out size (m ∷ ms)
+    go : (t : Bool) → (mark_of size m w).ok ≡ t → (if t then marks_of size ms (mark_of size m w) else mark_of size m w).ok ≡ false
+        → ((mark_of size m w).ok ≡ true → (marks_of size ms (mark_of size m w)).ok ≡ false → Out size ms) → Out size (m ∷ ms)
     go true x d i = let r = i x d in record { which = r.which; among = member-tail r.which m ms r.among; out = r.out }
     go false x d i = record { which = m; among = member-head m ms; out = mark-fails size m w x }
 
@@ -216,19 +217,19 @@ not-outside T m h r e =
 -- A visit
 
 module _ (T : List ℕ) (head : ℕ) (w : Work) (g : Going T head w) (h : head < w.tail) where
-  pub visit-on : (visitOf T (get_or w.order head 0) w).ok ≡ true → Going T (head + 1) (visitOf T (get_or w.order head 0) w) × More w (visitOf T (get_or w.order head 0) w)
-  unfolding visitOf failed
+  pub visit-on : (visit_of T (get_or w.order head 0) w).ok ≡ true → Going T (head + 1) (visit_of T (get_or w.order head 0) w) × More w (visit_of T (get_or w.order head 0) w)
+  unfolding visit_of failed
   visit-on e = go (gives37 T l) refl e
     where
       l : ℕ
       l = get_or w.order head 0
 
-      go : (t : Bool) → gives37 T (get_or w.order head 0) ≡ t → (if t then failed w else marksOf (length T) (ways T (get_or w.order head 0)) w).ok ≡ true
-          → Going T (head + 1) (if t then failed w else marksOf (length T) (ways T (get_or w.order head 0)) w) × More w (if t then failed w else marksOf (length T) (ways T (get_or w.order head 0)) w)
+      go : (t : Bool) → gives37 T (get_or w.order head 0) ≡ t → (if t then failed w else marks_of (length T) (ways T (get_or w.order head 0)) w).ok ≡ true
+          → Going T (head + 1) (if t then failed w else marks_of (length T) (ways T (get_or w.order head 0)) w) × More w (if t then failed w else marks_of (length T) (ways T (get_or w.order head 0)) w)
       go true x d = never d
       go false x d =
           let a = marks-steps T head (ways T (get_or w.order head 0)) w g (omega arith) (λ m y. way T (g.known head h) y) d in
-          let v = marksOf (length T) (ways T (get_or w.order head 0)) w in
+          let v = marks_of (length T) (ways T (get_or w.order head 0)) w in
           let same-l : get_or v.order head 0 ≡ get_or w.order head 0 = a.more.row head h in (
             record {
               ok = a.going.ok;
@@ -246,11 +247,11 @@ module _ (T : List ℕ) (head : ℕ) (w : Work) (g : Going T head w) (h : head <
             a.more,
           )
 
-  pub visit-fails : (visitOf T (get_or w.order head 0) w).ok ≡ false → taken T ≡ false
-  unfolding visitOf failed
+  pub visit-fails : (visit_of T (get_or w.order head 0) w).ok ≡ false → taken T ≡ false
+  unfolding visit_of failed
   visit-fails e = go (taken T) refl
     where
-      no : Taken T → (t : Bool) → gives37 T (get_or w.order head 0) ≡ t → (if t then failed w else marksOf (length T) (ways T (get_or w.order head 0)) w).ok ≡ false → ⊥
+      no : Taken T → (t : Bool) → gives37 T (get_or w.order head 0) ≡ t → (if t then failed w else marks_of (length T) (ways T (get_or w.order head 0)) w).ok ≡ false → ⊥
       no k true x d = never (sym (k (get_or w.order head 0) (g.known head h)) ∙ x)
       no k false x d =
           let o = marks-fail (length T) (ways T (get_or w.order head 0)) w g.ok d in
@@ -335,7 +336,7 @@ start-going T order a b = record {
 pub first_on : (T order : List ℕ) → length T ≤ 4096 → length order ≡ 4096 → (mark_of (length T) 1 (work true 0 (replicate 4096 0) order)).ok ≡ true
     → Going T 0 (mark_of (length T) 1 (work true 0 (replicate 4096 0) order)) × Flag (mark_of (length T) 1 (work true 0 (replicate 4096 0) order)).seen 1
 first_on T order a b e =
-    let s = mark-step T 0 (work true 0 (replicate 4096 0) order) 1 (start-going T order a b) (omega arith) at-start e in
+    let s = mark-step T 0 (work true 0 (replicate 4096 0) order) 1 (start-going T order a b) (omega arith) at_start e in
     (s.going, s.flag)
 
 pub first-fails : (T order : List ℕ) → (mark_of (length T) 1 (work true 0 (replicate 4096 0) order)).ok ≡ false → taken T ≡ false
@@ -343,7 +344,7 @@ first-fails T order e = go (taken T) refl
   where
     go : (t : Bool) → taken T ≡ t → t ≡ false
     go false x = refl
-    go true x = absurd (not-outside T 1 (taken-Taken T x) at-start (mark-fails (length T) 1 (work true 0 (replicate 4096 0) order) e))
+    go true x = absurd (not-outside T 1 (taken-Taken T x) at_start (mark-fails (length T) 1 (work true 0 (replicate 4096 0) order) e))
 
 -- The loop of `reach`
 
@@ -408,9 +409,9 @@ module _ {T : List ℕ} {size head tail : ℕ} {seen order : List ℕ} (k : Loop
           last = rw (e, z) i.1;
         }
 
-    module _ {ok : Bool} {tail' : ℕ} {seen' order' : List ℕ} (m : Marked size (visitOf T l (work true tail seen order)) ok tail' seen' order') where
-      same-work : work ok tail' seen' order' ≡ visitOf T (get_or order head 0) (work true tail seen order)
-      same-work = m.is ∙ ap (λ (x : ℕ). visitOf T x (work true tail seen order)) e
+    module _ {ok : Bool} {tail' : ℕ} {seen' order' : List ℕ} (m : Marked size (visit_of T l (work true tail seen order)) ok tail' seen' order') where
+      same-work : work ok tail' seen' order' ≡ visit_of T (get_or order head 0) (work true tail seen order)
+      same-work = m.is ∙ ap (λ (x : ℕ). visit_of T x (work true tail seen order)) e
 
       pub loop-fails : ok ≡ false → Tells T false seen'
       loop-fails t = tells-false T seen' (visit-fails T head (work true tail seen order) k.going h (ap (λ (w : Work). w.ok) (sym same-work) ∙ t))

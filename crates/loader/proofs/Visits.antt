@@ -13,15 +13,15 @@ use lib.Seq.{ext_get_or, get_or-set_same, get_or-set_other}
 use native.Mathlib.Decide.{dec_lt}
 use borrow.Author.Tests.{eqb-true, eqb-false, leb-true, le-leb, lt-leb}
 use Rattle.base.specs.Bools.{never, split}
-use Rattle.base.specs.Common.{if◌then◌else◌}
+use Rattle.std.specs.Prelude.{if◌then◌else◌}
 use Rattle.machine.proofs.Decoded.{of-operation, of_one, of_two}
-use Rattle.machine.specs.Decode.{fetch, Instruction, invalid, jump, inputChoice, callRule, return, choice, endChoice, decodeTwo, decode_one, decodeWord, decodeAt, decode}
+use Rattle.machine.specs.Decode.{fetch, Instruction, invalid, jump, input_choice, call_rule, return, choice, end_choice, decode_two, decode_one, decode_word, decode_at, decode}
 use Rattle.machine.specs.Bytes.{words_of, table_of}
 use Rattle.machine.specs.Lengths.{lengths, length_of}
 use Rattle.loading.specs.Reach.{fits, bad, gives37}
 use Rattle.loading.specs.Taking.{labelled, chosen, onward, ways}
 use Rattle.loading.proofs.Members.{fetch-inside}
-use Rattle.loader.specs.Marking.{Work, work, mark_of, marksOf, failed, visitOf, choice_of, Kept, Marked, Ready, Holds, Takes}
+use Rattle.loader.specs.Marking.{Work, work, mark_of, marks_of, failed, visit_of, choice_of, Kept, Marked, Ready, Holds, Takes}
 use Rattle.loader.proofs.Laws.{table-fetch, marks-one, marks-on, marks-stop, append-on, append-stop}
 
 -- no word past the table
@@ -32,51 +32,51 @@ fetch-past T l h = go (fetch T l) refl
     go none e = refl
     go (some x) e = let r = fetch-inside T l (rw e) in absurd (omega (arith, r.1))
 
-pub decode-both : (T : List ℕ) (l i x : ℕ) → fetch T l ≡ some i → length_of i ≡ 2 → fetch T (l + 1) ≡ some x → decode T l ≡ decodeTwo l i x
-unfolding decode decodeAt decodeWord
-decode-both T l i x here e f = let g : fetch T (suc l) ≡ some x = rw (add-one l) at f in rw (here, g, decodeWord, e)
+pub decode-both : (T : List ℕ) (l i x : ℕ) → fetch T l ≡ some i → length_of i ≡ 2 → fetch T (l + 1) ≡ some x → decode T l ≡ decode_two l i x
+unfolding decode decode_at decode_word
+decode-both T l i x here e f = let g : fetch T (suc l) ≡ some x = rw (add-one l) at f in rw (here, g, decode_word, e)
 
 module _ (T : List ℕ) (l i : ℕ) (here : fetch T l ≡ some i) where
   pub decode-none : length_of i ≡ 0 → decode T l ≡ invalid
-  unfolding decode decodeAt decodeWord
+  unfolding decode decode_at decode_word
   decode-none e = rw here (go (fetch T (suc l)))
     where
-      go : (o : Option ℕ) → decodeWord l i o ≡ invalid
+      go : (o : Option ℕ) → decode_word l i o ≡ invalid
       go none = rw e
       go (some x) = rw e
 
   pub decode-one : length_of i ≡ 1 → decode T l ≡ decode_one i
-  unfolding decode decodeAt decodeWord
+  unfolding decode decode_at decode_word
   decode-one e = rw here (go (fetch T (suc l)))
     where
-      go : (o : Option ℕ) → decodeWord l i o ≡ decode_one i
+      go : (o : Option ℕ) → decode_word l i o ≡ decode_one i
       go none = rw e
       go (some x) = rw e
 
   pub decode-short : length_of i ≡ 2 → length T < l + 1 → decode T l ≡ invalid
-  unfolding decode decodeAt decodeWord
-  decode-short e h = let g : fetch T (suc l) ≡ none = fetch-past T (suc l) (omega arith) in rw (here, g, decodeWord, e)
+  unfolding decode decode_at decode_word
+  decode-short e h = let g : fetch T (suc l) ≡ none = fetch-past T (suc l) (omega arith) in rw (here, g, decode_word, e)
 
 -- a visit, by the instruction
 visit-by : (T : List ℕ) (l : ℕ) (i : Instruction) (w : Work) → decode T l ≡ i
-    → visitOf T l w ≡ (if bad T i then failed w else marksOf (length T) (onward T l i) w)
-unfolding visitOf gives37 ways
+    → visit_of T l w ≡ (if bad T i then failed w else marks_of (length T) (onward T l i) w)
+unfolding visit_of gives37 ways
 visit-by T l i w e = rw e
 
-visit-invalid : (T : List ℕ) (l : ℕ) (w : Work) → decode T l ≡ invalid → visitOf T l w ≡ failed w
+visit-invalid : (T : List ℕ) (l : ℕ) (w : Work) → decode T l ≡ invalid → visit_of T l w ≡ failed w
 unfolding bad
 visit-invalid T l w e = visit-by T l invalid w e
 
 visit-to : (T : List ℕ) (l : ℕ) (i : Instruction) (ms : List ℕ) (w : Work) → decode T l ≡ i → bad T i ≡ false → onward T l i ≡ ms
-    → visitOf T l w ≡ marksOf (length T) ms w
+    → visit_of T l w ≡ marks_of (length T) ms w
 visit-to T l i ms w e b o = visit-by T l i w e ∙ rw (b, o)
 
 visit-choice : (T : List ℕ) (l c : ℕ) (i : Instruction) (w : Work) → decode T l ≡ i → bad T i ≡ not (fits T c (fetch T c)) → onward T l i ≡ chosen T c (fetch T c)
-    → visitOf T l w ≡ choice_of T c w
+    → visit_of T l w ≡ choice_of T c w
 unfolding choice_of
 visit-choice T l c i w e b o = visit-by T l i w e ∙ rw (b, o) (go (fits T c (fetch T c)))
   where
-    go : (t : Bool) → (if not t then failed w else marksOf (length T) (chosen T c (fetch T c)) w) ≡ (if t then marksOf (length T) (chosen T c (fetch T c)) w else failed w)
+    go : (t : Bool) → (if not t then failed w else marks_of (length T) (chosen T c (fetch T c)) w) ≡ (if t then marks_of (length T) (chosen T c (fetch T c)) w else failed w)
     go true = refl
     go false = refl
 
@@ -91,7 +91,7 @@ next_one T l i a b = of_one on i (λ _. (refl, refl)) (λ e. absurd (a e)) (λ e
     on : Instruction → Type 0
     on j = Next T l j (l + 1)
 
-next-two : (T : List ℕ) (l i x : ℕ) → (i ≡ 1 → ⊥) → (i ≡ 2 → ⊥) → (i ≡ 7 → ⊥) → (i ≡ 8 → ⊥) → (i ≡ 11 → ⊥) → Next T l (decodeTwo l i x) (l + 2)
+next-two : (T : List ℕ) (l i x : ℕ) → (i ≡ 1 → ⊥) → (i ≡ 2 → ⊥) → (i ≡ 7 → ⊥) → (i ≡ 8 → ⊥) → (i ≡ 11 → ⊥) → Next T l (decode_two l i x) (l + 2)
 unfolding bad onward
 next-two T l i x a b c d e =
     of_two (λ j. Next T l j (l + 2)) l i x (λ q. absurd (a q)) (λ q. absurd (b q)) (λ _. (refl, refl)) (λ _. (refl, refl)) (λ _. (refl, refl)) (λ q. absurd (c q)) (λ q. absurd (d q)) (λ _. (refl, refl)) (λ q. absurd (e q)) (refl, refl)
@@ -111,22 +111,22 @@ same-work m e = record { is = m.is ∙ sym e; kept = m.kept }
 
 module _ {T : List ℕ} {l size tail : ℕ} {seen order : List ℕ} where
   pub outside-none : (i : ℕ) → Ready T l size tail seen order → fetch T l ≡ some i → length_of i ≡ 0
-      → Marked size (visitOf T l (work true tail seen order)) false tail seen order
+      → Marked size (visit_of T l (work true tail seen order)) false tail seen order
   outside-none i r h e = failing _ r.kept (visit-invalid T l _ (decode-none T l i h e) ∙ failed-is tail seen order)
 
   pub outside-cut : (i : ℕ) → Ready T l size tail seen order → fetch T l ≡ some i → length_of i ≡ 2 → size < l + 1
-      → Marked size (visitOf T l (work true tail seen order)) false tail seen order
+      → Marked size (visit_of T l (work true tail seen order)) false tail seen order
   outside-cut i r h e b = failing _ r.kept (visit-invalid T l _ (decode-short T l i h e (omega (arith, r.size_is))) ∙ failed-is tail seen order)
 
   -- of one word
   module _ {i : ℕ} (h : Holds T l i 1 size tail seen order) where
-    pub ends_there : (i ≡ 9) ⊎ (i ≡ 12) → Marked size (visitOf T l (work true tail seen order)) true tail seen order
-    unfolding decode_one bad onward marksOf
+    pub ends_there : (i ≡ 9) ⊎ (i ≡ 12) → Marked size (visit_of T l (work true tail seen order)) true tail seen order
+    unfolding decode_one bad onward marks_of
     ends_there (inl e) = record { is = sym (visit-to T l return [] _ (decode-one T l i h.here h.long ∙ rw e) refl refl); kept = h.ready.kept }
-    ends_there (inr e) = record { is = sym (visit-to T l endChoice [] _ (decode-one T l i h.here h.long ∙ rw e) refl refl); kept = h.ready.kept }
+    ends_there (inr e) = record { is = sym (visit-to T l end_choice [] _ (decode-one T l i h.here h.long ∙ rw e) refl refl); kept = h.ready.kept }
 
     pub one_on : {ok : Bool} {tail' : ℕ} {seen' order' : List ℕ} → (i ≡ 9 → ⊥) → (i ≡ 12 → ⊥)
-        → Marked size (mark_of size (l + 1) (work true tail seen order)) ok tail' seen' order' → Marked size (visitOf T l (work true tail seen order)) ok tail' seen' order'
+        → Marked size (mark_of size (l + 1) (work true tail seen order)) ok tail' seen' order' → Marked size (visit_of T l (work true tail seen order)) ok tail' seen' order'
     one_on a b m =
         let n = next_one T l i a b in
         let z = h.ready.size_is in
@@ -137,36 +137,36 @@ module _ {T : List ℕ} {l size tail : ℕ} {seen order : List ℕ} where
     abbrev w₀ : Work
     w₀ = work true tail seen order
 
-    decoded : decode T l ≡ decodeTwo l i x
+    decoded : decode T l ≡ decode_two l i x
     decoded = decode-both T l i x h.holds.here h.holds.long h.operand
 
-    to_one : (m : ℕ) (j : Instruction) → decodeTwo l i x ≡ j → bad T j ≡ false → onward T l j ≡ m ∷ [] → visitOf T l w₀ ≡ mark_of size m w₀
+    to_one : (m : ℕ) (j : Instruction) → decode_two l i x ≡ j → bad T j ≡ false → onward T l j ≡ m ∷ [] → visit_of T l w₀ ≡ mark_of size m w₀
     to_one m j e b o =
         visit-to T l j (m ∷ []) w₀ (decoded ∙ e) b o ∙ marks-one (length T) m w₀ ∙ ap (λ (s : ℕ). mark_of s m w₀) (sym h.holds.ready.size_is)
 
-    pub forward-is : i ≡ 1 → visitOf T l w₀ ≡ mark_of size (l + 1 + x) w₀
-    unfolding decodeTwo bad onward
+    pub forward-is : i ≡ 1 → visit_of T l w₀ ≡ mark_of size (l + 1 + x) w₀
+    unfolding decode_two bad onward
     forward-is e = to_one (l + 1 + x) (jump (l + 1 + x)) (rw e) refl refl
 
-    pub back_is : (m : ℕ) → i ≡ 2 → m ≡ l + 1 - x → visitOf T l w₀ ≡ mark_of size m w₀
-    unfolding decodeTwo bad onward
+    pub back_is : (m : ℕ) → i ≡ 2 → m ≡ l + 1 - x → visit_of T l w₀ ≡ mark_of size m w₀
+    unfolding decode_two bad onward
     back_is m e f = to_one m (jump m) (rw (e, f)) refl refl
 
-    pub input-choice-is : i ≡ 7 → visitOf T l w₀ ≡ choice_of T (l + 1 + x) w₀
-    unfolding decodeTwo bad onward
-    input-choice-is e = visit-choice T l (l + 1 + x) (inputChoice (l + 1 + x)) w₀ (decoded ∙ rw e) refl refl
+    pub input-choice-is : i ≡ 7 → visit_of T l w₀ ≡ choice_of T (l + 1 + x) w₀
+    unfolding decode_two bad onward
+    input-choice-is e = visit-choice T l (l + 1 + x) (input_choice (l + 1 + x)) w₀ (decoded ∙ rw e) refl refl
 
-    pub choice-is : i ≡ 11 → visitOf T l w₀ ≡ choice_of T (l + 1 + x) w₀
-    unfolding decodeTwo bad onward
+    pub choice-is : i ≡ 11 → visit_of T l w₀ ≡ choice_of T (l + 1 + x) w₀
+    unfolding decode_two bad onward
     choice-is e = visit-choice T l (l + 1 + x) (choice (l + 1 + x)) w₀ (decoded ∙ rw e) refl refl
 
-    pub call-is : i ≡ 8 → visitOf T l w₀ ≡ marksOf size (x ∷ (l + 2) ∷ []) w₀
-    unfolding decodeTwo bad onward
+    pub call-is : i ≡ 8 → visit_of T l w₀ ≡ marks_of size (x ∷ (l + 2) ∷ []) w₀
+    unfolding decode_two bad onward
     call-is e =
-        visit-to T l (callRule x) (x ∷ (l + 2) ∷ []) w₀ (decoded ∙ rw e) refl refl ∙ ap (λ (s : ℕ). marksOf s (x ∷ (l + 2) ∷ []) w₀) (sym h.holds.ready.size_is)
+        visit-to T l (call_rule x) (x ∷ (l + 2) ∷ []) w₀ (decoded ∙ rw e) refl refl ∙ ap (λ (s : ℕ). marks_of s (x ∷ (l + 2) ∷ []) w₀) (sym h.holds.ready.size_is)
 
-    pub on-is : (i ≡ 1 → ⊥) → (i ≡ 2 → ⊥) → (i ≡ 7 → ⊥) → (i ≡ 8 → ⊥) → (i ≡ 11 → ⊥) → visitOf T l w₀ ≡ mark_of size (l + 2) w₀
-    on-is a b c d e = let n = next-two T l i x a b c d e in to_one (l + 2) (decodeTwo l i x) refl n.0 n.1
+    pub on-is : (i ≡ 1 → ⊥) → (i ≡ 2 → ⊥) → (i ≡ 7 → ⊥) → (i ≡ 8 → ⊥) → (i ≡ 11 → ⊥) → visit_of T l w₀ ≡ mark_of size (l + 2) w₀
+    on-is a b c d e = let n = next-two T l i x a b c d e in to_one (l + 2) (decode_two l i x) refl n.0 n.1
 
 -- A choice
 
@@ -187,35 +187,35 @@ module _ (T : List ℕ) (c : ℕ) {size tail : ℕ} {seen order : List ℕ} (k :
   choice-cut n e h = choice-fails (some n) e (lt-leb (c + 2 * n) (length T) (omega arith))
 
   module _ (n : ℕ) (e : fetch T c ≡ some n) (h : c + 2 * n ≤ size) where
-    choice-all : choice_of T c w₁ ≡ marksOf size (labelled T n (c + 1) ++ ((c + 1 + 2 * n) ∷ [])) w₁
+    choice-all : choice_of T c w₁ ≡ marks_of size (labelled T n (c + 1) ++ ((c + 1 + 2 * n) ∷ [])) w₁
     unfolding choice_of fits chosen
     choice-all = rw (e, fits, le-leb (c + 2 * n) (length T) (omega arith), ← z)
 
-    pub choice-stop : {ok : Bool} {tail' : ℕ} {seen' order' : List ℕ} → Marked size (marksOf size (labelled T n (c + 1)) w₁) ok tail' seen' order' → ok ≡ false
+    pub choice-stop : {ok : Bool} {tail' : ℕ} {seen' order' : List ℕ} → Marked size (marks_of size (labelled T n (c + 1)) w₁) ok tail' seen' order' → ok ≡ false
         → Marked size (choice_of T c w₁) ok tail' seen' order'
     choice-stop {ok} {tail'} {seen'} {order'} m t =
         record { is = sym (choice-all ∙ append-stop size (labelled T n (c + 1)) ((c + 1 + 2 * n) ∷ []) w₁ (work ok tail' seen' order') refl (sym m.is) t); kept = m.kept }
 
-    pub choice-on : {ok ok' : Bool} {tail' tail'' : ℕ} {seen' order' seen'' order'' : List ℕ} → Marked size (marksOf size (labelled T n (c + 1)) w₁) ok tail' seen' order' → ok ≡ true
+    pub choice-on : {ok ok' : Bool} {tail' tail'' : ℕ} {seen' order' seen'' order'' : List ℕ} → Marked size (marks_of size (labelled T n (c + 1)) w₁) ok tail' seen' order' → ok ≡ true
         → Marked size (mark_of size (c + 1 + 2 * n) (work true tail' seen' order')) ok' tail'' seen'' order'' → Marked size (choice_of T c w₁) ok' tail'' seen'' order''
     choice-on {ok} {tail' = tail'} {seen' = seen'} {order' = order'} m t v =
         same-work v (choice-all ∙ append-on size (labelled T n (c + 1)) ((c + 1 + 2 * n) ∷ []) w₁ (work ok tail' seen' order') refl (sym m.is) t
-        ∙ ap (λ (b : Bool). marksOf size ((c + 1 + 2 * n) ∷ []) (work b tail' seen' order')) t ∙ marks-one size (c + 1 + 2 * n) (work true tail' seen' order'))
+        ∙ ap (λ (b : Bool). marks_of size ((c + 1 + 2 * n) ∷ []) (work b tail' seen' order')) t ∙ marks-one size (c + 1 + 2 * n) (work true tail' seen' order'))
 
 -- Two locations
 
 module _ (size tail m k : ℕ) (seen order : List ℕ) where
   pub two-stop : {ok : Bool} {tail' : ℕ} {seen' order' : List ℕ} → Marked size (mark_of size m (work true tail seen order)) ok tail' seen' order' → ok ≡ false
-      → Marked size (marksOf size (m ∷ k ∷ []) (work true tail seen order)) ok tail' seen' order'
+      → Marked size (marks_of size (m ∷ k ∷ []) (work true tail seen order)) ok tail' seen' order'
   two-stop {ok} {tail'} {seen'} {order'} a t =
       record { is = sym (marks-stop size m (k ∷ []) (work true tail seen order) (work ok tail' seen' order') (sym a.is) t); kept = a.kept }
 
   pub two-on : {ok ok' : Bool} {tail' tail'' : ℕ} {seen' order' seen'' order'' : List ℕ} → Marked size (mark_of size m (work true tail seen order)) ok tail' seen' order' → ok ≡ true
       → Marked size (mark_of size k (work true tail' seen' order')) ok' tail'' seen'' order''
-      → Marked size (marksOf size (m ∷ k ∷ []) (work true tail seen order)) ok' tail'' seen'' order''
+      → Marked size (marks_of size (m ∷ k ∷ []) (work true tail seen order)) ok' tail'' seen'' order''
   two-on {ok} {tail' = tail'} {seen' = seen'} {order' = order'} a t v =
       same-work v (marks-on size m (k ∷ []) (work true tail seen order) (work ok tail' seen' order') (sym a.is) t
-      ∙ ap (λ (b : Bool). marksOf size (k ∷ []) (work b tail' seen' order')) t ∙ marks-one size k (work true tail' seen' order'))
+      ∙ ap (λ (b : Bool). marks_of size (k ∷ []) (work b tail' seen' order')) t ∙ marks-one size k (work true tail' seen' order'))
 
 -- The instruction that is read
 

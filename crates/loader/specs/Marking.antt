@@ -1,7 +1,7 @@
 -- What the loader's functions compute, in the code's own order: locations are marked and put into a row, each once.
-use Rattle.std.specs.Prelude.{Bool, true, false, ◌&&◌, not, List, [], ◌∷◌, ◌≡◌, ℕ, suc, ◌+◌, ◌*◌, ◌-◌, ◌<◌, ◌≤◌, eqb, leb, length, get_or, set}
+use Rattle.std.specs.Prelude.{Bool, true, false, ◌&&◌, not, List, [], ◌∷◌, ◌≡◌, ℕ, suc, ◌+◌, ◌*◌, ◌-◌, ◌<◌, ◌≤◌, eqb, leb, length, get_or, set, if◌then◌else◌}
 use Rattle.std.proofs.Math.Option.{some}
-use Rattle.base.specs.Common.{if◌then◌else◌, member}
+use Rattle.base.specs.Common.{member}
 use Rattle.loading.specs.Reach.{gives37, fits}
 use Rattle.loading.specs.Taking.{chosen, ways, reached, taken}
 use Rattle.machine.specs.Decode.{fetch}
@@ -26,16 +26,16 @@ mark_of size m w =
     if leb 1 m && leb m size then (if eqb (get_or w.seen (m - 1) 0) 0 then new else old) else failed
 
 -- one after the other, up to the first that is outside
-unfoldable pub marksOf : ℕ → List ℕ → Work → Work
-marksOf size [] w = w
-marksOf size (m ∷ ms) w = let n = mark_of size m w in let later = marksOf size ms n in if n.ok then later else n
+unfoldable pub marks_of : ℕ → List ℕ → Work → Work
+marks_of size [] w = w
+marks_of size (m ∷ ms) w = let n = mark_of size m w in let later = marks_of size ms n in if n.ok then later else n
 
 unfoldable pub failed : Work → Work
 failed w = work false w.tail w.seen w.order
 
 -- the ways from a location are marked, unless it gives 37
-unfoldable pub visitOf : List ℕ → ℕ → Work → Work
-visitOf T l w = let on = marksOf (length T) (ways T l) w in if gives37 T l then failed w else on
+unfoldable pub visit_of : List ℕ → ℕ → Work → Work
+visit_of T l w = let on = marks_of (length T) (ways T l) w in if gives37 T l then failed w else on
 
 -- how many flags are 0
 unfoldable pub zeros : List ℕ → ℕ
@@ -61,7 +61,7 @@ pub record Lies (T : List ℕ) (n from size : ℕ) : Type 0 where
 
 -- the ways out of a choice are marked, if its table lies inside
 unfoldable pub choice_of : List ℕ → ℕ → Work → Work
-choice_of T c w = let on = marksOf (length T) (chosen T c (fetch T c)) w in if fits T c (fetch T c) then on else failed w
+choice_of T c w = let on = marks_of (length T) (chosen T c (fetch T c)) w in if fits T c (fetch T c) then on else failed w
 
 -- a location of the table, and the buffers
 pub record Ready (T : List ℕ) (l size tail : ℕ) (seen order : List ℕ) : Type 0 where
@@ -90,5 +90,5 @@ pub record Tells (T : List ℕ) (r : Bool) (seen : List ℕ) : Type 0 where
 
 -- all of this file computes where this is unfolded
 unfoldable pub opened : Unit {0}
-unfolding mark_of marksOf failed visitOf zeros choice_of
+unfolding mark_of marks_of failed visit_of zeros choice_of
 opened = tt

@@ -20,7 +20,7 @@ pub record Through (T : List ℕ) (size : ℕ) (w : Work) (ok : Bool) (tail : �
 
 -- some of the entries that are left
 pub record Piece (left r : ℕ) : Type 0 where
-  pub some-entries : 1 ≤ r
+  pub some_entries : 1 ≤ r
   pub low : r ≤ left
 
 -- the entries are a block

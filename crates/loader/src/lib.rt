@@ -3,12 +3,12 @@ ghost use Rattle.std.specs.Prelude.{◌≡◌, true, [], ◌∷◌, ◌+◌, ◌
 ghost use Rattle.std.proofs.Math.Option.{some};
 ghost use Rattle.machine.specs.Bytes.{count, words_of, table_of, bytes_of, over};
 ghost use Rattle.machine.specs.Decode.{fetch};
-ghost use Rattle.loading.specs.File.{tableNamed, isFile, load};
+ghost use Rattle.loading.specs.File.{table_named, is_file, load};
 ghost use Rattle.loading.specs.Reading.{formed};
 ghost use Rattle.loading.specs.Taking.{labelled, taken};
-ghost use Rattle.loader.specs.Marking.{work, mark_of, marksOf, choice_of, visitOf, Kept, Marked, Lies, Ready, Holds, Takes, Tells};
+ghost use Rattle.loader.specs.Marking.{work, mark_of, marks_of, choice_of, visit_of, Kept, Marked, Lies, Ready, Holds, Takes, Tells};
 ghost use Rattle.loader.specs.Passing.{Passed, Through, Piece, Whole};
-ghost use Rattle.loader.specs.Records.{fullAt, last_at, sizeNamed, Loads};
+ghost use Rattle.loader.specs.Records.{full_at, last_at, size_named, Loads};
 
 use base::{TABLE_WORDS, wide};
 
@@ -148,7 +148,7 @@ fn mark_labels(
     order: &mut [u16],
 ) -> Marks
     requires { Kept size tail seen.old order.old × Lies (table_of table.now) n from size }
-    ensures { Marked size (marksOf size (labelled (table_of table.now) n from) (work true tail seen.old order.old)) result.ok result.tail seen.new order.new }
+    ensures { Marked size (marks_of size (labelled (table_of table.now) n from) (work true tail seen.old order.old)) result.ok result.tail seen.new order.new }
 {
     let mut at = tail;
     let mut i: usize = 0;
@@ -195,7 +195,7 @@ fn mark_piece(
     passed: &mut [u8],
 ) -> Marks
     requires { Kept size tail seen.old order.old × Lies (table_of table.now) e.count e.first size × Passed (table_of table.now) size seen.old passed.old }
-    ensures { Through (table_of table.now) size (marksOf size (labelled (table_of table.now) e.count e.first) (work true tail seen.old order.old)) result.ok result.tail seen.new order.new passed.new }
+    ensures { Through (table_of table.now) size (marks_of size (labelled (table_of table.now) e.count e.first) (work true tail seen.old order.old)) result.ok result.tail seen.new order.new passed.new }
 {
     let first = e.first;
     let n = e.count;
@@ -227,7 +227,7 @@ fn mark_entries(
     passed: &mut [u8],
 ) -> Marks
     requires { Kept size tail seen.old order.old × Lies (table_of table.now) e.count e.first size × Passed (table_of table.now) size seen.old passed.old }
-    ensures { Through (table_of table.now) size (marksOf size (labelled (table_of table.now) e.count e.first) (work true tail seen.old order.old)) result.ok result.tail seen.new order.new passed.new }
+    ensures { Through (table_of table.now) size (marks_of size (labelled (table_of table.now) e.count e.first) (work true tail seen.old order.old)) result.ok result.tail seen.new order.new passed.new }
 {
     let n = e.count;
     let mut at = tail;
@@ -259,7 +259,7 @@ fn mark_two(
     order: &mut [u16],
 ) -> Marks
     requires { Kept size tail seen.old order.old }
-    ensures { Marked size (marksOf size (m ∷ k ∷ []) (work true tail seen.old order.old)) result.ok result.tail seen.new order.new }
+    ensures { Marked size (marks_of size (m ∷ k ∷ []) (work true tail seen.old order.old)) result.ok result.tail seen.new order.new }
 {
     let r = mark(m, size, tail, seen, order);
     if !r.ok {
@@ -316,7 +316,7 @@ fn visit_one(
     order: &mut [u16],
 ) -> Marks
     requires { Holds (table_of table.now) l i 1 size tail seen.old order.old }
-    ensures { Marked size (visitOf (table_of table.now) l (work true tail seen.old order.old)) result.ok result.tail seen.new order.new }
+    ensures { Marked size (visit_of (table_of table.now) l (work true tail seen.old order.old)) result.ok result.tail seen.new order.new }
 {
     if i == RETURN {
         return Marks {
@@ -344,7 +344,7 @@ fn visit_two(
     passed: &mut [u8],
 ) -> Marks
     requires { Takes (table_of table.now) i.at i.number i.operand size tail seen.old order.old × Passed (table_of table.now) size seen.old passed.old }
-    ensures { Through (table_of table.now) size (visitOf (table_of table.now) i.at (work true tail seen.old order.old)) result.ok result.tail seen.new order.new passed.new }
+    ensures { Through (table_of table.now) size (visit_of (table_of table.now) i.at (work true tail seen.old order.old)) result.ok result.tail seen.new order.new passed.new }
 {
     if i.number == JUMP_FORWARD {
         return mark(i.at + 1 + i.operand, size, tail, seen, order);
@@ -375,7 +375,7 @@ fn visit(
     passed: &mut [u8],
 ) -> Marks
     requires { Ready (table_of table.now) l size tail seen.old order.old × Passed (table_of table.now) size seen.old passed.old }
-    ensures { Through (table_of table.now) size (visitOf (table_of table.now) l (work true tail seen.old order.old)) result.ok result.tail seen.new order.new passed.new }
+    ensures { Through (table_of table.now) size (visit_of (table_of table.now) l (work true tail seen.old order.old)) result.ok result.tail seen.new order.new passed.new }
 {
     let i = machine::word(table, l - 1);
     let n = machine::instruction_length(i);
@@ -463,7 +463,7 @@ pub fn takes(table: &[u8]) -> bool
 // Whether a full record stands at the word p.
 fn full_record(file: &[u8], total: usize, p: usize) -> bool
     requires { (total ≡ count file.now) × (p < 1000000) }
-    ensures { result ≡ fullAt (words_of file.now) p }
+    ensures { result ≡ full_at (words_of file.now) p }
 {
     if machine::word(file, p) != TABLE_MARK {
         return false;
@@ -507,7 +507,7 @@ fn are_records(file: &[u8], total: usize, n: usize) -> bool
 
 // The words of the table that the file holds; 0 for bytes that are no file.
 fn file_words(file: &[u8]) -> usize
-    ensures { result ≡ sizeNamed file.now }
+    ensures { result ≡ size_named file.now }
 {
     if file.len() % 2 != 0 {
         return 0;
@@ -544,8 +544,8 @@ pub struct Loaded {
 
 // The words of the table are copied from its file.
 fn copy_words(file: &[u8], n: usize, out: &mut [u8])
-    requires { (isFile file.now ≡ true) × (n ≡ length (tableNamed file.now)) × (n ≤ 4096) × (2 * n ≤ length out.old) }
-    ensures { out.new ≡ over (bytes_of (tableNamed file.now)) out.old }
+    requires { (is_file file.now ≡ true) × (n ≡ length (table_named file.now)) × (n ≤ 4096) × (2 * n ≤ length out.old) }
+    ensures { out.new ≡ over (bytes_of (table_named file.now)) out.old }
 {
     let mut k: usize = 0;
     while k < n {

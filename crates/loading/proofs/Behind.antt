@@ -9,11 +9,12 @@ use lib.Dec.{eqb, leb}
 use lib.ListN.{length, length-append, get_elem?}
 use borrow.Author.Tests.{leb-true, le-leb}
 use Rattle.base.specs.Bools.{never}
-use Rattle.base.specs.Common.{if◌then◌else◌, given}
-use Rattle.machine.specs.Decode.{fetch, Instruction, invalid, jump, input, inputAny, write, inputChoice, callRule, return, setResult, choice, endChoice, setParameter, update, updateWith, choose, chooseWith, decode_one, decodeWord, decodeAt, decode}
+use Rattle.std.specs.Prelude.{if◌then◌else◌}
+use Rattle.base.specs.Common.{given}
+use Rattle.machine.specs.Decode.{fetch, Instruction, invalid, jump, input, input_any, write, input_choice, call_rule, return, set_result, choice, end_choice, set_parameter, update, update_with, choose, choose_with, decode_one, decode_word, decode_at, decode}
 use Rattle.machine.specs.Lengths.{length_of}
-use Rattle.loading.specs.Reach.{fits, bad, gives37, Reachable, at-start, Taken}
-use Rattle.loading.specs.Taking.{backFrom, labelled, chosen, onward, ways}
+use Rattle.loading.specs.Reach.{fits, bad, gives37, Reachable, at_start, Taken}
+use Rattle.loading.specs.Taking.{back_from, labelled, chosen, onward, ways}
 use Rattle.loading.proofs.Members.{inside-fetch}
 use Rattle.loading.proofs.Ways.{ByWays, from_start, by_way, way, by-ways}
 
@@ -32,35 +33,35 @@ module _ (T more : List ℕ) where
   fetch-within l a b = fetch-behind l (inside-fetch T l a b)
 
   -- an instruction of one word does not look at the word behind it
-  one_word : (l i : ℕ) (o : Option ℕ) → eqb (length_of i) 1 ≡ true → decodeWord l i o ≡ decode_one i
-  unfolding decodeWord
+  one_word : (l i : ℕ) (o : Option ℕ) → eqb (length_of i) 1 ≡ true → decode_word l i o ≡ decode_one i
+  unfolding decode_word
   one_word l i none e = rw e
   one_word l i (some x) e = rw e
 
-  word-behind : (l i : ℕ) (o p : Option ℕ) → bad T (decodeWord l i o) ≡ false → (given o ≡ true → p ≡ o) → decodeWord l i p ≡ decodeWord l i o
-  unfolding decodeWord bad
-  word-behind l i (some x) p b f = ap (decodeWord l i) (f refl)
+  word-behind : (l i : ℕ) (o p : Option ℕ) → bad T (decode_word l i o) ≡ false → (given o ≡ true → p ≡ o) → decode_word l i p ≡ decode_word l i o
+  unfolding decode_word bad
+  word-behind l i (some x) p b f = ap (decode_word l i) (f refl)
   word-behind l i none p b f = go (eqb (length_of i) 1) refl b
     where
-      go : (t : Bool) → eqb (length_of i) 1 ≡ t → bad T (if t then decode_one i else invalid) ≡ false → decodeWord l i p ≡ (if t then decode_one i else invalid)
+      go : (t : Bool) → eqb (length_of i) 1 ≡ t → bad T (if t then decode_one i else invalid) ≡ false → decode_word l i p ≡ (if t then decode_one i else invalid)
       go true e d = one_word l i p e
       go false e d = never (sym d)
 
   decode-behind : (l : ℕ) → bad T (decode T l) ≡ false → decode (T ++ more) l ≡ decode T l
-  unfolding decode decodeAt bad
+  unfolding decode decode_at bad
   decode-behind l b = go (fetch T l) (fetch (T ++ more) l) b (fetch-behind l)
     where
-      go : (o p : Option ℕ) → bad T (decodeAt l o (fetch T (suc l))) ≡ false → (given o ≡ true → p ≡ o)
-          → decodeAt l p (fetch (T ++ more) (suc l)) ≡ decodeAt l o (fetch T (suc l))
+      go : (o p : Option ℕ) → bad T (decode_at l o (fetch T (suc l))) ≡ false → (given o ≡ true → p ≡ o)
+          → decode_at l p (fetch (T ++ more) (suc l)) ≡ decode_at l o (fetch T (suc l))
       go none p d f = never (sym d)
       go (some i) p d f = rw (f refl) (word-behind l i (fetch T (suc l)) (fetch (T ++ more) (suc l)) d (fetch-behind (suc l)))
 
   labelled-behind : (n l : ℕ) → 1 ≤ l → l + 2 * n ≤ length T + 1 → labelled (T ++ more) n l ≡ labelled T n l
-  unfolding labelled backFrom
+  unfolding labelled back_from
   labelled-behind zero l a b = refl
   labelled-behind (suc n) l a b =
       let e = fetch-within (l + 1) (omega arith) (omega arith) in
-      rw (backFrom, e, labelled-behind n (l + 2) (omega arith) (omega arith))
+      rw (back_from, e, labelled-behind n (l + 2) (omega arith) (omega arith))
 
   fits-chosen : (c : ℕ) → not (fits T c (fetch T c)) ≡ false
       → (chosen (T ++ more) c (fetch (T ++ more) c) ≡ chosen T c (fetch T c)) × (fits (T ++ more) c (fetch (T ++ more) c) ≡ true)
@@ -89,24 +90,24 @@ module _ (T more : List ℕ) where
   onward-behind l invalid b = never (sym b)
   onward-behind l (jump m) b = (refl, refl)
   onward-behind l (input t) b = (refl, refl)
-  onward-behind l inputAny b = (refl, refl)
+  onward-behind l input_any b = (refl, refl)
   onward-behind l (write e) b = (refl, refl)
-  onward-behind l (inputChoice c) b = let r = fits-chosen c b in (r.0, rw r.1)
-  onward-behind l (callRule m) b = (refl, refl)
+  onward-behind l (input_choice c) b = let r = fits-chosen c b in (r.0, rw r.1)
+  onward-behind l (call_rule m) b = (refl, refl)
   onward-behind l return b = (refl, refl)
-  onward-behind l (setResult v) b = (refl, refl)
+  onward-behind l (set_result v) b = (refl, refl)
   onward-behind l (choice c) b = let r = fits-chosen c b in (r.0, rw r.1)
-  onward-behind l endChoice b = (refl, refl)
-  onward-behind l (setParameter v) b = (refl, refl)
+  onward-behind l end_choice b = (refl, refl)
+  onward-behind l (set_parameter v) b = (refl, refl)
   onward-behind l (update op) b = (refl, refl)
-  onward-behind l (updateWith op) b = (refl, refl)
+  onward-behind l (update_with op) b = (refl, refl)
   onward-behind l (choose op) b = (refl, refl)
-  onward-behind l (chooseWith op) b = (refl, refl)
+  onward-behind l (choose_with op) b = (refl, refl)
 
   module _ (h : Taken T) where
     ways-behind : {l : ℕ} → ByWays (T ++ more) l → Reachable T l
     unfolding ways gives37
-    ways-behind from_start = at-start
+    ways-behind from_start = at_start
     ways-behind (by_way {l = l} {m = m} r w) =
         let s = ways-behind r in
         let b = h l s in

@@ -11,10 +11,11 @@ use lib.Dec.{eqb}
 use lib.ListN.{length}
 use borrow.Author.Tests.{eqb-true, eqb-false, ne_eqb, not-true}
 use Rattle.base.specs.Bools.{never, and, both, split}
-use Rattle.base.specs.Common.{if◌then◌else◌, member, given}
+use Rattle.std.specs.Prelude.{if◌then◌else◌}
+use Rattle.base.specs.Common.{member, given}
 use Rattle.machine.specs.Decode.{fetch}
-use Rattle.loading.specs.Reach.{bad, gives37, Reachable, at-start, Taken}
-use Rattle.loading.specs.Taking.{ways, unseen, next_from, grown, reached, inside, sound, allSound, taken}
+use Rattle.loading.specs.Reach.{bad, gives37, Reachable, at_start, Taken}
+use Rattle.loading.specs.Taking.{ways, unseen, next_from, grown, reached, inside, sound, all_sound, taken}
 use Rattle.loading.proofs.Members.{member-head, member-tail, member-cons, fetch-inside, outside-invalid}
 use Rattle.loading.proofs.Ways.{ByWays, from_start, by_way, way, by-ways}
 
@@ -192,7 +193,7 @@ module _ (T : List ℕ) where
   reached-reach = grown-reach (length T) (1 ∷ []) first
     where
       first : AllReach (1 ∷ [])
-      first l h = elim (member-cons l 1 [] h) [ inl q ↦ rw q at-start | inr t ↦ never t ]
+      first l h = elim (member-cons l 1 [] h) [ inl q ↦ rw q at_start | inr t ↦ never t ]
 
   reached-start : member 1 (reached T) ≡ true
   unfolding reached
@@ -216,17 +217,17 @@ module _ (T : List ℕ) where
   all-inside [] f = refl
   all-inside (x ∷ ms) f = both (given (fetch T x)) (inside T ms) (f x (member-head x ms)) (all-inside ms (λ m h. f m (member-tail m x ms h)))
 
-  sound-all : (ls : List ℕ) → allSound T ls ≡ true → (l : ℕ) → member l ls ≡ true → sound T l ≡ true
-  unfolding allSound
+  sound-all : (ls : List ℕ) → all_sound T ls ≡ true → (l : ℕ) → member l ls ≡ true → sound T l ≡ true
+  unfolding all_sound
   sound-all [] e l h = never h
   sound-all (x ∷ ls) e l h =
-      let r = and (sound T x) (allSound T ls) e in
+      let r = and (sound T x) (all_sound T ls) e in
       elim (member-cons l x ls h) [ inl q ↦ rw q r.0 | inr t ↦ sound-all ls r.1 l t ]
 
-  all_sound : (ls : List ℕ) → ((l : ℕ) → member l ls ≡ true → sound T l ≡ true) → allSound T ls ≡ true
-  unfolding allSound
-  all_sound [] f = refl
-  all_sound (x ∷ ls) f = both (sound T x) (allSound T ls) (f x (member-head x ls)) (all_sound ls (λ l h. f l (member-tail l x ls h)))
+  all_sound_lem : (ls : List ℕ) → ((l : ℕ) → member l ls ≡ true → sound T l ≡ true) → all_sound T ls ≡ true
+  unfolding all_sound
+  all_sound_lem [] f = refl
+  all_sound_lem (x ∷ ls) f = both (sound T x) (all_sound T ls) (f x (member-head x ls)) (all_sound_lem ls (λ l h. f l (member-tail l x ls h)))
 
   false-not : (b : Bool) → b ≡ false → not b ≡ true
   false-not true e = sym e
@@ -264,7 +265,7 @@ module _ (T : List ℕ) where
 
   pub Taken-taken : Taken T → taken T ≡ true
   unfolding taken sound
-  Taken-taken h = all_sound (reached T) (λ l s.
+  Taken-taken h = all_sound_lem (reached T) (λ l s.
       let r = reached-reach l s in
       both (not (gives37 T l)) (inside T (ways T l)) (false-not (gives37 T l) (h l r))
       (all-inside (ways T l) (λ m w. good-there m (h m (way T r w)))))

@@ -4,12 +4,13 @@ use mathlib.Core.List.{List, [], ◌∷◌, ◌++◌}
 use Prim.Native.Nat.{ℕ, zero, suc, ◌/◌}
 use lib.Dec.{T, eqb}
 use lib.ListN.{length, replicate, take, drop}
-use Rattle.base.specs.Common.{if◌then◌else◌, same, bytes}
+use Rattle.std.specs.Prelude.{if◌then◌else◌}
+use Rattle.base.specs.Common.{same, bytes}
 use Rattle.machine.specs.Bytes
 use Rattle.machine.specs.Decode
 use Rattle.machine.specs.Lengths
 use Rattle.loading.specs.File
-use Rattle.loading.specs.File.{fileBytes, Answer, done, refused, load, store, lentBytes, Numbers, numbersOf}
+use Rattle.loading.specs.File.{file_bytes, Answer, done, refused, load, store, lent_bytes, Numbers, numbers_of}
 use Rattle.loading.specs.Reach
 use Rattle.loading.specs.Taking
 use Rattle.loading.specs.Taking.{reached, taken}
@@ -35,9 +36,9 @@ unfolding answers
 holds (takes ws) = taken ws
 holds (leaves ws) = not (taken ws)
 holds (reaches ws ls) = same (reached ws) ls
-holds (file ws v s) = same (fileBytes ws v) s
-holds (loads s lent number v after) = let a = load s (length lent / 2) in answers a number v && same (lentBytes a lent) after
-holds (stores ws v lent number after) = let a = store ws v (length lent / 2) in answers a number (if eqb number 0 then v else 0) && same (lentBytes a lent) after
+holds (file ws v s) = same (file_bytes ws v) s
+holds (loads s lent number v after) = let a = load s (length lent / 2) in answers a number v && same (lent_bytes a lent) after
+holds (stores ws v lent number after) = let a = store ws v (length lent / 2) in answers a number (if eqb number 0 then v else 0) && same (lent_bytes a lent) after
 
 unfoldable pub all : List Case → Bool
 all [] = true
@@ -111,7 +112,7 @@ cases =
     -- 40: an empty last record behind a full one
     ∷ loads (f256 ++ (bytes "TW" ++ (0 ∷ 0 ∷ []))) (5 ∷ 5 ∷ []) 40 0 (0 ∷ 0 ∷ [])
     -- 20 after 40, before 41; 41
-    ∷ loads f9wrong (5 ∷ []) 40 0 (5 ∷ []) ∷ loads f9 (5 ∷ []) 20 0 (5 ∷ []) ∷ loads (fileBytes (0 ∷ []) 0) [] 20 0 [] ∷ loads (fileBytes (0 ∷ []) 0) (5 ∷ 5 ∷ 5 ∷ []) 41 0 (0 ∷ 0 ∷ 5 ∷ [])
+    ∷ loads f9wrong (5 ∷ []) 40 0 (5 ∷ []) ∷ loads f9 (5 ∷ []) 20 0 (5 ∷ []) ∷ loads (file_bytes (0 ∷ []) 0) [] 20 0 [] ∷ loads (file_bytes (0 ∷ []) 0) (5 ∷ 5 ∷ 5 ∷ []) 41 0 (0 ∷ 0 ∷ 5 ∷ [])
     -- writing
     ∷ stores (9 ∷ []) 1 (replicate 15 7) 0 (f9 ++ (7 ∷ [])) ∷ stores (9 ∷ []) 1 (replicate 17 7) 0 (f9 ++ (0 ∷ 0 ∷ 7 ∷ []))
     ∷ stores (9 ∷ []) 1 (replicate 13 7) 20 (replicate 12 0 ++ (7 ∷ [])) ∷ stores (9 ∷ []) 2 (replicate 13 7) 40 (replicate 12 0 ++ (7 ∷ []))
@@ -127,6 +128,6 @@ all_hold = tt
 unfoldable pub told : Numbers → List ℕ
 told n = n.number ∷ n.words ∷ n.verdict ∷ []
 
-numbers-told : T (same (told (numbersOf (done (9 ∷ 9 ∷ []) 1))) (0 ∷ 2 ∷ 1 ∷ []) && same (told (numbersOf (refused 41))) (41 ∷ 0 ∷ 0 ∷ []))
+numbers-told : T (same (told (numbers_of (done (9 ∷ 9 ∷ []) 1))) (0 ∷ 2 ∷ 1 ∷ []) && same (told (numbers_of (refused 41))) (41 ∷ 0 ∷ 0 ∷ []))
 unfolding told File.opened
 numbers-told = tt

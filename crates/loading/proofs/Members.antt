@@ -10,8 +10,9 @@ use lib.Dec.{eqb}
 use lib.ListN.{length, get_elem?}
 use borrow.Author.Tests.{eqb-true, eq-eqb}
 use Rattle.base.specs.Bools.{never}
-use Rattle.base.specs.Common.{if◌then◌else◌, member, given}
-use Rattle.machine.specs.Decode.{fetch, invalid, decode, decodeAt}
+use Rattle.std.specs.Prelude.{if◌then◌else◌}
+use Rattle.base.specs.Common.{member, given}
+use Rattle.machine.specs.Decode.{fetch, invalid, decode, decode_at}
 
 pub member-head : (m : ℕ) (ms : List ℕ) → member m (m ∷ ms) ≡ true
 member-head m ms = rw (eq-eqb m m refl)
@@ -69,9 +70,9 @@ inside-fetch T (suc i) h u = go T i u
 
 -- a location outside the table has no instruction
 pub outside-invalid : (T : List ℕ) (l : ℕ) → given (fetch T l) ≡ false → decode T l ≡ invalid
-unfolding decode decodeAt
+unfolding decode decode_at
 outside-invalid T l h = go (fetch T l) h
   where
-    go : (o : Option ℕ) → given o ≡ false → decodeAt l o (fetch T (suc l)) ≡ invalid
+    go : (o : Option ℕ) → given o ≡ false → decode_at l o (fetch T (suc l)) ≡ invalid
     go none e = refl
     go (some x) e = never (sym e)

@@ -12,12 +12,12 @@ use borrow.Author.Tests.{eqb-true, eq-eqb, leb-true, leb-false, le-leb, lt-leb}
 use Rattle.base.proofs.Laws.{same_refl}
 use Rattle.base.specs.Bools.{never, and, both, split}
 use Rattle.base.specs.Common as common
-use Rattle.base.specs.Common.{if◌then◌else◌}
+use Rattle.std.specs.Prelude.{if◌then◌else◌}
 use Rattle.machine.specs.Bytes.{words_of}
-use Rattle.machine.proofs.Bytes.{wordsOf-bytesOf, bytesOf-wordsOf, length-bytesOf}
-use Rattle.loading.specs.File.{hd, tw, records, fileWords, fileBytes, blocks, tableNamed, verdictNamed, allowed, isFile}
+use Rattle.machine.proofs.Bytes.{words_of-bytes_of, bytes_of-words_of, length-bytes_of}
+use Rattle.loading.specs.File.{hd, tw, records, file_words, file_bytes, blocks, table_named, verdict_named, allowed, is_file}
 use Rattle.loading.specs.Reading.{formed, headed}
-use Rattle.loading.proofs.Files.{blocks-nil, is-file, length-allowed}
+use Rattle.loading.proofs.Files.{blocks-nil, is_file, length-allowed}
 
 -- what records that are formed hold
 pub record Forms (k left : ℕ) (ws : List ℕ) : Type 0 where
@@ -124,8 +124,8 @@ heads ws h =
     let p = and (allowed (get_or ws 2 0) (get_or ws 3 0)) (formed 16 (get_or ws 2 0) (drop 4 ws)) q.1 in
     record { mark = eqb-true (get_or ws 0 0) hd r.0; two = eqb-true (get_or ws 1 0) 2 q.0; right = p.0; rest = p.1 }
 
-pub file-words : (ws : List ℕ) → Heads ws → (length (blocks 16 (drop 4 ws)) ≡ get_or ws 2 0) × (fileWords (blocks 16 (drop 4 ws)) (get_or ws 3 0) ≡ ws)
-unfolding fileWords
+pub file-words : (ws : List ℕ) → Heads ws → (length (blocks 16 (drop 4 ws)) ≡ get_or ws 2 0) × (file_words (blocks 16 (drop 4 ws)) (get_or ws 3 0) ≡ ws)
+unfolding file_words
 file-words ws h =
     let f = formed-forms 16 (get_or ws 2 0) (drop 4 ws) h.rest in (
       f.words,
@@ -135,49 +135,49 @@ file-words ws h =
     )
 
 -- bytes that are read so are a file
-pub headed-file : (s : List ℕ) → ((i : ℕ) → get_or s i 0 < 256) → length s % 2 ≡ 0 → headed (words_of s) ≡ true → isFile s ≡ true
-unfolding isFile tableNamed verdictNamed fileBytes
+pub headed-file : (s : List ℕ) → ((i : ℕ) → get_or s i 0 < 256) → length s % 2 ≡ 0 → headed (words_of s) ≡ true → is_file s ≡ true
+unfolding is_file table_named verdict_named file_bytes
 headed-file s b e h =
     let k = heads (words_of s) h in
     let f = file-words (words_of s) k in
-    let z = bytesOf-wordsOf s b e in
+    let z = bytes_of-words_of s b e in
     rw (f.0, k.right, f.1, z) (same_refl s)
 
-words-file : (ws : List ℕ) (v : ℕ) → words_of (fileBytes ws v) ≡ fileWords ws v
-unfolding fileBytes
-words-file ws v = wordsOf-bytesOf (fileWords ws v)
+words-file : (ws : List ℕ) (v : ℕ) → words_of (file_bytes ws v) ≡ file_words ws v
+unfolding file_bytes
+words-file ws v = words_of-bytes_of (file_words ws v)
 
-file-even : (ws : List ℕ) (v : ℕ) → length (fileBytes ws v) % 2 ≡ 0
-unfolding fileBytes
-file-even ws v = let l = length-bytesOf (fileWords ws v) in omega arith
+file-even : (ws : List ℕ) (v : ℕ) → length (file_bytes ws v) % 2 ≡ 0
+unfolding file_bytes
+file-even ws v = let l = length-bytes_of (file_words ws v) in omega arith
 
 allowed-low : (n v : ℕ) → allowed n v ≡ true → 1 ≤ n
 unfolding allowed
 allowed-low n v e = leb-true 1 n (and (leb 1 n) (leb n 4096) (and (leb 1 n && leb n 4096) (leb v 1) e).0).0
 
-own-words : (ws : List ℕ) (v : ℕ) → allowed (length ws) v ≡ true → headed (fileWords ws v) ≡ true
-unfolding headed fileWords
+own-words : (ws : List ℕ) (v : ℕ) → allowed (length ws) v ≡ true → headed (file_words ws v) ≡ true
+unfolding headed file_words
 own-words ws v a =
     let l = length-allowed (length ws) v a in
     rw a (records-formed 16 ws (allowed-low (length ws) v a) (omega arith))
 
 -- and a file is read so
-pub file-headed : (s : List ℕ) → isFile s ≡ true → (headed (words_of s) ≡ true) × (length s % 2 ≡ 0)
-unfolding isFile
+pub file-headed : (s : List ℕ) → is_file s ≡ true → (headed (words_of s) ≡ true) × (length s % 2 ≡ 0)
+unfolding is_file
 file-headed s e =
-    let ws = tableNamed s in
-    let v = verdictNamed s in
-    let a = (and (allowed (length ws) v) (common.same (fileBytes ws v) s) e).0 in
-    let q = is-file s e in
+    let ws = table_named s in
+    let v = verdict_named s in
+    let a = (and (allowed (length ws) v) (common.same (file_bytes ws v) s) e).0 in
+    let q = is_file s e in
     (rw (← q) (own ws v a), rw (← q) (even ws v))
   where
     one-at-least : (n v : ℕ) → allowed n v ≡ true → 1 ≤ n
     one-at-least n v d = allowed-low n v d
 
-    own : (ws : List ℕ) (v : ℕ) → allowed (length ws) v ≡ true → headed (words_of (fileBytes ws v)) ≡ true
+    own : (ws : List ℕ) (v : ℕ) → allowed (length ws) v ≡ true → headed (words_of (file_bytes ws v)) ≡ true
     own ws v a = rw (words-file ws v) (own-words ws v a)
 
-    even : (ws : List ℕ) (v : ℕ) → length (fileBytes ws v) % 2 ≡ 0
+    even : (ws : List ℕ) (v : ℕ) → length (file_bytes ws v) % 2 ≡ 0
     even ws v = file-even ws v
 
 -- Where word i of the table stands
@@ -238,8 +238,8 @@ formed-at (suc k) left ws e i u = go (leb left 256) refl e (formed-at k (left - 
         full_at k ws c.0 i (λ v. n c.1 (i - 256) (omega arith))
 
 -- in a file: six words stand before the first, and two more for each 256
-pub named-at : (s : List ℕ) → isFile s ≡ true → (i : ℕ) → i < length (tableNamed s) → get_or (tableNamed s) i 0 ≡ get_or (words_of s) (i + 2 * (i / 256) + 6) 0
-unfolding tableNamed
+pub named-at : (s : List ℕ) → is_file s ≡ true → (i : ℕ) → i < length (table_named s) → get_or (table_named s) i 0 ≡ get_or (words_of s) (i + 2 * (i / 256) + 6) 0
+unfolding table_named
 named-at s e i u =
     let h = heads (words_of s) (file-headed s e).0 in
     let f = file-words (words_of s) h in

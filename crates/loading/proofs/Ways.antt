@@ -10,10 +10,11 @@ use lib.Dec.{leb}
 use lib.ListN.{length}
 use borrow.Author.Tests.{leb-true}
 use Rattle.base.specs.Bools.{never}
-use Rattle.base.specs.Common.{if◌then◌else◌, member, given}
-use Rattle.machine.specs.Decode.{fetch, Instruction, invalid, jump, input, inputAny, write, inputChoice, callRule, return, setResult, choice, endChoice, setParameter, update, updateWith, choose, chooseWith, decode}
-use Rattle.loading.specs.Reach.{Chooses, by_token, by_result, behind, Reachable, at-start, at_target, at_label, at_default, at_call, after_call, at_next}
-use Rattle.loading.specs.Taking.{backFrom, labelled, chosen, onward, ways}
+use Rattle.std.specs.Prelude.{if◌then◌else◌}
+use Rattle.base.specs.Common.{member, given}
+use Rattle.machine.specs.Decode.{fetch, Instruction, invalid, jump, input, input_any, write, input_choice, call_rule, return, set_result, choice, end_choice, set_parameter, update, update_with, choose, choose_with, decode}
+use Rattle.loading.specs.Reach.{Chooses, by_token, by_result, behind, Reachable, at_start, at_target, at_label, at_default, at_call, after_call, at_next}
+use Rattle.loading.specs.Taking.{back_from, labelled, chosen, onward, ways}
 use Rattle.loading.proofs.Members.{member-head, member-tail, member-cons, member-left, member_right, member-either, inside-fetch}
 
 -- reachable by the ways of the test: what the proofs go by
@@ -25,7 +26,7 @@ pub data ByWays (T : List ℕ) : ℕ → Type 0 where
 record Label (T : List ℕ) (n from m : ℕ) : Type 0 where
   which : ℕ
   low : which < n
-  leads : backFrom T (from + 2 * which + 1) ≡ m
+  leads : back_from T (from + 2 * which + 1) ≡ m
 
 module _ (T : List ℕ) where
   -- Labels
@@ -33,8 +34,8 @@ module _ (T : List ℕ) where
   label_of : (n from m : ℕ) → member m (labelled T n from) ≡ true → Label T n from m
   unfolding labelled
   label_of zero from m h = never h
-  label_of (suc n) from m h = elim (member-cons m (backFrom T (from + 1)) (labelled T n (from + 2)) h) [
-    | inl e ↦ record { which = 0; low = omega arith; leads = ap (backFrom T) (first from) ∙ sym e }
+  label_of (suc n) from m h = elim (member-cons m (back_from T (from + 1)) (labelled T n (from + 2)) h) [
+    | inl e ↦ record { which = 0; low = omega arith; leads = ap (back_from T) (first from) ∙ sym e }
     | inr t ↦ later (label_of n (from + 2) m t)
   ]
     where
@@ -45,22 +46,22 @@ module _ (T : List ℕ) where
       next k i = omega arith
 
       later : Label T n (from + 2) m → Label T (suc n) from m
-      later r = record { which = r.which + 1; low = omega (arith, r.low); leads = ap (backFrom T) (next from r.which) ∙ r.leads }
+      later r = record { which = r.which + 1; low = omega (arith, r.low); leads = ap (back_from T) (next from r.which) ∙ r.leads }
 
-  label-in : (n from i : ℕ) → i < n → member (backFrom T (from + 2 * i + 1)) (labelled T n from) ≡ true
+  label-in : (n from i : ℕ) → i < n → member (back_from T (from + 2 * i + 1)) (labelled T n from) ≡ true
   unfolding labelled
   label-in zero from i h = absurd (omega arith)
   label-in (suc n) from zero h =
       let e : from + 2 * 0 + 1 ≡ from + 1 = omega arith in
-      rw e (member-head (backFrom T (from + 1)) (labelled T n (from + 2)))
+      rw e (member-head (back_from T (from + 1)) (labelled T n (from + 2)))
   label-in (suc n) from (suc i) h =
       let e : from + 2 * suc i + 1 ≡ from + 2 + 2 * i + 1 = omega arith in
-      rw e (member-tail (backFrom T (from + 2 + 2 * i + 1)) (backFrom T (from + 1)) (labelled T n (from + 2)) (label-in n (from + 2) i (omega arith)))
+      rw e (member-tail (back_from T (from + 2 + 2 * i + 1)) (back_from T (from + 1)) (labelled T n (from + 2)) (label-in n (from + 2) i (omega arith)))
 
   -- From ways to `Reachable`
 
-  label-reach : {l c n : ℕ} (i : ℕ) → Reachable T l → Chooses T l c n → c + 2 * n ≤ length T → i < n → Reachable T (backFrom T (c + 2 * i + 2))
-  unfolding backFrom
+  label-reach : {l c n : ℕ} (i : ℕ) → Reachable T l → Chooses T l c n → c + 2 * n ≤ length T → i < n → Reachable T (back_from T (c + 2 * i + 2))
+  unfolding back_from
   label-reach {c = c} i r k u h = go (fetch T (c + 2 * i + 2)) refl (inside-fetch T (c + 2 * i + 2) (omega arith) (omega arith))
     where
       go : (o : Option ℕ) → fetch T (c + 2 * i + 2) ≡ o → given (fetch T (c + 2 * i + 2)) ≡ true
@@ -80,7 +81,7 @@ module _ (T : List ℕ) where
 
       label : Label T n (c + 1) m → Reachable T m
       label a =
-          subst (λ (p : ℕ). Reachable T p) (ap (backFrom T) (place a.which) ∙ a.leads)
+          subst (λ (p : ℕ). Reachable T p) (ap (back_from T) (place a.which) ∙ a.leads)
           (label-reach a.which r k (leb-true (c + 2 * n) (length T) t) a.low)
 
       behind-table : c + 2 * n + 1 ≡ c + 1 + 2 * n
@@ -117,19 +118,19 @@ module _ (T : List ℕ) where
       go invalid e d = never d
       go (jump k) e d = one d (at_target r e)
       go (input t) e d = next (rw e) d
-      go inputAny e d = next (rw e) d
+      go input_any e d = next (rw e) d
       go (write x) e d = next (rw e) d
-      go (inputChoice c) e d = chosen-reach c r (λ n. by_token e) d
-      go (callRule k) e d = elim (member-cons m k ((l + 2) ∷ []) d) [ inl q ↦ rw q (at_call r e) | inr t ↦ one t (after_call r e) ]
+      go (input_choice c) e d = chosen-reach c r (λ n. by_token e) d
+      go (call_rule k) e d = elim (member-cons m k ((l + 2) ∷ []) d) [ inl q ↦ rw q (at_call r e) | inr t ↦ one t (after_call r e) ]
       go return e d = never d
-      go (setResult v) e d = next (rw e) d
+      go (set_result v) e d = next (rw e) d
       go (choice c) e d = chosen-reach c r (λ n. by_result e) d
-      go endChoice e d = never d
-      go (setParameter v) e d = next (rw e) d
+      go end_choice e d = never d
+      go (set_parameter v) e d = next (rw e) d
       go (update op) e d = next (rw e) d
-      go (updateWith op) e d = next (rw e) d
+      go (update_with op) e d = next (rw e) d
       go (choose op) e d = next (rw e) d
-      go (chooseWith op) e d = next (rw e) d
+      go (choose_with op) e d = next (rw e) d
 
   -- and back
 
@@ -139,16 +140,16 @@ module _ (T : List ℕ) where
 
   choice-ways : {l c n : ℕ} → Chooses T l c n → ways T l ≡ labelled T n (c + 1) ++ ((c + 1 + 2 * n) ∷ [])
   unfolding onward chosen
-  choice-ways {l = l} {c = c} (by_token d f t) = ways-by l (inputChoice c) d ∙ rw (f, chosen, t)
+  choice-ways {l = l} {c = c} (by_token d f t) = ways-by l (input_choice c) d ∙ rw (f, chosen, t)
   choice-ways {l = l} {c = c} (by_result d f t) = ways-by l (choice c) d ∙ rw (f, chosen, t)
 
   label-way : {l c n x : ℕ} (i : ℕ) → Chooses T l c n → i < n → fetch T (c + 2 * i + 2) ≡ some x → member (c + 2 * i + 2 - x) (ways T l) ≡ true
-  unfolding backFrom
+  unfolding back_from
   label-way {c = c} {n = n} {x = x} i k h f =
       let e : c + 1 + 2 * i + 1 ≡ c + 2 * i + 2 = omega arith in
-      let b : backFrom T (c + 1 + 2 * i + 1) ≡ c + 2 * i + 2 - x = ap (backFrom T) e ∙ rw (backFrom, f) in
+      let b : back_from T (c + 1 + 2 * i + 1) ≡ c + 2 * i + 2 - x = ap (back_from T) e ∙ rw (back_from, f) in
       let w = choice-ways k in
-      rw (w, ← b) (member-left (backFrom T (c + 1 + 2 * i + 1)) (labelled T n (c + 1)) ((c + 1 + 2 * n) ∷ []) (label-in n (c + 1) i h))
+      rw (w, ← b) (member-left (back_from T (c + 1 + 2 * i + 1)) (labelled T n (c + 1)) ((c + 1 + 2 * n) ∷ []) (label-in n (c + 1) i h))
 
   default-way : {l c n : ℕ} → Chooses T l c n → member (c + 2 * n + 1) (ways T l) ≡ true
   default-way {c = c} {n = n} k =
@@ -167,27 +168,27 @@ module _ (T : List ℕ) where
       go invalid e = let z : ◌≡◌ {A = ℕ} 0 1 = cc in absurd (omega arith)
       go (jump k) e = let z : ◌≡◌ {A = ℕ} 0 1 = cc in absurd (omega arith)
       go (input t) e = is e
-      go inputAny e = is e
+      go input_any e = is e
       go (write x) e = is e
-      go (inputChoice c) e = let z : ◌≡◌ {A = ℕ} 0 1 = cc in absurd (omega arith)
-      go (callRule k) e = let z : ◌≡◌ {A = ℕ} 0 1 = cc in absurd (omega arith)
+      go (input_choice c) e = let z : ◌≡◌ {A = ℕ} 0 1 = cc in absurd (omega arith)
+      go (call_rule k) e = let z : ◌≡◌ {A = ℕ} 0 1 = cc in absurd (omega arith)
       go return e = let z : ◌≡◌ {A = ℕ} 0 1 = cc in absurd (omega arith)
-      go (setResult v) e = is e
+      go (set_result v) e = is e
       go (choice c) e = let z : ◌≡◌ {A = ℕ} 0 1 = cc in absurd (omega arith)
-      go endChoice e = let z : ◌≡◌ {A = ℕ} 0 1 = cc in absurd (omega arith)
-      go (setParameter v) e = is e
+      go end_choice e = let z : ◌≡◌ {A = ℕ} 0 1 = cc in absurd (omega arith)
+      go (set_parameter v) e = is e
       go (update op) e = is e
-      go (updateWith op) e = is e
+      go (update_with op) e = is e
       go (choose op) e = is e
-      go (chooseWith op) e = is e
+      go (choose_with op) e = is e
 
   pub by-ways : {l : ℕ} → Reachable T l → ByWays T l
   unfolding onward
-  by-ways at-start = from_start
+  by-ways at_start = from_start
   by-ways (at_target {l = l} {m = m} r e) = by_way {m = m} (by-ways r) (rw (ways-by l (jump m) e) (member-head m []))
   by-ways (at_label {i = i} r k h f) = by_way (by-ways r) (label-way i k h f)
   by-ways (at_default r k) = by_way (by-ways r) (default-way k)
-  by-ways (at_call {l = l} {m = m} r e) = by_way {m = m} (by-ways r) (rw (ways-by l (callRule m) e) (member-head m ((l + 2) ∷ [])))
+  by-ways (at_call {l = l} {m = m} r e) = by_way {m = m} (by-ways r) (rw (ways-by l (call_rule m) e) (member-head m ((l + 2) ∷ [])))
   by-ways (after_call {l = l} {m = m} r e) =
-      by_way {m = l + 2} (by-ways r) (rw (ways-by l (callRule m) e) (member-tail (l + 2) m ((l + 2) ∷ []) (member-head (l + 2) [])))
+      by_way {m = l + 2} (by-ways r) (rw (ways-by l (call_rule m) e) (member-tail (l + 2) m ((l + 2) ∷ []) (member-head (l + 2) [])))
   by-ways (at_next {l = l} {m = m} r e) = by_way (by-ways r) (next_way l m e)

@@ -1,19 +1,19 @@
 -- The same as a test: the locations of the table that can be reached, found one after the other, and whether one of them gives 37.
-use Rattle.std.specs.Prelude.{Bool, true, ◌&&◌, not, List, [], ◌∷◌, ◌++◌, ℕ, zero, suc, ◌+◌, ◌*◌, ◌-◌, leb, length}
+use Rattle.std.specs.Prelude.{Bool, true, ◌&&◌, not, List, [], ◌∷◌, ◌++◌, ℕ, zero, suc, ◌+◌, ◌*◌, ◌-◌, leb, length, if◌then◌else◌}
 use Rattle.std.proofs.Math.Option.{Option, none, some}
-use Rattle.base.specs.Common.{if◌then◌else◌, member, given}
-use Rattle.machine.specs.Decode.{fetch, Instruction, invalid, jump, input, inputAny, write, inputChoice, callRule, return, setResult, choice, endChoice, setParameter, update, updateWith, choose, chooseWith, decode}
+use Rattle.base.specs.Common.{member, given}
+use Rattle.machine.specs.Decode.{fetch, Instruction, invalid, jump, input, input_any, write, input_choice, call_rule, return, set_result, choice, end_choice, set_parameter, update, update_with, choose, choose_with, decode}
 use Rattle.loading.specs.Reach.{gives37}
 
 module _ (T : List ℕ) where
   -- back from the distance at l; location 0 where there is none
-  unfoldable pub backFrom : ℕ → ℕ
-  backFrom l = elim (fetch T l) [ none ↦ 0 | some x ↦ l - x ]
+  unfoldable pub back_from : ℕ → ℕ
+  back_from l = elim (fetch T l) [ none ↦ 0 | some x ↦ l - x ]
 
   -- where each of n labels from l on leads
   unfoldable pub labelled : ℕ → ℕ → List ℕ
   labelled zero l = []
-  labelled (suc n) l = backFrom (l + 1) ∷ labelled n (l + 2)
+  labelled (suc n) l = back_from (l + 1) ∷ labelled n (l + 2)
 
   -- the ways out of a choice, by its labels and by its default
   unfoldable pub chosen : ℕ → Option ℕ → List ℕ
@@ -25,19 +25,19 @@ module _ (T : List ℕ) where
   onward l invalid = []
   onward l (jump m) = m ∷ []
   onward l (input t) = (l + 2) ∷ []
-  onward l inputAny = (l + 1) ∷ []
+  onward l input_any = (l + 1) ∷ []
   onward l (write e) = (l + 2) ∷ []
-  onward l (inputChoice c) = chosen c (fetch T c)
-  onward l (callRule m) = m ∷ (l + 2) ∷ []
+  onward l (input_choice c) = chosen c (fetch T c)
+  onward l (call_rule m) = m ∷ (l + 2) ∷ []
   onward l return = []
-  onward l (setResult v) = (l + 2) ∷ []
+  onward l (set_result v) = (l + 2) ∷ []
   onward l (choice c) = chosen c (fetch T c)
-  onward l endChoice = []
-  onward l (setParameter v) = (l + 2) ∷ []
+  onward l end_choice = []
+  onward l (set_parameter v) = (l + 2) ∷ []
   onward l (update op) = (l + 1) ∷ []
-  onward l (updateWith op) = (l + 1) ∷ []
+  onward l (update_with op) = (l + 1) ∷ []
   onward l (choose op) = (l + 1) ∷ []
-  onward l (chooseWith op) = (l + 1) ∷ []
+  onward l (choose_with op) = (l + 1) ∷ []
 
   unfoldable pub ways : ℕ → List ℕ
   ways l = onward l (decode T l)
@@ -69,15 +69,15 @@ module _ (T : List ℕ) where
   unfoldable pub sound : ℕ → Bool
   sound l = not (gives37 T l) && inside (ways l)
 
-  unfoldable pub allSound : List ℕ → Bool
-  allSound [] = true
-  allSound (l ∷ ls) = sound l && allSound ls
+  unfoldable pub all_sound : List ℕ → Bool
+  all_sound [] = true
+  all_sound (l ∷ ls) = sound l && all_sound ls
 
   -- "The loader takes a file exactly if .. no reachable location gives 37."
   unfoldable pub taken : Bool
-  taken = allSound reached
+  taken = all_sound reached
 
 -- all of this file computes where this is unfolded
 unfoldable pub opened : Unit {0}
-unfolding backFrom labelled chosen onward ways unseen next_from grown reached inside sound allSound taken
+unfolding back_from labelled chosen onward ways unseen next_from grown reached inside sound all_sound taken
 opened = tt

@@ -16,30 +16,30 @@ use Rattle.machine.specs.Step
 use Rattle.machine.specs.Call
 use Rattle.machine.specs.Form
 use Rattle.machine.specs.Walk.{Phase, going, waiting, stopped, Walk, fresh}
-use Rattle.machine.specs.Call.{Mode, whole, paused, Called, callWalk}
-use Rattle.machine.specs.Form.{phaseWords, eventsWords, Outcome, callBytes}
+use Rattle.machine.specs.Call.{Mode, whole, paused, Called, call_walk}
+use Rattle.machine.specs.Form.{phase_words, events_words, Outcome, call_bytes}
 
 -- a call, and what it gives
 pub data Case : Type 0 where
   -- table, tokens, mode, budget, room, walk; number, words of the events, steps, walk
   call : List ℕ → List ℕ → Mode → ℕ → ℕ → Walk → ℕ → List ℕ → ℕ → Walk → Case
   -- the same over bytes: table, tokens, mode, budget, walk, buffer; number, walk, buffer, events, steps
-  callOver : List ℕ → List ℕ → Mode → ℕ → List ℕ → List ℕ → ℕ → List ℕ → List ℕ → ℕ → ℕ → Case
+  call_over : List ℕ → List ℕ → Mode → ℕ → List ℕ → List ℕ → ℕ → List ℕ → List ℕ → ℕ → ℕ → Case
 
 -- all that a walk holds
 unfoldable pub state : Walk → List ℕ
-state w = phaseWords w.phase ++ (w.location ∷ w.result ∷ w.parameter ∷ w.io.read ∷ w.io.used ∷ w.io.allowance ∷ length w.io.events ∷ w.returns)
+state w = phase_words w.phase ++ (w.location ∷ w.result ∷ w.parameter ∷ w.io.read ∷ w.io.used ∷ w.io.allowance ∷ length w.io.events ∷ w.returns)
 
 unfoldable pub gives : Called → ℕ → List ℕ → ℕ → Walk → Bool
-gives c number events steps w = eqb c.number number && same (eventsWords c.events) events && eqb c.steps steps && same (state c.walk) (state w)
+gives c number events steps w = eqb c.number number && same (events_words c.events) events && eqb c.steps steps && same (state c.walk) (state w)
 
-unfoldable pub givesBytes : Outcome → ℕ → List ℕ → List ℕ → ℕ → ℕ → Bool
-givesBytes o number walk buffer events steps =
+unfoldable pub gives_bytes : Outcome → ℕ → List ℕ → List ℕ → ℕ → ℕ → Bool
+gives_bytes o number walk buffer events steps =
     eqb o.number number && same o.walk walk && same o.buffer buffer && eqb o.events events && eqb o.steps steps
 
 unfoldable pub holds : Case → Bool
-holds (call T ts m b room w number events steps v) = gives (callWalk T ts m b room w) number events steps v
-holds (callOver T ts m b w buffer number v left events steps) = givesBytes (callBytes T ts m b w buffer) number v left events steps
+holds (call T ts m b room w number events steps v) = gives (call_walk T ts m b room w) number events steps v
+holds (call_over T ts m b w buffer number v left events steps) = gives_bytes (call_bytes T ts m b w buffer) number v left events steps
 
 unfoldable pub all : List Case → Bool
 all [] = true
@@ -75,7 +75,7 @@ alone = whole []
 -- Each instruction
 unfoldable pub instructions : List Case
 instructions =
-    -- jumpForward and jumpBack count from the distance word
+    -- jump_forward and jump_back count from the distance word
     call (1 ∷ 2 ∷ 12 ∷ 9 ∷ []) [] alone 1 9 (fresh 0) 36 [] 1 (on 4)
     ∷ call (1 ∷ 2 ∷ 12 ∷ 9 ∷ []) [] alone 2 9 (fresh 0) 0 [] 2 (ended finished 4)
     ∷ call (9 ∷ 2 ∷ 2 ∷ []) [] alone 1 9 (on 2) 36 [] 1 (on 1)
@@ -83,13 +83,13 @@ instructions =
     ∷ call (3 ∷ 7 ∷ 9 ∷ []) (7 ∷ []) alone 1 9 (fresh 0) 36 [] 1 (walk going 3 [] 0 0 1 0)
     ∷ call (3 ∷ 7 ∷ 9 ∷ []) (8 ∷ []) alone 9 9 (fresh 0) 30 [] 1 (ended differs 1)
     ∷ call (3 ∷ 7 ∷ 9 ∷ []) [] alone 9 9 (fresh 0) 30 [] 1 (ended differs 1)
-    -- inputAny
+    -- input_any
     ∷ call (4 ∷ 9 ∷ []) (5 ∷ []) alone 1 9 (fresh 0) 36 [] 1 (walk going 2 [] 0 0 1 0)
     ∷ call (4 ∷ 9 ∷ []) [] alone 9 9 (fresh 0) 31 [] 1 (ended missing 1)
     -- emit, error
     ∷ call (5 ∷ 70 ∷ 9 ∷ []) [] alone 2 3 (fresh 0) 0 (1 ∷ 70 ∷ 0 ∷ []) 2 (ended finished 3)
     ∷ call (6 ∷ 10 ∷ 9 ∷ []) [] alone 2 3 (fresh 0) 0 (2 ∷ 10 ∷ 0 ∷ []) 2 (ended finished 3)
-    -- inputChoice: the label taken, with its token read; the default, with none; the default with no token, whatever result holds
+    -- input_choice: the label taken, with its token read; the default, with none; the default with no token, whatever result holds
     ∷ call (7 ∷ 3 ∷ 1 ∷ 8 ∷ 1 ∷ 1 ∷ 4 ∷ 3 ∷ 1 ∷ 2 ∷ 8 ∷ 9 ∷ []) (1 ∷ []) alone 1 9 (fresh 0) 36 [] 1 (walk going 3 [] 1 0 1 0)
     ∷ call (7 ∷ 3 ∷ 1 ∷ 8 ∷ 1 ∷ 1 ∷ 4 ∷ 3 ∷ 1 ∷ 2 ∷ 8 ∷ 9 ∷ []) (2 ∷ []) alone 1 9 (fresh 0) 36 [] 1 (holding 2 8)
     ∷ call (7 ∷ 3 ∷ 1 ∷ 8 ∷ 1 ∷ 1 ∷ 4 ∷ 3 ∷ 1 ∷ 2 ∷ 8 ∷ 9 ∷ []) [] alone 1 9 (holding 1 1) 36 [] 1 (holding 1 8)
@@ -98,14 +98,14 @@ instructions =
     ∷ call (8 ∷ 4 ∷ 12 ∷ 9 ∷ []) [] alone 1 9 (fresh 0) 36 [] 1 (within (3 ∷ []) 4)
     ∷ call (8 ∷ 4 ∷ 12 ∷ 9 ∷ []) [] alone 2 9 (fresh 0) 36 [] 2 (on 3)
     ∷ call (9 ∷ []) [] alone 9 9 (fresh 0) 0 [] 1 (ended finished 1)
-    -- setResult
+    -- set_result
     ∷ call (10 ∷ 77 ∷ 9 ∷ []) [] alone 1 9 (fresh 0) 36 [] 1 (holding 77 3)
     -- choice: the label taken, no token read; the second of two labels; the first of two equal ones; the default
     ∷ call (11 ∷ 3 ∷ 1 ∷ 8 ∷ 1 ∷ 5 ∷ 4 ∷ 12 ∷ []) (5 ∷ []) alone 1 9 (holding 5 1) 36 [] 1 (holding 5 3)
     ∷ call (11 ∷ 1 ∷ 2 ∷ 4 ∷ 1 ∷ 5 ∷ 6 ∷ 12 ∷ []) [] alone 1 9 (holding 5 1) 36 [] 1 (holding 5 1)
     ∷ call (11 ∷ 1 ∷ 2 ∷ 5 ∷ 1 ∷ 5 ∷ 6 ∷ 12 ∷ []) [] alone 1 9 (holding 5 1) 36 [] 1 (holding 5 4)
     ∷ call (11 ∷ 3 ∷ 1 ∷ 8 ∷ 1 ∷ 5 ∷ 4 ∷ 12 ∷ []) (5 ∷ []) alone 1 9 (holding 4 1) 36 [] 1 (holding 4 8)
-    -- endChoice, setParameter
+    -- end_choice, set_parameter
     ∷ call (12 ∷ 9 ∷ []) [] alone 9 9 (fresh 0) 32 [] 1 (ended unlabelled 1)
     ∷ call (13 ∷ 8 ∷ 9 ∷ []) [] alone 1 9 (fresh 0) 36 [] 1 (walk going 3 [] 0 8 0 0)
     -- the operations of each kind, the first and the last
@@ -131,7 +131,7 @@ papers =
 -- 37: nothing is done and nothing counted
 unfoldable pub outsides : List Case
 outsides =
-    -- a fetch: past the end, at 0, from the operand that jumpForward 0 goes to
+    -- a fetch: past the end, at 0, from the operand that jump_forward 0 goes to
     call (13 ∷ 1 ∷ []) [] alone 9 9 (fresh 0) 37 [] 1 (walk (stopped outside) 3 [] 0 1 0 0)
     ∷ call (9 ∷ []) [] alone 9 9 (on 0) 37 [] 0 (ended outside 0)
     ∷ call (1 ∷ 0 ∷ []) [] alone 9 9 (fresh 0) 37 [] 1 (ended outside 2)
@@ -275,54 +275,54 @@ form s = s ++ replicate (158 - length s) 0
 
 -- bytes that are no walk's: 21, walk and buffer unchanged
 abbrev refused : List ℕ → Case
-refused w = callOver (0 ∷ 9 ∷ []) [] alone 9 w (replicate 7 170) 21 w (replicate 7 170) 0 0
+refused w = call_over (0 ∷ 9 ∷ []) [] alone 9 w (replicate 7 170) 21 w (replicate 7 170) 0 0
 
 -- Bytes
 unfoldable pub forms : List Case
 forms =
     -- an event is written over the buffer's start; an odd last byte is not touched, nor words past the events
-    callOver (0 ∷ 5 ∷ 1 ∷ 2 ∷ 0 ∷ 9 ∷ []) [] alone 9 (form (0 ∷ 0 ∷ 0 ∷ 0 ∷ 0 ∷ 1 ∷ [])) (replicate 7 170)
+    call_over (0 ∷ 5 ∷ 1 ∷ 2 ∷ 0 ∷ 9 ∷ []) [] alone 9 (form (0 ∷ 0 ∷ 0 ∷ 0 ∷ 0 ∷ 1 ∷ [])) (replicate 7 170)
     0 (form (0 ∷ 2 ∷ 0 ∷ 0 ∷ 0 ∷ 3 ∷ [])) (0 ∷ 1 ∷ 1 ∷ 2 ∷ 0 ∷ 0 ∷ 170 ∷ []) 1 2
-    ∷ callOver (0 ∷ 5 ∷ 1 ∷ 2 ∷ 0 ∷ 9 ∷ []) [] alone 9 (form (0 ∷ 0 ∷ 0 ∷ 0 ∷ 0 ∷ 1 ∷ [])) (replicate 9 170)
+    ∷ call_over (0 ∷ 5 ∷ 1 ∷ 2 ∷ 0 ∷ 9 ∷ []) [] alone 9 (form (0 ∷ 0 ∷ 0 ∷ 0 ∷ 0 ∷ 1 ∷ [])) (replicate 9 170)
     0 (form (0 ∷ 2 ∷ 0 ∷ 0 ∷ 0 ∷ 3 ∷ [])) (0 ∷ 1 ∷ 1 ∷ 2 ∷ 0 ∷ 0 ∷ 170 ∷ 170 ∷ 170 ∷ []) 1 2
     -- an odd last byte makes no third word of room, no token, no operand
-    ∷ callOver (0 ∷ 5 ∷ 1 ∷ 2 ∷ 0 ∷ 9 ∷ []) [] alone 9 (form (0 ∷ 0 ∷ 0 ∷ 0 ∷ 0 ∷ 1 ∷ [])) (replicate 5 170)
+    ∷ call_over (0 ∷ 5 ∷ 1 ∷ 2 ∷ 0 ∷ 9 ∷ []) [] alone 9 (form (0 ∷ 0 ∷ 0 ∷ 0 ∷ 0 ∷ 1 ∷ [])) (replicate 5 170)
     35 (form (0 ∷ 0 ∷ 0 ∷ 0 ∷ 0 ∷ 1 ∷ [])) (replicate 5 170) 0 0
-    ∷ callOver (0 ∷ 4 ∷ []) (0 ∷ []) alone 9 (form (0 ∷ 0 ∷ 0 ∷ 0 ∷ 0 ∷ 1 ∷ [])) []
+    ∷ call_over (0 ∷ 4 ∷ []) (0 ∷ []) alone 9 (form (0 ∷ 0 ∷ 0 ∷ 0 ∷ 0 ∷ 1 ∷ [])) []
     31 (form (0 ∷ 2 ∷ 0 ∷ 31 ∷ 0 ∷ 1 ∷ [])) [] 0 1
-    ∷ callOver (0 ∷ 13 ∷ 0 ∷ []) [] alone 9 (form (0 ∷ 0 ∷ 0 ∷ 0 ∷ 0 ∷ 1 ∷ [])) []
+    ∷ call_over (0 ∷ 13 ∷ 0 ∷ []) [] alone 9 (form (0 ∷ 0 ∷ 0 ∷ 0 ∷ 0 ∷ 1 ∷ [])) []
     37 (form (0 ∷ 2 ∷ 0 ∷ 37 ∷ 0 ∷ 1 ∷ [])) [] 0 0
     -- words are high byte first; tokens read are four words
-    ∷ callOver (0 ∷ 3 ∷ 1 ∷ 2 ∷ []) (1 ∷ 2 ∷ 9 ∷ []) alone 1 (form (0 ∷ 0 ∷ 0 ∷ 0 ∷ 0 ∷ 1 ∷ [])) []
+    ∷ call_over (0 ∷ 3 ∷ 1 ∷ 2 ∷ []) (1 ∷ 2 ∷ 9 ∷ []) alone 1 (form (0 ∷ 0 ∷ 0 ∷ 0 ∷ 0 ∷ 1 ∷ [])) []
     36 (form (0 ∷ 0 ∷ 0 ∷ 0 ∷ 0 ∷ 3 ∷ 0 ∷ 0 ∷ 0 ∷ 0 ∷ 0 ∷ 0 ∷ 0 ∷ 0 ∷ 0 ∷ 0 ∷ 0 ∷ 0 ∷ 0 ∷ 0 ∷ 0 ∷ 1 ∷ [])) [] 0 1
     -- the allowance stands in word 6
-    ∷ callOver (0 ∷ 3 ∷ 1 ∷ 2 ∷ []) [] alone 1 (form (0 ∷ 0 ∷ 0 ∷ 0 ∷ 0 ∷ 1 ∷ 0 ∷ 0 ∷ 0 ∷ 0 ∷ 0 ∷ 0 ∷ 255 ∷ 255 ∷ [])) (replicate 6 170)
+    ∷ call_over (0 ∷ 3 ∷ 1 ∷ 2 ∷ []) [] alone 1 (form (0 ∷ 0 ∷ 0 ∷ 0 ∷ 0 ∷ 1 ∷ 0 ∷ 0 ∷ 0 ∷ 0 ∷ 0 ∷ 0 ∷ 255 ∷ 255 ∷ [])) (replicate 6 170)
     36 (form (0 ∷ 0 ∷ 0 ∷ 0 ∷ 0 ∷ 3 ∷ 0 ∷ 0 ∷ 0 ∷ 0 ∷ 0 ∷ 0 ∷ 255 ∷ 254 ∷ [])) (0 ∷ 4 ∷ 1 ∷ 2 ∷ 0 ∷ 0 ∷ []) 1 1
     -- only table words past 4,096 are outside: the 4,097th token is read, a table's 4,096th word is fetched, its 4,097th is not
-    ∷ callOver (0 ∷ 3 ∷ 1 ∷ 2 ∷ []) (replicate 8192 0 ++ (1 ∷ 2 ∷ [])) alone 1 (form (0 ∷ 0 ∷ 0 ∷ 0 ∷ 0 ∷ 1 ∷ (replicate 14 0 ++ (16 ∷ 0 ∷ [])))) []
+    ∷ call_over (0 ∷ 3 ∷ 1 ∷ 2 ∷ []) (replicate 8192 0 ++ (1 ∷ 2 ∷ [])) alone 1 (form (0 ∷ 0 ∷ 0 ∷ 0 ∷ 0 ∷ 1 ∷ (replicate 14 0 ++ (16 ∷ 0 ∷ [])))) []
     36 (form (0 ∷ 0 ∷ 0 ∷ 0 ∷ 0 ∷ 3 ∷ (replicate 14 0 ++ (16 ∷ 1 ∷ [])))) [] 0 1
-    ∷ callOver (replicate 8190 0 ++ (0 ∷ 9 ∷ [])) [] alone 1 (form (0 ∷ 0 ∷ 0 ∷ 0 ∷ 16 ∷ 0 ∷ [])) []
+    ∷ call_over (replicate 8190 0 ++ (0 ∷ 9 ∷ [])) [] alone 1 (form (0 ∷ 0 ∷ 0 ∷ 0 ∷ 16 ∷ 0 ∷ [])) []
     0 (form (0 ∷ 2 ∷ 0 ∷ 0 ∷ 16 ∷ 0 ∷ [])) [] 0 1
-    ∷ callOver (replicate 8192 0 ++ (0 ∷ 9 ∷ [])) [] alone 1 (form (0 ∷ 0 ∷ 0 ∷ 0 ∷ 16 ∷ 1 ∷ [])) []
+    ∷ call_over (replicate 8192 0 ++ (0 ∷ 9 ∷ [])) [] alone 1 (form (0 ∷ 0 ∷ 0 ∷ 0 ∷ 16 ∷ 1 ∷ [])) []
     37 (form (0 ∷ 2 ∷ 0 ∷ 37 ∷ 16 ∷ 1 ∷ [])) [] 0 0
     -- result and parameter
-    ∷ callOver (0 ∷ 10 ∷ 3 ∷ 4 ∷ 0 ∷ 13 ∷ 5 ∷ 6 ∷ []) [] alone 2 (form (0 ∷ 0 ∷ 0 ∷ 0 ∷ 0 ∷ 1 ∷ [])) []
+    ∷ call_over (0 ∷ 10 ∷ 3 ∷ 4 ∷ 0 ∷ 13 ∷ 5 ∷ 6 ∷ []) [] alone 2 (form (0 ∷ 0 ∷ 0 ∷ 0 ∷ 0 ∷ 1 ∷ [])) []
     36 (form (0 ∷ 0 ∷ 0 ∷ 0 ∷ 0 ∷ 5 ∷ 3 ∷ 4 ∷ 5 ∷ 6 ∷ [])) [] 0 2
     -- return locations, the oldest first
-    ∷ callOver (0 ∷ 8 ∷ 0 ∷ 3 ∷ 0 ∷ 8 ∷ 0 ∷ 5 ∷ 0 ∷ 9 ∷ []) [] alone 2 (form (0 ∷ 0 ∷ 0 ∷ 0 ∷ 0 ∷ 1 ∷ [])) []
+    ∷ call_over (0 ∷ 8 ∷ 0 ∷ 3 ∷ 0 ∷ 8 ∷ 0 ∷ 5 ∷ 0 ∷ 9 ∷ []) [] alone 2 (form (0 ∷ 0 ∷ 0 ∷ 0 ∷ 0 ∷ 1 ∷ [])) []
     36 (form (0 ∷ 0 ∷ 0 ∷ 0 ∷ 0 ∷ 5 ∷ 0 ∷ 0 ∷ 0 ∷ 0 ∷ 0 ∷ 2 ∷ (replicate 18 0 ++ (0 ∷ 3 ∷ 0 ∷ 5 ∷ [])))) [] 0 2
     -- a paused walk waits, and takes an answer, answers used being at their greatest
-    ∷ callOver (3 ∷ 0 ∷ 0 ∷ 9 ∷ []) [] (paused none) 9 (form (0 ∷ 0 ∷ 0 ∷ 0 ∷ 0 ∷ 1 ∷ [])) (replicate 6 170)
+    ∷ call_over (3 ∷ 0 ∷ 0 ∷ 9 ∷ []) [] (paused none) 9 (form (0 ∷ 0 ∷ 0 ∷ 0 ∷ 0 ∷ 1 ∷ [])) (replicate 6 170)
     22 (form (0 ∷ 1 ∷ 0 ∷ 0 ∷ 0 ∷ 2 ∷ [])) (0 ∷ 3 ∷ 3 ∷ 0 ∷ 0 ∷ 0 ∷ []) 1 1
-    ∷ callOver (3 ∷ 0 ∷ 0 ∷ 9 ∷ []) [] (paused (some 258)) 0 (form (0 ∷ 1 ∷ 0 ∷ 0 ∷ 0 ∷ 2 ∷ (replicate 16 0 ++ replicate 8 255))) []
+    ∷ call_over (3 ∷ 0 ∷ 0 ∷ 9 ∷ []) [] (paused (some 258)) 0 (form (0 ∷ 1 ∷ 0 ∷ 0 ∷ 0 ∷ 2 ∷ (replicate 16 0 ++ replicate 8 255))) []
     36 (form (0 ∷ 0 ∷ 0 ∷ 0 ∷ 0 ∷ 2 ∷ 1 ∷ 2 ∷ (replicate 14 0 ++ replicate 8 255))) [] 0 0
     -- a count goes on from one of its four words to the next
-    ∷ callOver [] [] (paused (some 258)) 0 (form (0 ∷ 1 ∷ 0 ∷ 0 ∷ 0 ∷ 2 ∷ (replicate 22 0 ++ (255 ∷ 255 ∷ [])))) []
+    ∷ call_over [] [] (paused (some 258)) 0 (form (0 ∷ 1 ∷ 0 ∷ 0 ∷ 0 ∷ 2 ∷ (replicate 22 0 ++ (255 ∷ 255 ∷ [])))) []
     36 (form (0 ∷ 0 ∷ 0 ∷ 0 ∷ 0 ∷ 2 ∷ 1 ∷ 2 ∷ (replicate 19 0 ++ (1 ∷ 0 ∷ 0 ∷ [])))) [] 0 0
-    ∷ callOver [] [] (paused (some 258)) 0 (form (0 ∷ 1 ∷ 0 ∷ 0 ∷ 0 ∷ 2 ∷ (replicate 20 0 ++ replicate 4 255))) []
+    ∷ call_over [] [] (paused (some 258)) 0 (form (0 ∷ 1 ∷ 0 ∷ 0 ∷ 0 ∷ 2 ∷ (replicate 20 0 ++ replicate 4 255))) []
     36 (form (0 ∷ 0 ∷ 0 ∷ 0 ∷ 0 ∷ 2 ∷ 1 ∷ 2 ∷ (replicate 17 0 ++ (1 ∷ [])))) [] 0 0
     -- 21 for a walk in the wrong phase leaves its bytes
-    ∷ callOver (3 ∷ 0 ∷ []) [] (paused (some 258)) 9 (form (0 ∷ 0 ∷ 0 ∷ 0 ∷ 0 ∷ 1 ∷ [])) (replicate 7 170)
+    ∷ call_over (3 ∷ 0 ∷ []) [] (paused (some 258)) 9 (form (0 ∷ 0 ∷ 0 ∷ 0 ∷ 0 ∷ 1 ∷ [])) (replicate 7 170)
     21 (form (0 ∷ 0 ∷ 0 ∷ 0 ∷ 0 ∷ 1 ∷ [])) (replicate 7 170) 0 0
     -- bytes too few and too many
     ∷ refused []
@@ -345,5 +345,5 @@ unfolding instructions papers outsides order repairs pauses forms
 cases = instructions ++ papers ++ outsides ++ order ++ repairs ++ pauses ++ forms
 
 pub all_hold : T (all cases)
-unfolding state gives givesBytes holds all cases Events.opened Bytes.opened Lengths.opened Decode.opened Walk.opened Step.opened Call.opened Form.opened
+unfolding state gives gives_bytes holds all cases Events.opened Bytes.opened Lengths.opened Decode.opened Walk.opened Step.opened Call.opened Form.opened
 all_hold = tt

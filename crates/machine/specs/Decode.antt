@@ -1,8 +1,7 @@
 -- What stands at a location of a table, with its targets computed: "`distance` is counted from the location of the word that holds it".
-use Rattle.std.specs.Prelude.{true, ◌&&◌, List, [], ◌∷◌, ℕ, zero, suc, ◌+◌, ◌-◌, eqb, leb, ltb}
+use Rattle.std.specs.Prelude.{true, ◌&&◌, List, [], ◌∷◌, ℕ, zero, suc, ◌+◌, ◌-◌, eqb, leb, ltb, if◌then◌else◌}
 use Rattle.std.proofs.Math.Option.{Option, none, some}
 use Rattle.std.proofs.Math.ListN.{get_elem?}
-use Rattle.base.specs.Common.{if◌then◌else◌}
 use Rattle.events.specs.Events.{Event, output, signal}
 use Rattle.machine.specs.Lengths.{length_of}
 
@@ -16,64 +15,64 @@ pub data Instruction : Type 0 where
   invalid : Instruction
   jump : ℕ → Instruction
   input : ℕ → Instruction
-  inputAny : Instruction
+  input_any : Instruction
   write : Event → Instruction
-  inputChoice : ℕ → Instruction
-  callRule : ℕ → Instruction
+  input_choice : ℕ → Instruction
+  call_rule : ℕ → Instruction
   return : Instruction
-  setResult : ℕ → Instruction
+  set_result : ℕ → Instruction
   choice : ℕ → Instruction
-  endChoice : Instruction
-  setParameter : ℕ → Instruction
-  update updateWith choose chooseWith : ℕ → Instruction
+  end_choice : Instruction
+  set_parameter : ℕ → Instruction
+  update update_with choose choose_with : ℕ → Instruction
 
 -- "updates from 256, updates with a parameter from 512, choice operations from 768, with a parameter from 1,024"
-unfoldable pub decodeOperation : ℕ → Instruction
-decodeOperation i =
+unfoldable pub decode_operation : ℕ → Instruction
+decode_operation i =
     if ltb i 512 then update i
-    else if ltb i 768 then updateWith i
+    else if ltb i 768 then update_with i
     else if ltb i 1024 then choose i
-    else chooseWith i
+    else choose_with i
 
 -- "1 jumpForward distance, 2 jumpBack distance, 3 input token, .., 5 emit token, 6 error signal, 7 inputChoice distance, 8 call
 -- location, .., 10 setResult value, 11 choice distance, .., 13 setParameter value": at l, with the operand x
-unfoldable pub decodeTwo : ℕ → ℕ → ℕ → Instruction
-decodeTwo l i x =
+unfoldable pub decode_two : ℕ → ℕ → ℕ → Instruction
+decode_two l i x =
     if eqb i 1 then jump (l + 1 + x)
     else if eqb i 2 then jump (l + 1 - x)
     else if eqb i 3 then input x
     else if eqb i 5 then write (output x)
     else if eqb i 6 then write (signal x)
-    else if eqb i 7 then inputChoice (l + 1 + x)
-    else if eqb i 8 then callRule x
-    else if eqb i 10 then setResult x
+    else if eqb i 7 then input_choice (l + 1 + x)
+    else if eqb i 8 then call_rule x
+    else if eqb i 10 then set_result x
     else if eqb i 11 then choice (l + 1 + x)
-    else setParameter x
+    else set_parameter x
 
 -- ".., 4 inputAny, .., 9 return, .., 12 endChoice, .."
 unfoldable pub decode_one : ℕ → Instruction
 decode_one i =
-    if eqb i 4 then inputAny
+    if eqb i 4 then input_any
     else if eqb i 9 then return
-    else if eqb i 12 then endChoice
-    else decodeOperation i
+    else if eqb i 12 then end_choice
+    else decode_operation i
 
 -- "fetch, operand .. outside the table, or an instruction 0, 14 to 255 or above 1,279": the instruction i at l, and the word after it
-unfoldable pub decodeWord : ℕ → ℕ → Option ℕ → Instruction
-decodeWord l i none = if eqb (length_of i) 1 then decode_one i else invalid
-decodeWord l i (some x) =
+unfoldable pub decode_word : ℕ → ℕ → Option ℕ → Instruction
+decode_word l i none = if eqb (length_of i) 1 then decode_one i else invalid
+decode_word l i (some x) =
     if eqb (length_of i) 1 then decode_one i
-    else if eqb (length_of i) 2 then decodeTwo l i x
+    else if eqb (length_of i) 2 then decode_two l i x
     else invalid
 
-unfoldable pub decodeAt : ℕ → Option ℕ → Option ℕ → Instruction
-decodeAt l none x = invalid
-decodeAt l (some i) x = decodeWord l i x
+unfoldable pub decode_at : ℕ → Option ℕ → Option ℕ → Instruction
+decode_at l none x = invalid
+decode_at l (some i) x = decode_word l i x
 
 unfoldable pub decode : List ℕ → ℕ → Instruction
-decode T l = decodeAt l (fetch T l) (fetch T (suc l))
+decode T l = decode_at l (fetch T l) (fetch T (suc l))
 
 -- all of this file computes where this is unfolded
 unfoldable pub opened : Unit {0}
-unfolding fetch decodeOperation decodeTwo decode_one decodeWord decodeAt decode
+unfolding fetch decode_operation decode_two decode_one decode_word decode_at decode
 opened = tt

@@ -1,10 +1,9 @@
 -- "The length of each instruction is fixed by its number: two words, or one for 4, 9, 12 and the operations."
-use Rattle.std.specs.Prelude.{true, ◌&&◌, ◌||◌, List, [], ◌∷◌, ℕ, ◌-◌, eqb, leb, get_or}
-use Rattle.base.specs.Common.{if◌then◌else◌}
+use Rattle.std.specs.Prelude.{true, ◌&&◌, ◌||◌, List, [], ◌∷◌, ℕ, ◌-◌, eqb, leb, get_or, if◌then◌else◌}
 
 -- the rule
-unfoldable pub lengthRule : ℕ → ℕ
-lengthRule i = if eqb i 4 || eqb i 9 || eqb i 12 then 1 else 2
+unfoldable pub length_rule : ℕ → ℕ
+length_rule i = if eqb i 4 || eqb i 9 || eqb i 12 then 1 else 2
 
 -- the lengths of instructions 1 to 13
 unfoldable pub lengths : List ℕ
@@ -16,5 +15,5 @@ length_of i = if leb 1 i && leb i 13 then get_or lengths (i - 1) 0 else if leb 2
 
 -- all of this file computes where this is unfolded
 unfoldable pub opened : Unit {0}
-unfolding lengthRule lengths length_of
+unfolding length_rule lengths length_of
 opened = tt

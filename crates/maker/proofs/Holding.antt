@@ -11,24 +11,25 @@ use borrow.Author.Tests.{eq-eqb, ne_eqb}
 use lib.Dec.{eqb, ltb}
 use lib.ListN.{length, get_or, set, length-set, take, drop}
 use lib.Seq.{get_or-set_same, get_or-set_other}
-use Rattle.base.specs.Common.{if◌then◌else◌, given}
+use Rattle.std.specs.Prelude.{if◌then◌else◌}
+use Rattle.base.specs.Common.{given}
 use Rattle.declarations.specs.Decls.{index_of}
-use Rattle.maker.specs.Marks.{behind, useOf}
-use Rattle.maker.specs.Pairs.{Pair, pair_at, pairsFrom, pairsHeld, lookPair, lowestIn, sectionRow, operand_row}
-use Rattle.maker.specs.Pairing.{setThree, Adds, UseRead}
+use Rattle.maker.specs.Marks.{behind, use_of}
+use Rattle.maker.specs.Pairs.{Pair, pair_at, pairs_from, pairs_held, look_pair, lowest_in, section_row, operand_row}
+use Rattle.maker.specs.Pairing.{set_three, Adds, UseRead}
 use Rattle.places.proofs.Heres.{head-here}
-use Rattle.scanner.specs.Next.{Next, asWord}
+use Rattle.scanner.specs.Next.{Next, as_word}
 use Rattle.scanner.specs.declared.WordAt.{WordAt}
 use Rattle.symbols.proofs.Indexing.{index-after, index-set}
 use Rattle.symbols.specs.Rows.{held, number_of}
 use Rattle.symbols.specs.Search.{Tells, there, nowhere}
 use Rattle.syntax.specs.Reading.{peek}
-use Rattle.words.specs.Words.{Word, wordsAt}
+use Rattle.words.specs.Words.{Word, words_at}
 
 -- Looking up
 
-abbrev pub isPair : ℕ → ℕ → List ℕ → ℕ → Bool
-isPair s o rows j = eqb (get_or rows (5633 + 3 * j) 0) s && eqb (get_or rows (5634 + 3 * j) 0) o
+abbrev pub is_pair : ℕ → ℕ → List ℕ → ℕ → Bool
+is_pair s o rows j = eqb (get_or rows (5633 + 3 * j) 0) s && eqb (get_or rows (5634 + 3 * j) 0) o
 
 pub pair-yes : {a b x y : ℕ} (s o : ℕ) → a ≡ x → a ≡ s → b ≡ y → eqb b o ≡ (eqb x s && eqb y o)
 pair-yes s o p q r = rw (← p, ← r, eq-eqb _ s q) refl
@@ -36,43 +37,43 @@ pair-yes s o p q r = rw (← p, ← r, eq-eqb _ s q) refl
 pub pair-no : {a x s : ℕ} (t : Bool) → a ≡ x → (a ≡ s → ⊥) → false ≡ (eqb x s && t)
 pair-no {s = s} t p q = rw (← p, ne_eqb _ s q) refl
 
-pub look-first : (rows : List ℕ) (s o n : ℕ) → n ≡ get_or rows 5632 0 → lookPair s o (pairsHeld rows) ≡ lookPair s o (pairsFrom rows 0 (n - 0))
-unfolding pairsHeld
-look-first rows s o n e = let d : get_or rows 5632 0 ≡ n - 0 = omega (arith, e) in ap (λ (k : ℕ). lookPair s o (pairsFrom rows 0 k)) d
+pub look-first : (rows : List ℕ) (s o n : ℕ) → n ≡ get_or rows 5632 0 → look_pair s o (pairs_held rows) ≡ look_pair s o (pairs_from rows 0 (n - 0))
+unfolding pairs_held
+look-first rows s o n e = let d : get_or rows 5632 0 ≡ n - 0 = omega (arith, e) in ap (λ (k : ℕ). look_pair s o (pairs_from rows 0 k)) d
 
 one-pair : (rows : List ℕ) (s o j n : ℕ) → j < n
-    → lookPair s o (pairsFrom rows j (n - j)) ≡ (if isPair s o rows j then some (get_or rows (5635 + 3 * j) 0) else lookPair s o (pairsFrom rows (suc j) (n - suc j)))
-unfolding pairsFrom pair_at lookPair
-one-pair rows s o j n h = let d : n - j ≡ suc (n - suc j) = omega (arith, h) in ap (λ (k : ℕ). lookPair s o (pairsFrom rows j k)) d
+    → look_pair s o (pairs_from rows j (n - j)) ≡ (if is_pair s o rows j then some (get_or rows (5635 + 3 * j) 0) else look_pair s o (pairs_from rows (suc j) (n - suc j)))
+unfolding pairs_from pair_at look_pair
+one-pair rows s o j n h = let d : n - j ≡ suc (n - suc j) = omega (arith, h) in ap (λ (k : ℕ). look_pair s o (pairs_from rows j k)) d
 
-pub look_hit : (rows : List ℕ) (s o : ℕ) {j n r : ℕ} {b : Bool} → j < n → b ≡ isPair s o rows j → b ≡ true → lookPair s o (pairsHeld rows) ≡ lookPair s o (pairsFrom rows j (n - j))
-    → r ≡ get_or rows (5635 + 3 * j) 0 → r < 65536 → Tells r (lookPair s o (pairsHeld rows))
+pub look_hit : (rows : List ℕ) (s o : ℕ) {j n r : ℕ} {b : Bool} → j < n → b ≡ is_pair s o rows j → b ≡ true → look_pair s o (pairs_held rows) ≡ look_pair s o (pairs_from rows j (n - j))
+    → r ≡ get_or rows (5635 + 3 * j) 0 → r < 65536 → Tells r (look_pair s o (pairs_held rows))
 look_hit rows s o {j} {n} {r} {b} h e t i q l =
-    rw (i ∙ (one-pair rows s o j n h ∙ ap (λ (x : Bool). if x then some (get_or rows (5635 + 3 * j) 0) else lookPair s o (pairsFrom rows (suc j) (n - suc j))) (sym e ∙ t)))
+    rw (i ∙ (one-pair rows s o j n h ∙ ap (λ (x : Bool). if x then some (get_or rows (5635 + 3 * j) 0) else look_pair s o (pairs_from rows (suc j) (n - suc j))) (sym e ∙ t)))
     (there q (omega (arith, q, l)))
 
-pub look-on : (rows : List ℕ) (s o : ℕ) {j n : ℕ} {b : Bool} → j < n → b ≡ isPair s o rows j → b ≡ false → lookPair s o (pairsHeld rows) ≡ lookPair s o (pairsFrom rows j (n - j))
-    → lookPair s o (pairsHeld rows) ≡ lookPair s o (pairsFrom rows (j + 1) (n - (j + 1)))
+pub look-on : (rows : List ℕ) (s o : ℕ) {j n : ℕ} {b : Bool} → j < n → b ≡ is_pair s o rows j → b ≡ false → look_pair s o (pairs_held rows) ≡ look_pair s o (pairs_from rows j (n - j))
+    → look_pair s o (pairs_held rows) ≡ look_pair s o (pairs_from rows (j + 1) (n - (j + 1)))
 look-on rows s o {j} {n} {b} h e t i =
     let d : suc j ≡ j + 1 = omega arith in
-    i ∙ (one-pair rows s o j n h ∙ (ap (λ (x : Bool). if x then some (get_or rows (5635 + 3 * j) 0) else lookPair s o (pairsFrom rows (suc j) (n - suc j))) (sym e ∙ t)
-    ∙ ap (λ (k : ℕ). lookPair s o (pairsFrom rows k (n - k))) d))
+    i ∙ (one-pair rows s o j n h ∙ (ap (λ (x : Bool). if x then some (get_or rows (5635 + 3 * j) 0) else look_pair s o (pairs_from rows (suc j) (n - suc j))) (sym e ∙ t)
+    ∙ ap (λ (k : ℕ). look_pair s o (pairs_from rows k (n - k))) d))
 
-pub look-end : (rows : List ℕ) (s o : ℕ) {j n : ℕ} → n ≤ j → lookPair s o (pairsHeld rows) ≡ lookPair s o (pairsFrom rows j (n - j)) → Tells 65536 (lookPair s o (pairsHeld rows))
-unfolding pairsFrom lookPair
-look-end rows s o {j} {n} h i = let d : n - j ≡ 0 = omega (arith, h) in rw (i ∙ ap (λ (k : ℕ). lookPair s o (pairsFrom rows j k)) d) (nowhere refl)
+pub look-end : (rows : List ℕ) (s o : ℕ) {j n : ℕ} → n ≤ j → look_pair s o (pairs_held rows) ≡ look_pair s o (pairs_from rows j (n - j)) → Tells 65536 (look_pair s o (pairs_held rows))
+unfolding pairs_from look_pair
+look-end rows s o {j} {n} h i = let d : n - j ≡ 0 = omega (arith, h) in rw (i ∙ ap (λ (k : ℕ). look_pair s o (pairs_from rows j k)) d) (nowhere refl)
 
-pub lowest-there : (rows : List ℕ) (s o : ℕ) {v : ℕ} → Tells v (lookPair s o (pairsHeld rows)) → v < 65536 → v ≡ lowestIn s o (pairsHeld rows)
-unfolding lowestIn
-lowest-there rows s o {v} t h = go (lookPair s o (pairsHeld rows)) t
+pub lowest-there : (rows : List ℕ) (s o : ℕ) {v : ℕ} → Tells v (look_pair s o (pairs_held rows)) → v < 65536 → v ≡ lowest_in s o (pairs_held rows)
+unfolding lowest_in
+lowest-there rows s o {v} t h = go (look_pair s o (pairs_held rows)) t
   where
     go : (x : Option ℕ) → Tells v x → v ≡ elim x as (λ _. ℕ) [ some w ↦ w | none ↦ 0 ]
     go (some w) (there e l) = e
     go none (nowhere e) = absurd (omega (arith, e, h))
 
-pub lowest-none : (rows : List ℕ) (s o : ℕ) {v : ℕ} → Tells v (lookPair s o (pairsHeld rows)) → 65536 ≤ v → 0 ≡ lowestIn s o (pairsHeld rows)
-unfolding lowestIn
-lowest-none rows s o {v} t h = go (lookPair s o (pairsHeld rows)) t
+pub lowest-none : (rows : List ℕ) (s o : ℕ) {v : ℕ} → Tells v (look_pair s o (pairs_held rows)) → 65536 ≤ v → 0 ≡ lowest_in s o (pairs_held rows)
+unfolding lowest_in
+lowest-none rows s o {v} t h = go (look_pair s o (pairs_held rows)) t
   where
     go : (x : Option ℕ) → Tells v x → ◌≡◌ {A = ℕ} 0 (elim x as (λ _. ℕ) [ some w ↦ w | none ↦ 0 ])
     go (some w) (there e l) = absurd (omega (arith, e, l, h))
@@ -88,26 +89,26 @@ tells-not (nowhere e) h = refl
 
 -- One pair more
 
-pairs-snoc : (rows : List ℕ) (j k : ℕ) → pairsFrom rows j (suc k) ≡ pairsFrom rows j k ++ (pair_at rows (j + k) ∷ [])
-unfolding pairsFrom
+pairs-snoc : (rows : List ℕ) (j k : ℕ) → pairs_from rows j (suc k) ≡ pairs_from rows j k ++ (pair_at rows (j + k) ∷ [])
+unfolding pairs_from
 pairs-snoc rows j zero = ap {B = List Pair} (λ (i : ℕ). pair_at rows i ∷ []) (sym (add-zero j))
 pairs-snoc rows j (suc k) =
     let d : suc j + k ≡ j + suc k = omega arith in
-    ap {B = List Pair} (λ (l : List Pair). pair_at rows j ∷ l) (pairs-snoc rows (suc j) k ∙ ap (λ (i : ℕ). pairsFrom rows (suc j) k ++ (pair_at rows i ∷ [])) d)
+    ap {B = List Pair} (λ (l : List Pair). pair_at rows j ∷ l) (pairs-snoc rows (suc j) k ∙ ap (λ (i : ℕ). pairs_from rows (suc j) k ++ (pair_at rows i ∷ [])) d)
 
 pair_same : (old new : List ℕ) (j : ℕ) → ((i : ℕ) → 5632 < i → i < 5636 + 3 * j → get_or new i 0 ≡ get_or old i 0) → pair_at new j ≡ pair_at old j
 unfolding pair_at
 pair_same old new j f = rw (f (5633 + 3 * j) (omega arith) (omega arith), f (5634 + 3 * j) (omega arith) (omega arith), f (5635 + 3 * j) (omega arith) (omega arith)) refl
 
-pairs-same : (old new : List ℕ) (j k : ℕ) → ((i : ℕ) → 5632 < i → i < 5633 + 3 * (j + k) → get_or new i 0 ≡ get_or old i 0) → pairsFrom new j k ≡ pairsFrom old j k
-unfolding pairsFrom
+pairs-same : (old new : List ℕ) (j k : ℕ) → ((i : ℕ) → 5632 < i → i < 5633 + 3 * (j + k) → get_or new i 0 ≡ get_or old i 0) → pairs_from new j k ≡ pairs_from old j k
+unfolding pairs_from
 pairs-same old new j zero f = refl
 pairs-same old new j (suc k) f =
     rw (pair_same old new j (λ i a b. f i a (omega (arith, b))), pairs-same old new (suc j) k (λ i a b. f i a (omega (arith, b)))) refl
 
 module _ (rows : List ℕ) (k s o l : ℕ) (room : 5636 + 3 * k ≤ length rows) where
   abbrev three : List ℕ
-  three = setThree rows (5633 + 3 * k) s o l
+  three = set_three rows (5633 + 3 * k) s o l
 
   abbrev after : List ℕ
   after = set three 5632 (k + 1)
@@ -152,20 +153,20 @@ module _ (rows : List ℕ) (k s o l : ℕ) (room : 5636 + 3 * k ≤ length rows)
   count-is = get_or-set_same three 5632 (k + 1) 0 (omega (arith, three-length, room))
 
   pub pair-added : Adds rows after k s o l
-  unfolding pairsHeld
+  unfolding pairs_held
   pair-added = record {
     index = index-after (index-after (index-after (index-set rows (5633 + 3 * k) s (omega arith)) (index-set (set rows (5633 + 3 * k) s) (5633 + 3 * k + 1) o (omega arith)))
         (index-set (set (set rows (5633 + 3 * k) s) (5633 + 3 * k + 1) o) (5633 + 3 * k + 2) l (omega arith))) (index-set three 5632 (k + 1) (omega arith));
     count = count-is;
     pairs = λ e.
         let d : get_or after 5632 0 ≡ suc k = count-is ∙ omega arith in
-        ap (pairsFrom after 0) d
+        ap (pairs_from after 0) d
         ∙ (pairs-snoc after 0 k
-        ∙ (ap (λ (v : List Pair). v ++ (pair_at after (0 + k) ∷ [])) (pairs-same rows after 0 k (λ i a b. before i a (omega (arith, b))) ∙ ap (pairsFrom rows 0) (sym e))
-        ∙ ap (λ (q : Pair). pairsFrom rows 0 (get_or rows 5632 0) ++ (q ∷ [])) (ap (pair_at after) (zero-add k) ∙ pair_is)));
+        ∙ (ap (λ (v : List Pair). v ++ (pair_at after (0 + k) ∷ [])) (pairs-same rows after 0 k (λ i a b. before i a (omega (arith, b))) ∙ ap (pairs_from rows 0) (sym e))
+        ∙ ap (λ (q : Pair). pairs_from rows 0 (get_or rows 5632 0) ++ (q ∷ [])) (ap (pair_at after) (zero-add k) ∙ pair_is)));
   }
 
-pub pair_put : {rows mid rows' : List ℕ} {k s o l : ℕ} → 5636 + 3 * k ≤ length rows → mid ≡ setThree rows (5633 + 3 * k) s o l → rows' ≡ set mid 5632 (k + 1) → Adds rows rows' k s o l
+pub pair_put : {rows mid rows' : List ℕ} {k s o l : ℕ} → 5636 + 3 * k ≤ length rows → mid ≡ set_three rows (5633 + 3 * k) s o l → rows' ≡ set mid 5632 (k + 1) → Adds rows rows' k s o l
 pair_put {rows} {mid} {rows'} {k} {s} {o} {l} room e f = rw (f, e) (pair-added rows k s o l room)
 
 -- A use
@@ -176,23 +177,23 @@ two-sides (suc zero) = inr (omega arith)
 two-sides (suc (suc n)) = inl (omega arith)
 
 -- the words behind the next one, where there is a third
-behind-here : (text : List ℕ) (at : ℕ) {w : WordAt} → Next text at w → (f : List Word → Word) → ((f []).kind ≡ 257 → ⊥) → (f (behind (wordsAt text at))).kind ≡ 257
-    → behind (wordsAt text at) ≡ wordsAt text w.next
+behind-here : (text : List ℕ) (at : ℕ) {w : WordAt} → Next text at w → (f : List Word → Word) → ((f []).kind ≡ 257 → ⊥) → (f (behind (words_at text at))).kind ≡ 257
+    → behind (words_at text at) ≡ words_at text w.next
 unfolding behind
 behind-here text at {w} n f z k = go (two-sides w.kind)
   where
-    go : (2 ≤ w.kind) ⊎ (w.kind < 2) → behind (wordsAt text at) ≡ wordsAt text w.next
+    go : (2 ≤ w.kind) ⊎ (w.kind < 2) → behind (words_at text at) ≡ words_at text w.next
     go (inl h) = ap behind (n.more h)
     go (inr h) = absurd (z (ap (λ (l : List Word). (f l).kind) (sym (ap behind (n.final h))) ∙ k))
 
 module _ (text : List ℕ) (at : ℕ) {s c o : WordAt} (ns : Next text at s) (nc : Next text s.next c) (nq : Next text c.next o) (w : Word)
-    (k : (useOf w (wordsAt text at)).operand.kind ≡ 257) where
-  pub section-is : (useOf w (wordsAt text at)).section ≡ asWord text s
-  unfolding useOf
+    (k : (use_of w (words_at text at)).operand.kind ≡ 257) where
+  pub section-is : (use_of w (words_at text at)).section ≡ as_word text s
+  unfolding use_of
   section-is = head-here text at s ns
 
-  pub operand-is : (useOf w (wordsAt text at)).operand ≡ asWord text o
-  unfolding useOf behind peek
+  pub operand-is : (use_of w (words_at text at)).operand ≡ as_word text o
+  unfolding use_of behind peek
   operand-is =
       let a = behind-here text at ns (λ l. peek (behind l)) (λ e. omega (arith, e)) k in
       let b = behind-here text s.next nc peek (λ e. omega (arith, e)) (ap (λ (l : List Word). (peek (behind l)).kind) (sym a) ∙ k) in
@@ -206,7 +207,7 @@ pub use-read : (text rows : List ℕ) (n at : ℕ) {s c o : WordAt} {i j : ℕ} 
     → i ≡ number_of (index_of 600 (take s.len (drop s.start text)) 0 (held text rows n)) → Tells i (index_of 600 (take s.len (drop s.start text)) 0 (held text rows n)) → (i < 65536 → i < n)
     → j ≡ number_of (index_of 7 (take o.len (drop o.start text)) 0 (held text rows n)) → Tells j (index_of 7 (take o.len (drop o.start text)) 0 (held text rows n)) → (j < 65536 → j < n)
     → (b ≡ true → (i < 65536) × (j < 65536)) → (i < 65536 → j < 65536 → b ≡ true) → UseRead text rows n at (record { there = b; section = i; operand = j })
-unfolding sectionRow operand_row
+unfolding section_row operand_row
 use-read text rows n at {s} {c} {o} {i} {j} {b} ns nc nq ei ti li ej tj lj f g = record {
   section = λ e. li (f e).0;
   operand = λ e. lj (f e).1;

@@ -11,27 +11,28 @@ use lib.Dec.{eqb, ltb}
 use lib.ListN.{length, get_or}
 use Rattle.base.proofs.Laws.{neither, above_zero}
 use Rattle.base.specs.Bools.{never, and}
-use Rattle.base.specs.Common.{if◌then◌else◌, given, same}
-use Rattle.declarations.specs.Decls.{Agrees, Decl, EntriesAt, entriesOf, declOf, index_of, mapped, operatorsFrom}
+use Rattle.std.specs.Prelude.{if◌then◌else◌}
+use Rattle.base.specs.Common.{given, same}
+use Rattle.declarations.specs.Decls.{Agrees, Decl, EntriesAt, entries_of, decl_of, index_of, mapped, operators_from}
 use Rattle.grammar.specs.Derived.{OperatorsIn}
 use Rattle.maker.proofs.Holding.{tells-given, tells-not}
 use Rattle.maker.proofs.Ranking.{levels-some}
 use Rattle.maker.specs.Marks.{behind}
-use Rattle.maker.specs.Pairs.{pairsHeld, lookPair, sectionRow, operand_row, Ordered, pair_of}
-use Rattle.maker.specs.Pairing.{Adds, PlaceOf, Finds, UseRead, passes, isThere, again, added, over, TakenBound, UseDone}
+use Rattle.maker.specs.Pairs.{pairs_held, look_pair, section_row, operand_row, Ordered, pair_of}
+use Rattle.maker.specs.Pairing.{Adds, PlaceOf, Finds, UseRead, passes, is_there, again, added, over, TakenBound, UseDone}
 use Rattle.maker.specs.Ranks.{LevelsDone}
 use Rattle.maker.specs.declared.Levels.{Levels}
 use Rattle.maker.specs.declared.Taken.{Taken}
 use Rattle.maker.specs.declared.Used.{Used}
 use Rattle.names.specs.Known.{KnownRule, Names}
-use Rattle.names.specs.Uses.{Use, levelsUsed}
-use Rattle.program.specs.Made.{Level, levelsOf, crowded}
+use Rattle.names.specs.Uses.{Use, levels_used}
+use Rattle.program.specs.Made.{Level, levels_of, crowded}
 use Rattle.symbols.proofs.Indexing.{index_same}
 use Rattle.symbols.proofs.Searches.{held_at, held-length}
-use Rattle.symbols.specs.Rows.{declAt, heldFrom, held}
+use Rattle.symbols.specs.Rows.{decl_at, held_from, held}
 use Rattle.symbols.specs.Search.{Tells}
 use Rattle.syntax.specs.Written.{Program}
-use Rattle.words.specs.Words.{wordsAt}
+use Rattle.words.specs.Words.{words_at}
 
 -- Declarations
 
@@ -42,10 +43,10 @@ pub record AtRow (c : ℕ) (w : List ℕ) (d : Decl) : Type 0 where
 
 record Row (c : ℕ) (w : List ℕ) (i k : ℕ) (ds : List Decl) : Type 0 where
   low : i ≤ k
-  row : AtRow c w (declOf ds (k - i))
+  row : AtRow c w (decl_of ds (k - i))
 
 index-row : (c : ℕ) (w : List ℕ) (i k : ℕ) (ds : List Decl) → index_of c w i ds ≡ some k → Row c w i k ds
-unfolding index_of declOf
+unfolding index_of decl_of
 index-row c w i k [] e = let z : ◌≡◌ {A = ℕ} 0 1 = cc in absurd (omega (arith, z))
 index-row c w i k (d ∷ ds) e = go (eqb d.class c && same w d.name.text) refl e (index-row c w (suc i) k ds)
   where
@@ -60,7 +61,7 @@ index-row c w i k (d ∷ ds) e = go (eqb d.class c && same w d.name.text) refl e
         let y : suc (k - suc i) ≡ k - i = omega (arith, r.low) in
         record { low = omega (arith, r.low); row = rw (sym y) r.row }
 
-pub row_at : (c : ℕ) (w : List ℕ) (k : ℕ) (ds : List Decl) → index_of c w 0 ds ≡ some k → AtRow c w (declOf ds k)
+pub row_at : (c : ℕ) (w : List ℕ) (k : ℕ) (ds : List Decl) → index_of c w 0 ds ≡ some k → AtRow c w (decl_of ds k)
 row_at c w k ds e = let d : k - 0 ≡ k = omega arith in rw d at (index-row c w 0 k ds e).row
 
 index-less : (c : ℕ) (w : List ℕ) (i k : ℕ) (ds : List Decl) → index_of c w i ds ≡ some k → k < i + length ds
@@ -75,34 +76,34 @@ index-less c w i k (d ∷ ds) e = go (eqb d.class c && same w d.name.text) e (in
 -- a row that is found is one of the first n
 pub row-less : (text rows : List ℕ) (n c : ℕ) (w : List ℕ) (k : ℕ) → index_of c w 0 (held text rows n) ≡ some k → k < n
 unfolding held
-row-less text rows n c w k e = omega (arith, index-less c w 0 k (heldFrom text rows 0 n) e, held-length text rows 0 n)
+row-less text rows n c w k e = omega (arith, index-less c w 0 k (held_from text rows 0 n) e, held-length text rows 0 n)
 
 -- The levels of a use
 
 pub levels-used : {p : Program} {names : Names} {ks : List KnownRule} {ds : List Decl} (u : Use) → Agrees p names ks ds → Ordered ds u
-    → levelsUsed names u ≡ levelsOf (operatorsFrom ds (entriesOf p (sectionRow ds u)))
-unfolding levelsUsed
+    → levels_used names u ≡ levels_of (operators_from ds (entries_of p (section_row ds u)))
+unfolding levels_used
 levels-used {p} {names} {ds = ds} u ag q =
-    ap (λ x. elim x as (λ _. List Level) [ some ls ↦ ls | none ↦ [] ]) (ag.operators u.section.text ∙ ap (mapped (λ i. levelsOf (operatorsFrom ds (entriesOf p i)))) q.section)
+    ap (λ x. elim x as (λ _. List Level) [ some ls ↦ ls | none ↦ [] ]) (ag.operators u.section.text ∙ ap (mapped (λ i. levels_of (operators_from ds (entries_of p i)))) q.section)
 
 record Counts (names : Names) (u : Use) (l : Levels) : Type 0 where
-  count : l.count ≡ length (levelsUsed names u)
-  crowd : l.crowded ≡ crowded (levelsUsed names u)
+  count : l.count ≡ length (levels_used names u)
+  crowd : l.crowded ≡ crowded (levels_used names u)
   some : 1 ≤ l.count
 
 counts_of : {text rows : List ℕ} {n i : ℕ} {u : Use} {r : Used} {l : Levels} {p : Program} {names : Names} {ks : List KnownRule} → Agrees p names ks (held text rows n)
-    → EntriesAt text (held text rows n) (entriesOf p) → Ordered (held text rows n) u → Finds (held text rows n) u r → r.section < n → PlaceOf text rows r.section i → LevelsDone text i l → Counts names u l
-unfolding declAt
+    → EntriesAt text (held text rows n) (entries_of p) → Ordered (held text rows n) u → Finds (held text rows n) u r → r.section < n → PlaceOf text rows r.section i → LevelsDone text i l → Counts names u l
+unfolding decl_at
 counts_of {text} {rows} {n} {i} {u} {r} {l} {p} {names} ag en q f low pl d =
     let ds = held text rows n in
-    let s = sectionRow ds u in
+    let s = section_row ds u in
     let e = levels-used u ag q in
-    let here : declOf ds s ≡ declAt text rows r.section = ap (declOf ds) (sym f.section) ∙ held_at text rows n r.section low in
-    let x : OperatorsIn (wordsAt text (get_or rows (8 * r.section + 1) 0)) (en.behind s) (entriesOf p s) =
-    rw (ap (λ (k : Decl). wordsAt text k.value) here) at (en.stand s (row_at 600 u.section.text s ds q.section).class) in
-    let y = pl.entries (entriesOf p s) (en.behind s) x in
-    let c = d.done ds (entriesOf p s) (en.behind s) y in
-    record { count = c.0 ∙ ap length (sym e); crowd = c.1 ∙ ap crowded (sym e); some = omega (arith, c.0, levels-some ds (entriesOf p s) y) }
+    let here : decl_of ds s ≡ decl_at text rows r.section = ap (decl_of ds) (sym f.section) ∙ held_at text rows n r.section low in
+    let x : OperatorsIn (words_at text (get_or rows (8 * r.section + 1) 0)) (en.behind s) (entries_of p s) =
+    rw (ap (λ (k : Decl). words_at text k.value) here) at (en.stand s (row_at 600 u.section.text s ds q.section).class) in
+    let y = pl.entries (entries_of p s) (en.behind s) x in
+    let c = d.done ds (entries_of p s) (en.behind s) y in
+    record { count = c.0 ∙ ap length (sym e); crowd = c.1 ∙ ap crowded (sym e); some = omega (arith, c.0, levels-some ds (entries_of p s) y) }
 
 -- A use that is taken
 
@@ -114,11 +115,11 @@ pub use-missing : {text rows : List ℕ} {n others own at : ℕ} {u : Used} → 
 use-missing f g r e = record { bound = keeps f g; takes = λ p names ks ag en w k q. never (sym e ∙ (r.finds w k q).there) }
 
 abbrev Looked : List ℕ → Used → ℕ → Type 0
-Looked rows u v = Tells v (lookPair u.section u.operand (pairsHeld rows))
+Looked rows u v = Tells v (look_pair u.section u.operand (pairs_held rows))
 
-is-there : {ds : List Decl} (rows : List ℕ) {u : Used} {x : Use} (b : Bool) → given (lookPair u.section u.operand (pairsHeld rows)) ≡ b → Finds ds x u → isThere ds (pairsHeld rows) x ≡ b
+is-there : {ds : List Decl} (rows : List ℕ) {u : Used} {x : Use} (b : Bool) → given (look_pair u.section u.operand (pairs_held rows)) ≡ b → Finds ds x u → is_there ds (pairs_held rows) x ≡ b
 is-there {ds} rows {u} {x} b e f =
-    ap (λ (i : ℕ). given (lookPair i (operand_row ds x) (pairsHeld rows))) (sym f.section) ∙ (ap (λ (i : ℕ). given (lookPair u.section i (pairsHeld rows))) (sym f.operand) ∙ e)
+    ap (λ (i : ℕ). given (look_pair i (operand_row ds x) (pairs_held rows))) (sym f.section) ∙ (ap (λ (i : ℕ). given (look_pair u.section i (pairs_held rows))) (sym f.operand) ∙ e)
 
 pub use-again : {text rows : List ℕ} {n others own at v : ℕ} {u : Used} → own ≤ 128 → get_or rows 5632 0 ≤ own → UseRead text rows n at u → Looked rows u v → v < 65536
     → UseDone text rows n others own at rows (record { fault = 0; own = own })
@@ -129,7 +130,7 @@ pub use-empty : {text rows : List ℕ} {n others own at i : ℕ} {u : Used} {l :
     → UseDone text rows n others own at rows (record { fault = 1; own = own })
 use-empty f g r e pl d z = record { bound = keeps f g; takes = λ p names ks ag en w k q. absurd (omega (arith, z, (counts_of ag en q (r.finds w k q) (r.section e) pl d).some)) }
 
-over-is : {names : Names} {u : Use} {l : Levels} (others own : ℕ) (b : Bool) → Counts names u l → b ≡ (ltb 128 (own + l.count) || ltb 512 (others + (own + l.count)) || l.crowded) → passes others own (levelsUsed names u) ≡ b
+over-is : {names : Names} {u : Use} {l : Levels} (others own : ℕ) (b : Bool) → Counts names u l → b ≡ (ltb 128 (own + l.count) || ltb 512 (others + (own + l.count)) || l.crowded) → passes others own (levels_used names u) ≡ b
 over-is {l = l} others own b c e = rw (sym c.count, sym c.crowd) (sym e)
 
 pub use-over : {text rows : List ℕ} {n others own at v i : ℕ} {u : Used} {l : Levels} {b : Bool} → own ≤ 128 → get_or rows 5632 0 ≤ own → UseRead text rows n at u → u.there ≡ true
@@ -157,5 +158,5 @@ use-added {text} {rows} {rows'} {n} {others} {own} {at} {k = k} {u} {l} g r e t 
 }
   where
     pair-as : {x : Use} → Finds (held text rows n) x u
-        → pairsHeld rows ++ (record { section = u.section; operand = u.operand; lowest = own } ∷ []) ≡ pairsHeld rows ++ (pair_of (held text rows n) own x ∷ [])
+        → pairs_held rows ++ (record { section = u.section; operand = u.operand; lowest = own } ∷ []) ≡ pairs_held rows ++ (pair_of (held text rows n) own x ∷ [])
     pair-as f = rw (f.section, f.operand) refl

@@ -13,31 +13,32 @@ use lib.ListN.{length, get_or, set, take, drop, length-take, length-drop}
 use lib.Seq.{get_or-set_same}
 use Rattle.base.proofs.Laws.{same-eq, same_refl}
 use Rattle.base.specs.Bools.{never}
-use Rattle.base.specs.Common.{if◌then◌else◌, given, same}
-use Rattle.declarations.specs.Decls.{Agrees, Decl, EntriesAt, entriesOf, declOf, index_of}
+use Rattle.std.specs.Prelude.{if◌then◌else◌}
+use Rattle.base.specs.Common.{given, same}
+use Rattle.declarations.specs.Decls.{Agrees, Decl, EntriesAt, entries_of, decl_of, index_of}
 use Rattle.grammar.specs.Derived.{RulesIn}
 use Rattle.maker.proofs.Marked.{marked}
 use Rattle.maker.proofs.Named.{rules-named}
 use Rattle.maker.proofs.Taking.{row_at, row-less}
-use Rattle.maker.specs.Marks.{useOf, marks}
-use Rattle.maker.specs.Pairs.{Pair, pairsFrom, pairsHeld, lookPair, lowestIn, sectionRow, operand_row, Ordered, AllOrdered, pair_of, pairsMean, PairsAre}
-use Rattle.maker.specs.Pairing.{NoSection, isThere, passes, Takes, again, added, over, UseDone, WordDone, Stands, AllNamed, PairsEnd, paired, passed, PairsFrom, PairsDone}
+use Rattle.maker.specs.Marks.{use_of, marks}
+use Rattle.maker.specs.Pairs.{Pair, pairs_from, pairs_held, look_pair, lowest_in, section_row, operand_row, Ordered, AllOrdered, pair_of, pairs_mean, PairsAre}
+use Rattle.maker.specs.Pairing.{NoSection, is_there, passes, Takes, again, added, over, UseDone, WordDone, Stands, AllNamed, PairsEnd, paired, passed, PairsFrom, PairsDone}
 use Rattle.maker.specs.declared.Paired.{Paired}
 use Rattle.maker.specs.declared.Taken.{Taken}
-use Rattle.names.specs.Declare.{knownRules}
+use Rattle.names.specs.Declare.{known_rules}
 use Rattle.names.specs.Known.{Checked, good, wrong, ◌>>=◌, KnownRule, Names}
-use Rattle.names.specs.Uses.{Use, rulesUses, same_pair, isUsed, firsts, pairsOf, levelsUsed, lowestOf, operandOf, madeFor}
-use Rattle.program.specs.Made.{levelRules}
+use Rattle.names.specs.Uses.{Use, rules_uses, same_pair, is_used, firsts, pairs_of, levels_used, lowest_of, operand_of, made_for}
+use Rattle.program.specs.Made.{level_rules}
 use Rattle.program.specs.Program as means
-use Rattle.scanner.specs.Next.{Next, asWord}
+use Rattle.scanner.specs.Next.{Next, as_word}
 use Rattle.scanner.specs.declared.WordAt.{WordAt}
 use Rattle.symbols.proofs.Indexing.{index_same, index-after, index-set, held-behind}
 use Rattle.symbols.proofs.Searches.{held_at}
 use Rattle.symbols.specs.Index.{IndexKept}
-use Rattle.symbols.specs.Rows.{held, declAt}
+use Rattle.symbols.specs.Rows.{held, decl_at}
 use Rattle.syntax.specs.Reading.{peek}
 use Rattle.syntax.specs.Written.{Program}
-use Rattle.words.specs.Words.{Word, wordsAt}
+use Rattle.words.specs.Words.{Word, words_at}
 
 -- A word
 
@@ -53,49 +54,49 @@ word-other {rows = rows} k f g = record { bound = record { index = index_same ro
 same_index : (c : ℕ) (w v : List ℕ) (i j : ℕ) (ds : List Decl) → index_of c w 0 ds ≡ some i → index_of c v 0 ds ≡ some j → same w v ≡ eqb j i
 same_index c w v i j ds e f = go (same w v) refl
   where
-    name_of : (u : List ℕ) (k : ℕ) → index_of c u 0 ds ≡ some k → u ≡ (declOf ds k).name.text
-    name_of u k q = same-eq u (declOf ds k).name.text (row_at c u k ds q).name
+    name_of : (u : List ℕ) (k : ℕ) → index_of c u 0 ds ≡ some k → u ≡ (decl_of ds k).name.text
+    name_of u k q = same-eq u (decl_of ds k).name.text (row_at c u k ds q).name
 
     go : (t : Bool) → same w v ≡ t → t ≡ eqb j i
     go true q =
         let d : ◌≡◌ {A = Option ℕ} (some j) (some i) = sym f ∙ (ap (λ (u : List ℕ). index_of c u 0 ds) (sym (same-eq w v q)) ∙ e) in
         let z : j ≡ i = cc in
         sym (eq-eqb j i z)
-    go false q = sym (ne_eqb j i (λ z. never (sym q ∙ (ap (same w) (name_of v j f ∙ (ap (λ (k : ℕ). (declOf ds k).name.text) z ∙ sym (name_of w i e))) ∙ same_refl w))))
+    go false q = sym (ne_eqb j i (λ z. never (sym q ∙ (ap (same w) (name_of v j f ∙ (ap (λ (k : ℕ). (decl_of ds k).name.text) z ∙ sym (name_of w i e))) ∙ same_refl w))))
 
-pub same-pair : {ds : List Decl} {u v : Use} → Ordered ds u → Ordered ds v → same_pair u v ≡ (eqb (sectionRow ds v) (sectionRow ds u) && eqb (operand_row ds v) (operand_row ds u))
+pub same-pair : {ds : List Decl} {u v : Use} → Ordered ds u → Ordered ds v → same_pair u v ≡ (eqb (section_row ds v) (section_row ds u) && eqb (operand_row ds v) (operand_row ds u))
 unfolding same_pair
 same-pair {ds} {u} {v} a b =
     rw (
-      same_index 600 u.section.text v.section.text (sectionRow ds u) (sectionRow ds v) ds a.section b.section,
+      same_index 600 u.section.text v.section.text (section_row ds u) (section_row ds v) ds a.section b.section,
       same_index 7 u.operand.text v.operand.text (operand_row ds u) (operand_row ds v) ds a.operand b.operand,
     ) refl
 
 -- The resolver's law: the place that the code finds is the definition's, for every use that is in order
 
 lowest-mean : (names : Names) (ds : List Decl) (u : Use) (own : ℕ) (us : List Use) → Ordered ds u → AllOrdered ds us
-    → lowestIn (sectionRow ds u) (operand_row ds u) (pairsMean names ds own us) ≡ lowestOf names u own us
-unfolding lowestIn lookPair pairsMean lowestOf AllOrdered
+    → lowest_in (section_row ds u) (operand_row ds u) (pairs_mean names ds own us) ≡ lowest_of names u own us
+unfolding lowest_in look_pair pairs_mean lowest_of AllOrdered
 lowest-mean names ds u own [] o a = refl
-lowest-mean names ds u own (v ∷ us) o a = rw (same-pair o a.0) (go (eqb (sectionRow ds v) (sectionRow ds u) && eqb (operand_row ds v) (operand_row ds u)) (lowest-mean names ds u (own + length (levelsUsed names v)) us o a.1))
+lowest-mean names ds u own (v ∷ us) o a = rw (same-pair o a.0) (go (eqb (section_row ds v) (section_row ds u) && eqb (operand_row ds v) (operand_row ds u)) (lowest-mean names ds u (own + length (levels_used names v)) us o a.1))
   where
     later : Option ℕ
-    later = lookPair (sectionRow ds u) (operand_row ds u) (pairsMean names ds (own + length (levelsUsed names v)) us)
+    later = look_pair (section_row ds u) (operand_row ds u) (pairs_mean names ds (own + length (levels_used names v)) us)
 
-    go : (t : Bool) → ◌≡◌ {A = ℕ} (elim later as (λ _. ℕ) [ some x ↦ x | none ↦ 0 ]) (lowestOf names u (own + length (levelsUsed names v)) us)
-        → ◌≡◌ {A = ℕ} (elim (if t then some own else later) as (λ _. ℕ) [ some x ↦ x | none ↦ 0 ]) (if t then own else lowestOf names u (own + length (levelsUsed names v)) us)
+    go : (t : Bool) → ◌≡◌ {A = ℕ} (elim later as (λ _. ℕ) [ some x ↦ x | none ↦ 0 ]) (lowest_of names u (own + length (levels_used names v)) us)
+        → ◌≡◌ {A = ℕ} (elim (if t then some own else later) as (λ _. ℕ) [ some x ↦ x | none ↦ 0 ]) (if t then own else lowest_of names u (own + length (levels_used names v)) us)
     go true e = refl
     go false e = e
 
 pub lowest-is : {text rows : List ℕ} {n : ℕ} {p : Program} {names : Names} (u : Use) → PairsAre text rows n p names → Ordered (held text rows n) u
-    → lowestIn (sectionRow (held text rows n) u) (operand_row (held text rows n) u) (pairsHeld rows) ≡ lowestOf names u (length p.rules) (pairsOf p.rules)
+    → lowest_in (section_row (held text rows n) u) (operand_row (held text rows n) u) (pairs_held rows) ≡ lowest_of names u (length p.rules) (pairs_of p.rules)
 lowest-is {text} {rows} {n} {p} {names} u h o =
-    ap (lowestIn (sectionRow (held text rows n) u) (operand_row (held text rows n) u)) h.pairs ∙ lowest-mean names (held text rows n) u (length p.rules) (pairsOf p.rules) o h.ordered
+    ap (lowest_in (section_row (held text rows n) u) (operand_row (held text rows n) u)) h.pairs ∙ lowest-mean names (held text rows n) u (length p.rules) (pairs_of p.rules) o h.ordered
 
 -- The pairs of the uses seen
 
-look-append : (s o : ℕ) (qs : List Pair) (q : Pair) → given (lookPair s o (qs ++ (q ∷ []))) ≡ (given (lookPair s o qs) || (eqb q.section s && eqb q.operand o))
-unfolding lookPair
+look-append : (s o : ℕ) (qs : List Pair) (q : Pair) → given (look_pair s o (qs ++ (q ∷ []))) ≡ (given (look_pair s o qs) || (eqb q.section s && eqb q.operand o))
+unfolding look_pair
 look-append s o [] q = go (eqb q.section s && eqb q.operand o)
   where
     go : (t : Bool) → given (if t then some q.lowest else none) ≡ t
@@ -103,80 +104,80 @@ look-append s o [] q = go (eqb q.section s && eqb q.operand o)
     go false = refl
 look-append s o (x ∷ qs) q = go (eqb x.section s && eqb x.operand o) (look-append s o qs q)
   where
-    go : (t : Bool) → given (lookPair s o (qs ++ (q ∷ []))) ≡ (given (lookPair s o qs) || (eqb q.section s && eqb q.operand o))
-        → given (if t then some x.lowest else lookPair s o (qs ++ (q ∷ []))) ≡ (given (if t then some x.lowest else lookPair s o qs) || (eqb q.section s && eqb q.operand o))
+    go : (t : Bool) → given (look_pair s o (qs ++ (q ∷ []))) ≡ (given (look_pair s o qs) || (eqb q.section s && eqb q.operand o))
+        → given (if t then some x.lowest else look_pair s o (qs ++ (q ∷ []))) ≡ (given (if t then some x.lowest else look_pair s o qs) || (eqb q.section s && eqb q.operand o))
     go true e = refl
     go false e = e
 
 pub stands-more : {ds : List Decl} (qs : List Pair) (seen : List Use) (own : ℕ) (v : Use) → Stands ds qs seen → Ordered ds v → Stands ds (qs ++ (pair_of ds own v ∷ [])) (v ∷ seen)
-unfolding isUsed
+unfolding is_used
 stands-more {ds} qs seen own v f b u a =
-    look-append (sectionRow ds u) (operand_row ds u) qs (pair_of ds own v)
-    ∙ (ap (λ (t : Bool). t || (eqb (sectionRow ds v) (sectionRow ds u) && eqb (operand_row ds v) (operand_row ds u))) (f u a)
-    ∙ (ap (λ (t : Bool). isUsed u seen || t) (sym (same-pair a b)) ∙ or_comm (isUsed u seen) (same_pair u v)))
+    look-append (section_row ds u) (operand_row ds u) qs (pair_of ds own v)
+    ∙ (ap (λ (t : Bool). t || (eqb (section_row ds v) (section_row ds u) && eqb (operand_row ds v) (operand_row ds u))) (f u a)
+    ∙ (ap (λ (t : Bool). is_used u seen || t) (sym (same-pair a b)) ∙ or_comm (is_used u seen) (same_pair u v)))
 
 pub stands-as : {ds : List Decl} {qs rs : List Pair} (seen : List Use) → rs ≡ qs → Stands ds qs seen → Stands ds rs seen
-stands-as {ds} seen e f u a = ap (λ (l : List Pair). isThere ds l u) e ∙ f u a
+stands-as {ds} seen e f u a = ap (λ (l : List Pair). is_there ds l u) e ∙ f u a
 
 -- The words from a place on
 
 module _ {text : List ℕ} {i : ℕ} {w : WordAt} (h : Next text i w) where
-  pub marks-end : w.kind < 2 → marks (wordsAt text i) ≡ []
+  pub marks-end : w.kind < 2 → marks (words_at text i) ≡ []
   unfolding marks
   marks-end k = ap marks (h.final k) ∙ go
     where
-      go : (if eqb w.kind 266 then [] else if eqb w.kind 94 then useOf (asWord text w) [] ∷ [] else []) ≡ []
+      go : (if eqb w.kind 266 then [] else if eqb w.kind 94 then use_of (as_word text w) [] ∷ [] else []) ≡ []
       go = rw (ne_eqb w.kind 266 (λ e. omega (arith, e, k)), ne_eqb w.kind 94 (λ e. omega (arith, e, k))) refl
 
-  pub marks-last : w.kind ≡ 266 → marks (wordsAt text i) ≡ []
+  pub marks-last : w.kind ≡ 266 → marks (words_at text i) ≡ []
   unfolding marks
   marks-last k = ap marks (h.more (omega (arith, k))) ∙ go
     where
-      go : (if eqb w.kind 266 then [] else if eqb w.kind 94 then useOf (asWord text w) (wordsAt text w.next) ∷ marks (wordsAt text w.next) else marks (wordsAt text w.next)) ≡ []
+      go : (if eqb w.kind 266 then [] else if eqb w.kind 94 then use_of (as_word text w) (words_at text w.next) ∷ marks (words_at text w.next) else marks (words_at text w.next)) ≡ []
       go = rw (eq-eqb w.kind 266 k) refl
 
-  pub marks-use : w.kind ≡ 94 → marks (wordsAt text i) ≡ useOf (asWord text w) (wordsAt text w.next) ∷ marks (wordsAt text w.next)
+  pub marks-use : w.kind ≡ 94 → marks (words_at text i) ≡ use_of (as_word text w) (words_at text w.next) ∷ marks (words_at text w.next)
   unfolding marks
   marks-use k = ap marks (h.more (omega (arith, k))) ∙ go
     where
-      go : (if eqb w.kind 266 then [] else if eqb w.kind 94 then useOf (asWord text w) (wordsAt text w.next) ∷ marks (wordsAt text w.next) else marks (wordsAt text w.next))
-          ≡ useOf (asWord text w) (wordsAt text w.next) ∷ marks (wordsAt text w.next)
+      go : (if eqb w.kind 266 then [] else if eqb w.kind 94 then use_of (as_word text w) (words_at text w.next) ∷ marks (words_at text w.next) else marks (words_at text w.next))
+          ≡ use_of (as_word text w) (words_at text w.next) ∷ marks (words_at text w.next)
       go = rw (ne_eqb w.kind 266 (λ e. omega (arith, e, k)), eq-eqb w.kind 94 k) refl
 
-  pub marks-other : 2 ≤ w.kind → (w.kind ≡ 266 → ⊥) → (w.kind ≡ 94 → ⊥) → marks (wordsAt text i) ≡ marks (wordsAt text w.next)
+  pub marks-other : 2 ≤ w.kind → (w.kind ≡ 266 → ⊥) → (w.kind ≡ 94 → ⊥) → marks (words_at text i) ≡ marks (words_at text w.next)
   unfolding marks
   marks-other l k m = ap marks (h.more l) ∙ go
     where
-      go : (if eqb w.kind 266 then [] else if eqb w.kind 94 then useOf (asWord text w) (wordsAt text w.next) ∷ marks (wordsAt text w.next) else marks (wordsAt text w.next))
-          ≡ marks (wordsAt text w.next)
+      go : (if eqb w.kind 266 then [] else if eqb w.kind 94 then use_of (as_word text w) (words_at text w.next) ∷ marks (words_at text w.next) else marks (words_at text w.next))
+          ≡ marks (words_at text w.next)
       go = rw (ne_eqb w.kind 266 k, ne_eqb w.kind 94 m) refl
 
 -- what is promised of the uses us from here on
 record Ends (text rows : List ℕ) (n others own : ℕ) (rows' : List ℕ) (r : Paired) (us : List Use) : Type 0 where
-  ends : (p : Program) (names : Names) (ks : List KnownRule) → Agrees p names ks (held text rows n) → EntriesAt text (held text rows n) (entriesOf p)
-      → (seen : List Use) → Stands (held text rows n) (pairsHeld rows) seen → AllNamed us → AllOrdered (held text rows n) us
-      → PairsEnd (held text rows n) (pairsHeld rows) rows' names own (firsts seen us) r (madeFor names ks others own (firsts seen us))
+  ends : (p : Program) (names : Names) (ks : List KnownRule) → Agrees p names ks (held text rows n) → EntriesAt text (held text rows n) (entries_of p)
+      → (seen : List Use) → Stands (held text rows n) (pairs_held rows) seen → AllNamed us → AllOrdered (held text rows n) us
+      → PairsEnd (held text rows n) (pairs_held rows) rows' names own (firsts seen us) r (made_for names ks others own (firsts seen us))
 
-from-marks : {text rows rows' : List ℕ} {n others own i : ℕ} {r : Paired} {us : List Use} → marks (wordsAt text i) ≡ us → IndexKept rows rows' → Ends text rows n others own rows' r us → PairsFrom text rows n others own i rows' r
+from-marks : {text rows rows' : List ℕ} {n others own i : ℕ} {r : Paired} {us : List Use} → marks (words_at text i) ≡ us → IndexKept rows rows' → Ends text rows n others own rows' r us → PairsFrom text rows n others own i rows' r
 from-marks e k f = record { index = k; done = λ p names ks ag en seen st. rw e (f.ends p names ks ag en seen st) }
 
 ends-none : {text rows : List ℕ} {n others own : ℕ} {r : Paired} → r.fault ≡ 0 → Ends text rows n others own rows r []
-unfolding firsts madeFor pairsMean
-ends-none {rows = rows} z = record { ends = λ p names ks ag en seen st nm or. paired z (sym (append-nil (pairsHeld rows))) }
+unfolding firsts made_for pairs_mean
+ends-none {rows = rows} z = record { ends = λ p names ks ag en seen st nm or. paired z (sym (append-nil (pairs_held rows))) }
 
 -- a pair that was added stands before those found later
 end_more : {ds : List Decl} {qs : List Pair} {rows' : List ℕ} {names : Names} {own : ℕ} {fs : List Use} {r : Paired} (u : Use) (f : List means.Rule → List means.Rule) (m : Checked (List means.Rule))
-    → PairsEnd ds (qs ++ (pair_of ds own u ∷ [])) rows' names (own + length (levelsUsed names u)) fs r m → PairsEnd ds qs rows' names own (u ∷ fs) r (◌>>=◌ m (λ ms. good (f ms)))
-unfolding pairsMean
-end_more {ds} {qs} {names = names} {own} {fs} u f (good ms) (paired z e) = paired z (e ∙ append_assoc qs (pair_of ds own u ∷ []) (pairsMean names ds (own + length (levelsUsed names u)) fs))
+    → PairsEnd ds (qs ++ (pair_of ds own u ∷ [])) rows' names (own + length (levels_used names u)) fs r m → PairsEnd ds qs rows' names own (u ∷ fs) r (◌>>=◌ m (λ ms. good (f ms)))
+unfolding pairs_mean
+end_more {ds} {qs} {names = names} {own} {fs} u f (good ms) (paired z e) = paired z (e ∙ append_assoc qs (pair_of ds own u ∷ []) (pairs_mean names ds (own + length (levels_used names u)) fs))
 end_more u f (wrong _ w) (passed z a l) = passed z a l
 
 end-as : {ds ds₁ : List Decl} {qs qs₁ : List Pair} {rows' : List ℕ} {names : Names} {own own₁ : ℕ} (ks : List KnownRule) {fs : List Use} {r : Paired} (others : ℕ) → ds₁ ≡ ds → qs₁ ≡ qs → own₁ ≡ own
-    → PairsEnd ds₁ qs₁ rows' names own₁ fs r (madeFor names ks others own₁ fs) → PairsEnd ds qs rows' names own fs r (madeFor names ks others own fs)
+    → PairsEnd ds₁ qs₁ rows' names own₁ fs r (made_for names ks others own₁ fs) → PairsEnd ds qs rows' names own fs r (made_for names ks others own fs)
 end-as ks others a b c e = rw (← a, ← b, ← c) e
 
 -- the same pairs stand there
-ends_same : {text rows rows₁ rows' : List ℕ} {n others own own₁ : ℕ} {r : Paired} {us : List Use} → n ≤ 512 → IndexKept rows rows₁ → own₁ ≡ own → pairsHeld rows₁ ≡ pairsHeld rows
+ends_same : {text rows rows₁ rows' : List ℕ} {n others own own₁ : ℕ} {r : Paired} {us : List Use} → n ≤ 512 → IndexKept rows rows₁ → own₁ ≡ own → pairs_held rows₁ ≡ pairs_held rows
     → Ends text rows₁ n others own₁ rows' r us → Ends text rows n others own rows' r us
 ends_same {text} {rows} {rows₁} {n = n} {others} few kept o q f = record {
   ends = λ p names ks ag en seen st nm or.
@@ -186,61 +187,61 @@ ends_same {text} {rows} {rows₁} {n = n} {others} few kept o q f = record {
 
 -- one stands behind them
 ends-added : {text rows rows₁ rows' : List ℕ} {n others own₁ : ℕ} {r : Paired} (own : ℕ) (u : Use) {us : List Use} → n ≤ 512 → IndexKept rows rows₁ → Ends text rows₁ n others own₁ rows' r us
-    → (p : Program) (names : Names) (ks : List KnownRule) → Agrees p names ks (held text rows n) → EntriesAt text (held text rows n) (entriesOf p)
-    → (seen : List Use) → Stands (held text rows n) (pairsHeld rows) seen → AllNamed us → AllOrdered (held text rows n) us → Ordered (held text rows n) u
-    → own₁ ≡ own + length (levelsUsed names u) → pairsHeld rows₁ ≡ pairsHeld rows ++ (pair_of (held text rows n) own u ∷ [])
-    → PairsEnd (held text rows n) (pairsHeld rows ++ (pair_of (held text rows n) own u ∷ [])) rows' names (own + length (levelsUsed names u)) (firsts (u ∷ seen) us) r
-    (madeFor names ks others (own + length (levelsUsed names u)) (firsts (u ∷ seen) us))
+    → (p : Program) (names : Names) (ks : List KnownRule) → Agrees p names ks (held text rows n) → EntriesAt text (held text rows n) (entries_of p)
+    → (seen : List Use) → Stands (held text rows n) (pairs_held rows) seen → AllNamed us → AllOrdered (held text rows n) us → Ordered (held text rows n) u
+    → own₁ ≡ own + length (levels_used names u) → pairs_held rows₁ ≡ pairs_held rows ++ (pair_of (held text rows n) own u ∷ [])
+    → PairsEnd (held text rows n) (pairs_held rows ++ (pair_of (held text rows n) own u ∷ [])) rows' names (own + length (levels_used names u)) (firsts (u ∷ seen) us) r
+    (made_for names ks others (own + length (levels_used names u)) (firsts (u ∷ seen) us))
 ends-added {text} {rows} {rows₁} {n = n} {others} own u few kept f p names ks ag en seen st nm or ou o q =
     let same : held text rows₁ n ≡ held text rows n = held-behind text n kept few in
     end-as ks others same q o
-    (f.ends p names ks (rw same ag) (rw same en) (u ∷ seen) (rw same (stands-as (u ∷ seen) q (stands-more (pairsHeld rows) seen own u st ou))) nm (rw same or))
+    (f.ends p names ks (rw same ag) (rw same en) (u ∷ seen) (rw same (stands-as (u ∷ seen) q (stands-more (pairs_held rows) seen own u st ou))) nm (rw same or))
 
 -- the first use of a pair, and a later one
-pub first-again : (u : Use) (seen us : List Use) → isUsed u seen ≡ true → firsts seen (u ∷ us) ≡ firsts seen us
+pub first-again : (u : Use) (seen us : List Use) → is_used u seen ≡ true → firsts seen (u ∷ us) ≡ firsts seen us
 unfolding firsts
 first-again u seen us e = rw e refl
 
-pub first-new : (u : Use) (seen us : List Use) → isUsed u seen ≡ false → firsts seen (u ∷ us) ≡ u ∷ firsts (u ∷ seen) us
+pub first-new : (u : Use) (seen us : List Use) → is_used u seen ≡ false → firsts seen (u ∷ us) ≡ u ∷ firsts (u ∷ seen) us
 unfolding firsts
 first-new u seen us e = rw e refl
 
-made-fits : (names : Names) (ks : List KnownRule) (others own : ℕ) (u : Use) (us : List Use) → passes others own (levelsUsed names u) ≡ false
-    → madeFor names ks others own (u ∷ us) ≡ ◌>>=◌ (madeFor names ks others (own + length (levelsUsed names u)) us) (λ ms. good (levelRules own (operandOf ks u) (levelsUsed names u) ++ ms))
-unfolding madeFor
+made-fits : (names : Names) (ks : List KnownRule) (others own : ℕ) (u : Use) (us : List Use) → passes others own (levels_used names u) ≡ false
+    → made_for names ks others own (u ∷ us) ≡ ◌>>=◌ (made_for names ks others (own + length (levels_used names u)) us) (λ ms. good (level_rules own (operand_of ks u) (levels_used names u) ++ ms))
+unfolding made_for
 made-fits names ks others own u us e = rw e refl
 
-made-over : (names : Names) (ks : List KnownRule) (others own : ℕ) (u : Use) (us : List Use) → passes others own (levelsUsed names u) ≡ true → madeFor names ks others own (u ∷ us) ≡ wrong 9 u.sign
-unfolding madeFor
+made-over : (names : Names) (ks : List KnownRule) (others own : ℕ) (u : Use) (us : List Use) → passes others own (levels_used names u) ≡ true → made_for names ks others own (u ∷ us) ≡ wrong 9 u.sign
+unfolding made_for
 made-over names ks others own u us e = rw e refl
 
-pub sign_of : (w : Word) (ws : List Word) → (useOf w ws).sign ≡ w
-unfolding useOf
+pub sign_of : (w : Word) (ws : List Word) → (use_of w ws).sign ≡ w
+unfolding use_of
 sign_of w ws = refl
 
 pub word-long : (text : List ℕ) (start len : ℕ) → start + len ≤ length text → len ≡ length (take len (drop start text))
 word-long text start len h = simp (length-take, length-drop) (omega arith)
 
 abbrev own-use : List ℕ → WordAt → Use
-own-use text w = useOf (asWord text w) (wordsAt text w.next)
+own-use text w = use_of (as_word text w) (words_at text w.next)
 
 ends-use : {text rows rows₁ rows' : List ℕ} {n others own : ℕ} {t : Taken} {r : Paired} {us : List Use} (w : WordAt) → n ≤ 512 → UseDone text rows n others own w.next rows₁ t → t.fault ≡ 0
     → Ends text rows₁ n others t.own rows' r us → Ends text rows n others own rows' r (own-use text w ∷ us)
 unfolding AllNamed AllOrdered
 ends-use {text} {rows} {rows₁} {rows'} {n} {others} {own} {t} {r} {us} w few d z f = record { ends = go }
   where
-    go : (p : Program) (names : Names) (ks : List KnownRule) → Agrees p names ks (held text rows n) → EntriesAt text (held text rows n) (entriesOf p)
-        → (seen : List Use) → Stands (held text rows n) (pairsHeld rows) seen → AllNamed (own-use text w ∷ us) → AllOrdered (held text rows n) (own-use text w ∷ us)
-        → PairsEnd (held text rows n) (pairsHeld rows) rows' names own (firsts seen (own-use text w ∷ us)) r (madeFor names ks others own (firsts seen (own-use text w ∷ us)))
-    go p names ks ag en seen st nm or = by (d.takes p names ks ag en (asWord text w) nm.0 or.0)
+    go : (p : Program) (names : Names) (ks : List KnownRule) → Agrees p names ks (held text rows n) → EntriesAt text (held text rows n) (entries_of p)
+        → (seen : List Use) → Stands (held text rows n) (pairs_held rows) seen → AllNamed (own-use text w ∷ us) → AllOrdered (held text rows n) (own-use text w ∷ us)
+        → PairsEnd (held text rows n) (pairs_held rows) rows' names own (firsts seen (own-use text w ∷ us)) r (made_for names ks others own (firsts seen (own-use text w ∷ us)))
+    go p names ks ag en seen st nm or = by (d.takes p names ks ag en (as_word text w) nm.0 or.0)
       where
         by : Takes (held text rows n) others own rows rows₁ names (own-use text w) t
-            → PairsEnd (held text rows n) (pairsHeld rows) rows' names own (firsts seen (own-use text w ∷ us)) r (madeFor names ks others own (firsts seen (own-use text w ∷ us)))
+            → PairsEnd (held text rows n) (pairs_held rows) rows' names own (firsts seen (own-use text w ∷ us)) r (made_for names ks others own (firsts seen (own-use text w ∷ us)))
         by (again e o q h) = rw (first-again (own-use text w) seen us (sym (st (own-use text w) or.0) ∙ h)) ((ends_same few d.bound.index o q f).ends p names ks ag en seen st nm.1 or.1)
         by (added e o q h l) =
             rw (first-new (own-use text w) seen us (sym (st (own-use text w) or.0) ∙ h), made-fits names ks others own (own-use text w) (firsts (own-use text w ∷ seen) us) l)
-            (end_more (own-use text w) (λ ms. levelRules own (operandOf ks (own-use text w)) (levelsUsed names (own-use text w)) ++ ms)
-            (madeFor names ks others (own + length (levelsUsed names (own-use text w))) (firsts (own-use text w ∷ seen) us))
+            (end_more (own-use text w) (λ ms. level_rules own (operand_of ks (own-use text w)) (levels_used names (own-use text w)) ++ ms)
+            (made_for names ks others (own + length (levels_used names (own-use text w))) (firsts (own-use text w ∷ seen) us))
             (ends-added own (own-use text w) few d.bound.index f p names ks ag en seen st nm.1 or.1 or.0 o q))
         by (over e h l) = absurd (omega (arith, e, z))
 
@@ -249,21 +250,21 @@ ends-over : {text rows rows₁ : List ℕ} {n others own : ℕ} {t : Taken} {us 
 unfolding AllNamed AllOrdered
 ends-over {text} {rows} {rows₁} {n} {others} {own} {t} {us} w d z inside = record { ends = go }
   where
-    go : (p : Program) (names : Names) (ks : List KnownRule) → Agrees p names ks (held text rows n) → EntriesAt text (held text rows n) (entriesOf p)
-        → (seen : List Use) → Stands (held text rows n) (pairsHeld rows) seen → AllNamed (own-use text w ∷ us) → AllOrdered (held text rows n) (own-use text w ∷ us)
-        → PairsEnd (held text rows n) (pairsHeld rows) rows₁ names own (firsts seen (own-use text w ∷ us)) (record { fault = t.fault; at = w.start; len = w.len })
-        (madeFor names ks others own (firsts seen (own-use text w ∷ us)))
-    go p names ks ag en seen st nm or = by (d.takes p names ks ag en (asWord text w) nm.0 or.0)
+    go : (p : Program) (names : Names) (ks : List KnownRule) → Agrees p names ks (held text rows n) → EntriesAt text (held text rows n) (entries_of p)
+        → (seen : List Use) → Stands (held text rows n) (pairs_held rows) seen → AllNamed (own-use text w ∷ us) → AllOrdered (held text rows n) (own-use text w ∷ us)
+        → PairsEnd (held text rows n) (pairs_held rows) rows₁ names own (firsts seen (own-use text w ∷ us)) (record { fault = t.fault; at = w.start; len = w.len })
+        (made_for names ks others own (firsts seen (own-use text w ∷ us)))
+    go p names ks ag en seen st nm or = by (d.takes p names ks ag en (as_word text w) nm.0 or.0)
       where
         by : Takes (held text rows n) others own rows rows₁ names (own-use text w) t
-            → PairsEnd (held text rows n) (pairsHeld rows) rows₁ names own (firsts seen (own-use text w ∷ us)) (record { fault = t.fault; at = w.start; len = w.len })
-            (madeFor names ks others own (firsts seen (own-use text w ∷ us)))
+            → PairsEnd (held text rows n) (pairs_held rows) rows₁ names own (firsts seen (own-use text w ∷ us)) (record { fault = t.fault; at = w.start; len = w.len })
+            (made_for names ks others own (firsts seen (own-use text w ∷ us)))
         by (again e o q h) = absurd (z e)
         by (added e o q h l) = absurd (z e)
         by (over e h l) =
             rw (first-new (own-use text w) seen us (sym (st (own-use text w) or.0) ∙ h), made-over names ks others own (own-use text w) (firsts (own-use text w ∷ seen) us) l)
-            (passed e (ap (λ (v : Word). v.start) (sym (sign_of (asWord text w) (wordsAt text w.next))))
-            (word-long text w.start w.len inside ∙ ap (λ (v : Word). length v.text) (sym (sign_of (asWord text w) (wordsAt text w.next)))))
+            (passed e (ap (λ (v : Word). v.start) (sym (sign_of (as_word text w) (words_at text w.next))))
+            (word-long text w.start w.len inside ∙ ap (λ (v : Word). length v.text) (sym (sign_of (as_word text w) (words_at text w.next)))))
 
 -- The loop
 
@@ -280,7 +281,7 @@ pairs-over {text} {rows} {rows₁} {n} {others} {own} {i} {w} {t} few inside h d
     go : (b : Bool) → eqb w.kind 94 ≡ b → PairsFrom text rows n others own i rows₁ (record { fault = t.fault; at = w.start; len = w.len })
     go true e =
         let k = eqb-true w.kind 94 e in
-        from-marks (marks-use h k) d.bound.index (ends-over {us = marks (wordsAt text w.next)} w (d.caret k) z (h.inside inside))
+        from-marks (marks-use h k) d.bound.index (ends-over {us = marks (words_at text w.next)} w (d.caret k) z (h.inside inside))
     go false e = absurd (z (d.other (λ k. never (sym e ∙ eq-eqb w.kind 94 k))).0)
 
 pub pairs-step : {text rows rows₁ rows' : List ℕ} {n others own i : ℕ} {w : WordAt} {t : Taken} {r : Paired} → n ≤ 512 → Next text i w → 2 ≤ w.kind → (w.kind ≡ 266 → ⊥)
@@ -290,7 +291,7 @@ pairs-step {text} {rows} {rows₁} {rows'} {n} {others} {own} {i} {w} {t} {r} fe
     go : (b : Bool) → eqb w.kind 94 ≡ b → PairsFrom text rows n others own i rows' r
     go true e =
         let q = eqb-true w.kind 94 e in
-        from-marks (marks-use h q) (index-after d.bound.index f.index) (ends-use {us = marks (wordsAt text w.next)} w few (d.caret q) z (record { ends = f.done }))
+        from-marks (marks-use h q) (index-after d.bound.index f.index) (ends-use {us = marks (words_at text w.next)} w few (d.caret q) z (record { ends = f.done }))
     go false e =
         let q : (w.kind ≡ 94 → ⊥) = λ y. never (sym e ∙ eq-eqb w.kind 94 y) in
         let o = d.other q in
@@ -298,13 +299,13 @@ pairs-step {text} {rows} {rows₁} {rows'} {n} {others} {own} {i} {w} {t} {r} fe
 
 -- The whole
 
-none-stands : (ds : List Decl) (u : Use) → isThere ds [] u ≡ isUsed u []
-unfolding isUsed lookPair
+none-stands : (ds : List Decl) (u : Use) → is_there ds [] u ≡ is_used u []
+unfolding is_used look_pair
 none-stands ds u = refl
 
-none-held : (rows : List ℕ) → length rows ≡ 6017 → pairsHeld (set rows 5632 0) ≡ []
-unfolding pairsHeld pairsFrom
-none-held rows size = ap (pairsFrom (set rows 5632 0) 0) (get_or-set_same rows 5632 0 0 (omega (arith, size)))
+none-held : (rows : List ℕ) → length rows ≡ 6017 → pairs_held (set rows 5632 0) ≡ []
+unfolding pairs_held pairs_from
+none-held rows size = ap (pairs_from (set rows 5632 0) 0) (get_or-set_same rows 5632 0 0 (omega (arith, size)))
 
 pub pairs-none : {text rows : List ℕ} {n first at : ℕ} {r : Paired} → (n < first) ⊎ (128 < n - first) → PairsDone text rows n first at (set rows 5632 0) r
 pairs-none {rows = rows} h = record {
@@ -322,18 +323,18 @@ more-without rows i h e z = λ j l q. elim (dec_lt j i) [
   | no y ↦ let k : j ≡ i = omega arith in z (e ∙ ap (λ (m : ℕ). get_or rows (8 * m) 0) (sym k) ∙ q)
 ]
 
-no-section : (text rows : List ℕ) {n : ℕ} → NoSection rows n → (u : Use) → Ordered (held text rows n) u → ⊥
-unfolding declAt
-no-section text rows {n} none-there u o =
+no_section : (text rows : List ℕ) {n : ℕ} → NoSection rows n → (u : Use) → Ordered (held text rows n) u → ⊥
+unfolding decl_at
+no_section text rows {n} none-there u o =
     let ds = held text rows n in
-    let k = sectionRow ds u in
+    let k = section_row ds u in
     let h = row-less text rows n 600 u.section.text k o.section in
     none-there k h (ap (λ (d : Decl). d.class) (sym (held_at text rows n k h)) ∙ (row_at 600 u.section.text k ds o.section).class)
 
 -- a text without a section has no use in order, and so none at all
 pub pairs-unused : {text rows : List ℕ} {n first at : ℕ} {r : Paired} → n ≤ 512 → length rows ≡ 6017 → NoSection (set rows 5632 0) n → r.fault ≡ 0
     → PairsDone text rows n first at (set rows 5632 0) r
-unfolding pairsOf firsts madeFor pairsMean AllOrdered
+unfolding pairs_of firsts made_for pairs_mean AllOrdered
 pairs-unused {text} {rows} {n} {first} {at} {r} few size none-there z = record { index = clear; done = done }
   where
     clear : IndexKept rows (set rows 5632 0)
@@ -343,21 +344,21 @@ pairs-unused {text} {rows} {n} {first} {at} {r} few size none-there z = record {
     same-held = held-behind text n clear few
 
     no-use : (u : Use) → Ordered (held text rows n) u → ⊥
-    no-use u o = no-section text (set rows 5632 0) none-there u (rw same-held o)
+    no-use u o = no_section text (set rows 5632 0) none-there u (rw same-held o)
 
-    done : (p : Program) (names : Names) → Agrees p names (knownRules 0 p.rules) (held text rows n) → EntriesAt text (held text rows n) (entriesOf p)
-        → (ws : List Word) → RulesIn (wordsAt text at) ws p.rules → (peek ws).kind ≡ 266 → n ≡ first + length p.rules → length p.rules ≤ 128
-        → AllOrdered (held text rows n) (rulesUses p.rules)
-        → PairsEnd (held text rows n) [] (set rows 5632 0) names (length p.rules) (pairsOf p.rules) r (madeFor names (knownRules 0 p.rules) first (length p.rules) (pairsOf p.rules))
-    done p names ag en ws x e q l or = go (rulesUses p.rules) or
+    done : (p : Program) (names : Names) → Agrees p names (known_rules 0 p.rules) (held text rows n) → EntriesAt text (held text rows n) (entries_of p)
+        → (ws : List Word) → RulesIn (words_at text at) ws p.rules → (peek ws).kind ≡ 266 → n ≡ first + length p.rules → length p.rules ≤ 128
+        → AllOrdered (held text rows n) (rules_uses p.rules)
+        → PairsEnd (held text rows n) [] (set rows 5632 0) names (length p.rules) (pairs_of p.rules) r (made_for names (known_rules 0 p.rules) first (length p.rules) (pairs_of p.rules))
+    done p names ag en ws x e q l or = go (rules_uses p.rules) or
       where
         go : (us : List Use) → AllOrdered (held text rows n) us
-            → PairsEnd (held text rows n) [] (set rows 5632 0) names (length p.rules) (firsts [] us) r (madeFor names (knownRules 0 p.rules) first (length p.rules) (firsts [] us))
+            → PairsEnd (held text rows n) [] (set rows 5632 0) names (length p.rules) (firsts [] us) r (made_for names (known_rules 0 p.rules) first (length p.rules) (firsts [] us))
         go [] o = paired z (none-held rows size)
         go (u ∷ us) o = absurd (no-use u o.0)
 
 pub pairs-whole : {text rows rows' : List ℕ} {n first at : ℕ} {r : Paired} → n ≤ 512 → length rows ≡ 6017 → PairsFrom text (set rows 5632 0) n first (n - first) at rows' r → PairsDone text rows n first at rows' r
-unfolding pairsOf
+unfolding pairs_of
 pairs-whole {text} {rows} {rows'} {n} {first} {at} {r} few size f = record { index = index-after clear f.index; done = done }
   where
     clear : IndexKept rows (set rows 5632 0)
@@ -366,15 +367,15 @@ pairs-whole {text} {rows} {rows'} {n} {first} {at} {r} few size f = record { ind
     same : held text (set rows 5632 0) n ≡ held text rows n
     same = held-behind text n clear few
 
-    start : Stands (held text (set rows 5632 0) n) (pairsHeld (set rows 5632 0)) []
+    start : Stands (held text (set rows 5632 0) n) (pairs_held (set rows 5632 0)) []
     start = stands-as [] (none-held rows size) (λ u a. none-stands _ u)
 
-    done : (p : Program) (names : Names) → Agrees p names (knownRules 0 p.rules) (held text rows n) → EntriesAt text (held text rows n) (entriesOf p)
-        → (ws : List Word) → RulesIn (wordsAt text at) ws p.rules → (peek ws).kind ≡ 266 → n ≡ first + length p.rules → length p.rules ≤ 128
-        → AllOrdered (held text rows n) (rulesUses p.rules)
-        → PairsEnd (held text rows n) [] rows' names (length p.rules) (pairsOf p.rules) r (madeFor names (knownRules 0 p.rules) first (length p.rules) (pairsOf p.rules))
+    done : (p : Program) (names : Names) → Agrees p names (known_rules 0 p.rules) (held text rows n) → EntriesAt text (held text rows n) (entries_of p)
+        → (ws : List Word) → RulesIn (words_at text at) ws p.rules → (peek ws).kind ≡ 266 → n ≡ first + length p.rules → length p.rules ≤ 128
+        → AllOrdered (held text rows n) (rules_uses p.rules)
+        → PairsEnd (held text rows n) [] rows' names (length p.rules) (pairs_of p.rules) r (made_for names (known_rules 0 p.rules) first (length p.rules) (pairs_of p.rules))
     done p names ag en ws x e q l or =
         let own : n - first ≡ length p.rules = omega (arith, q) in
         let us = marked x e in
-        end-as (knownRules 0 p.rules) first same (none-held rows size) own
-        (rw us at (f.done p names (knownRules 0 p.rules) (rw same ag) (rw same en) [] start (rw us (rules-named x)) (rw (us, same) or)))
+        end-as (known_rules 0 p.rules) first same (none-held rows size) own
+        (rw us at (f.done p names (known_rules 0 p.rules) (rw same ag) (rw same en) [] start (rw us (rules-named x)) (rw (us, same) or)))

@@ -1,9 +1,9 @@
 // The uses of operators in a text that the syntax pass has accepted: each pair of section and operand rule, in the order of first use, and the
 // place of the lowest rule that is made for it. They stand in the rows behind the index.
 ghost use Rattle.std.specs.Prelude.{◌≡◌, ℕ, ◌+◌, ◌-◌, ◌*◌, ◌<◌, ◌≤◌, eqb, ltb, length, get_or, true, ◌&&◌, ◌||◌};
-ghost use Rattle.maker.specs.Pairs.{pairsHeld, lookPair, lowestIn};
-ghost use Rattle.maker.specs.Pairing.{NoSection, setThree, Adds, UseRead, PlaceOf, UseDone, WordDone, PairsFrom, PairsDone};
-ghost use Rattle.maker.specs.Ranks.{AnEntry, noRank, rankStep, RankDone, RankBound, LevelsDone};
+ghost use Rattle.maker.specs.Pairs.{pairs_held, look_pair, lowest_in};
+ghost use Rattle.maker.specs.Pairing.{NoSection, set_three, Adds, UseRead, PlaceOf, UseDone, WordDone, PairsFrom, PairsDone};
+ghost use Rattle.maker.specs.Ranks.{AnEntry, no_rank, rank_step, RankDone, RankBound, LevelsDone};
 ghost use Rattle.symbols.specs.Index.{Kept};
 ghost use Rattle.symbols.specs.Search.{Tells};
 
@@ -88,7 +88,7 @@ pub fn read_entry(text: &[u8], at: usize) -> Entry
 // The least level above `above`, after one entry more.
 fn with_entry(s: Rank, above: usize, level: usize, right: bool) -> Rank
     requires { s.count ≤ 65535 }
-    ensures { result ≡ rankStep above s level right }
+    ensures { result ≡ rank_step above s level right }
 {
     if level <= above {
         return s;
@@ -114,7 +114,7 @@ fn with_entry(s: Rank, above: usize, level: usize, right: bool) -> Rank
 pub fn next_level(text: &[u8], at: usize, above: usize) -> Rank
     requires { (at ≤ length text.now) × (length text.now ≤ 65535) × (above ≤ 15) }
     ensures bound { RankBound above result }
-    ensures done { RankDone text.now at above noRank result }
+    ensures done { RankDone text.now at above no_rank result }
 {
     let mut i = at;
     let mut s = Rank {
@@ -186,7 +186,7 @@ fn is_pair(rows: &[u16], j: usize, section: usize, operand: usize) -> bool
 
 // The place of the lowest rule of a pair, 65,536 where there is no such pair.
 pub fn look_pair(rows: &[u16], section: usize, operand: usize) -> usize
-    ensures { Tells result (lookPair section operand (pairsHeld rows.now)) }
+    ensures { Tells result (look_pair section operand (pairs_held rows.now)) }
 {
     let n = base::number(rows, PAIRS);
     let mut j: usize = 0;
@@ -201,7 +201,7 @@ pub fn look_pair(rows: &[u16], section: usize, operand: usize) -> usize
 
 // The place of the lowest rule that is made for a section and an operand rule, by their declarations.
 pub fn lowest(rows: &[u16], section: usize, operand: usize) -> usize
-    ensures same { result ≡ lowestIn section operand (pairsHeld rows.now) }
+    ensures same { result ≡ lowest_in section operand (pairs_held rows.now) }
     ensures low { result < 65536 }
 {
     let v = look_pair(rows, section, operand);
@@ -213,7 +213,7 @@ pub fn lowest(rows: &[u16], section: usize, operand: usize) -> usize
 
 fn put_three(rows: &mut [u16], i: usize, a: u16, b: u16, c: u16)
     requires { i + 3 ≤ length rows.old }
-    ensures { rows.new ≡ setThree rows.old i a b c }
+    ensures { rows.new ≡ set_three rows.old i a b c }
 {
     rows[i] = a;
     rows[i + 1] = b;

@@ -6,15 +6,15 @@ use native.Mathlib.Numerals.{add-one}
 use native.Mathlib.Omega.{arith}
 use lib.ListN.{length, get_or, length-append}
 use Rattle.buffers.proofs.Writes.{put-behind, over-length}
-use Rattle.buffers.specs.Words.{putWord, put64}
-use Rattle.declarations.specs.Decls.{Decl, declsOf, sectionsDecls, ruleDecls}
+use Rattle.buffers.specs.Words.{put_word, put64}
+use Rattle.declarations.specs.Decls.{Decl, decls_of, sections_decls, rule_decls}
 use Rattle.machine.specs.Bytes.{bytes_of, over}
 use Rattle.machine.specs.Form.{words64}
 use Rattle.mapper.specs.Mapped.{Puts, held_rows}
-use Rattle.mapping.specs.Mapping.{Row, row_of, rows_from, rowWords, rowsWords}
+use Rattle.mapping.specs.Mapping.{Row, row_of, rows_from, row_words, rows_words}
 use Rattle.program.specs.Program.{Rule}
 use Rattle.program.specs.Table.{place}
-use Rattle.symbols.specs.Rows.{declAt, heldFrom, held}
+use Rattle.symbols.specs.Rows.{decl_at, held_from, held}
 use Rattle.symbols.specs.Search.{part}
 use Rattle.syntax.specs.Written as written
 use Rattle.syntax.specs.Written.{Program}
@@ -23,8 +23,8 @@ use Rattle.frontend.specs.declared.Resolved.{Resolved}
 
 -- Words behind words
 
-pub puts_word : {out out' : List ℕ} {i x : ℕ} → out' ≡ putWord out i x → Puts out out' i (x ∷ [])
-puts_word {out} {out'} {i} {x} e = record { puts = λ ws before l room q. e ∙ ap (λ (z : List ℕ). putWord z i x) q ∙ put-behind ws before i x l (omega arith) }
+pub puts_word : {out out' : List ℕ} {i x : ℕ} → out' ≡ put_word out i x → Puts out out' i (x ∷ [])
+puts_word {out} {out'} {i} {x} e = record { puts = λ ws before l room q. e ∙ ap (λ (z : List ℕ). put_word z i x) q ∙ put-behind ws before i x l (omega arith) }
 
 pub puts-more : {a b c : List ℕ} {i j : ℕ} {xs ys : List ℕ} → Puts a b i xs → Puts b c j ys → j ≡ i + length xs → Puts a c i (xs ++ ys)
 puts-more {a} {b} {c} {i} {j} {xs} {ys} p q e = record {
@@ -41,19 +41,19 @@ puts-number i n q e = rw q (puts-more (puts_word refl) (puts-more (puts_word ref
 
 -- Rows
 
-length-row : (r : Row) → length (rowWords r) ≡ 12
-unfolding rowWords words64
+length-row : (r : Row) → length (row_words r) ≡ 12
+unfolding row_words words64
 length-row r = refl
 
-pub length-rows : (rs : List Row) → length (rowsWords rs) ≡ 12 * length rs
-unfolding rowsWords
+pub length-rows : (rs : List Row) → length (rows_words rs) ≡ 12 * length rs
+unfolding rows_words
 length-rows [] = refl
-length-rows (r ∷ rs) = omega (arith, length-append (rowWords r) (rowsWords rs), length-row r, length-rows rs)
+length-rows (r ∷ rs) = omega (arith, length-append (row_words r) (rows_words rs), length-row r, length-rows rs)
 
-pub one_more : (rs : List Row) (r : Row) → rowsWords (rs ++ (r ∷ [])) ≡ rowsWords rs ++ rowWords r
-unfolding rowsWords
-one_more [] r = append-nil (rowWords r)
-one_more (x ∷ rs) r = ap (λ (z : List ℕ). rowWords x ++ z) (one_more rs r) ∙ sym (append_assoc (rowWords x) (rowsWords rs) (rowWords r))
+pub one_more : (rs : List Row) (r : Row) → rows_words (rs ++ (r ∷ [])) ≡ rows_words rs ++ row_words r
+unfolding rows_words
+one_more [] r = append-nil (row_words r)
+one_more (x ∷ rs) r = ap (λ (z : List ℕ). row_words x ++ z) (one_more rs r) ∙ sym (append_assoc (row_words x) (rows_words rs) (row_words r))
 
 -- Lists of declarations
 
@@ -70,8 +70,8 @@ rest q = cc
 
 -- a row by the numbers of a declaration
 pub row-held : (text rows : List ℕ) (i : ℕ) {start len size l : ℕ} → start ≡ get_or rows (8 * i + 2) 0 → len ≡ get_or rows (8 * i + 3) 0 → size ≡ length (part text start len)
-    → record { start = start; size = size; location = l } ≡ row_of (declAt text rows i).name l
-unfolding declAt
+    → record { start = start; size = size; location = l } ≡ row_of (decl_at text rows i).name l
+unfolding decl_at
 row-held text rows i {start} {len} {size} {l} p q s =
     let z : size ≡ length (part text (get_or rows (8 * i + 2) 0) (get_or rows (8 * i + 3) 0)) = s ∙ rw (p, q) refl in
     cc
@@ -82,7 +82,7 @@ module _ (text rows places : List ℕ) where
   held-length i k zero = refl
   held-length i k (suc n) = ap suc (held-length (suc i) (suc k) n)
 
-  held_more : (i k n : ℕ) → held_rows text rows places i k (suc n) ≡ held_rows text rows places i k n ++ (row_of (declAt text rows (i + n)).name (get_or places (k + n) 0) ∷ [])
+  held_more : (i k n : ℕ) → held_rows text rows places i k (suc n) ≡ held_rows text rows places i k n ++ (row_of (decl_at text rows (i + n)).name (get_or places (k + n) 0) ∷ [])
   unfolding held_rows
   held_more i k zero =
       let a : i + 0 ≡ i = omega arith in
@@ -91,40 +91,40 @@ module _ (text rows places : List ℕ) where
   held_more i k (suc n) =
       let a : suc i + n ≡ i + suc n = omega arith in
       let b : suc k + n ≡ k + suc n = omega arith in
-      ap (λ (z : List Row). row_of (declAt text rows i).name (get_or places k 0) ∷ z)
-      (held_more (suc i) (suc k) n ∙ ap (λ (m : ℕ). held_rows text rows places (suc i) (suc k) n ++ (row_of (declAt text rows m).name (get_or places (suc k + n) 0) ∷ [])) a
-      ∙ ap (λ (m : ℕ). held_rows text rows places (suc i) (suc k) n ++ (row_of (declAt text rows (i + suc n)).name (get_or places m 0) ∷ [])) b)
+      ap (λ (z : List Row). row_of (decl_at text rows i).name (get_or places k 0) ∷ z)
+      (held_more (suc i) (suc k) n ∙ ap (λ (m : ℕ). held_rows text rows places (suc i) (suc k) n ++ (row_of (decl_at text rows m).name (get_or places (suc k + n) 0) ∷ [])) a
+      ∙ ap (λ (m : ℕ). held_rows text rows places (suc i) (suc k) n ++ (row_of (decl_at text rows (i + suc n)).name (get_or places m 0) ∷ [])) b)
 
   -- the loop: n rows stand over the buffer, and another is put behind them
-  pub rows_start : (i : ℕ) (before : List ℕ) → before ≡ over (bytes_of (rowsWords (held_rows text rows places i 0 0))) before
-  unfolding held_rows rowsWords bytes_of over
+  pub rows_start : (i : ℕ) (before : List ℕ) → before ≡ over (bytes_of (rows_words (held_rows text rows places i 0 0))) before
+  unfolding held_rows rows_words bytes_of over
   rows_start i before = refl
 
-  pub rows-put : (i n : ℕ) (before : List ℕ) {out out' : List ℕ} {r : Row} → r ≡ row_of (declAt text rows (i + n)).name (get_or places n 0) → 24 * n + 24 ≤ length before
-      → out ≡ over (bytes_of (rowsWords (held_rows text rows places i 0 n))) before → Puts out out' (12 * n) (rowWords r)
-      → out' ≡ over (bytes_of (rowsWords (held_rows text rows places i 0 (n + 1)))) before
+  pub rows-put : (i n : ℕ) (before : List ℕ) {out out' : List ℕ} {r : Row} → r ≡ row_of (decl_at text rows (i + n)).name (get_or places n 0) → 24 * n + 24 ≤ length before
+      → out ≡ over (bytes_of (rows_words (held_rows text rows places i 0 n))) before → Puts out out' (12 * n) (row_words r)
+      → out' ≡ over (bytes_of (rows_words (held_rows text rows places i 0 (n + 1)))) before
   rows-put i n before {out} {out'} {r} e room o p =
-      let l : length (rowsWords (held_rows text rows places i 0 n)) ≡ 12 * n = length-rows (held_rows text rows places i 0 n) ∙ ap (λ (m : ℕ). 12 * m) (held-length i 0 n) in
+      let l : length (rows_words (held_rows text rows places i 0 n)) ≡ 12 * n = length-rows (held_rows text rows places i 0 n) ∙ ap (λ (m : ℕ). 12 * m) (held-length i 0 n) in
       let z : 0 + n ≡ n = omega arith in
       let h : held_rows text rows places i 0 (n + 1) ≡ held_rows text rows places i 0 n ++ (r ∷ []) =
       ap (λ (m : ℕ). held_rows text rows places i 0 m) (add-one n) ∙ held_more i 0 n
-      ∙ ap (λ (m : ℕ). held_rows text rows places i 0 n ++ (row_of (declAt text rows (i + n)).name (get_or places m 0) ∷ [])) z
+      ∙ ap (λ (m : ℕ). held_rows text rows places i 0 n ++ (row_of (decl_at text rows (i + n)).name (get_or places m 0) ∷ [])) z
       ∙ ap (λ (x : Row). held_rows text rows places i 0 n ++ (x ∷ [])) (sym e) in
-      p.puts (rowsWords (held_rows text rows places i 0 n)) before l (omega (arith, length-row r)) o
-      ∙ ap (λ (w : List ℕ). over (bytes_of w) before) (sym (ap rowsWords h ∙ one_more (held_rows text rows places i 0 n) r))
+      p.puts (rows_words (held_rows text rows places i 0 n)) before l (omega (arith, length-row r)) o
+      ∙ ap (λ (w : List ℕ). over (bytes_of w) before) (sym (ap rows_words h ∙ one_more (held_rows text rows places i 0 n) r))
 
-  pub rows-size : (i n : ℕ) (before : List ℕ) {out : List ℕ} → 24 * n ≤ length before → out ≡ over (bytes_of (rowsWords (held_rows text rows places i 0 n))) before → length out ≡ length before
+  pub rows-size : (i n : ℕ) (before : List ℕ) {out : List ℕ} → 24 * n ≤ length before → out ≡ over (bytes_of (rows_words (held_rows text rows places i 0 n))) before → length out ≡ length before
   rows-size i n before {out} h e =
-      ap length e ∙ over-length (rowsWords (held_rows text rows places i 0 n)) before (omega (arith, length-rows (held_rows text rows places i 0 n), held-length i 0 n))
+      ap length e ∙ over-length (rows_words (held_rows text rows places i 0 n)) before (omega (arith, length-rows (held_rows text rows places i 0 n), held-length i 0 n))
 
-  pub rows_end : (i n m : ℕ) (before : List ℕ) {out : List ℕ} → n ≡ m → out ≡ over (bytes_of (rowsWords (held_rows text rows places i 0 n))) before → out ≡ over (bytes_of (rowsWords (held_rows text rows places i 0 m))) before
+  pub rows_end : (i n m : ℕ) (before : List ℕ) {out : List ℕ} → n ≡ m → out ≡ over (bytes_of (rows_words (held_rows text rows places i 0 n))) before → out ≡ over (bytes_of (rows_words (held_rows text rows places i 0 m))) before
   rows_end i n m before e o = rw e at o
 
   -- The rows are the program's
 
-  held-rules : (prog : List Rule) (k i m : ℕ) (rs : List written.Rule) → heldFrom text rows i m ≡ ruleDecls k rs
+  held-rules : (prog : List Rule) (k i m : ℕ) (rs : List written.Rule) → held_from text rows i m ≡ rule_decls k rs
       → ((j : ℕ) → j < length rs → get_or places (k + j) 0 ≡ place 1 prog (k + j)) → held_rows text rows places i k (length rs) ≡ rows_from prog k rs
-  unfolding heldFrom ruleDecls held_rows rows_from
+  unfolding held_from rule_decls held_rows rows_from
   held-rules prog k i m [] e f = refl
   held-rules prog k i zero (r ∷ rs) e f = absurd (nothing e)
   held-rules prog k i (suc m) (r ∷ rs) e f =
@@ -138,8 +138,8 @@ module _ (text rows places : List ℕ) where
       further j q = let b : k + suc j ≡ suc k + j = omega arith in rw b at q
 
   -- m declarations are left behind those of the sections
-  behind : (i n : ℕ) (ds es : List Decl) → heldFrom text rows i n ≡ ds ++ es → (m : ℕ) × (n ≡ length ds + m) × (heldFrom text rows (i + length ds) m ≡ es)
-  unfolding heldFrom
+  behind : (i n : ℕ) (ds es : List Decl) → held_from text rows i n ≡ ds ++ es → (m : ℕ) × (n ≡ length ds + m) × (held_from text rows (i + length ds) m ≡ es)
+  unfolding held_from
   behind i n [] es e = let z : i + 0 ≡ i = omega arith in (n, omega arith, rw z e)
   behind i zero (d ∷ ds) es e = absurd (nothing e)
   behind i (suc n) (d ∷ ds) es e =
@@ -154,12 +154,12 @@ inside h = omega (arith, h.known.small, h.known.count, h.number)
 -- what stands in the buffers is the map of the rules written
 pub held-map : {text rows : List ℕ} {b : Resolved} {p : Program} (places : List ℕ) (prog : List Rule) → Rowed text rows b p
     → ((j : ℕ) → j < b.written → get_or places j 0 ≡ place 1 prog j) → held_rows text rows places b.first 0 b.written ≡ rows_from prog 0 p.rules
-unfolding held declsOf
+unfolding held decls_of
 held-map {text} {rows} {b} {p} places prog h f =
-    let x = behind text rows places 0 b.declared (sectionsDecls 0 p.sections) (ruleDecls 0 p.rules) h.known.held-are in
+    let x = behind text rows places 0 b.declared (sections_decls 0 p.sections) (rule_decls 0 p.rules) h.known.held_are in
     let n : b.written ≡ length p.rules = h.number in
-    let i : b.first ≡ 0 + length (sectionsDecls 0 p.sections) = omega (arith, h.known.first-is) in
-    rw (n, i) (held-rules text rows places prog 0 (0 + length (sectionsDecls 0 p.sections)) x.0 p.rules x.2 (λ j l. further j (f j (omega (arith, n, l)))))
+    let i : b.first ≡ 0 + length (sections_decls 0 p.sections) = omega (arith, h.known.first_is) in
+    rw (n, i) (held-rules text rows places prog 0 (0 + length (sections_decls 0 p.sections)) x.0 p.rules x.2 (λ j l. further j (f j (omega (arith, n, l)))))
   where
     further : (j : ℕ) → get_or places j 0 ≡ place 1 prog j → get_or places (0 + j) 0 ≡ place 1 prog (0 + j)
     further j q = let z : 0 + j ≡ j = omega arith in rw z q

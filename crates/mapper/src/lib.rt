@@ -1,9 +1,9 @@
 // The map of a text's rules, in a lent buffer: a row for each, in text order, and behind them those made for operators.
 ghost use Rattle.std.specs.Prelude.{◌≡◌, ◌+◌, ◌*◌, ◌-◌, ◌<◌, ◌≤◌, length};
 ghost use Rattle.machine.specs.Bytes.{bytes_of, over};
-ghost use Rattle.mapping.specs.Mapping.{rowWords, rowsWords, roomIn, mapRules};
+ghost use Rattle.mapping.specs.Mapping.{row_words, rows_words, room_in, map_rules};
 ghost use Rattle.frontend.specs.Resolving.{IsRead};
-ghost use Rattle.mapper.specs.Mapped.{Puts, held_rows, levelsHeld, EndOf, MadePut, Maps, Holds, Placed, MapsHeld};
+ghost use Rattle.mapper.specs.Mapped.{Puts, held_rows, levels_held, EndOf, MadePut, Maps, Holds, Placed, MapsHeld};
 
 use frontend::Resolved;
 use levels::Part;
@@ -24,7 +24,7 @@ pub struct Mapped {
 // Row k: a rule's name and its location.
 fn put_row(out: &mut [u8], k: usize, start: usize, len: usize, location: usize)
     requires { 24 * k + 24 ≤ length out.old }
-    ensures { Puts out.old out.new (12 * k) (rowWords (record { start = start; size = len; location = location })) }
+    ensures { Puts out.old out.new (12 * k) (row_words (record { start = start; size = len; location = location })) }
 {
     let i = ROW_NUMBERS * k;
     buffers::put_number(out, i, start as u64);
@@ -35,7 +35,7 @@ fn put_row(out: &mut [u8], k: usize, start: usize, len: usize, location: usize)
 // The rows of the rules whose declarations stand in the rows from `first` on.
 fn put_rows(text: &[u8], rows: &[u16], first: usize, places: &[usize], rules: usize, out: &mut [u8])
     requires { Holds first rules × (rules ≤ length places.now) × (24 * rules ≤ length out.old) }
-    ensures { out.new ≡ over (bytes_of (rowsWords (held_rows text.now rows.now places.now first 0 rules))) out.old }
+    ensures { out.new ≡ over (bytes_of (rows_words (held_rows text.now rows.now places.now first 0 rules))) out.old }
 {
     let mut k: usize = 0;
     while k < rules {
@@ -56,7 +56,7 @@ fn put_rows(text: &[u8], rows: &[u16], first: usize, places: &[usize], rules: us
 // The rows of the rules from k to `end`, which have one name.
 fn put_levels(out: &mut [u8], name: Part, places: &[usize], k: usize, end: usize)
     requires { (k ≤ end) × (end ≤ 128) × (end ≤ length places.now) × (24 * end ≤ length out.old) }
-    ensures { Puts out.old out.new (12 * k) (rowsWords (levelsHeld name.start name.len places.now k (end - k))) }
+    ensures { Puts out.old out.new (12 * k) (rows_words (levels_held name.start name.len places.now k (end - k))) }
 {
     let mut i = k;
     while i < end {
@@ -139,7 +139,7 @@ fn map_held(
 // The map of a text that the syntax pass has read.
 fn map_read(text: &[u8], out: &mut [u8]) -> Mapped
     requires { IsRead text.now }
-    ensures { Maps (mapRules text.now (roomIn out.old)) result.number result.rules out.old out.new }
+    ensures { Maps (map_rules text.now (room_in out.old)) result.number result.rules out.old out.new }
 {
     let mut rows = [0u16; frontend::ROWS];
     let mut cells = [0u16; frontend::CELLS];
@@ -163,7 +163,7 @@ fn map_read(text: &[u8], out: &mut [u8]) -> Mapped
 
 // The map of a text's rules, or the number of its first fault.
 pub fn map_rules(text: &[u8], out: &mut [u8]) -> Mapped
-    ensures { Maps (mapRules text.now (roomIn out.old)) result.number result.rules out.old out.new }
+    ensures { Maps (map_rules text.now (room_in out.old)) result.number result.rules out.old out.new }
 {
     let s = reader::check_syntax(text);
     if s.fault != 0 {

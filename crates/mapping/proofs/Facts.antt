@@ -11,7 +11,7 @@ use Rattle.finishing.specs.Test
 use Rattle.machine.specs.Bytes
 use Rattle.machine.specs.Form
 use Rattle.mapping.specs.Mapping
-use Rattle.mapping.specs.Mapping.{Row, Answer, mapped, refused, mapRules, Numbers, numbersOf, lentRows, roomIn, tells}
+use Rattle.mapping.specs.Mapping.{Row, Answer, mapped, refused, map_rules, Numbers, numbers_of, lent_rows, room_in, tells}
 use Rattle.names.specs.Declare
 use Rattle.names.specs.Known
 use Rattle.names.specs.Resolve
@@ -32,14 +32,14 @@ mapping : Unit {0}
 unfolding Words.opened Reading.opened Actions.opened Sections.opened Parse.opened Known.opened Declare.opened Resolve.opened Understand.opened Uses.opened Made.opened Program.opened Past.opened Table.opened Test.opened Bytes.opened Form.opened Process.opened Mapping.opened
 mapping = tt
 
-pub numbersIn : List Row → List ℕ
-numbersIn [] = []
-numbersIn (r ∷ rs) = r.start ∷ r.size ∷ r.location ∷ numbersIn rs
+pub numbers_in : List Row → List ℕ
+numbers_in [] = []
+numbers_in (r ∷ rs) = r.start ∷ r.size ∷ r.location ∷ numbers_in rs
 
 -- three numbers a rule
-pub isMap : List ℕ → Answer → Bool
-isMap ns (mapped rows) = same ns (numbersIn rows)
-isMap ns (refused n) = false
+pub is_map : List ℕ → Answer → Bool
+is_map ns (mapped rows) = same ns (numbers_in rows)
+is_map ns (refused n) = false
 
 pub record Case : Type 0 where
   pub text : String
@@ -48,9 +48,9 @@ pub record Case : Type 0 where
 abbrev pub maps : String → List ℕ → Case
 maps t ns = record { text = t; rows = ns }
 
-pub allMap : List Case → Bool
-allMap [] = true
-allMap (c ∷ cs) = isMap c.rows (mapRules (bytes c.text) 4) && allMap cs
+pub all_map : List Case → Bool
+all_map [] = true
+all_map (c ∷ cs) = is_map c.rows (map_rules (bytes c.text) 4) && all_map cs
 
 -- a rule; a rule called before it stands, and a comment with a name; a choice rule, which has no return behind it; two levels over one operand rule, one level
 -- over two operand rules
@@ -65,8 +65,8 @@ cases =
     (61 ∷ 1 ∷ 1 ∷ 83 ∷ 1 ∷ 8 ∷ 64 ∷ 5 ∷ 11 ∷ 70 ∷ 5 ∷ 25 ∷ [])
     ∷ []
 
-pub cases-map : T (allMap cases)
-unfolding mapping numbersIn isMap allMap cases
+pub cases-map : T (all_map cases)
+unfolding mapping numbers_in is_map all_map cases
 cases-map = tt
 
 -- Numbers and lent bytes
@@ -85,12 +85,12 @@ lends t n r k bs = record { text = t; lent = n; number = r; rules = k; after = b
 pub holds : Lent → Bool
 holds l =
     let before : List ℕ = replicate l.lent 7 in
-    let a = mapRules (bytes l.text) (roomIn before) in
-    eqb (numbersOf a).number l.number && eqb (numbersOf a).rules l.rules && same (lentRows a before) l.after
+    let a = map_rules (bytes l.text) (room_in before) in
+    eqb (numbers_of a).number l.number && eqb (numbers_of a).rules l.rules && same (lent_rows a before) l.after
 
-pub allHold : List Lent → Bool
-allHold [] = true
-allHold (l ∷ ls) = holds l && allHold ls
+pub all_hold : List Lent → Bool
+all_hold [] = true
+all_hold (l ∷ ls) = holds l && all_hold ls
 
 -- a number below 256 in eight bytes
 abbrev pub eight : ℕ → List ℕ
@@ -106,19 +106,19 @@ buffers =
     ∷ lends "" 0 2 0 []
     ∷ []
 
-pub buffers-hold : T (allHold buffers)
-unfolding mapping holds allHold buffers
+pub buffers-hold : T (all_hold buffers)
+unfolding mapping holds all_hold buffers
 buffers-hold = tt
 
 -- "as with a lent table of 4,096 words": a program of just so many, `?` over and over and the return, and of one more
 pub long : ℕ → List ℕ
 long n = bytes "rules M: " ++ (replicate n 63 ++ bytes "; end")
 
-pub longest : T (isMap (6 ∷ 1 ∷ 1 ∷ []) (mapRules (long 4095) 1) && eqb (numbersOf (mapRules (long 4096) 1)).number 20)
-unfolding mapping numbersIn isMap long
+pub longest : T (is_map (6 ∷ 1 ∷ 1 ∷ []) (map_rules (long 4095) 1) && eqb (numbers_of (map_rules (long 4096) 1)).number 20)
+unfolding mapping numbers_in is_map long
 longest = tt
 
 -- what the C caller reads: the number, then how many rules there are
-pub told : numbersOf (mapRules (bytes "rules M: ; N: ; end") 2) ∷ numbersOf (mapRules (bytes "rules M: > ; end") 2) ∷ [] ≡ tells 0 2 ∷ tells 7 0 ∷ []
+pub told : numbers_of (map_rules (bytes "rules M: ; N: ; end") 2) ∷ numbers_of (map_rules (bytes "rules M: > ; end") 2) ∷ [] ≡ tells 0 2 ∷ tells 7 0 ∷ []
 unfolding mapping
 told = refl

@@ -8,11 +8,11 @@ use Prim.Native.Nat.{ℕ, ◌+◌, ◌≤◌, ◌<◌}
 use lib.ListN.{length, get_or, set, drop, replicate, length-set, length-replicate, drop_of_length-le, get_or-eq_default}
 use borrow.Author.Fill.{fill_none, fill_more}
 use Rattle.base.proofs.Laws.{zeros-at}
-use Rattle.figure.specs.Figure.{Reached, at-start, End, Quiet, Bounds, Figure, Long}
+use Rattle.figure.specs.Figure.{Reached, at_start, End, Quiet, Bounds, Figure, Long}
 use Rattle.meter.specs.Found.{Starts, starts, Found}
-use Rattle.meter.specs.Makes.{overAt, backAt, half, cap, Closed, Origin, the-start, any_place, Ends, Sound, Stands, stands-place, stands-over, stands-back}
+use Rattle.meter.specs.Makes.{over_at, back_at, half, cap, Closed, Origin, the_start, any_place, Ends, Sound, Stands, stands_place, stands_over, stands_back}
 use Rattle.meter.specs.Shaped.{start_of, Shaped}
-use Rattle.meter.specs.Steps.{flagOf, row_of, calledOf, Kept, asked-at, asked-from, Greatest, Begun, Settled}
+use Rattle.meter.specs.Steps.{flag_of, row_of, called_of, Kept, asked_at, asked_from, Greatest, Begun, Settled}
 use Rattle.meter.proofs.Bounds.{Most, bounds}
 
 -- The greatest number
@@ -80,19 +80,19 @@ module _ {T S : List ℕ} where
   no-numbers f = record { stands = λ i h p. absurd (omega (arith, f i h)) }
 
   pub cleared-kept : {empty rows : List ℕ} → Shaped T S → empty ≡ [] → rows ≡ replicate 4353 0 → Kept T S empty rows
-  unfolding calledOf
+  unfolding called_of
   cleared-kept {rows = rows} sh n e = rw n (record {
     sized = ap length e ∙ length-replicate {A = ℕ} 4353 0;
     shaped = sh;
     small = λ i. omega (arith, none-at e i);
-    called-small = λ i. omega (arith, none-at e i);
+    called_small = λ i. omega (arith, none-at e i);
     first = no-numbers (λ i h. none-at e i);
     row = no-numbers (λ i h. none-at e i);
   })
 
   -- the second half has no numbers yet, and the first is settled
   pub second-kept : {empty mid called lent rows : List ℕ} → empty ≡ [] → lent ≡ called → rows ≡ replicate 4353 0 → Settled T S empty mid called → Kept T S lent rows
-  unfolding flagOf calledOf
+  unfolding flag_of called_of
   second-kept {mid = mid} {called} {rows = rows} n l e s = let z : Settled T S [] mid called = rw n at s in rw l (go called z)
     where
       go : (called : List ℕ) → Settled T S [] mid called → Kept T S called rows
@@ -101,7 +101,7 @@ module _ {T S : List ℕ} where
         sized = ap length e ∙ length-replicate {A = ℕ} 4353 0;
         shaped = z.kept.shaped;
         small = λ i. omega (arith, none-at e i);
-        called-small = z.kept.small;
+        called_small = z.kept.small;
         first = z.kept.row;
         row = no-numbers (λ i h. none-at e i);
       }
@@ -109,54 +109,54 @@ module _ {T S : List ℕ} where
 -- Nothing is left to be raised
 
 module _ {T S : List ℕ} where
-  closed-half : {called mid after : List ℕ} → Begun T S called mid → Settled T S called mid after → Closed T S (calledOf called after) (row_of after) (flagOf called)
+  closed-half : {called mid after : List ℕ} → Begun T S called mid → Settled T S called mid after → Closed T S (called_of called after) (row_of after) (flag_of called)
   closed-half b s = record {
-    closed = λ hr i w m h. s.all (asked-from (omega arith) hr i (asked-at w m)) h;
+    closed = λ hr i w m h. s.all (asked_from (omega arith) hr i (asked_at w m)) h;
     begun = λ r hr. omega (arith, b.begun r hr, s.grows (start_of S r));
   }
 
   closed-first : {mid after : List ℕ} → Begun T S [] mid → Settled T S [] mid after → Closed T S (row_of after) (row_of after) 0
-  unfolding flagOf calledOf
+  unfolding flag_of called_of
   closed-first b s = closed-half b s
 
   closed-second : (called : List ℕ) {mid after : List ℕ} → length called ≡ half → Begun T S called mid → Settled T S called mid after → Closed T S (row_of called) (row_of after) 1
-  unfolding flagOf calledOf
+  unfolding flag_of called_of
   closed-second [] e b s = absurd (omega arith)
   closed-second (n ∷ ns) e b s = closed-half b s
 
   -- The figure
 
   long-ends : {flag r v : ℕ} {Is : End → Type 0} → r < length S → Ends T S flag r v Is → Long T (Starts S) v
-  long-ends {flag} {r} hr c = record { start = start_of S r; location = c.begin; end = c.end; count = c.count; is-start = starts r hr refl; reached = at-origin c.origin; path = c.path; long = c.enough }
+  long-ends {flag} {r} hr c = record { start = start_of S r; location = c.begin; end = c.end; count = c.count; is_start = starts r hr refl; reached = at-origin c.origin; path = c.path; long = c.enough }
     where
       at-origin : {b : ℕ} → Origin T flag (start_of S r) b → Reached T (start_of S r) b
-      at-origin (the-start e) = rw e at-start
+      at-origin (the_start e) = rw e at_start
       at-origin (any_place h z) = z
 
   long-stands : {flag i v : ℕ} → 4097 ≤ i → Stands T S flag i v → Long T (Starts S) v
-  long-stands h (stands-place z c) = absurd (omega arith)
-  long-stands h (stands-over r z y c) = long-ends z c
-  long-stands h (stands-back r z y c) = long-ends z c
+  long-stands h (stands_place z c) = absurd (omega arith)
+  long-stands h (stands_over r z y c) = long-ends z c
+  long-stands h (stands_back r z y c) = long-ends z c
 
   -- the greatest number is that of a path
-  long-greatest : {called rows : List ℕ} {q : ℕ} → Kept T S called rows → Greatest rows (overAt 0) q → 0 < q → Long T (Starts S) q
+  long-greatest : {called rows : List ℕ} {q : ℕ} → Kept T S called rows → Greatest rows (over_at 0) q → 0 < q → Long T (Starts S) q
   long-greatest {rows = rows} {q = q} k g h = go (g.attained h)
     where
-      go : (i : ℕ) × (overAt 0 ≤ i) × (i < length rows) × (get_or rows i 0 ≡ q) → Long T (Starts S) q
+      go : (i : ℕ) × (over_at 0 ≤ i) × (i < length rows) × (get_or rows i 0 ≡ q) → Long T (Starts S) q
       go (i, a, b, e) = let st = k.row.stands i (omega (arith, k.sized)) (omega arith) in long-stands (omega arith) (rw e at st)
 
-  most-greatest : {rows : List ℕ} {q : ℕ} → Greatest rows (overAt 0) q → Most T S (row_of rows) q
-  most-greatest g = record { overs = λ r h. g.most (overAt r) (omega arith); backs = λ r h. g.most (backAt r) (omega arith) }
+  most-greatest : {rows : List ℕ} {q : ℕ} → Greatest rows (over_at 0) q → Most T S (row_of rows) q
+  most-greatest g = record { overs = λ r h. g.most (over_at r) (omega arith); backs = λ r h. g.most (back_at r) (omega arith) }
 
   fewer-long : {q n : ℕ} → n ≤ q → Long T (Starts S) q → Long T (Starts S) n
-  fewer-long h c = record { start = c.start; location = c.location; end = c.end; count = c.count; is-start = c.is-start; reached = c.reached; path = c.path; long = omega (arith, c.long) }
+  fewer-long h c = record { start = c.start; location = c.location; end = c.end; count = c.count; is_start = c.is_start; reached = c.reached; path = c.path; long = omega (arith, c.long) }
 
   exactly : {q : ℕ} → Bounds T (Starts S) q → Long T (Starts S) q → Figure T (Starts S) q
   exactly {q} b c =
-      let e : c.count ≡ q = omega (arith, c.long, b.most c.is-start c.reached c.path) in
-      record { bounds = b; start = c.start; location = c.location; end = c.end; is-start = c.is-start; reached = c.reached; path = rw e at c.path }
+      let e : c.count ≡ q = omega (arith, c.long, b.most c.is_start c.reached c.path) in
+      record { bounds = b; start = c.start; location = c.location; end = c.end; is_start = c.is_start; reached = c.reached; path = rw e at c.path }
 
-  pub found : {empty lent mid₁ called mid₂ rows : List ℕ} {q : ℕ} → empty ≡ [] → lent ≡ called → Begun T S empty mid₁ → Settled T S empty mid₁ called → Begun T S lent mid₂ → Settled T S lent mid₂ rows → Greatest rows (overAt 0) q → Found T S q
+  pub found : {empty lent mid₁ called mid₂ rows : List ℕ} {q : ℕ} → empty ≡ [] → lent ≡ called → Begun T S empty mid₁ → Settled T S empty mid₁ called → Begun T S lent mid₂ → Settled T S lent mid₂ rows → Greatest rows (over_at 0) q → Found T S q
   found {mid₁ = mid₁} {called} {mid₂} {rows} {q} n l b₁ s₁ b₂ s₂ g = record {
     bounds = λ h. bounded h;
     exact = λ h z. exactly (bounded h) (long-greatest s₂.kept g z);

@@ -6,7 +6,7 @@ use native.Mathlib.Decide.{dec_lt}
 use native.Mathlib.Omega.{arith}
 use Prim.Native.Nat.{ℕ, ◌+◌, ◌≤◌, ◌<◌}
 use lib.ListN.{length}
-use Rattle.figure.specs.Figure.{at-start}
+use Rattle.figure.specs.Figure.{at_start}
 use Rattle.meter.specs.Makes.{half}
 use Rattle.meter.specs.Shaped.{start_of}
 use Rattle.meter.specs.Steps.{row_of, Kept, Steps, Only, Raised, Begun}
@@ -31,7 +31,7 @@ begun-next {T} {S} {called} {r} {mid} {after} {b} u h x =
     ]
       where
         here : Steps T S (Only (start_of S r) 1) called mid after b → 0 < row_of after (start_of S r)
-        here z = let inside : start_of S r < half = omega (arith, (u.kept.shaped.inside h at-start).1, u.kept.shaped.short) in omega (arith, x.at_least (omega (arith, inside, u.kept.sized)) inside)
+        here z = let inside : start_of S r < half = omega (arith, (u.kept.shaped.inside h at_start).1, u.kept.shaped.short) in omega (arith, x.at_least (omega (arith, inside, u.kept.sized)) inside)
 
 pub begun_all : {T S called : List ℕ} {r : ℕ} {after : List ℕ} → BegunUpto T S called r after → length S ≤ r → Begun T S called after
 begun_all u h = record { kept = u.kept; begun = λ q l. u.begun q (omega arith) l }

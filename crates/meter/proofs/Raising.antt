@@ -15,9 +15,9 @@ use Rattle.base.proofs.Laws.{neither}
 use Rattle.base.specs.Bools.{never}
 use Rattle.machine.specs.Decode.{Instruction, decode}
 use Rattle.figure.specs.Figure.{End}
-use Rattle.meter.specs.Makes.{Makes, half, cap, Ends, Sound, Stands, stands-place, stands-over, stands-back}
+use Rattle.meter.specs.Makes.{Makes, half, cap, Ends, Sound, Stands, stands_place, stands_over, stands_back}
 use Rattle.meter.proofs.Stands.{come, stands}
-use Rattle.meter.specs.Steps.{flagOf, row_of, calledOf, left, Asked, Kept, Here, Steps, Only, only, Both, this, that, IsBelow, Raised, RaisedTwo}
+use Rattle.meter.specs.Steps.{flag_of, row_of, called_of, left, Asked, Kept, Here, Steps, Only, only, Both, this, that, IsBelow, Raised, RaisedTwo}
 
 -- What the numbers have left
 
@@ -36,9 +36,9 @@ module _ {T S : List ℕ} where
       ends c = record { begin = c.begin; count = c.count; end = c.end; origin = c.origin; path = c.path; is = c.is; enough = omega (arith, c.enough) }
 
       go : Stands T S flag i v → Stands T S flag i w
-      go (stands-place z c) = stands-place z (record { rule = c.rule; begin = c.begin; before = c.before; is-rule = c.is-rule; reached = c.reached; origin = c.origin; prefix = c.prefix; enough = omega (arith, c.enough) })
-      go (stands-over r z y c) = stands-over r z y (ends c)
-      go (stands-back r z y c) = stands-back r z y (ends c)
+      go (stands_place z c) = stands_place z (record { rule = c.rule; begin = c.begin; before = c.before; is_rule = c.is_rule; reached = c.reached; origin = c.origin; prefix = c.prefix; enough = omega (arith, c.enough) })
+      go (stands_over r z y c) = stands_over r z y (ends c)
+      go (stands_back r z y c) = stands_back r z y (ends c)
 
   -- a number may be raised at one place
   sound-set : {row after : ℕ → ℕ} {flag i v w : ℕ} → ((j : ℕ) → (after j ≡ row j) ⊎ ((j ≡ i) × (after j ≡ w))) → w ≤ v → Stands T S flag i v → Sound T S row flag → Sound T S after flag
@@ -71,26 +71,26 @@ small-set rows {i} {w} n h f j = go (set-either rows i w j n)
 
 -- The called rules' numbers are those where one is raised, or others
 
-called-small-set : (called rows : List ℕ) {i w : ℕ} → i < length rows → w ≤ cap → ((j : ℕ) → calledOf called rows j ≤ cap) → (j : ℕ) → calledOf called (set rows i w) j ≤ cap
-unfolding calledOf
+called-small-set : (called rows : List ℕ) {i w : ℕ} → i < length rows → w ≤ cap → ((j : ℕ) → called_of called rows j ≤ cap) → (j : ℕ) → called_of called (set rows i w) j ≤ cap
+unfolding called_of
 called-small-set [] rows n h f j = small-set rows n h f j
 called-small-set (c ∷ cs) rows n h f j = f j
 
-called-set : {T S : List ℕ} (called rows : List ℕ) {i v w : ℕ} → i < length rows → w ≤ v → Stands T S (flagOf called) i v → Sound T S (calledOf called rows) 0 → Sound T S (calledOf called (set rows i w)) 0
-unfolding flagOf calledOf
+called-set : {T S : List ℕ} (called rows : List ℕ) {i v w : ℕ} → i < length rows → w ≤ v → Stands T S (flag_of called) i v → Sound T S (called_of called rows) 0 → Sound T S (called_of called (set rows i w)) 0
+unfolding flag_of called_of
 called-set [] rows {i} {w = w} n h st so = sound-set (λ j. set-either rows i w j n) h st so
 called-set (c ∷ cs) rows n h st so = so
 
 module _ {T S called : List ℕ} where
   -- a number is raised
-  kept_set : {rows : List ℕ} {i v w : ℕ} → Kept T S called rows → i < half → w ≤ v → w ≤ cap → Stands T S (flagOf called) i v → Kept T S called (set rows i w)
+  kept_set : {rows : List ℕ} {i v w : ℕ} → Kept T S called rows → i < half → w ≤ v → w ≤ cap → Stands T S (flag_of called) i v → Kept T S called (set rows i w)
   kept_set {rows} {i} {v} {w} k h z y st =
       let n : i < length rows = omega (arith, k.sized) in
       record {
         sized = length-set rows i w ∙ k.sized;
         shaped = k.shaped;
         small = small-set rows n y k.small;
-        called-small = called-small-set called rows n y k.called-small;
+        called_small = called-small-set called rows n y k.called_small;
         first = called-set called rows n z st k.first;
         row = sound-set (λ j. set-either rows i w j n) z st k.row;
       }
@@ -100,7 +100,7 @@ module _ {T S called : List ℕ} where
   stays k f = record { kept = k; grows = λ i. omega arith; same = λ e. refl; less = λ e. never e; all = λ e {i} {v} m h. f i v m h }
 
   -- a number is raised: to v, or to the cap
-  pub raised : {rows : List ℕ} {i v w : ℕ} → Kept T S called rows → i < half → w ≡ min v cap → row_of rows i < w → Stands T S (flagOf called) i v → Steps T S (Only i v) called rows (set rows i w) true
+  pub raised : {rows : List ℕ} {i v w : ℕ} → Kept T S called rows → i < half → w ≡ min v cap → row_of rows i < w → Stands T S (flag_of called) i v → Steps T S (Only i v) called rows (set rows i w) true
   raised {rows} {i} {v} {w} k h e l st =
       let n : i < length rows = omega (arith, k.sized) in
       record {
@@ -162,16 +162,16 @@ higher {i} {w = w} {rows = rows} x q e =
     let l : row_of rows i < w = omega (arith, (x.below q).1) in
     record { sized = length-set rows i w; at_least = λ z y. omega (arith, get_or-set_same rows i w 0 z); steps = λ k st. raised k h e l (st h (omega arith)) }
 
-pub flag_small : (called : List ℕ) → flagOf called ≤ 1
-unfolding flagOf
+pub flag_small : (called : List ℕ) → flag_of called ≤ 1
+unfolding flag_of
 flag_small [] = omega arith
 flag_small (n ∷ ns) = omega arith
 
 -- what an instruction asks for may be raised
-pub may : {T S called : List ℕ} {r l k j v : ℕ} {rows : List ℕ} {i : Instruction} → Kept T S called rows → Here T S called r l k → decode T l ≡ i → Makes T S (calledOf called rows) (flagOf called) r l k i j v
-    → j < half → 0 < v → Stands T S (flagOf called) j v
+pub may : {T S called : List ℕ} {r l k j v : ℕ} {rows : List ℕ} {i : Instruction} → Kept T S called rows → Here T S called r l k → decode T l ≡ i → Makes T S (called_of called rows) (flag_of called) r l k i j v
+    → j < half → 0 < v → Stands T S (flag_of called) j v
 may {T} {S} {called} {rows = rows} k h d m z y =
-    stands T S k.shaped (calledOf called rows) k.first (flagOf called) (flag_small called) (come T S k.shaped (calledOf called rows) k.first (flagOf called) (flag_small called) h.is-rule h.in-rule h.comes) d m y
+    stands T S k.shaped (called_of called rows) k.first (flag_of called) (flag_small called) (come T S k.shaped (called_of called rows) k.first (flag_of called) (flag_small called) h.is_rule h.in_rule h.comes) d m y
 
 -- two places, one after the other
 pub two : {i v j w : ℕ} {rows mid after : List ℕ} {a b : Bool} → Raised i v rows mid a → Raised j w mid after b → RaisedTwo i v j w rows after (a || b)

@@ -11,7 +11,7 @@ use Rattle.base.specs.Bools.{never}
 use Rattle.machine.specs.Decode.{choice}
 use Rattle.meter.specs.Makes.{half, cap}
 use Rattle.meter.specs.Shaped.{start_of, end_of, InRule}
-use Rattle.meter.specs.Steps.{row_of, calledOf, left, Kept, Steps, Both, this, that, ValueAt, value-at, Values, values, NoneCalled, AskedAt, AskedBelow, asked-below, AskedFrom, asked-from, Settled}
+use Rattle.meter.specs.Steps.{row_of, called_of, left, Kept, Steps, Both, this, that, ValueAt, value_at, Values, values, NoneCalled, AskedAt, AskedBelow, asked_below, AskedFrom, asked_from, Settled}
 use Rattle.meter.proofs.Raising.{stays, seq, covers}
 
 -- The values of a rule
@@ -49,10 +49,10 @@ values-past {T} {S} {called} {c} {k} {q} {to} {p} {n} {rows} {after} {b} u h l z
 }
   where
     one : b ≡ false → {i v : ℕ} → Values T S called c k q n rows i v → i < half → min v cap ≤ row_of rows i
-    one e (values {p = o} y x (value-at d f)) w = elim (dec_lt o p) [
-      | yes g ↦ u.steps.all e (values y g (value-at d f)) w
+    one e (values {p = o} y x (value_at d f)) w = elim (dec_lt o p) [
+      | yes g ↦ u.steps.all e (values y g (value_at d f)) w
       | no g ↦
-          let r : calledOf called rows o ≡ 0 = rw (u.steps.same e) at (z.zero o (omega arith) x) in
+          let r : called_of called rows o ≡ 0 = rw (u.steps.same e) at (z.zero o (omega arith) x) in
           absurd (omega (arith, f, r))
     ]
 
@@ -73,15 +73,15 @@ pub swept-first : {T S called : List ℕ} {r to : ℕ} {rows : List ℕ} → Kep
 swept-first {T} {S} {called} {r} {rows = rows} kp h e = record { from = omega arith; upto = h; is-end = e; steps = stays kp (λ i v m. absurd (nothing m)) }
   where
     nothing : {i v : ℕ} → AskedBelow T S called r (start_of S r) rows i v → ⊥
-    nothing (asked-below i l m) = omega (arith, i.from)
+    nothing (asked_below i l m) = omega (arith, i.from)
 
 pub swept-next : {T S called : List ℕ} {r to l : ℕ} {rows mid after : List ℕ} {a b e : Bool} → SweptUpto T S called r to l rows mid a → l < to → Steps T S (AskedAt T S called r l) called mid after b → e ≡ (a || b)
     → SweptUpto T S called r to (l + 1) rows after e
 swept-next {T} {S} {called} {r} {l = l} u h x e = rw e (record { from = omega (arith, u.from); upto = omega arith; is-end = u.is-end; steps = covers (λ i v m. split m) (seq u.steps x) })
   where
     split : {rows : List ℕ} {i v : ℕ} → AskedBelow T S called r (l + 1) rows i v → Both (AskedBelow T S called r l) (AskedAt T S called r l) rows i v
-    split {rows} {i} {v} (asked-below {l = o} y z m) = elim (dec_lt o l) [
-      | yes w ↦ this (asked-below y w m)
+    split {rows} {i} {v} (asked_below {l = o} y z m) = elim (dec_lt o l) [
+      | yes w ↦ this (asked_below y w m)
       | no w ↦ let f : o ≡ l = omega arith in let n : AskedAt T S called r l rows i v = rw f at m in that n
     ]
 
@@ -100,19 +100,19 @@ pub rules-first : {T S called rows : List ℕ} → Kept T S called rows → Rule
 rules-first {T} {S} {called} {rows} kp = record { upto = omega arith; steps = stays kp (λ i v m. absurd (nothing m)) }
   where
     nothing : {i v : ℕ} → AskedFrom T S called (length S) rows i v → ⊥
-    nothing (asked-from h l i m) = omega arith
+    nothing (asked_from h l i m) = omega arith
 
 pub rules-next : {T S called : List ℕ} {r : ℕ} {rows mid after : List ℕ} {a b e : Bool} → RulesFrom T S called r rows mid a → 0 < r → Steps T S (AskedBelow T S called (r - 1) (end_of (length T) S (r - 1))) called mid after b → e ≡ (a || b)
     → RulesFrom T S called (r - 1) rows after e
 rules-next {T} {S} {called} {r} u h x e = rw e (record { upto = omega (arith, u.upto); steps = covers (λ i v m. split m) (seq u.steps x) })
   where
     split : {rows : List ℕ} {i v : ℕ} → AskedFrom T S called (r - 1) rows i v → Both (AskedFrom T S called r) (AskedBelow T S called (r - 1) (end_of (length T) S (r - 1))) rows i v
-    split {rows} {i} {v} (asked-from {r = o} {l = l} y z w m) = elim (dec_lt o r) [
+    split {rows} {i} {v} (asked_from {r = o} {l = l} y z w m) = elim (dec_lt o r) [
       | yes q ↦ let f : o ≡ r - 1 = omega arith in
           let w₁ : InRule T S (r - 1) l = rw f at w in
           let m₁ : AskedAt T S called (r - 1) l rows i v = rw f at m in
-          that (asked-below w₁ w₁.to m₁)
-      | no q ↦ this (asked-from {r = o} {l = l} (omega arith) z w m)
+          that (asked_below w₁ w₁.to m₁)
+      | no q ↦ this (asked_from {r = o} {l = l} (omega arith) z w m)
     ]
 
 pub rules-all : {T S called : List ℕ} {r : ℕ} {rows after : List ℕ} {b : Bool} → RulesFrom T S called r rows after b → r ≤ 0 → Steps T S (AskedFrom T S called 0) called rows after b
@@ -143,14 +143,14 @@ before-next {T} {S} {called} {r} u h x e = rw e (record { upto = omega arith; st
       | no q ↦ let f : o ≡ r = omega arith in
           let w₁ : InRule T S r l = rw f at w in
           let m₁ : AskedAt T S called r l rows i v = rw f at m in
-          that (asked-below w₁ w₁.to m₁)
+          that (asked_below w₁ w₁.to m₁)
     ]
 
 pub before-all : {T S called : List ℕ} {r : ℕ} {rows after : List ℕ} {b : Bool} → RulesBefore T S called r rows after b → length S ≤ r → Steps T S (AskedFrom T S called 0) called rows after b
 before-all {T} {S} {called} {r} u h = covers (λ i v m. ask m) u.steps
   where
     ask : {rows : List ℕ} {i v : ℕ} → AskedFrom T S called 0 rows i v → AskedBefore T S called r rows i v
-    ask (asked-from {r = o} {l = l} y z w m) = asked-before {r = o} {l = l} (omega arith) w m
+    ask (asked_from {r = o} {l = l} y z w m) = asked-before {r = o} {l = l} (omega arith) w m
 
 -- Sweeps of some rules, of which nothing is known but what they keep
 
@@ -161,7 +161,7 @@ pub some-swept : {T S called : List ℕ} {r : ℕ} {rows after : List ℕ} {b : 
 some-swept {T} {S} {called} x = covers (λ i v m. absurd (nothing m)) x
   where
     nothing : {rows : List ℕ} {i v : ℕ} → AskedFrom T S called (length S) rows i v → ⊥
-    nothing (asked-from h l i m) = omega arith
+    nothing (asked_from h l i m) = omega arith
 
 -- and then a sweep
 pub then-swept : {T S called : List ℕ} {q : ℕ} {rows mid after : List ℕ} {a b e : Bool} → Steps T S (AskedFrom T S called (length S)) called rows mid a → Steps T S (AskedFrom T S called q) called mid after b → e ≡ (a || b)

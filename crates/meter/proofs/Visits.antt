@@ -10,111 +10,111 @@ use Prim.Native.Nat.{ℕ, ◌+◌, ◌*◌, ◌-◌, ◌≤◌, ◌<◌, min}
 use lib.Dec.{eqb, ltb}
 use lib.ListN.{length}
 use borrow.Author.Tests.{ne_eqb, lt-ltb, le-ltb}
-use Rattle.machine.specs.Decode.{fetch, jump, inputAny, return, choice, endChoice, update, updateWith, choose, chooseWith, decodeOperation, decode_one}
-use Rattle.figure.specs.Figure.{wayOut}
+use Rattle.machine.specs.Decode.{fetch, jump, input_any, return, choice, end_choice, update, update_with, choose, choose_with, decode_operation, decode_one}
+use Rattle.figure.specs.Figure.{way_out}
 use Rattle.meter.specs.Shaped.{Fits}
 use Rattle.meter.proofs.Words.{one-count, Labelled, labelled, unlabelled, label-cases, FirstOr, is-first, repeats, label-way, default-way}
-use Rattle.meter.specs.Makes.{overAt, backAt, half, cap, Makes, makes_any, marks-any, makes-return, makes-end, makes-update, makes-updateWith, makes-choose, makes-choose-over, makes-chooseWith, makes-chooseWith-over, Stands}
-use Rattle.meter.specs.Steps.{flagOf, row_of, Kept, Steps, Only, only, Both, this, that, IsBelow, Raised, RaisedTwo, LabelRaised, way-raised, has-enough, Ways, ways, WaysRaised, Visited}
+use Rattle.meter.specs.Makes.{over_at, back_at, half, cap, Makes, makes_any, marks_any, makes_return, makes_end, makes_update, makes_update_with, makes_choose, makes_choose_over, makes_choose_with, makes_choose_with_over, Stands}
+use Rattle.meter.specs.Steps.{flag_of, row_of, Kept, Steps, Only, only, Both, this, that, IsBelow, Raised, RaisedTwo, LabelRaised, way_raised, has_enough, Ways, ways, WaysRaised, Visited}
 use Rattle.meter.proofs.Raising.{stays, seq, covers, may}
 
 module _ {called : List ℕ} {r l k : ℕ} {rows after : List ℕ} {b : Bool} where
-  as-return : Raised (backAt r) k rows after b → Visited return called r l k rows after b
-  as-return x = record { sized = x.sized; steps = λ kp h d. covers (λ j v m. ask m) (x.steps kp (may kp h d makes-return)) }
+  as-return : Raised (back_at r) k rows after b → Visited return called r l k rows after b
+  as-return x = record { sized = x.sized; steps = λ kp h d. covers (λ j v m. ask m) (x.steps kp (may kp h d makes_return)) }
     where
-      ask : {T S : List ℕ} {f : ℕ → ℕ} {flag j v : ℕ} {rows : List ℕ} → Makes T S f flag r l k return j v → Only (backAt r) k rows j v
-      ask makes-return = only
+      ask : {T S : List ℕ} {f : ℕ → ℕ} {flag j v : ℕ} {rows : List ℕ} → Makes T S f flag r l k return j v → Only (back_at r) k rows j v
+      ask makes_return = only
 
-  as-end : Raised (overAt r) k rows after b → Visited endChoice called r l k rows after b
-  as-end x = record { sized = x.sized; steps = λ kp h d. covers (λ j v m. ask m) (x.steps kp (may kp h d makes-end)) }
+  as-end : Raised (over_at r) k rows after b → Visited end_choice called r l k rows after b
+  as-end x = record { sized = x.sized; steps = λ kp h d. covers (λ j v m. ask m) (x.steps kp (may kp h d makes_end)) }
     where
-      ask : {T S : List ℕ} {f : ℕ → ℕ} {flag j v : ℕ} {rows : List ℕ} → Makes T S f flag r l k endChoice j v → Only (overAt r) k rows j v
-      ask makes-end = only
+      ask : {T S : List ℕ} {f : ℕ → ℕ} {flag j v : ℕ} {rows : List ℕ} → Makes T S f flag r l k end_choice j v → Only (over_at r) k rows j v
+      ask makes_end = only
 
-  as-any : {flag : ℕ} → flag ≡ flagOf called → RaisedTwo (overAt r) k (l + 1) flag rows after b → Visited inputAny called r l k rows after b
-  as-any {flag} e x = record { sized = x.sized; steps = λ kp h d. covers (λ j v m. ask (rw (← e) at m)) (x.steps kp (may kp h d makes_any) (rw e (may kp h d marks-any))) }
+  as-any : {flag : ℕ} → flag ≡ flag_of called → RaisedTwo (over_at r) k (l + 1) flag rows after b → Visited input_any called r l k rows after b
+  as-any {flag} e x = record { sized = x.sized; steps = λ kp h d. covers (λ j v m. ask (rw (← e) at m)) (x.steps kp (may kp h d makes_any) (rw e (may kp h d marks_any))) }
     where
-      ask : {T S : List ℕ} {f : ℕ → ℕ} {flag j v : ℕ} {rows : List ℕ} → Makes T S f flag r l k inputAny j v → Both (Only (overAt r) k) (Only (l + 1) flag) rows j v
+      ask : {T S : List ℕ} {f : ℕ → ℕ} {flag j v : ℕ} {rows : List ℕ} → Makes T S f flag r l k input_any j v → Both (Only (over_at r) k) (Only (l + 1) flag) rows j v
       ask makes_any = this only
-      ask marks-any = that only
+      ask marks_any = that only
 
   as-update : (op : ℕ) → Raised (l + 1) (k + 1) rows after b → Visited (update op) called r l k rows after b
-  as-update op x = record { sized = x.sized; steps = λ kp h d. covers (λ j v m. ask m) (x.steps kp (may kp h d makes-update)) }
+  as-update op x = record { sized = x.sized; steps = λ kp h d. covers (λ j v m. ask m) (x.steps kp (may kp h d makes_update)) }
     where
       ask : {T S : List ℕ} {f : ℕ → ℕ} {flag j v : ℕ} {rows : List ℕ} → Makes T S f flag r l k (update op) j v → Only (l + 1) (k + 1) rows j v
-      ask makes-update = only
+      ask makes_update = only
 
-  as-updateWith : (op : ℕ) → Raised (l + 1) (k + 1) rows after b → Visited (updateWith op) called r l k rows after b
-  as-updateWith op x = record { sized = x.sized; steps = λ kp h d. covers (λ j v m. ask m) (x.steps kp (may kp h d makes-updateWith)) }
+  as-update_with : (op : ℕ) → Raised (l + 1) (k + 1) rows after b → Visited (update_with op) called r l k rows after b
+  as-update_with op x = record { sized = x.sized; steps = λ kp h d. covers (λ j v m. ask m) (x.steps kp (may kp h d makes_update_with)) }
     where
-      ask : {T S : List ℕ} {f : ℕ → ℕ} {flag j v : ℕ} {rows : List ℕ} → Makes T S f flag r l k (updateWith op) j v → Only (l + 1) (k + 1) rows j v
-      ask makes-updateWith = only
+      ask : {T S : List ℕ} {f : ℕ → ℕ} {flag j v : ℕ} {rows : List ℕ} → Makes T S f flag r l k (update_with op) j v → Only (l + 1) (k + 1) rows j v
+      ask makes_update_with = only
 
-  as-choose : (op : ℕ) → RaisedTwo (overAt r) k (l + 1) (k + 1) rows after b → Visited (choose op) called r l k rows after b
-  as-choose op x = record { sized = x.sized; steps = λ kp h d. covers (λ j v m. ask m) (x.steps kp (may kp h d makes-choose-over) (may kp h d makes-choose)) }
+  as-choose : (op : ℕ) → RaisedTwo (over_at r) k (l + 1) (k + 1) rows after b → Visited (choose op) called r l k rows after b
+  as-choose op x = record { sized = x.sized; steps = λ kp h d. covers (λ j v m. ask m) (x.steps kp (may kp h d makes_choose_over) (may kp h d makes_choose)) }
     where
-      ask : {T S : List ℕ} {f : ℕ → ℕ} {flag j v : ℕ} {rows : List ℕ} → Makes T S f flag r l k (choose op) j v → Both (Only (overAt r) k) (Only (l + 1) (k + 1)) rows j v
-      ask makes-choose-over = this only
-      ask makes-choose = that only
+      ask : {T S : List ℕ} {f : ℕ → ℕ} {flag j v : ℕ} {rows : List ℕ} → Makes T S f flag r l k (choose op) j v → Both (Only (over_at r) k) (Only (l + 1) (k + 1)) rows j v
+      ask makes_choose_over = this only
+      ask makes_choose = that only
 
-  as-chooseWith : (op : ℕ) → RaisedTwo (overAt r) k (l + 1) (k + 1) rows after b → Visited (chooseWith op) called r l k rows after b
-  as-chooseWith op x = record { sized = x.sized; steps = λ kp h d. covers (λ j v m. ask m) (x.steps kp (may kp h d makes-chooseWith-over) (may kp h d makes-chooseWith)) }
+  as-choose_with : (op : ℕ) → RaisedTwo (over_at r) k (l + 1) (k + 1) rows after b → Visited (choose_with op) called r l k rows after b
+  as-choose_with op x = record { sized = x.sized; steps = λ kp h d. covers (λ j v m. ask m) (x.steps kp (may kp h d makes_choose_with_over) (may kp h d makes_choose_with)) }
     where
-      ask : {T S : List ℕ} {f : ℕ → ℕ} {flag j v : ℕ} {rows : List ℕ} → Makes T S f flag r l k (chooseWith op) j v → Both (Only (overAt r) k) (Only (l + 1) (k + 1)) rows j v
-      ask makes-chooseWith-over = this only
-      ask makes-chooseWith = that only
+      ask : {T S : List ℕ} {f : ℕ → ℕ} {flag j v : ℕ} {rows : List ℕ} → Makes T S f flag r l k (choose_with op) j v → Both (Only (over_at r) k) (Only (l + 1) (k + 1)) rows j v
+      ask makes_choose_with_over = this only
+      ask makes_choose_with = that only
 
 -- Instructions of one word, by number
 
-operation : (i : ℕ) → (i ≡ 9 → ⊥) → (i ≡ 12 → ⊥) → (i ≡ 4 → ⊥) → decode_one i ≡ decodeOperation i
+operation : (i : ℕ) → (i ≡ 9 → ⊥) → (i ≡ 12 → ⊥) → (i ≡ 4 → ⊥) → decode_one i ≡ decode_operation i
 unfolding decode_one
 operation i p q s = rw (ne_eqb i 4 s, ne_eqb i 9 p, ne_eqb i 12 q) refl
 
 module _ {called : List ℕ} {r l k i : ℕ} {rows after : List ℕ} {b : Bool} where
-  pub one-return : i ≡ 9 → Raised (backAt r) k rows after b → Visited (decode_one i) called r l k rows after b
+  pub one-return : i ≡ 9 → Raised (back_at r) k rows after b → Visited (decode_one i) called r l k rows after b
   unfolding decode_one
   one-return e x = rw e (as-return x)
 
-  pub one_end : i ≡ 12 → Raised (overAt r) k rows after b → Visited (decode_one i) called r l k rows after b
+  pub one_end : i ≡ 12 → Raised (over_at r) k rows after b → Visited (decode_one i) called r l k rows after b
   unfolding decode_one
   one_end e x = rw e (as-end x)
 
-  pub one-any : {flag : ℕ} → i ≡ 4 → flag ≡ flagOf called → RaisedTwo (overAt r) k (l + 1) flag rows after b → Visited (decode_one i) called r l k rows after b
+  pub one-any : {flag : ℕ} → i ≡ 4 → flag ≡ flag_of called → RaisedTwo (over_at r) k (l + 1) flag rows after b → Visited (decode_one i) called r l k rows after b
   unfolding decode_one
   one-any e f x = rw e (as-any f x)
 
   pub one-update : (i ≡ 9 → ⊥) → (i ≡ 12 → ⊥) → (i ≡ 4 → ⊥) → i < 768 → Raised (l + 1) (k + 1) rows after b → Visited (decode_one i) called r l k rows after b
-  unfolding decodeOperation
+  unfolding decode_operation
   one-update p q s h x = elim (dec_lt i 512) [
     | yes z ↦ let e : decode_one i ≡ update i = rw (operation i p q s, lt-ltb i 512 z) refl in rw e (as-update i x)
-    | no z ↦ let e : decode_one i ≡ updateWith i = rw (operation i p q s, le-ltb i 512 (omega arith), lt-ltb i 768 h) refl in rw e (as-updateWith i x)
+    | no z ↦ let e : decode_one i ≡ update_with i = rw (operation i p q s, le-ltb i 512 (omega arith), lt-ltb i 768 h) refl in rw e (as-update_with i x)
   ]
 
-  pub one-choose : (i ≡ 9 → ⊥) → (i ≡ 12 → ⊥) → (i ≡ 4 → ⊥) → 768 ≤ i → RaisedTwo (overAt r) k (l + 1) (k + 1) rows after b → Visited (decode_one i) called r l k rows after b
-  unfolding decodeOperation
+  pub one-choose : (i ≡ 9 → ⊥) → (i ≡ 12 → ⊥) → (i ≡ 4 → ⊥) → 768 ≤ i → RaisedTwo (over_at r) k (l + 1) (k + 1) rows after b → Visited (decode_one i) called r l k rows after b
+  unfolding decode_operation
   one-choose p q s h x = elim (dec_lt i 1024) [
     | yes z ↦ let e : decode_one i ≡ choose i = rw (operation i p q s, le-ltb i 512 (omega arith), le-ltb i 768 h, lt-ltb i 1024 z) refl in rw e (as-choose i x)
-    | no z ↦ let e : decode_one i ≡ chooseWith i = rw (operation i p q s, le-ltb i 512 (omega arith), le-ltb i 768 h, le-ltb i 1024 (omega arith)) refl in rw e (as-chooseWith i x)
+    | no z ↦ let e : decode_one i ≡ choose_with i = rw (operation i p q s, le-ltb i 512 (omega arith), le-ltb i 768 h, le-ltb i 1024 (omega arith)) refl in rw e (as-choose_with i x)
   ]
 
 -- The ways out of a choice, label by label
 
 pub data WayBelow (T : List ℕ) (c v i : ℕ) (rows : List ℕ) : ℕ → ℕ → Type 0 where
-  way-label : {j a : ℕ} → j < i → fetch T (c + 1 + 2 * j) ≡ some a → WayBelow T c v i rows (wayOut T c (some a)) v
+  way-label : {j a : ℕ} → j < i → fetch T (c + 1 + 2 * j) ≡ some a → WayBelow T c v i rows (way_out T c (some a)) v
 
 pub record WaysUpto (T : List ℕ) (c v n i : ℕ) (rows after : List ℕ) (b : Bool) : Type 0 where
   pub inside : i ≤ n
-  pub is-count : fetch T c ≡ some n
+  pub is_count : fetch T c ≡ some n
   pub table : Fits T c
   pub fits : c + 2 * n ≤ length T
   pub short : length T ≤ 4096
   pub sized : length after ≡ length rows
-  pub steps : {S called : List ℕ} → Kept T S called rows → ((w : Option ℕ) → wayOut T c w < half → 0 < v → Stands T S (flagOf called) (wayOut T c w) v) → Steps T S (WayBelow T c v i) called rows after b
+  pub steps : {S called : List ℕ} → Kept T S called rows → ((w : Option ℕ) → way_out T c w < half → 0 < v → Stands T S (flag_of called) (way_out T c w) v) → Steps T S (WayBelow T c v i) called rows after b
 
 pub ways-first : {T : List ℕ} {c v n : ℕ} {rows : List ℕ} → length T ≤ 4096 → Fits T c → fetch T c ≡ some n → WaysUpto T c v n 0 rows rows false
 ways-first s f e = record {
   inside = omega arith;
-  is-count = e;
+  is_count = e;
   table = f;
   fits = omega (arith, f.fits, one-count f e);
   short = s;
@@ -125,11 +125,11 @@ ways-first s f e = record {
     nothing : {T : List ℕ} {c v : ℕ} {rows : List ℕ} {i u : ℕ} → WayBelow T c v 0 rows i u → ⊥
     nothing (way-label h e) = omega arith
 
-ways-raised : {T : List ℕ} {c v n i a : ℕ} {rows mid after : List ℕ} {b d : Bool} → WaysUpto T c v n i rows mid b → i < n → fetch T (c + 1 + 2 * i) ≡ some a → Raised (wayOut T c (some a)) v mid after d
+ways-raised : {T : List ℕ} {c v n i a : ℕ} {rows mid after : List ℕ} {b d : Bool} → WaysUpto T c v n i rows mid b → i < n → fetch T (c + 1 + 2 * i) ≡ some a → Raised (way_out T c (some a)) v mid after d
     → WaysUpto T c v n (i + 1) rows after (b || d)
 ways-raised {T} {c} {v} {n} {i} {a} u h f r = record {
   inside = omega arith;
-  is-count = u.is-count;
+  is_count = u.is_count;
   table = u.table;
   fits = u.fits;
   short = u.short;
@@ -137,7 +137,7 @@ ways-raised {T} {c} {v} {n} {i} {a} u h f r = record {
   steps = λ k w. let s = u.steps k w in covers (λ j x m. split m) (seq s (r.steps s.kept (w (some a))));
 }
   where
-    split : {rows : List ℕ} {j x : ℕ} → WayBelow T c v (i + 1) rows j x → Both (WayBelow T c v i) (Only (wayOut T c (some a)) v) rows j x
+    split : {rows : List ℕ} {j x : ℕ} → WayBelow T c v (i + 1) rows j x → Both (WayBelow T c v i) (Only (way_out T c (some a)) v) rows j x
     split {rows} (way-label {j = j} {a = y} l g) = elim (dec_lt j i) [
       | yes o ↦ this (way-label o g)
       | no o ↦ let q : j ≡ i = omega arith in
@@ -151,7 +151,7 @@ ways-passed : {T : List ℕ} {c v n i x : ℕ} {rows mid : List ℕ} {b : Bool} 
     → WaysUpto T c v n (i + 1) rows mid b
 ways-passed {T} {c} {v} {n} {i} {x} {rows} {mid} {b} u h f r = record {
   inside = omega arith;
-  is-count = u.is-count;
+  is_count = u.is_count;
   table = u.table;
   fits = u.fits;
   short = u.short;
@@ -165,26 +165,26 @@ ways-passed {T} {c} {v} {n} {i} {x} {rows} {mid} {b} u h f r = record {
       | yes y ↦ t _ _ (way-label y g) o
       | no y ↦ let k : j ≡ i = omega arith in
           let g₁ : fetch T (c + 1 + 2 * i) ≡ some a = rw k at g in
-          go (label-way u.short u.table u.is-count h g₁ f)
+          go (label-way u.short u.table u.is_count h g₁ f)
     ]
       where
-        go : FirstOr T c i a (c + 1 + 2 * i + 1 - x) → min v cap ≤ row_of rows (wayOut T c (some a))
+        go : FirstOr T c i a (c + 1 + 2 * i + 1 - x) → min v cap ≤ row_of rows (way_out T c (some a))
         go (repeats j l y) = t _ _ (way-label l y) o
         go (is-first y) = let m : c + 1 + 2 * i + 1 - x < half = rw y at o in rw (y, ← e) (r.enough refl m)
 
 -- what was done for a label
-pub label-raised : {T : List ℕ} {c i a v way : ℕ} {rows after : List ℕ} {b : Bool} → fetch T (c + 1 + 2 * i) ≡ some a → way ≡ wayOut T c (some a) → Raised way v rows after b → LabelRaised T c i v rows after b
-label-raised f e r = way-raised f (rw e at r)
+pub label-raised : {T : List ℕ} {c i a v way : ℕ} {rows after : List ℕ} {b : Bool} → fetch T (c + 1 + 2 * i) ≡ some a → way ≡ way_out T c (some a) → Raised way v rows after b → LabelRaised T c i v rows after b
+label-raised f e r = way_raised f (rw e at r)
 
 pub label-enough : {T : List ℕ} {c i x v way : ℕ} {rows : List ℕ} {b : Bool} → fetch T (c + 1 + 2 * i + 1) ≡ some x → way ≡ c + 1 + 2 * i + 1 - x → IsBelow way v rows b → b ≡ false → LabelRaised T c i v rows rows false
-label-enough f e r q = has-enough f (rw (e, q) at r)
+label-enough f e r q = has_enough f (rw (e, q) at r)
 
 pub ways_next : {T : List ℕ} {c v n i : ℕ} {rows mid after : List ℕ} {b d e : Bool} → WaysUpto T c v n i rows mid b → i < n → LabelRaised T c i v mid after d → e ≡ (b || d) → WaysUpto T c v n (i + 1) rows after e
 ways_next {T} {c} {v} {n} {i} {rows} {mid} {b = b} u h r q = rw q (go r)
   where
     go : {after : List ℕ} {d : Bool} → LabelRaised T c i v mid after d → WaysUpto T c v n (i + 1) rows after (b || d)
-    go (way-raised f y) = ways-raised u h f y
-    go (has-enough f y) = rw (or-false b) (ways-passed u h f y)
+    go (way_raised f y) = ways-raised u h f y
+    go (has_enough f y) = rw (or-false b) (ways-passed u h f y)
 
 -- nothing is raised to 0
 pub ways-none : {T : List ℕ} {c v : ℕ} {rows : List ℕ} → v ≡ 0 → WaysRaised T c v rows rows false
@@ -196,13 +196,13 @@ ways-none {T} {c} {v} {rows} e = record { sized = refl; steps = λ k w. stays k 
 pub ways-all : {T : List ℕ} {c v n i : ℕ} {rows mid after : List ℕ} {b d e : Bool} → WaysUpto T c v n i rows mid b → n ≤ i → Raised (c + 1 + 2 * n) v mid after d → e ≡ (b || d) → WaysRaised T c v rows after e
 ways-all {T} {c} {v} {n} {i} u h r q = rw q (record {
   sized = r.sized ∙ u.sized;
-  steps = λ k w. let s = u.steps k w in covers (λ j x m. each m) (seq s (r.steps s.kept (rw (← default-way T c u.is-count) (w none))));
+  steps = λ k w. let s = u.steps k w in covers (λ j x m. each m) (seq s (r.steps s.kept (rw (← default-way T c u.is_count) (w none))));
 })
   where
     each : {rows : List ℕ} {j x : ℕ} → Ways T c v rows j x → Both (WayBelow T c v i) (Only (c + 1 + 2 * n) v) rows j x
-    each (ways none) = that (rw (default-way T c u.is-count) only)
-    each {rows} (ways (some a)) = go (label-cases a u.short u.table u.is-count)
+    each (ways none) = that (rw (default-way T c u.is_count) only)
+    each {rows} (ways (some a)) = go (label-cases a u.short u.table u.is_count)
       where
-        go : Labelled T c n a → Both (WayBelow T c v i) (Only (c + 1 + 2 * n) v) rows (wayOut T c (some a)) v
+        go : Labelled T c n a → Both (WayBelow T c v i) (Only (c + 1 + 2 * n) v) rows (way_out T c (some a)) v
         go (labelled j l g) = this (way-label {j = j} (omega arith) g)
         go (unlabelled g) = that (rw g only)

@@ -12,11 +12,12 @@ use lib.Dec.{eqb, ltb}
 use lib.ListN.{length, get_or}
 use borrow.Author.Tests.{eqb-true, eq-eqb, ne_eqb, lt-ltb, le-ltb}
 use Rattle.base.specs.Bools.{never}
-use Rattle.base.specs.Common.{if◌then◌else◌, given}
+use Rattle.std.specs.Prelude.{if◌then◌else◌}
+use Rattle.base.specs.Common.{given}
 use Rattle.events.specs.Events.{is}
 use Rattle.loading.proofs.Members.{inside-fetch}
 use Rattle.machine.specs.Decode.{fetch}
-use Rattle.figure.specs.Figure.{label_at, labelBy, backFrom, wayAmong, way_of, wayOut}
+use Rattle.figure.specs.Figure.{label_at, label_by, back_from, way_among, way_of, way_out}
 use Rattle.meter.specs.Shaped.{Rising, Between, index_of, start_of, end_of, Fits}
 
 pub end-next : (size r : ℕ) (S : List ℕ) → r + 1 < length S → get_or S (r + 1) 0 ≡ end_of size S r
@@ -91,20 +92,20 @@ rule-past {S} {s} {r} u b h = let e : r ≡ length S = omega (arith, b.inside) i
 -- a search for a label, at the i-th
 pub record Seeking (T : List ℕ) (c v n i : ℕ) : Type 0 where
   pub inside : i ≤ n
-  pub is-count : fetch T c ≡ some n
+  pub is_count : fetch T c ≡ some n
   pub low : 1 ≤ c
   pub fits : c + 2 * n ≤ length T
   pub short : length T ≤ 4096
-  pub on : wayOut T c (some v) ≡ wayAmong T c n (label_at T v (n - i) (c + 1 + 2 * i))
+  pub on : way_out T c (some v) ≡ way_among T c n (label_at T v (n - i) (c + 1 + 2 * i))
 
 pub one-count : {T : List ℕ} {c n : ℕ} (f : Fits T c) → fetch T c ≡ some n → f.count ≡ n
-one-count {n = n} f e = let z : some f.count ≡ some n = sym f.is-count ∙ e in cc
+one-count {n = n} f e = let z : some f.count ≡ some n = sym f.is_count ∙ e in cc
 
 pub seek-first : {T : List ℕ} {c n : ℕ} (v : ℕ) → length T ≤ 4096 → Fits T c → fetch T c ≡ some n → Seeking T c v n 0
-unfolding wayOut way_of labelBy
+unfolding way_out way_of label_by
 seek-first {T} {c} {n} v s f e =
     let z = one-count f e in
-    record { inside = omega arith; is-count = e; low = f.low; fits = omega (arith, f.fits); short = s; on = rw (e, plus-nothing c, minus-nothing n) refl }
+    record { inside = omega arith; is_count = e; low = f.low; fits = omega (arith, f.fits); short = s; on = rw (e, plus-nothing c, minus-nothing n) refl }
   where
     plus-nothing : (c : ℕ) → c + 1 + 2 * 0 ≡ c + 1
     plus-nothing c = omega arith
@@ -116,11 +117,11 @@ at_label : (T : List ℕ) (v n i l : ℕ) → i < n → label_at T v (n - i) l �
 unfolding label_at
 at_label T v n i l h = let e : n - i ≡ suc (n - (i + 1)) = omega arith in rw e refl
 
-pub seek_found : {T : List ℕ} {c v n i a x r : ℕ} → Seeking T c v n i → i < n → fetch T (c + 1 + 2 * i) ≡ some a → a ≡ v → fetch T (c + 1 + 2 * i + 1) ≡ some x → r ≡ c + 1 + 2 * i + 1 - x → r ≡ wayOut T c (some v)
-unfolding is wayAmong backFrom
+pub seek_found : {T : List ℕ} {c v n i a x r : ℕ} → Seeking T c v n i → i < n → fetch T (c + 1 + 2 * i) ≡ some a → a ≡ v → fetch T (c + 1 + 2 * i + 1) ≡ some x → r ≡ c + 1 + 2 * i + 1 - x → r ≡ way_out T c (some v)
+unfolding is way_among back_from
 seek_found {T} {c} {v} {n} {i} {a} {x} k h f e g z =
     let y : label_at T v (n - i) (c + 1 + 2 * i) ≡ some (c + 1 + 2 * i + 1) = rw (at_label T v n i (c + 1 + 2 * i) h, f, eq-eqb v a (sym e)) refl in
-    let w : wayAmong T c n (label_at T v (n - i) (c + 1 + 2 * i)) ≡ c + 1 + 2 * i + 1 - x = rw (y, g) refl in
+    let w : way_among T c n (label_at T v (n - i) (c + 1 + 2 * i)) ≡ c + 1 + 2 * i + 1 - x = rw (y, g) refl in
     z ∙ sym (k.on ∙ w)
 
 pub seek-next : {T : List ℕ} {c v n i a : ℕ} → Seeking T c v n i → i < n → fetch T (c + 1 + 2 * i) ≡ some a → (a ≡ v → ⊥) → Seeking T c v n (i + 1)
@@ -128,13 +129,13 @@ unfolding is
 seek-next {T} {c} {v} {n} {i} {a} k h f e =
     let q : c + 1 + 2 * i + 2 ≡ c + 1 + 2 * (i + 1) = omega arith in
     let y : label_at T v (n - i) (c + 1 + 2 * i) ≡ label_at T v (n - (i + 1)) (c + 1 + 2 * (i + 1)) = rw (at_label T v n i (c + 1 + 2 * i) h, f, ne_eqb v a (λ z. e (sym z)), q) refl in
-    record { inside = omega arith; is-count = k.is-count; low = k.low; fits = k.fits; short = k.short; on = k.on ∙ ap (wayAmong T c n) y }
+    record { inside = omega arith; is_count = k.is_count; low = k.low; fits = k.fits; short = k.short; on = k.on ∙ ap (way_among T c n) y }
 
-pub seek-none : {T : List ℕ} {c v n i : ℕ} → Seeking T c v n i → n ≤ i → c + 1 + 2 * n ≡ wayOut T c (some v)
-unfolding label_at wayAmong
+pub seek-none : {T : List ℕ} {c v n i : ℕ} → Seeking T c v n i → n ≤ i → c + 1 + 2 * n ≡ way_out T c (some v)
+unfolding label_at way_among
 seek-none {T} {c} {v} {n} {i} k h =
     let e : n - i ≡ 0 = omega arith in
-    let w : wayAmong T c n (label_at T v (n - i) (c + 1 + 2 * i)) ≡ c + 1 + 2 * n = rw e refl in
+    let w : way_among T c n (label_at T v (n - i) (c + 1 + 2 * i)) ≡ c + 1 + 2 * n = rw e refl in
     sym (k.on ∙ w)
 
 -- one of the labels before the i-th is v, or the search comes there
@@ -164,7 +165,7 @@ seeks {T} {c} {v} {n} (suc i) h k = go (seeks i (omega arith) k)
 -- a value is one of the labels, or goes to the default
 pub data Labelled (T : List ℕ) (c n v : ℕ) : Type 0 where
   labelled : (j : ℕ) → j < n → fetch T (c + 1 + 2 * j) ≡ some v → Labelled T c n v
-  unlabelled : wayOut T c (some v) ≡ c + 1 + 2 * n → Labelled T c n v
+  unlabelled : way_out T c (some v) ≡ c + 1 + 2 * n → Labelled T c n v
 
 pub label-cases : {T : List ℕ} {c n : ℕ} (v : ℕ) → length T ≤ 4096 → Fits T c → fetch T c ≡ some n → Labelled T c n v
 label-cases {T} {c} {n} v s f e = go (seeks n (omega arith) (seek-first v s f e))
@@ -175,7 +176,7 @@ label-cases {T} {c} {n} v s f e = go (seeks n (omega arith) (seek-first v s f e)
 
 -- a label goes the way that stands beside it, or one before it is the same
 pub data FirstOr (T : List ℕ) (c i a way : ℕ) : Type 0 where
-  is-first : wayOut T c (some a) ≡ way → FirstOr T c i a way
+  is-first : way_out T c (some a) ≡ way → FirstOr T c i a way
   repeats : (j : ℕ) → j < i → fetch T (c + 1 + 2 * j) ≡ some a → FirstOr T c i a way
 
 pub label-way : {T : List ℕ} {c n i a x : ℕ} → length T ≤ 4096 → Fits T c → fetch T c ≡ some n → i < n → fetch T (c + 1 + 2 * i) ≡ some a → fetch T (c + 1 + 2 * i + 1) ≡ some x → FirstOr T c i a (c + 1 + 2 * i + 1 - x)
@@ -185,6 +186,6 @@ label-way {T} {c} {n} {i} {a} {x} s f e h g z = go (seeks i (omega arith) (seek-
     go (met j l y) = repeats j l y
     go (unmet k) = is-first (sym (seek_found k h g refl z refl))
 
-pub default-way : (T : List ℕ) (c : ℕ) {n : ℕ} → fetch T c ≡ some n → wayOut T c none ≡ c + 1 + 2 * n
-unfolding wayOut way_of labelBy wayAmong
+pub default-way : (T : List ℕ) (c : ℕ) {n : ℕ} → fetch T c ≡ some n → way_out T c none ≡ c + 1 + 2 * n
+unfolding way_out way_of label_by way_among
 default-way T c e = rw e refl

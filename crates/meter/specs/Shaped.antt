@@ -1,8 +1,7 @@
 -- What the code asks of a table and of the locations where its rules start; the table of every accepted program has it.
-use Rattle.std.specs.Prelude.{Bool, true, false, List, [], ◌∷◌, ◌≡◌, ℕ, suc, ◌+◌, ◌*◌, ◌≤◌, ◌<◌, eqb, ltb, length, get_or}
+use Rattle.std.specs.Prelude.{Bool, true, false, List, [], ◌∷◌, ◌≡◌, ℕ, suc, ◌+◌, ◌*◌, ◌≤◌, ◌<◌, eqb, ltb, length, get_or, if◌then◌else◌}
 use Rattle.std.proofs.Math.Option.{Option, none, some}
-use Rattle.base.specs.Common.{if◌then◌else◌}
-use Rattle.machine.specs.Decode.{fetch, Instruction, invalid, jump, input, inputAny, write, inputChoice, callRule, return, setResult, choice, endChoice, setParameter, update, updateWith, choose, chooseWith, decode}
+use Rattle.machine.specs.Decode.{fetch, Instruction, invalid, jump, input, input_any, write, input_choice, call_rule, return, set_result, choice, end_choice, set_parameter, update, update_with, choose, choose_with, decode}
 use Rattle.figure.specs.Figure.{Reached, back, Quiet}
 
 -- which rule starts at s: the first; their number where none does
@@ -34,39 +33,39 @@ pub record InRule (T S : List ℕ) (r l : ℕ) : Type 0 where
   pub from : start_of S r ≤ l
   pub to : l < end_of (length T) S r
 
-unfoldable pub isChoice : Instruction → Bool
-isChoice invalid = false
-isChoice (jump m) = false
-isChoice (input t) = false
-isChoice inputAny = false
-isChoice (write e) = false
-isChoice (inputChoice c) = false
-isChoice (callRule s) = false
-isChoice return = false
-isChoice (setResult v) = false
-isChoice (choice c) = true
-isChoice endChoice = false
-isChoice (setParameter v) = false
-isChoice (update op) = false
-isChoice (updateWith op) = false
-isChoice (choose op) = false
-isChoice (chooseWith op) = false
+unfoldable pub is_choice : Instruction → Bool
+is_choice invalid = false
+is_choice (jump m) = false
+is_choice (input t) = false
+is_choice input_any = false
+is_choice (write e) = false
+is_choice (input_choice c) = false
+is_choice (call_rule s) = false
+is_choice return = false
+is_choice (set_result v) = false
+is_choice (choice c) = true
+is_choice end_choice = false
+is_choice (set_parameter v) = false
+is_choice (update op) = false
+is_choice (update_with op) = false
+is_choice (choose op) = false
+is_choice (choose_with op) = false
 
 -- a value, or none
 pub data Given : Bool → Option ℕ → Type 0 where
-  given-none : Given false none
-  given-some : {v : ℕ} → Given true (some v)
+  given_none : Given false none
+  given_some : {v : ℕ} → Given true (some v)
 
 -- the choice table at c lies inside
 pub record Fits (T : List ℕ) (c : ℕ) : Type 0 where
   pub count : ℕ
-  pub is-count : fetch T c ≡ some count
+  pub is_count : fetch T c ≡ some count
   pub low : 1 ≤ c
   pub fits : c + 2 * count ≤ length T
 
 -- the instruction has its choice table at c
 pub data HasTable (c : ℕ) : Instruction → Type 0 where
-  by_token : HasTable c (inputChoice c)
+  by_token : HasTable c (input_choice c)
   by_result : HasTable c (choice c)
 
 pub record Shaped (T S : List ℕ) : Type 0 where
@@ -79,14 +78,14 @@ pub record Shaped (T S : List ℕ) : Type 0 where
   pub apart : {r q l : ℕ} → r < length S → q < length S → InRule T S r l → InRule T S q l → r ≡ q
   pub tables : {r l c : ℕ} → r < length S → Reached T (start_of S r) l → HasTable c (decode T l) → Fits T c
   -- calls go to rules
-  pub calls : {r l s : ℕ} → r < length S → Reached T (start_of S r) l → decode T l ≡ callRule s → index_of S s < length S
+  pub calls : {r l s : ℕ} → r < length S → Reached T (start_of S r) l → decode T l ≡ call_rule s → index_of S s < length S
   -- a value is set before a return only
-  pub gives : {r l v : ℕ} → r < length S → Reached T (start_of S r) l → decode T l ≡ setResult v → decode T (l + 2) ≡ return
+  pub gives : {r l v : ℕ} → r < length S → Reached T (start_of S r) l → decode T l ≡ set_result v → decode T (l + 2) ≡ return
   -- a rule gives a value exactly if a choice stands behind its calls
-  pub answers : {r l s m : ℕ} {y : Option ℕ} → r < length S → Reached T (start_of S r) l → decode T l ≡ callRule s → Quiet T s none m (back y)
-      → Given (isChoice (decode T (l + 2))) y
+  pub answers : {r l s m : ℕ} {y : Option ℕ} → r < length S → Reached T (start_of S r) l → decode T l ≡ call_rule s → Quiet T s none m (back y)
+      → Given (is_choice (decode T (l + 2))) y
 
 -- all of this file computes where this is unfolded
 unfoldable pub opened : Unit {0}
-unfolding index_of end_of isChoice
+unfolding index_of end_of is_choice
 opened = tt

@@ -4,12 +4,12 @@
 ghost use Rattle.std.specs.Prelude.{◌≡◌, true, ◌||◌, ◌+◌, ◌*◌, ◌-◌, ◌<◌, ◌≤◌, min, length, get_or, set, replicate};
 ghost use Rattle.std.proofs.Math.Option.{none, some};
 ghost use Rattle.machine.specs.Bytes.{table_of};
-ghost use Rattle.meter.specs.Steps.{flagOf, calledOf, Kept, Here, Steps, IsBelow, Raised, LabelRaised, MakesAt, RaisedTwo, WaysRaised, Visited, TokenVisited, ValueAt, ValueHere, CallsHere, Values, Behind, ChoiceAt, AskedAt, AskedBelow, AskedFrom, Greatest, ZeroIn, NoneCalled, Begun, Settled};
-ghost use Rattle.machine.specs.Decode.{callRule, choice, decode_one, decodeTwo, decode};
+ghost use Rattle.meter.specs.Steps.{flag_of, called_of, Kept, Here, Steps, IsBelow, Raised, LabelRaised, MakesAt, RaisedTwo, WaysRaised, Visited, TokenVisited, ValueAt, ValueHere, CallsHere, Values, Behind, ChoiceAt, AskedAt, AskedBelow, AskedFrom, Greatest, ZeroIn, NoneCalled, Begun, Settled};
+ghost use Rattle.machine.specs.Decode.{call_rule, choice, decode_one, decode_two, decode};
 ghost use Rattle.meter.specs.Shaped.{Rising, Between, index_of, end_of, InRule, Fits, Shaped};
 ghost use Rattle.meter.specs.Found.{Found};
-ghost use Rattle.meter.specs.Store.{atCap, numbersOf, calledNumbers};
-ghost use Rattle.figure.specs.Figure.{wayOut};
+ghost use Rattle.meter.specs.Store.{at_cap, numbers_of, called_numbers};
+ghost use Rattle.figure.specs.Figure.{way_out};
 
 use base::wide;
 use loader::back;
@@ -57,7 +57,7 @@ const FIRST_CHOOSE: usize = machine::ASK as usize;
 // Whether the number at an index is CAP.
 fn at_cap(rows: &[u32], i: usize) -> bool
     requires { (length rows.now ≡ 4490) × (i < 4353) }
-    ensures { result ≡ atCap rows.now i }
+    ensures { result ≡ at_cap rows.now i }
 {
     (rows[HALF + i / WORD_BITS] >> (i % WORD_BITS)) & 1 == 1
 }
@@ -65,7 +65,7 @@ fn at_cap(rows: &[u32], i: usize) -> bool
 // The number at an index.
 fn number(rows: &[u32], i: usize) -> u64
     requires { length rows.now ≡ 4490 }
-    ensures { result ≡ get_or (numbersOf rows.now) i 0 }
+    ensures { result ≡ get_or (numbers_of rows.now) i 0 }
 {
     if HALF <= i {
         return 0;
@@ -78,8 +78,8 @@ fn number(rows: &[u32], i: usize) -> u64
 
 // A number becomes v, which is more: no bit is ever cleared.
 fn put(rows: &mut [u32], i: usize, v: u64)
-    requires { (length rows.old ≡ 4490) × (i < 4353) × (get_or (numbersOf rows.old) i 0 < v) × (v ≤ 4294967296) }
-    ensures { numbersOf rows.new ≡ set (numbersOf rows.old) i v }
+    requires { (length rows.old ≡ 4490) × (i < 4353) × (get_or (numbers_of rows.old) i 0 < v) × (v ≤ 4294967296) }
+    ensures { numbers_of rows.new ≡ set (numbers_of rows.old) i v }
 {
     if v < CAP {
         rows[i] = v as u32;
@@ -104,7 +104,7 @@ fn either(a: bool, b: bool) -> bool
 // Whether v would raise a number; locations past the last have none.
 fn is_below(rows: &[u32], i: usize, v: u64) -> bool
     requires { length rows.now ≡ 4490 }
-    ensures { IsBelow i v (numbersOf rows.now) result }
+    ensures { IsBelow i v (numbers_of rows.now) result }
 {
     if HALF <= i {
         return false;
@@ -115,7 +115,7 @@ fn is_below(rows: &[u32], i: usize, v: u64) -> bool
 // A number is raised, where it is less.
 fn raise(rows: &mut [u32], i: usize, v: u64) -> bool
     requires { length rows.old ≡ 4490 }
-    ensures { Raised i v (numbersOf rows.old) (numbersOf rows.new) result }
+    ensures { Raised i v (numbers_of rows.old) (numbers_of rows.new) result }
 {
     if is_below(rows, i, v) {
         put(rows, i, capped(v));
@@ -126,7 +126,7 @@ fn raise(rows: &mut [u32], i: usize, v: u64) -> bool
 
 // What begins a path in the second half: every instruction that can be reached.
 fn mark_of(called: &[u32]) -> u64
-    ensures { result ≡ flagOf (calledNumbers called.now) }
+    ensures { result ≡ flag_of (called_numbers called.now) }
 {
     if called.len() == ROWS { 1 } else { 0 }
 }
@@ -134,7 +134,7 @@ fn mark_of(called: &[u32]) -> u64
 // A number of a called rule: of the first half where it is lent, else of the half that is raised.
 fn called_number(called: &[u32], rows: &[u32], i: usize) -> u64
     requires { length rows.now ≡ 4490 }
-    ensures { result ≡ calledOf (calledNumbers called.now) (numbersOf rows.now) i }
+    ensures { result ≡ called_of (called_numbers called.now) (numbers_of rows.now) i }
 {
     if called.len() == ROWS {
         return number(called, i);
@@ -187,7 +187,7 @@ fn end_of(starts: &[usize], r: usize, size: usize) -> usize
 // Where the choice with its table at c goes by a value.
 fn way_out(table: &[u8], c: usize, v: usize) -> usize
     requires { Fits (table_of table.now) c }
-    ensures { result ≡ wayOut (table_of table.now) c (some v) }
+    ensures { result ≡ way_out (table_of table.now) c (some v) }
 {
     let n = loader::word_at(table, c);
     let mut i: usize = 0;
@@ -204,7 +204,7 @@ fn way_out(table: &[u8], c: usize, v: usize) -> usize
 // Two places are raised.
 fn raise_two(rows: &mut [u32], i: usize, v: u64, j: usize, w: u64) -> bool
     requires { length rows.old ≡ 4490 }
-    ensures { RaisedTwo i v j w (numbersOf rows.old) (numbersOf rows.new) result }
+    ensures { RaisedTwo i v j w (numbers_of rows.old) (numbers_of rows.new) result }
 {
     let a = raise(rows, i, v);
     let b = raise(rows, j, w);
@@ -215,7 +215,7 @@ fn raise_two(rows: &mut [u32], i: usize, v: u64, j: usize, w: u64) -> bool
 // where that way has enough.
 fn raise_label(table: &[u8], c: usize, i: usize, v: u64, rows: &mut [u32]) -> bool
     requires { Fits (table_of table.now) c × (c + 2 * i + 2 ≤ length (table_of table.now)) × (length rows.old ≡ 4490) }
-    ensures { LabelRaised (table_of table.now) c i v (numbersOf rows.old) (numbersOf rows.new) result }
+    ensures { LabelRaised (table_of table.now) c i v (numbers_of rows.old) (numbers_of rows.new) result }
 {
     let l = c + 1 + 2 * i;
     let beside = back(l + 1, loader::word_at(table, l + 1));
@@ -229,7 +229,7 @@ fn raise_label(table: &[u8], c: usize, i: usize, v: u64, rows: &mut [u32]) -> bo
 // Every way out of the choice with its table at c.
 fn raise_ways(table: &[u8], c: usize, v: u64, rows: &mut [u32]) -> bool
     requires { Fits (table_of table.now) c × (length rows.old ≡ 4490) }
-    ensures { WaysRaised (table_of table.now) c v (numbersOf rows.old) (numbersOf rows.new) result }
+    ensures { WaysRaised (table_of table.now) c v (numbers_of rows.old) (numbers_of rows.new) result }
 {
     if v == 0 {
         return false;
@@ -257,7 +257,7 @@ struct Spot {
 // An instruction of one word.
 fn visit_one(i: usize, called: &[u32], here: Spot, rows: &mut [u32]) -> bool
     requires { (length rows.old ≡ 4490) × (here.rule < 128) × (here.at < 10000) × (here.number ≤ 4294967296) }
-    ensures { Visited (decode_one i) (calledNumbers called.now) here.rule here.at here.number (numbersOf rows.old) (numbersOf rows.new) result }
+    ensures { Visited (decode_one i) (called_numbers called.now) here.rule here.at here.number (numbers_of rows.old) (numbers_of rows.new) result }
 {
     let next = here.at + 1;
     let over = OVER + here.rule;
@@ -279,7 +279,7 @@ fn visit_one(i: usize, called: &[u32], here: Spot, rows: &mut [u32]) -> bool
 // A choice by the present token, with its table at c.
 fn visit_token(table: &[u8], c: usize, called: &[u32], here: Spot, rows: &mut [u32]) -> bool
     requires { Fits (table_of table.now) c × (length rows.old ≡ 4490) × (here.rule < 128) × (here.number ≤ 4294967296) }
-    ensures { TokenVisited (table_of table.now) c (calledNumbers called.now) here.rule here.at here.number (numbersOf rows.old) (numbersOf rows.new) result }
+    ensures { TokenVisited (table_of table.now) c (called_numbers called.now) here.rule here.at here.number (numbers_of rows.old) (numbers_of rows.new) result }
 {
     let a = raise_ways(table, c, mark_of(called), rows);
     let default = c + 1 + 2 * loader::word_at(table, c);
@@ -303,8 +303,8 @@ fn raise_value(
     here: Spot,
     rows: &mut [u32],
 ) -> bool
-    requires { Kept (table_of table.now) starts.now (calledNumbers called.now) (numbersOf rows.old) × ValueHere (table_of table.now) starts.now (calledNumbers called.now) here.rule here.at here.number c p × (length rows.old ≡ 4490) }
-    ensures { Steps (table_of table.now) starts.now (ValueAt (table_of table.now) (calledNumbers called.now) c here.number p) (calledNumbers called.now) (numbersOf rows.old) (numbersOf rows.new) result }
+    requires { Kept (table_of table.now) starts.now (called_numbers called.now) (numbers_of rows.old) × ValueHere (table_of table.now) starts.now (called_numbers called.now) here.rule here.at here.number c p × (length rows.old ≡ 4490) }
+    ensures { Steps (table_of table.now) starts.now (ValueAt (table_of table.now) (called_numbers called.now) c here.number p) (called_numbers called.now) (numbers_of rows.old) (numbers_of rows.new) result }
 {
     if loader::word_at(table, p) != SET_RESULT {
         return false;
@@ -323,7 +323,7 @@ fn raise_value(
 // The numbers from i on whose bits stand in one word are 0.
 fn is_clear(rows: &[u32], i: usize) -> bool
     requires { (length rows.now ≡ 4490) × (i + 32 ≤ 4353) }
-    ensures { result ≡ true → ZeroIn (numbersOf rows.now) i (i + 32) }
+    ensures { result ≡ true → ZeroIn (numbers_of rows.now) i (i + 32) }
 {
     if i % WORD_BITS != 0 {
         return false;
@@ -340,7 +340,7 @@ fn is_clear(rows: &[u32], i: usize) -> bool
 // Past numbers that are 0, from i on and before an end: as many at once as have their bits in one word, or one, or none.
 fn past_zeros(rows: &[u32], i: usize, to: usize) -> usize
     requires { (length rows.now ≡ 4490) × (i < to) }
-    ensures { (i ≤ result) × (result ≤ to) × ZeroIn (numbersOf rows.now) i result }
+    ensures { (i ≤ result) × (result ≤ to) × ZeroIn (numbers_of rows.now) i result }
 {
     if i < LAST_WORD {
         if is_clear(rows, i) {
@@ -359,7 +359,7 @@ fn past_zeros(rows: &[u32], i: usize, to: usize) -> usize
 // The first place from i on, before an end, with a number; the end where none has one.
 fn next_numbered(rows: &[u32], i: usize, to: usize) -> usize
     requires { (length rows.now ≡ 4490) × (i ≤ to) }
-    ensures { (i ≤ result) × (result ≤ to) × ZeroIn (numbersOf rows.now) i result }
+    ensures { (i ≤ result) × (result ≤ to) × ZeroIn (numbers_of rows.now) i result }
 {
     let mut at = i;
     while at < to {
@@ -375,7 +375,7 @@ fn next_numbered(rows: &[u32], i: usize, to: usize) -> usize
 // The same among the numbers of called rules.
 fn next_called(called: &[u32], rows: &[u32], i: usize, to: usize) -> usize
     requires { (length rows.now ≡ 4490) × (i ≤ to) }
-    ensures { (i ≤ result) × (result ≤ to) × NoneCalled (calledNumbers called.now) (numbersOf rows.now) i result }
+    ensures { (i ≤ result) × (result ≤ to) × NoneCalled (called_numbers called.now) (numbers_of rows.now) i result }
 {
     if called.len() == ROWS {
         return next_numbered(called, i, to);
@@ -407,8 +407,8 @@ fn raise_values(
     here: Spot,
     rows: &mut [u32],
 ) -> bool
-    requires { Kept (table_of table.now) starts.now (calledNumbers called.now) (numbersOf rows.old) × CallsHere (table_of table.now) starts.now (calledNumbers called.now) here.rule here.at here.number q × (decode (table_of table.now) (here.at + 2) ≡ choice c) × (length rows.old ≡ 4490) }
-    ensures { Steps (table_of table.now) starts.now (Values (table_of table.now) starts.now (calledNumbers called.now) c here.number q (end_of (length (table_of table.now)) starts.now q)) (calledNumbers called.now) (numbersOf rows.old) (numbersOf rows.new) result }
+    requires { Kept (table_of table.now) starts.now (called_numbers called.now) (numbers_of rows.old) × CallsHere (table_of table.now) starts.now (called_numbers called.now) here.rule here.at here.number q × (decode (table_of table.now) (here.at + 2) ≡ choice c) × (length rows.old ≡ 4490) }
+    ensures { Steps (table_of table.now) starts.now (Values (table_of table.now) starts.now (called_numbers called.now) c here.number q (end_of (length (table_of table.now)) starts.now q)) (called_numbers called.now) (numbers_of rows.old) (numbers_of rows.new) result }
 {
     let to = end_of(starts, q, loader::size_of(table));
     let mut changed = false;
@@ -430,8 +430,8 @@ fn raise_behind(
     here: Spot,
     rows: &mut [u32],
 ) -> bool
-    requires { Kept (table_of table.now) starts.now (calledNumbers called.now) (numbersOf rows.old) × CallsHere (table_of table.now) starts.now (calledNumbers called.now) here.rule here.at here.number q × (length rows.old ≡ 4490) }
-    ensures { Steps (table_of table.now) starts.now (Behind (table_of table.now) starts.now (calledNumbers called.now) here.at here.number q) (calledNumbers called.now) (numbersOf rows.old) (numbersOf rows.new) result }
+    requires { Kept (table_of table.now) starts.now (called_numbers called.now) (numbers_of rows.old) × CallsHere (table_of table.now) starts.now (called_numbers called.now) here.rule here.at here.number q × (length rows.old ≡ 4490) }
+    ensures { Steps (table_of table.now) starts.now (Behind (table_of table.now) starts.now (called_numbers called.now) here.at here.number q) (called_numbers called.now) (numbers_of rows.old) (numbers_of rows.new) result }
 {
     let next = here.at + 2;
     let c = choice_at(table, next);
@@ -454,8 +454,8 @@ fn raise_call(
     here: Spot,
     rows: &mut [u32],
 ) -> bool
-    requires { Kept (table_of table.now) starts.now (calledNumbers called.now) (numbersOf rows.old) × Here (table_of table.now) starts.now (calledNumbers called.now) here.rule here.at here.number × (decode (table_of table.now) here.at ≡ callRule s) × (length rows.old ≡ 4490) }
-    ensures { Steps (table_of table.now) starts.now (MakesAt (table_of table.now) starts.now (calledNumbers called.now) here.rule here.at here.number (callRule s)) (calledNumbers called.now) (numbersOf rows.old) (numbersOf rows.new) result }
+    requires { Kept (table_of table.now) starts.now (called_numbers called.now) (numbers_of rows.old) × Here (table_of table.now) starts.now (called_numbers called.now) here.rule here.at here.number × (decode (table_of table.now) here.at ≡ call_rule s) × (length rows.old ≡ 4490) }
+    ensures { Steps (table_of table.now) starts.now (MakesAt (table_of table.now) starts.now (called_numbers called.now) here.rule here.at here.number (call_rule s)) (called_numbers called.now) (numbers_of rows.old) (numbers_of rows.new) result }
 {
     let q = rule_at(starts, s);
     let o = here.number + called_number(called, rows, OVER + q);
@@ -474,8 +474,8 @@ fn visit_two(
     here: Spot,
     rows: &mut [u32],
 ) -> bool
-    requires { Kept (table_of table.now) starts.now (calledNumbers called.now) (numbersOf rows.old) × Here (table_of table.now) starts.now (calledNumbers called.now) here.rule here.at here.number × (decode (table_of table.now) here.at ≡ decodeTwo here.at i x) × (x < 65536) × (length rows.old ≡ 4490) }
-    ensures { Steps (table_of table.now) starts.now (MakesAt (table_of table.now) starts.now (calledNumbers called.now) here.rule here.at here.number (decodeTwo here.at i x)) (calledNumbers called.now) (numbersOf rows.old) (numbersOf rows.new) result }
+    requires { Kept (table_of table.now) starts.now (called_numbers called.now) (numbers_of rows.old) × Here (table_of table.now) starts.now (called_numbers called.now) here.rule here.at here.number × (decode (table_of table.now) here.at ≡ decode_two here.at i x) × (x < 65536) × (length rows.old ≡ 4490) }
+    ensures { Steps (table_of table.now) starts.now (MakesAt (table_of table.now) starts.now (called_numbers called.now) here.rule here.at here.number (decode_two here.at i x)) (called_numbers called.now) (numbers_of rows.old) (numbers_of rows.new) result }
 {
     let l = here.at;
     let more = here.number + 1;
@@ -509,8 +509,8 @@ fn visit(
     called: &[u32],
     rows: &mut [u32],
 ) -> bool
-    requires { Kept (table_of table.now) starts.now (calledNumbers called.now) (numbersOf rows.old) × (rule < length starts.now) × InRule (table_of table.now) starts.now rule at × (length rows.old ≡ 4490) }
-    ensures { Steps (table_of table.now) starts.now (AskedAt (table_of table.now) starts.now (calledNumbers called.now) rule at) (calledNumbers called.now) (numbersOf rows.old) (numbersOf rows.new) result }
+    requires { Kept (table_of table.now) starts.now (called_numbers called.now) (numbers_of rows.old) × (rule < length starts.now) × InRule (table_of table.now) starts.now rule at × (length rows.old ≡ 4490) }
+    ensures { Steps (table_of table.now) starts.now (AskedAt (table_of table.now) starts.now (called_numbers called.now) rule at) (called_numbers called.now) (numbers_of rows.old) (numbers_of rows.new) result }
 {
     if at == 0 {
         return false;
@@ -542,8 +542,8 @@ fn visit(
 
 // What the instructions of a rule ask for.
 fn sweep_rule(table: &[u8], starts: &[usize], r: usize, called: &[u32], rows: &mut [u32]) -> bool
-    requires { Kept (table_of table.now) starts.now (calledNumbers called.now) (numbersOf rows.old) × (r < length starts.now) × (length rows.old ≡ 4490) }
-    ensures { Steps (table_of table.now) starts.now (AskedBelow (table_of table.now) starts.now (calledNumbers called.now) r (end_of (length (table_of table.now)) starts.now r)) (calledNumbers called.now) (numbersOf rows.old) (numbersOf rows.new) result }
+    requires { Kept (table_of table.now) starts.now (called_numbers called.now) (numbers_of rows.old) × (r < length starts.now) × (length rows.old ≡ 4490) }
+    ensures { Steps (table_of table.now) starts.now (AskedBelow (table_of table.now) starts.now (called_numbers called.now) r (end_of (length (table_of table.now)) starts.now r)) (called_numbers called.now) (numbers_of rows.old) (numbers_of rows.new) result }
 {
     let to = end_of(starts, r, loader::size_of(table));
     let mut changed = false;
@@ -558,8 +558,8 @@ fn sweep_rule(table: &[u8], starts: &[usize], r: usize, called: &[u32], rows: &m
 
 // One sweep over all rules, the last first.
 fn sweep_down(table: &[u8], starts: &[usize], called: &[u32], rows: &mut [u32]) -> bool
-    requires { Kept (table_of table.now) starts.now (calledNumbers called.now) (numbersOf rows.old) × (length rows.old ≡ 4490) }
-    ensures { Steps (table_of table.now) starts.now (AskedFrom (table_of table.now) starts.now (calledNumbers called.now) 0) (calledNumbers called.now) (numbersOf rows.old) (numbersOf rows.new) result }
+    requires { Kept (table_of table.now) starts.now (called_numbers called.now) (numbers_of rows.old) × (length rows.old ≡ 4490) }
+    ensures { Steps (table_of table.now) starts.now (AskedFrom (table_of table.now) starts.now (called_numbers called.now) 0) (called_numbers called.now) (numbers_of rows.old) (numbers_of rows.new) result }
 {
     let mut changed = false;
     let mut r = starts.len();
@@ -573,8 +573,8 @@ fn sweep_down(table: &[u8], starts: &[usize], called: &[u32], rows: &mut [u32]) 
 
 // One sweep over all rules, the first first.
 fn sweep_up(table: &[u8], starts: &[usize], called: &[u32], rows: &mut [u32]) -> bool
-    requires { Kept (table_of table.now) starts.now (calledNumbers called.now) (numbersOf rows.old) × (length rows.old ≡ 4490) }
-    ensures { Steps (table_of table.now) starts.now (AskedFrom (table_of table.now) starts.now (calledNumbers called.now) 0) (calledNumbers called.now) (numbersOf rows.old) (numbersOf rows.new) result }
+    requires { Kept (table_of table.now) starts.now (called_numbers called.now) (numbers_of rows.old) × (length rows.old ≡ 4490) }
+    ensures { Steps (table_of table.now) starts.now (AskedFrom (table_of table.now) starts.now (called_numbers called.now) 0) (called_numbers called.now) (numbers_of rows.old) (numbers_of rows.new) result }
 {
     let mut changed = false;
     let mut r: usize = 0;
@@ -588,8 +588,8 @@ fn sweep_up(table: &[u8], starts: &[usize], called: &[u32], rows: &mut [u32]) ->
 
 // One sweep: down is good for rules that call later ones, up for those that call earlier ones.
 fn sweep(table: &[u8], starts: &[usize], called: &[u32], up: bool, rows: &mut [u32]) -> bool
-    requires { Kept (table_of table.now) starts.now (calledNumbers called.now) (numbersOf rows.old) × (length rows.old ≡ 4490) }
-    ensures { Steps (table_of table.now) starts.now (AskedFrom (table_of table.now) starts.now (calledNumbers called.now) 0) (calledNumbers called.now) (numbersOf rows.old) (numbersOf rows.new) result }
+    requires { Kept (table_of table.now) starts.now (called_numbers called.now) (numbers_of rows.old) × (length rows.old ≡ 4490) }
+    ensures { Steps (table_of table.now) starts.now (AskedFrom (table_of table.now) starts.now (called_numbers called.now) 0) (called_numbers called.now) (numbers_of rows.old) (numbers_of rows.new) result }
 {
     if up {
         return sweep_up(table, starts, called, rows);
@@ -730,8 +730,8 @@ fn sweep_if(
     rows: &mut [u32],
     on: bool,
 ) -> bool
-    requires { Kept (table_of table.now) starts.now (calledNumbers called.now) (numbersOf rows.old) × (r < length starts.now) × (length rows.old ≡ 4490) }
-    ensures { Steps (table_of table.now) starts.now (AskedFrom (table_of table.now) starts.now (calledNumbers called.now) (length starts.now)) (calledNumbers called.now) (numbersOf rows.old) (numbersOf rows.new) result }
+    requires { Kept (table_of table.now) starts.now (called_numbers called.now) (numbers_of rows.old) × (r < length starts.now) × (length rows.old ≡ 4490) }
+    ensures { Steps (table_of table.now) starts.now (AskedFrom (table_of table.now) starts.now (called_numbers called.now) (length starts.now)) (called_numbers called.now) (numbers_of rows.old) (numbers_of rows.new) result }
 {
     if on {
         return sweep_rule(table, starts, r, called, rows);
@@ -748,8 +748,8 @@ struct Brought {
 
 // The rules that are due swept, the last first, where those of `raised` were raised in the round before.
 fn round(table: &[u8], starts: &[usize], called: &[u32], raised: Due, rows: &mut [u32]) -> Brought
-    requires { Kept (table_of table.now) starts.now (calledNumbers called.now) (numbersOf rows.old) × (length rows.old ≡ 4490) }
-    ensures { Steps (table_of table.now) starts.now (AskedFrom (table_of table.now) starts.now (calledNumbers called.now) (length starts.now)) (calledNumbers called.now) (numbersOf rows.old) (numbersOf rows.new) result.changed }
+    requires { Kept (table_of table.now) starts.now (called_numbers called.now) (numbers_of rows.old) × (length rows.old ≡ 4490) }
+    ensures { Steps (table_of table.now) starts.now (AskedFrom (table_of table.now) starts.now (called_numbers called.now) (length starts.now)) (called_numbers called.now) (numbers_of rows.old) (numbers_of rows.new) result.changed }
 {
     let first = called.len() != ROWS;
     let mut changed = false;
@@ -785,8 +785,8 @@ fn less(left: usize, due: Due) -> usize
 
 // Rounds until nothing is due, or many of them.
 fn rounds(table: &[u8], starts: &[usize], called: &[u32], rows: &mut [u32]) -> bool
-    requires { Kept (table_of table.now) starts.now (calledNumbers called.now) (numbersOf rows.old) × (length rows.old ≡ 4490) }
-    ensures { Steps (table_of table.now) starts.now (AskedFrom (table_of table.now) starts.now (calledNumbers called.now) (length starts.now)) (calledNumbers called.now) (numbersOf rows.old) (numbersOf rows.new) result }
+    requires { Kept (table_of table.now) starts.now (called_numbers called.now) (numbers_of rows.old) × (length rows.old ≡ 4490) }
+    ensures { Steps (table_of table.now) starts.now (AskedFrom (table_of table.now) starts.now (called_numbers called.now) (length starts.now)) (called_numbers called.now) (numbers_of rows.old) (numbers_of rows.new) result }
 {
     let mut changed = false;
     let mut due = Due {
@@ -805,8 +805,8 @@ fn rounds(table: &[u8], starts: &[usize], called: &[u32], rows: &mut [u32]) -> b
 
 // Rounds, where they are due by now.
 fn rounds_if(table: &[u8], starts: &[usize], called: &[u32], late: bool, rows: &mut [u32]) -> bool
-    requires { Kept (table_of table.now) starts.now (calledNumbers called.now) (numbersOf rows.old) × (length rows.old ≡ 4490) }
-    ensures { Steps (table_of table.now) starts.now (AskedFrom (table_of table.now) starts.now (calledNumbers called.now) (length starts.now)) (calledNumbers called.now) (numbersOf rows.old) (numbersOf rows.new) result }
+    requires { Kept (table_of table.now) starts.now (called_numbers called.now) (numbers_of rows.old) × (length rows.old ≡ 4490) }
+    ensures { Steps (table_of table.now) starts.now (AskedFrom (table_of table.now) starts.now (called_numbers called.now) (length starts.now)) (called_numbers called.now) (numbers_of rows.old) (numbers_of rows.new) result }
 {
     if late {
         return rounds(table, starts, called, rows);
@@ -823,8 +823,8 @@ fn before(n: usize) -> usize {
 
 // Sweeps down and up in turn, late ones behind rounds, until one raises nothing.
 fn settle(table: &[u8], starts: &[usize], called: &[u32], rows: &mut [u32])
-    requires { Kept (table_of table.now) starts.now (calledNumbers called.now) (numbersOf rows.old) × (length rows.old ≡ 4490) }
-    ensures { Settled (table_of table.now) starts.now (calledNumbers called.now) (numbersOf rows.old) (numbersOf rows.new) }
+    requires { Kept (table_of table.now) starts.now (called_numbers called.now) (numbers_of rows.old) × (length rows.old ≡ 4490) }
+    ensures { Settled (table_of table.now) starts.now (called_numbers called.now) (numbers_of rows.old) (numbers_of rows.new) }
 {
     let mut changed = true;
     let mut up = false;
@@ -839,8 +839,8 @@ fn settle(table: &[u8], starts: &[usize], called: &[u32], rows: &mut [u32])
 
 // The rules' starts get the number 1.
 fn begin(table: &[u8], starts: &[usize], called: &[u32], rows: &mut [u32])
-    requires { Kept (table_of table.now) starts.now (calledNumbers called.now) (numbersOf rows.old) × (length rows.old ≡ 4490) }
-    ensures { Begun (table_of table.now) starts.now (calledNumbers called.now) (numbersOf rows.new) }
+    requires { Kept (table_of table.now) starts.now (called_numbers called.now) (numbers_of rows.old) × (length rows.old ≡ 4490) }
+    ensures { Begun (table_of table.now) starts.now (called_numbers called.now) (numbers_of rows.new) }
 {
     let mut r: usize = 0;
     while r < starts.len() {
@@ -852,7 +852,7 @@ fn begin(table: &[u8], starts: &[usize], called: &[u32], rows: &mut [u32])
 // The greatest number from an index on.
 fn greatest(rows: &[u32], from: usize) -> u64
     requires { length rows.now ≡ 4490 }
-    ensures { Greatest (numbersOf rows.now) from result }
+    ensures { Greatest (numbers_of rows.now) from result }
 {
     let mut most: u64 = 0;
     let mut i = from;
@@ -869,7 +869,7 @@ fn greatest(rows: &[u32], from: usize) -> u64
 // All numbers are 0.
 fn clear(rows: &mut [u32])
     requires { length rows.old ≡ 4490 }
-    ensures { numbersOf rows.new ≡ replicate 4353 0 }
+    ensures { numbers_of rows.new ≡ replicate 4353 0 }
 {
     let mut i: usize = 0;
     while i < ROWS {

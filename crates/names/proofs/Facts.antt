@@ -21,7 +21,7 @@ use Rattle.program.specs.Program
 use Rattle.program.specs.Program.{Rule}
 use Rattle.program.specs.Table
 use Rattle.program.specs.Table.{table}
-use Rattle.syntax.proofs.Marks.{markAt, unmarked}
+use Rattle.syntax.proofs.Marks.{mark_at, unmarked}
 use Rattle.syntax.specs.Actions
 use Rattle.syntax.specs.Parse
 use Rattle.syntax.specs.Parse.{parse}
@@ -44,27 +44,27 @@ pub record Line : Type 0 where
   pub text : List ℕ
   pub outcome : Outcome
 
-unfoldable pub isChecked : Checked (List Rule) → Outcome → Bool
-isChecked (good prog) (means ws) = same (table prog) ws
-isChecked (good prog) (stops n s l) = false
-isChecked (wrong m w) (means ws) = false
-isChecked (wrong m w) (stops n s l) = eqb m n && eqb w.start s && eqb (length w.text) l
+unfoldable pub is_checked : Checked (List Rule) → Outcome → Bool
+is_checked (good prog) (means ws) = same (table prog) ws
+is_checked (good prog) (stops n s l) = false
+is_checked (wrong m w) (means ws) = false
+is_checked (wrong m w) (stops n s l) = eqb m n && eqb w.start s && eqb (length w.text) l
 
 -- every text below is read with no fault 1, 2 or 9
 unfoldable pub agrees : Read written.Program → Outcome → Bool
-agrees (got p ws) x = isChecked (understand p) x
+agrees (got p ws) x = is_checked (understand p) x
 agrees (fault n w) x = false
 
-unfoldable pub allAgree : List Line → Bool
-allAgree [] = true
-allAgree (l ∷ ls) = agrees (parse l.text) l.outcome && allAgree ls
+unfoldable pub all_agree : List Line → Bool
+all_agree [] = true
+all_agree (l ∷ ls) = agrees (parse l.text) l.outcome && all_agree ls
 
 -- a text and its table; a marked text, its number and the length of the word
 abbrev pub fine : String → List ℕ → Line
 fine t ws = record { text = bytes t; outcome = means ws }
 
 abbrev pub at : String → ℕ → ℕ → Line
-at t n l = record { text = unmarked (code "^") (bytes t); outcome = stops n (markAt (code "^") (bytes t)) l }
+at t n l = record { text = unmarked (code "^") (bytes t); outcome = stops n (mark_at (code "^") (bytes t)) l }
 
 -- the classes are apart: input tokens, output tokens, errors, type names, the values of each type, rules with operations; "A string is a
 -- second name in its class"; "Mechanism names declare nothing and may repeat"
@@ -91,8 +91,8 @@ classes =
     ∷ fine "mechanism m: f; type f: v; mechanism n: g(f); rules M: f g(v); end" (256 ∷ 13 ∷ 0 ∷ 512 ∷ 9 ∷ [])
     ∷ []
 
-pub classes-agree : T (allAgree classes)
-unfolding understanding isChecked agrees allAgree markAt unmarked classes
+pub classes-agree : T (all_agree classes)
+unfolding understanding is_checked agrees all_agree mark_at unmarked classes
 classes-agree = tt
 
 -- 3, "name or string declared nowhere, or a type not yet declared" (R1, R6, R11, R12)
@@ -130,8 +130,8 @@ faults3 =
     ∷ at "type t: v; mechanism m: h(^q) >> t; rules M: ; end" 3 1
     ∷ []
 
-pub faults3-agree : T (allAgree faults3)
-unfolding understanding isChecked agrees allAgree markAt unmarked faults3
+pub faults3-agree : T (all_agree faults3)
+unfolding understanding is_checked agrees all_agree mark_at unmarked faults3
 faults3-agree = tt
 
 -- 4, "declared twice, or a value repeated, at the entry's name" (R5); "rules and operations form one class, and an operation may not
@@ -172,8 +172,8 @@ faults4 =
     ∷ at "input: a ^a; rules M: > ; end" 4 1
     ∷ []
 
-pub faults4-agree : T (allAgree faults4)
-unfolding understanding isChecked agrees allAgree markAt unmarked faults4
+pub faults4-agree : T (all_agree faults4)
+unfolding understanding is_checked agrees all_agree mark_at unmarked faults4
 faults4-agree = tt
 
 -- 5, "declared, but not in the class wanted here, wrong sort of rule or operation, first rule with a type (at its name), parameter
@@ -234,8 +234,8 @@ faults5 =
     ∷ at "input: a; type t: v; mechanism m: h(t) >> ^a; rules M: ; end" 5 1
     ∷ []
 
-pub faults5-agree : T (allAgree faults5)
-unfolding understanding isChecked agrees allAgree markAt unmarked faults5
+pub faults5-agree : T (all_agree faults5)
+unfolding understanding is_checked agrees all_agree mark_at unmarked faults5
 faults5-agree = tt
 
 -- 5 of a word that is declared under `input output` alone, which feeds two classes, in each of the others
@@ -255,8 +255,8 @@ both5 =
     ∷ at "input output: c; rules M: c^(q); end" 5 1
     ∷ []
 
-pub both5-agree : T (allAgree both5)
-unfolding understanding isChecked agrees allAgree markAt unmarked both5
+pub both5-agree : T (all_agree both5)
+unfolding understanding is_checked agrees all_agree mark_at unmarked both5
 both5-agree = tt
 
 -- 6, "label repeated", by value, over all the alternatives of the choice; 7, "`>` outside a cycle"
@@ -280,8 +280,8 @@ faults67 =
     ∷ fine "rules M: { [ | *: { > } > ] }; end" (7 ∷ 1 ∷ 0 ∷ 1 ∷ 3 ∷ 2 ∷ 3 ∷ 1 ∷ 3 ∷ 2 ∷ 10 ∷ 9 ∷ [])
     ∷ []
 
-pub faults67-agree : T (allAgree faults67)
-unfolding understanding isChecked agrees allAgree markAt unmarked faults67
+pub faults67-agree : T (all_agree faults67)
+unfolding understanding is_checked agrees all_agree mark_at unmarked faults67
 faults67-agree = tt
 
 -- 8, "choice rule reaches its semicolon, `>>` without a value in one, or a name or string after `>>` in a procedure rule" (R4): "`>>` and `>`
@@ -319,8 +319,8 @@ faults8 =
     ∷ fine "rules M: >> ; N: >> >> ; end" (9 ∷ 9 ∷ 9 ∷ 9 ∷ 9 ∷ [])
     ∷ []
 
-pub faults8-agree : T (allAgree faults8)
-unfolding understanding isChecked agrees allAgree markAt unmarked faults8
+pub faults8-agree : T (all_agree faults8)
+unfolding understanding is_checked agrees all_agree mark_at unmarked faults8
 faults8-agree = tt
 
 -- "then 3 to 8 likewise": by the first word in the text, the lower number where one word has two
@@ -341,6 +341,6 @@ order =
     ∷ at "type t: v; rules M: @^N > ; N >> t: ; end" 5 1
     ∷ []
 
-pub order-agree : T (allAgree order)
-unfolding understanding isChecked agrees allAgree markAt unmarked order
+pub order-agree : T (all_agree order)
+unfolding understanding is_checked agrees all_agree mark_at unmarked order
 order-agree = tt

@@ -6,21 +6,21 @@ use Prim.Native.Nat.{ℕ, ◌+◌}
 use Prim.Native.String.{String}
 use lib.Dec.{T}
 use Rattle.base.specs.Common.{bytes, same}
-use Rattle.names.proofs.Facts.{understanding, means, stops, Line, isChecked, agrees, allAgree, fine}
+use Rattle.names.proofs.Facts.{understanding, means, stops, Line, is_checked, agrees, all_agree, fine}
 use Rattle.names.specs.Known.{Checked, good, wrong}
 use Rattle.names.specs.Understand.{understand}
 use Rattle.program.specs.Program.{Rule}
 use Rattle.program.specs.Table.{table}
-use Rattle.syntax.proofs.Marks.{markAt, unmarked}
+use Rattle.syntax.proofs.Marks.{mark_at, unmarked}
 use Rattle.syntax.specs.Parse.{parse}
 use Rattle.syntax.specs.Reading.{Read, got, fault}
 use Rattle.syntax.specs.Written as written
 
-abbrev pub fineOf : List ℕ → List ℕ → Line
-fineOf t ws = record { text = t; outcome = means ws }
+abbrev pub fine_of : List ℕ → List ℕ → Line
+fine_of t ws = record { text = t; outcome = means ws }
 
 abbrev pub at_of : List ℕ → ℕ → ℕ → Line
-at_of t n l = record { text = unmarked (code "~") t; outcome = stops n (markAt (code "~") t) l }
+at_of t n l = record { text = unmarked (code "~") t; outcome = stops n (mark_at (code "~") t) l }
 
 abbrev pub at : String → ℕ → ℕ → Line
 at t n l = at_of (bytes t) n l
@@ -37,8 +37,8 @@ tables =
     ∷ fine "operators E: 'p' 1 left 'x'; input: p 'p'; output: x 'x'; rules M: ; end" (9 ∷ [])
     ∷ []
 
-pub tables_agree : T (allAgree tables)
-unfolding understanding isChecked agrees allAgree tables
+pub tables_agree : T (all_agree tables)
+unfolding understanding is_checked agrees all_agree tables
 tables_agree = tt
 
 -- a text with operators and one with its rules written out have one table
@@ -50,16 +50,16 @@ pub words_of : Read written.Program → List ℕ
 words_of (got p ws) = table_of (understand p)
 words_of (fault n w) = []
 
-pub someWords : List ℕ → Bool
-someWords [] = false
-someWords (w ∷ ws) = true
+pub some_words : List ℕ → Bool
+some_words [] = false
+some_words (w ∷ ws) = true
 
 pub written_out :
     let head : String = "input: a p q r; output: x y z; operators E: p 3 left x r 7 right z q 3 left x; operators F: q 15 right y; rules " in
     let with : List ℕ = words_of (parse (bytes head ++ bytes "M: ^E @P ^F @P ^E @M ^E @P; P: [ | a: ^F @P | *: ] ^F @M; end")) in
     let without : List ℕ = words_of (parse (bytes head ++ bytes "M: @A @C @D @A; P: [ | a: @C | *: ] @G; A: @B {[ | p: @B .x | q: @B .x | *: > ]}; B: @P [ | r: @B .z | *: ]; C: @P [ | q: @C .y | *: ]; D: @F {[ | p: @F .x | q: @F .x | *: > ]}; F: @M [ | r: @F .z | *: ]; G: @M [ | q: @G .y | *: ]; end")) in
-    T (someWords with && same with without)
-unfolding understanding table_of words_of someWords
+    T (some_words with && same with without)
+unfolding understanding table_of words_of some_words
 written_out = tt
 
 -- uses in text order: labelled alternatives one after the other, then otherwise, inside a cycle
@@ -67,8 +67,8 @@ pub in_order :
     let head : String = "input: a p q r; output: x y z; operators E: p 3 left x r 7 right z q 3 left x; operators F: q 15 right y; rules " in
     let with : List ℕ = words_of (parse (bytes head ++ bytes "M: {[ | a: ^F @M > | p: ^E @P | *: ^E @M ]}; P: a; end")) in
     let without : List ℕ = words_of (parse (bytes head ++ bytes "M: {[ | a: @A > | p: @B | *: @D ]}; P: a; A: @M [ | q: @A .y | *: ]; B: @C {[ | p: @C .x | q: @C .x | *: > ]}; C: @P [ | r: @C .z | *: ]; D: @F {[ | p: @F .x | q: @F .x | *: > ]}; F: @M [ | r: @F .z | *: ]; end")) in
-    T (someWords with && same with without)
-unfolding understanding table_of words_of someWords
+    T (some_words with && same with without)
+unfolding understanding table_of words_of some_words
 in_order = tt
 
 -- 3, 4, 45, 5 in the section and at the action; "a class of their own"
@@ -108,25 +108,25 @@ faults =
     ∷ fine "input: E p; output: E; error: E; operators E: E 1 left E; type E: E; mechanism m: f; rules M: ; E: ; end" (9 ∷ 9 ∷ [])
     ∷ []
 
-pub faults-agree : T (allAgree faults)
-unfolding understanding isChecked agrees allAgree markAt unmarked faults
+pub faults-agree : T (all_agree faults)
+unfolding understanding is_checked agrees all_agree mark_at unmarked faults
 faults-agree = tt
 
 -- "9 .. after all of 3 to 8, at the `^` whose rules pass a limit": 128 rules with those made; 64 labels a choice, where the section is used
 
 -- empty rules, one for each pair of letters
-pub rulesFor : List ℕ → List ℕ → List ℕ
-rulesFor [] all = []
-rulesFor (a ∷ as') all = row all ++ rulesFor as' all
+pub rules_for : List ℕ → List ℕ → List ℕ
+rules_for [] all = []
+rules_for (a ∷ as') all = row all ++ rules_for as' all
   where
     row : List ℕ → List ℕ
     row [] = []
     row (b ∷ bs) = a ∷ b ∷ (bytes ":;" ++ row bs)
 
 -- operators of one level, one for each pair of letters
-pub entriesFor : List ℕ → List ℕ → String → List ℕ
-entriesFor [] all tail = []
-entriesFor (a ∷ as') all tail = row all ++ entriesFor as' all tail
+pub entries_for : List ℕ → List ℕ → String → List ℕ
+entries_for [] all tail = []
+entries_for (a ∷ as') all tail = row all ++ entries_for as' all tail
   where
     row : List ℕ → List ℕ
     row [] = []
@@ -134,51 +134,51 @@ entriesFor (a ∷ as') all tail = row all ++ entriesFor as' all tail
 
 -- 9 times 14 rules, and M: 127
 pub most : List ℕ
-most = rulesFor (bytes "ABCDEFGHI") (bytes "ABCDEFGHIJKLNO")
+most = rules_for (bytes "ABCDEFGHI") (bytes "ABCDEFGHIJKLNO")
 
-pub manyRules : List Line
-manyRules =
+pub many_rules : List Line
+many_rules =
     at_of (bytes "input: p q; output: x; operators E: p 1 left x; rules M: ^E @M ~^E @AA; " ++ (most ++ bytes "end")) 9 1
     ∷ at_of (bytes "input: p q; output: x; operators E: p 1 left x q 2 left x; rules M: ~^E @M ^E @AA; " ++ (most ++ bytes "end")) 9 1
     ∷ at_of (bytes "input: p q; output: x; operators E: p 1 left x; rules M: ^E @M ^E @AA ~> ; " ++ (most ++ bytes "end")) 7 1
     ∷ []
 
 -- 5 times 13 operators
-pub manyLabels : String → List ℕ
-manyLabels rules =
-    bytes "input: " ++ (entriesFor (bytes "ABCDE") (bytes "ABCDEFGHIJKLM") " " ++ (bytes "; output: x; operators E: " ++ (entriesFor (bytes "ABCDE") (bytes "ABCDEFGHIJKLM") " 5 left x " ++ (bytes "; rules " ++ bytes rules))))
+pub many_labels : String → List ℕ
+many_labels rules =
+    bytes "input: " ++ (entries_for (bytes "ABCDE") (bytes "ABCDEFGHIJKLM") " " ++ (bytes "; output: x; operators E: " ++ (entries_for (bytes "ABCDE") (bytes "ABCDEFGHIJKLM") " 5 left x " ++ (bytes "; rules " ++ bytes rules))))
 
 pub crowds : List Line
 crowds =
-    at_of (manyLabels "M: AA ~^E @M ^E @M; end") 9 1
-    ∷ fineOf (manyLabels "M: ; end") (9 ∷ [])
+    at_of (many_labels "M: AA ~^E @M ^E @M; end") 9 1
+    ∷ fine_of (many_labels "M: ; end") (9 ∷ [])
     ∷ []
 
 -- 13 types of 38 values: 507 names before the rest
-pub typesFor : List ℕ → List ℕ
-typesFor [] = []
-typesFor (a ∷ as') = bytes "type T" ++ (a ∷ (bytes ": " ++ (entriesFor (bytes "AB") (bytes "ABCDEFGHIJKLMNOPQRS") " " ++ (bytes "; " ++ typesFor as'))))
+pub types_for : List ℕ → List ℕ
+types_for [] = []
+types_for (a ∷ as') = bytes "type T" ++ (a ∷ (bytes ": " ++ (entries_for (bytes "AB") (bytes "ABCDEFGHIJKLMNOPQRS") " " ++ (bytes "; " ++ types_for as'))))
 
-pub manyNames : String → List ℕ
-manyNames rest = typesFor (bytes "ABCDEFGHIJKLM") ++ bytes rest
+pub many_names : String → List ℕ
+many_names rest = types_for (bytes "ABCDEFGHIJKLM") ++ bytes rest
 
 -- a rule made is the 512th name, or the 513th
 pub named : List Line
 named =
-    fineOf (manyNames "input: p; output: x; operators E: p 1 left x; rules M: ^E @M; end")
+    fine_of (many_names "input: p; output: x; operators E: p 1 left x; rules M: ^E @M; end")
     (8 ∷ 4 ∷ 9 ∷ 8 ∷ 1 ∷ 7 ∷ 7 ∷ 8 ∷ 1 ∷ 5 ∷ 0 ∷ 1 ∷ 6 ∷ 1 ∷ 0 ∷ 8 ∷ 1 ∷ 3 ∷ 2 ∷ 14 ∷ 9 ∷ [])
-    ∷ at_of (manyNames "input: p; output: x y; operators E: p 1 left x; rules M: ~^E @M; end") 9 1
-    ∷ at_of (manyNames "input output: p; operators E: p 1 left p; rules M: ^E @M ~^E @N ^E @M; N: ; end") 9 1
+    ∷ at_of (many_names "input: p; output: x y; operators E: p 1 left x; rules M: ~^E @M; end") 9 1
+    ∷ at_of (many_names "input output: p; operators E: p 1 left p; rules M: ^E @M ~^E @N ^E @M; N: ; end") 9 1
     ∷ []
 
-pub many-names : T (allAgree named)
-unfolding understanding isChecked agrees allAgree markAt unmarked entriesFor typesFor manyNames named
+pub many-names : T (all_agree named)
+unfolding understanding is_checked agrees all_agree mark_at unmarked entries_for types_for many_names named
 many-names = tt
 
-pub many-rules : T (allAgree manyRules)
-unfolding understanding isChecked agrees allAgree markAt unmarked rulesFor most manyRules
+pub many-rules : T (all_agree many_rules)
+unfolding understanding is_checked agrees all_agree mark_at unmarked rules_for most many_rules
 many-rules = tt
 
-pub many-labels : T (allAgree crowds)
-unfolding understanding isChecked agrees allAgree markAt unmarked entriesFor manyLabels crowds
+pub many-labels : T (all_agree crowds)
+unfolding understanding is_checked agrees all_agree mark_at unmarked entries_for many_labels crowds
 many-labels = tt

@@ -1,11 +1,11 @@
 -- From what the author wrote to what it means, in text order. Faults 3, 5, 6, 7 and 8; "by the first word in the text": the first fault met
 -- in text order is the one given, and of two at one word the lower is tested first.
-use Rattle.std.specs.Prelude.{Bool, true, false, ◌||◌, List, [], ◌∷◌, ◌++◌, ℕ, length}
+use Rattle.std.specs.Prelude.{Bool, true, false, ◌||◌, List, [], ◌∷◌, ◌++◌, ℕ, length, if◌then◌else◌}
 use Rattle.std.proofs.Math.Option.{Option, none, some}
-use Rattle.base.specs.Common.{if◌then◌else◌, member, given}
+use Rattle.base.specs.Common.{member, given}
 use Rattle.base.specs.Tree.{plain, cycle, choice, done, ◌▸◌, nil, alternative, absent, otherwise}
-use Rattle.names.specs.Known.{Checked, good, wrong, ◌>>=◌, faultIf, Known, KnownOperation, KnownRule, Names, find, findType, findOperation, findOperators, findRule, elsewhere, lookup}
-use Rattle.names.specs.Uses.{lowestOf, pairsOf}
+use Rattle.names.specs.Known.{Checked, good, wrong, ◌>>=◌, fault_if, Known, KnownOperation, KnownRule, Names, find, find_type, find_operation, find_operators, find_rule, elsewhere, lookup}
+use Rattle.names.specs.Uses.{lowest_of, pairs_of}
 use Rattle.program.specs.Program as means
 use Rattle.syntax.specs.Written as written
 use Rattle.syntax.specs.Written.{Constant, Program}
@@ -27,38 +27,38 @@ pub record Chooses : Type 0 where
 -- an operation with its parameter, if it has one
 abbrev pub updating : ℕ → Option ℕ → means.Plain
 updating op none = means.update op
-updating op (some v) = means.updateWith op v
+updating op (some v) = means.update_with op v
 
 abbrev pub choosing : ℕ → Option ℕ → means.Selector
-choosing op none = means.byOperation op
-choosing op (some v) = means.byOperationWith op v
+choosing op none = means.by_operation op
+choosing op (some v) = means.by_operation_with op v
 
 module _ (p : Program) (n : Names) (rules : List KnownRule) where
   -- an operation of the name
-  unfoldable pub operationOf : Word → Checked KnownOperation
-  operationOf w = elim (findOperation w.text n.operations) [ some o ↦ good o | none ↦ elsewhere p w ]
+  unfoldable pub operation_of : Word → Checked KnownOperation
+  operation_of w = elim (find_operation w.text n.operations) [ some o ↦ good o | none ↦ elsewhere p w ]
 
   -- a rule of the name; "A name declared twice keeps its first meaning" (R10), so not where an operation has it
-  unfoldable pub ruleNamed : Word → Checked KnownRule
-  ruleNamed w =
-      if given (findOperation w.text n.operations) then wrong 5 w
-      else elim (findRule w.text rules) [ some r ↦ good r | none ↦ elsewhere p w ]
+  unfoldable pub rule_named : Word → Checked KnownRule
+  rule_named w =
+      if given (find_operation w.text n.operations) then wrong 5 w
+      else elim (find_rule w.text rules) [ some r ↦ good r | none ↦ elsewhere p w ]
 
   -- the operation's parameter: "parameter missing (at the name) or extra (at the `(`, ..)"
-  unfoldable pub parameterOf : Word → Option (List Known) → Option Constant → Checked (Option ℕ)
-  parameterOf w none none = good none
-  parameterOf w none (some c) = wrong 5 c.paren
-  parameterOf w (some ks) none = wrong 5 w
-  parameterOf w (some ks) (some c) = do
+  unfoldable pub parameter_of : Word → Option (List Known) → Option Constant → Checked (Option ℕ)
+  parameter_of w none none = good none
+  parameter_of w none (some c) = wrong 5 c.paren
+  parameter_of w (some ks) none = wrong 5 w
+  parameter_of w (some ks) (some c) = do
     v ← lookup p ks c.constant
     good (some v)
 
   -- an update operation with its constant: "wrong sort of .. operation"
-  unfoldable pub updateOf : Word → Option Constant → Checked means.Plain
-  updateOf w c = do
-    o ← operationOf w
-    _ ← faultIf (given o.gives) 5 w
-    v ← parameterOf w o.takes c
+  unfoldable pub update_of : Word → Option Constant → Checked means.Plain
+  update_of w c = do
+    o ← operation_of w
+    _ ← fault_if (given o.gives) 5 w
+    v ← parameter_of w o.takes c
     good (updating o.instruction v)
 
   -- a token to match: a constant after it is extra
@@ -67,27 +67,27 @@ module _ (p : Program) (n : Names) (rules : List KnownRule) where
   match_of v (some c) = wrong 5 c.paren
 
   -- "`>>` without a value in one, or a name or string after `>>` in a procedure rule"
-  unfoldable pub giveOf : Option (List Known) → Word → Option Word → Checked means.Plain
-  giveOf none w none = good means.back
-  giveOf none w (some v) = wrong 8 v
-  giveOf (some ks) w none = wrong 8 w
-  giveOf (some ks) w (some v) = do
+  unfoldable pub give_of : Option (List Known) → Word → Option Word → Checked means.Plain
+  give_of none w none = good means.back
+  give_of none w (some v) = wrong 8 v
+  give_of (some ks) w none = wrong 8 w
+  give_of (some ks) w (some v) = do
     x ← lookup p ks v
     good (means.give x)
 
   -- "`^NAME @rule`": the section, then the operand rule, "a procedure rule"; "The action is a call of the lowest."
-  unfoldable pub rankedOf : Word → Word → Word → Checked means.Plain
-  rankedOf s w o =
-      elim (findOperators w.text n.operators) [
+  unfoldable pub ranked_of : Word → Word → Word → Checked means.Plain
+  ranked_of s w o =
+      elim (find_operators w.text n.operators) [
         | none ↦ elsewhere p w
         | some ls ↦ do
-          r ← ruleNamed o
-          _ ← faultIf (given r.gives) 5 o
-          good (means.call (lowestOf n (record { sign = s; section = w; operand = o }) (length p.rules) (pairsOf p.rules)))
+          r ← rule_named o
+          _ ← fault_if (given r.gives) 5 o
+          good (means.call (lowest_of n (record { sign = s; section = w; operand = o }) (length p.rules) (pairs_of p.rules)))
       ]
 
   unfoldable pub plain_of : Place → written.Plain → Checked means.Plain
-  plain_of at (written.named w c) = elim (find w.text n.inputs) [ some v ↦ match_of v c | none ↦ updateOf w c ]
+  plain_of at (written.named w c) = elim (find w.text n.inputs) [ some v ↦ match_of v c | none ↦ update_of w c ]
   plain_of at (written.any w) = good means.any
   plain_of at (written.exit w) = if at.inside then good means.exit else wrong 7 w
   plain_of at (written.emit w) = do
@@ -97,76 +97,76 @@ module _ (p : Program) (n : Names) (rules : List KnownRule) where
     v ← lookup p n.errors w
     good (means.error v)
   plain_of at (written.call w) = do
-    r ← ruleNamed w
-    _ ← faultIf (given r.gives) 5 w
+    r ← rule_named w
+    _ ← fault_if (given r.gives) 5 w
     good (means.call r.place)
-  plain_of at (written.give w v) = giveOf at.gives w v
-  plain_of at (written.ranked s w o) = rankedOf s w o
+  plain_of at (written.give w v) = give_of at.gives w v
+  plain_of at (written.ranked s w o) = ranked_of s w o
 
   -- the members of a type; one that is not declared has none (R6)
   unfoldable pub members_of : List ℕ → List Known
-  members_of t = elim (findType t n.types) [ some ks ↦ ks | none ↦ [] ]
+  members_of t = elim (find_type t n.types) [ some ks ↦ ks | none ↦ [] ]
 
   -- "wrong sort of rule or operation"
-  unfoldable pub selectorOf : written.Selector → Checked Chooses
-  selectorOf written.byToken = good (record { by = means.byToken; labels = n.inputs })
-  selectorOf (written.byRule w) = do
-    r ← ruleNamed w
-    elim r.gives [ none ↦ wrong 5 w | some t ↦ good (record { by = means.byRule r.place; labels = members_of t }) ]
-  selectorOf (written.byOperation w c) = do
-    o ← operationOf w
+  unfoldable pub selector_of : written.Selector → Checked Chooses
+  selector_of written.by_token = good (record { by = means.by_token; labels = n.inputs })
+  selector_of (written.by_rule w) = do
+    r ← rule_named w
+    elim r.gives [ none ↦ wrong 5 w | some t ↦ good (record { by = means.by_rule r.place; labels = members_of t }) ]
+  selector_of (written.by_operation w c) = do
+    o ← operation_of w
     elim o.gives [
       | none ↦ wrong 5 w
       | some ks ↦ do
-        v ← parameterOf w o.takes c
+        v ← parameter_of w o.takes c
         good (record { by = choosing o.instruction v; labels = ks })
     ]
 
   -- labels of the class: "6 label repeated", among those of the choice so far
-  unfoldable pub labelsOf : List Word → List Known → List ℕ → Checked (List ℕ)
-  labelsOf [] ks seen = good []
-  labelsOf (w ∷ ws) ks seen = do
+  unfoldable pub labels_of : List Word → List Known → List ℕ → Checked (List ℕ)
+  labels_of [] ks seen = good []
+  labels_of (w ∷ ws) ks seen = do
     v ← lookup p ks w
-    _ ← faultIf (member v seen) 6 w
-    more ← labelsOf ws ks (v ∷ seen)
+    _ ← fault_if (member v seen) 6 w
+    more ← labels_of ws ks (v ∷ seen)
     good (v ∷ more)
 
   unfoldable mutual
-    pub actOf : written.Act → Place → Checked means.Act
-    actOf (plain a) at = do
+    pub act_of : written.Act → Place → Checked means.Act
+    act_of (plain a) at = do
       d ← plain_of at a
       good (plain d)
-    actOf (cycle b) at = do
-      body ← actsOf b (within at)
+    act_of (cycle b) at = do
+      body ← acts_of b (within at)
       good (cycle body)
-    actOf (choice s q o) at = do
-      c ← selectorOf s
-      alts ← altsOf q at c.labels []
+    act_of (choice s q o) at = do
+      c ← selector_of s
+      alts ← alts_of q at c.labels []
       other ← other_of o at
       good (choice c.by alts other)
 
-    pub actsOf : written.Acts → Place → Checked means.Acts
-    actsOf done at = good done
-    actsOf (a ▸ q) at = do
-      first ← actOf a at
-      rest ← actsOf q at
+    pub acts_of : written.Acts → Place → Checked means.Acts
+    acts_of done at = good done
+    acts_of (a ▸ q) at = do
+      first ← act_of a at
+      rest ← acts_of q at
       good (first ▸ rest)
 
-    pub altsOf : written.Alts → Place → List Known → List ℕ → Checked means.Alts
-    altsOf nil at ks seen = good nil
-    altsOf (alternative ls b q) at ks seen = do
-      vs ← labelsOf ls ks seen
-      body ← actsOf b at
-      rest ← altsOf q at ks (vs ++ seen)
+    pub alts_of : written.Alts → Place → List Known → List ℕ → Checked means.Alts
+    alts_of nil at ks seen = good nil
+    alts_of (alternative ls b q) at ks seen = do
+      vs ← labels_of ls ks seen
+      body ← acts_of b at
+      rest ← alts_of q at ks (vs ++ seen)
       good (alternative vs body rest)
 
     pub other_of : written.Other → Place → Checked means.Other
     other_of absent at = good absent
     other_of (otherwise b) at = do
-      body ← actsOf b at
+      body ← acts_of b at
       good (otherwise body)
 
 -- all of this file computes where this is unfolded
 unfoldable pub opened : Unit {0}
-unfolding within operationOf ruleNamed parameterOf updateOf match_of giveOf rankedOf plain_of members_of selectorOf labelsOf actOf
+unfolding within operation_of rule_named parameter_of update_of match_of give_of ranked_of plain_of members_of selector_of labels_of act_of
 opened = tt

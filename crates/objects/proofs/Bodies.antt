@@ -19,11 +19,11 @@ use Rattle.objects.specs.declared.Ground.{Ground}
 use Rattle.objects.specs.declared.Outcome.{Outcome}
 use Rattle.objects.specs.declared.Spot.{Spot}
 use Rattle.objects.specs.Cells.{Stand, Knows, Tells, ActsDone, BodyDone}
-use Rattle.objects.specs.Order.{Went, acts, usedUp, ruleInOrder}
+use Rattle.objects.specs.Order.{Went, acts, used_up, rule_in_order}
 use Rattle.objects.specs.Places.{Ends}
 use Rattle.objects.specs.Take.{times}
 use Rattle.syntax.specs.Texts.{Head}
-use Rattle.objects.specs.View.{Name, Pair, RuleView, nameWords, optionWords, ruleWords, all, aName, anOption}
+use Rattle.objects.specs.View.{Name, Pair, RuleView, name_words, option_words, rule_words, all, a_name, an_option}
 
 -- a word and those behind it
 record Word (words : List ℕ) (p a : ℕ) (more : List ℕ) : Type 0 where
@@ -42,26 +42,26 @@ word-at words p a more e =
       behind = sym (drop-drop 1 p words) ∙ ap (λ (ws : List ℕ). drop 1 ws) e;
     }
 
-gives-word : (words : List ℕ) (p : ℕ) (o : Option Name) (more : List ℕ) → drop p words ≡ optionWords o ++ more → eqb (get_or words p 0) 1 ≡ given o
-unfolding optionWords
+gives-word : (words : List ℕ) (p : ℕ) (o : Option Name) (more : List ℕ) → drop p words ≡ option_words o ++ more → eqb (get_or words p 0) 1 ≡ given o
+unfolding option_words
 gives-word words p none more e = rw (word-at words p 0 more e).is
-gives-word words p (some n) more e = rw (word-at words p 1 (nameWords n ++ more) e).is
+gives-word words p (some n) more e = rw (word-at words p 1 (name_words n ++ more) e).is
 
-module _ (words : List ℕ) (q : ℕ) (v : RuleView) (k : List ℕ) (e : drop q words ≡ ruleWords v ++ k) where
+module _ (words : List ℕ) (q : ℕ) (v : RuleView) (k : List ℕ) (e : drop q words ≡ rule_words v ++ k) where
   cells-words : List ℕ
   cells-words = length v.cells ∷ (v.cells ++ k)
 
   calls-words : List ℕ
-  calls-words = length v.calls ∷ (all nameWords v.calls ++ cells-words)
+  calls-words = length v.calls ∷ (all name_words v.calls ++ cells-words)
 
-  parts : drop q words ≡ nameWords v.name ++ (optionWords v.gives ++ calls-words)
-  unfolding ruleWords cells-words calls-words
-  parts = e ∙ append_assoc (nameWords v.name) _ k ∙ ap (λ ws. nameWords v.name ++ ws) (append_assoc (optionWords v.gives) _ k
-      ∙ ap (λ ws. optionWords v.gives ++ (length v.calls ∷ ws)) (append_assoc (all nameWords v.calls) (length v.cells ∷ v.cells) k))
+  parts : drop q words ≡ name_words v.name ++ (option_words v.gives ++ calls-words)
+  unfolding rule_words cells-words calls-words
+  parts = e ∙ append_assoc (name_words v.name) _ k ∙ ap (λ ws. name_words v.name ++ ws) (append_assoc (option_words v.gives) _ k
+      ∙ ap (λ ws. option_words v.gives ++ (length v.calls ∷ ws)) (append_assoc (all name_words v.calls) (length v.cells ∷ v.cells) k))
 
-  module _ {gives : ℕ} (x : Ends aName words q gives) where
-    at_gives : (optionWords v.gives ++ calls-words ≡ drop gives words) × (gives ≤ length words)
-    at_gives = ends-took v.name (optionWords v.gives ++ calls-words) (ap aName parts ∙ name-exact.back v.name tt (optionWords v.gives ++ calls-words)) x
+  module _ {gives : ℕ} (x : Ends a_name words q gives) where
+    at_gives : (option_words v.gives ++ calls-words ≡ drop gives words) × (gives ≤ length words)
+    at_gives = ends-took v.name (option_words v.gives ++ calls-words) (ap a_name parts ∙ name-exact.back v.name tt (option_words v.gives ++ calls-words)) x
 
     pub gives-inside : gives ≤ length words
     gives-inside = at_gives.1
@@ -69,21 +69,21 @@ module _ (words : List ℕ) (q : ℕ) (v : RuleView) (k : List ℕ) (e : drop q 
     pub gives-is : eqb (get_or words gives 0) 1 ≡ given v.gives
     gives-is = gives-word words gives v.gives calls-words (sym at_gives.0)
 
-    module _ {calls : ℕ} (y : Ends anOption words gives calls) where
-      at-calls : Word words calls (length v.calls) (all nameWords v.calls ++ cells-words)
+    module _ {calls : ℕ} (y : Ends an_option words gives calls) where
+      at_calls : Word words calls (length v.calls) (all name_words v.calls ++ cells-words)
       unfolding calls-words
-      at-calls = word-at words calls _ _ (sym (ends-took v.gives calls-words (ap anOption (sym at_gives.0) ∙ option-exact.back v.gives tt calls-words) y).0)
+      at_calls = word-at words calls _ _ (sym (ends-took v.gives calls-words (ap an_option (sym at_gives.0) ∙ option-exact.back v.gives tt calls-words) y).0)
 
       pub calls-inside : calls < length words
-      calls-inside = at-calls.there
+      calls-inside = at_calls.there
 
-      module _ {n cells : ℕ} (d : n ≡ get_or words calls 0) (z : Ends (times n aName) words (calls + 1) cells) where
+      module _ {n cells : ℕ} (d : n ≡ get_or words calls 0) (z : Ends (times n a_name) words (calls + 1) cells) where
         as_many : n ≡ length v.calls
-        as_many = d ∙ at-calls.is
+        as_many = d ∙ at_calls.is
 
         at_cells : Word words cells (length v.cells) (v.cells ++ k)
         unfolding cells-words
-        at_cells = word-at words cells _ _ (sym (ends-took v.calls cells-words (ap (times n aName) at-calls.behind ∙ (times-exact name-exact n).back v.calls (sym as_many) cells-words) z).0)
+        at_cells = word-at words cells _ _ (sym (ends-took v.calls cells-words (ap (times n a_name) at_calls.behind ∙ (times-exact name-exact n).back v.calls (sym as_many) cells-words) z).0)
 
         pub cells-inside : cells < length words
         cells-inside = at_cells.there
@@ -102,24 +102,24 @@ module _ (words : List ℕ) (q : ℕ) (v : RuleView) (k : List ℕ) (e : drop q 
             let i = at_cells.is in
             record {
               after = k;
-              cells-here = ap (λ (j : ℕ). drop j words) a ∙ at_cells.behind;
+              cells_here = ap (λ (j : ℕ). drop j words) a ∙ at_cells.behind;
               cells_count = omega (arith, a, b, i);
               rest = cells-words;
-              names-here = ap (λ (j : ℕ). drop j words) c ∙ at-calls.behind;
-              names-count = sym (f ∙ as_many);
+              names_here = ap (λ (j : ℕ). drop j words) c ∙ at_calls.behind;
+              names_count = sym (f ∙ as_many);
             }
 
-pub no-body-there : {words : List ℕ} {q : ℕ} {r : Body} → r.ok ≡ false → ((v : RuleView) (k : List ℕ) → drop q words ≡ ruleWords v ++ k → ⊥) → BodyDone words q r
+pub no-body-there : {words : List ℕ} {q : ℕ} {r : Body} → r.ok ≡ false → ((v : RuleView) (k : List ℕ) → drop q words ≡ rule_words v ++ k → ⊥) → BodyDone words q r
 no-body-there a h = record { low = λ t. bools.never (sym a ∙ t); high = λ t. bools.never (sym a ∙ t); named = λ t. bools.never (sym a ∙ t); tells = λ v k e. absurd (h v k e) }
 
 same_test : (hs : List Head) (ps : List Pair) (v : RuleView) (b c i : Bool) (left : ℕ) → b ≡ given v.gives → c ≡ b → left ≡ 32 → i ≡ false
-    → usedUp b (acts hs ps c (length v.cells) left i v.cells v.calls) ≡ ruleInOrder hs ps v
-unfolding ruleInOrder
+    → used_up b (acts hs ps c (length v.cells) left i v.cells v.calls) ≡ rule_in_order hs ps v
+unfolding rule_in_order
 same_test hs ps v b c i left e f l d = rw (f, e, l, d)
 
 pub rule-tested : {common heads words : List ℕ} {g : Ground} {d : Depth} {b : Body} {o : Outcome} {r : Bool} (hs : List Head) (ps : List Pair) (v : RuleView) → Knows common heads words g hs ps
     → g.valued ≡ b.valued → d.left ≡ 32 → d.inside ≡ false → (b.ok ≡ true) × (b.valued ≡ given v.gives) × Stand words b.spot v.cells v.calls → ActsDone common heads words g d b.spot o
-    → ((words : List ℕ) (w : Option Went) → Tells words w o → r ≡ usedUp b.valued w) → r ≡ ruleInOrder hs ps v
+    → ((words : List ℕ) (w : Option Went) → Tells words w o → r ≡ used_up b.valued w) → r ≡ rule_in_order hs ps v
 rule-tested {words = words} {g = g} {d = d} {b = b} hs ps v kn f l i x y u =
     let n = x.2.cells_count in
     u words _ ((y.does hs ps kn (length v.cells) (omega (arith, n))).tells v.cells v.calls x.2) ∙ same_test hs ps v b.valued g.valued d.inside d.left x.1 f l i

@@ -7,44 +7,44 @@ use Prim.Native.Nat.{ℕ, suc, ◌+◌, ◌<◌, ◌≤◌}
 use lib.ListN.{length, get_or, drop, length-drop}
 use lib.Seq.{get_or-drop, drop-drop}
 use Rattle.base.specs.Common.{same}
-use Rattle.names.specs.Understand.{isOne}
+use Rattle.names.specs.Understand.{is_one}
 use Rattle.objects.proofs.Looked.{ends-took}
 use Rattle.objects.proofs.Marks.{or_right}
 use Rattle.objects.proofs.TakeLaws.{times-exact}
 use Rattle.objects.proofs.Views.{name-exact, option-exact, rule-exact}
 use Rattle.objects.specs.Places.{Ends}
 use Rattle.objects.specs.Take.{took, times}
-use Rattle.objects.specs.View.{Name, RuleView, nameWords, optionWords, ruleWords, all, aName, anOption, aRule}
-use Rattle.objects.specs.Whole.{calls_of, textsOf}
+use Rattle.objects.specs.View.{Name, RuleView, name_words, option_words, rule_words, all, a_name, an_option, a_rule}
+use Rattle.objects.specs.Whole.{calls_of, texts_of}
 
 -- where the names of a rule's calls stand
 pub record CallsAt (words : List ℕ) (v : RuleView) (gives : ℕ) : Type 0 where
   pub inside : gives ≤ length words
-  pub count : (calls : ℕ) → Ends anOption words gives calls → (calls < length words) × (get_or words calls 0 ≡ length v.calls)
+  pub count : (calls : ℕ) → Ends an_option words gives calls → (calls < length words) × (get_or words calls 0 ≡ length v.calls)
   pub rest : List ℕ
-  pub taken : (calls : ℕ) → Ends anOption words gives calls → times (length v.calls) aName (drop (calls + 1) words) ≡ took v.calls rest
+  pub taken : (calls : ℕ) → Ends an_option words gives calls → times (length v.calls) a_name (drop (calls + 1) words) ≡ took v.calls rest
 
-pub calls_at : (words : List ℕ) (q gives : ℕ) (v : RuleView) (k : List ℕ) → drop q words ≡ ruleWords v ++ k → Ends aName words q gives → CallsAt words v gives
-unfolding ruleWords
+pub calls_at : (words : List ℕ) (q gives : ℕ) (v : RuleView) (k : List ℕ) → drop q words ≡ rule_words v ++ k → Ends a_name words q gives → CallsAt words v gives
+unfolding rule_words
 calls_at words q gives v k e x = record { inside = a.1; count = count; rest = cells; taken = taken }
   where
     cells : List ℕ
     cells = (length v.cells ∷ v.cells) ++ k
 
     calls₁ : List ℕ
-    calls₁ = length v.calls ∷ (all nameWords v.calls ++ cells)
+    calls₁ = length v.calls ∷ (all name_words v.calls ++ cells)
 
-    parts : (ruleWords v) ++ k ≡ nameWords v.name ++ (optionWords v.gives ++ calls₁)
-    parts = append_assoc (nameWords v.name) _ k ∙ ap (λ ws. nameWords v.name ++ ws) (append_assoc (optionWords v.gives) _ k
-        ∙ ap (λ ws. optionWords v.gives ++ (length v.calls ∷ ws)) (append_assoc (all nameWords v.calls) (length v.cells ∷ v.cells) k))
+    parts : (rule_words v) ++ k ≡ name_words v.name ++ (option_words v.gives ++ calls₁)
+    parts = append_assoc (name_words v.name) _ k ∙ ap (λ ws. name_words v.name ++ ws) (append_assoc (option_words v.gives) _ k
+        ∙ ap (λ ws. option_words v.gives ++ (length v.calls ∷ ws)) (append_assoc (all name_words v.calls) (length v.cells ∷ v.cells) k))
 
-    a : (optionWords v.gives ++ calls₁ ≡ drop gives words) × (gives ≤ length words)
-    a = ends-took v.name (optionWords v.gives ++ calls₁) (ap aName (e ∙ parts) ∙ name-exact.back v.name tt (optionWords v.gives ++ calls₁)) x
+    a : (option_words v.gives ++ calls₁ ≡ drop gives words) × (gives ≤ length words)
+    a = ends-took v.name (option_words v.gives ++ calls₁) (ap a_name (e ∙ parts) ∙ name-exact.back v.name tt (option_words v.gives ++ calls₁)) x
 
-    b : (calls : ℕ) → Ends anOption words gives calls → (calls₁ ≡ drop calls words) × (calls ≤ length words)
-    b calls y = ends-took v.gives calls₁ (ap anOption (sym a.0) ∙ option-exact.back v.gives tt calls₁) y
+    b : (calls : ℕ) → Ends an_option words gives calls → (calls₁ ≡ drop calls words) × (calls ≤ length words)
+    b calls y = ends-took v.gives calls₁ (ap an_option (sym a.0) ∙ option-exact.back v.gives tt calls₁) y
 
-    count : (calls : ℕ) → Ends anOption words gives calls → (calls < length words) × (get_or words calls 0 ≡ length v.calls)
+    count : (calls : ℕ) → Ends an_option words gives calls → (calls < length words) × (get_or words calls 0 ≡ length v.calls)
     count calls y =
         let z = b calls y in
         let l = ap length z.0 in
@@ -52,40 +52,40 @@ calls_at words q gives v k e x = record { inside = a.1; count = count; rest = ce
         let n : calls + 0 ≡ calls = omega arith in
         (omega (arith, l, d), ap (λ (i : ℕ). get_or words i 0) (sym n) ∙ sym (get_or-drop calls words 0 0) ∙ ap (λ (ws : List ℕ). get_or ws 0 0) (sym z.0))
 
-    taken : (calls : ℕ) → Ends anOption words gives calls → times (length v.calls) aName (drop (calls + 1) words) ≡ took v.calls cells
+    taken : (calls : ℕ) → Ends an_option words gives calls → times (length v.calls) a_name (drop (calls + 1) words) ≡ took v.calls cells
     taken calls y =
         let z = b calls y in
-        ap (times (length v.calls) aName) (sym (drop-drop 1 calls words) ∙ ap (λ (ws : List ℕ). drop 1 ws) (sym z.0)) ∙ (times-exact name-exact (length v.calls)).back v.calls refl cells
+        ap (times (length v.calls) a_name) (sym (drop-drop 1 calls words) ∙ ap (λ (ws : List ℕ). drop 1 ws) (sym z.0)) ∙ (times-exact name-exact (length v.calls)).back v.calls refl cells
 
-one-append : (t : List ℕ) (ns ms : List Name) → isOne t (textsOf (ns ++ ms)) ≡ (isOne t (textsOf ns) || isOne t (textsOf ms))
-unfolding isOne textsOf
+one-append : (t : List ℕ) (ns ms : List Name) → is_one t (texts_of (ns ++ ms)) ≡ (is_one t (texts_of ns) || is_one t (texts_of ms))
+unfolding is_one texts_of
 one-append t [] ms = refl
-one-append t (n ∷ ns) ms = rw (one-append t ns ms) (or_right (same t n.text) (isOne t (textsOf ns)) (isOne t (textsOf ms)))
+one-append t (n ∷ ns) ms = rw (one-append t ns ms) (or_right (same t n.text) (is_one t (texts_of ns)) (is_one t (texts_of ms)))
 
 module _ (words : List ℕ) (vs : List RuleView) (rest : List ℕ) (sought : Name) where
   -- m names are left, from the place q on
   pub record SeekingRules (m q : ℕ) : Type 0 where
     pub left : List RuleView
-    pub taken : times m aRule (drop q words) ≡ took left rest
-    pub alike : isOne sought.text (textsOf (calls_of vs)) ≡ isOne sought.text (textsOf (calls_of left))
+    pub taken : times m a_rule (drop q words) ≡ took left rest
+    pub alike : is_one sought.text (texts_of (calls_of vs)) ≡ is_one sought.text (texts_of (calls_of left))
 
   -- the first of them, and those behind it
   pub record LeadsRules (m q : ℕ) : Type 0 where
     pub first : RuleView
     pub later : List RuleView
     pub tail : List ℕ
-    pub here : drop q words ≡ ruleWords first ++ tail
-    pub alike : isOne sought.text (textsOf (calls_of vs)) ≡ (isOne sought.text (textsOf first.calls) || isOne sought.text (textsOf (calls_of later)))
-    pub behind : (r : ℕ) → Ends aRule words q r → (r ≤ length words) × (times m aRule (drop r words) ≡ took later rest)
+    pub here : drop q words ≡ rule_words first ++ tail
+    pub alike : is_one sought.text (texts_of (calls_of vs)) ≡ (is_one sought.text (texts_of first.calls) || is_one sought.text (texts_of (calls_of later)))
+    pub behind : (r : ℕ) → Ends a_rule words q r → (r ≤ length words) × (times m a_rule (drop r words) ≡ took later rest)
 
-  pub seeking-rules : (m n q at : ℕ) → m ≡ n → q ≡ at → times n aRule (drop at words) ≡ took vs rest → SeekingRules m q
+  pub seeking-rules : (m n q at : ℕ) → m ≡ n → q ≡ at → times n a_rule (drop at words) ≡ took vs rest → SeekingRules m q
   seeking-rules m n q at d f e = record { left = vs; taken = rw (d, f) e; alike = refl }
 
-  pub no-rule-left : {m q : ℕ} → SeekingRules m q → m ≡ 0 → false ≡ isOne sought.text (textsOf (calls_of vs))
-  unfolding isOne textsOf calls_of
+  pub no-rule-left : {m q : ℕ} → SeekingRules m q → m ≡ 0 → false ≡ is_one sought.text (texts_of (calls_of vs))
+  unfolding is_one texts_of calls_of
   no-rule-left {m} {q} x e = go x.left ((times-exact rule-exact m).forth (drop q words) x.left rest x.taken).1 x.alike
     where
-      go : (ms : List RuleView) → length ms ≡ m → isOne sought.text (textsOf (calls_of vs)) ≡ isOne sought.text (textsOf (calls_of ms)) → false ≡ isOne sought.text (textsOf (calls_of vs))
+      go : (ms : List RuleView) → length ms ≡ m → is_one sought.text (texts_of (calls_of vs)) ≡ is_one sought.text (texts_of (calls_of ms)) → false ≡ is_one sought.text (texts_of (calls_of vs))
       go [] l a = sym a
       go (n ∷ ms) l a = absurd (omega (arith, l, e))
 
@@ -95,11 +95,11 @@ module _ (words : List ℕ) (vs : List RuleView) (rest : List ℕ) (sought : Nam
       let y = (times-exact rule-exact (suc m)).forth (drop q words) x.left rest x.taken in
       go x.left y.0 y.1 x.alike
     where
-      go : (ms : List RuleView) → drop q words ≡ all ruleWords ms ++ rest → length ms ≡ suc m → isOne sought.text (textsOf (calls_of vs)) ≡ isOne sought.text (textsOf (calls_of ms)) → LeadsRules m q
+      go : (ms : List RuleView) → drop q words ≡ all rule_words ms ++ rest → length ms ≡ suc m → is_one sought.text (texts_of (calls_of vs)) ≡ is_one sought.text (texts_of (calls_of ms)) → LeadsRules m q
       go [] e l a = absurd (omega (arith, l))
       go (n ∷ ms) e l a =
-          let more = all ruleWords ms ++ rest in
-          let here : drop q words ≡ ruleWords n ++ more = e ∙ append_assoc (ruleWords n) (all ruleWords ms) rest in
+          let more = all rule_words ms ++ rest in
+          let here : drop q words ≡ rule_words n ++ more = e ∙ append_assoc (rule_words n) (all rule_words ms) rest in
           record {
             first = n;
             later = ms;
@@ -107,15 +107,15 @@ module _ (words : List ℕ) (vs : List RuleView) (rest : List ℕ) (sought : Nam
             here = here;
             alike = a ∙ one-append sought.text n.calls (calls_of ms);
             behind = λ r y.
-                let z = ends-took n more (ap aRule here ∙ rule-exact.back n tt more) y in
-                (z.1, ap (times m aRule) (sym z.0) ∙ (times-exact rule-exact m).back ms (omega (arith, l)) rest);
+                let z = ends-took n more (ap a_rule here ∙ rule-exact.back n tt more) y in
+                (z.1, ap (times m a_rule) (sym z.0) ∙ (times-exact rule-exact m).back ms (omega (arith, l)) rest);
           }
 
   pub rules-by : {m q : ℕ} (m₁ : ℕ) → SeekingRules m q → m ≡ suc m₁ → LeadsRules m₁ q
   rules-by m₁ x e = rules-lead (rw e at x)
 
-  pub found-rule : {m q : ℕ} (x : LeadsRules m q) (b : Bool) → b ≡ isOne sought.text (textsOf x.first.calls) → b ≡ true → b ≡ isOne sought.text (textsOf (calls_of vs))
+  pub found-rule : {m q : ℕ} (x : LeadsRules m q) (b : Bool) → b ≡ is_one sought.text (texts_of x.first.calls) → b ≡ true → b ≡ is_one sought.text (texts_of (calls_of vs))
   found-rule x b e t = rw (x.alike, ← e, t)
 
-  pub not-rule : {m q : ℕ} (x : LeadsRules m q) (b : Bool) → b ≡ isOne sought.text (textsOf x.first.calls) → b ≡ false → (r : ℕ) → Ends aRule words q r → SeekingRules m r
+  pub not-rule : {m q : ℕ} (x : LeadsRules m q) (b : Bool) → b ≡ is_one sought.text (texts_of x.first.calls) → b ≡ false → (r : ℕ) → Ends a_rule words q r → SeekingRules m r
   not-rule x b e f r y = record { left = x.later; taken = (x.behind r y).1; alike = rw (x.alike, ← e, f) }

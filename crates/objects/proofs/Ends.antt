@@ -11,8 +11,8 @@ use lib.Seq.{drop-cons, drop-drop}
 use mathlib.Core.Logic.{◌⊎◌, inl, inr}
 use Rattle.base.proofs.Laws.{lt-or-le}
 use Rattle.objects.specs.Places.{EndsAt, Ends}
-use Rattle.objects.specs.Take.{Taken, took, missing, Taker, onward, ◌>>=◌, pure, refuse, aWord, someWords, times}
-use Rattle.objects.specs.View.{aName, ifNamed, anOption, aPair, someCalls, someCells, aRule}
+use Rattle.objects.specs.Take.{Taken, took, missing, Taker, onward, ◌>>=◌, pure, refuse, a_word, some_words, times}
+use Rattle.objects.specs.View.{a_name, if_named, an_option, a_pair, some_calls, some_cells, a_rule}
 
 module _ {words : List ℕ} where
   -- what is taken ends at p, and then the rest at r
@@ -50,115 +50,115 @@ module _ {words : List ℕ} where
       go missing e = e
 
   -- a word that is there, and one that is not
-  pub bind_word : {C : Type 0} (f : ℕ → Taker C) {at r : ℕ} → at < length words → Ends (f (get_or words at 0)) words (at + 1) r → Ends (◌>>=◌ aWord f) words at r
-  unfolding EndsAt onward aWord
+  pub bind_word : {C : Type 0} (f : ℕ → Taker C) {at r : ℕ} → at < length words → Ends (f (get_or words at 0)) words (at + 1) r → Ends (◌>>=◌ a_word f) words at r
+  unfolding EndsAt onward a_word
   bind_word f {at = at} l h = record { is = rw (drop-cons words at 0 l, ← add-one at) h.is; near = h.near }
 
-  pub bind-no-word : {C : Type 0} (f : ℕ → Taker C) {at r : ℕ} → length words ≤ at → r ≡ length words + 1 → Ends (◌>>=◌ aWord f) words at r
-  unfolding EndsAt onward aWord
+  pub bind-no-word : {C : Type 0} (f : ℕ → Taker C) {at r : ℕ} → length words ≤ at → r ≡ length words + 1 → Ends (◌>>=◌ a_word f) words at r
+  unfolding EndsAt onward a_word
   bind-no-word f {at = at} l e = record { is = rw (drop_of_length-le words l) (omega (arith, e)); near = omega (arith, e) }
 
-  pub some_words : (n : ℕ) {at r : ℕ} → at + n ≤ length words → r ≡ at + n → Ends (someWords n) words at r
-  unfolding EndsAt someWords
-  some_words n {at} {r} l e =
+  pub some_words_lem : (n : ℕ) {at r : ℕ} → at + n ≤ length words → r ≡ at + n → Ends (some_words n) words at r
+  unfolding EndsAt some_words
+  some_words_lem n {at} {r} l e =
       let d = length-drop at words in
       record { is = rw (le-leb n (length (drop at words)) (omega (arith, d, l)), e) (drop-drop n at words, l); near = omega (arith, l, e) }
 
-  pub no_words : (n : ℕ) {at r : ℕ} → at ≤ length words → length words < at + n → r ≡ length words + 1 → Ends (someWords n) words at r
-  unfolding EndsAt someWords
+  pub no_words : (n : ℕ) {at r : ℕ} → at ≤ length words → length words < at + n → r ≡ length words + 1 → Ends (some_words n) words at r
+  unfolding EndsAt some_words
   no_words n {at} {r} h l e =
       let d = length-drop at words in
       record { is = rw (lt-leb n (length (drop at words)) (omega (arith, d, l, h))) (omega (arith, e)); near = omega (arith, e) }
 
   -- a name: two words, and as many as the second says
-  pub name-ends : {at r : ℕ} → at + 2 ≤ length words → Ends (someWords (get_or words (at + 1) 0)) words (at + 2) r → Ends aName words at r
-  unfolding aName
-  name-ends {at} {r} l h = bind_word _ (omega (arith, l)) (bind_word _ (omega (arith, l)) (ends_as (someWords (get_or words (at + 1) 0)) _ (subst (λ n. Ends (someWords (get_or words (at + 1) 0)) words n r) (two at) h)))
+  pub name-ends : {at r : ℕ} → at + 2 ≤ length words → Ends (some_words (get_or words (at + 1) 0)) words (at + 2) r → Ends a_name words at r
+  unfolding a_name
+  name-ends {at} {r} l h = bind_word _ (omega (arith, l)) (bind_word _ (omega (arith, l)) (ends_as (some_words (get_or words (at + 1) 0)) _ (subst (λ n. Ends (some_words (get_or words (at + 1) 0)) words n r) (two at) h)))
     where
       two : (n : ℕ) → n + 2 ≡ n + 1 + 1
       two n = omega arith
 
-  pub no_name : {at r : ℕ} → length words < at + 2 → r ≡ length words + 1 → Ends aName words at r
-  unfolding aName
+  pub no_name : {at r : ℕ} → length words < at + 2 → r ≡ length words + 1 → Ends a_name words at r
+  unfolding a_name
   no_name {at} {r} l e = go (lt-or-le at (length words))
     where
-      go : (at < length words) ⊎ (length words ≤ at) → Ends aName words at r
+      go : (at < length words) ⊎ (length words ≤ at) → Ends a_name words at r
       go (inl h) = bind_word _ h (bind-no-word _ (omega (arith, l)) e)
       go (inr h) = bind-no-word _ h e
 
   -- an option: by its first word
-  pub no-option : {at r : ℕ} → length words ≤ at → r ≡ length words + 1 → Ends anOption words at r
-  unfolding anOption
+  pub no-option : {at r : ℕ} → length words ≤ at → r ≡ length words + 1 → Ends an_option words at r
+  unfolding an_option
   no-option l e = bind-no-word _ l e
 
-  pub option-none : {at r : ℕ} → at < length words → get_or words at 0 ≡ 0 → r ≡ at + 1 → Ends anOption words at r
-  unfolding anOption ifNamed
-  option-none {at} {r} l d e = bind_word ifNamed l (rw (d, e) (ends-here none (omega (arith, l))))
+  pub option-none : {at r : ℕ} → at < length words → get_or words at 0 ≡ 0 → r ≡ at + 1 → Ends an_option words at r
+  unfolding an_option if_named
+  option-none {at} {r} l d e = bind_word if_named l (rw (d, e) (ends-here none (omega (arith, l))))
 
-  pub option-some : {at r : ℕ} → at < length words → get_or words at 0 ≡ 1 → Ends aName words (at + 1) r → Ends anOption words at r
-  unfolding anOption ifNamed
-  option-some {at} {r} l d h = bind_word ifNamed l (rw d (ends_as aName (λ n. some n) h))
+  pub option-some : {at r : ℕ} → at < length words → get_or words at 0 ≡ 1 → Ends a_name words (at + 1) r → Ends an_option words at r
+  unfolding an_option if_named
+  option-some {at} {r} l d h = bind_word if_named l (rw d (ends_as a_name (λ n. some n) h))
 
-  pub option-not : {at r : ℕ} → at < length words → (get_or words at 0 ≡ 0 → ⊥) → (get_or words at 0 ≡ 1 → ⊥) → r ≡ length words + 1 → Ends anOption words at r
-  unfolding anOption ifNamed refuse EndsAt
-  option-not {at} {r} l d₀ d₁ e = bind_word ifNamed l (rw (ne_eqb (get_or words at 0) 0 d₀, ne_eqb (get_or words at 0) 1 d₁) (record { is = omega (arith, e); near = omega (arith, e) }))
+  pub option-not : {at r : ℕ} → at < length words → (get_or words at 0 ≡ 0 → ⊥) → (get_or words at 0 ≡ 1 → ⊥) → r ≡ length words + 1 → Ends an_option words at r
+  unfolding an_option if_named refuse EndsAt
+  option-not {at} {r} l d₀ d₁ e = bind_word if_named l (rw (ne_eqb (get_or words at 0) 0 d₀, ne_eqb (get_or words at 0) 1 d₁) (record { is = omega (arith, e); near = omega (arith, e) }))
 
   -- a pair: two words and two names
-  pub no-pair : {at r : ℕ} → length words < at + 2 → r ≡ length words + 1 → Ends aPair words at r
-  unfolding aPair
+  pub no-pair : {at r : ℕ} → length words < at + 2 → r ≡ length words + 1 → Ends a_pair words at r
+  unfolding a_pair
   no-pair {at} {r} l e = go (lt-or-le at (length words))
     where
-      go : (at < length words) ⊎ (length words ≤ at) → Ends aPair words at r
+      go : (at < length words) ⊎ (length words ≤ at) → Ends a_pair words at r
       go (inl h) = bind_word _ h (bind-no-word _ (omega (arith, l)) e)
       go (inr h) = bind-no-word _ h e
 
-  pub pair-off : {at p : ℕ} → at + 2 ≤ length words → Ends aName words (at + 2) p → length words < p → Ends aPair words at p
-  unfolding aPair
-  pair-off {at} {p} l x h = bind_word _ (omega (arith, l)) (bind_word _ (omega (arith, l)) (bind-off aName _ (subst (λ n. Ends aName words n p) (two at) x) h))
+  pub pair-off : {at p : ℕ} → at + 2 ≤ length words → Ends a_name words (at + 2) p → length words < p → Ends a_pair words at p
+  unfolding a_pair
+  pair-off {at} {p} l x h = bind_word _ (omega (arith, l)) (bind_word _ (omega (arith, l)) (bind-off a_name _ (subst (λ n. Ends a_name words n p) (two at) x) h))
     where
       two : (n : ℕ) → n + 2 ≡ n + 1 + 1
       two n = omega arith
 
-  pub pair_ends : {at p r : ℕ} → at + 2 ≤ length words → Ends aName words (at + 2) p → p ≤ length words → Ends aName words p r → Ends aPair words at r
-  unfolding aPair
-  pair_ends {at} {p} {r} l x h y = bind_word _ (omega (arith, l)) (bind_word _ (omega (arith, l)) (bind-on aName _ (subst (λ n. Ends aName words n p) (two at) x) h (λ a. ends_as aName _ y)))
+  pub pair_ends : {at p r : ℕ} → at + 2 ≤ length words → Ends a_name words (at + 2) p → p ≤ length words → Ends a_name words p r → Ends a_pair words at r
+  unfolding a_pair
+  pair_ends {at} {p} {r} l x h y = bind_word _ (omega (arith, l)) (bind_word _ (omega (arith, l)) (bind-on a_name _ (subst (λ n. Ends a_name words n p) (two at) x) h (λ a. ends_as a_name _ y)))
     where
       two : (n : ℕ) → n + 2 ≡ n + 1 + 1
       two n = omega arith
 
   -- what a word counts
-  pub no-calls : {at r : ℕ} → length words ≤ at → r ≡ length words + 1 → Ends someCalls words at r
-  unfolding someCalls
+  pub no-calls : {at r : ℕ} → length words ≤ at → r ≡ length words + 1 → Ends some_calls words at r
+  unfolding some_calls
   no-calls l e = bind-no-word _ l e
 
-  pub calls-end : {at r : ℕ} → at < length words → Ends (times (get_or words at 0) aName) words (at + 1) r → Ends someCalls words at r
-  unfolding someCalls
-  calls-end l h = bind_word (λ n. times n aName) l h
+  pub calls-end : {at r : ℕ} → at < length words → Ends (times (get_or words at 0) a_name) words (at + 1) r → Ends some_calls words at r
+  unfolding some_calls
+  calls-end l h = bind_word (λ n. times n a_name) l h
 
-  pub no_cells : {at r : ℕ} → length words ≤ at → r ≡ length words + 1 → Ends someCells words at r
-  unfolding someCells
+  pub no_cells : {at r : ℕ} → length words ≤ at → r ≡ length words + 1 → Ends some_cells words at r
+  unfolding some_cells
   no_cells l e = bind-no-word _ l e
 
-  pub cells-end : {at r : ℕ} → at < length words → Ends (someWords (get_or words at 0)) words (at + 1) r → Ends someCells words at r
-  unfolding someCells
-  cells-end l h = bind_word (λ n. someWords n) l h
+  pub cells-end : {at r : ℕ} → at < length words → Ends (some_words (get_or words at 0)) words (at + 1) r → Ends some_cells words at r
+  unfolding some_cells
+  cells-end l h = bind_word (λ n. some_words n) l h
 
   -- a rule
-  pub rule-off : {at p : ℕ} → Ends aName words at p → length words < p → Ends aRule words at p
-  unfolding aRule
-  rule-off x l = bind-off aName _ x l
+  pub rule-off : {at p : ℕ} → Ends a_name words at p → length words < p → Ends a_rule words at p
+  unfolding a_rule
+  rule-off x l = bind-off a_name _ x l
 
-  pub rule-off-gives : {at p q : ℕ} → Ends aName words at p → p ≤ length words → Ends anOption words p q → length words < q → Ends aRule words at q
-  unfolding aRule
-  rule-off-gives x l y m = bind-on aName _ x l (λ _. bind-off anOption _ y m)
+  pub rule-off-gives : {at p q : ℕ} → Ends a_name words at p → p ≤ length words → Ends an_option words p q → length words < q → Ends a_rule words at q
+  unfolding a_rule
+  rule-off-gives x l y m = bind-on a_name _ x l (λ _. bind-off an_option _ y m)
 
-  pub rule-off-calls : {at p q r : ℕ} → Ends aName words at p → p ≤ length words → Ends anOption words p q → q ≤ length words → Ends someCalls words q r → length words < r → Ends aRule words at r
-  unfolding aRule
-  rule-off-calls x l y m z n = bind-on aName _ x l (λ _. bind-on anOption _ y m (λ _. bind-off someCalls _ z n))
+  pub rule-off-calls : {at p q r : ℕ} → Ends a_name words at p → p ≤ length words → Ends an_option words p q → q ≤ length words → Ends some_calls words q r → length words < r → Ends a_rule words at r
+  unfolding a_rule
+  rule-off-calls x l y m z n = bind-on a_name _ x l (λ _. bind-on an_option _ y m (λ _. bind-off some_calls _ z n))
 
-  pub rule-ends : {at p q r e : ℕ} → Ends aName words at p → p ≤ length words → Ends anOption words p q → q ≤ length words → Ends someCalls words q r → r ≤ length words → Ends someCells words r e → Ends aRule words at e
-  unfolding aRule
-  rule-ends x l y m z n u = bind-on aName _ x l (λ _. bind-on anOption _ y m (λ _. bind-on someCalls _ z n (λ _. ends_as someCells _ u)))
+  pub rule-ends : {at p q r e : ℕ} → Ends a_name words at p → p ≤ length words → Ends an_option words p q → q ≤ length words → Ends some_calls words q r → r ≤ length words → Ends some_cells words r e → Ends a_rule words at e
+  unfolding a_rule
+  rule-ends x l y m z n u = bind-on a_name _ x l (λ _. bind-on an_option _ y m (λ _. bind-on some_calls _ z n (λ _. ends_as some_cells _ u)))
 
   -- as many times
   pub times_none : {A : Type 0} (m : Taker A) {p : ℕ} → p ≤ length words → Ends (times 0 m) words p p

@@ -9,13 +9,14 @@ use lib.Dec.{eqb}
 use lib.ListN.{length, get_or, take, drop, length-append, length-drop}
 use lib.Seq.{drop-drop, ext_get_or, get_or-take, get_or-drop, length-take-le}
 use Rattle.base.proofs.Laws.{is_false, same_refl, same-eq}
-use Rattle.base.specs.Common.{if◌then◌else◌, same}
+use Rattle.std.specs.Prelude.{if◌then◌else◌}
+use Rattle.base.specs.Common.{same}
 use Rattle.parts.specs.Form.{packed}
 use Rattle.objects.proofs.Ends.{bind-on, bind-off, bind_word, ends_as, ends-here}
 use Rattle.objects.proofs.TakeLaws.{Exact}
 use Rattle.objects.specs.Places.{EndsAt, Ends}
-use Rattle.objects.specs.Take.{Taken, took, missing, Taker, onward, ◌>>=◌, pure, refuse, aWord, someWords, theWord, theWords, times, Counted, counted, ifSized, sized}
-use Rattle.objects.specs.View.{View, aPair, aRule, someParts, aContent, aBody, aView}
+use Rattle.objects.specs.Take.{Taken, took, missing, Taker, onward, ◌>>=◌, pure, refuse, a_word, some_words, the_word, the_words, times, Counted, counted, if_sized, sized}
+use Rattle.objects.specs.View.{View, a_pair, a_rule, some_parts, a_content, a_body, a_view}
 
 -- The words of the common part
 
@@ -37,34 +38,34 @@ packed-at (a ∷ b ∷ s) (suc i) l =
     packed-at s i (omega (arith, l)) ∙ (ap (λ (n : ℕ). 256 * get_or (a ∷ b ∷ s) n 0 + get_or s (2 * i + 1) 0) (sym d) ∙ ap (λ (n : ℕ). 256 * get_or (a ∷ b ∷ s) (2 * suc i) 0 + get_or (a ∷ b ∷ s) n 0) (sym e))
 
 -- fewer than four words are no body
-content-short : (common ws : List ℕ) → length ws < 3 → aContent common ws ≡ missing
-unfolding aContent onward aWord
+content-short : (common ws : List ℕ) → length ws < 3 → a_content common ws ≡ missing
+unfolding a_content onward a_word
 content-short common [] l = refl
 content-short common (x ∷ []) l = refl
 content-short common (x ∷ y ∷ []) l = refl
 content-short common (x ∷ y ∷ z ∷ ws) l = absurd (omega (arith, l))
 
-short : (common ws : List ℕ) → length ws < 4 → aBody common ws ≡ missing
-unfolding aBody theWord onward aWord refuse
+short : (common ws : List ℕ) → length ws < 4 → a_body common ws ≡ missing
+unfolding a_body the_word onward a_word refuse
 short common [] l = refl
 short common (x ∷ ws) l = go (eqb x (length common))
   where
-    go : (b : Bool) → onward {A = Unit {0}} ((if b then pure tt else refuse) ws) (λ _. aContent common) ≡ missing
+    go : (b : Bool) → onward {A = Unit {0}} ((if b then pure tt else refuse) ws) (λ _. a_content common) ≡ missing
     go true = content-short common ws (omega (arith, l))
     go false = refl
 
 -- nor are fewer than three an object
-few : (common ws : List ℕ) → length ws < 3 → aView common ws ≡ missing
-unfolding aView sized theWord onward aWord refuse
+few : (common ws : List ℕ) → length ws < 3 → a_view common ws ≡ missing
+unfolding a_view sized the_word onward a_word refuse
 few common [] l = refl
 few common (x ∷ ws) l = go (eqb x 20559)
   where
-    sized-short : (ws : List ℕ) → length ws < 2 → sized (aBody common) ws ≡ missing
+    sized-short : (ws : List ℕ) → length ws < 2 → sized (a_body common) ws ≡ missing
     sized-short [] l = refl
     sized-short (x ∷ []) l = refl
     sized-short (x ∷ y ∷ ws) l = absurd (omega (arith, l))
 
-    go : (b : Bool) → onward {A = Unit {0}} ((if b then pure tt else refuse) ws) (λ _. sized (aBody common)) ≡ missing
+    go : (b : Bool) → onward {A = Unit {0}} ((if b then pure tt else refuse) ws) (λ _. sized (a_body common)) ≡ missing
     go true = sized-short ws (omega (arith, l))
     go false = refl
 
@@ -95,12 +96,12 @@ counted-on {A} {C} {m} f {words} {at} {p} {r} x l₁ l h = record { is = go (m (
     near (took a rest) e = (h (among rest a) (count-is rest e.0)).near
     near missing e = absurd (omega (arith, e, l))
 
-sized-right : {words : List ℕ} (high low : ℕ) (c : Counted View) {p : ℕ} → high ≡ c.count / 65536 → low ≡ c.count % 65536 → p ≤ length words → Ends (ifSized high low c) words p p
-unfolding ifSized
+sized-right : {words : List ℕ} (high low : ℕ) (c : Counted View) {p : ℕ} → high ≡ c.count / 65536 → low ≡ c.count % 65536 → p ≤ length words → Ends (if_sized high low c) words p p
+unfolding if_sized
 sized-right high low c h g l = rw (eq-eqb high (c.count / 65536) h, eq-eqb low (c.count % 65536) g) (ends-here c.value l)
 
-sized-wrong : {words : List ℕ} (high low : ℕ) (c : Counted View) {p r : ℕ} → ((high ≡ c.count / 65536) × (low ≡ c.count % 65536) → ⊥) → r ≡ length words + 1 → Ends (ifSized high low c) words p r
-unfolding ifSized refuse EndsAt
+sized-wrong : {words : List ℕ} (high low : ℕ) (c : Counted View) {p r : ℕ} → ((high ≡ c.count / 65536) × (low ≡ c.count % 65536) → ⊥) → r ≡ length words + 1 → Ends (if_sized high low c) words p r
+unfolding if_sized refuse EndsAt
 sized-wrong {words} high low c {p} {r} f e = record { is = go (eqb high (c.count / 65536)) refl (eqb low (c.count % 65536)) refl; near = omega (arith, e) }
   where
     go : (b : Bool) → eqb high (c.count / 65536) ≡ b → (d : Bool) → eqb low (c.count % 65536) ≡ d
@@ -130,25 +131,25 @@ module _ (words : List ℕ) where
   unfolding EndsAt
   gone m e d = record { is = rw e (omega (arith, d)); near = omega (arith, d) }
 
-  pub the_word : (n : ℕ) {at : ℕ} → at < length words → get_or words at 0 ≡ n → Ends (theWord n) words at (at + 1)
-  unfolding theWord
-  the_word n {at} l e = bind_word (λ x. if eqb x n then pure tt else refuse) l (rw (eq-eqb (get_or words at 0) n e) (ends-here tt (omega (arith, l))))
+  pub the_word_lem : (n : ℕ) {at : ℕ} → at < length words → get_or words at 0 ≡ n → Ends (the_word n) words at (at + 1)
+  unfolding the_word
+  the_word_lem n {at} l e = bind_word (λ x. if eqb x n then pure tt else refuse) l (rw (eq-eqb (get_or words at 0) n e) (ends-here tt (omega (arith, l))))
 
-  pub not-word : (n : ℕ) {at r : ℕ} → at < length words → (get_or words at 0 ≡ n → ⊥) → r ≡ length words + 1 → Ends (theWord n) words at r
-  unfolding theWord refuse
+  pub not-word : (n : ℕ) {at r : ℕ} → at < length words → (get_or words at 0 ≡ n → ⊥) → r ≡ length words + 1 → Ends (the_word n) words at r
+  unfolding the_word refuse
   not-word n {at} l e d = bind_word (λ x. if eqb x n then pure tt else refuse) l (rw (ne_eqb (get_or words at 0) n e) (gone (λ ws. missing) refl d))
 
   module _ (xs : List ℕ) where
-    words-there : (at : ℕ) → at + length xs ≤ length words → someWords (length xs) (drop at words) ≡ took (take (length xs) (drop at words)) (drop (at + length xs) words)
-    unfolding someWords
+    words-there : (at : ℕ) → at + length xs ≤ length words → some_words (length xs) (drop at words) ≡ took (take (length xs) (drop at words)) (drop (at + length xs) words)
+    unfolding some_words
     words-there at l = let d = length-drop at words in rw (le-leb (length xs) (length (drop at words)) (omega (arith, d, l)), drop-drop (length xs) at words)
 
-    pub words-few : {at r : ℕ} → at ≤ length words → length words < at + length xs → r ≡ length words + 1 → Ends (theWords xs) words at r
-    unfolding theWords onward someWords
-    words-few {at} h l e = let d = length-drop at words in gone (theWords xs) (rw (lt-leb (length xs) (length (drop at words)) (omega (arith, d, l, h)))) e
+    pub words-few : {at r : ℕ} → at ≤ length words → length words < at + length xs → r ≡ length words + 1 → Ends (the_words xs) words at r
+    unfolding the_words onward some_words
+    words-few {at} h l e = let d = length-drop at words in gone (the_words xs) (rw (lt-leb (length xs) (length (drop at words)) (omega (arith, d, l, h)))) e
 
-    pub words_are : {at r : ℕ} → at + length xs ≤ length words → ((k : ℕ) → k < length xs → get_or words (at + k) 0 ≡ get_or xs k 0) → r ≡ at + length xs → Ends (theWords xs) words at r
-    unfolding theWords onward EndsAt
+    pub words_are : {at r : ℕ} → at + length xs ≤ length words → ((k : ℕ) → k < length xs → get_or words (at + k) 0 ≡ get_or xs k 0) → r ≡ at + length xs → Ends (the_words xs) words at r
+    unfolding the_words onward EndsAt
     words_are {at} {r} l h e =
         let d = length-drop at words in
         let size = length-take-le (length xs) (drop at words) (omega (arith, d, l)) in
@@ -158,78 +159,78 @@ module _ (words : List ℕ) where
         each : (k : ℕ) → k < length xs → get_or (take (length xs) (drop at words)) k 0 ≡ get_or xs k 0
         each k m = get_or-take (length xs) (drop at words) k 0 m ∙ get_or-drop at words k 0 ∙ h k m
 
-    pub words-not : {at r : ℕ} (k : ℕ) → at + length xs ≤ length words → k < length xs → (get_or words (at + k) 0 ≡ get_or xs k 0 → ⊥) → r ≡ length words + 1 → Ends (theWords xs) words at r
-    unfolding theWords onward refuse
+    pub words-not : {at r : ℕ} (k : ℕ) → at + length xs ≤ length words → k < length xs → (get_or words (at + k) 0 ≡ get_or xs k 0 → ⊥) → r ≡ length words + 1 → Ends (the_words xs) words at r
+    unfolding the_words onward refuse
     words-not {at} {r} k l m f e =
         let n = is_false (same (take (length xs) (drop at words)) xs) (λ t. f (sym (get_or-take (length xs) (drop at words) k 0 m ∙ get_or-drop at words k 0) ∙ ap (λ ys. get_or ys k 0) (same-eq (take (length xs) (drop at words)) xs t))) in
-        gone (theWords xs) (rw (words-there at l, n)) e
+        gone (the_words xs) (rw (words-there at l, n)) e
 
   -- The body of an object
 
   module _ (common : List ℕ) where
-    pub body-short : {at r : ℕ} → length words < at + 4 → r ≡ length words + 1 → Ends (aBody common) words at r
-    body-short {at} l e = let d = length-drop at words in gone (aBody common) (short common (drop at words) (omega (arith, d, l))) e
+    pub body-short : {at r : ℕ} → length words < at + 4 → r ≡ length words + 1 → Ends (a_body common) words at r
+    body-short {at} l e = let d = length-drop at words in gone (a_body common) (short common (drop at words) (omega (arith, d, l))) e
 
-    pub body-of-other : {at r : ℕ} → at < length words → (get_or words at 0 ≡ length common → ⊥) → r ≡ length words + 1 → Ends (aBody common) words at r
-    unfolding aBody
-    body-of-other l f e = bind-off (theWord (length common)) _ (not-word (length common) l f e) (omega (arith, e))
+    pub body-of-other : {at r : ℕ} → at < length words → (get_or words at 0 ≡ length common → ⊥) → r ≡ length words + 1 → Ends (a_body common) words at r
+    unfolding a_body
+    body-of-other l f e = bind-off (the_word (length common)) _ (not-word (length common) l f e) (omega (arith, e))
 
-    behind : {at r : ℕ} → at + 4 ≤ length words → get_or words at 0 ≡ length common → Ends (someParts common (get_or words (at + 1) 0) (get_or words (at + 2) 0) (get_or words (at + 3) 0)) words (at + 4) r
-        → Ends (aBody common) words at r
-    unfolding aBody aContent
+    behind : {at r : ℕ} → at + 4 ≤ length words → get_or words at 0 ≡ length common → Ends (some_parts common (get_or words (at + 1) 0) (get_or words (at + 2) 0) (get_or words (at + 3) 0)) words (at + 4) r
+        → Ends (a_body common) words at r
+    unfolding a_body a_content
     behind {at} {r} l e h =
         let a : at + 1 + 1 ≡ at + 2 = omega arith in
         let b : at + 2 + 1 ≡ at + 3 = omega arith in
         let c : at + 3 + 1 ≡ at + 4 = omega arith in
-        bind-on (theWord (length common)) _ (the_word (length common) (omega (arith, l)) e) (omega (arith, l)) (λ _.
+        bind-on (the_word (length common)) _ (the_word_lem (length common) (omega (arith, l)) e) (omega (arith, l)) (λ _.
         bind_word _ (omega (arith, l)) (rw a (bind_word _ (omega (arith, l)) (rw b (bind_word _ (omega (arith, l)) (rw c h))))))
 
-    pub body-off-common : {at p : ℕ} → at + 4 ≤ length words → get_or words at 0 ≡ length common → Ends (theWords (packed common)) words (at + 4) p → length words < p → Ends (aBody common) words at p
-    unfolding someParts
-    body-off-common l e x m = behind l e (bind-off (theWords (packed common)) _ x m)
+    pub body-off-common : {at p : ℕ} → at + 4 ≤ length words → get_or words at 0 ≡ length common → Ends (the_words (packed common)) words (at + 4) p → length words < p → Ends (a_body common) words at p
+    unfolding some_parts
+    body-off-common l e x m = behind l e (bind-off (the_words (packed common)) _ x m)
 
-    pub body-off-pairs : {at p q : ℕ} → at + 4 ≤ length words → get_or words at 0 ≡ length common → Ends (theWords (packed common)) words (at + 4) p → p ≤ length words
-        → Ends (times (get_or words (at + 3) 0) aPair) words p q → length words < q → Ends (aBody common) words at q
-    unfolding someParts
-    body-off-pairs {at} l e x m y n = behind l e (bind-on (theWords (packed common)) _ x m (λ _. bind-off (times (get_or words (at + 3) 0) aPair) _ y n))
+    pub body-off-pairs : {at p q : ℕ} → at + 4 ≤ length words → get_or words at 0 ≡ length common → Ends (the_words (packed common)) words (at + 4) p → p ≤ length words
+        → Ends (times (get_or words (at + 3) 0) a_pair) words p q → length words < q → Ends (a_body common) words at q
+    unfolding some_parts
+    body-off-pairs {at} l e x m y n = behind l e (bind-on (the_words (packed common)) _ x m (λ _. bind-off (times (get_or words (at + 3) 0) a_pair) _ y n))
 
-    pub body-ends : {at p q r : ℕ} → at + 4 ≤ length words → get_or words at 0 ≡ length common → Ends (theWords (packed common)) words (at + 4) p → p ≤ length words
-        → Ends (times (get_or words (at + 3) 0) aPair) words p q → q ≤ length words → Ends (times (get_or words (at + 2) 0) aRule) words q r → Ends (aBody common) words at r
-    unfolding someParts
-    body-ends {at} l e x m y n z = behind l e (bind-on (theWords (packed common)) _ x m (λ _. bind-on (times (get_or words (at + 3) 0) aPair) _ y n (λ _. ends_as (times (get_or words (at + 2) 0) aRule) _ z)))
+    pub body-ends : {at p q r : ℕ} → at + 4 ≤ length words → get_or words at 0 ≡ length common → Ends (the_words (packed common)) words (at + 4) p → p ≤ length words
+        → Ends (times (get_or words (at + 3) 0) a_pair) words p q → q ≤ length words → Ends (times (get_or words (at + 2) 0) a_rule) words q r → Ends (a_body common) words at r
+    unfolding some_parts
+    body-ends {at} l e x m y n z = behind l e (bind-on (the_words (packed common)) _ x m (λ _. bind-on (times (get_or words (at + 3) 0) a_pair) _ y n (λ _. ends_as (times (get_or words (at + 2) 0) a_rule) _ z)))
 
     -- An object, behind its mark and its length
 
-    pub view-short : {at r : ℕ} → length words < at + 3 → r ≡ length words + 1 → Ends (aView common) words at r
-    view-short {at} l e = let d = length-drop at words in gone (aView common) (few common (drop at words) (omega (arith, d, l))) e
+    pub view-short : {at r : ℕ} → length words < at + 3 → r ≡ length words + 1 → Ends (a_view common) words at r
+    view-short {at} l e = let d = length-drop at words in gone (a_view common) (few common (drop at words) (omega (arith, d, l))) e
 
-    pub no-view : {at r : ℕ} → at < length words → (get_or words at 0 ≡ 20559 → ⊥) → r ≡ length words + 1 → Ends (aView common) words at r
-    unfolding aView
-    no-view l f e = bind-off (theWord 20559) _ (not-word 20559 l f e) (omega (arith, e))
+    pub no-view : {at r : ℕ} → at < length words → (get_or words at 0 ≡ 20559 → ⊥) → r ≡ length words + 1 → Ends (a_view common) words at r
+    unfolding a_view
+    no-view l f e = bind-off (the_word 20559) _ (not-word 20559 l f e) (omega (arith, e))
 
-    pub view-off : {at p : ℕ} → at + 3 ≤ length words → get_or words at 0 ≡ 20559 → Ends (aBody common) words (at + 3) p → length words < p → Ends (aView common) words at p
-    unfolding aView sized
+    pub view-off : {at p : ℕ} → at + 3 ≤ length words → get_or words at 0 ≡ 20559 → Ends (a_body common) words (at + 3) p → length words < p → Ends (a_view common) words at p
+    unfolding a_view sized
     view-off {at} {p} l e x m =
         let a : at + 1 + 1 + 1 ≡ at + 3 = omega arith in
-        bind-on (theWord 20559) _ (the_word 20559 (omega (arith, l)) e) (omega (arith, l)) (λ _.
-        bind_word _ (omega (arith, l)) (bind_word _ (omega (arith, l)) (rw a (bind-off (counted (aBody common)) _ (counted-off x m) m))))
+        bind-on (the_word 20559) _ (the_word_lem 20559 (omega (arith, l)) e) (omega (arith, l)) (λ _.
+        bind_word _ (omega (arith, l)) (bind_word _ (omega (arith, l)) (rw a (bind-off (counted (a_body common)) _ (counted-off x m) m))))
 
-    pub view-missized : {at p r : ℕ} → at + 3 ≤ length words → get_or words at 0 ≡ 20559 → Ends (aBody common) words (at + 3) p → p ≤ length words
-        → ((get_or words (at + 1) 0 ≡ (p - (at + 3)) / 65536) × (get_or words (at + 2) 0 ≡ (p - (at + 3)) % 65536) → ⊥) → r ≡ length words + 1 → Ends (aView common) words at r
-    unfolding aView sized
+    pub view-missized : {at p r : ℕ} → at + 3 ≤ length words → get_or words at 0 ≡ 20559 → Ends (a_body common) words (at + 3) p → p ≤ length words
+        → ((get_or words (at + 1) 0 ≡ (p - (at + 3)) / 65536) × (get_or words (at + 2) 0 ≡ (p - (at + 3)) % 65536) → ⊥) → r ≡ length words + 1 → Ends (a_view common) words at r
+    unfolding a_view sized
     view-missized {at} {p} {r} l e x m f d =
         let a : at + 1 + 1 + 1 ≡ at + 3 = omega arith in
         let b : at + 1 + 1 ≡ at + 2 = omega arith in
-        bind-on (theWord 20559) _ (the_word 20559 (omega (arith, l)) e) (omega (arith, l)) (λ _.
-        bind_word _ (omega (arith, l)) (bind_word _ (omega (arith, l)) (rw (a, b) (counted-on (λ c. ifSized (get_or words (at + 1) 0) (get_or words (at + 2) 0) c) x (omega (arith, l)) m (λ c k.
+        bind-on (the_word 20559) _ (the_word_lem 20559 (omega (arith, l)) e) (omega (arith, l)) (λ _.
+        bind_word _ (omega (arith, l)) (bind_word _ (omega (arith, l)) (rw (a, b) (counted-on (λ c. if_sized (get_or words (at + 1) 0) (get_or words (at + 2) 0) c) x (omega (arith, l)) m (λ c k.
         sized-wrong (get_or words (at + 1) 0) (get_or words (at + 2) 0) c (λ y. f (y.0 ∙ ap (λ n. n / 65536) k, y.1 ∙ ap (λ n. n % 65536) k)) d)))))
 
-    pub view-ends : {at p : ℕ} → at + 3 ≤ length words → get_or words at 0 ≡ 20559 → Ends (aBody common) words (at + 3) p → p ≤ length words
-        → get_or words (at + 1) 0 ≡ (p - (at + 3)) / 65536 → get_or words (at + 2) 0 ≡ (p - (at + 3)) % 65536 → Ends (aView common) words at p
-    unfolding aView sized
+    pub view-ends : {at p : ℕ} → at + 3 ≤ length words → get_or words at 0 ≡ 20559 → Ends (a_body common) words (at + 3) p → p ≤ length words
+        → get_or words (at + 1) 0 ≡ (p - (at + 3)) / 65536 → get_or words (at + 2) 0 ≡ (p - (at + 3)) % 65536 → Ends (a_view common) words at p
+    unfolding a_view sized
     view-ends {at} {p} l e x m f g =
         let a : at + 1 + 1 + 1 ≡ at + 3 = omega arith in
         let b : at + 1 + 1 ≡ at + 2 = omega arith in
-        bind-on (theWord 20559) _ (the_word 20559 (omega (arith, l)) e) (omega (arith, l)) (λ _.
-        bind_word _ (omega (arith, l)) (bind_word _ (omega (arith, l)) (rw (a, b) (counted-on (λ c. ifSized (get_or words (at + 1) 0) (get_or words (at + 2) 0) c) x (omega (arith, l)) m (λ c k.
+        bind-on (the_word 20559) _ (the_word_lem 20559 (omega (arith, l)) e) (omega (arith, l)) (λ _.
+        bind_word _ (omega (arith, l)) (bind_word _ (omega (arith, l)) (rw (a, b) (counted-on (λ c. if_sized (get_or words (at + 1) 0) (get_or words (at + 2) 0) c) x (omega (arith, l)) m (λ c k.
         sized-right (get_or words (at + 1) 0) (get_or words (at + 2) 0) c (f ∙ ap (λ n. n / 65536) (sym k)) (g ∙ ap (λ n. n % 65536) (sym k)) m)))))

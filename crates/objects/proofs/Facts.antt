@@ -16,7 +16,7 @@ use Rattle.objects.specs.Order
 use Rattle.objects.specs.Take
 use Rattle.objects.specs.View
 use Rattle.objects.specs.Whole
-use Rattle.objects.specs.Whole.{areObjects, goodViews}
+use Rattle.objects.specs.Whole.{are_objects, good_views}
 
 reading : Unit {0}
 unfolding Known.opened Understand.opened Form.opened Link.opened Take.opened View.opened Order.opened Whole.opened
@@ -24,7 +24,7 @@ reading = tt
 
 -- the common part has no section and no list
 passes : List ℕ → Bool
-passes words = areObjects [] nobody (bytes "rules end") words
+passes words = are_objects [] nobody (bytes "rules end") words
 
 -- `PO`, so many words behind, 9 and 16 bytes, one rule, no pair; "rules end"; M at 6
 head : ℕ → List ℕ
@@ -102,7 +102,7 @@ past-its-end = tt
 
 -- how many objects are in order before one that is not: a second object of a word too much, and a second that calls a pair where there is none
 good : List ℕ → ℕ
-good words = goodViews [] nobody (bytes "rules end") (length words) words
+good words = good_views [] nobody (bytes "rules end") (length words) words
 
 two_good : T (eqb (good (head 21 ++ (0 ∷ 1 ∷ 10 ∷ 1 ∷ 78 ∷ 3 ∷ 8 ∷ 0 ∷ 0 ∷ (head 16 ++ (0 ∷ 0 ∷ 1 ∷ 0 ∷ []))))) 2)
 unfolding reading good head
@@ -132,7 +132,7 @@ paired n = 20559 ∷ 0 ∷ n ∷ 9 ∷ 16 ∷ 1 ∷ 1 ∷ 29301 ∷ 27749 ∷ 29
 called : List ℕ
 called = paired 29 ++ (0 ∷ 1 ∷ 24 ∷ 1 ∷ 80 ∷ 3 ∷ 8 ∷ 1 ∷ 0 ∷ [])
 
-a_pair : T (areObjects [] sections (bytes "rules end") called)
+a_pair : T (are_objects [] sections (bytes "rules end") called)
 unfolding reading sections paired called
 a_pair = tt
 
@@ -142,11 +142,11 @@ unfolding reading passes paired called
 no-such-section = tt
 
 -- the operand rule is on the list
-operand-listed : T (not (areObjects listed sections (bytes "rules end") called))
+operand-listed : T (not (are_objects listed sections (bytes "rules end") called))
 unfolding reading sections listed paired called
 operand-listed = tt
 
 -- the operand rule is not called
-operand-not-called : T (not (areObjects [] sections (bytes "rules end") (paired 24 ++ (0 ∷ 0 ∷ 1 ∷ 0 ∷ []))))
+operand-not-called : T (not (are_objects [] sections (bytes "rules end") (paired 24 ++ (0 ∷ 0 ∷ 1 ∷ 0 ∷ []))))
 unfolding reading sections paired
 operand-not-called = tt

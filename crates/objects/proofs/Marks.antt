@@ -9,18 +9,18 @@ use borrow.Author.Tests.{ltb-true, ltb-false, leb-false, eqb-true, lt-ltb, le-lt
 use lib.Dec.{eqb, ltb, leb}
 use lib.ListN.{length, get_or, length-append}
 use Rattle.base.specs.Bools as bools
-use Rattle.base.specs.Common.{if◌then◌else◌}
+use Rattle.std.specs.Prelude.{if◌then◌else◌}
 use Rattle.base.specs.Tree.{plain, cycle, choice, done, ◌▸◌, nil, alternative, absent, otherwise}
-use Rattle.calls.specs.Renumber.{renumberSelector}
-use Rattle.cells.specs.Cells.{plainCells, selectorCells, absentCell, actCells, actsCells, altsCells, otherCells}
+use Rattle.calls.specs.Renumber.{renumber_selector}
+use Rattle.cells.specs.Cells.{plain_cells, selector_cells, absent_cell, act_cells, acts_cells, alts_cells, other_cells}
 use Rattle.names.specs.Uses.{Use}
 use Rattle.parts.specs.Form.{mark_of}
 use Rattle.parts.specs.Objects.{Aim, named, ranked}
 use Rattle.parts.specs.Sound.{StandsFor, Aligned, Few, FewSome}
 use Rattle.program.specs.Accepted.{Labelled, NeedsLabel}
-use Rattle.program.specs.Program.{Plain, match, any, emit, error, exit, call, back, give, update, updateWith, Selector, byToken, byRule, byOperation, byOperationWith, Act, Acts, Alts, Other}
+use Rattle.program.specs.Program.{Plain, match, any, emit, error, exit, call, back, give, update, update_with, Selector, by_token, by_rule, by_operation, by_operation_with, Act, Acts, Alts, Other}
 use Rattle.words.specs.Words.{Word, name}
-use Rattle.objects.specs.Order.{Sort, ends, leaves, turns, alone, taking, calling, returning, giving, token, ruled, asking, askingWith, unknown, sortOf, Arm, bare, bareToken, other, labels, no_arm, armOf}
+use Rattle.objects.specs.Order.{Sort, ends, leaves, turns, alone, taking, calling, returning, giving, token, ruled, asking, asking_with, unknown, sort_of, Arm, bare, bare_token, other, labels, no_arm, arm_of}
 use Rattle.objects.specs.View.{Name, name_of, names_of}
 
 abbrev pub nothing : Aim
@@ -64,10 +64,10 @@ module _ (aims : List Aim) where
     pub are : names ≡ first ∷ more
     pub stands : StandsFor (get_or aims i nothing) (word_of first)
 
-  pub one_name : (i : ℕ) (names more : List Name) → Spends (i ∷ []) names more → OneName i names more
+  pub one_name_lem : (i : ℕ) (names more : List Name) → Spends (i ∷ []) names more → OneName i names more
   unfolding Spends
-  one_name i [] more h = absurd h
-  one_name i (n ∷ names) more h = record { first = n; are = ap (λ ns. n ∷ ns) h.1; stands = h.0 }
+  one_name_lem i [] more h = absurd h
+  one_name_lem i (n ∷ names) more h = record { first = n; are = ap (λ ns. n ∷ ns) h.1; stands = h.0 }
 
   pub spent : (is : List ℕ) (ws : List Word) → Aligned aims is ws → Spends is (names_of ws) []
   unfolding Spends Aligned names_of StandsFor name_of
@@ -115,15 +115,15 @@ SortIs giving x = x ≡ 10
 SortIs token x = x ≡ 7
 SortIs ruled x = x ≡ 11
 SortIs asking x = (768 ≤ x) × (x < 1024)
-SortIs askingWith x = (1024 ≤ x) × (x < 1280)
+SortIs asking_with x = (1024 ≤ x) × (x < 1280)
 SortIs unknown x = Unit {0}
 
 pick : (x : ℕ) (b : Bool) (s t : Sort) → (b ≡ true → SortIs s x) → (b ≡ false → SortIs t x) → SortIs (if b then s else t) x
 pick x true s t f g = f refl
 pick x false s t f g = g refl
 
-pub sort-is : (x : ℕ) → SortIs (sortOf x) x
-unfolding sortOf SortIs
+pub sort-is : (x : ℕ) → SortIs (sort_of x) x
+unfolding sort_of SortIs
 sort-is x =
     pick x (eqb x 0) ends _ (eqb-true x 0) (λ _.
     pick x (eqb x 1) leaves _ (eqb-true x 1) (λ _.
@@ -141,11 +141,11 @@ sort-is x =
     pick x (ltb x 512) alone _ (λ b. inr (ltb-false x 256 a, ltb-true x 512 b)) (λ b.
     pick x (ltb x 768) taking _ (λ c. inr (inr (inr (ltb-false x 512 b, ltb-true x 768 c)))) (λ c.
     pick x (ltb x 1024) asking _ (λ d. (ltb-false x 768 c, ltb-true x 1024 d)) (λ d.
-    pick x (ltb x 1280) askingWith _ (λ e. (ltb-false x 1024 d, ltb-true x 1280 e)) (λ _. tt)))))))))))))))))
+    pick x (ltb x 1280) asking_with _ (λ e. (ltb-false x 1024 d, ltb-true x 1280 e)) (λ _. tt)))))))))))))))))
 
 -- the sort of a number past the small ones, by one test after the other
-large : (x : ℕ) → 256 ≤ x → sortOf x ≡ (if ltb x 512 then alone else if ltb x 768 then taking else if ltb x 1024 then asking else if ltb x 1280 then askingWith else unknown)
-unfolding sortOf
+large : (x : ℕ) → 256 ≤ x → sort_of x ≡ (if ltb x 512 then alone else if ltb x 768 then taking else if ltb x 1024 then asking else if ltb x 1280 then asking_with else unknown)
+unfolding sort_of
 large x l =
     rw (
       ne_eqb x 0 (λ e. omega (arith, l, e)),
@@ -163,23 +163,23 @@ large x l =
       le-ltb x 256 l,
     )
 
-pub sort-alone : (x : ℕ) → 256 ≤ x → x < 512 → sortOf x ≡ alone
+pub sort-alone : (x : ℕ) → 256 ≤ x → x < 512 → sort_of x ≡ alone
 sort-alone x l h = rw (large x l, lt-ltb x 512 h)
 
-pub sort-taking : (x : ℕ) → 512 ≤ x → x < 768 → sortOf x ≡ taking
+pub sort-taking : (x : ℕ) → 512 ≤ x → x < 768 → sort_of x ≡ taking
 sort-taking x l h = rw (large x (omega (arith, l)), le-ltb x 512 l, lt-ltb x 768 h)
 
-pub sort-asking : (x : ℕ) → 768 ≤ x → x < 1024 → sortOf x ≡ asking
+pub sort-asking : (x : ℕ) → 768 ≤ x → x < 1024 → sort_of x ≡ asking
 sort-asking x l h = rw (large x (omega (arith, l)), le-ltb x 512 (omega (arith, l)), le-ltb x 768 l, lt-ltb x 1024 h)
 
-pub sort-askingWith : (x : ℕ) → 1024 ≤ x → x < 1280 → sortOf x ≡ askingWith
-sort-askingWith x l h = rw (large x (omega (arith, l)), le-ltb x 512 (omega (arith, l)), le-ltb x 768 (omega (arith, l)), le-ltb x 1024 l, lt-ltb x 1280 h)
+pub sort-asking_with : (x : ℕ) → 1024 ≤ x → x < 1280 → sort_of x ≡ asking_with
+sort-asking_with x l h = rw (large x (omega (arith, l)), le-ltb x 512 (omega (arith, l)), le-ltb x 768 (omega (arith, l)), le-ltb x 1024 l, lt-ltb x 1280 h)
 
 -- what begins an alternative
 unfoldable pub ArmIs : Arm → ℕ → Type 0
 ArmIs bare x = x ≡ 12
 ArmIs other x = x ≡ 13
-ArmIs bareToken x = x ≡ 14
+ArmIs bare_token x = x ≡ 14
 ArmIs (labels n) x = (x ≡ 64 + n) × (1 ≤ n)
 ArmIs no_arm x = Unit {0}
 
@@ -187,38 +187,38 @@ choose : (x : ℕ) (b : Bool) (s t : Arm) → (b ≡ true → ArmIs s x) → (b 
 choose x true s t f g = f refl
 choose x false s t f g = g refl
 
-pub arm_is : (x : ℕ) → ArmIs (armOf x) x
-unfolding armOf ArmIs
+pub arm_is : (x : ℕ) → ArmIs (arm_of x) x
+unfolding arm_of ArmIs
 arm_is x =
     choose x (eqb x 12) bare _ (eqb-true x 12) (λ _.
     choose x (eqb x 13) other _ (eqb-true x 13) (λ _.
-    choose x (eqb x 14) bareToken _ (eqb-true x 14) (λ _.
+    choose x (eqb x 14) bare_token _ (eqb-true x 14) (λ _.
     choose x (leb x 64) no_arm (labels (x - 64)) (λ _. tt) (λ e. let l = leb-false x 64 e in (omega (arith, l), omega (arith, l))))))
 
-pub arm-labels : (n : ℕ) → 1 ≤ n → armOf (64 + n) ≡ labels n
-unfolding armOf
+pub arm-labels : (n : ℕ) → 1 ≤ n → arm_of (64 + n) ≡ labels n
+unfolding arm_of
 arm-labels n l =
     let e : 64 + n - 64 ≡ n = omega arith in
     rw (ne_eqb (64 + n) 12 (λ e. omega (arith, l, e)), ne_eqb (64 + n) 13 (λ e. omega (arith, l, e)), ne_eqb (64 + n) 14 (λ e. omega (arith, l, e)), lt-leb (64 + n) 64 (omega (arith, l)), e)
 
 -- Choices
 
-unfoldable pub isToken : Selector → Bool
-isToken byToken = true
-isToken (byRule r) = false
-isToken (byOperation op) = false
-isToken (byOperationWith op w) = false
+unfoldable pub is_token : Selector → Bool
+is_token by_token = true
+is_token (by_rule r) = false
+is_token (by_operation op) = false
+is_token (by_operation_with op w) = false
 
-unfoldable pub absentOf : Bool → ℕ
-absentOf true = 14
-absentOf false = 12
+unfoldable pub absent_of : Bool → ℕ
+absent_of true = 14
+absent_of false = 12
 
-pub absent-is : (to : ℕ → ℕ) (s : Selector) → absentCell (renumberSelector to s) ≡ absentOf (isToken s)
-unfolding absentCell renumberSelector isToken absentOf
-absent-is to byToken = refl
-absent-is to (byRule r) = refl
-absent-is to (byOperation op) = refl
-absent-is to (byOperationWith op w) = refl
+pub absent-is : (to : ℕ → ℕ) (s : Selector) → absent_cell (renumber_selector to s) ≡ absent_of (is_token s)
+unfolding absent_cell renumber_selector is_token absent_of
+absent-is to by_token = refl
+absent-is to (by_rule r) = refl
+absent-is to (by_operation op) = refl
+absent-is to (by_operation_with op w) = refl
 
 -- whether otherwise may be missing where a label stands before, or none does
 unfoldable pub May : Bool → Other → Bool → Type 0
@@ -235,20 +235,20 @@ unfoldable pub OnNil : Alts → Type 0 → Type 0
 OnNil nil A = A
 OnNil (alternative ls b q) A = Unit {0}
 
-pub on-nil : (s : Selector) (q : Alts) (o : Other) → NeedsLabel s o q → OnNil q (May (isToken s) o false)
-unfolding NeedsLabel OnNil May isToken Labelled
-on-nil byToken nil absent h = absurd h
-on-nil byToken nil (otherwise b) h = tt
-on-nil byToken (alternative ls b q) o h = tt
-on-nil (byRule r) nil absent h = λ e. bools.never e
-on-nil (byRule r) nil (otherwise b) h = tt
-on-nil (byRule r) (alternative ls b q) o h = tt
-on-nil (byOperation op) nil absent h = λ e. bools.never e
-on-nil (byOperation op) nil (otherwise b) h = tt
-on-nil (byOperation op) (alternative ls b q) o h = tt
-on-nil (byOperationWith op w) nil absent h = λ e. bools.never e
-on-nil (byOperationWith op w) nil (otherwise b) h = tt
-on-nil (byOperationWith op w) (alternative ls b q) o h = tt
+pub on-nil : (s : Selector) (q : Alts) (o : Other) → NeedsLabel s o q → OnNil q (May (is_token s) o false)
+unfolding NeedsLabel OnNil May is_token Labelled
+on-nil by_token nil absent h = absurd h
+on-nil by_token nil (otherwise b) h = tt
+on-nil by_token (alternative ls b q) o h = tt
+on-nil (by_rule r) nil absent h = λ e. bools.never e
+on-nil (by_rule r) nil (otherwise b) h = tt
+on-nil (by_rule r) (alternative ls b q) o h = tt
+on-nil (by_operation op) nil absent h = λ e. bools.never e
+on-nil (by_operation op) nil (otherwise b) h = tt
+on-nil (by_operation op) (alternative ls b q) o h = tt
+on-nil (by_operation_with op w) nil absent h = λ e. bools.never e
+on-nil (by_operation_with op w) nil (otherwise b) h = tt
+on-nil (by_operation_with op w) (alternative ls b q) o h = tt
 
 pub later-nil : (q : Alts) (tok : Bool) (o : Other) → OnNil q (May tok o true)
 unfolding OnNil
@@ -260,20 +260,20 @@ or_right true b c = refl
 or_right false b c = refl
 
 -- and so an input choice without otherwise has a first label
-pub needs-label : (s : Selector) (q : Alts) (o : Other) → FewSome q → OnNil q (May (isToken s) o false) → NeedsLabel s o q
-unfolding NeedsLabel OnNil May isToken Labelled Few
-needs-label byToken nil absent f h = bools.never (h refl)
-needs-label byToken (alternative [] b q) absent f h = let l = f.0 in absurd (omega (arith, l))
-needs-label byToken (alternative (x ∷ ls) b q) absent f h = tt
-needs-label byToken q (otherwise b) f h = tt
-needs-label (byRule r) q o f h = tt
-needs-label (byOperation op) q o f h = tt
-needs-label (byOperationWith op w) q o f h = tt
+pub needs-label : (s : Selector) (q : Alts) (o : Other) → FewSome q → OnNil q (May (is_token s) o false) → NeedsLabel s o q
+unfolding NeedsLabel OnNil May is_token Labelled Few
+needs-label by_token nil absent f h = bools.never (h refl)
+needs-label by_token (alternative [] b q) absent f h = let l = f.0 in absurd (omega (arith, l))
+needs-label by_token (alternative (x ∷ ls) b q) absent f h = tt
+needs-label by_token q (otherwise b) f h = tt
+needs-label (by_rule r) q o f h = tt
+needs-label (by_operation op) q o f h = tt
+needs-label (by_operation_with op w) q o f h = tt
 
 -- There are more cells with an action in front
 
-plain-longer : (p : Plain) (k : List ℕ) → suc (length k) ≤ length (plainCells p k)
-unfolding plainCells
+plain-longer : (p : Plain) (k : List ℕ) → suc (length k) ≤ length (plain_cells p k)
+unfolding plain_cells
 plain-longer (match t) k = omega arith
 plain-longer any k = omega arith
 plain-longer (emit t) k = omega arith
@@ -283,39 +283,39 @@ plain-longer (call r) k = omega arith
 plain-longer back k = omega arith
 plain-longer (give v) k = omega arith
 plain-longer (update op) k = omega arith
-plain-longer (updateWith op v) k = omega arith
+plain-longer (update_with op v) k = omega arith
 
-pub selector-longer : (s : Selector) (k : List ℕ) → suc (length k) ≤ length (selectorCells s k)
-unfolding selectorCells
-selector-longer byToken k = omega arith
-selector-longer (byRule r) k = omega arith
-selector-longer (byOperation op) k = omega arith
-selector-longer (byOperationWith op v) k = omega arith
+pub selector-longer : (s : Selector) (k : List ℕ) → suc (length k) ≤ length (selector_cells s k)
+unfolding selector_cells
+selector-longer by_token k = omega arith
+selector-longer (by_rule r) k = omega arith
+selector-longer (by_operation op) k = omega arith
+selector-longer (by_operation_with op v) k = omega arith
 
 mutual
-  unfolding actCells
+  unfolding act_cells
 
-  pub act-longer : (a : Act) (k : List ℕ) → suc (length k) ≤ length (actCells a k)
+  pub act-longer : (a : Act) (k : List ℕ) → suc (length k) ≤ length (act_cells a k)
   act-longer (plain p) k = plain-longer p k
   act-longer (cycle b) k = let h = acts-longer b k in omega (arith, h)
   act-longer (choice s q o) k =
-      let h₁ = selector-longer s (altsCells q (otherCells o (absentCell s) k)) in
-      let h₂ = alts-longer q (otherCells o (absentCell s) k) in
-      let h₃ = other-longer o (absentCell s) k in
+      let h₁ = selector-longer s (alts_cells q (other_cells o (absent_cell s) k)) in
+      let h₂ = alts-longer q (other_cells o (absent_cell s) k) in
+      let h₃ = other-longer o (absent_cell s) k in
       omega (arith, h₁, h₂, h₃)
 
-  pub acts-longer : (q : Acts) (k : List ℕ) → suc (length k) ≤ length (actsCells q k)
+  pub acts-longer : (q : Acts) (k : List ℕ) → suc (length k) ≤ length (acts_cells q k)
   acts-longer done k = omega arith
-  acts-longer (a ▸ q) k = let h₁ = act-longer a (actsCells q k) in let h₂ = acts-longer q k in omega (arith, h₁, h₂)
+  acts-longer (a ▸ q) k = let h₁ = act-longer a (acts_cells q k) in let h₂ = acts-longer q k in omega (arith, h₁, h₂)
 
-  pub alts-longer : (q : Alts) (k : List ℕ) → length k ≤ length (altsCells q k)
+  pub alts-longer : (q : Alts) (k : List ℕ) → length k ≤ length (alts_cells q k)
   alts-longer nil k = omega arith
   alts-longer (alternative ls b q) k =
-      let e = length-append ls (actsCells b (altsCells q k)) in
-      let h₁ = acts-longer b (altsCells q k) in
+      let e = length-append ls (acts_cells b (alts_cells q k)) in
+      let h₁ = acts-longer b (alts_cells q k) in
       let h₂ = alts-longer q k in
       omega (arith, e, h₁, h₂)
 
-  pub other-longer : (o : Other) (c : ℕ) (k : List ℕ) → suc (length k) ≤ length (otherCells o c k)
+  pub other-longer : (o : Other) (c : ℕ) (k : List ℕ) → suc (length k) ≤ length (other_cells o c k)
   other-longer absent c k = omega arith
   other-longer (otherwise b) c k = let h = acts-longer b k in omega (arith, h)

@@ -9,8 +9,9 @@ use lib.Dec.{eqb, leb}
 use lib.ListN.{length, take, drop, length-append, take-append-drop}
 use lib.Seq.{take-append_seam, drop-append_seam, length-take-le}
 use Rattle.base.proofs.Laws.{same_refl, same-eq}
-use Rattle.base.specs.Common.{if◌then◌else◌, same}
-use Rattle.objects.specs.Take.{Taken, took, missing, Taker, onward, ◌>>=◌, pure, refuse, aWord, someWords, theWord, theWords, times, Counted, counted, ifSized, sized}
+use Rattle.std.specs.Prelude.{if◌then◌else◌}
+use Rattle.base.specs.Common.{same}
+use Rattle.objects.specs.Take.{Taken, took, missing, Taker, onward, ◌>>=◌, pure, refuse, a_word, some_words, the_word, the_words, times, Counted, counted, if_sized, sized}
 use Rattle.objects.specs.View.{all}
 
 pub no-took {ℓ} : {A : Type 0} {B : Type ℓ} {a : A} {ws : List ℕ} → missing ≡ took a ws → B
@@ -56,17 +57,17 @@ ends {A} {C} {m} {w} {P} x f g Q same₁ to from same₂ = record {
         (y.0 ∙ (rw (← v, same₁ a, r) refl), rw v at (to a y.1))
     go ws c k missing d e = no-took e
 
-pub a_word : Exact aWord (λ x. x ∷ []) Any
-unfolding aWord
-a_word = record { back = λ a _ k. refl; forth = go }
+pub a_word_lem : Exact a_word (λ x. x ∷ []) Any
+unfolding a_word
+a_word_lem = record { back = λ a _ k. refl; forth = go }
   where
-    go : (ws : List ℕ) (a : ℕ) (k : List ℕ) → aWord ws ≡ took a k → (ws ≡ a ∷ k) × Any a
+    go : (ws : List ℕ) (a : ℕ) (k : List ℕ) → a_word ws ≡ took a k → (ws ≡ a ∷ k) × Any a
     go [] a k e = no-took e
     go (x ∷ ws) a k e = (let p : x ≡ a = cc in let q : ws ≡ k = cc in rw (p, q), tt)
 
-pub some_words : (n : ℕ) → Exact (someWords n) (λ t. t) (λ t. length t ≡ n)
-unfolding someWords
-some_words n = record { back = λ t d k. rw (← d) (front t k); forth = λ ws t k e. go ws t k (leb n (length ws)) refl e }
+pub some_words_lem : (n : ℕ) → Exact (some_words n) (λ t. t) (λ t. length t ≡ n)
+unfolding some_words
+some_words_lem n = record { back = λ t d k. rw (← d) (front t k); forth = λ ws t k e. go ws t k (leb n (length ws)) refl e }
   where
     front : (t k : List ℕ) → (if leb (length t) (length (t ++ k)) then took (take (length t) (t ++ k)) (drop (length t) (t ++ k)) else missing) ≡ took t k
     front t k =
@@ -82,28 +83,28 @@ some_words n = record { back = λ t d k. rw (← d) (front t k); forth = λ ws t
         (sym (rw (← p, ← q) (take-append-drop n ws)), rw (← p) l)
     go ws t k false d e = no-took e
 
-pub the_word : (n : ℕ) → Exact (theWord n) (λ _. n ∷ []) Any
-unfolding theWord onward aWord refuse
-the_word n = record { back = λ t _ k. rw (eq-eqb n n refl); forth = λ ws t k e. go ws t k e }
+pub the_word_lem : (n : ℕ) → Exact (the_word n) (λ _. n ∷ []) Any
+unfolding the_word onward a_word refuse
+the_word_lem n = record { back = λ t _ k. rw (eq-eqb n n refl); forth = λ ws t k e. go ws t k e }
   where
     one : (x : ℕ) (ws : List ℕ) (t : Unit {0}) (k : List ℕ) (b : Bool) → eqb x n ≡ b → (if b then pure tt else refuse) ws ≡ took t k → (x ∷ ws ≡ n ∷ k) × Any t
     one x ws t k true d e = (let p = eqb-true x n d in let q : ws ≡ k = cc in rw (p, q), tt)
     one x ws t k false d e = no-took e
 
-    go : (ws : List ℕ) (t : Unit {0}) (k : List ℕ) → onward (aWord ws) (λ x. if eqb x n then pure tt else refuse) ≡ took t k → (ws ≡ n ∷ k) × Any t
+    go : (ws : List ℕ) (t : Unit {0}) (k : List ℕ) → onward (a_word ws) (λ x. if eqb x n then pure tt else refuse) ≡ took t k → (ws ≡ n ∷ k) × Any t
     go [] t k e = no-took e
     go (x ∷ ws) t k e = one x ws t k (eqb x n) refl e
 
-pub the-words : (xs : List ℕ) → Exact (theWords xs) (λ _. xs) Any
-unfolding theWords onward refuse
-the-words xs = record { back = λ t _ k. rw ((some_words (length xs)).back xs refl k, same_refl xs); forth = λ ws t k e. go ws t k (someWords (length xs) ws) refl e }
+pub the-words : (xs : List ℕ) → Exact (the_words xs) (λ _. xs) Any
+unfolding the_words onward refuse
+the-words xs = record { back = λ t _ k. rw ((some_words_lem (length xs)).back xs refl k, same_refl xs); forth = λ ws t k e. go ws t k (some_words (length xs) ws) refl e }
   where
     one : (ys ws : List ℕ) (t : Unit {0}) (k : List ℕ) (b : Bool) → same ys xs ≡ b → (if b then pure tt else refuse) ws ≡ took t k → (ys ++ ws ≡ xs ++ k) × Any t
     one ys ws t k true d e = (let p = same-eq ys xs d in let q : ws ≡ k = cc in rw (p, q), tt)
     one ys ws t k false d e = no-took e
 
-    go : (ws : List ℕ) (t : Unit {0}) (k : List ℕ) (r : Taken (List ℕ)) → someWords (length xs) ws ≡ r → onward r (λ ys. if same ys xs then pure tt else refuse) ≡ took t k → (ws ≡ xs ++ k) × Any t
-    go ws t k (took ys rest) d e = let y = (some_words (length xs)).forth ws ys rest d in let z = one ys rest t k (same ys xs) refl e in (y.0 ∙ z.0, tt)
+    go : (ws : List ℕ) (t : Unit {0}) (k : List ℕ) (r : Taken (List ℕ)) → some_words (length xs) ws ≡ r → onward r (λ ys. if same ys xs then pure tt else refuse) ≡ took t k → (ws ≡ xs ++ k) × Any t
+    go ws t k (took ys rest) d e = let y = (some_words_lem (length xs)).forth ws ys rest d in let z = one ys rest t k (same ys xs) refl e in (y.0 ∙ z.0, tt)
     go ws t k missing d e = no-took e
 
 -- n of them
@@ -145,8 +146,8 @@ module _ {A : Type 0} {m : Taker A} {w : A → List ℕ} (x : Exact m w Any) whe
   times-exact (suc n) = one_more n (times-exact n)
 
   -- behind its length
-  abbrev sizedWords : A → List ℕ
-  sizedWords a = (length (w a) / 65536) ∷ (length (w a) % 65536) ∷ w a
+  abbrev sized_words : A → List ℕ
+  sized_words a = (length (w a) / 65536) ∷ (length (w a) % 65536) ∷ w a
 
   counted_back : (a : A) (k : List ℕ) → counted m (w a ++ k) ≡ took (record { value = a; count = length (w a) }) k
   unfolding counted onward
@@ -166,30 +167,30 @@ module _ {A : Type 0} {m : Taker A} {w : A → List ℕ} (x : Exact m w Any) whe
           subst (λ (c : Counted A). (ws ≡ w c.value ++ k) × (c.count ≡ length (w c.value))) p (y ∙ ap (λ r. w a ++ r) q, n)
       go missing d e = no-took e
 
-  pub sized-exact : Exact (sized m) sizedWords Any
-  unfolding sized ifSized onward aWord refuse
+  pub sized-exact : Exact (sized m) sized_words Any
+  unfolding sized if_sized onward a_word refuse
   sized-exact = record { back = λ a _ k. rw (counted_back a k, eq-eqb (length (w a) / 65536) (length (w a) / 65536) refl, eq-eqb (length (w a) % 65536) (length (w a) % 65536) refl); forth = start }
     where
       low-is : (high low : ℕ) (ws : List ℕ) (c : Counted A) (rest : List ℕ) (a : A) (k : List ℕ) → counted m ws ≡ took c rest → high ≡ c.count / 65536 → (b : Bool) → eqb low (c.count % 65536) ≡ b
-          → (if b then pure c.value else refuse) rest ≡ took a k → (high ∷ low ∷ ws ≡ sizedWords a ++ k) × Any a
+          → (if b then pure c.value else refuse) rest ≡ took a k → (high ∷ low ∷ ws ≡ sized_words a ++ k) × Any a
       low-is high low ws c rest a k d h true g e =
           let y = counted-forth ws c rest d in
           let p : c.value ≡ a = cc in
           let q : rest ≡ k = cc in
           let z = eqb-true low (c.count % 65536) g in
-          (subst (λ a. high ∷ low ∷ ws ≡ sizedWords a ++ k) p (rw (h, z, y.1, ← q) (ap (λ t. (length (w c.value) / 65536) ∷ (length (w c.value) % 65536) ∷ t) y.0)), tt)
+          (subst (λ a. high ∷ low ∷ ws ≡ sized_words a ++ k) p (rw (h, z, y.1, ← q) (ap (λ t. (length (w c.value) / 65536) ∷ (length (w c.value) % 65536) ∷ t) y.0)), tt)
       low-is high low ws c rest a k d h false g e = no-took e
 
       high_is : (high low : ℕ) (ws : List ℕ) (c : Counted A) (rest : List ℕ) (a : A) (k : List ℕ) → counted m ws ≡ took c rest → (b : Bool) → eqb high (c.count / 65536) ≡ b
-          → (if b then (if eqb low (c.count % 65536) then pure c.value else refuse) else refuse) rest ≡ took a k → (high ∷ low ∷ ws ≡ sizedWords a ++ k) × Any a
+          → (if b then (if eqb low (c.count % 65536) then pure c.value else refuse) else refuse) rest ≡ took a k → (high ∷ low ∷ ws ≡ sized_words a ++ k) × Any a
       high_is high low ws c rest a k d true g e = low-is high low ws c rest a k d (eqb-true high (c.count / 65536) g) (eqb low (c.count % 65536)) refl e
       high_is high low ws c rest a k d false g e = no-took e
 
-      go : (high low : ℕ) (ws : List ℕ) (a : A) (k : List ℕ) (t : Taken (Counted A)) → counted m ws ≡ t → onward t (ifSized high low) ≡ took a k → (high ∷ low ∷ ws ≡ sizedWords a ++ k) × Any a
+      go : (high low : ℕ) (ws : List ℕ) (a : A) (k : List ℕ) (t : Taken (Counted A)) → counted m ws ≡ t → onward t (if_sized high low) ≡ took a k → (high ∷ low ∷ ws ≡ sized_words a ++ k) × Any a
       go high low ws a k (took c rest) d e = high_is high low ws c rest a k d (eqb high (c.count / 65536)) refl e
       go high low ws a k missing d e = no-took e
 
-      start : (ws : List ℕ) (a : A) (k : List ℕ) → sized m ws ≡ took a k → (ws ≡ sizedWords a ++ k) × Any a
+      start : (ws : List ℕ) (a : A) (k : List ℕ) → sized m ws ≡ took a k → (ws ≡ sized_words a ++ k) × Any a
       start [] a k e = no-took e
       start (high ∷ []) a k e = no-took e
       start (high ∷ low ∷ ws) a k e = go high low ws a k (counted m ws) refl e

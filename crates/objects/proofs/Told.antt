@@ -12,19 +12,19 @@ use lib.ListN.{length, get_or, drop, length-drop}
 use lib.Seq.{get_or-drop, drop-drop, drop-append-le}
 use Rattle.base.proofs.Laws.{lt-or-le}
 use Rattle.base.specs.Bools as bools
-use Rattle.base.specs.Common.{if◌then◌else◌}
+use Rattle.std.specs.Prelude.{if◌then◌else◌}
 use Rattle.syntax.specs.Texts.{Head}
 use Rattle.objects.proofs.Looked.{ends-took, name-at}
-use Rattle.objects.proofs.Marks.{SortIs, sort-is, sort-asking, sort-askingWith}
+use Rattle.objects.proofs.Marks.{SortIs, sort-is, sort-asking, sort-asking_with}
 use Rattle.objects.proofs.Views.{name-exact}
 use Rattle.objects.specs.declared.Depth.{Depth}
 use Rattle.objects.specs.declared.Ground.{Ground}
 use Rattle.objects.specs.declared.Outcome.{Outcome}
 use Rattle.objects.specs.declared.Spot.{Spot}
-use Rattle.objects.specs.Cells.{along, Within, Stand, Is, Tells, Does, went, withOperand, OperandDone, withName, NameDone, CallOk, SortDone, SimpleDone, selecting, asks, AskedDone, BareDone, someLabels, LabelsDone}
-use Rattle.objects.specs.Order.{Sort, ends, leaves, turns, alone, taking, calling, returning, giving, token, ruled, asking, askingWith, unknown, sortOf, armOf, Went, deeper, on_operand, onCall, isListed, standsAt, callOk, ruleOk, Actions, Choices, anAct, anArm, acts, arms, usedUp}
+use Rattle.objects.specs.Cells.{along, Within, Stand, Is, Tells, Does, went, with_operand, OperandDone, with_name, NameDone, CallOk, SortDone, SimpleDone, selecting, asks, AskedDone, BareDone, some_labels, LabelsDone}
+use Rattle.objects.specs.Order.{Sort, ends, leaves, turns, alone, taking, calling, returning, giving, token, ruled, asking, asking_with, unknown, sort_of, arm_of, Went, deeper, on_operand, on_call, is_listed, stands_at, call_ok, rule_ok, Actions, Choices, an_act, an_arm, acts, arms, used_up}
 use Rattle.objects.specs.Places.{Ends, NameAt}
-use Rattle.objects.specs.View.{Name, Pair, nameWords, all, aName}
+use Rattle.objects.specs.View.{Name, Pair, name_words, all, a_name}
 
 -- Places
 
@@ -60,7 +60,7 @@ none_left {s = s} {cells = c ∷ cells} x e = let n = x.cells_count in absurd (o
 pub first_cell : {words : List ℕ} {s : Spot} {x : ℕ} {cells : List ℕ} {names : List Name} → Stand words s (x ∷ cells) names → get_or words s.cell 0 ≡ x
 first_cell {words} {s} y =
     let n : s.cell + 0 ≡ s.cell = omega arith in
-    ap (λ (i : ℕ). get_or words i 0) (sym n) ∙ sym (get_or-drop s.cell words 0 0) ∙ ap (λ (ws : List ℕ). get_or ws 0 0) y.cells-here
+    ap (λ (i : ℕ). get_or words i 0) (sym n) ∙ sym (get_or-drop s.cell words 0 0) ∙ ap (λ (ws : List ℕ). get_or ws 0 0) y.cells_here
 
 pub cells-on : {words : List ℕ} {s : Spot} {cells : List ℕ} {names : List Name} (n : ℕ) → n ≤ length cells → Stand words s cells names → Stand words (along n s) (drop n cells) names
 cells-on {words} {s} {cells} {names} n l x =
@@ -68,11 +68,11 @@ cells-on {words} {s} {cells} {names} n l x =
     let m = x.cells_count in
     record {
       after = x.after;
-      cells-here = sym (drop-drop n s.cell words) ∙ ap (λ (ws : List ℕ). drop n ws) x.cells-here ∙ drop-append-le n cells x.after l;
+      cells_here = sym (drop-drop n s.cell words) ∙ ap (λ (ws : List ℕ). drop n ws) x.cells_here ∙ drop-append-le n cells x.after l;
       cells_count = omega (arith, d, m, l);
       rest = x.rest;
-      names-here = x.names-here;
-      names-count = x.names-count;
+      names_here = x.names_here;
+      names_count = x.names_count;
     }
 
 pub cell-on : {words : List ℕ} {s : Spot} {c : ℕ} {cells : List ℕ} {names : List Name} → Stand words s (c ∷ cells) names → Stand words (along 1 s) cells names
@@ -82,33 +82,33 @@ cell-on {cells = cells} x = cells-on 1 (omega arith) x
 pub record Leads (words : List ℕ) (s : Spot) (n : Name) (names : List Name) : Type 0 where
   pub here : NameAt words s.name n
   pub rest : List ℕ
-  pub behind : (r : ℕ) → Ends aName words s.name r → (drop r words ≡ all nameWords names ++ rest) × (r ≤ length words)
+  pub behind : (r : ℕ) → Ends a_name words s.name r → (drop r words ≡ all name_words names ++ rest) × (r ≤ length words)
 
 pub leads : {words : List ℕ} {s : Spot} {cells : List ℕ} {n : Name} {names : List Name} → Stand words s cells (n ∷ names) → Leads words s n names
 unfolding all
 leads {words} {s} {cells} {n} {names} x =
-    let more = all nameWords names ++ x.rest in
-    let here : drop s.name words ≡ nameWords n ++ more = x.names-here ∙ append_assoc (nameWords n) (all nameWords names) x.rest in
+    let more = all name_words names ++ x.rest in
+    let here : drop s.name words ≡ name_words n ++ more = x.names_here ∙ append_assoc (name_words n) (all name_words names) x.rest in
     record {
       here = name-at words s.name n more here;
       rest = x.rest;
-      behind = λ r y. let z = ends-took n more (ap aName here ∙ name-exact.back n tt more) y in (sym z.0, z.1);
+      behind = λ r y. let z = ends-took n more (ap a_name here ∙ name-exact.back n tt more) y in (sym z.0, z.1);
     }
 
-pub call-on : {words : List ℕ} {s t : Spot} {m : ℕ} {cells : List ℕ} {n : Name} {names : List Name} → Stand words s (m ∷ cells) (n ∷ names) → Ends aName words s.name t.name
+pub call-on : {words : List ℕ} {s t : Spot} {m : ℕ} {cells : List ℕ} {n : Name} {names : List Name} → Stand words s (m ∷ cells) (n ∷ names) → Ends a_name words s.name t.name
     → t.cell ≡ s.cell + 1 → t.end ≡ s.end → t.names + 1 ≡ s.names → Stand words t cells names
 call-on {words} {s} {t} {m} {cells} {n} {names} x y a b d =
     let z = leads x in
     let u = cell-on x in
     let k = u.cells_count in
-    let j = x.names-count in
+    let j = x.names_count in
     record {
       after = u.after;
-      cells-here = ap (λ (i : ℕ). drop i words) a ∙ u.cells-here;
+      cells_here = ap (λ (i : ℕ). drop i words) a ∙ u.cells_here;
       cells_count = omega (arith, a, b, k);
       rest = z.rest;
-      names-here = (z.behind t.name y).0;
-      names-count = omega (arith, d, j);
+      names_here = (z.behind t.name y).0;
+      names_count = omega (arith, d, j);
     }
 
 -- Outcomes
@@ -141,14 +141,14 @@ pub operand-none : (words : List ℕ) {s : Spot} {past : Bool} {r : Outcome} →
 unfolding on_operand
 operand-none words {s} {past} {r} l a b = record { within = within_same words b; does = does-none a (λ cells names x. go cells names x (none_left x l)) }
   where
-    go : (cells : List ℕ) (names : List Name) → Stand words s cells names → cells ≡ [] → withOperand past cells names ≡ none
+    go : (cells : List ℕ) (names : List Name) → Stand words s cells names → cells ≡ [] → with_operand past cells names ≡ none
     go cells names x e = rw e
 
 pub operand-some : (words : List ℕ) {s : Spot} {past : Bool} {r : Outcome} → s.cell < s.end → r.ok ≡ true → r.spot ≡ along 1 s → r.past ≡ past → r.exits ≡ false → OperandDone words s past r
 unfolding on_operand
 operand-some words {s} {past} {r} l a b d e = record { within = within-along words 1 (omega (arith, l)) b; does = record { tells = go } }
   where
-    go : (cells : List ℕ) (names : List Name) → Stand words s cells names → Tells words (withOperand past cells names) r
+    go : (cells : List ℕ) (names : List Name) → Stand words s cells names → Tells words (with_operand past cells names) r
     go [] names x = let n = x.cells_count in absurd (omega (arith, n, l))
     go (c ∷ cells) names x = tells-some a b d e (cell-on x)
 
@@ -156,52 +156,52 @@ operand-some words {s} {past} {r} l a b d e = record { within = within-along wor
 
 pub name-none : {words : List ℕ} {s : Spot} {b : Bool} {r : Outcome} → r.ok ≡ false → r.spot ≡ s
     → ((m : ℕ) (n : Name) (cells : List ℕ) (names : List Name) → Stand words s (m ∷ cells) (n ∷ names) → b ≡ false) → NameDone words s b r
-unfolding onCall
+unfolding on_call
 name-none {words} {s} {b} {r} a d h = record { within = within_same words d; does = λ test same. record { tells = go test same } }
   where
     go : (test : ℕ → Name → Bool) → ((m : ℕ) (n : Name) (cells : List ℕ) (names : List Name) → Stand words s (m ∷ cells) (n ∷ names) → b ≡ test m n)
-        → (cells : List ℕ) (names : List Name) → Stand words s cells names → Tells words (withName test cells names) r
+        → (cells : List ℕ) (names : List Name) → Stand words s cells names → Tells words (with_name test cells names) r
     go test same [] names x = tells_none a
     go test same (m ∷ cells) [] x = tells_none a
     go test same (m ∷ cells) (n ∷ names) x = rw (sym (same m n cells names x) ∙ h m n cells names x) (tells_none a)
 
-pub name-some : {words : List ℕ} {s : Spot} {b : Bool} {r : Outcome} → s.cell < s.end → 0 < s.names → b ≡ true → Ends aName words s.name r.spot.name → r.spot.name ≤ length words → r.spot.cell ≡ s.cell + 1
+pub name-some : {words : List ℕ} {s : Spot} {b : Bool} {r : Outcome} → s.cell < s.end → 0 < s.names → b ≡ true → Ends a_name words s.name r.spot.name → r.spot.name ≤ length words → r.spot.cell ≡ s.cell + 1
     → r.spot.end ≡ s.end → r.spot.names + 1 ≡ s.names → r.ok ≡ true → r.past ≡ true → r.exits ≡ false → NameDone words s b r
-unfolding onCall
+unfolding on_call
 name-some {words} {s} {b} {r} l m t y u a d e o p q = record {
   within = record { low = omega (arith, a); high = λ _. omega (arith, a, d, l); same = d; named = λ _. u };
   does = λ test same. record { tells = go test same };
 }
   where
     go : (test : ℕ → Name → Bool) → ((m : ℕ) (n : Name) (cells : List ℕ) (names : List Name) → Stand words s (m ∷ cells) (n ∷ names) → b ≡ test m n)
-        → (cells : List ℕ) (names : List Name) → Stand words s cells names → Tells words (withName test cells names) r
+        → (cells : List ℕ) (names : List Name) → Stand words s cells names → Tells words (with_name test cells names) r
     go test same [] names x = let n = x.cells_count in absurd (omega (arith, n, l))
-    go test same (c ∷ cells) [] x = let n = x.names-count in absurd (omega (arith, n, m))
+    go test same (c ∷ cells) [] x = let n = x.names_count in absurd (omega (arith, n, m))
     go test same (c ∷ cells) (n ∷ names) x = rw (sym (same c n cells names x) ∙ t) (tells-some o refl p q (call-on x y a d e))
 
 -- the mark 0 and any other
-pub call-named : (hs : List Head) (ps : List Pair) (m : ℕ) (n : Name) → m ≡ 0 → callOk hs ps m n ≡ not (isListed hs n)
-unfolding callOk
+pub call-named : (hs : List Head) (ps : List Pair) (m : ℕ) (n : Name) → m ≡ 0 → call_ok hs ps m n ≡ not (is_listed hs n)
+unfolding call_ok
 call-named hs ps m n e = rw e
 
-pub call-paired : (hs : List Head) (ps : List Pair) (m k : ℕ) (n : Name) → m ≡ suc k → callOk hs ps m n ≡ standsAt ps k n
-unfolding callOk
+pub call-paired : (hs : List Head) (ps : List Pair) (m k : ℕ) (n : Name) → m ≡ suc k → call_ok hs ps m n ≡ stands_at ps k n
+unfolding call_ok
 call-paired hs ps m k n e = rw e
 
-pub rule-named : (hs : List Head) (ps : List Pair) (m : ℕ) (n : Name) → m ≡ 0 → ruleOk hs ps m n ≡ isListed hs n
-unfolding ruleOk
+pub rule-named : (hs : List Head) (ps : List Pair) (m : ℕ) (n : Name) → m ≡ 0 → rule_ok hs ps m n ≡ is_listed hs n
+unfolding rule_ok
 rule-named hs ps m n e = rw e
 
-pub rule-not : (hs : List Head) (ps : List Pair) (m : ℕ) (n : Name) → (m ≡ 0 → ⊥) → ruleOk hs ps m n ≡ false
-unfolding ruleOk
+pub rule-not : (hs : List Head) (ps : List Pair) (m : ℕ) (n : Name) → (m ≡ 0 → ⊥) → rule_ok hs ps m n ≡ false
+unfolding rule_ok
 rule-not hs ps zero n e = absurd (e refl)
 rule-not hs ps (suc m) n e = refl
 
 -- Simple actions
 
-pub sort-unknown : (x : ℕ) → 12 ≤ x → (x < 256) ⊎ (1280 ≤ x) → sortOf x ≡ unknown
+pub sort-unknown : (x : ℕ) → 12 ≤ x → (x < 256) ⊎ (1280 ≤ x) → sort_of x ≡ unknown
 unfolding SortIs
-sort-unknown x l h = go (sortOf x) (sort-is x) h
+sort-unknown x l h = go (sort_of x) (sort-is x) h
   where
     go : (s : Sort) → SortIs s x → (x < 256) ⊎ (1280 ≤ x) → s ≡ unknown
     go ends d h₁ = absurd (omega (arith, l, d))
@@ -222,112 +222,112 @@ sort-unknown x l h = go (sortOf x) (sort-is x) h
     go ruled d h₁ = absurd (omega (arith, l, d))
     go asking d (inl m) = let a = d.0 in absurd (omega (arith, a, m))
     go asking d (inr m) = let a = d.1 in absurd (omega (arith, a, m))
-    go askingWith d (inl m) = let a = d.0 in absurd (omega (arith, a, m))
-    go askingWith d (inr m) = let a = d.1 in absurd (omega (arith, a, m))
+    go asking_with d (inl m) = let a = d.0 in absurd (omega (arith, a, m))
+    go asking_with d (inr m) = let a = d.1 in absurd (omega (arith, a, m))
     go unknown d h₁ = refl
 
-pub sort-few : (x : ℕ) → 3 ≤ x → x ≤ 6 → (x ≡ 4 → ⊥) → sortOf x ≡ taking
-unfolding sortOf
+pub sort-few : (x : ℕ) → 3 ≤ x → x ≤ 6 → (x ≡ 4 → ⊥) → sort_of x ≡ taking
+unfolding sort_of
 sort-few x l h n = go (lt-or-le x 4) (lt-or-le x 6)
   where
-    go : (x < 4) ⊎ (4 ≤ x) → (x < 6) ⊎ (6 ≤ x) → sortOf x ≡ taking
+    go : (x < 4) ⊎ (4 ≤ x) → (x < 6) ⊎ (6 ≤ x) → sort_of x ≡ taking
     go (inl a) b = let e : x ≡ 3 = omega (arith, a, l) in rw e
     go (inr a) (inl b) = let e : x ≡ 5 = omega (arith, a, b, n) in rw e
     go (inr a) (inr b) = let e : x ≡ 6 = omega (arith, b, h) in rw e
 
 module _ (words : List ℕ) {s : Spot} {x : ℕ} {r : Outcome} where
-  pub simple-alone : sortOf x ≡ alone → r.ok ≡ true → r.spot ≡ s → r.past ≡ true → r.exits ≡ false → SimpleDone words s x r
-  unfolding anAct
+  pub simple-alone : sort_of x ≡ alone → r.ok ≡ true → r.spot ≡ s → r.past ≡ true → r.exits ≡ false → SimpleDone words s x r
+  unfolding an_act
   simple-alone q a b d e = record { within = within_same words b; does = λ hs ps v inner choices left c. rw q (does-some a b d e) }
 
-  pub simple-taking : sortOf x ≡ taking → OperandDone words s true r → SimpleDone words s x r
-  unfolding anAct
+  pub simple-taking : sort_of x ≡ taking → OperandDone words s true r → SimpleDone words s x r
+  unfolding an_act
   simple-taking q y = record { within = y.within; does = λ hs ps v inner choices left c. rw q (does-as (λ cells names. refl) y.does) }
 
-  pub simple-unknown : sortOf x ≡ unknown → r.ok ≡ false → r.spot ≡ s → SimpleDone words s x r
-  unfolding anAct
+  pub simple-unknown : sort_of x ≡ unknown → r.ok ≡ false → r.spot ≡ s → SimpleDone words s x r
+  unfolding an_act
   simple-unknown q a b = record { within = within_same words b; does = λ hs ps v inner choices left c. rw q (does-none a (λ cells names y. refl)) }
 
   pub simple-ends : x ≡ 0 → r.ok ≡ false → r.spot ≡ s → SimpleDone words s x r
-  unfolding anAct sortOf
+  unfolding an_act sort_of
   simple-ends q a b = record { within = within_same words b; does = λ hs ps v inner choices left c. rw q (does-none a (λ cells names y. refl)) }
 
   pub simple-any : x ≡ 4 → r.ok ≡ true → r.spot ≡ s → r.past ≡ true → r.exits ≡ false → SimpleDone words s x r
-  unfolding anAct sortOf
+  unfolding an_act sort_of
   simple-any q a b d e = record { within = within_same words b; does = λ hs ps v inner choices left c. rw q (does-some a b d e) }
 
 -- Plain actions
 
 pub act-leaves : (hs : List Head) (ps : List Pair) (v : Bool) (inner : Actions hs ps v) (choices : Choices hs ps v) (left : ℕ) (c : Bool) (x : ℕ) (cells : List ℕ) (names : List Name) → x ≡ 1
-    → anAct hs ps v inner choices left c (sortOf x) cells names ≡ (if c then some (went cells names false true) else none)
-unfolding anAct sortOf
+    → an_act hs ps v inner choices left c (sort_of x) cells names ≡ (if c then some (went cells names false true) else none)
+unfolding an_act sort_of
 act-leaves hs ps v inner choices left c x cells names e = rw e
 
 pub act-calling : (hs : List Head) (ps : List Pair) (v : Bool) (inner : Actions hs ps v) (choices : Choices hs ps v) (left : ℕ) (c : Bool) (x : ℕ) (cells : List ℕ) (names : List Name) → x ≡ 8
-    → anAct hs ps v inner choices left c (sortOf x) cells names ≡ withName (callOk hs ps) cells names
-unfolding anAct sortOf
+    → an_act hs ps v inner choices left c (sort_of x) cells names ≡ with_name (call_ok hs ps) cells names
+unfolding an_act sort_of
 act-calling hs ps v inner choices left c x cells names e = rw e
 
 pub act-returning : (hs : List Head) (ps : List Pair) (v : Bool) (inner : Actions hs ps v) (choices : Choices hs ps v) (left : ℕ) (c : Bool) (x : ℕ) (cells : List ℕ) (names : List Name) → x ≡ 9
-    → anAct hs ps v inner choices left c (sortOf x) cells names ≡ (if v then none else some (went cells names false false))
-unfolding anAct sortOf
+    → an_act hs ps v inner choices left c (sort_of x) cells names ≡ (if v then none else some (went cells names false false))
+unfolding an_act sort_of
 act-returning hs ps v inner choices left c x cells names e = rw e
 
 pub act-giving : (hs : List Head) (ps : List Pair) (v : Bool) (inner : Actions hs ps v) (choices : Choices hs ps v) (left : ℕ) (c : Bool) (x : ℕ) (cells : List ℕ) (names : List Name) → x ≡ 10
-    → anAct hs ps v inner choices left c (sortOf x) cells names ≡ (if v then withOperand false cells names else none)
-unfolding anAct sortOf
+    → an_act hs ps v inner choices left c (sort_of x) cells names ≡ (if v then with_operand false cells names else none)
+unfolding an_act sort_of
 act-giving hs ps v inner choices left c x cells names e = rw e
 
-pub on-true : {A : Type 0} (b : Bool) (y z : A) → b ≡ true → (if b then y else z) ≡ y
-on-true b y z e = rw e
+pub on_true : {A : Type 0} (b : Bool) (y z : A) → b ≡ true → (if b then y else z) ≡ y
+on_true b y z e = rw e
 
-pub on-false : {A : Type 0} (b : Bool) (y z : A) → b ≡ false → (if b then y else z) ≡ z
-on-false b y z e = rw e
+pub on_false : {A : Type 0} (b : Bool) (y z : A) → b ≡ false → (if b then y else z) ≡ z
+on_false b y z e = rw e
 
 module _ {common heads words : List ℕ} {g : Ground} {d : Depth} {s : Spot} {x : ℕ} {r : Outcome} where
-  pub plain-simple : SimpleDone words s x r → SortDone common heads words g d s (sortOf x) r
+  pub plain-simple : SimpleDone words s x r → SortDone common heads words g d s (sort_of x) r
   plain-simple y = record { within = y.within; does = λ hs ps kn k l. y.does hs ps g.valued (λ l d s n. acts hs ps g.valued k l d s n) (λ l d b t r s n. arms hs ps g.valued k l d b t r s n) d.left d.inside }
 
-  pub plain-exit : x ≡ 1 → d.inside ≡ true → r.ok ≡ true → r.spot ≡ s → r.past ≡ false → r.exits ≡ true → SortDone common heads words g d s (sortOf x) r
+  pub plain-exit : x ≡ 1 → d.inside ≡ true → r.ok ≡ true → r.spot ≡ s → r.past ≡ false → r.exits ≡ true → SortDone common heads words g d s (sort_of x) r
   plain-exit q i a b e f = record {
     within = within_same words b;
-    does = λ hs ps kn k l. does-as (λ cells names. act-leaves hs ps g.valued _ _ d.left d.inside x cells names q ∙ on-true d.inside _ _ i) (does-some a b e f);
+    does = λ hs ps kn k l. does-as (λ cells names. act-leaves hs ps g.valued _ _ d.left d.inside x cells names q ∙ on_true d.inside _ _ i) (does-some a b e f);
   }
 
-  pub plain-no-exit : x ≡ 1 → d.inside ≡ false → r.ok ≡ false → r.spot ≡ s → SortDone common heads words g d s (sortOf x) r
+  pub plain-no-exit : x ≡ 1 → d.inside ≡ false → r.ok ≡ false → r.spot ≡ s → SortDone common heads words g d s (sort_of x) r
   plain-no-exit q i a b = record {
     within = within_same words b;
-    does = λ hs ps kn k l. does-none a (λ cells names _. act-leaves hs ps g.valued _ _ d.left d.inside x cells names q ∙ on-false d.inside _ _ i);
+    does = λ hs ps kn k l. does-none a (λ cells names _. act-leaves hs ps g.valued _ _ d.left d.inside x cells names q ∙ on_false d.inside _ _ i);
   }
 
-  pub plain-call : {b : Bool} → x ≡ 8 → CallOk common heads words g s b → NameDone words s b r → SortDone common heads words g d s (sortOf x) r
+  pub plain-call : {b : Bool} → x ≡ 8 → CallOk common heads words g s b → NameDone words s b r → SortDone common heads words g d s (sort_of x) r
   plain-call q y z = record {
     within = z.within;
-    does = λ hs ps kn k l. does-as (λ cells names. act-calling hs ps g.valued _ _ d.left d.inside x cells names q) (z.does (callOk hs ps) (y.tells hs ps kn));
+    does = λ hs ps kn k l. does-as (λ cells names. act-calling hs ps g.valued _ _ d.left d.inside x cells names q) (z.does (call_ok hs ps) (y.tells hs ps kn));
   }
 
-  pub plain_back : x ≡ 9 → g.valued ≡ false → r.ok ≡ true → r.spot ≡ s → r.past ≡ false → r.exits ≡ false → SortDone common heads words g d s (sortOf x) r
+  pub plain_back : x ≡ 9 → g.valued ≡ false → r.ok ≡ true → r.spot ≡ s → r.past ≡ false → r.exits ≡ false → SortDone common heads words g d s (sort_of x) r
   plain_back q i a b e f = record {
     within = within_same words b;
-    does = λ hs ps kn k l. does-as (λ cells names. act-returning hs ps g.valued _ _ d.left d.inside x cells names q ∙ on-false g.valued _ _ i) (does-some a b e f);
+    does = λ hs ps kn k l. does-as (λ cells names. act-returning hs ps g.valued _ _ d.left d.inside x cells names q ∙ on_false g.valued _ _ i) (does-some a b e f);
   }
 
-  pub plain-no-back : x ≡ 9 → g.valued ≡ true → r.ok ≡ false → r.spot ≡ s → SortDone common heads words g d s (sortOf x) r
+  pub plain-no-back : x ≡ 9 → g.valued ≡ true → r.ok ≡ false → r.spot ≡ s → SortDone common heads words g d s (sort_of x) r
   plain-no-back q i a b = record {
     within = within_same words b;
-    does = λ hs ps kn k l. does-none a (λ cells names _. act-returning hs ps g.valued _ _ d.left d.inside x cells names q ∙ on-true g.valued _ _ i);
+    does = λ hs ps kn k l. does-none a (λ cells names _. act-returning hs ps g.valued _ _ d.left d.inside x cells names q ∙ on_true g.valued _ _ i);
   }
 
-  pub plain-give : x ≡ 10 → g.valued ≡ true → OperandDone words s false r → SortDone common heads words g d s (sortOf x) r
+  pub plain-give : x ≡ 10 → g.valued ≡ true → OperandDone words s false r → SortDone common heads words g d s (sort_of x) r
   plain-give q i y = record {
     within = y.within;
-    does = λ hs ps kn k l. does-as (λ cells names. act-giving hs ps g.valued _ _ d.left d.inside x cells names q ∙ on-true g.valued _ _ i) y.does;
+    does = λ hs ps kn k l. does-as (λ cells names. act-giving hs ps g.valued _ _ d.left d.inside x cells names q ∙ on_true g.valued _ _ i) y.does;
   }
 
-  pub plain-no-give : x ≡ 10 → g.valued ≡ false → r.ok ≡ false → r.spot ≡ s → SortDone common heads words g d s (sortOf x) r
+  pub plain-no-give : x ≡ 10 → g.valued ≡ false → r.ok ≡ false → r.spot ≡ s → SortDone common heads words g d s (sort_of x) r
   plain-no-give q i a b = record {
     within = within_same words b;
-    does = λ hs ps kn k l. does-none a (λ cells names _. act-giving hs ps g.valued _ _ d.left d.inside x cells names q ∙ on-false g.valued _ _ i);
+    does = λ hs ps kn k l. does-none a (λ cells names _. act-giving hs ps g.valued _ _ d.left d.inside x cells names q ∙ on_false g.valued _ _ i);
   }
 
 -- Selectors
@@ -355,15 +355,15 @@ module _ (words : List ℕ) {s : Spot} {x : ℕ} {r : Outcome} where
 
 -- a choice by an operation: its selector, then its alternatives
 pub act-asked-is : (hs : List Head) (ps : List Pair) (v : Bool) (inner : Actions hs ps v) (choices : Choices hs ps v) (left : ℕ) (c : Bool) (x : ℕ) (cells : List ℕ) (names : List Name) → 768 ≤ x
-    → anAct hs ps v inner choices left c (sortOf x) cells names ≡ deeper left (selecting (asks x cells names) (λ cells names. choices (left - 1) c false false 64 cells names))
-unfolding anAct selecting asks on_operand
+    → an_act hs ps v inner choices left c (sort_of x) cells names ≡ deeper left (selecting (asks x cells names) (λ cells names. choices (left - 1) c false false 64 cells names))
+unfolding an_act selecting asks on_operand
 act-asked-is hs ps v inner choices left c x cells names l = go cells (lt-or-le x 1024) (lt-or-le x 1280)
   where
     go : (cells : List ℕ) → (x < 1024) ⊎ (1024 ≤ x) → (x < 1280) ⊎ (1280 ≤ x)
-        → anAct hs ps v inner choices left c (sortOf x) cells names ≡ deeper left (selecting (asks x cells names) (λ cells names. choices (left - 1) c false false 64 cells names))
+        → an_act hs ps v inner choices left c (sort_of x) cells names ≡ deeper left (selecting (asks x cells names) (λ cells names. choices (left - 1) c false false 64 cells names))
     go cells₁ (inl a) b = rw (sort-asking x l a, lt-ltb x 1024 a)
-    go [] (inr a) (inl b) = rw (sort-askingWith x a b, le-ltb x 1024 a, lt-ltb x 1280 b)
-    go (o ∷ cells₁) (inr a) (inl b) = rw (sort-askingWith x a b, le-ltb x 1024 a, lt-ltb x 1280 b)
+    go [] (inr a) (inl b) = rw (sort-asking_with x a b, le-ltb x 1024 a, lt-ltb x 1280 b)
+    go (o ∷ cells₁) (inr a) (inl b) = rw (sort-asking_with x a b, le-ltb x 1024 a, lt-ltb x 1280 b)
     go cells₁ (inr a) (inr b) = rw (sort-unknown x (omega (arith, l)) (inr b), le-ltb x 1024 a, le-ltb x 1280 b) (sym (deeper-none left))
 
 -- Labels
@@ -374,11 +374,11 @@ and-false false = refl
 
 module _ (words : List ℕ) {s : Spot} {n room : ℕ} {r : Outcome} where
   pub labels-over : room < n → r.ok ≡ false → r.spot ≡ s → LabelsDone words s n room r
-  unfolding someLabels
+  unfolding some_labels
   labels-over l a b = record { within = within_same words b; few = λ t. bools.never (sym a ∙ t); does = does-none a (λ cells names y. rw (lt-leb n room l)) }
 
   pub labels-off : s.end < s.cell + n → r.ok ≡ false → r.spot ≡ s → LabelsDone words s n room r
-  unfolding someLabels
+  unfolding some_labels
   labels-off l a b = record {
     within = within_same words b;
     few = λ t. bools.never (sym a ∙ t);
@@ -386,7 +386,7 @@ module _ (words : List ℕ) {s : Spot} {n room : ℕ} {r : Outcome} where
   }
 
   pub labels-some : n ≤ room → s.cell + n ≤ s.end → r.ok ≡ true → r.spot ≡ along n s → r.past ≡ true → r.exits ≡ false → LabelsDone words s n room r
-  unfolding someLabels
+  unfolding some_labels
   labels-some l h a b d e = record {
     within = within-along words n h b;
     few = λ _. l;
@@ -397,23 +397,23 @@ module _ (words : List ℕ) {s : Spot} {n room : ℕ} {r : Outcome} where
 
 module _ (words : List ℕ) {s : Spot} {x : ℕ} {tok lab : Bool} {r : Outcome} where
   pub bare-some : x ≡ 12 → tok ≡ false → r.ok ≡ true → r.spot ≡ s → r.past ≡ false → r.exits ≡ false → BareDone words s x tok lab r
-  unfolding anArm armOf
+  unfolding an_arm arm_of
   bare-some q t a b d e = record { within = within_same words b; does = λ hs ps v inner choices left c room. rw (q, t) (does-some a b d e) }
 
   pub bare-none : x ≡ 12 → tok ≡ true → r.ok ≡ false → r.spot ≡ s → BareDone words s x tok lab r
-  unfolding anArm armOf
+  unfolding an_arm arm_of
   bare-none q t a b = record { within = within_same words b; does = λ hs ps v inner choices left c room. rw (q, t) (does-none a (λ cells names y. refl)) }
 
   pub token-some : x ≡ 14 → (tok && lab) ≡ true → r.ok ≡ true → r.spot ≡ s → r.past ≡ false → r.exits ≡ false → BareDone words s x tok lab r
-  unfolding anArm armOf
+  unfolding an_arm arm_of
   token-some q t a b d e = record { within = within_same words b; does = λ hs ps v inner choices left c room. rw (q, t) (does-some a b d e) }
 
   pub token-none : x ≡ 14 → (tok && lab) ≡ false → r.ok ≡ false → r.spot ≡ s → BareDone words s x tok lab r
-  unfolding anArm armOf
+  unfolding an_arm arm_of
   token-none q t a b = record { within = within_same words b; does = λ hs ps v inner choices left c room. rw (q, t) (does-none a (λ cells names y. refl)) }
 
   pub no_arm : x ≤ 64 → (x ≡ 12 → ⊥) → (x ≡ 13 → ⊥) → (x ≡ 14 → ⊥) → r.ok ≡ false → r.spot ≡ s → BareDone words s x tok lab r
-  unfolding anArm armOf
+  unfolding an_arm arm_of
   no_arm l n₁ n₂ n₃ a b = record {
     within = within_same words b;
     does = λ hs ps v inner choices left c room. rw (ne_eqb x 12 n₁, ne_eqb x 13 n₂, ne_eqb x 14 n₃, le-leb x 64 l) (does-none a (λ cells names y. refl));
@@ -422,27 +422,27 @@ module _ (words : List ℕ) {s : Spot} {x : ℕ} {tok lab : Bool} {r : Outcome} 
 -- The end of a rule
 
 module _ (v : Bool) {words : List ℕ} {o : Outcome} where
-  pub used-none : (w : Option Went) → o.ok ≡ false → Tells words w o → false ≡ usedUp v w
-  unfolding Is usedUp
+  pub used-none : (w : Option Went) → o.ok ≡ false → Tells words w o → false ≡ used_up v w
+  unfolding Is used_up
   used-none none e x = refl
   used-none (some w) e x = bools.never (sym e ∙ x.is.0)
 
-  pub used-cells : (w : Option Went) → (o.spot.cell ≡ o.spot.end → ⊥) → Tells words w o → false ≡ usedUp v w
-  unfolding Is usedUp
+  pub used-cells : (w : Option Went) → (o.spot.cell ≡ o.spot.end → ⊥) → Tells words w o → false ≡ used_up v w
+  unfolding Is used_up
   used-cells none e x = refl
   used-cells (some w) e x = let n = x.is.1.cells_count in rw (ne_eqb (length w.cells) 0 (λ z. e (omega (arith, n, z))))
 
-  pub used-names : (w : Option Went) → (o.spot.names ≡ 0 → ⊥) → Tells words w o → false ≡ usedUp v w
-  unfolding Is usedUp
+  pub used-names : (w : Option Went) → (o.spot.names ≡ 0 → ⊥) → Tells words w o → false ≡ used_up v w
+  unfolding Is used_up
   used-names none e x = refl
-  used-names (some w) e x = let n = x.is.1.names-count in rw (ne_eqb (length w.names) 0 (λ z. e (omega (arith, n, z))), and-false (eqb (length w.cells) 0))
+  used-names (some w) e x = let n = x.is.1.names_count in rw (ne_eqb (length w.names) 0 (λ z. e (omega (arith, n, z))), and-false (eqb (length w.cells) 0))
 
-  pub used_all : (w : Option Went) (b : Bool) → o.ok ≡ true → o.spot.cell ≡ o.spot.end → o.spot.names ≡ 0 → b ≡ (v && o.past) → Tells words w o → not b ≡ usedUp v w
-  unfolding Is usedUp
+  pub used_all : (w : Option Went) (b : Bool) → o.ok ≡ true → o.spot.cell ≡ o.spot.end → o.spot.names ≡ 0 → b ≡ (v && o.past) → Tells words w o → not b ≡ used_up v w
+  unfolding Is used_up
   used_all none b t d e f x = bools.never (sym x.is ∙ t)
   used_all (some w) b t d e f x =
       let n = x.is.1.cells_count in
-      let m = x.is.1.names-count in
+      let m = x.is.1.names_count in
       rw (eq-eqb (length w.cells) 0 (omega (arith, n, d)), eq-eqb (length w.names) 0 (omega (arith, m, e)), f, x.is.2)
 
 -- the first cells that are left

@@ -13,11 +13,11 @@ use Rattle.objects.proofs.EndsLong.{packed-length}
 use Rattle.objects.proofs.Looked.{ends-took}
 use Rattle.objects.proofs.TakeLaws.{times-exact}
 use Rattle.objects.proofs.Views.{pair-exact, rule-exact}
-use Rattle.objects.specs.Order.{ruleInOrder}
+use Rattle.objects.specs.Order.{rule_in_order}
 use Rattle.objects.specs.Places.{Ends, PartsAt}
 use Rattle.objects.specs.Take.{took, times}
-use Rattle.objects.specs.View.{RuleView, View, all, pairWords, ruleWords, bodyWords, viewWords, aPair, aRule}
-use Rattle.objects.specs.Whole.{every, is_some, pairInOrder, viewInOrder}
+use Rattle.objects.specs.View.{RuleView, View, all, pair_words, rule_words, body_words, view_words, a_pair, a_rule}
+use Rattle.objects.specs.Whole.{every, is_some, pair_in_order, view_in_order}
 
 -- the words before the pairs
 abbrev pub head_of : List ℕ → ℕ
@@ -27,10 +27,10 @@ pub record ViewAt (words common : List ℕ) (v : View) (at : ℕ) : Type 0 where
   pub inside : at + head_of common ≤ length words
   pub rule-count : get_or words (at + 5) 0 ≡ length v.rules
   pub pair-count : get_or words (at + 6) 0 ≡ length v.pairs
-  pub parts : (r : ℕ) → Ends (times (length v.pairs) aPair) words (at + head_of common) r → (r ≤ length words) × PartsAt words (at + head_of common) (length v.pairs) r (length v.rules) v
+  pub parts : (r : ℕ) → Ends (times (length v.pairs) a_pair) words (at + head_of common) r → (r ≤ length words) × PartsAt words (at + head_of common) (length v.pairs) r (length v.rules) v
 
-pub view-at : (words common : List ℕ) (v : View) (at : ℕ) (k : List ℕ) → drop at words ≡ viewWords common v ++ k → ViewAt words common v at
-unfolding viewWords bodyWords
+pub view-at : (words common : List ℕ) (v : View) (at : ℕ) (k : List ℕ) → drop at words ≡ view_words common v ++ k → ViewAt words common v at
+unfolding view_words body_words
 view-at words common v at k e = record {
   inside = inside;
   rule-count = sym (get_or-drop at words 5 0) ∙ ap (λ (ws : List ℕ). get_or ws 5 0) e;
@@ -39,10 +39,10 @@ view-at words common v at k e = record {
 }
   where
     ps : List ℕ
-    ps = all pairWords v.pairs
+    ps = all pair_words v.pairs
 
     rs : List ℕ
-    rs = all ruleWords v.rules
+    rs = all rule_words v.rules
 
     behind : drop (at + 7) words ≡ packed common ++ (ps ++ (rs ++ k))
     behind = sym (drop-drop 7 at words) ∙ ap (λ (ws : List ℕ). drop 7 ws) e ∙ append_assoc (packed common) (ps ++ rs) k ∙ ap (λ ws. packed common ++ ws) (append_assoc ps rs k)
@@ -59,29 +59,29 @@ view-at words common v at k e = record {
         let l = packed-length common in
         omega (arith, a, b, c, d, l)
 
-    pairs-here : drop (at + head_of common) words ≡ ps ++ (rs ++ k)
-    pairs-here =
+    pairs_here : drop (at + head_of common) words ≡ ps ++ (rs ++ k)
+    pairs_here =
         ap (λ n. drop n words) (sym place) ∙ sym (drop-drop (length (packed common)) (at + 7) words) ∙ ap (λ (ws : List ℕ). drop (length (packed common)) ws) behind
         ∙ drop-append_seam (packed common) (ps ++ (rs ++ k))
 
-    pairs-there : times (length v.pairs) aPair (drop (at + head_of common) words) ≡ took v.pairs (rs ++ k)
-    pairs-there = ap (times (length v.pairs) aPair) pairs-here ∙ (times-exact pair-exact (length v.pairs)).back v.pairs refl (rs ++ k)
+    pairs_there : times (length v.pairs) a_pair (drop (at + head_of common) words) ≡ took v.pairs (rs ++ k)
+    pairs_there = ap (times (length v.pairs) a_pair) pairs_here ∙ (times-exact pair-exact (length v.pairs)).back v.pairs refl (rs ++ k)
 
-    parts : (r : ℕ) → Ends (times (length v.pairs) aPair) words (at + head_of common) r → (r ≤ length words) × PartsAt words (at + head_of common) (length v.pairs) r (length v.rules) v
+    parts : (r : ℕ) → Ends (times (length v.pairs) a_pair) words (at + head_of common) r → (r ≤ length words) × PartsAt words (at + head_of common) (length v.pairs) r (length v.rules) v
     parts r y =
-        let z = ends-took v.pairs (rs ++ k) pairs-there y in (
+        let z = ends-took v.pairs (rs ++ k) pairs_there y in (
           z.1,
           record {
             between = rs ++ k;
             behind = k;
-            pairs-there = pairs-there;
-            rules-there = ap (times (length v.rules) aRule) (sym z.0) ∙ (times-exact rule-exact (length v.rules)).back v.rules refl k;
+            pairs_there = pairs_there;
+            rules_there = ap (times (length v.rules) a_rule) (sym z.0) ∙ (times-exact rule-exact (length v.rules)).back v.rules refl k;
           },
         )
 
 -- the same by numbers that the code has
 pub parts-by : {words common : List ℕ} {v : View} {at : ℕ} → ViewAt words common v at → (place pairs rules r : ℕ) → place ≡ at + head_of common → pairs ≡ get_or words (at + 6) 0 → rules ≡ get_or words (at + 5) 0
-    → Ends (times pairs aPair) words place r → (r ≤ length words) × PartsAt words place pairs r rules v
+    → Ends (times pairs a_pair) words place r → (r ≤ length words) × PartsAt words place pairs r rules v
 parts-by x place pairs rules r d e f y = rw (d, e ∙ x.pair-count, f ∙ x.rule-count) (x.parts r (rw (d, e ∙ x.pair-count) at y))
 
 module _ (hs : List Head) (n : Names) (v : View) where
@@ -95,14 +95,14 @@ module _ (hs : List Head) (n : Names) (v : View) where
   a-rule-of [] f = absurd (f refl)
   a-rule-of (r ∷ rs) f = refl
 
-  pub no-rule : length v.rules ≡ 0 → false ≡ viewInOrder hs n v
-  unfolding viewInOrder
+  pub no-rule : length v.rules ≡ 0 → false ≡ view_in_order hs n v
+  unfolding view_in_order
   no-rule e = rw (no-rule-of v.rules e)
 
-  pub a-pair-fails : (length v.rules ≡ 0 → ⊥) → (b : Bool) → b ≡ every (pairInOrder hs n v.rules) v.pairs → b ≡ false → false ≡ viewInOrder hs n v
-  unfolding viewInOrder
+  pub a-pair-fails : (length v.rules ≡ 0 → ⊥) → (b : Bool) → b ≡ every (pair_in_order hs n v.rules) v.pairs → b ≡ false → false ≡ view_in_order hs n v
+  unfolding view_in_order
   a-pair-fails f b e t = rw (a-rule-of v.rules f, ← e, t)
 
-  pub rules-decide : (length v.rules ≡ 0 → ⊥) → (b : Bool) → b ≡ every (pairInOrder hs n v.rules) v.pairs → b ≡ true → (r : Bool) → r ≡ every (ruleInOrder hs v.pairs) v.rules → r ≡ viewInOrder hs n v
-  unfolding viewInOrder
+  pub rules-decide : (length v.rules ≡ 0 → ⊥) → (b : Bool) → b ≡ every (pair_in_order hs n v.rules) v.pairs → b ≡ true → (r : Bool) → r ≡ every (rule_in_order hs v.pairs) v.rules → r ≡ view_in_order hs n v
+  unfolding view_in_order
   rules-decide f b e t r h = rw (a-rule-of v.rules f, ← e, t) h

@@ -9,7 +9,7 @@ use borrow.Author.Tests.{lt-leb, ne_eqb}
 use lib.Dec.{leb}
 use lib.ListN.{length, get_or, drop}
 use Rattle.base.specs.Bools as bools
-use Rattle.base.specs.Common.{if◌then◌else◌}
+use Rattle.std.specs.Prelude.{if◌then◌else◌}
 use Rattle.syntax.specs.Texts.{Head}
 use Rattle.objects.proofs.Told.{within_same, within-along, within-then, stand-at, first_cell, cell-on, tells_none, tells-some, tells_as, deeper-none, act-asked-is}
 use Rattle.objects.specs.declared.Depth.{Depth}
@@ -17,8 +17,8 @@ use Rattle.objects.specs.declared.Ground.{Ground}
 use Rattle.objects.specs.declared.Last.{Last}
 use Rattle.objects.specs.declared.Outcome.{Outcome}
 use Rattle.objects.specs.declared.Spot.{Spot}
-use Rattle.objects.specs.Cells.{along, Within, Stand, Knows, Is, Tells, went, withName, NameDone, RuleOk, SortDone, selecting, AskedDone, ChoiceDone, ActsDone, ArmsDone, ArmDone, LastDone, BareDone, someLabels, LabelsDone}
-use Rattle.objects.specs.Order.{turns, sortOf, labels, armOf, Went, joined, in_row, beside, either_of, around, deeper, onCall, ruleOk, Actions, Choices, anAct, anArm, acts, arms}
+use Rattle.objects.specs.Cells.{along, Within, Stand, Knows, Is, Tells, went, with_name, NameDone, RuleOk, SortDone, selecting, AskedDone, ChoiceDone, ActsDone, ArmsDone, ArmDone, LastDone, BareDone, some_labels, LabelsDone}
+use Rattle.objects.specs.Order.{turns, sort_of, labels, arm_of, Went, joined, in_row, beside, either_of, around, deeper, on_call, rule_ok, Actions, Choices, an_act, an_arm, acts, arms}
 use Rattle.objects.specs.View.{Name, Pair}
 
 -- Outcomes put together
@@ -90,7 +90,7 @@ arms-as hs ps v k l l₁ c c₁ t cells names e d = rw (e, d)
 
 module _ {common heads words : List ℕ} {g : Ground} {d : Depth} where
   pub cycle-none : {s : Spot} {r : Outcome} → d.left ≡ 0 → r.ok ≡ false → r.spot ≡ s → SortDone common heads words g d s turns r
-  unfolding anAct
+  unfolding an_act
   cycle-none e a b = record {
     within = within_same words b;
     does = λ hs ps kn k l. record { tells = λ cells names x. tells_as (deeper-zero d.left _ e) (tells_none a) };
@@ -98,7 +98,7 @@ module _ {common heads words : List ℕ} {g : Ground} {d : Depth} where
 
   pub cycle-some : {s : Spot} {d₁ : Depth} {b r : Outcome} → (d.left ≡ 0 → ⊥) → d.left - 1 ≡ d₁.left → d₁.inside ≡ true → ActsDone common heads words g d₁ s b
       → r.ok ≡ b.ok → r.spot ≡ b.spot → r.past ≡ b.exits → r.exits ≡ false → SortDone common heads words g d s turns r
-  unfolding anAct
+  unfolding an_act
   cycle-some {s} {d₁} {b} {r} n e i y o p q z = record {
     within = within-then y.within (within_same words p);
     does = λ hs ps kn k l. record { tells = λ cells names x. tells_as (deeper-on d.left _ n) (tells-around _ (tells_as (acts-as hs ps g.valued k (d.left - 1) d₁.left true d₁.inside cells names e (sym i)) ((y.does hs ps kn k l).tells cells names x)) o p q z) };
@@ -127,16 +127,16 @@ module _ {common heads words : List ℕ} {g : Ground} {d : Depth} where
 -- Actions by their first cells
 
 act-token-is : (hs : List Head) (ps : List Pair) (v : Bool) (inner : Actions hs ps v) (choices : Choices hs ps v) (left : ℕ) (c : Bool) (x : ℕ) (cells : List ℕ) (names : List Name) → x ≡ 7
-    → anAct hs ps v inner choices left c (sortOf x) cells names ≡ deeper left (selecting (some (went cells names true false)) (λ cells names. choices (left - 1) c true false 64 cells names))
-unfolding anAct sortOf selecting
+    → an_act hs ps v inner choices left c (sort_of x) cells names ≡ deeper left (selecting (some (went cells names true false)) (λ cells names. choices (left - 1) c true false 64 cells names))
+unfolding an_act sort_of selecting
 act-token-is hs ps v inner choices left c x cells names e = rw e
 
 act-ruled-is : (hs : List Head) (ps : List Pair) (v : Bool) (inner : Actions hs ps v) (choices : Choices hs ps v) (left : ℕ) (c : Bool) (x : ℕ) (cells : List ℕ) (names : List Name) → x ≡ 11
-    → anAct hs ps v inner choices left c (sortOf x) cells names ≡ deeper left (selecting (withName (ruleOk hs ps) cells names) (λ cells names. choices (left - 1) c false false 64 cells names))
-unfolding anAct sortOf selecting onCall
+    → an_act hs ps v inner choices left c (sort_of x) cells names ≡ deeper left (selecting (with_name (rule_ok hs ps) cells names) (λ cells names. choices (left - 1) c false false 64 cells names))
+unfolding an_act sort_of selecting on_call
 act-ruled-is hs ps v inner choices left c x [] names e = rw e
 act-ruled-is hs ps v inner choices left c x (m ∷ cells) [] e = rw e
-act-ruled-is hs ps v inner choices left c x (m ∷ cells) (n ∷ names) e = rw e (go (ruleOk hs ps m n))
+act-ruled-is hs ps v inner choices left c x (m ∷ cells) (n ∷ names) e = rw e (go (rule_ok hs ps m n))
   where
     go : (b : Bool) → deeper left (if b then choices (left - 1) c false false 64 cells names else none)
         ≡ deeper left (selecting (if b then some (went cells names true false) else none) (λ cells names. choices (left - 1) c false false 64 cells names))
@@ -147,11 +147,11 @@ later : {words : List ℕ} {s t : Spot} (k : ℕ) → Within words s t → s.end
 later k y l = let a = y.low in let b = y.same in omega (arith, a, b, l)
 
 module _ {common heads words : List ℕ} {g : Ground} {d : Depth} {s : Spot} {x : ℕ} where
-  pub act-cycle : {r : Outcome} → x ≡ 2 → SortDone common heads words g d s turns r → SortDone common heads words g d s (sortOf x) r
-  unfolding sortOf
+  pub act-cycle : {r : Outcome} → x ≡ 2 → SortDone common heads words g d s turns r → SortDone common heads words g d s (sort_of x) r
+  unfolding sort_of
   act-cycle e y = rw e y
 
-  pub act-token : {p r : Outcome} → x ≡ 7 → p.ok ≡ true → p.spot ≡ s → p.past ≡ true → p.exits ≡ false → ChoiceDone common heads words g d p true r → SortDone common heads words g d s (sortOf x) r
+  pub act-token : {p r : Outcome} → x ≡ 7 → p.ok ≡ true → p.spot ≡ s → p.past ≡ true → p.exits ≡ false → ChoiceDone common heads words g d p true r → SortDone common heads words g d s (sort_of x) r
   act-token {p} {r} e a b f h y =
       let u = within_same words b in
       record {
@@ -159,14 +159,14 @@ module _ {common heads words : List ℕ} {g : Ground} {d : Depth} {s : Spot} {x 
         does = λ hs ps kn k l. record { tells = λ cells names z. tells_as (act-token-is hs ps g.valued _ _ d.left d.inside x cells names e) (y.does hs ps kn k (later k u l) _ (tells-some a b f h z)) };
       }
 
-  pub act-ruled : {b : Bool} {p r : Outcome} → x ≡ 11 → RuleOk common heads words s b → NameDone words s b p → ChoiceDone common heads words g d p false r → SortDone common heads words g d s (sortOf x) r
+  pub act-ruled : {b : Bool} {p r : Outcome} → x ≡ 11 → RuleOk common heads words s b → NameDone words s b p → ChoiceDone common heads words g d p false r → SortDone common heads words g d s (sort_of x) r
   act-ruled {b} {p} {r} e q n y =
       record {
         within = within-then n.within y.within;
-        does = λ hs ps kn k l. record { tells = λ cells names z. tells_as (act-ruled-is hs ps g.valued _ _ d.left d.inside x cells names e) (y.does hs ps kn k (later k n.within l) _ ((n.does (ruleOk hs ps) (q.tells hs ps kn.listed)).tells cells names z)) };
+        does = λ hs ps kn k l. record { tells = λ cells names z. tells_as (act-ruled-is hs ps g.valued _ _ d.left d.inside x cells names e) (y.does hs ps kn k (later k n.within l) _ ((n.does (rule_ok hs ps) (q.tells hs ps kn.listed)).tells cells names z)) };
       }
 
-  pub act-asked : {p r : Outcome} → 768 ≤ x → AskedDone words s x p → ChoiceDone common heads words g d p false r → SortDone common heads words g d s (sortOf x) r
+  pub act-asked : {p r : Outcome} → 768 ≤ x → AskedDone words s x p → ChoiceDone common heads words g d p false r → SortDone common heads words g d s (sort_of x) r
   act-asked {p} {r} e n y =
       record {
         within = within-then n.within y.within;
@@ -181,7 +181,7 @@ acts-end-is hs ps v k left c x cells names e = rw e
 
 acts-more-is : (hs : List Head) (ps : List Pair) (v : Bool) (k left : ℕ) (c : Bool) (x : ℕ) (cells : List ℕ) (names : List Name) → (x ≡ 0 → ⊥)
     → acts hs ps v (suc k) left c (x ∷ cells) names
-    ≡ in_row (anAct hs ps v (λ l d s n. acts hs ps v k l d s n) (λ l d b t r s n. arms hs ps v k l d b t r s n) left c (sortOf x) cells names) (λ cells names. acts hs ps v k left c cells names)
+    ≡ in_row (an_act hs ps v (λ l d s n. acts hs ps v k l d s n) (λ l d b t r s n. arms hs ps v k l d b t r s n) left c (sort_of x) cells names) (λ cells names. acts hs ps v k left c cells names)
 unfolding acts
 acts-more-is hs ps v k left c x cells names e = rw (ne_eqb x 0 e)
 
@@ -256,9 +256,9 @@ module _ {common heads words : List ℕ} {g : Ground} {d : Depth} {s : Spot} whe
       };
     }
 
-    module _ (x : ℕ) {next : Spot} {a : Outcome} (l : here.cell < here.end) (e : x ≡ get_or words here.cell 0) (o : x ≡ 0 → ⊥) (f : next ≡ along 1 here) (u : SortDone common heads words g d next (sortOf x) a) where
+    module _ (x : ℕ) {next : Spot} {a : Outcome} (l : here.cell < here.end) (e : x ≡ get_or words here.cell 0) (o : x ≡ 0 → ⊥) (f : next ≡ along 1 here) (u : SortDone common heads words g d next (sort_of x) a) where
       abbrev the-act : List Head → List Pair → ℕ → List ℕ → List Name → Option Went
-      the-act hs ps k cells names = anAct hs ps g.valued (λ l d s n. acts hs ps g.valued k l d s n) (λ l d b t r s n. arms hs ps g.valued k l d b t r s n) d.left d.inside (sortOf x) cells names
+      the-act hs ps k cells names = an_act hs ps g.valued (λ l d s n. acts hs ps g.valued k l d s n) (λ l d b t r s n. arms hs ps g.valued k l d b t r s n) d.left d.inside (sort_of x) cells names
 
       in-act : Within words s a.spot
       in-act = within-then y.within (within-then (within-along words 1 (omega (arith, l)) f) u.within)
@@ -320,23 +320,23 @@ arms-none-is hs ps v (suc k) left c t h room (x ∷ cells) names e = absurd (ome
 
 arms-arm-is : (hs : List Head) (ps : List Pair) (v : Bool) (k left : ℕ) (c t h : Bool) (room x : ℕ) (cells : List ℕ) (names : List Name)
     → arms hs ps v (suc k) left c t h room (x ∷ cells) names
-    ≡ anArm hs ps v (λ l d s n. acts hs ps v k l d s n) (λ l d b t r s n. arms hs ps v k l d b t r s n) left c t h room (armOf x) cells names
+    ≡ an_arm hs ps v (λ l d s n. acts hs ps v k l d s n) (λ l d b t r s n. arms hs ps v k l d b t r s n) left c t h room (arm_of x) cells names
 unfolding acts
 arms-arm-is hs ps v k left c t h room x cells names = refl
 
 arm-other-is : (hs : List Head) (ps : List Pair) (v : Bool) (inner : Actions hs ps v) (choices : Choices hs ps v) (left : ℕ) (c t h : Bool) (room x : ℕ) (cells : List ℕ) (names : List Name) → x ≡ 13
-    → anArm hs ps v inner choices left c t h room (armOf x) cells names ≡ inner left c cells names
-unfolding anArm armOf
+    → an_arm hs ps v inner choices left c t h room (arm_of x) cells names ≡ inner left c cells names
+unfolding an_arm arm_of
 arm-other-is hs ps v inner choices left c t h room x cells names e = rw e
 
-arm-large : (x : ℕ) → 64 < x → armOf x ≡ labels (x - 64)
-unfolding armOf
+arm-large : (x : ℕ) → 64 < x → arm_of x ≡ labels (x - 64)
+unfolding arm_of
 arm-large x l = rw (ne_eqb x 12 (λ e. omega (arith, l, e)), ne_eqb x 13 (λ e. omega (arith, l, e)), ne_eqb x 14 (λ e. omega (arith, l, e)), lt-leb x 64 l)
 
 arms-labels-is : (hs : List Head) (ps : List Pair) (v : Bool) (k left : ℕ) (c t h : Bool) (room x n : ℕ) (cells : List ℕ) (names : List Name) → 64 < x → n ≡ x - 64
     → arms hs ps v (suc k) left c t h room (x ∷ cells) names
-    ≡ either_of (selecting (someLabels n room cells names) (λ cells names. acts hs ps v k left c cells names)) (λ cells names. arms hs ps v k left c t true (room - n) cells names)
-unfolding acts anArm selecting someLabels either_of
+    ≡ either_of (selecting (some_labels n room cells names) (λ cells names. acts hs ps v k left c cells names)) (λ cells names. arms hs ps v k left c t true (room - n) cells names)
+unfolding acts an_arm selecting some_labels either_of
 arms-labels-is hs ps v k left c t h room x n cells names l e = rw (arm-large x l, ← e) (go (leb n room && leb n (length cells)))
   where
     go : (b : Bool) → (if b then either_of (acts hs ps v k left c (drop n cells) names) (λ cells names. arms hs ps v k left c t true (room - n) cells names) else none)
@@ -464,7 +464,7 @@ module _ {common heads words : List ℕ} {g : Ground} {d : Depth} {t : Bool} {s 
         in_body = within-then in-next (within-then u.within w.within)
 
         abbrev the-arm : List Head → List Pair → ℕ → List ℕ → List Name → Option Went
-        the-arm hs ps k cells names = selecting (someLabels n room cells names) (λ cells names. acts hs ps g.valued k d.left d.inside cells names)
+        the-arm hs ps k cells names = selecting (some_labels n room cells names) (λ cells names. acts hs ps g.valued k d.left d.inside cells names)
 
         abbrev later-arms : List Head → List Pair → ℕ → List ℕ → List Name → Option Went
         later-arms hs ps k cells names = arms hs ps g.valued k d.left d.inside t true (room - n) cells names

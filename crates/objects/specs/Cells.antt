@@ -1,7 +1,7 @@
 -- What the code promises that goes over the cells of a rule by places: for all cells and names that stand there, its outcome is that of file Order.
-use Rattle.std.specs.Prelude.{Bool, true, false, ◌&&◌, List, ◌∷◌, ◌++◌, ◌≡◌, ℕ, ◌+◌, ◌-◌, ◌≤◌, leb, ltb, length, drop}
+use Rattle.std.specs.Prelude.{Bool, true, false, ◌&&◌, List, ◌∷◌, ◌++◌, ◌≡◌, ℕ, ◌+◌, ◌-◌, ◌≤◌, leb, ltb, length, drop, if◌then◌else◌}
 use Rattle.std.proofs.Math.Option.{Option, none, some}
-use Rattle.base.specs.Common.{if◌then◌else◌, given}
+use Rattle.base.specs.Common.{given}
 use Rattle.syntax.specs.Texts.{Head}
 use Rattle.objects.specs.declared.Body.{Body}
 use Rattle.objects.specs.declared.Depth.{Depth}
@@ -9,10 +9,10 @@ use Rattle.objects.specs.declared.Ground.{Ground}
 use Rattle.objects.specs.declared.Last.{Last}
 use Rattle.objects.specs.declared.Outcome.{Outcome}
 use Rattle.objects.specs.declared.Spot.{Spot}
-use Rattle.objects.specs.Order.{Sort, sortOf, armOf, Went, deeper, on_operand, onCall, callOk, ruleOk, Actions, Choices, anAct, anArm, acts, arms}
+use Rattle.objects.specs.Order.{Sort, sort_of, arm_of, Went, deeper, on_operand, on_call, call_ok, rule_ok, Actions, Choices, an_act, an_arm, acts, arms}
 use Rattle.objects.specs.Places.{HeadsAt}
 use Rattle.objects.specs.Take.{took, times}
-use Rattle.objects.specs.View.{Name, Pair, RuleView, nameWords, all, aPair, ruleWords}
+use Rattle.objects.specs.View.{Name, Pair, RuleView, name_words, all, a_pair, rule_words}
 
 -- n cells further on
 abbrev pub along : ℕ → Spot → Spot
@@ -32,17 +32,17 @@ pub record Within (words : List ℕ) (s t : Spot) : Type 0 where
 -- the cells and the names left stand at these places
 pub record Stand (words : List ℕ) (s : Spot) (cells : List ℕ) (names : List Name) : Type 0 where
   pub after : List ℕ
-  pub cells-here : drop s.cell words ≡ cells ++ after
+  pub cells_here : drop s.cell words ≡ cells ++ after
   pub cells_count : s.cell + length cells ≡ s.end
   pub rest : List ℕ
-  pub names-here : drop s.name words ≡ all nameWords names ++ rest
-  pub names-count : length names ≡ s.names
+  pub names_here : drop s.name words ≡ all name_words names ++ rest
+  pub names_count : length names ≡ s.names
 
 -- the list of the common part and the pairs of the object are those
 pub record Knows (common heads words : List ℕ) (g : Ground) (hs : List Head) (ps : List Pair) : Type 0 where
   pub listed : HeadsAt common heads hs
   pub rest : List ℕ
-  pub pairs-here : times g.count aPair (drop g.pairs words) ≡ took ps rest
+  pub pairs_here : times g.count a_pair (drop g.pairs words) ≡ took ps rest
 
 unfoldable pub Is : List ℕ → Option Went → Outcome → Type 0
 Is words none r = r.ok ≡ false
@@ -61,37 +61,37 @@ went cells names past exits = record { cells = cells; names = names; past = past
 
 -- The functions, one record each
 
-abbrev pub withOperand : Bool → List ℕ → List Name → Option Went
-withOperand past cells names = on_operand cells (λ cells. some (went cells names past false))
+abbrev pub with_operand : Bool → List ℕ → List Name → Option Went
+with_operand past cells names = on_operand cells (λ cells. some (went cells names past false))
 
 pub record OperandDone (words : List ℕ) (s : Spot) (past : Bool) (r : Outcome) : Type 0 where
   pub within : Within words s r.spot
-  pub does : Does words s (withOperand past) r
+  pub does : Does words s (with_operand past) r
 
-abbrev pub withName : (ℕ → Name → Bool) → List ℕ → List Name → Option Went
-withName test cells names = onCall test cells names (λ cells names. some (went cells names true false))
+abbrev pub with_name : (ℕ → Name → Bool) → List ℕ → List Name → Option Went
+with_name test cells names = on_call test cells names (λ cells names. some (went cells names true false))
 
 -- a call's mark and its name, of which the test gives b
 pub record NameDone (words : List ℕ) (s : Spot) (b : Bool) (r : Outcome) : Type 0 where
   pub within : Within words s r.spot
-  pub does : (test : ℕ → Name → Bool) → ((m : ℕ) (n : Name) (cells : List ℕ) (names : List Name) → Stand words s (m ∷ cells) (n ∷ names) → b ≡ test m n) → Does words s (withName test) r
+  pub does : (test : ℕ → Name → Bool) → ((m : ℕ) (n : Name) (cells : List ℕ) (names : List Name) → Stand words s (m ∷ cells) (n ∷ names) → b ≡ test m n) → Does words s (with_name test) r
 
 pub record CallOk (common heads words : List ℕ) (g : Ground) (s : Spot) (r : Bool) : Type 0 where
-  pub tells : (hs : List Head) (ps : List Pair) → Knows common heads words g hs ps → (m : ℕ) (n : Name) (cells : List ℕ) (names : List Name) → Stand words s (m ∷ cells) (n ∷ names) → r ≡ callOk hs ps m n
+  pub tells : (hs : List Head) (ps : List Pair) → Knows common heads words g hs ps → (m : ℕ) (n : Name) (cells : List ℕ) (names : List Name) → Stand words s (m ∷ cells) (n ∷ names) → r ≡ call_ok hs ps m n
 
 pub record RuleOk (common heads words : List ℕ) (s : Spot) (r : Bool) : Type 0 where
-  pub tells : (hs : List Head) (ps : List Pair) → HeadsAt common heads hs → (m : ℕ) (n : Name) (cells : List ℕ) (names : List Name) → Stand words s (m ∷ cells) (n ∷ names) → r ≡ ruleOk hs ps m n
+  pub tells : (hs : List Head) (ps : List Pair) → HeadsAt common heads hs → (m : ℕ) (n : Name) (cells : List ℕ) (names : List Name) → Stand words s (m ∷ cells) (n ∷ names) → r ≡ rule_ok hs ps m n
 
 -- an action of the sort, behind its first cell
 pub record SortDone (common heads words : List ℕ) (g : Ground) (d : Depth) (s : Spot) (sort : Sort) (r : Outcome) : Type 0 where
   pub within : Within words s r.spot
   pub does : (hs : List Head) (ps : List Pair) → Knows common heads words g hs ps → (k : ℕ) → s.end ≤ s.cell + k
-      → Does words s (λ cells names. anAct hs ps g.valued (λ l d s n. acts hs ps g.valued k l d s n) (λ l d b t r s n. arms hs ps g.valued k l d b t r s n) d.left d.inside sort cells names) r
+      → Does words s (λ cells names. an_act hs ps g.valued (λ l d s n. acts hs ps g.valued k l d s n) (λ l d b t r s n. arms hs ps g.valued k l d b t r s n) d.left d.inside sort cells names) r
 
 -- the same where neither calls nor actions stand in it
 pub record SimpleDone (words : List ℕ) (s : Spot) (x : ℕ) (r : Outcome) : Type 0 where
   pub within : Within words s r.spot
-  pub does : (hs : List Head) (ps : List Pair) (v : Bool) (inner : Actions hs ps v) (choices : Choices hs ps v) (left : ℕ) (c : Bool) → Does words s (λ cells names. anAct hs ps v inner choices left c (sortOf x) cells names) r
+  pub does : (hs : List Head) (ps : List Pair) (v : Bool) (inner : Actions hs ps v) (choices : Choices hs ps v) (left : ℕ) (c : Bool) → Does words s (λ cells names. an_act hs ps v inner choices left c (sort_of x) cells names) r
 
 -- behind a selector, where it was in order
 unfoldable pub selecting : Option Went → (List ℕ → List Name → Option Went) → Option Went
@@ -100,17 +100,17 @@ selecting (some w) more = more w.cells w.names
 
 -- the selector of a choice by an operation, behind its first cell x
 unfoldable pub asks : ℕ → List ℕ → List Name → Option Went
-asks x cells names = if ltb x 1024 then some (went cells names true false) else if ltb x 1280 then withOperand true cells names else none
+asks x cells names = if ltb x 1024 then some (went cells names true false) else if ltb x 1280 then with_operand true cells names else none
 
 pub record AskedDone (words : List ℕ) (s : Spot) (x : ℕ) (r : Outcome) : Type 0 where
   pub within : Within words s r.spot
   pub does : Does words s (asks x) r
 
 -- the alternatives of a choice whose selector gave `chosen`
-pub record ChoiceDone (common heads words : List ℕ) (g : Ground) (d : Depth) (chosen : Outcome) (byToken : Bool) (r : Outcome) : Type 0 where
+pub record ChoiceDone (common heads words : List ℕ) (g : Ground) (d : Depth) (chosen : Outcome) (by_token : Bool) (r : Outcome) : Type 0 where
   pub within : Within words chosen.spot r.spot
   pub does : (hs : List Head) (ps : List Pair) → Knows common heads words g hs ps → (k : ℕ) → chosen.spot.end ≤ chosen.spot.cell + k → (o : Option Went) → Tells words o chosen
-      → Tells words (deeper d.left (selecting o (λ cells names. arms hs ps g.valued k (d.left - 1) d.inside byToken false 64 cells names))) r
+      → Tells words (deeper d.left (selecting o (λ cells names. arms hs ps g.valued k (d.left - 1) d.inside by_token false 64 cells names))) r
 
 -- actions
 pub record ActsDone (common heads words : List ℕ) (g : Ground) (d : Depth) (s : Spot) (r : Outcome) : Type 0 where
@@ -118,23 +118,23 @@ pub record ActsDone (common heads words : List ℕ) (g : Ground) (d : Depth) (s 
   pub does : (hs : List Head) (ps : List Pair) → Knows common heads words g hs ps → (k : ℕ) → s.end ≤ s.cell + k → Does words s (λ cells names. acts hs ps g.valued k d.left d.inside cells names) r
 
 -- alternatives
-pub record ArmsDone (common heads words : List ℕ) (g : Ground) (d : Depth) (s : Spot) (byToken : Bool) (r : Outcome) : Type 0 where
+pub record ArmsDone (common heads words : List ℕ) (g : Ground) (d : Depth) (s : Spot) (by_token : Bool) (r : Outcome) : Type 0 where
   pub within : Within words s r.spot
-  pub does : (hs : List Head) (ps : List Pair) → Knows common heads words g hs ps → (k : ℕ) → s.end ≤ s.cell + k → Does words s (λ cells names. arms hs ps g.valued k d.left d.inside byToken false 64 cells names) r
+  pub does : (hs : List Head) (ps : List Pair) → Knows common heads words g hs ps → (k : ℕ) → s.end ≤ s.cell + k → Does words s (λ cells names. arms hs ps g.valued k d.left d.inside by_token false 64 cells names) r
 
 -- an alternative with no labels and no actions, behind its first cell
-pub record BareDone (words : List ℕ) (s : Spot) (x : ℕ) (byToken labelled : Bool) (r : Outcome) : Type 0 where
+pub record BareDone (words : List ℕ) (s : Spot) (x : ℕ) (by_token labelled : Bool) (r : Outcome) : Type 0 where
   pub within : Within words s r.spot
-  pub does : (hs : List Head) (ps : List Pair) (v : Bool) (inner : Actions hs ps v) (choices : Choices hs ps v) (left : ℕ) (c : Bool) (room : ℕ) → Does words s (λ cells names. anArm hs ps v inner choices left c byToken labelled room (armOf x) cells names) r
+  pub does : (hs : List Head) (ps : List Pair) (v : Bool) (inner : Actions hs ps v) (choices : Choices hs ps v) (left : ℕ) (c : Bool) (room : ℕ) → Does words s (λ cells names. an_arm hs ps v inner choices left c by_token labelled room (arm_of x) cells names) r
 
 -- n labels, of which room may still stand
-unfoldable pub someLabels : ℕ → ℕ → List ℕ → List Name → Option Went
-someLabels n room cells names = if leb n room && leb n (length cells) then some (went (drop n cells) names true false) else none
+unfoldable pub some_labels : ℕ → ℕ → List ℕ → List Name → Option Went
+some_labels n room cells names = if leb n room && leb n (length cells) then some (went (drop n cells) names true false) else none
 
 pub record LabelsDone (words : List ℕ) (s : Spot) (n room : ℕ) (r : Outcome) : Type 0 where
   pub within : Within words s r.spot
   pub few : r.ok ≡ true → n ≤ room
-  pub does : Does words s (someLabels n room) r
+  pub does : Does words s (some_labels n room) r
 
 -- the actions of an alternative whose labels gave `chosen`
 pub record ArmDone (common heads words : List ℕ) (g : Ground) (d : Depth) (chosen r : Outcome) : Type 0 where
@@ -147,16 +147,16 @@ pub record ArmDone (common heads words : List ℕ) (g : Ground) (d : Depth) (cho
 pub record LastDone (common heads words : List ℕ) (g : Ground) (d : Depth) (s : Spot) (l : Last) (r : Outcome) : Type 0 where
   pub within : Within words s r.spot
   pub does : (hs : List Head) (ps : List Pair) → Knows common heads words g hs ps → (k : ℕ) → s.end ≤ s.cell + k → (room : ℕ)
-      → Does words s (λ cells names. anArm hs ps g.valued (λ l d s n. acts hs ps g.valued k l d s n) (λ l d b t r s n. arms hs ps g.valued k l d b t r s n) d.left d.inside l.token l.labelled room (armOf l.x) cells names) r
+      → Does words s (λ cells names. an_arm hs ps g.valued (λ l d s n. acts hs ps g.valued k l d s n) (λ l d b t r s n. arms hs ps g.valued k l d b t r s n) d.left d.inside l.token l.labelled room (arm_of l.x) cells names) r
 
 -- the cells of the rule at q and the names of its calls
 pub record BodyDone (words : List ℕ) (q : ℕ) (r : Body) : Type 0 where
   pub low : r.ok ≡ true → r.spot.cell ≤ r.spot.end
   pub high : r.ok ≡ true → r.spot.end ≤ length words
   pub named : r.ok ≡ true → r.spot.name ≤ length words
-  pub tells : (v : RuleView) (k : List ℕ) → drop q words ≡ ruleWords v ++ k → (r.ok ≡ true) × (r.valued ≡ given v.gives) × Stand words r.spot v.cells v.calls
+  pub tells : (v : RuleView) (k : List ℕ) → drop q words ≡ rule_words v ++ k → (r.ok ≡ true) × (r.valued ≡ given v.gives) × Stand words r.spot v.cells v.calls
 
 -- all of this file computes where this is unfolded
 unfoldable pub opened : Unit {0}
-unfolding Is selecting asks someLabels
+unfolding Is selecting asks some_labels
 opened = tt

@@ -5,18 +5,18 @@ ghost use Rattle.base.specs.Common.{same};
 ghost use Rattle.machine.specs.Bytes.{words_of};
 ghost use Rattle.declarations.specs.Decls.{index_of};
 ghost use Rattle.names.specs.Known.{Names};
-ghost use Rattle.names.specs.Understand.{isOne};
+ghost use Rattle.names.specs.Understand.{is_one};
 ghost use Rattle.parts.specs.Form.{packed};
-ghost use Rattle.symbols.specs.Rows.{declAt, held, number_of};
+ghost use Rattle.symbols.specs.Rows.{decl_at, held, number_of};
 ghost use Rattle.symbols.specs.Search.{part, named};
 ghost use Rattle.symbols.specs.Search as search;
 ghost use Rattle.syntax.specs.Texts.{Head};
 ghost use Rattle.objects.specs.Cells.{along, Fits, Tells, OperandDone, NameDone, CallOk, RuleOk, SimpleDone, AskedDone, SortDone, ChoiceDone, ActsDone, ArmsDone, ArmDone, LastDone, BareDone, LabelsDone, BodyDone};
-ghost use Rattle.objects.specs.Order.{Went, standsAt, isListed, ruleInOrder, sortOf, turns, usedUp};
+ghost use Rattle.objects.specs.Order.{Went, stands_at, is_listed, rule_in_order, sort_of, turns, used_up};
 ghost use Rattle.objects.specs.Places.{Ends, NameAt, HeadsAt, SectionsAt, PartsAt};
-ghost use Rattle.objects.specs.Take.{took, someWords, theWords, times};
-ghost use Rattle.objects.specs.View.{Name, Pair, RuleView, View, pairWords, ruleWords, viewWords, aName, anOption, aPair, someCalls, someCells, aRule, aBody, aView};
-ghost use Rattle.objects.specs.Whole.{calls_of, textsOf, every, pairInOrder, viewInOrder, areObjects, goodViews, evenly};
+ghost use Rattle.objects.specs.Take.{took, some_words, the_words, times};
+ghost use Rattle.objects.specs.View.{Name, Pair, RuleView, View, pair_words, rule_words, view_words, a_name, an_option, a_pair, some_calls, some_cells, a_rule, a_body, a_view};
+ghost use Rattle.objects.specs.Whole.{calls_of, texts_of, every, pair_in_order, view_in_order, are_objects, good_views, evenly};
 
 use base::{byte, wide};
 
@@ -49,7 +49,7 @@ pub fn number(objects: &[u8], i: usize) -> usize
 // The place behind n words from `at` on; one past the end where there are fewer. The functions below go by this too.
 pub fn past_words(objects: &[u8], at: usize, n: usize) -> usize
     requires { at ≤ length (words_of objects.now) }
-    ensures { Ends (someWords n) (words_of objects.now) at result }
+    ensures { Ends (some_words n) (words_of objects.now) at result }
 {
     let end = total(objects);
     if n <= end - at {
@@ -61,7 +61,7 @@ pub fn past_words(objects: &[u8], at: usize, n: usize) -> usize
 // A name: where it stands, its length, its bytes.
 pub fn past_name(objects: &[u8], at: usize) -> usize
     requires { at ≤ length (words_of objects.now) }
-    ensures { Ends aName (words_of objects.now) at result }
+    ensures { Ends a_name (words_of objects.now) at result }
 {
     let end = total(objects);
     if end - at < 2 {
@@ -72,7 +72,7 @@ pub fn past_name(objects: &[u8], at: usize) -> usize
 
 pub fn past_names(objects: &[u8], at: usize, n: usize) -> usize
     requires { at ≤ length (words_of objects.now) }
-    ensures { Ends (times n aName) (words_of objects.now) at result }
+    ensures { Ends (times n a_name) (words_of objects.now) at result }
 {
     let end = total(objects);
     let mut p = at;
@@ -90,7 +90,7 @@ pub fn past_names(objects: &[u8], at: usize, n: usize) -> usize
 // 0, or 1 and a name.
 pub fn past_option(objects: &[u8], at: usize) -> usize
     requires { at ≤ length (words_of objects.now) }
-    ensures { Ends anOption (words_of objects.now) at result }
+    ensures { Ends an_option (words_of objects.now) at result }
 {
     let end = total(objects);
     if at == end {
@@ -109,7 +109,7 @@ pub fn past_option(objects: &[u8], at: usize) -> usize
 // A pair: the `^`, its section and its operand rule.
 pub fn past_pair(objects: &[u8], at: usize) -> usize
     requires { at ≤ length (words_of objects.now) }
-    ensures { Ends aPair (words_of objects.now) at result }
+    ensures { Ends a_pair (words_of objects.now) at result }
 {
     let end = total(objects);
     if end - at < 2 {
@@ -124,7 +124,7 @@ pub fn past_pair(objects: &[u8], at: usize) -> usize
 
 pub fn past_pairs(objects: &[u8], at: usize, n: usize) -> usize
     requires { at ≤ length (words_of objects.now) }
-    ensures { Ends (times n aPair) (words_of objects.now) at result }
+    ensures { Ends (times n a_pair) (words_of objects.now) at result }
 {
     let end = total(objects);
     let mut p = at;
@@ -142,7 +142,7 @@ pub fn past_pairs(objects: &[u8], at: usize, n: usize) -> usize
 // As many names as a word says.
 pub fn past_calls(objects: &[u8], at: usize) -> usize
     requires { at ≤ length (words_of objects.now) }
-    ensures { Ends someCalls (words_of objects.now) at result }
+    ensures { Ends some_calls (words_of objects.now) at result }
 {
     let end = total(objects);
     if at == end {
@@ -154,7 +154,7 @@ pub fn past_calls(objects: &[u8], at: usize) -> usize
 // As many cells as a word says.
 pub fn past_cells(objects: &[u8], at: usize) -> usize
     requires { at ≤ length (words_of objects.now) }
-    ensures { Ends someCells (words_of objects.now) at result }
+    ensures { Ends some_cells (words_of objects.now) at result }
 {
     let end = total(objects);
     if at == end {
@@ -166,7 +166,7 @@ pub fn past_cells(objects: &[u8], at: usize) -> usize
 // A rule: its name, its type, the names of its calls, its cells.
 pub fn past_rule(objects: &[u8], at: usize) -> usize
     requires { at ≤ length (words_of objects.now) }
-    ensures { Ends aRule (words_of objects.now) at result }
+    ensures { Ends a_rule (words_of objects.now) at result }
 {
     let end = total(objects);
     let gives = past_name(objects, at);
@@ -186,7 +186,7 @@ pub fn past_rule(objects: &[u8], at: usize) -> usize
 
 pub fn past_rules(objects: &[u8], at: usize, n: usize) -> usize
     requires { at ≤ length (words_of objects.now) }
-    ensures { Ends (times n aRule) (words_of objects.now) at result }
+    ensures { Ends (times n a_rule) (words_of objects.now) at result }
 {
     let end = total(objects);
     let mut p = at;
@@ -216,7 +216,7 @@ fn common_word(common: &[u8], i: usize) -> usize
 // The bytes of the common part, and no others.
 fn past_common(objects: &[u8], at: usize, common: &[u8]) -> usize
     requires { at ≤ length (words_of objects.now) }
-    ensures { Ends (theWords (packed common.now)) (words_of objects.now) at result }
+    ensures { Ends (the_words (packed common.now)) (words_of objects.now) at result }
 {
     let end = total(objects);
     let n = common.len() / 2 + common.len() % 2;
@@ -236,7 +236,7 @@ fn past_common(objects: &[u8], at: usize, common: &[u8]) -> usize
 // What stands behind the length of an object: four numbers, the common part, pairs, rules.
 fn past_body(objects: &[u8], at: usize, common: &[u8]) -> usize
     requires { at ≤ length (words_of objects.now) }
-    ensures { Ends (aBody common.now) (words_of objects.now) at result }
+    ensures { Ends (a_body common.now) (words_of objects.now) at result }
 {
     let end = total(objects);
     if end - at < 4 {
@@ -259,7 +259,7 @@ fn past_body(objects: &[u8], at: usize, common: &[u8]) -> usize
 // An object: `PO`, the number of the words behind these three, and those.
 pub fn past_view(objects: &[u8], at: usize, common: &[u8]) -> usize
     requires { at ≤ length (words_of objects.now) }
-    ensures { Ends (aView common.now) (words_of objects.now) at result }
+    ensures { Ends (a_view common.now) (words_of objects.now) at result }
 {
     let end = total(objects);
     if end - at < 3 {
@@ -344,7 +344,7 @@ pub fn is_part(objects: &[u8], p: usize, common: &[u8], start: usize, size: usiz
 // Whether the name at a place is on the list of the common part.
 pub fn is_listed(objects: &[u8], p: usize, common: &[u8], heads: &[u16]) -> bool
     requires { p ≤ length (words_of objects.now) }
-    ensures { (hs : List Head) (n : Name) → HeadsAt common.now heads.now hs → NameAt (words_of objects.now) p n → result ≡ isListed hs n }
+    ensures { (hs : List Head) (n : Name) → HeadsAt common.now heads.now hs → NameAt (words_of objects.now) p n → result ≡ is_listed hs n }
 {
     let count = heads.len() / HEAD_NUMBERS;
     let mut i = 0;
@@ -362,7 +362,7 @@ pub fn is_listed(objects: &[u8], p: usize, common: &[u8], heads: &[u16]) -> bool
 // Whether the k-th of the pairs from a place on has the name at p for its operand rule.
 fn stands_at(objects: &[u8], pairs: usize, count: usize, k: usize, p: usize) -> bool
     requires { (pairs ≤ length (words_of objects.now)) × (p ≤ length (words_of objects.now)) }
-    ensures { (ps : List Pair) (n : Name) (rest : List ℕ) → times count aPair (drop pairs (words_of objects.now)) ≡ took ps rest → NameAt (words_of objects.now) p n → result ≡ standsAt ps k n }
+    ensures { (ps : List Pair) (n : Name) (rest : List ℕ) → times count a_pair (drop pairs (words_of objects.now)) ≡ took ps rest → NameAt (words_of objects.now) p n → result ≡ stands_at ps k n }
 {
     let end = total(objects);
     if k >= count {
@@ -382,7 +382,7 @@ fn stands_at(objects: &[u8], pairs: usize, count: usize, k: usize, p: usize) -> 
 // Whether the name at p is one of the n names from a place on.
 fn among_names(objects: &[u8], at: usize, n: usize, p: usize) -> bool
     requires { (at ≤ length (words_of objects.now)) × (p ≤ length (words_of objects.now)) }
-    ensures { (ns : List Name) (m : Name) (rest : List ℕ) → times n aName (drop at (words_of objects.now)) ≡ took ns rest → NameAt (words_of objects.now) p m → result ≡ isOne m.text (textsOf ns) }
+    ensures { (ns : List Name) (m : Name) (rest : List ℕ) → times n a_name (drop at (words_of objects.now)) ≡ took ns rest → NameAt (words_of objects.now) p m → result ≡ is_one m.text (texts_of ns) }
 {
     let end = total(objects);
     let mut q = at;
@@ -403,7 +403,7 @@ fn among_names(objects: &[u8], at: usize, n: usize, p: usize) -> bool
 // Whether the rule at q calls the name at p.
 fn calls_name(objects: &[u8], q: usize, p: usize) -> bool
     requires { (q ≤ length (words_of objects.now)) × (p ≤ length (words_of objects.now)) }
-    ensures { (v : RuleView) (m : Name) (k : List ℕ) → drop q (words_of objects.now) ≡ ruleWords v ++ k → NameAt (words_of objects.now) p m → result ≡ isOne m.text (textsOf v.calls) }
+    ensures { (v : RuleView) (m : Name) (k : List ℕ) → drop q (words_of objects.now) ≡ rule_words v ++ k → NameAt (words_of objects.now) p m → result ≡ is_one m.text (texts_of v.calls) }
 {
     let end = total(objects);
     let gives = past_name(objects, q);
@@ -420,7 +420,7 @@ fn calls_name(objects: &[u8], q: usize, p: usize) -> bool
 // Whether one of the n rules from a place on calls the name at p.
 fn is_called(objects: &[u8], at: usize, n: usize, p: usize) -> bool
     requires { (at ≤ length (words_of objects.now)) × (p ≤ length (words_of objects.now)) }
-    ensures { (vs : List RuleView) (m : Name) (rest : List ℕ) → times n aRule (drop at (words_of objects.now)) ≡ took vs rest → NameAt (words_of objects.now) p m → result ≡ isOne m.text (textsOf (calls_of vs)) }
+    ensures { (vs : List RuleView) (m : Name) (rest : List ℕ) → times n a_rule (drop at (words_of objects.now)) ≡ took vs rest → NameAt (words_of objects.now) p m → result ≡ is_one m.text (texts_of (calls_of vs)) }
 {
     let end = total(objects);
     let mut q = at;
@@ -702,7 +702,7 @@ fn plain(
 ) -> Outcome
     requires fits { Fits (words_of objects.now) ground spot × (x < 768) }
     requires fact { (x ≡ 2 → ⊥) × (x ≡ 7 → ⊥) × (x ≡ 11 → ⊥) }
-    ensures { SortDone common.now heads.now (words_of objects.now) ground depth spot (sortOf x) result }
+    ensures { SortDone common.now heads.now (words_of objects.now) ground depth spot (sort_of x) result }
 {
     if x == EXIT {
         if depth.inside {
@@ -780,7 +780,7 @@ fn bare(spot: Spot, x: usize, token: bool, labelled: bool) -> Outcome
 
 // Whether all cells and all names are used up, and no choice rule goes past its end.
 fn used_up(valued: bool, o: Outcome) -> bool
-    ensures { (words : List ℕ) (w : Option Went) → Tells words w o → result ≡ usedUp valued w }
+    ensures { (words : List ℕ) (w : Option Went) → Tells words w o → result ≡ used_up valued w }
 {
     if !o.ok {
         return false;
@@ -839,7 +839,7 @@ fn act(
     x: usize,
 ) -> Outcome
     requires { Fits (words_of objects.now) ground spot }
-    ensures { SortDone common.now heads.now (words_of objects.now) ground depth spot (sortOf x) result }
+    ensures { SortDone common.now heads.now (words_of objects.now) ground depth spot (sort_of x) result }
 {
     if x == CYCLE {
         return cycle(objects, common, heads, ground, depth, spot);
@@ -1057,7 +1057,7 @@ fn rule_in_order(
 ) -> bool
     requires { (q ≤ length (words_of objects.now)) × (pairs ≤ length (words_of objects.now)) }
     ensures { (hs : List Head) (ps : List Pair) (v : RuleView) (k rest : List ℕ) → HeadsAt common.now heads.now hs
-        → times count aPair (drop pairs (words_of objects.now)) ≡ took ps rest → drop q (words_of objects.now) ≡ ruleWords v ++ k → result ≡ ruleInOrder hs ps v }
+        → times count a_pair (drop pairs (words_of objects.now)) ≡ took ps rest → drop q (words_of objects.now) ≡ rule_words v ++ k → result ≡ rule_in_order hs ps v }
 {
     let body = body_at(objects, q);
     if !body.ok {
@@ -1109,7 +1109,7 @@ fn is_text(objects: &[u8], p: usize, text: &[u8], start: usize, len: usize) -> b
 // Whether declaration i of the rows is a section of operators with the name at a place.
 fn is_section(objects: &[u8], p: usize, text: &[u8], rows: &[u16], i: usize) -> bool
     requires { (p ≤ length (words_of objects.now)) × (i ≤ 512) }
-    ensures { (m : Name) → NameAt (words_of objects.now) p m → result ≡ named 600 m.text (declAt text.now rows.now i) }
+    ensures { (m : Name) → NameAt (words_of objects.now) p m → result ≡ named 600 m.text (decl_at text.now rows.now i) }
 {
     if base::number(rows, symbols::ROW * i) != symbols::OPERATORS {
         return false;
@@ -1151,7 +1151,7 @@ fn pair_in_order(
     scope: Scope,
 ) -> bool
     requires { (q ≤ length (words_of objects.now)) × (scope.rules.at ≤ length (words_of objects.now)) × (scope.declared ≤ 512) }
-    ensures { (hs : List Head) (n : Names) (vs : List RuleView) (p : Pair) (k rest : List ℕ) → HeadsAt common.now heads.now hs → SectionsAt text.now rows.now scope.declared n → times scope.rules.count aRule (drop scope.rules.at (words_of objects.now)) ≡ took vs rest → drop q (words_of objects.now) ≡ pairWords p ++ k → result ≡ pairInOrder hs n vs p }
+    ensures { (hs : List Head) (n : Names) (vs : List RuleView) (p : Pair) (k rest : List ℕ) → HeadsAt common.now heads.now hs → SectionsAt text.now rows.now scope.declared n → times scope.rules.count a_rule (drop scope.rules.at (words_of objects.now)) ≡ took vs rest → drop q (words_of objects.now) ≡ pair_words p ++ k → result ≡ pair_in_order hs n vs p }
 {
     let end = total(objects);
     if q + 2 > end {
@@ -1180,7 +1180,7 @@ fn pairs_in_order(
     scope: Scope,
 ) -> bool
     requires { (scope.pairs.at ≤ length (words_of objects.now)) × (scope.rules.at ≤ length (words_of objects.now)) × (scope.declared ≤ 512) }
-    ensures { (hs : List Head) (n : Names) (v : View) → HeadsAt common.now heads.now hs → SectionsAt text.now rows.now scope.declared n → PartsAt (words_of objects.now) scope.pairs.at scope.pairs.count scope.rules.at scope.rules.count v → result ≡ every (pairInOrder hs n v.rules) v.pairs }
+    ensures { (hs : List Head) (n : Names) (v : View) → HeadsAt common.now heads.now hs → SectionsAt text.now rows.now scope.declared n → PartsAt (words_of objects.now) scope.pairs.at scope.pairs.count scope.rules.at scope.rules.count v → result ≡ every (pair_in_order hs n v.rules) v.pairs }
 {
     let end = total(objects);
     let mut q = scope.pairs.at;
@@ -1201,7 +1201,7 @@ fn pairs_in_order(
 // Whether all rules of an object are in order.
 fn rules_in_order(objects: &[u8], common: &[u8], heads: &[u16], scope: Scope) -> bool
     requires { (scope.pairs.at ≤ length (words_of objects.now)) × (scope.rules.at ≤ length (words_of objects.now)) }
-    ensures { (hs : List Head) (v : View) → HeadsAt common.now heads.now hs → PartsAt (words_of objects.now) scope.pairs.at scope.pairs.count scope.rules.at scope.rules.count v → result ≡ every (ruleInOrder hs v.pairs) v.rules }
+    ensures { (hs : List Head) (v : View) → HeadsAt common.now heads.now hs → PartsAt (words_of objects.now) scope.pairs.at scope.pairs.count scope.rules.at scope.rules.count v → result ≡ every (rule_in_order hs v.pairs) v.rules }
 {
     let end = total(objects);
     let mut q = scope.rules.at;
@@ -1230,7 +1230,7 @@ fn view_in_order(
     n: usize,
 ) -> bool
     requires { (at ≤ length (words_of objects.now)) × (n ≤ 512) }
-    ensures { (hs : List Head) (m : Names) (v : View) (k : List ℕ) → HeadsAt common.now heads.now hs → SectionsAt text.now rows.now n m → drop at (words_of objects.now) ≡ viewWords common.now v ++ k → result ≡ viewInOrder hs m v }
+    ensures { (hs : List Head) (m : Names) (v : View) (k : List ℕ) → HeadsAt common.now heads.now hs → SectionsAt text.now rows.now n m → drop at (words_of objects.now) ≡ view_words common.now v ++ k → result ≡ view_in_order hs m v }
 {
     let end = total(objects);
     let head = common.len() / 2 + common.len() % 2 + HEADER;
@@ -1280,8 +1280,8 @@ pub fn check(
     n: usize,
 ) -> Checked
     requires { n ≤ 512 }
-    ensures whole { (hs : List Head) (m : Names) → HeadsAt common.now heads.now hs → SectionsAt text.now rows.now n m → result.ok ≡ (areObjects hs m common.now (words_of objects.now) && evenly objects.now) }
-    ensures counted { (hs : List Head) (m : Names) → HeadsAt common.now heads.now hs → SectionsAt text.now rows.now n m → result.good ≡ goodViews hs m common.now (length (words_of objects.now)) (words_of objects.now) }
+    ensures whole { (hs : List Head) (m : Names) → HeadsAt common.now heads.now hs → SectionsAt text.now rows.now n m → result.ok ≡ (are_objects hs m common.now (words_of objects.now) && evenly objects.now) }
+    ensures counted { (hs : List Head) (m : Names) → HeadsAt common.now heads.now hs → SectionsAt text.now rows.now n m → result.good ≡ good_views hs m common.now (length (words_of objects.now)) (words_of objects.now) }
     ensures few { 7 * result.good ≤ length (words_of objects.now) }
 {
     let end = total(objects);

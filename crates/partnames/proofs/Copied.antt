@@ -5,7 +5,7 @@ use Prim.Native.Nat.{ℕ, zero, suc, ◌+◌, ◌-◌, ◌≤◌, ◌<◌, max}
 use native.Mathlib.Omega.{arith}
 use lib.ListN.{length, get_or, set, take, drop, replicate, length-drop, length-set}
 use lib.Seq.{get_or-drop, take_all, take-suc, take-suc-set}
-use Rattle.partnames.specs.Buffer.{Copies, Fills, partPlace, bothTexts}
+use Rattle.partnames.specs.Buffer.{Copies, Fills, part_place, both_texts}
 
 pub copied_none : (source s : List ℕ) (from at : ℕ) → Copies source s s from 0 at
 copied_none source s from at = let z : at + 0 ≡ at = omega arith in record { size = refl; bytes = ap (λ n. take n s) z ∙ sym (append-nil (take at s)) }
@@ -54,9 +54,9 @@ pub filled-all : {s₀ s : List ℕ} {n m at : ℕ} → Fills s₀ s n at → n 
 filled-all f e = rw e at f
 
 -- the common part, line feeds, the further part
-pub both-copied : {common part s s₁ s₂ s₃ : List ℕ} {at from n k next : ℕ} → Copies common s s₁ 0 at 0 → Fills s₁ s₂ k at → Copies part s₂ s₃ from n next → next ≡ partPlace at from
-    → k ≡ next - at → n ≡ length part - from → take (next + n) s₃ ≡ bothTexts common at part from
-unfolding bothTexts partPlace
+pub both-copied : {common part s s₁ s₂ s₃ : List ℕ} {at from n k next : ℕ} → Copies common s s₁ 0 at 0 → Fills s₁ s₂ k at → Copies part s₂ s₃ from n next → next ≡ part_place at from
+    → k ≡ next - at → n ≡ length part - from → take (next + n) s₃ ≡ both_texts common at part from
+unfolding both_texts part_place
 both-copied {common} {part} {s} {s₁} {s₂} {s₃} {at} {from} {n} {k} {next} a b c x y m =
     let w : at ≡ 0 + at = omega arith in
     let a' : take at s₁ ≡ take at common = ap (λ k. take k s₁) w ∙ a.bytes in

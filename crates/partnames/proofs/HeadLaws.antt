@@ -10,19 +10,19 @@ use lib.Dec.{eqb}
 use lib.ListN.{length, get_or, set, take, drop, length-drop, length-set, drop_of_length-le}
 use lib.Seq.{get_or-append-add, get_or-set_other, get_or-set_same, take-nil}
 use Rattle.base.proofs.Laws.{lt-or-le}
-use Rattle.base.specs.Common.{if◌then◌else◌}
+use Rattle.std.specs.Prelude.{if◌then◌else◌}
 use Rattle.collector.proofs.Rows.{two-length}
-use Rattle.collector.specs.Collecting.{setTwo}
+use Rattle.collector.specs.Collecting.{set_two}
 use Rattle.collector.specs.declared.Part.{Part}
 use Rattle.declarations.proofs.Whole.{length-sections}
-use Rattle.declarations.specs.Decls.{Decl, declOf, declsOf, ruleDecls, sectionsDecls}
-use Rattle.objects.specs.Places.{HeadsAt, textAt, type_at}
-use Rattle.parts.specs.Objects.{asRules, calledRules, others, together}
+use Rattle.declarations.specs.Decls.{Decl, decl_of, decls_of, rule_decls, sections_decls}
+use Rattle.objects.specs.Places.{HeadsAt, text_at, type_at}
+use Rattle.parts.specs.Objects.{as_rules, called_rules, others, together}
 use Rattle.partnames.proofs.Together.{whole-rows}
 use Rattle.partnames.specs.Heads.{CopiesHeads, CopiesPart, Inside, LineAt, PartAt}
 use Rattle.symbols.proofs.Searches.{held_at}
-use Rattle.symbols.specs.Rows.{declAt, held, optionOf, word_of}
-use Rattle.syntax.specs.Sections.{namesInAll}
+use Rattle.symbols.specs.Rows.{decl_at, held, option_of, word_of}
+use Rattle.syntax.specs.Sections.{names_in_all}
 use Rattle.syntax.specs.Texts.{Common, Head}
 use Rattle.syntax.specs.Written.{Rule}
 use Rattle.words.specs.Words.{Word}
@@ -49,18 +49,18 @@ in-text text start len n h e = record {
 }
 
 part-copied : {text rows heads : List ℕ} {a b k p : ℕ} (r : Part) → Inside text a b r → p + 2 ≤ length heads → a ≡ get_or rows k 0 → b ≡ get_or rows (k + 1) 0
-    → CopiesPart text rows k heads (setTwo heads p r.start r.len) p
+    → CopiesPart text rows k heads (set_two heads p r.start r.len) p
 part-copied {text} {rows} {heads} {a} {b} {k} {p} r i h e f =
-    let x : get_or (setTwo heads p r.start r.len) p 0 ≡ r.start =
+    let x : get_or (set_two heads p r.start r.len) p 0 ≡ r.start =
     get_or-set_other (set heads p r.start) (p + 1) p r.len 0 (λ z. omega (arith, z)) ∙ get_or-set_same heads p r.start 0 (omega arith) in
-    let y : get_or (setTwo heads p r.start r.len) (p + 1) 0 ≡ r.len = get_or-set_same (set heads p r.start) (p + 1) r.len 0 (omega (arith, length-set heads p r.start)) in
+    let y : get_or (set_two heads p r.start r.len) (p + 1) 0 ≡ r.len = get_or-set_same (set heads p r.start) (p + 1) r.len 0 (omega (arith, length-set heads p r.start)) in
     record {
       size = two-length heads p r.start r.len;
       below = λ j l. get_or-set_other (set heads p r.start) (p + 1) j r.len 0 (λ z. omega (arith, z)) ∙ get_or-set_other heads p j r.start 0 (λ z. omega (arith, z));
       there = record { inside = rw (x, y) i.inside; bytes = rw (x, y, ← e, ← f) i.bytes };
     }
 
-pub part-copied-as : {text rows heads heads' : List ℕ} {a b k p : ℕ} {r : Part} → Inside text a b r → p + 2 ≤ length heads → a ≡ get_or rows k 0 → b ≡ get_or rows (k + 1) 0 → heads' ≡ setTwo heads p r.start r.len
+pub part-copied-as : {text rows heads heads' : List ℕ} {a b k p : ℕ} {r : Part} → Inside text a b r → p + 2 ≤ length heads → a ≡ get_or rows k 0 → b ≡ get_or rows (k + 1) 0 → heads' ≡ set_two heads p r.start r.len
     → CopiesPart text rows k heads heads' p
 part-copied-as {r = r} i h e f g = rw g (part-copied r i h e f)
 
@@ -79,9 +79,9 @@ kept_line p b h l = record { name = kept-part p b (omega arith) l.name; type = k
 pub no-heads : (text rows : List ℕ) (first : ℕ) (heads : List ℕ) → CopiesHeads text rows first 0 heads heads
 no-heads text rows first heads = record { size = refl; lines = λ j h. absurd (omega arith) }
 
-pub more-heads : {text rows heads heads₁ heads₂ heads₃ : List ℕ} {first i n k l p q : ℕ} → CopiesHeads text rows first i heads heads₁ → CopiesPart text rows k heads₁ heads₂ p → CopiesPart text rows l heads₂ heads₃ q
+pub more_heads : {text rows heads heads₁ heads₂ heads₃ : List ℕ} {first i n k l p q : ℕ} → CopiesHeads text rows first i heads heads₁ → CopiesPart text rows k heads₁ heads₂ p → CopiesPart text rows l heads₂ heads₃ q
     → k ≡ 8 * (first + i) + 2 → l ≡ 8 * (first + i) + 6 → p ≡ 4 * i → q ≡ 4 * i + 2 → n ≡ i + 1 → CopiesHeads text rows first n heads heads₃
-more-heads {text} {rows} {heads} {heads₁} {heads₂} {heads₃} {first} {i} {n} {k} {l} {p} {q} a b c d e f g m = record { size = c.size ∙ b.size ∙ a.size; lines = all } where
+more_heads {text} {rows} {heads} {heads₁} {heads₂} {heads₃} {first} {i} {n} {k} {l} {p} {q} a b c d e f g m = record { size = c.size ∙ b.size ∙ a.size; lines = all } where
   before : (j : ℕ) → j < 4 * i → get_or heads₃ j 0 ≡ get_or heads₁ j 0
   before j h = c.below j (omega arith) ∙ b.below j (omega arith)
 
@@ -103,8 +103,8 @@ all-heads a e = rw e at a
 
 -- The lines of a common part
 
-line-name : (k : ℕ) (hs : List Head) (more : List Decl) (i : ℕ) → i < length hs → (declOf (ruleDecls k (asRules hs) ++ more) i).name.text ≡ textAt hs i
-unfolding declOf ruleDecls asRules textAt
+line-name : (k : ℕ) (hs : List Head) (more : List Decl) (i : ℕ) → i < length hs → (decl_of (rule_decls k (as_rules hs) ++ more) i).name.text ≡ text_at hs i
+unfolding decl_of rule_decls as_rules text_at
 line-name k [] more i h = absurd (omega arith)
 line-name k (x ∷ hs) more zero h = refl
 line-name k (x ∷ hs) more (suc i) h = line-name (suc k) hs more i (omega arith)
@@ -114,14 +114,14 @@ typed-as : List ℕ → Option Word → Type 0
 typed-as t none = ⊥
 typed-as t (some w) = w.text ≡ t
 
-line-type : (k : ℕ) (hs : List Head) (more : List Decl) (i : ℕ) → i < length hs → typed-as (type_at hs i) (declOf (ruleDecls k (asRules hs) ++ more) i).third
-unfolding declOf ruleDecls asRules type_at typed-as
+line-type : (k : ℕ) (hs : List Head) (more : List Decl) (i : ℕ) → i < length hs → typed-as (type_at hs i) (decl_of (rule_decls k (as_rules hs) ++ more) i).third
+unfolding decl_of rule_decls as_rules type_at typed-as
 line-type k [] more i h = absurd (omega arith)
 line-type k (x ∷ hs) more zero h = refl
 line-type k (x ∷ hs) more (suc i) h = line-type (suc k) hs more i (omega arith)
 
-type-part : (text : List ℕ) (a b : ℕ) (t : List ℕ) → typed-as t (optionOf text 257 a b) → take b (drop a text) ≡ t
-unfolding typed-as optionOf
+type-part : (text : List ℕ) (a b : ℕ) (t : List ℕ) → typed-as t (option_of text 257 a b) → take b (drop a text) ≡ t
+unfolding typed-as option_of
 type-part text a b t = go (eqb b 0)
   where
     go : (x : Bool) → typed-as t (if x then none else some (word_of text 257 a b)) → take b (drop a text) ≡ t
@@ -136,26 +136,26 @@ bytes-at : {text rows heads : List ℕ} {k p : ℕ} (l q : ℕ) → l ≡ k + 1 
 bytes-at l q e f a = rw (e, f) a.bytes
 
 abbrev rest : Common → List Rule → List Decl
-rest c rs = ruleDecls (length c.listed) (calledRules (others c.listed rs))
+rest c rs = rule_decls (length c.listed) (called_rules (others c.listed rs))
 
-module _ (text rows : List ℕ) (n first : ℕ) (c : Common) (rs : List Rule) (e : held text rows n ≡ declsOf (together c rs)) (f : first ≡ namesInAll c.sections) (h : first + length c.listed ≤ n) where
-  row_is : (i : ℕ) → i < length c.listed → declAt text rows (first + i) ≡ declOf (ruleDecls 0 (asRules c.listed) ++ rest c rs) i
-  unfolding declOf
+module _ (text rows : List ℕ) (n first : ℕ) (c : Common) (rs : List Rule) (e : held text rows n ≡ decls_of (together c rs)) (f : first ≡ names_in_all c.sections) (h : first + length c.listed ≤ n) where
+  row_is : (i : ℕ) → i < length c.listed → decl_at text rows (first + i) ≡ decl_of (rule_decls 0 (as_rules c.listed) ++ rest c rs) i
+  unfolding decl_of
   row_is i l =
-      let xs = sectionsDecls 0 c.sections in
+      let xs = sections_decls 0 c.sections in
       let z : first + i ≡ length xs + i = omega (arith, length-sections 0 c.sections) in
-      sym (held_at text rows n (first + i) (omega arith)) ∙ ap (λ (ds : List Decl). declOf ds (first + i)) (e ∙ whole-rows c rs ∙ append_assoc xs (ruleDecls 0 (asRules c.listed)) (rest c rs))
-      ∙ ap (declOf (xs ++ (ruleDecls 0 (asRules c.listed) ++ rest c rs))) z ∙ get_or-append-add xs (ruleDecls 0 (asRules c.listed) ++ rest c rs) i _
+      sym (held_at text rows n (first + i) (omega arith)) ∙ ap (λ (ds : List Decl). decl_of ds (first + i)) (e ∙ whole-rows c rs ∙ append_assoc xs (rule_decls 0 (as_rules c.listed)) (rest c rs))
+      ∙ ap (decl_of (xs ++ (rule_decls 0 (as_rules c.listed) ++ rest c rs))) z ∙ get_or-append-add xs (rule_decls 0 (as_rules c.listed) ++ rest c rs) i _
 
-  its-type : (i : ℕ) → i < length c.listed → typed-as (type_at c.listed i) (declAt text rows (first + i)).third
+  its-type : (i : ℕ) → i < length c.listed → typed-as (type_at c.listed i) (decl_at text rows (first + i)).third
   its-type i l = rw (row_is i l) (line-type 0 c.listed (rest c rs) i l)
 
   pub heads-at : {count : ℕ} {heads heads' : List ℕ} → count ≡ length c.listed → length heads ≡ 4 * count → CopiesHeads text rows first count heads heads' → HeadsAt text heads' c.listed
-  unfolding declAt
+  unfolding decl_at
   heads-at {count} {heads} {heads'} k s a = record {
     as_many = omega (arith, a.size);
     inside = λ i l. (a.lines i (omega arith)).name.inside;
     names = λ i l. sym (bytes-at (8 * (first + i) + 3) (4 * i + 1) (omega arith) (omega arith) (a.lines i (omega arith)).name ∙ ap (λ (d : Decl). d.name.text) (row_is i l) ∙ line-name 0 c.listed (rest c rs) i l);
-    types-inside = λ i l. inside-at (4 * i + 3) (omega arith) (a.lines i (omega arith)).type;
+    types_inside = λ i l. inside-at (4 * i + 3) (omega arith) (a.lines i (omega arith)).type;
     types = λ i l. sym (bytes-at (8 * (first + i) + 7) (4 * i + 3) (omega arith) (omega arith) (a.lines i (omega arith)).type ∙ type-part text _ _ (type_at c.listed i) (its-type i l));
   }

@@ -5,48 +5,48 @@ use mathlib.Core.Option.{Option}
 use mathlib.Core.Path.{◌≡◌, refl, sym, ap, ◌∙◌}
 use Prim.Native.Nat.{ℕ}
 use lib.Dec.{eqb, leb}
-use Rattle.grammar.specs.Derived.{Took, Reference, by_name, by-string, ConstantIn, no-constant, a-constant, ValueIn, no_value, a-value, PlainIn, named_in, any-in, emit-in, error-in, exit_in, call-in, give-in, ranked-in, SelectorIn, token-in, rule-in, operation-in, LabelsIn, last-label, more-labels, ActIn, plain_in, cycle-in, choice-in, ActsIn, none_in, more-in, AltsIn, other-in, last-in, next-in, GivesIn, gives_none, gives-some, RuleIn, a-rule, RulesIn, last-rule, more-rules}
-use Rattle.parts.specs.Objects.{call_of, selects, calls, callsAll, callsSome, callsOther, mentions}
-use Rattle.partnames.specs.Mentioning.{leads, names, namesFrom, stops}
+use Rattle.grammar.specs.Derived.{Took, Reference, by_name, by_string, ConstantIn, no_constant, a_constant, ValueIn, no_value, a_value, PlainIn, named_in, any_in, emit_in, error_in, exit_in, call_in, give_in, ranked_in, SelectorIn, token_in, rule_in, operation_in, LabelsIn, last_label, more_labels, ActIn, plain_in, cycle_in, choice_in, ActsIn, none_in, more_in, AltsIn, other_in, last_in, next_in, GivesIn, gives_none, gives_some, RuleIn, a_rule, RulesIn, last_rule, more_rules}
+use Rattle.parts.specs.Objects.{call_of, selects, calls, calls_all, calls_some, calls_other, mentions}
+use Rattle.partnames.specs.Mentioning.{leads, names, names_from, stops}
 use Rattle.syntax.specs.Reading.{peek}
 use Rattle.syntax.specs.Written.{Constant, Plain, Selector, Act, Acts, Alts, Other, Rule}
 use Rattle.words.specs.Words.{Word}
 
 abbrev Same : List Word → List Word → Type 0
-Same ws ws' = namesFrom false ws ≡ namesFrom false ws'
+Same ws ws' = names_from false ws ≡ names_from false ws'
 
 -- between ws and ws' stand the names xs
 abbrev Has : List Word → List Word → List Word → Type 0
-Has xs ws ws' = namesFrom false ws ≡ xs ++ namesFrom false ws'
+Has xs ws ws' = names_from false ws ≡ xs ++ names_from false ws'
 
 -- a word that leads to no name
 passed : (k : ℕ) {ws ws' : List Word} {w : Word} → (leb k 1 || eqb k 266) ≡ false → (eqb k 64 || eqb k 59) ≡ false → Took k ws w ws' → Same ws ws'
-unfolding namesFrom names stops leads
+unfolding names_from names stops leads
 passed k e f t = rw (t.here, t.kind, e, f) refl
 
 -- a word that does, and the name
-led : (k : ℕ) {ws ws' : List Word} {w : Word} → (leb k 1 || eqb k 266) ≡ false → (eqb k 64 || eqb k 59) ≡ true → Took k ws w ws' → namesFrom false ws ≡ namesFrom true ws'
-unfolding namesFrom names stops leads
+led : (k : ℕ) {ws ws' : List Word} {w : Word} → (leb k 1 || eqb k 266) ≡ false → (eqb k 64 || eqb k 59) ≡ true → Took k ws w ws' → names_from false ws ≡ names_from true ws'
+unfolding names_from names stops leads
 led k e f t = rw (t.here, t.kind, e, f) refl
 
-a-name : {ws ws' : List Word} {w : Word} → Took 257 ws w ws' → namesFrom true ws ≡ w ∷ namesFrom false ws'
-unfolding namesFrom names stops leads
+a-name : {ws ws' : List Word} {w : Word} → Took 257 ws w ws' → names_from true ws ≡ w ∷ names_from false ws'
+unfolding names_from names stops leads
 a-name t = rw (t.here, t.kind) refl
 
 none_read : {ws ws' : List Word} → ws' ≡ ws → Same ws ws'
-none_read e = ap (namesFrom false) (sym e)
+none_read e = ap (names_from false) (sym e)
 
 reference : {ws ws' : List Word} {w : Word} → Reference ws w ws' → Same ws ws'
 reference (by_name t) = passed 257 refl refl t
-reference (by-string t) = passed 259 refl refl t
+reference (by_string t) = passed 259 refl refl t
 
 constant : {ws ws' : List Word} {c : Option Constant} → ConstantIn ws ws' c → Same ws ws'
-constant (no-constant n e) = none_read e
-constant (a-constant p r q) = passed 40 refl refl p ∙ reference r ∙ passed 41 refl refl q
+constant (no_constant n e) = none_read e
+constant (a_constant p r q) = passed 40 refl refl p ∙ reference r ∙ passed 41 refl refl q
 
 given-value : {ws ws' : List Word} {v : Option Word} → ValueIn ws ws' v → Same ws ws'
 given-value (no_value m n e) = none_read e
-given-value (a-value r) = reference r
+given-value (a_value r) = reference r
 
 called : {ws ws₁ ws' : List Word} {at w : Word} → Took 64 ws at ws₁ → Took 257 ws₁ w ws' → Has (w ∷ []) ws ws'
 called t u = led 64 refl refl t ∙ a-name u
@@ -54,23 +54,23 @@ called t u = led 64 refl refl t ∙ a-name u
 plain-names : {ws ws' : List Word} {a : Plain} → PlainIn ws ws' a → Has (call_of a) ws ws'
 unfolding call_of
 plain-names (named_in r c) = reference r ∙ constant c
-plain-names (any-in t) = passed 63 refl refl t
-plain-names (emit-in t r) = passed 46 refl refl t ∙ reference r
-plain-names (error-in t r) = passed 35 refl refl t ∙ reference r
+plain-names (any_in t) = passed 63 refl refl t
+plain-names (emit_in t r) = passed 46 refl refl t ∙ reference r
+plain-names (error_in t r) = passed 35 refl refl t ∙ reference r
 plain-names (exit_in t) = passed 62 refl refl t
-plain-names (call-in t r) = called t r
-plain-names (give-in t v) = passed 256 refl refl t ∙ given-value v
-plain-names (ranked-in s w t o) = passed 94 refl refl s ∙ passed 257 refl refl w ∙ called t o
+plain-names (call_in t r) = called t r
+plain-names (give_in t v) = passed 256 refl refl t ∙ given-value v
+plain-names (ranked_in s w t o) = passed 94 refl refl s ∙ passed 257 refl refl w ∙ called t o
 
 selector-names : {ws ws' : List Word} {s : Selector} → SelectorIn ws ws' s → Has (selects s) ws ws'
 unfolding selects
-selector-names (token-in m n e) = none_read e
-selector-names (rule-in t r) = called t r
-selector-names (operation-in t c) = passed 257 refl refl t ∙ constant c
+selector-names (token_in m n e) = none_read e
+selector-names (rule_in t r) = called t r
+selector-names (operation_in t c) = passed 257 refl refl t ∙ constant c
 
 labels : {ws ws' ls : List Word} → LabelsIn ws ws' ls → Same ws ws'
-labels (last-label r n) = reference r
-labels (more-labels r t l) = reference r ∙ passed 44 refl refl t ∙ labels l
+labels (last_label r n) = reference r
+labels (more_labels r t l) = reference r ∙ passed 44 refl refl t ∙ labels l
 
 -- names, and then others
 then-names : {a b : List Word} (xs ys c : List Word) → a ≡ xs ++ b → b ≡ ys ++ c → a ≡ (xs ++ ys) ++ c
@@ -90,37 +90,37 @@ mutual
 
   act-names : {ws ws' : List Word} {a : Act} → ActIn ws ws' a → Has (calls a) ws ws'
   act-names (plain_in p) = plain-names p
-  act-names (cycle-in {b = b} t q c) = passed 123 refl refl t ∙ then-none (callsAll b) (acts-names q) (passed 125 refl refl c)
-  act-names {ws' = ws'} (choice-in {s = s} {q = q} {o = o} t u b d) =
-      passed 91 refl refl t ∙ then-names (selects s) (callsSome q ++ callsOther o) (namesFrom false ws') (selector-names u) (passed 124 refl refl b ∙ alts-names d)
+  act-names (cycle_in {b = b} t q c) = passed 123 refl refl t ∙ then-none (calls_all b) (acts-names q) (passed 125 refl refl c)
+  act-names {ws' = ws'} (choice_in {s = s} {q = q} {o = o} t u b d) =
+      passed 91 refl refl t ∙ then-names (selects s) (calls_some q ++ calls_other o) (names_from false ws') (selector-names u) (passed 124 refl refl b ∙ alts-names d)
 
-  acts-names : {ws ws' : List Word} {q : Acts} → ActsIn ws ws' q → Has (callsAll q) ws ws'
+  acts-names : {ws ws' : List Word} {q : Acts} → ActsIn ws ws' q → Has (calls_all q) ws ws'
   acts-names (none_in c e) = none_read e
-  acts-names {ws' = ws'} (more-in {a = a} {q = q} c d m) = then-names (calls a) (callsAll q) (namesFrom false ws') (act-names d) (acts-names m)
+  acts-names {ws' = ws'} (more_in {a = a} {q = q} c d m) = then-names (calls a) (calls_all q) (names_from false ws') (act-names d) (acts-names m)
 
-  alts-names : {ws ws' : List Word} {room : ℕ} {q : Alts} {o : Other} → AltsIn ws ws' room q o → Has (callsSome q ++ callsOther o) ws ws'
-  alts-names (other-in {b = b} s c q t) = passed 42 refl refl s ∙ passed 58 refl refl c ∙ then-none (callsAll b) (acts-names q) (passed 93 refl refl t)
-  alts-names {ws' = ws'} (last-in {b = b} l h c q t) =
-      labels l ∙ passed 58 refl refl c ∙ then-none (callsAll b) (acts-names q) (passed 93 refl refl t) ∙ no_more (callsAll b) (namesFrom false ws')
-  alts-names {ws' = ws'} {o = o} (next-in {b = b} {q = q} l h c d t m) =
+  alts-names : {ws ws' : List Word} {room : ℕ} {q : Alts} {o : Other} → AltsIn ws ws' room q o → Has (calls_some q ++ calls_other o) ws ws'
+  alts-names (other_in {b = b} s c q t) = passed 42 refl refl s ∙ passed 58 refl refl c ∙ then-none (calls_all b) (acts-names q) (passed 93 refl refl t)
+  alts-names {ws' = ws'} (last_in {b = b} l h c q t) =
+      labels l ∙ passed 58 refl refl c ∙ then-none (calls_all b) (acts-names q) (passed 93 refl refl t) ∙ no_more (calls_all b) (names_from false ws')
+  alts-names {ws' = ws'} {o = o} (next_in {b = b} {q = q} l h c d t m) =
       labels l ∙ passed 58 refl refl c
-      ∙ assoc (callsAll b) (callsSome q) (callsOther o) (namesFrom false ws') (then-names (callsAll b) (callsSome q ++ callsOther o) (namesFrom false ws') (acts-names d) (passed 124 refl refl t ∙ alts-names m))
+      ∙ assoc (calls_all b) (calls_some q) (calls_other o) (names_from false ws') (then-names (calls_all b) (calls_some q ++ calls_other o) (names_from false ws') (acts-names d) (passed 124 refl refl t ∙ alts-names m))
 
 gives-names : {ws ws' : List Word} {o : Option Word} → GivesIn ws ws' o → Same ws ws'
 gives-names (gives_none n e) = none_read e
-gives-names (gives-some t u) = passed 256 refl refl t ∙ passed 257 refl refl u
+gives-names (gives_some t u) = passed 256 refl refl t ∙ passed 257 refl refl u
 
-rule-names : {ws ws' : List Word} {r : Rule} → RuleIn ws ws' r → namesFrom true ws ≡ r.rule ∷ (callsAll r.body ++ namesFrom true ws')
-rule-names {r = r} (a-rule t g c b e) =
-    a-name t ∙ ap (λ (l : List Word). r.rule ∷ l) (gives-names g ∙ passed 58 refl refl c ∙ then-none (callsAll r.body) (acts-names b) (led 59 refl refl e))
+rule-names : {ws ws' : List Word} {r : Rule} → RuleIn ws ws' r → names_from true ws ≡ r.rule ∷ (calls_all r.body ++ names_from true ws')
+rule-names {r = r} (a_rule t g c b e) =
+    a-name t ∙ ap (λ (l : List Word). r.rule ∷ l) (gives-names g ∙ passed 58 refl refl c ∙ then-none (calls_all r.body) (acts-names b) (led 59 refl refl e))
 
 -- `end` is next
-ends-names : (ws : List Word) → (peek ws).kind ≡ 266 → namesFrom true ws ≡ []
-unfolding peek namesFrom names stops
+ends-names : (ws : List Word) → (peek ws).kind ≡ 266 → names_from true ws ≡ []
+unfolding peek names_from names stops
 ends-names [] e = refl
 ends-names (w ∷ ws) e = rw e refl
 
-pub rules-names : {ws ws' : List Word} {rs : List Rule} → RulesIn ws ws' rs → (peek ws').kind ≡ 266 → namesFrom true ws ≡ mentions rs
+pub rules-names : {ws ws' : List Word} {rs : List Rule} → RulesIn ws ws' rs → (peek ws').kind ≡ 266 → names_from true ws ≡ mentions rs
 unfolding mentions
-rules-names {ws' = ws'} (last-rule {r = r} q m) e = rule-names q ∙ ap (λ (l : List Word). r.rule ∷ (callsAll r.body ++ l)) (ends-names ws' e)
-rules-names (more-rules {r = r} q m l) e = rule-names q ∙ ap (λ (k : List Word). r.rule ∷ (callsAll r.body ++ k)) (rules-names l e)
+rules-names {ws' = ws'} (last_rule {r = r} q m) e = rule-names q ∙ ap (λ (l : List Word). r.rule ∷ (calls_all r.body ++ l)) (ends-names ws' e)
+rules-names (more_rules {r = r} q m l) e = rule-names q ∙ ap (λ (k : List Word). r.rule ∷ (calls_all r.body ++ k)) (rules-names l e)

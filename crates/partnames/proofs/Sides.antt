@@ -4,7 +4,7 @@ use mathlib.Core.Path.{◌≡◌, sym, subst, ◌∙◌}
 use Prim.Native.Nat.{ℕ, ◌+◌, ◌*◌, ◌-◌, ◌≤◌}
 use native.Mathlib.Omega.{arith}
 use lib.ListN.{length}
-use Rattle.declarations.specs.Decls.{EntriesAt, entriesOf}
+use Rattle.declarations.specs.Decls.{EntriesAt, entries_of}
 use Rattle.declarer.specs.declared.Fault.{Fault}
 use Rattle.objects.specs.Places.{HeadsAt}
 use Rattle.parts.specs.Objects.{together}
@@ -28,12 +28,12 @@ common-rows {c = c} l b z = let i = listed-in-text l in rows-alone i (b.common c
 -- Rows that were settled are the same rows
 
 pub rows_settled : {text rows rows' : List ℕ} {n first lines : ℕ} {f : Fault} {c : Common} {rs : List Rule} → Settles text rows rows' n first lines f → RowsOf text rows n first lines c rs → RowsOf text rows' n first lines c rs
-rows_settled {text} s r = record { rows_are = s.same text ∙ r.rows_are; entries = r.entries; first-is = r.first-is; lines_are = r.lines_are }
+rows_settled {text} s r = record { rows_are = s.same text ∙ r.rows_are; entries = r.entries; first_is = r.first_is; lines_are = r.lines_are }
 
-pub entries-held : {text rows : List ℕ} {n first lines : ℕ} {c : Common} {rs : List Rule} → RowsOf text rows n first lines c rs → EntriesAt text (held text rows n) (entriesOf (together c rs))
-entries-held {text} {c = c} {rs} r = subst (λ ds. EntriesAt text ds (entriesOf (together c rs))) (sym r.rows_are) r.entries
+pub entries-held : {text rows : List ℕ} {n first lines : ℕ} {c : Common} {rs : List Rule} → RowsOf text rows n first lines c rs → EntriesAt text (held text rows n) (entries_of (together c rs))
+entries-held {text} {c = c} {rs} r = subst (λ ds. EntriesAt text ds (entries_of (together c rs))) (sym r.rows_are) r.entries
 
 -- and the list's names and types are read off them
 pub heads-of : {text rows heads heads' : List ℕ} {n first lines : ℕ} {c : Common} {rs : List Rule} → RowsOf text rows n first lines c rs → first + lines ≤ n → length heads ≡ 4 * lines
     → CopiesHeads text rows first lines heads heads' → HeadsAt text heads' c.listed
-heads-of {text} {rows} {n = n} {first} {c = c} {rs} r h s a = heads-at text rows n first c rs r.rows_are r.first-is (omega (arith, r.lines_are)) r.lines_are s a
+heads-of {text} {rows} {n = n} {first} {c = c} {rs} r h s a = heads-at text rows n first c rs r.rows_are r.first_is (omega (arith, r.lines_are)) r.lines_are s a

@@ -1,40 +1,40 @@
 -- The names that a part is resolved by, in rows; and the faults of a common part by them.
 use Rattle.std.specs.Prelude.{List, ◌≡◌, ℕ, ◌+◌, length}
 use Rattle.std.proofs.Math.Option.{Option, none, some}
-use Rattle.declarations.specs.Decls.{Agrees, EntriesAt, declsOf, entriesOf}
+use Rattle.declarations.specs.Decls.{Agrees, EntriesAt, decls_of, entries_of}
 use Rattle.declarer.specs.declared.Fault.{Fault}
-use Rattle.names.specs.Declare.{declareSections, knownRules}
+use Rattle.names.specs.Declare.{declare_sections, known_rules}
 use Rattle.names.specs.Known.{Checked, good, wrong, Names}
 use Rattle.names.specs.Understand.{nobody}
-use Rattle.parts.specs.Objects.{commonMeans, together}
+use Rattle.parts.specs.Objects.{common_means, together}
 use Rattle.partnames.specs.declared.Added.{Added}
 use Rattle.symbols.specs.Index.{Kept}
 use Rattle.symbols.specs.Rows.{held}
-use Rattle.syntax.specs.Sections.{namesInAll}
+use Rattle.syntax.specs.Sections.{names_in_all}
 use Rattle.syntax.specs.Texts.{Common}
 use Rattle.syntax.specs.Written.{Rule}
 use Rattle.words.specs.Words.{Word}
 
 -- the rows are those of the sections, the list and the other rules that rs name; or one of these names is past the 512
 pub data Rowed (text rows : List ℕ) (first : ℕ) (r : Added) (c : Common) (rs : List Rule) : Option Word → Type 0 where
-  in_rows : r.fault ≡ 0 → held text rows r.count ≡ declsOf (together c rs) → r.count ≡ first + length (together c rs).rules → Rowed text rows first r c rs none
-  past-names : {w : Word} → r.fault ≡ 9 → r.at ≡ w.start → r.len ≡ length w.text → Rowed text rows first r c rs (some w)
+  in_rows : r.fault ≡ 0 → held text rows r.count ≡ decls_of (together c rs) → r.count ≡ first + length (together c rs).rules → Rowed text rows first r c rs none
+  past_names : {w : Word} → r.fault ≡ 9 → r.at ≡ w.start → r.len ≡ length w.text → Rowed text rows first r c rs (some w)
 
 -- what the first n rows are before they are settled: the first of them that is a rule's, and how many lines the list has
 pub record RowsOf (text rows : List ℕ) (n first lines : ℕ) (c : Common) (rs : List Rule) : Type 0 where
-  pub rows_are : held text rows n ≡ declsOf (together c rs)
-  pub entries : EntriesAt text (declsOf (together c rs)) (entriesOf (together c rs))
-  pub first-is : first ≡ namesInAll c.sections
+  pub rows_are : held text rows n ≡ decls_of (together c rs)
+  pub entries : EntriesAt text (decls_of (together c rs)) (entries_of (together c rs))
+  pub first_is : first ≡ names_in_all c.sections
   pub lines_are : lines ≡ length c.listed
 
 -- the common part's names, or its first fault
 pub data Settled (text rows : List ℕ) (n : ℕ) (r : Fault) (c : Common) (rs : List Rule) : Checked Names → Type 0 where
-  in_order : {names : Names} → r.fault ≡ 0 → declareSections (together c rs) c.sections nobody ≡ good names
-      → Agrees (together c rs) names (knownRules 0 (together c rs).rules) (held text rows n) → Settled text rows n r c rs (good names)
+  in_order : {names : Names} → r.fault ≡ 0 → declare_sections (together c rs) c.sections nobody ≡ good names
+      → Agrees (together c rs) names (known_rules 0 (together c rs).rules) (held text rows n) → Settled text rows n r c rs (good names)
   faulty : {k : ℕ} {w : Word} → r.fault ≡ k → (k ≡ 0 → ⊥) → r.at ≡ w.start → r.len ≡ length w.text → Settled text rows n r c rs (wrong k w)
 
 pub record Settles (text rows rows' : List ℕ) (n first lines : ℕ) (r : Fault) : Type 0 where
   pub size : length rows' ≡ length rows
   pub kept : Kept text rows' n
   pub same : (t : List ℕ) → held t rows' n ≡ held t rows n
-  pub settled : (c : Common) (rs : List Rule) → RowsOf text rows n first lines c rs → Settled text rows' n r c rs (commonMeans c rs)
+  pub settled : (c : Common) (rs : List Rule) → RowsOf text rows n first lines c rs → Settled text rows' n r c rs (common_means c rs)

@@ -1,12 +1,12 @@
 // The names that a part is resolved by: the common part and a further part in one text, and rows for what both declare.
 ghost use Rattle.std.specs.Prelude.{true, ◌≡◌, ◌+◌, ◌*◌, ◌-◌, ◌≤◌, ◌<◌, length, take};
-ghost use Rattle.names.specs.Understand.{isOne};
-ghost use Rattle.partnames.specs.Buffer.{Copies, Fills, partPlace, bothTexts};
+ghost use Rattle.names.specs.Understand.{is_one};
+ghost use Rattle.partnames.specs.Buffer.{Copies, Fills, part_place, both_texts};
 ghost use Rattle.partnames.specs.Declaring.{BeginsLine, SomeLines, Declares};
 ghost use Rattle.partnames.specs.Heads.{Inside, CopiesPart, CopiesHeads};
-ghost use Rattle.partnames.specs.Mentioning.{leads, stops, rulesHeld, Mentions, AddsFrom};
+ghost use Rattle.partnames.specs.Mentioning.{leads, stops, rules_held, Mentions, AddsFrom};
 ghost use Rattle.partnames.specs.Settling.{Settles};
-ghost use Rattle.scanner.specs.Next.{asWord};
+ghost use Rattle.scanner.specs.Next.{as_word};
 ghost use Rattle.symbols.specs.Search.{part};
 
 use base::number;
@@ -72,7 +72,7 @@ fn fill_feeds(buffer: &mut [u8], at: usize, end: usize)
 // Where the further part behind the place `from` is put, the common part being taken before the place `at`.
 pub fn part_place(at: usize, from: usize) -> usize
     requires { at < 65536 }
-    ensures { result ≡ partPlace at from }
+    ensures { result ≡ part_place at from }
 {
     if from <= at {
         return at + 1;
@@ -82,9 +82,9 @@ pub fn part_place(at: usize, from: usize) -> usize
 
 // The common part before the place `at`, a line feed or more, the further part behind the place `from`: how many bytes they are.
 pub fn join(common: &[u8], at: usize, part: &[u8], from: usize, buffer: &mut [u8]) -> usize
-    requires { (at ≤ length common.now) × (at < 65536) × (from ≤ length part.now) × (partPlace at from + (length part.now - from) ≤ length buffer.old) }
-    ensures size { result ≡ partPlace at from + (length part.now - from) }
-    ensures bytes { take result buffer.new ≡ bothTexts common.now at part.now from }
+    requires { (at ≤ length common.now) × (at < 65536) × (from ≤ length part.now) × (part_place at from + (length part.now - from) ≤ length buffer.old) }
+    ensures size { result ≡ part_place at from + (length part.now - from) }
+    ensures bytes { take result buffer.new ≡ both_texts common.now at part.now from }
 {
     copy_bytes(common, 0, at, buffer, 0);
     let next = part_place(at, from);
@@ -169,7 +169,7 @@ pub fn declare(text: &[u8], rows: &mut [u16]) -> Declared
 // The part of the text is the name of one of the rows from `first` on.
 fn is_rule(text: &[u8], rows: &[u16], first: usize, n: usize, start: usize, len: usize) -> bool
     requires { n ≤ 512 }
-    ensures { result ≡ isOne (part text.now start len) (rulesHeld text.now rows.now first n) }
+    ensures { result ≡ is_one (part text.now start len) (rules_held text.now rows.now first n) }
 {
     let mut i = first;
     while i < n {
@@ -206,7 +206,7 @@ fn stops(kind: u16) -> bool
 // A row for the word w, if it names a rule that has none: how many rows there are then, FULL where there was no room for it.
 fn add_name(text: &[u8], rows: &mut [u16], n: usize, first: usize, led: bool, w: WordAt) -> usize
     requires { (first ≤ n) × (n ≤ 512) × (length text.now ≤ 65535) × (w.start + w.len ≤ length text.now) }
-    ensures { Mentions text.now rows.old rows.new first n led (asWord text.now w) result }
+    ensures { Mentions text.now rows.old rows.new first n led (as_word text.now w) result }
 {
     if !led {
         return n;

@@ -8,21 +8,21 @@ use native.Mathlib.Omega.{arith}
 use lib.ListN.{length}
 use Rattle.acceptance.proofs.Shape.{Each}
 use Rattle.acceptance.proofs.Used.{UseOk}
-use Rattle.base.specs.Common.{if◌then◌else◌}
+use Rattle.std.specs.Prelude.{if◌then◌else◌}
 use Rattle.builder.specs.Parts.{ActsDone, place_of}
-use Rattle.declarations.specs.Decls.{Agrees, Decl, EntriesAt, entriesOf, index_of, mapped}
+use Rattle.declarations.specs.Decls.{Agrees, Decl, EntriesAt, entries_of, index_of, mapped}
 use Rattle.maker.proofs.Taking.{levels-used}
-use Rattle.maker.specs.Pairs.{Pair, sectionRow, operand_row, Ordered, AllOrdered, pair_of, pairsMean, PairsAre}
+use Rattle.maker.specs.Pairs.{Pair, section_row, operand_row, Ordered, AllOrdered, pair_of, pairs_mean, PairsAre}
 use Rattle.names.specs.Known.{Checked, KnownRule, Names, good}
-use Rattle.names.specs.Uses.{Use, rulesUses, isUsed, firsts, pairsOf, levelsUsed}
-use Rattle.partpairs.proofs.First.{firstEntries, firstLevels, oneEntry, oneLevel, first-declared, first-agrees, first-levelled, found-one}
+use Rattle.names.specs.Uses.{Use, rules_uses, is_used, firsts, pairs_of, levels_used}
+use Rattle.partpairs.proofs.First.{first_entries, first_levels, one_entry, one_level, first-declared, first-agrees, first-levelled, found-one}
 use Rattle.partpairs.proofs.Same.{acts-same}
 use Rattle.partpairs.specs.Acts.{OpenActs}
 use Rattle.partpairs.specs.Numbers.{numbered, Numbered}
-use Rattle.parts.proofs.Alike.{OneEach, nowhere, there, one_each}
+use Rattle.parts.proofs.Alike.{OneEach, nowhere, there, one_each_lem}
 use Rattle.parts.proofs.Pairs.{together-pairs}
 use Rattle.parts.proofs.Rules.{all-used}
-use Rattle.parts.specs.Objects.{oneEach, openRules, openNames, OpenRule, openAll, together}
+use Rattle.parts.specs.Objects.{one_each, open_rules, open_names, OpenRule, open_all, together}
 use Rattle.resolver.specs.Resolved.{Ends, ended, failed}
 use Rattle.resolver.specs.declared.Built.{Built}
 use Rattle.resolver.specs.declared.Done.{Done}
@@ -39,10 +39,10 @@ found f none e = let z : ◌≡◌ {A = ℕ} 0 1 = cc in absurd (omega (arith, z
 found f (some i) e = refl
 
 module _ {p : Program} {n : Names} {ks : List KnownRule} {ds : List Decl} (ag : Agrees p n ks ds) where
-  open-section : (u : Use) → UseOk (openNames n) ks u → Ordered ds u
-  unfolding sectionRow operand_row openNames
+  open-section : (u : Use) → UseOk (open_names n) ks u → Ordered ds u
+  unfolding section_row operand_row open_names
   open-section u h = record {
-    section = go (one_each u.section.text n.operators);
+    section = go (one_each_lem u.section.text n.operators);
     operand = found _ (index_of 7 u.operand.text 0 ds) (sym (ag.rules u.operand.text) ∙ h.found);
   }
     where
@@ -50,19 +50,19 @@ module _ {p : Program} {n : Names} {ks : List KnownRule} {ds : List Decl} (ag : 
       go (nowhere a b) = let q = sym a ∙ h.section in let z : ◌≡◌ {A = ℕ} 0 1 = cc in absurd (omega (arith, z))
       go (there ls₁ ls a l b) = found _ (index_of 600 u.section.text 0 ds) (sym (ag.operators u.section.text) ∙ b)
 
-  all-open : (us : List Use) → Each (UseOk (openNames n) ks) us → AllOrdered ds us
+  all-open : (us : List Use) → Each (UseOk (open_names n) ks) us → AllOrdered ds us
   unfolding Each AllOrdered
   all-open [] h = tt
   all-open (u ∷ us) h = (open-section u h.0, all-open us h.1)
 
   -- where a part's rules mean something, each of its uses is in order
-  pub opens-ordered : (seen : List (List ℕ)) (rs : List written.Rule) (os : List OpenRule) → openAll p n ks seen rs ≡ good os → AllOrdered ds (rulesUses rs)
-  opens-ordered seen rs os e = all-open (rulesUses rs) (all-used p n ks seen rs os e)
+  pub opens-ordered : (seen : List (List ℕ)) (rs : List written.Rule) (os : List OpenRule) → open_all p n ks seen rs ≡ good os → AllOrdered ds (rules_uses rs)
+  opens-ordered seen rs os e = all-open (rules_uses rs) (all-used p n ks seen rs os e)
 
 pub firsts-ordered : (ds : List Decl) (seen us : List Use) → AllOrdered ds us → AllOrdered ds (firsts seen us)
 unfolding AllOrdered firsts
 firsts-ordered ds seen [] h = tt
-firsts-ordered ds seen (u ∷ us) h = go (isUsed u seen) (firsts-ordered ds seen us h.1) (firsts-ordered ds (u ∷ seen) us h.1)
+firsts-ordered ds seen (u ∷ us) h = go (is_used u seen) (firsts-ordered ds seen us h.1) (firsts-ordered ds (u ∷ seen) us h.1)
   where
     go : (t : Bool) → AllOrdered ds (firsts seen us) → AllOrdered ds (firsts (u ∷ seen) us) → AllOrdered ds (if t then firsts seen us else u ∷ firsts (u ∷ seen) us)
     go true a b = a
@@ -75,35 +75,35 @@ rests : {B : Type 0} {E E' : Type 0} {text : List ℕ} {ws : List Word} {cs : Li
 rests f (ended a b k d) = ended a b (λ e. k (f e)) d
 rests f (failed a b k d) = failed a b k d
 
-module _ {p : Program} {n : Names} {ks : List KnownRule} {ds : List Decl} (ag : Agrees p n ks ds) {text : List ℕ} (en : EntriesAt text ds (entriesOf p)) where
-  one-used : (u : Use) → Ordered ds u → length (levelsUsed (oneLevel ag) u) ≡ 1
-  one-used u o = ap length (levels-used u (first-agrees ag) o) ∙ found-one ag en u.section.text (sectionRow ds u) o.section
+module _ {p : Program} {n : Names} {ks : List KnownRule} {ds : List Decl} (ag : Agrees p n ks ds) {text : List ℕ} (en : EntriesAt text ds (entries_of p)) where
+  one-used : (u : Use) → Ordered ds u → length (levels_used (one_level ag) u) ≡ 1
+  one-used u o = ap length (levels-used u (first-agrees ag) o) ∙ found-one ag en u.section.text (section_row ds u) o.section
 
-  one-each-mean : (own : ℕ) (us : List Use) → AllOrdered ds us → numbered ds own us ≡ pairsMean (oneLevel ag) ds own us
-  unfolding numbered pairsMean AllOrdered
+  one-each-mean : (own : ℕ) (us : List Use) → AllOrdered ds us → numbered ds own us ≡ pairs_mean (one_level ag) ds own us
+  unfolding numbered pairs_mean AllOrdered
   one-each-mean own [] h = refl
   one-each-mean own (u ∷ us) h =
-      let e : suc own ≡ own + length (levelsUsed (oneLevel ag) u) = omega (arith, one-used u h.0) in
-      ap (λ (l : List Pair). pair_of ds own u ∷ l) (ap (λ (k : ℕ). numbered ds k us) e ∙ one-each-mean (own + length (levelsUsed (oneLevel ag) u)) us h.1)
+      let e : suc own ≡ own + length (levels_used (one_level ag) u) = omega (arith, one-used u h.0) in
+      ap (λ (l : List Pair). pair_of ds own u ∷ l) (ap (λ (k : ℕ). numbered ds k us) e ∙ one-each-mean (own + length (levels_used (one_level ag) u)) us h.1)
 
-module _ (c : Common) {names : Names} (rs : List written.Rule) {text rows : List ℕ} {n : ℕ} (ag : Agrees (together c rs) names (openRules c.listed rs) (held text rows n))
-    (en : EntriesAt text (held text rows n) (entriesOf (together c rs))) where
-  pub numbers-mean : Numbered text rows n (length (together c rs).rules) (pairsOf rs) → PairsAre text rows n (oneEntry ag) (oneLevel ag)
+module _ (c : Common) {names : Names} (rs : List written.Rule) {text rows : List ℕ} {n : ℕ} (ag : Agrees (together c rs) names (open_rules c.listed rs) (held text rows n))
+    (en : EntriesAt text (held text rows n) (entries_of (together c rs))) where
+  pub numbers-mean : Numbered text rows n (length (together c rs).rules) (pairs_of rs) → PairsAre text rows n (one_entry ag) (one_level ag)
   numbers-mean h =
       let e = together-pairs c rs in
       record {
-        pairs = h.pairs ∙ (one-each-mean ag en (length (together c rs).rules) (pairsOf rs) h.ordered ∙ ap (pairsMean (oneLevel ag) (held text rows n) (length (together c rs).rules)) (sym e));
+        pairs = h.pairs ∙ (one-each-mean ag en (length (together c rs).rules) (pairs_of rs) h.ordered ∙ ap (pairs_mean (one_level ag) (held text rows n) (length (together c rs).rules)) (sym e));
         ordered = rw e h.ordered;
       }
 
   pub open-acts : {at : ℕ} {inside : Bool} {class : ℕ} {before some : Bool} {cs : List ℕ} {k : ℕ} {cs' : List ℕ} {r : Built}
       → ActsDone text rows n at inside class before some cs k cs' r → OpenActs c names rs text rows n at inside class before some cs k cs' r
-  unfolding openNames
+  unfolding open_names
   open-acts {inside = inside} {class} d = record {
     kept = d.kept;
     done = λ q ws x.
         let at = place_of (held text rows n) inside class in
-        let e = acts-same (together c rs) (firstEntries (together c rs).sections) names (firstLevels (held text rows n) (entriesOf (oneEntry ag)) names.operators) (oneEach names.operators)
-        (openRules c.listed rs) (first-declared (together c rs)) (first-levelled ag en) q at in
-        rw e at (rests numbers-mean (d.done (oneEntry ag) (oneLevel ag) (openRules c.listed rs) (first-agrees ag) q ws x));
+        let e = acts-same (together c rs) (first_entries (together c rs).sections) names (first_levels (held text rows n) (entries_of (one_entry ag)) names.operators) (one_each names.operators)
+        (open_rules c.listed rs) (first-declared (together c rs)) (first-levelled ag en) q at in
+        rw e at (rests numbers-mean (d.done (one_entry ag) (one_level ag) (open_rules c.listed rs) (first-agrees ag) q ws x));
   }

@@ -11,21 +11,21 @@ use Rattle.base.specs.Common.{given}
 use Rattle.declarations.specs.Decls.{Decl}
 use Rattle.maker.proofs.Holding.{section-is, operand-is, tells-given, tells-not}
 use Rattle.maker.proofs.Walking.{sign_of}
-use Rattle.maker.specs.Marks.{behind, useOf}
+use Rattle.maker.specs.Marks.{behind, use_of}
 use Rattle.maker.specs.Pairing as made
-use Rattle.maker.specs.Pairing.{Adds, Finds, isThere}
-use Rattle.maker.specs.Pairs.{pairsHeld, lookPair, operand_row, pair_of}
+use Rattle.maker.specs.Pairing.{Adds, Finds, is_there}
+use Rattle.maker.specs.Pairs.{pairs_held, look_pair, operand_row, pair_of}
 use Rattle.maker.specs.declared.Used.{Used}
 use Rattle.names.specs.Uses.{Use}
 use Rattle.partpairs.specs.Pairing.{UseAt, UseRead, count_of, Goes, again, added, full, UseDone, WordDone}
 use Rattle.places.proofs.Heres.{head-here}
-use Rattle.scanner.specs.Next.{Next, asWord}
+use Rattle.scanner.specs.Next.{Next, as_word}
 use Rattle.scanner.specs.declared.WordAt.{WordAt}
 use Rattle.symbols.proofs.Indexing.{index_same}
 use Rattle.symbols.specs.Rows.{held}
 use Rattle.symbols.specs.Search.{Tells}
 use Rattle.syntax.specs.Reading.{peek}
-use Rattle.words.specs.Words.{Word, wordsAt}
+use Rattle.words.specs.Words.{Word, words_at}
 
 -- The words of a use
 
@@ -33,9 +33,9 @@ same-use : {s s' a a' b b' : Word} → s ≡ s' → a ≡ a' → b ≡ b' → �
 same-use p q r = rw (p, q, r) refl
 
 -- at the place of a `^`
-at_sign : (text : List ℕ) (i : ℕ) {w : WordAt} → Next text i w → w.kind ≡ 94 → useOf (peek (wordsAt text i)) (behind (wordsAt text i)) ≡ useOf (asWord text w) (wordsAt text w.next)
+at_sign : (text : List ℕ) (i : ℕ) {w : WordAt} → Next text i w → w.kind ≡ 94 → use_of (peek (words_at text i)) (behind (words_at text i)) ≡ use_of (as_word text w) (words_at text w.next)
 unfolding peek behind
-at_sign text i h k = ap (λ (ws : List Word). useOf (peek ws) (behind ws)) (h.more (omega (arith, k)))
+at_sign text i h k = ap (λ (ws : List Word). use_of (peek ws) (behind ws)) (h.more (omega (arith, k)))
 
 pub words-read : (text : List ℕ) (i : ℕ) {w s c o : WordAt} → Next text i w → Next text w.next s → Next text s.next c → Next text c.next o
     → UseRead text i (record { sign = w; section = s; operand = o })
@@ -44,27 +44,27 @@ words-read text i {w} {s} {c} {o} nw ns nc nq = record {
   words = words;
 }
   where
-    words : (u : Use) → UseAt text i u → record { sign = asWord text w; section = asWord text s; operand = asWord text o } ≡ u
-    words u h = same-use (sym (sign_of (asWord text w) (wordsAt text w.next))) (sym (section-is text w.next ns nc nq (asWord text w) named)) (sym (operand-is text w.next ns nc nq (asWord text w) named)) ∙ sym whole
+    words : (u : Use) → UseAt text i u → record { sign = as_word text w; section = as_word text s; operand = as_word text o } ≡ u
+    words u h = same-use (sym (sign_of (as_word text w) (words_at text w.next))) (sym (section-is text w.next ns nc nq (as_word text w) named)) (sym (operand-is text w.next ns nc nq (as_word text w) named)) ∙ sym whole
       where
-        first : asWord text w ≡ u.sign
-        first = sym (head-here text i w nw) ∙ (sym (sign_of (peek (wordsAt text i)) (behind (wordsAt text i))) ∙ ap (λ (v : Use). v.sign) h.is)
+        first : as_word text w ≡ u.sign
+        first = sym (head-here text i w nw) ∙ (sym (sign_of (peek (words_at text i)) (behind (words_at text i))) ∙ ap (λ (v : Use). v.sign) h.is)
 
         caret : w.kind ≡ 94
         caret = ap (λ (v : Word). v.kind) first ∙ h.sign
 
-        whole : u ≡ useOf (asWord text w) (wordsAt text w.next)
+        whole : u ≡ use_of (as_word text w) (words_at text w.next)
         whole = sym h.is ∙ at_sign text i nw caret
 
-        named : (useOf (asWord text w) (wordsAt text w.next)).operand.kind ≡ 257
+        named : (use_of (as_word text w) (words_at text w.next)).operand.kind ≡ 257
         named = ap (λ (v : Use). v.operand.kind) (sym whole) ∙ h.operand
 
 -- the use of a `^` stands there
-pub stands_at : (text : List ℕ) (i : ℕ) {w : WordAt} → i ≤ length text → Next text i w → w.kind ≡ 94 → (useOf (asWord text w) (wordsAt text w.next)).operand.kind ≡ 257
-    → UseAt text i (useOf (asWord text w) (wordsAt text w.next))
+pub stands_at : (text : List ℕ) (i : ℕ) {w : WordAt} → i ≤ length text → Next text i w → w.kind ≡ 94 → (use_of (as_word text w) (words_at text w.next)).operand.kind ≡ 257
+    → UseAt text i (use_of (as_word text w) (words_at text w.next))
 stands_at text i {w} low h k named = record {
   inside = low;
-  sign = ap (λ (v : Word). v.kind) (sign_of (asWord text w) (wordsAt text w.next)) ∙ k;
+  sign = ap (λ (v : Word). v.kind) (sign_of (as_word text w) (words_at text w.next)) ∙ k;
   operand = named;
   is = at_sign text i h k;
 }
@@ -79,11 +79,11 @@ pub use-missing : {text rows signs : List ℕ} {n own at next : ℕ} {u : Used} 
 use-missing few r e = record { goes = goes_same few; takes = λ w k q. never (sym e ∙ (r.finds w k q).there) }
 
 abbrev Looked : List ℕ → Used → ℕ → Type 0
-Looked rows u v = Tells v (lookPair u.section u.operand (pairsHeld rows))
+Looked rows u v = Tells v (look_pair u.section u.operand (pairs_held rows))
 
-is-there : {ds : List Decl} (rows : List ℕ) {u : Used} {x : Use} (b : Bool) → given (lookPair u.section u.operand (pairsHeld rows)) ≡ b → Finds ds x u → isThere ds (pairsHeld rows) x ≡ b
+is-there : {ds : List Decl} (rows : List ℕ) {u : Used} {x : Use} (b : Bool) → given (look_pair u.section u.operand (pairs_held rows)) ≡ b → Finds ds x u → is_there ds (pairs_held rows) x ≡ b
 is-there {ds} rows {u} {x} b e f =
-    ap (λ (i : ℕ). given (lookPair i (operand_row ds x) (pairsHeld rows))) (sym f.section) ∙ (ap (λ (i : ℕ). given (lookPair u.section i (pairsHeld rows))) (sym f.operand) ∙ e)
+    ap (λ (i : ℕ). given (look_pair i (operand_row ds x) (pairs_held rows))) (sym f.section) ∙ (ap (λ (i : ℕ). given (look_pair u.section i (pairs_held rows))) (sym f.operand) ∙ e)
 
 pub use-again : {text rows signs : List ℕ} {n own at next v : ℕ} {u : Used} → count_of rows ≤ 8192 → made.UseRead text rows n next u → Looked rows u v → v < 65536
     → UseDone text rows signs n own at next rows signs true
@@ -110,7 +110,7 @@ use-added {text} {rows} {rows'} {signs} {signs'} {n} {own} {at} {next} {k = k} {
 }
   where
     pair-as : {x : Use} → Finds (held text rows n) x u
-        → pairsHeld rows ++ (record { section = u.section; operand = u.operand; lowest = own + k } ∷ []) ≡ pairsHeld rows ++ (pair_of (held text rows n) (own + count_of rows) x ∷ [])
+        → pairs_held rows ++ (record { section = u.section; operand = u.operand; lowest = own + k } ∷ []) ≡ pairs_held rows ++ (pair_of (held text rows n) (own + count_of rows) x ∷ [])
     pair-as f = rw (f.section, f.operand, ek) refl
 
     here : get_or signs' (count_of rows) 0 ≡ at

@@ -9,14 +9,14 @@ use lib.ListN.{length, take, drop}
 use lib.Seq.{take_at}
 use Rattle.acceptance.proofs.Shape.{Each}
 use Rattle.base.specs.Common.{given}
-use Rattle.cells.specs.Cells.{actsCells}
+use Rattle.cells.specs.Cells.{acts_cells}
 use Rattle.declarations.specs.Decls.{index_of}
-use Rattle.grammar.specs.Derived.{Took, Not, RuleIn, a-rule, RulesIn, last-rule, more-rules}
+use Rattle.grammar.specs.Derived.{Took, Not, RuleIn, a_rule, RulesIn, last_rule, more_rules}
 use Rattle.maker.proofs.Taking.{row-less}
 use Rattle.names.specs.Known.{Checked, good, wrong, ◌>>=◌}
-use Rattle.parts.specs.Form.{mark_of, bodyCells, ruleWords, rulesWords}
-use Rattle.parts.specs.Moved.{moveOpen, moveOpens}
-use Rattle.parts.specs.Objects.{Aim, OpenRule, openRule, openAll}
+use Rattle.parts.specs.Form.{mark_of, body_cells, rule_words, rules_words}
+use Rattle.parts.specs.Moved.{move_open, move_opens}
+use Rattle.parts.specs.Objects.{Aim, OpenRule, open_rule, open_all}
 use Rattle.parts.specs.Sound.{frame, SoundRule}
 use Rattle.partwriter.proofs.Putting.{puts_then, puts-same}
 use Rattle.partwriter.specs.Put.{Puts, back}
@@ -24,21 +24,21 @@ use Rattle.places.proofs.Heres.{Same, took-here, kind-here}
 use Rattle.resolver.proofs.Appending.{appends-whole}
 use Rattle.resolver.specs.Resolved.{Ends, ended, failed}
 use Rattle.resolver.specs.declared.Done.{Done}
-use Rattle.scanner.specs.Next.{Next, asWord}
+use Rattle.scanner.specs.Next.{Next, as_word}
 use Rattle.scanner.specs.declared.WordAt.{WordAt}
 use Rattle.symbols.specs.Rows.{held}
 use Rattle.symbols.specs.Search.{part}
 use Rattle.syntax.specs.Reading.{peek}
 use Rattle.syntax.specs.Texts.{Head}
 use Rattle.syntax.specs.Written as written
-use Rattle.words.specs.Words.{Word, wordsAt}
+use Rattle.words.specs.Words.{Word, words_at}
 use Rattle.partrules.proofs.Marking.{turned, marks-are}
 use Rattle.partrules.proofs.Opening.{open-means}
 use Rattle.partrules.proofs.Seeing.{seen_more}
 use Rattle.partrules.proofs.Writing.{rule-words}
-use Rattle.partrules.specs.Marks.{markBy, turnCells}
-use Rattle.partrules.specs.Opened.{marking, SeenAre, Context, aimsIn, Holds, Able, openBy, OpensAs, RuleRead, RuleEnd, rule-made, rule-faulty, RuleDone, RulesEnd, rules-made, rules-faulty, RulesDone}
-use Rattle.partrules.specs.Words.{ruleHere, RulePut}
+use Rattle.partrules.specs.Marks.{mark_by, turn_cells}
+use Rattle.partrules.specs.Opened.{marking, SeenAre, Context, aims_in, Holds, Able, open_by, OpensAs, RuleRead, RuleEnd, rule_made, rule_faulty, RuleDone, RulesEnd, rules_made, rules_faulty, RulesDone}
+use Rattle.partrules.specs.Words.{rule_here, RulePut}
 use Rattle.partrules.specs.declared.Rules.{Rules}
 
 -- The marks of a sound rule
@@ -48,12 +48,12 @@ unfolding frame
 frame-length hs [] = refl
 frame-length hs (a ∷ aims) = ap suc (frame-length hs aims)
 
-sound-marks : (x : Context) (first : ℕ) (o : OpenRule) → first ≡ length x.listed + length x.others → SoundRule x.listed (aimsIn x) o
-    → turnCells (markBy first) (actsCells o.means.body []) ≡ bodyCells (aimsIn x) first o.means.body
-unfolding bodyCells aimsIn
+sound-marks : (x : Context) (first : ℕ) (o : OpenRule) → first ≡ length x.listed + length x.others → SoundRule x.listed (aims_in x) o
+    → turn_cells (mark_by first) (acts_cells o.means.body []) ≡ body_cells (aims_in x) first o.means.body
+unfolding body_cells aims_in
 sound-marks x first o f s =
-    turned (markBy first) (mark_of (aimsIn x) first) (frame x.listed (aimsIn x))
-    (λ i l. marks-are x.listed x.others x.uses (aimsIn x) first i refl f (omega (arith, l, frame-length x.listed (aimsIn x))))
+    turned (mark_by first) (mark_of (aims_in x) first) (frame x.listed (aims_in x))
+    (λ i l. marks-are x.listed x.others x.uses (aims_in x) first i refl f (omega (arith, l, frame-length x.listed (aims_in x))))
     o.means.body o.means.valued false s.in_order s.few
 
 -- One rule
@@ -61,17 +61,17 @@ sound-marks x first o f s =
 pub rule-fails : {text rows seen cs cs' object : List ℕ} {n first moved at c : ℕ} {d : Done} → RuleRead text rows n at seen cs cs' d → (d.fault ≡ 0 → ⊥) → RuleDone text rows n first moved at seen cs object c seen object d
 rule-fails {text} {rows} {seen} {cs} {cs'} {object} {n} {first} {moved} {at} {c} {d} R nz = record { high = λ z. absurd (nz z); done = go }
   where
-    pick : {ws : List Word} {x : Context} {r : written.Rule} {marks : Type 0} (m : Checked OpenRule) → Ends (x.sure ≡ true) text ws cs 0 cs' (λ o. actsCells o.means.body []) (OpensAs r) d m
+    pick : {ws : List Word} {x : Context} {r : written.Rule} {marks : Type 0} (m : Checked OpenRule) → Ends (x.sure ≡ true) text ws cs 0 cs' (λ o. acts_cells o.means.body []) (OpensAs r) d m
         → RuleEnd text ws moved first x object c object marks d m
     pick (good o) (ended e here app p) = absurd (nz e)
-    pick (wrong k w) (failed e z a l) = rule-faulty e z a l
+    pick (wrong k w) (failed e z a l) = rule_faulty e z a l
 
-    go : (x : Context) → Holds text rows n first x → (before : List (List ℕ)) → SeenAre (held text rows n) before seen → (r : written.Rule) (ws : List Word) → RuleIn (wordsAt text at) ws r
+    go : (x : Context) → Holds text rows n first x → (before : List (List ℕ)) → SeenAre (held text rows n) before seen → (r : written.Rule) (ws : List Word) → RuleIn (words_at text at) ws r
         → Able (held text rows n) (length cs) x r
-        → RuleEnd text ws moved first x object c object (SeenAre (held text rows n) (r.rule.text ∷ before) seen) d (openRule x.program x.names x.known before r)
+        → RuleEnd text ws moved first x object c object (SeenAre (held text rows n) (r.rule.text ∷ before) seen) d (open_rule x.program x.names x.known before r)
     go x H before S r ws i A =
         subst (λ m. RuleEnd text ws moved first x object c object (SeenAre (held text rows n) (r.rule.text ∷ before) seen) d m) (sym (open-means x (held text rows n) before seen r H.agrees S))
-        (pick (openBy x (held text rows n) seen r) (R.done first x H r ws i))
+        (pick (open_by x (held text rows n) seen r) (R.done first x H r ws i))
 
 pub rule-writes : {text rows seen seen' cs object object' : List ℕ} (cs' : List ℕ) {n first moved at c : ℕ} (d : Done) {d₂ : Done} {w : WordAt} {size : ℕ} → n ≤ length seen → RuleRead text rows n at seen cs cs' d → d.fault ≡ 0
     → size ≡ min d.count (length cs') → RulePut text at moved first (take size cs') object c object' d₂.count → Next text at w
@@ -92,113 +92,113 @@ rule-writes {text} {rows} {seen} {seen'} {cs} {object} {object'} cs' {n} {first}
             (seen_more (held text rows n) before seen r.rule.text S j q (omega (arith, few, row-less text rows n 7 r.rule.text j q)))
 
     pick : {ws : List Word} {r : written.Rule} {more : Type 0} (x : Context) (m : Checked OpenRule) → first ≡ length x.listed + length x.others
-        → (x.sure ≡ true → (o : OpenRule) → m ≡ good o → SoundRule x.listed (aimsIn x) o) → (x.sure ≡ true → (o : OpenRule) → m ≡ good o → length (actsCells o.means.body []) ≤ length cs)
-        → Puts object c (ruleHere moved first (take size cs') r) object' d₂.count → more
-        → Ends (x.sure ≡ true) text ws cs 0 cs' (λ o. actsCells o.means.body []) (OpensAs r) d m → RuleEnd text ws moved first x object c object' more d₂ m
-    pick {ws} {r} x (good o) p s v q more (ended y here app so) = rule-made f (here ∙ ap (wordsAt text) (sym g)) (λ h.
+        → (x.sure ≡ true → (o : OpenRule) → m ≡ good o → SoundRule x.listed (aims_in x) o) → (x.sure ≡ true → (o : OpenRule) → m ≡ good o → length (acts_cells o.means.body []) ≤ length cs)
+        → Puts object c (rule_here moved first (take size cs') r) object' d₂.count → more
+        → Ends (x.sure ≡ true) text ws cs 0 cs' (λ o. acts_cells o.means.body []) (OpensAs r) d m → RuleEnd text ws moved first x object c object' more d₂ m
+    pick {ws} {r} x (good o) p s v q more (ended y here app so) = rule_made f (here ∙ ap (words_at text) (sym g)) (λ h.
         let fits : d.count ≤ length cs = omega (arith, v h o refl, (app h).count) in
         let a = appends-whole (app h) fits in
         let i : size ≡ d.count = omega (arith, l, fits, R.same) in
-        let t : take size cs' ≡ actsCells o.means.body [] = ap (λ j. take j cs') i ∙ ap (take d.count) a.1 ∙ take_at (actsCells o.means.body []) (drop (length (actsCells o.means.body [])) cs) d.count a.0 in
-        let k = ap (λ cells. ruleHere moved first cells r) t ∙ rule-words (aimsIn x) first moved r o so.name so.gives so.calls (sound-marks x first o p (s h o refl)) in
+        let t : take size cs' ≡ acts_cells o.means.body [] = ap (λ j. take j cs') i ∙ ap (take d.count) a.1 ∙ take_at (acts_cells o.means.body []) (drop (length (acts_cells o.means.body [])) cs) d.count a.0 in
+        let k = ap (λ cells. rule_here moved first cells r) t ∙ rule-words (aims_in x) first moved r o so.name so.gives so.calls (sound-marks x first o p (s h o refl)) in
         puts-same k q) more
     pick x (wrong k v) p s u q more (failed y nz a m) = absurd (nz (sym y ∙ z))
 
-    go : (x : Context) → Holds text rows n first x → (before : List (List ℕ)) → SeenAre (held text rows n) before seen → (r : written.Rule) (ws : List Word) → RuleIn (wordsAt text at) ws r
+    go : (x : Context) → Holds text rows n first x → (before : List (List ℕ)) → SeenAre (held text rows n) before seen → (r : written.Rule) (ws : List Word) → RuleIn (words_at text at) ws r
         → Able (held text rows n) (length cs) x r
-        → RuleEnd text ws moved first x object c object' (SeenAre (held text rows n) (r.rule.text ∷ before) seen') d₂ (openRule x.program x.names x.known before r)
-    go x H before S r ws (a-rule {colon = colon} {ws₁ = ws₁} {ws₂ = ws₂} {ws₃ = ws₃} {ws₄ = ws₄} y i u a b) A =
+        → RuleEnd text ws moved first x object c object' (SeenAre (held text rows n) (r.rule.text ∷ before) seen') d₂ (open_rule x.program x.names x.known before r)
+    go x H before S r ws (a_rule {colon = colon} {ws₁ = ws₁} {ws₂ = ws₂} {ws₃ = ws₃} {ws₄ = ws₄} y i u a b) A =
         let k = open-means x (held text rows n) before seen r H.agrees S in
-        let j : RuleIn (wordsAt text at) ws r = a-rule y i u a b in
+        let j : RuleIn (words_at text at) ws r = a_rule y i u a b in
         subst (λ m. RuleEnd text ws moved first x object c object' (SeenAre (held text rows n) (r.rule.text ∷ before) seen') d₂ m) (sym k)
-        (pick x (openBy x (held text rows n) seen r) H.pairs (λ h o q. A.sound h before o (k ∙ q)) (λ h o q. A.fits h before o (k ∙ q)) (P.done r ws j)
+        (pick x (open_by x (held text rows n) seen r) H.pairs (λ h o q. A.sound h before o (k ∙ q)) (λ h o q. A.fits h before o (k ∙ q)) (P.done r ws j)
         (marks before r ws₁ S (took-here text at 257 w r.rule ws₁ (omega arith) N y) A.row) (R.done first x H r ws j))
 
 -- The rules
 
-alone : (aims : List Aim) (first moved : ℕ) (o : OpenRule) → ruleWords aims first (moveOpen (back moved) o) ≡ rulesWords aims first (moveOpens (back moved) (o ∷ []))
-unfolding rulesWords moveOpens
-alone aims first moved o = sym (append-nil (ruleWords aims first (moveOpen (back moved) o)))
+alone : (aims : List Aim) (first moved : ℕ) (o : OpenRule) → rule_words aims first (move_open (back moved) o) ≡ rules_words aims first (move_opens (back moved) (o ∷ []))
+unfolding rules_words move_opens
+alone aims first moved o = sym (append-nil (rule_words aims first (move_open (back moved) o)))
 
 more-words : (aims : List Aim) (first moved : ℕ) (o : OpenRule) (os : List OpenRule)
-    → ruleWords aims first (moveOpen (back moved) o) ++ rulesWords aims first (moveOpens (back moved) os) ≡ rulesWords aims first (moveOpens (back moved) (o ∷ os))
-unfolding rulesWords moveOpens
+    → rule_words aims first (move_open (back moved) o) ++ rules_words aims first (move_opens (back moved) os) ≡ rules_words aims first (move_opens (back moved) (o ∷ os))
+unfolding rules_words move_opens
 more-words aims first moved o os = refl
 
 pub rules-fail : {text rows seen seen' cs object object' : List ℕ} {n first moved k at c : ℕ} {d : Done} {a : Rules} → RuleDone text rows n first moved at seen cs object c seen' object' d → (d.fault ≡ 0 → ⊥)
     → a.fault ≡ d.fault → a.at ≡ d.at → a.len ≡ d.len → RulesDone text rows n first moved k at (length cs) seen object c object' a
-unfolding openAll Each
+unfolding open_all Each
 rules-fail {text} {rows} {seen} {seen'} {cs} {object} {object'} {n} {first} {moved} {k} {at} {c} {d} {a} R nz e₁ e₂ e₃ = record { done = go }
   where
     pick : {ws : List Word} {x : Context} {marks : Type 0} (m : Checked OpenRule) (rest : OpenRule → Checked (List OpenRule)) → RuleEnd text ws moved first x object c object' marks d m
         → RulesEnd k moved first x object c object' a (◌>>=◌ m rest)
-    pick (good o) rest (rule-made e _ _ _) = absurd (nz e)
-    pick (wrong j w) rest (rule-faulty e z y l) = rules-faulty (e₁ ∙ e) z (e₂ ∙ y) (e₃ ∙ l)
+    pick (good o) rest (rule_made e _ _ _) = absurd (nz e)
+    pick (wrong j w) rest (rule_faulty e z y l) = rules_faulty (e₁ ∙ e) z (e₂ ∙ y) (e₃ ∙ l)
 
-    go : (x : Context) → Holds text rows n first x → (before : List (List ℕ)) → SeenAre (held text rows n) before seen → (rs : List written.Rule) (ws : List Word) → RulesIn (wordsAt text at) ws rs
-        → k + length rs ≤ 128 → Each (Able (held text rows n) (length cs) x) rs → RulesEnd k moved first x object c object' a (openAll x.program x.names x.known before rs)
-    go x H before S (r ∷ []) ws (last-rule i _) q A = pick (openRule x.program x.names x.known before r) _ (R.done x H before S r ws i A.0)
-    go x H before S (r ∷ rs) ws (more-rules {ws₁ = ws₁} i _ _) q A = pick (openRule x.program x.names x.known before r) _ (R.done x H before S r ws₁ i A.0)
+    go : (x : Context) → Holds text rows n first x → (before : List (List ℕ)) → SeenAre (held text rows n) before seen → (rs : List written.Rule) (ws : List Word) → RulesIn (words_at text at) ws rs
+        → k + length rs ≤ 128 → Each (Able (held text rows n) (length cs) x) rs → RulesEnd k moved first x object c object' a (open_all x.program x.names x.known before rs)
+    go x H before S (r ∷ []) ws (last_rule i _) q A = pick (open_rule x.program x.names x.known before r) _ (R.done x H before S r ws i A.0)
+    go x H before S (r ∷ rs) ws (more_rules {ws₁ = ws₁} i _ _) q A = pick (open_rule x.program x.names x.known before r) _ (R.done x H before S r ws₁ i A.0)
 
 pub rules-last : {text rows seen seen' cs object object' : List ℕ} {n first moved k at c : ℕ} {d : Done} {w : WordAt} {a : Rules} → RuleDone text rows n first moved at seen cs object c seen' object' d → d.fault ≡ 0
     → Next text d.at w → (w.kind ≡ 257 → ⊥) → a.fault ≡ 0 → a.rules ≡ k + 1 → a.count ≡ d.count → RulesDone text rows n first moved k at (length cs) seen object c object' a
-unfolding openAll Each
+unfolding open_all Each
 rules-last {text} {rows} {seen} {seen'} {cs} {object} {object'} {n} {first} {moved} {k} {at} {c} {d} {w} {a} R z N nk e₁ e₂ e₃ = record { done = go }
   where
     pick : {ws : List Word} {x : Context} {marks : Type 0} (m : Checked OpenRule) → RuleEnd text ws moved first x object c object' marks d m
         → RulesEnd k moved first x object c object' a (◌>>=◌ m (λ o. good (o ∷ [])))
-    pick {x = x} (good o) (rule-made e here p _) = rules-made {os = o ∷ []} e₁ e₂ (λ h. subst (λ m. Puts object c (rulesWords (aimsIn x) first (moveOpens (back moved) (o ∷ []))) object' m) (sym e₃) (puts-same (alone (aimsIn x) first moved o) (p h)))
-    pick (wrong j v) (rule-faulty e y _ _) = absurd (y (sym e ∙ z))
+    pick {x = x} (good o) (rule_made e here p _) = rules_made {os = o ∷ []} e₁ e₂ (λ h. subst (λ m. Puts object c (rules_words (aims_in x) first (move_opens (back moved) (o ∷ []))) object' m) (sym e₃) (puts-same (alone (aims_in x) first moved o) (p h)))
+    pick (wrong j v) (rule_faulty e y _ _) = absurd (y (sym e ∙ z))
 
     no : {ws₁ : List Word} {x : Context} {marks : Type 0} {B : Type 0} (m : Checked OpenRule) → RuleEnd text ws₁ moved first x object c object' marks d m → (peek ws₁).kind ≡ 257 → B
-    no (good o) (rule-made e here p _) t = absurd (nk (sym (kind-here text d.at w N) ∙ ap (λ l. (peek l).kind) (sym here) ∙ t))
-    no (wrong j v) (rule-faulty e y _ _) t = absurd (y (sym e ∙ z))
+    no (good o) (rule_made e here p _) t = absurd (nk (sym (kind-here text d.at w N) ∙ ap (λ l. (peek l).kind) (sym here) ∙ t))
+    no (wrong j v) (rule_faulty e y _ _) t = absurd (y (sym e ∙ z))
 
-    go : (x : Context) → Holds text rows n first x → (before : List (List ℕ)) → SeenAre (held text rows n) before seen → (rs : List written.Rule) (ws : List Word) → RulesIn (wordsAt text at) ws rs
-        → k + length rs ≤ 128 → Each (Able (held text rows n) (length cs) x) rs → RulesEnd k moved first x object c object' a (openAll x.program x.names x.known before rs)
-    go x H before S (r ∷ []) ws (last-rule i _) q A = pick (openRule x.program x.names x.known before r) (R.done x H before S r ws i A.0)
-    go x H before S (r ∷ rs) ws (more-rules {ws₁ = ws₁} i t _) q A = no (openRule x.program x.names x.known before r) (R.done x H before S r ws₁ i A.0) t
+    go : (x : Context) → Holds text rows n first x → (before : List (List ℕ)) → SeenAre (held text rows n) before seen → (rs : List written.Rule) (ws : List Word) → RulesIn (words_at text at) ws rs
+        → k + length rs ≤ 128 → Each (Able (held text rows n) (length cs) x) rs → RulesEnd k moved first x object c object' a (open_all x.program x.names x.known before rs)
+    go x H before S (r ∷ []) ws (last_rule i _) q A = pick (open_rule x.program x.names x.known before r) (R.done x H before S r ws i A.0)
+    go x H before S (r ∷ rs) ws (more_rules {ws₁ = ws₁} i t _) q A = no (open_rule x.program x.names x.known before r) (R.done x H before S r ws₁ i A.0) t
 
 pub rules-over : {text rows seen seen' cs object object' : List ℕ} {n first moved k at c : ℕ} {d : Done} {w : WordAt} {a : Rules} → RuleDone text rows n first moved at seen cs object c seen' object' d → d.fault ≡ 0
     → Next text d.at w → w.kind ≡ 257 → k + 1 ≡ 128 → RulesDone text rows n first moved k at (length cs) seen object c object' a
-unfolding openAll Each
+unfolding open_all Each
 rules-over {text} {rows} {seen} {seen'} {cs} {object} {object'} {n} {first} {moved} {k} {at} {c} {d} {w} {a} R z N e full = record { done = go }
   where
     no : {ws : List Word} {x : Context} {marks : Type 0} {B : Type 0} (m : Checked OpenRule) → RuleEnd text ws moved first x object c object' marks d m → Not 257 ws → B
-    no (good o) (rule-made _ here p _) t = absurd (t (ap (λ l. (peek l).kind) here ∙ kind-here text d.at w N ∙ e))
-    no (wrong j v) (rule-faulty f y _ _) t = absurd (y (sym f ∙ z))
+    no (good o) (rule_made _ here p _) t = absurd (t (ap (λ l. (peek l).kind) here ∙ kind-here text d.at w N ∙ e))
+    no (wrong j v) (rule_faulty f y _ _) t = absurd (y (sym f ∙ z))
 
     longer : {ws ws' : List Word} (rs : List written.Rule) → RulesIn ws ws' rs → 0 < length rs
-    longer rs (last-rule _ _) = omega arith
-    longer rs (more-rules _ _ _) = omega arith
+    longer rs (last_rule _ _) = omega arith
+    longer rs (more_rules _ _ _) = omega arith
 
-    go : (x : Context) → Holds text rows n first x → (before : List (List ℕ)) → SeenAre (held text rows n) before seen → (rs : List written.Rule) (ws : List Word) → RulesIn (wordsAt text at) ws rs
-        → k + length rs ≤ 128 → Each (Able (held text rows n) (length cs) x) rs → RulesEnd k moved first x object c object' a (openAll x.program x.names x.known before rs)
-    go x H before S (r ∷ []) ws (last-rule i t) q A = no (openRule x.program x.names x.known before r) (R.done x H before S r ws i A.0) t
-    go x H before S (r ∷ rs) ws (more-rules i _ more) q A = absurd (omega (arith, q, full, longer rs more))
+    go : (x : Context) → Holds text rows n first x → (before : List (List ℕ)) → SeenAre (held text rows n) before seen → (rs : List written.Rule) (ws : List Word) → RulesIn (words_at text at) ws rs
+        → k + length rs ≤ 128 → Each (Able (held text rows n) (length cs) x) rs → RulesEnd k moved first x object c object' a (open_all x.program x.names x.known before rs)
+    go x H before S (r ∷ []) ws (last_rule i t) q A = no (open_rule x.program x.names x.known before r) (R.done x H before S r ws i A.0) t
+    go x H before S (r ∷ rs) ws (more_rules i _ more) q A = absurd (omega (arith, q, full, longer rs more))
 
 pub rules-next : {text rows seen seen' cs object object' object'' : List ℕ} {n first moved k at c : ℕ} {d : Done} {w : WordAt} {a : Rules} → RuleDone text rows n first moved at seen cs object c seen' object' d → d.fault ≡ 0
     → Next text d.at w → w.kind ≡ 257 → RulesDone text rows n first moved (k + 1) d.at (length cs) seen' object' d.count object'' a → RulesDone text rows n first moved k at (length cs) seen object c object'' a
-unfolding openAll Each
+unfolding open_all Each
 rules-next {text} {rows} {seen} {seen'} {cs} {object} {object'} {object''} {n} {first} {moved} {k} {at} {c} {d} {w} {a} R z N e T = record { done = go }
   where
     no : {ws : List Word} {x : Context} {marks : Type 0} {B : Type 0} (m : Checked OpenRule) → RuleEnd text ws moved first x object c object' marks d m → Not 257 ws → B
-    no (good o) (rule-made _ here p _) t = absurd (t (ap (λ l. (peek l).kind) here ∙ kind-here text d.at w N ∙ e))
-    no (wrong j v) (rule-faulty f y _ _) t = absurd (y (sym f ∙ z))
+    no (good o) (rule_made _ here p _) t = absurd (t (ap (λ l. (peek l).kind) here ∙ kind-here text d.at w N ∙ e))
+    no (wrong j v) (rule_faulty f y _ _) t = absurd (y (sym f ∙ z))
 
-    join : {x : Context} (o : OpenRule) (m : Checked (List OpenRule)) → (x.sure ≡ true → Puts object c (ruleWords (aimsIn x) first (moveOpen (back moved) o)) object' d.count)
+    join : {x : Context} (o : OpenRule) (m : Checked (List OpenRule)) → (x.sure ≡ true → Puts object c (rule_words (aims_in x) first (move_open (back moved) o)) object' d.count)
         → RulesEnd (k + 1) moved first x object' d.count object'' a m → RulesEnd k moved first x object c object'' a (◌>>=◌ m (λ os. good (o ∷ os)))
-    join {x} o (good os) p (rules-made f g q) = rules-made {os = o ∷ os} f (omega (arith, g)) (λ h. puts-same (more-words (aimsIn x) first moved o os) (puts_then (p h) (q h)))
-    join o (wrong j v) p (rules-faulty f y g h) = rules-faulty f y g h
+    join {x} o (good os) p (rules_made f g q) = rules_made {os = o ∷ os} f (omega (arith, g)) (λ h. puts-same (more-words (aims_in x) first moved o os) (puts_then (p h) (q h)))
+    join o (wrong j v) p (rules_faulty f y g h) = rules_faulty f y g h
 
     pick : {x : Context} {ws₁ : List Word} {marks : Type 0} (m : Checked OpenRule) (rest : Checked (List OpenRule)) → RuleEnd text ws₁ moved first x object c object' marks d m
-        → (marks → ws₁ ≡ wordsAt text d.at → RulesEnd (k + 1) moved first x object' d.count object'' a rest) → RulesEnd k moved first x object c object'' a (◌>>=◌ m (λ o. ◌>>=◌ rest (λ os. good (o ∷ os))))
-    pick (good o) rest (rule-made _ here p s) next = join o rest p (next s here)
-    pick (wrong j v) rest (rule-faulty f y _ _) next = absurd (y (sym f ∙ z))
+        → (marks → ws₁ ≡ words_at text d.at → RulesEnd (k + 1) moved first x object' d.count object'' a rest) → RulesEnd k moved first x object c object'' a (◌>>=◌ m (λ o. ◌>>=◌ rest (λ os. good (o ∷ os))))
+    pick (good o) rest (rule_made _ here p s) next = join o rest p (next s here)
+    pick (wrong j v) rest (rule_faulty f y _ _) next = absurd (y (sym f ∙ z))
 
-    go : (x : Context) → Holds text rows n first x → (before : List (List ℕ)) → SeenAre (held text rows n) before seen → (rs : List written.Rule) (ws : List Word) → RulesIn (wordsAt text at) ws rs
-        → k + length rs ≤ 128 → Each (Able (held text rows n) (length cs) x) rs → RulesEnd k moved first x object c object'' a (openAll x.program x.names x.known before rs)
-    go x H before S (r ∷ []) ws (last-rule i t) q A = no (openRule x.program x.names x.known before r) (R.done x H before S r ws i A.0) t
-    go x H before S (r ∷ rs) ws (more-rules {ws₁ = ws₁} i _ more) q A =
-        pick (openRule x.program x.names x.known before r) (openAll x.program x.names x.known (r.rule.text ∷ before) rs) (R.done x H before S r ws₁ i A.0)
+    go : (x : Context) → Holds text rows n first x → (before : List (List ℕ)) → SeenAre (held text rows n) before seen → (rs : List written.Rule) (ws : List Word) → RulesIn (words_at text at) ws rs
+        → k + length rs ≤ 128 → Each (Able (held text rows n) (length cs) x) rs → RulesEnd k moved first x object c object'' a (open_all x.program x.names x.known before rs)
+    go x H before S (r ∷ []) ws (last_rule i t) q A = no (open_rule x.program x.names x.known before r) (R.done x H before S r ws i A.0) t
+    go x H before S (r ∷ rs) ws (more_rules {ws₁ = ws₁} i _ more) q A =
+        pick (open_rule x.program x.names x.known before r) (open_all x.program x.names x.known (r.rule.text ∷ before) rs) (R.done x H before S r ws₁ i A.0)
         (λ s here. T.done x H (r.rule.text ∷ before) s rs ws (subst (λ l. RulesIn l ws rs) here more) (omega (arith, q)) A.1)

@@ -11,12 +11,12 @@ use lib.ListN.{length, get_or, set}
 use lib.Seq.{set_out, get_or-set_same, get_or-set_other}
 use Rattle.base.proofs.Laws.{same_refl, same-eq}
 use Rattle.base.specs.Common.{same, given}
-use Rattle.declarations.specs.Decls.{Decl, declOf, index_of}
+use Rattle.declarations.specs.Decls.{Decl, decl_of, index_of}
 use Rattle.maker.proofs.Taking.{row_at, row-less}
-use Rattle.names.specs.Understand.{isOne}
+use Rattle.names.specs.Understand.{is_one}
 use Rattle.symbols.specs.Rows.{held, number_of}
 use Rattle.symbols.specs.Search.{Tells, there, nowhere}
-use Rattle.partrules.specs.Opened.{marked, marking, SeenAre, takenBy}
+use Rattle.partrules.specs.Opened.{marked, marking, SeenAre, taken_by}
 
 get_d_past : (l : List ℕ) (i : ℕ) → length l ≤ i → get_or l i 0 ≡ 0
 get_d_past [] i h = refl
@@ -34,16 +34,16 @@ class-stays class past h = rw (le-ltb 0 class h) refl
 
 -- A name
 
-pub operation-taken : (ds : List Decl) (seen w : List ℕ) {r : ℕ} → Tells r (index_of 6 w 0 ds) → r < 65536 → true ≡ takenBy ds seen w
-unfolding takenBy
+pub operation-taken : (ds : List Decl) (seen w : List ℕ) {r : ℕ} → Tells r (index_of 6 w 0 ds) → r < 65536 → true ≡ taken_by ds seen w
+unfolding taken_by
 operation-taken ds seen w {r} t h = go (index_of 6 w 0 ds) t
   where
     go : (o : Option ℕ) → Tells r o → true ≡ (given o || marked seen (index_of 7 w 0 ds))
     go none (nowhere q) = absurd (omega (arith, q, h))
     go (some j) q = refl
 
-pub rule-taken : (ds : List Decl) (seen w : List ℕ) {r s : ℕ} {b : Bool} → length seen ≤ 65536 → Tells r (index_of 6 w 0 ds) → 65536 ≤ r → Tells s (index_of 7 w 0 ds) → b ≡ not (eqb (get_or seen s 0) 0) → b ≡ takenBy ds seen w
-unfolding takenBy marked
+pub rule-taken : (ds : List Decl) (seen w : List ℕ) {r s : ℕ} {b : Bool} → length seen ≤ 65536 → Tells r (index_of 6 w 0 ds) → 65536 ≤ r → Tells s (index_of 7 w 0 ds) → b ≡ not (eqb (get_or seen s 0) 0) → b ≡ taken_by ds seen w
+unfolding taken_by marked
 rule-taken ds seen w {r} {s} {b} l t h u e = go (index_of 6 w 0 ds) t
   where
     mark_of : (o : Option ℕ) → Tells s o → b ≡ marked seen o
@@ -69,8 +69,8 @@ marks-none seen (some i) {s} (there q k) h = sym (set_out seen i 1 (omega (arith
 same_index : (w v : List ℕ) (i j : ℕ) (ds : List Decl) → index_of 7 w 0 ds ≡ some i → index_of 7 v 0 ds ≡ some j → same w v ≡ eqb i j
 same_index w v i j ds e f = go (same w v) refl
   where
-    name_of : (u : List ℕ) (k : ℕ) → index_of 7 u 0 ds ≡ some k → u ≡ (declOf ds k).name.text
-    name_of u k q = same-eq u (declOf ds k).name.text (row_at 7 u k ds q).name
+    name_of : (u : List ℕ) (k : ℕ) → index_of 7 u 0 ds ≡ some k → u ≡ (decl_of ds k).name.text
+    name_of u k q = same-eq u (decl_of ds k).name.text (row_at 7 u k ds q).name
 
     go : (t : Bool) → same w v ≡ t → t ≡ eqb i j
     go true q =
@@ -79,7 +79,7 @@ same_index w v i j ds e f = go (same w v) refl
         sym (eq-eqb i j z)
     go false q =
         sym (ne_eqb i j (λ z.
-        let y : ◌≡◌ {A = Bool} false true = sym q ∙ (ap (same w) (name_of v j f ∙ (ap (λ (k : ℕ). (declOf ds k).name.text) (sym z) ∙ sym (name_of w i e))) ∙ same_refl w) in
+        let y : ◌≡◌ {A = Bool} false true = sym q ∙ (ap (same w) (name_of v j f ∙ (ap (λ (k : ℕ). (decl_of ds k).name.text) (sym z) ∙ sym (name_of w i e))) ∙ same_refl w) in
         let x : ◌≡◌ {A = ℕ} 0 1 = cc in
         omega (arith, x)))
 
@@ -94,7 +94,7 @@ no_row w v j ds e f = go (same w v) refl
     go false q = refl
 
 pub seen_more : (ds : List Decl) (before : List (List ℕ)) (seen v : List ℕ) → SeenAre ds before seen → (j : ℕ) → index_of 7 v 0 ds ≡ some j → j < length seen → SeenAre ds (v ∷ before) (marking seen (some j))
-unfolding isOne marked marking
+unfolding is_one marked marking
 seen_more ds before seen v S j f l = record { names = λ w. ap (λ b. same w v || b) (S.names w) ∙ go w (index_of 7 w 0 ds) refl }
   where
     pick : (i : ℕ) (b : Bool) → eqb i j ≡ b → (b || not (eqb (get_or seen i 0) 0)) ≡ not (eqb (get_or (set seen j 1) i 0) 0)
@@ -107,7 +107,7 @@ seen_more ds before seen v S j f l = record { names = λ w. ap (λ b. same w v |
 
 -- before the first rule
 pub seen_none : (ds : List Decl) (seen : List ℕ) → ((i : ℕ) → get_or seen i 0 ≡ 0) → SeenAre ds [] seen
-unfolding isOne marked
+unfolding is_one marked
 seen_none ds seen h = record { names = λ w. go (index_of 7 w 0 ds) }
   where
     go : (o : Option ℕ) → false ≡ marked seen o

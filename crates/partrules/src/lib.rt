@@ -6,10 +6,10 @@ ghost use Rattle.symbols.specs.Index.{Kept};
 ghost use Rattle.symbols.specs.Rows.{held, number_of};
 ghost use Rattle.symbols.specs.Search.{part};
 ghost use Rattle.partwriter.specs.Put.{Puts};
-ghost use Rattle.words.specs.Words.{wordsAt};
-ghost use Rattle.partrules.specs.Calls.{call_by, callsFrom, is_last, signs, called};
-ghost use Rattle.partrules.specs.Marks.{markBy, turnCells, Turned};
-ghost use Rattle.partrules.specs.Opened.{marked, marking, takenBy, RuleRead, RuleDone, RulesDone};
+ghost use Rattle.words.specs.Words.{words_at};
+ghost use Rattle.partrules.specs.Calls.{call_by, calls_from, is_last, signs, called};
+ghost use Rattle.partrules.specs.Marks.{mark_by, turn_cells, Turned};
+ghost use Rattle.partrules.specs.Opened.{marked, marking, taken_by, RuleRead, RuleDone, RulesDone};
 ghost use Rattle.partrules.specs.Words.{TypePut, HeadPut, RulePut};
 
 use base::wide;
@@ -59,7 +59,7 @@ pub struct Spot {
 // The mark of the rule i: 0 for the rule of a name, 1 and the pair's place for the rules of a pair, pairs being numbered from `first` on.
 fn mark_of(i: u16, first: usize) -> u16
     requires { 0 < first }
-    ensures { result ≡ markBy first i }
+    ensures { result ≡ mark_by first i }
 {
     let n = wide(i);
     if n < first {
@@ -71,7 +71,7 @@ fn mark_of(i: u16, first: usize) -> u16
 // The next cell, x.
 fn turn(spot: Pass, x: u16, first: usize) -> Pass
     requires { 0 < first }
-    ensures { Turned (markBy first) spot x result }
+    ensures { Turned (mark_by first) spot x result }
 {
     if spot.left == 0 {
         let left = linker::count_behind(x);
@@ -100,7 +100,7 @@ fn turn(spot: Pass, x: u16, first: usize) -> Pass
 // The first n cells as words, with marks in place of the numbers of calls.
 pub fn put_marked(cells: &[u16], n: usize, first: usize, object: &mut [u8], c: usize) -> usize
     requires { (n ≤ length cells.now) × (0 < first) }
-    ensures { Puts object.old c (turnCells (markBy first) (take n cells.now)) object.new result }
+    ensures { Puts object.old c (turn_cells (mark_by first) (take n cells.now)) object.new result }
 {
     let mut m = partwriter::counted(object, c);
     let mut k = 0;
@@ -139,7 +139,7 @@ fn sign(kind: u16) -> usize
 // How many words stand after `@` from the place `at` on, up to the rule's `;`.
 pub fn count_calls(text: &[u8], at: usize) -> usize
     requires { at ≤ length text.now }
-    ensures { (result ≡ length (callsFrom (wordsAt text.now at))) × (result + at ≤ length text.now) }
+    ensures { (result ≡ length (calls_from (words_at text.now at))) × (result + at ≤ length text.now) }
 {
     let mut p = at;
     let mut n = 0;
@@ -156,7 +156,7 @@ pub fn count_calls(text: &[u8], at: usize) -> usize
 // The call that the word w makes.
 fn put_call(text: &[u8], w: WordAt, moved: usize, object: &mut [u8], c: usize) -> usize
     requires { (w.next ≤ length text.now) × (length text.now < 65536) }
-    ensures { Puts object.old c (called moved (call_by w.kind (wordsAt text.now w.next))) object.new result }
+    ensures { Puts object.old c (called moved (call_by w.kind (words_at text.now w.next))) object.new result }
 {
     if w.kind == words::AT {
         let v = scanner::next_word(text, w.next);
@@ -168,7 +168,7 @@ fn put_call(text: &[u8], w: WordAt, moved: usize, object: &mut [u8], c: usize) -
 // The words after `@` from the place `at` on, up to the rule's `;`.
 pub fn put_calls(text: &[u8], at: usize, moved: usize, object: &mut [u8], c: usize) -> usize
     requires { (at ≤ length text.now) × (length text.now < 65536) }
-    ensures { Puts object.old c (called moved (callsFrom (wordsAt text.now at))) object.new result }
+    ensures { Puts object.old c (called moved (calls_from (words_at text.now at))) object.new result }
 {
     let mut p = at;
     let mut n = partwriter::counted(object, c);
@@ -262,7 +262,7 @@ fn is_marked(seen: &[u8], i: usize) -> bool
 // An operation has the name, or a rule of the part before.
 fn is_taken(text: &[u8], rows: &[u16], n: usize, seen: &[u8], w: WordAt) -> bool
     requires { Kept text.now rows.now n × (length seen.now ≤ 65536) }
-    ensures { result ≡ takenBy (held text.now rows.now n) seen.now (part text.now w.start w.len) }
+    ensures { result ≡ taken_by (held text.now rows.now n) seen.now (part text.now w.start w.len) }
 {
     let o = symbols::find_row(text, rows, n, symbols::OPERATION, w.start, w.len);
     if o < symbols::NONE {

@@ -15,9 +15,9 @@ use Rattle.names.specs.Resolve
 use Rattle.names.specs.Understand
 use Rattle.names.specs.Uses
 use Rattle.parts.specs.Joined
-use Rattle.parts.specs.Joined.{joinedText}
+use Rattle.parts.specs.Joined.{joined_text}
 use Rattle.parts.specs.Link
-use Rattle.parts.specs.Link.{Linked, linked, refused, linkTexts}
+use Rattle.parts.specs.Link.{Linked, linked, refused, link_texts}
 use Rattle.parts.specs.Objects
 use Rattle.processor.specs.Process
 use Rattle.processor.specs.Process.{Answer, accepted, process}
@@ -36,14 +36,14 @@ linking : Unit {0}
 unfolding Words.opened Reading.opened Actions.opened Sections.opened Parse.opened Known.opened Declare.opened Resolve.opened Understand.opened Uses.opened Made.opened Program.opened Past.opened Table.opened Test.opened Bytes.opened Process.opened Renumber.opened Texts.opened Objects.opened Link.opened Joined.opened
 linking = tt
 
-pub sameBool : Bool → Bool → Bool
-sameBool true true = true
-sameBool true false = false
-sameBool false true = false
-sameBool false false = true
+pub same_bool : Bool → Bool → Bool
+same_bool true true = true
+same_bool true false = false
+same_bool false true = false
+same_bool false false = true
 
 pub alike : Linked → Answer → Bool
-alike (linked ws v t) (accepted us u) = same ws us && sameBool v u
+alike (linked ws v t) (accepted us u) = same ws us && same_bool v u
 alike (linked ws v t) (Process.refused n p) = false
 alike (refused n i p) a = false
 
@@ -61,10 +61,10 @@ is_refused (linked ws v t) n i s z = false
 is_refused (refused m j p) n i s z = eqb m n && eqb j i && eqb p.start s && eqb p.size z
 
 unfoldable pub holds : Fact → Bool
-unfolding linking texts is_refused alike sameBool
-holds (makes c ps one) = alike (linkTexts (bytes c) (texts ps) 4096) (process (bytes one) 4096)
-holds (joins c ps) = alike (linkTexts (bytes c) (texts ps) 4096) (process (joinedText (bytes c) (texts ps)) 4096)
-holds (stops c ps n i s z) = is_refused (linkTexts (bytes c) (texts ps) 4096) n i s z
+unfolding linking texts is_refused alike same_bool
+holds (makes c ps one) = alike (link_texts (bytes c) (texts ps) 4096) (process (bytes one) 4096)
+holds (joins c ps) = alike (link_texts (bytes c) (texts ps) 4096) (process (joined_text (bytes c) (texts ps)) 4096)
+holds (stops c ps n i s z) = is_refused (link_texts (bytes c) (texts ps) 4096) n i s z
 
 unfoldable pub all : List Fact → Bool
 all [] = true
@@ -127,10 +127,10 @@ unfolding facts all holds
 facts-hold = tt
 
 -- the limit of names, where the sections leave `left` and the list takes one: the part's own rules and those that they call are names, each once
-isFault : Objects.Translated → ℕ → ℕ → ℕ → Bool
-isFault (Objects.object o) n i s = false
-isFault (Objects.inCommon m p) n i s = eqb m n && eqb i 0 && eqb p.start s
-isFault (Objects.inPart m p) n i s = eqb m n && eqb i 1 && eqb p.start s
+is_fault : Objects.Translated → ℕ → ℕ → ℕ → Bool
+is_fault (Objects.object o) n i s = false
+is_fault (Objects.in_common m p) n i s = eqb m n && eqb i 0 && eqb p.start s
+is_fault (Objects.in_part m p) n i s = eqb m n && eqb i 1 && eqb p.start s
 
 leaving : ℕ → Texts.Common
 leaving left = record { sections = []; left = left; listed = record { rule = word "R"; gives = word "t" } ∷ [] }
@@ -138,11 +138,11 @@ leaving left = record { sections = []; left = left; listed = record { rule = wor
     word : String → Words.Word
     word s = record { kind = Words.name; start = 0; text = bytes s }
 
-names-past : T (isFault (Objects.read_on (leaving 3) (Texts.readPart 3 (bytes "rules M: @N @M; N: @R @K; end"))) 9 1 23)
-unfolding linking isFault leaving
+names-past : T (is_fault (Objects.read_on (leaving 3) (Texts.read_part 3 (bytes "rules M: @N @M; N: @R @K; end"))) 9 1 23)
+unfolding linking is_fault leaving
 names-past = tt
 
 -- with one more, the next fault is told: the type on the list is declared nowhere
-names-fit : T (isFault (Objects.read_on (leaving 4) (Texts.readPart 4 (bytes "rules M: @N @M; N: @R @K; end"))) 3 0 0)
-unfolding linking isFault leaving
+names-fit : T (is_fault (Objects.read_on (leaving 4) (Texts.read_part 4 (bytes "rules M: @N @M; N: @R @K; end"))) 3 0 0)
+unfolding linking is_fault leaving
 names-fit = tt

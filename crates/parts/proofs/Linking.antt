@@ -11,29 +11,29 @@ use borrow.Author.Tests.{leb-true, ne_eqb, le-ltb}
 use Rattle.acceptance.proofs.CheckLaws.{no-good}
 use Rattle.acceptance.proofs.Shape.{Each}
 use Rattle.base.specs.Bools.{and}
-use Rattle.base.specs.Common.{if◌then◌else◌}
-use Rattle.figure.specs.Told.{Told, toldIf}
+use Rattle.std.specs.Prelude.{if◌then◌else◌}
+use Rattle.figure.specs.Told.{Told, told_if}
 use Rattle.finishing.specs.Test.{finishing}
-use Rattle.names.specs.Declare.{declareSections, knownRules}
+use Rattle.names.specs.Declare.{declare_sections, known_rules}
 use Rattle.names.specs.Known.{Checked, good, wrong, ◌>>=◌, Names, KnownRule}
-use Rattle.names.specs.Understand.{nobody, taken, rulesMean, understand}
-use Rattle.names.specs.Uses.{pairsOf, madeFor}
+use Rattle.names.specs.Understand.{nobody, taken, rules_mean, understand}
+use Rattle.names.specs.Uses.{pairs_of, made_for}
 use Rattle.parts.proofs.Alike.{Like, both-good, like-on, like-next, like-if, id, type-alike}
 use Rattle.parts.proofs.Checks.{typed-first, first-typed, all-alright, all-unlike-off, agree-listed, as-listed, calls_found, listed-agree, opened-calls, apart, not-twice, limits-off, limits-on, made-on, made-off}
 use Rattle.parts.proofs.Numbers.{Finds}
-use Rattle.parts.proofs.Rules.{Unseen, rules-clear, seenAfter, rules-append}
+use Rattle.parts.proofs.Rules.{Unseen, rules-clear, seen_after, rules-append}
 use Rattle.parts.proofs.Sections.{sections-alike}
 use Rattle.parts.proofs.Whole.{Translates, no_more, translates, opened-whole, pairs-are, known-are, length-is, Apart, parts-mean, parts-back}
-use Rattle.parts.specs.Link.{Linked, linked, refused, Found, rulesOf, firstTyped, unlikeIn, twiceIn, pastLimitIn, pairsIn, pastMade, known_of, closed_in, orNone, program, refusedAt, inText, asOne, link, asAnswer, lentBytes}
-use Rattle.parts.specs.Objects.{aimsOf, openRules, OpenRule, Object, together, listMeans, openAll, object, inCommon, inPart, ofCommon, ofPart, commonMeans, meaning}
-use Rattle.parts.specs.Promise.{LentZero, joined, oneText, Parts, parts-nil, parts-cons, VeryWords, InOrder, OneTextLinks}
+use Rattle.parts.specs.Link.{Linked, linked, refused, Found, rules_of, first_typed, unlike_in, twice_in, past_limit_in, pairs_in, past_made, known_of, closed_in, or_none, program, refused_at, in_text, as_one, link, as_answer, lent_bytes}
+use Rattle.parts.specs.Objects.{aims_of, open_rules, OpenRule, Object, together, list_means, open_all, object, in_common, in_part, of_common, of_part, common_means, meaning}
+use Rattle.parts.specs.Promise.{LentZero, joined, one_text, Parts, parts_nil, parts_cons, VeryWords, InOrder, OneTextLinks}
 use Rattle.processor.specs.Process as one
-use Rattle.processor.specs.Process.{Part, part_of, accepted, answerFor}
+use Rattle.processor.specs.Process.{Part, part_of, accepted, answer_for}
 use Rattle.program.proofs.Lengths.{length-table}
 use Rattle.program.specs.Program.{Rule}
-use Rattle.program.specs.Table.{sizeRules, table}
+use Rattle.program.specs.Table.{size_rules, table}
 use Rattle.syntax.specs.Parse.{end_of}
-use Rattle.syntax.specs.Sections.{namesInAll}
+use Rattle.syntax.specs.Sections.{names_in_all}
 use Rattle.syntax.specs.Texts.{Head, Common}
 use Rattle.syntax.specs.Written as written
 use Rattle.syntax.specs.Written.{Program}
@@ -44,32 +44,32 @@ good-inj e = cc
 -- The common part beside any rules
 
 pub record CommonIs (c : Common) (rs : List written.Rule) (n : Names) : Type 0 where
-  pub sections : declareSections (together c rs) c.sections nobody ≡ good n
-  pub list : listMeans (together c rs) n [] c.listed ≡ good tt
+  pub sections : declare_sections (together c rs) c.sections nobody ≡ good n
+  pub list : list_means (together c rs) n [] c.listed ≡ good tt
 
-pub common-is : (c : Common) (rs : List written.Rule) (n : Names) → commonMeans c rs ≡ good n → CommonIs c rs n
-unfolding commonMeans
-common-is c rs n e = go (declareSections (together c rs) c.sections nobody) refl e
+pub common_is : (c : Common) (rs : List written.Rule) (n : Names) → common_means c rs ≡ good n → CommonIs c rs n
+unfolding common_means
+common_is c rs n e = go (declare_sections (together c rs) c.sections nobody) refl e
   where
-    two : (m : Names) → declareSections (together c rs) c.sections nobody ≡ good m → (x : Checked (Unit {0})) → listMeans (together c rs) m [] c.listed ≡ x
+    two : (m : Names) → declare_sections (together c rs) c.sections nobody ≡ good m → (x : Checked (Unit {0})) → list_means (together c rs) m [] c.listed ≡ x
         → ◌>>=◌ x (λ _. good m) ≡ good n → CommonIs c rs n
-    two m d (good tt) f e₁ = let y : m ≡ n = cc in record { sections = d ∙ ap good y; list = ap (λ (z : Names). listMeans (together c rs) z [] c.listed) (sym y) ∙ f }
+    two m d (good tt) f e₁ = let y : m ≡ n = cc in record { sections = d ∙ ap good y; list = ap (λ (z : Names). list_means (together c rs) z [] c.listed) (sym y) ∙ f }
     two m d (wrong i w) f e₁ = no-good e₁
 
-    go : (x : Checked Names) → declareSections (together c rs) c.sections nobody ≡ x → ◌>>=◌ x (λ m. ◌>>=◌ (listMeans (together c rs) m [] c.listed) (λ _. good m)) ≡ good n → CommonIs c rs n
-    go (good m) d e₁ = two m d (listMeans (together c rs) m [] c.listed) refl e₁
+    go : (x : Checked Names) → declare_sections (together c rs) c.sections nobody ≡ x → ◌>>=◌ x (λ m. ◌>>=◌ (list_means (together c rs) m [] c.listed) (λ _. good m)) ≡ good n → CommonIs c rs n
+    go (good m) d e₁ = two m d (list_means (together c rs) m [] c.listed) refl e₁
     go (wrong i w) d e₁ = no-good e₁
 
-pub is-common : (c : Common) (rs : List written.Rule) (n : Names) → CommonIs c rs n → commonMeans c rs ≡ good n
-unfolding commonMeans
+pub is-common : (c : Common) (rs : List written.Rule) (n : Names) → CommonIs c rs n → common_means c rs ≡ good n
+unfolding common_means
 is-common c rs n h = rw (h.sections, h.list)
 
-sections-of : (c : Common) (rs rs' : List written.Rule) (n : Names) → declareSections (record { sections = c.sections; rules = rs }) c.sections nobody ≡ good n
-    → declareSections (record { sections = c.sections; rules = rs' }) c.sections nobody ≡ good n
+sections-of : (c : Common) (rs rs' : List written.Rule) (n : Names) → declare_sections (record { sections = c.sections; rules = rs }) c.sections nobody ≡ good n
+    → declare_sections (record { sections = c.sections; rules = rs' }) c.sections nobody ≡ good n
 sections-of c rs rs' n e = like-on id (sections-alike c.sections rs rs' c.sections nobody) n e
 
-list-alike : (p p' : Program) (n : Names) (seen : List (List ℕ)) (hs : List Head) → Like id (listMeans p n seen hs) (listMeans p' n seen hs)
-unfolding listMeans
+list-alike : (p p' : Program) (n : Names) (seen : List (List ℕ)) (hs : List Head) → Like id (list_means p n seen hs) (list_means p' n seen hs)
+unfolding list_means
 list-alike p p' n seen [] = both-good tt
 list-alike p p' n seen (h ∷ hs) =
     like-if id (taken h.rule n seen) (taken h.rule n seen) 4 h.rule _ _ refl (
@@ -84,63 +84,63 @@ common-same c rs rs' n h = record {
 
 -- What an object is
 
-no-object {ℓ} : {A : Type ℓ} {n : ℕ} {at : Part} {o : Object} → inCommon n at ≡ object o → A
+no-object {ℓ} : {A : Type ℓ} {n : ℕ} {at : Part} {o : Object} → in_common n at ≡ object o → A
 no-object e = let z : ◌≡◌ {A = ℕ} 0 1 = cc in absurd (omega arith)
 
-no-object' {ℓ} : {A : Type ℓ} {n : ℕ} {at : Part} {o : Object} → inPart n at ≡ object o → A
+no-object' {ℓ} : {A : Type ℓ} {n : ℕ} {at : Part} {o : Object} → in_part n at ≡ object o → A
 no-object' e = let z : ◌≡◌ {A = ℕ} 0 1 = cc in absurd (omega arith)
 
 pub record ObjectOf (c : Common) (rs : List written.Rule) (o : Object) : Type 0 where
   pub names : Names
-  pub common : commonMeans c rs ≡ good names
+  pub common : common_means c rs ≡ good names
   pub rules : List OpenRule
-  pub opens : openAll (together c rs) names (openRules c.listed rs) [] rs ≡ good rules
-  pub is : record { rules = rules; uses = pairsOf rs; aims = aimsOf c.listed rs } ≡ o
+  pub opens : open_all (together c rs) names (open_rules c.listed rs) [] rs ≡ good rules
+  pub is : record { rules = rules; uses = pairs_of rs; aims = aims_of c.listed rs } ≡ o
 
 pub object_of : (c : Common) (rs : List written.Rule) (o : Object) → meaning c rs ≡ object o → ObjectOf c rs o
-unfolding meaning ofCommon ofPart
-object_of c rs o e = go (commonMeans c rs) refl e
+unfolding meaning of_common of_part
+object_of c rs o e = go (common_means c rs) refl e
   where
     made : List OpenRule → Object
-    made os = record { rules = os; uses = pairsOf rs; aims = aimsOf c.listed rs }
+    made os = record { rules = os; uses = pairs_of rs; aims = aims_of c.listed rs }
 
-    two : (n : Names) → commonMeans c rs ≡ good n → (x : Checked (List OpenRule)) → openAll (together c rs) n (openRules c.listed rs) [] rs ≡ x
-        → ofPart x (λ os. object (made os)) ≡ object o → ObjectOf c rs o
+    two : (n : Names) → common_means c rs ≡ good n → (x : Checked (List OpenRule)) → open_all (together c rs) n (open_rules c.listed rs) [] rs ≡ x
+        → of_part x (λ os. object (made os)) ≡ object o → ObjectOf c rs o
     two n d (good os) f e₁ = let y : made os ≡ o = cc in record { names = n; common = d; rules = os; opens = f; is = y }
     two n d (wrong i w) f e₁ = no-object' e₁
 
-    go : (x : Checked Names) → commonMeans c rs ≡ x → ofCommon x (λ n. ofPart (openAll (together c rs) n (openRules c.listed rs) [] rs) (λ os. object (made os))) ≡ object o → ObjectOf c rs o
-    go (good n) d e₁ = two n d (openAll (together c rs) n (openRules c.listed rs) [] rs) refl e₁
+    go : (x : Checked Names) → common_means c rs ≡ x → of_common x (λ n. of_part (open_all (together c rs) n (open_rules c.listed rs) [] rs) (λ os. object (made os))) ≡ object o → ObjectOf c rs o
+    go (good n) d e₁ = two n d (open_all (together c rs) n (open_rules c.listed rs) [] rs) refl e₁
     go (wrong i w) d e₁ = no-object e₁
 
-of-object : (c : Common) (n : Names) (rs : List written.Rule) (os : List OpenRule) → commonMeans c rs ≡ good n → openAll (together c rs) n (openRules c.listed rs) [] rs ≡ good os
-    → meaning c rs ≡ object (record { rules = os; uses = pairsOf rs; aims = aimsOf c.listed rs })
-unfolding meaning ofCommon ofPart
+of-object : (c : Common) (n : Names) (rs : List written.Rule) (os : List OpenRule) → common_means c rs ≡ good n → open_all (together c rs) n (open_rules c.listed rs) [] rs ≡ good os
+    → meaning c rs ≡ object (record { rules = os; uses = pairs_of rs; aims = aims_of c.listed rs })
+unfolding meaning of_common of_part
 of-object c n rs os e f = rw (e, f)
 
-translated : (c : Common) (n : Names) → commonMeans c [] ≡ good n → {rss : List (List written.Rule)} {os : List Object} → Parts c rss os → Translates c n rss os
-translated c n e parts-nil = no_more
-translated c n e (parts-cons {rs = rs} {rss = rss} {o = o} {os = os} d h) =
+translated : (c : Common) (n : Names) → common_means c [] ≡ good n → {rss : List (List written.Rule)} {os : List Object} → Parts c rss os → Translates c n rss os
+translated c n e parts_nil = no_more
+translated c n e (parts_cons {rs = rs} {rss = rss} {o = o} {os = os} d h) =
     let x = object_of c rs o d in
-    let y = is-common c rs n (common-same c [] rs n (common-is c [] n e)) in
+    let y = is-common c rs n (common-same c [] rs n (common_is c [] n e)) in
     let z : x.names ≡ n = good-inj (sym x.common ∙ y) in
-    let opens : openAll (together c rs) n (openRules c.listed rs) [] rs ≡ good x.rules = rw (← z) x.opens in
+    let opens : open_all (together c rs) n (open_rules c.listed rs) [] rs ≡ good x.rules = rw (← z) x.opens in
     let t = translates opens (translated c n e h) in
     rw x.is at t
 
-parted : (c : Common) (n : Names) → commonMeans c [] ≡ good n → {rss : List (List written.Rule)} {os : List Object} → Translates c n rss os → Parts c rss os
-parted c n e no_more = parts-nil
-parted c n e (translates {rs = rs} {os = os} d h) = parts-cons (of-object c n rs os (is-common c rs n (common-same c [] rs n (common-is c [] n e))) d) (parted c n e h)
+parted : (c : Common) (n : Names) → common_means c [] ≡ good n → {rss : List (List written.Rule)} {os : List Object} → Translates c n rss os → Parts c rss os
+parted c n e no_more = parts_nil
+parted c n e (translates {rs = rs} {os = os} d h) = parts_cons (of-object c n rs os (is-common c rs n (common-same c [] rs n (common_is c [] n e))) d) (parted c n e h)
 
 -- As one program
 
-one-program : (c : Common) (n : Names) {rss : List (List written.Rule)} {os : List Object} → commonMeans c [] ≡ good n → Translates c n rss os
-    → firstTyped (rulesOf os) ≡ none → unlikeIn c.listed (rulesOf os) 1 os ≡ none → twiceIn [] 1 os ≡ none → pastMade n (namesInAll c.sections) (length (rulesOf os)) os (pairsIn os) ≡ none
-    → understand (oneText c rss) ≡ good (program n (namesInAll c.sections) os)
-unfolding understand program orNone together
+one-program : (c : Common) (n : Names) {rss : List (List written.Rule)} {os : List Object} → common_means c [] ≡ good n → Translates c n rss os
+    → first_typed (rules_of os) ≡ none → unlike_in c.listed (rules_of os) 1 os ≡ none → twice_in [] 1 os ≡ none → past_made n (names_in_all c.sections) (length (rules_of os)) os (pairs_in os) ≡ none
+    → understand (one_text c rss) ≡ good (program n (names_in_all c.sections) os)
+unfolding understand program or_none together
 one-program c n {rss} {os} e t a b d f =
     let whole = joined rss in
-    let all = rulesOf os in
+    let all = rules_of os in
     let o = opened-whole t in
     let known = known-are 0 o in
     let long = length-is o in
@@ -148,9 +148,9 @@ one-program c n {rss} {os} e t a b d f =
     let x = all-alright all 1 t b in
     let listed = rw known at (agree-listed c.listed 0 all x.agree) in
     let called = rw known at (calls_found all _ x.calls) in
-    let s = sections-of c (together c []).rules whole n (common-is c [] n e).sections in
+    let s = sections-of c (together c []).rules whole n (common_is c [] n e).sections in
     let r = parts-mean c n whole listed [] t called (apart t d) (typed-first o a) in
-    let m = made-on n (knownRules 0 whole) (namesInAll c.sections) (length whole) os (pairsOf whole) (rw (long, pairs) at f) in
+    let m = made-on n (known_rules 0 whole) (names_in_all c.sections) (length whole) os (pairs_of whole) (rw (long, pairs) at f) in
     rw (known, long, pairs, s, r, m.1)
 
 -- The answer
@@ -158,8 +158,8 @@ one-program c n {rss} {os} e t a b d f =
 no-link {ℓ} : {A : Type ℓ} {n i : ℕ} {at : Part} {ws : List ℕ} {v : Bool} {t : Told} → refused n i at ≡ linked ws v t → A
 no-link e = let z : ◌≡◌ {A = ℕ} 0 1 = cc in absurd (omega arith)
 
-pub past-check : (n : ℕ) (f : Option Found) (rest : Linked) {ws : List ℕ} {v : Bool} {t : Told} → refusedAt n f rest ≡ linked ws v t → (f ≡ none) × (rest ≡ linked ws v t)
-unfolding refusedAt
+pub past-check : (n : ℕ) (f : Option Found) (rest : Linked) {ws : List ℕ} {v : Bool} {t : Told} → refused_at n f rest ≡ linked ws v t → (f ≡ none) × (rest ≡ linked ws v t)
+unfolding refused_at
 past-check n none rest e = (refl, e)
 past-check n (some f) rest e = no-link e
 
@@ -170,67 +170,67 @@ past-test false n i at rest e = (refl, e)
 -- what the processor answers for rules that it has understood, where it accepts them
 pub record Accepts (room : ℕ) (prog : List Rule) (words : List ℕ) (verdict : Bool) (told : Told) : Type 0 where
   pub words_are : words ≡ table prog
-  pub verdict-is : verdict ≡ finishing prog
-  pub figure-is : told ≡ toldIf (accepted words verdict) prog
+  pub verdict_is : verdict ≡ finishing prog
+  pub figure_is : told ≡ told_if (accepted words verdict) prog
   pub fits : length words ≤ room
-  pub within-4096 : length words ≤ 4096
+  pub within_4096 : length words ≤ 4096
 
-pub as_one : (i : ℕ) (lastText : List ℕ) (room : ℕ) (prog : List Rule) (words : List ℕ) (verdict : Bool) (told : Told) → asOne i lastText room prog ≡ linked words verdict told → Accepts room prog words verdict told
-unfolding asOne inText answerFor
-as_one i lastText room prog words verdict told e = go (leb (sizeRules prog) room && leb (sizeRules prog) 4096) refl
+pub as_one_lem : (i : ℕ) (last_text : List ℕ) (room : ℕ) (prog : List Rule) (words : List ℕ) (verdict : Bool) (told : Told) → as_one i last_text room prog ≡ linked words verdict told → Accepts room prog words verdict told
+unfolding as_one in_text answer_for
+as_one_lem i last_text room prog words verdict told e = go (leb (size_rules prog) room && leb (size_rules prog) 4096) refl
   where
-    go : (t : Bool) → (leb (sizeRules prog) room && leb (sizeRules prog) 4096) ≡ t → Accepts room prog words verdict told
+    go : (t : Bool) → (leb (size_rules prog) room && leb (size_rules prog) 4096) ≡ t → Accepts room prog words verdict told
     go true d =
-        let f : linked (table prog) (finishing prog) (toldIf (accepted (table prog) (finishing prog)) prog) ≡ linked words verdict told = rw (asOne, answerFor, d) at e in
+        let f : linked (table prog) (finishing prog) (told_if (accepted (table prog) (finishing prog)) prog) ≡ linked words verdict told = rw (as_one, answer_for, d) at e in
         let x : table prog ≡ words = cc in
         let y : finishing prog ≡ verdict = cc in
-        let z : toldIf (accepted (table prog) (finishing prog)) prog ≡ told = cc in
-        let u = and (leb (sizeRules prog) room) (leb (sizeRules prog) 4096) d in
+        let z : told_if (accepted (table prog) (finishing prog)) prog ≡ told = cc in
+        let u = and (leb (size_rules prog) room) (leb (size_rules prog) 4096) d in
         let l = length-table prog in
-        let l₁ = leb-true (sizeRules prog) room u.0 in
-        let l₂ = leb-true (sizeRules prog) 4096 u.1 in
+        let l₁ = leb-true (size_rules prog) room u.0 in
+        let l₂ = leb-true (size_rules prog) 4096 u.1 in
         record {
           words_are = sym x;
-          verdict-is = sym y;
-          figure-is = sym z ∙ rw (x, y) refl;
+          verdict_is = sym y;
+          figure_is = sym z ∙ rw (x, y) refl;
           fits = rw (← x) (omega (arith, l, l₁));
-          within-4096 = rw (← x) (omega (arith, l, l₂));
+          within_4096 = rw (← x) (omega (arith, l, l₂));
         }
-    go false d = no-link (rw (asOne, answerFor, d) at e)
+    go false d = no-link (rw (as_one, answer_for, d) at e)
 
 pub very-words : VeryWords
 unfolding link
-very-words commonText c n lastText rss os room words verdict told e h l =
-    let all = rulesOf os in
-    let others = namesInAll c.sections in
+very-words common_text c n last_text rss os room words verdict told e h l =
+    let all = rules_of os in
+    let others = names_in_all c.sections in
     let t = translated c n e h in
-    let a = past-test (eqb (length os) 0 || ltb 16 (length os)) 9 0 (part_of (end_of commonText)) _ l in
-    let b = past-check 5 (firstTyped all) _ a.1 in
-    let d = past-check 49 (unlikeIn c.listed all 1 os) _ b.1 in
-    let f = past-check 50 (twiceIn [] 1 os) _ d.1 in
-    let g = past-check 9 (pastLimitIn (min 128 c.left) 1 os) _ f.1 in
-    let k = past-check 9 (pastMade n others (length all) os (pairsIn os)) _ g.1 in
-    let w = as_one (length os) lastText room (program n others os) words verdict told k.1 in
+    let a = past-test (eqb (length os) 0 || ltb 16 (length os)) 9 0 (part_of (end_of common_text)) _ l in
+    let b = past-check 5 (first_typed all) _ a.1 in
+    let d = past-check 49 (unlike_in c.listed all 1 os) _ b.1 in
+    let f = past-check 50 (twice_in [] 1 os) _ d.1 in
+    let g = past-check 9 (past_limit_in (min 128 c.left) 1 os) _ f.1 in
+    let k = past-check 9 (past_made n others (length all) os (pairs_in os)) _ g.1 in
+    let w = as_one_lem (length os) last_text room (program n others os) words verdict told k.1 in
     record {
       prog = program n others os;
       means = one-program c n e t b.0 d.0 f.0 k.0;
       words_are = w.words_are;
-      verdict-is = w.verdict-is;
-      figure-is = w.figure-is;
+      verdict_is = w.verdict_is;
+      figure_is = w.figure_is;
       fits = w.fits;
-      within-4096 = w.within-4096;
+      within_4096 = w.within_4096;
     }
 
 -- "then 9 .. for the whole": what is linked keeps to the limits of one text
-pub few-linked : (commonText : List ℕ) (c : Common) (n : Names) (lastText : List ℕ) (rss : List (List written.Rule)) (os : List Object) (room : ℕ) (words : List ℕ) (verdict : Bool) (told : Told)
-    → commonMeans c [] ≡ good n → Parts c rss os → link commonText c n lastText os room ≡ linked words verdict told → length (joined rss) ≤ min 128 c.left
+pub few-linked : (common_text : List ℕ) (c : Common) (n : Names) (last_text : List ℕ) (rss : List (List written.Rule)) (os : List Object) (room : ℕ) (words : List ℕ) (verdict : Bool) (told : Told)
+    → common_means c [] ≡ good n → Parts c rss os → link common_text c n last_text os room ≡ linked words verdict told → length (joined rss) ≤ min 128 c.left
 unfolding link
-few-linked commonText c n lastText rss os room words verdict told e h l =
-    let a = past-test (eqb (length os) 0 || ltb 16 (length os)) 9 0 (part_of (end_of commonText)) _ l in
-    let b = past-check 5 (firstTyped (rulesOf os)) _ a.1 in
-    let d = past-check 49 (unlikeIn c.listed (rulesOf os) 1 os) _ b.1 in
-    let f = past-check 50 (twiceIn [] 1 os) _ d.1 in
-    let g = past-check 9 (pastLimitIn (min 128 c.left) 1 os) _ f.1 in
+few-linked common_text c n last_text rss os room words verdict told e h l =
+    let a = past-test (eqb (length os) 0 || ltb 16 (length os)) 9 0 (part_of (end_of common_text)) _ l in
+    let b = past-check 5 (first_typed (rules_of os)) _ a.1 in
+    let d = past-check 49 (unlike_in c.listed (rules_of os) 1 os) _ b.1 in
+    let f = past-check 50 (twice_in [] 1 os) _ d.1 in
+    let g = past-check 9 (past_limit_in (min 128 c.left) 1 os) _ f.1 in
     let few = limits-on (min 128 c.left) 1 os g.0 in
     let long = length-is (opened-whole (translated c n e h)) in
     omega arith
@@ -239,93 +239,93 @@ few-linked commonText c n lastText rss os room words verdict told e h l =
 
 record Understood (c : Common) (rss : List (List written.Rule)) (prog : List Rule) : Type 0 where
   names : Names
-  sections : declareSections (oneText c rss) c.sections nobody ≡ good names
+  sections : declare_sections (one_text c rss) c.sections nobody ≡ good names
   own : List Rule
-  rules : rulesMean (oneText c rss) names (knownRules 0 (joined rss)) [] (joined rss) ≡ good own
+  rules : rules_mean (one_text c rss) names (known_rules 0 (joined rss)) [] (joined rss) ≡ good own
   made : List Rule
-  makes : madeFor names (knownRules 0 (joined rss)) (namesInAll c.sections) (length (joined rss)) (pairsOf (joined rss)) ≡ good made
+  makes : made_for names (known_rules 0 (joined rss)) (names_in_all c.sections) (length (joined rss)) (pairs_of (joined rss)) ≡ good made
   is : own ++ made ≡ prog
 
-understood : (c : Common) (rss : List (List written.Rule)) (prog : List Rule) → understand (oneText c rss) ≡ good prog → Understood c rss prog
+understood : (c : Common) (rss : List (List written.Rule)) (prog : List Rule) → understand (one_text c rss) ≡ good prog → Understood c rss prog
 unfolding understand
-understood c rss prog e = one' (declareSections (oneText c rss) c.sections nobody) refl e
+understood c rss prog e = one' (declare_sections (one_text c rss) c.sections nobody) refl e
   where
     ks : List KnownRule
-    ks = knownRules 0 (joined rss)
+    ks = known_rules 0 (joined rss)
 
     makes' : Names → Checked (List Rule)
-    makes' n = madeFor n ks (namesInAll c.sections) (length (joined rss)) (pairsOf (joined rss))
+    makes' n = made_for n ks (names_in_all c.sections) (length (joined rss)) (pairs_of (joined rss))
 
-    three : (n : Names) → declareSections (oneText c rss) c.sections nobody ≡ good n → (own : List Rule) → rulesMean (oneText c rss) n ks [] (joined rss) ≡ good own
+    three : (n : Names) → declare_sections (one_text c rss) c.sections nobody ≡ good n → (own : List Rule) → rules_mean (one_text c rss) n ks [] (joined rss) ≡ good own
         → (z : Checked (List Rule)) → makes' n ≡ z → ◌>>=◌ z (λ made. good (own ++ made)) ≡ good prog → Understood c rss prog
     three n d own f (good made) g e₁ = let y : own ++ made ≡ prog = cc in record { names = n; sections = d; own = own; rules = f; made = made; makes = g; is = y }
     three n d own f (wrong i w) g e₁ = no-good e₁
 
-    two : (n : Names) → declareSections (oneText c rss) c.sections nobody ≡ good n → (y : Checked (List Rule)) → rulesMean (oneText c rss) n ks [] (joined rss) ≡ y
+    two : (n : Names) → declare_sections (one_text c rss) c.sections nobody ≡ good n → (y : Checked (List Rule)) → rules_mean (one_text c rss) n ks [] (joined rss) ≡ y
         → ◌>>=◌ y (λ own. ◌>>=◌ (makes' n) (λ made. good (own ++ made))) ≡ good prog → Understood c rss prog
     two n d (good own) f e₁ = three n d own f (makes' n) refl e₁
     two n d (wrong i w) f e₁ = no-good e₁
 
-    one' : (x : Checked Names) → declareSections (oneText c rss) c.sections nobody ≡ x
-        → ◌>>=◌ x (λ n. ◌>>=◌ (rulesMean (oneText c rss) n ks [] (joined rss)) (λ own. ◌>>=◌ (makes' n) (λ made. good (own ++ made)))) ≡ good prog → Understood c rss prog
-    one' (good n) d e₁ = two n d (rulesMean (oneText c rss) n ks [] (joined rss)) refl e₁
+    one' : (x : Checked Names) → declare_sections (one_text c rss) c.sections nobody ≡ x
+        → ◌>>=◌ x (λ n. ◌>>=◌ (rules_mean (one_text c rss) n ks [] (joined rss)) (λ own. ◌>>=◌ (makes' n) (λ made. good (own ++ made)))) ≡ good prog → Understood c rss prog
+    one' (good n) d e₁ = two n d (rules_mean (one_text c rss) n ks [] (joined rss)) refl e₁
     one' (wrong i w) d e₁ = no-good e₁
 
 parts-length : {c : Common} {n : Names} {rss : List (List written.Rule)} {os : List Object} → Translates c n rss os → length os ≡ length rss
 parts-length no_more = refl
 parts-length (translates e t) = ap suc (parts-length t)
 
-apart_of : (p : Program) (n : Names) (ks : List KnownRule) (prev : List (List ℕ)) (rss : List (List written.Rule)) (ms : List Rule) → rulesMean p n ks prev (joined rss) ≡ good ms → Apart prev rss
+apart_of : (p : Program) (n : Names) (ks : List KnownRule) (prev : List (List ℕ)) (rss : List (List written.Rule)) (ms : List Rule) → rules_mean p n ks prev (joined rss) ≡ good ms → Apart prev rss
 unfolding Apart joined
 apart_of p n ks prev [] ms e = tt
-apart_of p n ks prev (rs ∷ rss) ms e = go (rulesMean p n ks prev rs) refl (rulesMean p n ks (seenAfter prev rs) (joined rss)) refl (apart_of p n ks (seenAfter prev rs) rss)
+apart_of p n ks prev (rs ∷ rss) ms e = go (rules_mean p n ks prev rs) refl (rules_mean p n ks (seen_after prev rs) (joined rss)) refl (apart_of p n ks (seen_after prev rs) rss)
   where
-    go : (x : Checked (List Rule)) → rulesMean p n ks prev rs ≡ x → (y : Checked (List Rule)) → rulesMean p n ks (seenAfter prev rs) (joined rss) ≡ y
-        → ((ns : List Rule) → rulesMean p n ks (seenAfter prev rs) (joined rss) ≡ good ns → Apart (seenAfter prev rs) rss) → Unseen prev rs × Apart (seenAfter prev rs) rss
+    go : (x : Checked (List Rule)) → rules_mean p n ks prev rs ≡ x → (y : Checked (List Rule)) → rules_mean p n ks (seen_after prev rs) (joined rss) ≡ y
+        → ((ns : List Rule) → rules_mean p n ks (seen_after prev rs) (joined rss) ≡ good ns → Apart (seen_after prev rs) rss) → Unseen prev rs × Apart (seen_after prev rs) rss
     go (good xs) d (good ys) f ih = ((rules-clear p n ks prev rs xs d).unseen, ih ys f)
     go (good xs) d (wrong i w) f ih = no-good (rw (d, f) at (sym (rules-append p n ks prev rs (joined rss)) ∙ e))
     go (wrong i w) d y f ih = no-good (rw d at (sym (rules-append p n ks prev rs (joined rss)) ∙ e))
 
 links-with : (c : Common) (n : Names) (rss : List (List written.Rule)) (os : List Object) (prog : List Rule) → InOrder c n rss → Translates c n rss os → (u : Understood c rss prog) → u.names ≡ n
-    → closed_in n (knownRules 0 (joined rss)) (length (joined rss)) (pairsOf (joined rss)) os ≡ u.own → (commonText lastText : List ℕ) (room : ℕ)
-    → link commonText c n lastText os room ≡ asOne (length rss) lastText room prog
-unfolding link program orNone refusedAt
-links-with c n rss os prog h t u same_names own_is commonText lastText room =
+    → closed_in n (known_rules 0 (joined rss)) (length (joined rss)) (pairs_of (joined rss)) os ≡ u.own → (common_text last_text : List ℕ) (room : ℕ)
+    → link common_text c n last_text os room ≡ as_one (length rss) last_text room prog
+unfolding link program or_none refused_at
+links-with c n rss os prog h t u same_names own_is common_text last_text room =
     let whole = joined rss in
-    let all = rulesOf os in
-    let ks = knownRules 0 whole in
-    let others = namesInAll c.sections in
+    let all = rules_of os in
+    let ks = known_rules 0 whole in
+    let others = names_in_all c.sections in
     let o = opened-whole t in
     let known = known-are 0 o in
     let long = length-is o in
     let pairs = pairs-are t in
     let few = parts-length t in
-    let rules : rulesMean (oneText c rss) n ks [] whole ≡ good u.own = rw (← same_names) u.rules in
-    let makes : madeFor n ks others (length whole) (pairsOf whole) ≡ good u.made = rw (← same_names) u.makes in
-    let clear = rules-clear (oneText c rss) n ks [] whole u.own rules in
-    let some-part : eqb (length rss) 0 ≡ false = ne_eqb (length rss) 0 (λ e. omega (arith, h.some-part, e)) in
-    let few-parts : ltb 16 (length rss) ≡ false = le-ltb 16 (length rss) h.few-parts in
+    let rules : rules_mean (one_text c rss) n ks [] whole ≡ good u.own = rw (← same_names) u.rules in
+    let makes : made_for n ks others (length whole) (pairs_of whole) ≡ good u.made = rw (← same_names) u.makes in
+    let clear = rules-clear (one_text c rss) n ks [] whole u.own rules in
+    let some_part : eqb (length rss) 0 ≡ false = ne_eqb (length rss) 0 (λ e. omega (arith, h.some_part, e)) in
+    let few_parts : ltb 16 (length rss) ≡ false = le-ltb 16 (length rss) h.few_parts in
     let found : Each (Finds (known_of 0 all)) _ = rw (← known) at clear.called in
     let five = first-typed o clear.untyped in
     let forty-nine = all-unlike-off c.listed all 1 os (listed-agree c.listed o h.listed) (opened-calls all o found) in
-    let fifty = not-twice t (apart_of (oneText c rss) n ks [] rss u.own rules) in
-    let nine = limits-off (min 128 c.left) 1 os (omega (arith, long, h.few-rules)) in
-    let made-nine : pastMade n others (length all) os (pairsIn os) ≡ none = rw (long, pairs) (made-off n ks others (length whole) os (pairsOf whole) (u.made, makes)) in
-    let is : closed_in n (known_of 0 all) (length all) (pairsIn os) os ++ orNone (madeFor n (known_of 0 all) others (length all) (pairsIn os)) ≡ prog = rw (known, long, pairs, own_is, makes) u.is in
-    rw (five, forty-nine, fifty, nine, made-nine, few, some-part, few-parts, is)
+    let fifty = not-twice t (apart_of (one_text c rss) n ks [] rss u.own rules) in
+    let nine = limits-off (min 128 c.left) 1 os (omega (arith, long, h.few_rules)) in
+    let made-nine : past_made n others (length all) os (pairs_in os) ≡ none = rw (long, pairs) (made-off n ks others (length whole) os (pairs_of whole) (u.made, makes)) in
+    let is : closed_in n (known_of 0 all) (length all) (pairs_in os) os ++ or_none (made_for n (known_of 0 all) others (length all) (pairs_in os)) ≡ prog = rw (known, long, pairs, own_is, makes) u.is in
+    rw (five, forty-nine, fifty, nine, made-nine, few, some_part, few_parts, is)
 
 pub one-text-links : OneTextLinks
 unfolding together
 one-text-links c n rss prog h e =
     let u = understood c rss prog e in
-    let s = sections-of c (together c []).rules (joined rss) n (common-is c [] n h.common).sections in
+    let s = sections-of c (together c []).rules (joined rss) n (common_is c [] n h.common).sections in
     let names : u.names ≡ n = good-inj (sym u.sections ∙ s) in
-    let rules : rulesMean (oneText c rss) n (knownRules 0 (joined rss)) [] (joined rss) ≡ good u.own = rw (← names) u.rules in
+    let rules : rules_mean (one_text c rss) n (known_rules 0 (joined rss)) [] (joined rss) ≡ good u.own = rw (← names) u.rules in
     let a = parts-back c n (joined rss) (as-listed c.listed 0 (joined rss) h.listed) [] rss u.own rules in
     record { objects = a.objects; parts = parted c n h.common a.parts; links = links-with c n rss a.objects prog h a.parts u names a.are }
 
 -- What is lent
 
 pub lent-zero : LentZero
-unfolding lentBytes asAnswer one.lentBytes one.lentWords
+unfolding lent_bytes as_answer one.lent_bytes one.lent_words
 lent-zero n i at lent = refl

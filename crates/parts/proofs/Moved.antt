@@ -9,10 +9,10 @@ use lib.ListN.{length}
 use borrow.Author.Tests.{eqb-true}
 use native.Mathlib.Omega.{arith}
 use Rattle.acceptance.proofs.ReadLaws.{no-got}
-use Rattle.base.specs.Common.{if◌then◌else◌}
+use Rattle.std.specs.Prelude.{if◌then◌else◌}
 use Rattle.parts.specs.Blank.{blank}
-use Rattle.parts.specs.Moved.{moveWord}
-use Rattle.syntax.specs.Reading.{Read, got, fault, Reader, onward, ◌>>=◌, ◌>>◌, pure, peek, pass, refuse, over, within, on◌then◌else◌, expect, short, aName, oneName, nameOrString}
+use Rattle.parts.specs.Moved.{move_word}
+use Rattle.syntax.specs.Reading.{Read, got, fault, Reader, onward, ◌>>=◌, ◌>>◌, pure, peek, pass, refuse, over, within, on◌then◌else◌, expect, short, a_name, one_name, name_or_string}
 use Rattle.words.specs.Words.{Word, bad, last, name, string, rules, end}
 
 -- Words that are read
@@ -44,11 +44,11 @@ abbrev pub Alike : List Word → List Word → Type 0
 Alike ws ws' = (peek ws).kind ≡ (peek ws').kind
 
 pub kind-same : (w w' : Word) → blank w ≡ blank w' → w.kind ≡ w'.kind
-unfolding moveWord
+unfolding move_word
 kind-same w w' e = ap (λ (x : Word). x.kind) e
 
 pub text_same : (w w' : Word) → blank w ≡ blank w' → w.text ≡ w'.text
-unfolding moveWord
+unfolding move_word
 text_same w w' e = ap (λ (x : Word). x.text) e
 
 -- the next words are the same but for places, where there are some before the rest
@@ -331,15 +331,15 @@ shorts {b} {ws} d = one_word {k = name} short short refl d (λ w w' rest rest' a
         let q : ltb 32 (length w'.text) ≡ false = ap (λ (l : List ℕ). ltb 32 (length l)) (sym (text_same w w' p)) ∙ t in
         (cc, record { value = w'; gives = rw q; like = ap blank (sym x) ∙ p })
 
-pub a-name : {b : ℕ} {ws : List Word} → Carries b alone blank ws aName aName
-unfolding aName
+pub a-name : {b : ℕ} {ws : List Word} → Carries b alone blank ws a_name a_name
+unfolding a_name
 a-name = on-kind name (λ d. shorts d) refuses
 
 -- a name where l more may stand, and l'
-pub one_name : {b : ℕ} {ws : List Word} (l l' : ℕ) → (eqb l 0 ≡ false → eqb l' 0 ≡ false) → Carries b alone blank ws (oneName l) (oneName l')
-unfolding oneName
-one_name l l' f = on-kind name (λ d. limited l l' f (shorts d)) refuses
+pub one_name_lem : {b : ℕ} {ws : List Word} (l l' : ℕ) → (eqb l 0 ≡ false → eqb l' 0 ≡ false) → Carries b alone blank ws (one_name l) (one_name l')
+unfolding one_name
+one_name_lem l l' f = on-kind name (λ d. limited l l' f (shorts d)) refuses
 
-pub name-or-string : {b : ℕ} {ws : List Word} → Carries b alone blank ws nameOrString nameOrString
-unfolding nameOrString inner
+pub name-or-string : {b : ℕ} {ws : List Word} → Carries b alone blank ws name_or_string name_or_string
+unfolding name_or_string inner
 name-or-string = on-kind string (λ d. passes string refl d) a-name

@@ -3,79 +3,79 @@ use mathlib.Core.List.{List, ◌∷◌}
 use mathlib.Core.Option.{Option, some}
 use mathlib.Core.Path.{◌≡◌, refl, ap}
 use Prim.Native.Nat.{ℕ}
-use Rattle.grammar.specs.Derived.{Took, Reference, by_name, by-string, ConstantIn, no-constant, a-constant, ValueIn, no_value, a-value, PlainIn, named_in, any-in, emit-in, error-in, exit_in, call-in, give-in, ranked-in, SelectorIn, token-in, rule-in, operation-in, LabelsIn, last-label, more-labels, ActIn, plain_in, cycle-in, choice-in, ActsIn, none_in, more-in, AltsIn, other-in, last-in, next-in, GivesIn, gives_none, gives-some, RuleIn, a-rule, RulesIn, last-rule, more-rules}
-use Rattle.parts.specs.Moved.{moveWord, moveWords, moveIf, moveConstant, movePlain, moveSelector, moveAct, moveActs, moveAlts, moveOther, moveRule, moveRules}
+use Rattle.grammar.specs.Derived.{Took, Reference, by_name, by_string, ConstantIn, no_constant, a_constant, ValueIn, no_value, a_value, PlainIn, named_in, any_in, emit_in, error_in, exit_in, call_in, give_in, ranked_in, SelectorIn, token_in, rule_in, operation_in, LabelsIn, last_label, more_labels, ActIn, plain_in, cycle_in, choice_in, ActsIn, none_in, more_in, AltsIn, other_in, last_in, next_in, GivesIn, gives_none, gives_some, RuleIn, a_rule, RulesIn, last_rule, more_rules}
+use Rattle.parts.specs.Moved.{move_word, move_words, move_if, move_constant, move_plain, move_selector, move_act, move_acts, move_alts, move_other, move_rule, move_rules}
 use Rattle.syntax.specs.Written.{Constant, Plain, Selector, Act, Acts, Alts, Other, Rule}
 use Rattle.words.specs.Words.{Word}
 
 module _ (back to : ℕ → ℕ) where
   -- these words come back to their places
   abbrev pub Back : List Word → Type 0
-  Back ws = moveWords back (moveWords to ws) ≡ ws
+  Back ws = move_words back (move_words to ws) ≡ ws
 
   back-if : {ws ws' : List Word} → ws' ≡ ws → Back ws → Back ws'
   back-if e h = rw e h
 
-  cons-back : (w : Word) (ws : List Word) → Back (w ∷ ws) → (moveWord back (moveWord to w) ≡ w) × Back ws
-  unfolding moveWords
+  cons-back : (w : Word) (ws : List Word) → Back (w ∷ ws) → (move_word back (move_word to w) ≡ w) × Back ws
+  unfolding move_words
   cons-back w ws h = (cc, cc)
 
-  took-back : {k : ℕ} {ws ws' : List Word} {w : Word} → Took k ws w ws' → Back ws → (moveWord back (moveWord to w) ≡ w) × Back ws'
+  took-back : {k : ℕ} {ws ws' : List Word} {w : Word} → Took k ws w ws' → Back ws → (move_word back (move_word to w) ≡ w) × Back ws'
   took-back {ws' = ws'} {w = w} t h = cons-back w ws' (rw t.here at h)
 
-  reference-back : {ws ws' : List Word} {w : Word} → Reference ws w ws' → Back ws → (moveWord back (moveWord to w) ≡ w) × Back ws'
+  reference-back : {ws ws' : List Word} {w : Word} → Reference ws w ws' → Back ws → (move_word back (move_word to w) ≡ w) × Back ws'
   reference-back (by_name t) h = took-back t h
-  reference-back (by-string t) h = took-back t h
+  reference-back (by_string t) h = took-back t h
 
   -- Plain actions and selectors
 
-  constant-back : {ws ws' : List Word} {c : Option Constant} → ConstantIn ws ws' c → Back ws → (moveConstant back (moveConstant to c) ≡ c) × Back ws'
-  unfolding moveConstant
-  constant-back (no-constant n e) h = (refl, back-if e h)
-  constant-back (a-constant t r u) h =
+  constant-back : {ws ws' : List Word} {c : Option Constant} → ConstantIn ws ws' c → Back ws → (move_constant back (move_constant to c) ≡ c) × Back ws'
+  unfolding move_constant
+  constant-back (no_constant n e) h = (refl, back-if e h)
+  constant-back (a_constant t r u) h =
       let a = took-back t h in
       let b = reference-back r a.1 in
       (rw (a.0, b.0) refl, (took-back u b.1).1)
 
-  value-back : {ws ws' : List Word} {v : Option Word} → ValueIn ws ws' v → Back ws → (moveIf back (moveIf to v) ≡ v) × Back ws'
-  unfolding moveIf
+  value-back : {ws ws' : List Word} {v : Option Word} → ValueIn ws ws' v → Back ws → (move_if back (move_if to v) ≡ v) × Back ws'
+  unfolding move_if
   value-back (no_value n m e) h = (refl, back-if e h)
-  value-back (a-value r) h = let a = reference-back r h in (ap some a.0, a.1)
+  value-back (a_value r) h = let a = reference-back r h in (ap some a.0, a.1)
 
-  plain_back : {ws ws' : List Word} {a : Plain} → PlainIn ws ws' a → Back ws → (movePlain back (movePlain to a) ≡ a) × Back ws'
-  unfolding movePlain
+  plain_back : {ws ws' : List Word} {a : Plain} → PlainIn ws ws' a → Back ws → (move_plain back (move_plain to a) ≡ a) × Back ws'
+  unfolding move_plain
   plain_back (named_in r c) h =
       let a = reference-back r h in
       let b = constant-back c a.1 in
       (rw (a.0, b.0) refl, b.1)
-  plain_back (any-in t) h = let a = took-back t h in (rw a.0 refl, a.1)
-  plain_back (emit-in t r) h = let a = reference-back r (took-back t h).1 in (rw a.0 refl, a.1)
-  plain_back (error-in t r) h = let a = reference-back r (took-back t h).1 in (rw a.0 refl, a.1)
+  plain_back (any_in t) h = let a = took-back t h in (rw a.0 refl, a.1)
+  plain_back (emit_in t r) h = let a = reference-back r (took-back t h).1 in (rw a.0 refl, a.1)
+  plain_back (error_in t r) h = let a = reference-back r (took-back t h).1 in (rw a.0 refl, a.1)
   plain_back (exit_in t) h = let a = took-back t h in (rw a.0 refl, a.1)
-  plain_back (call-in t u) h = let a = took-back u (took-back t h).1 in (rw a.0 refl, a.1)
-  plain_back (give-in t v) h =
+  plain_back (call_in t u) h = let a = took-back u (took-back t h).1 in (rw a.0 refl, a.1)
+  plain_back (give_in t v) h =
       let a = took-back t h in
       let b = value-back v a.1 in
       (rw (a.0, b.0) refl, b.1)
-  plain_back (ranked-in s w t o) h =
+  plain_back (ranked_in s w t o) h =
       let a = took-back s h in
       let b = took-back w a.1 in
       let d = took-back o (took-back t b.1).1 in
       (rw (a.0, b.0, d.0) refl, d.1)
 
-  selector-back : {ws ws' : List Word} {s : Selector} → SelectorIn ws ws' s → Back ws → (moveSelector back (moveSelector to s) ≡ s) × Back ws'
-  unfolding moveSelector
-  selector-back (token-in n m e) h = (refl, back-if e h)
-  selector-back (rule-in t u) h = let a = took-back u (took-back t h).1 in (rw a.0 refl, a.1)
-  selector-back (operation-in t c) h =
+  selector-back : {ws ws' : List Word} {s : Selector} → SelectorIn ws ws' s → Back ws → (move_selector back (move_selector to s) ≡ s) × Back ws'
+  unfolding move_selector
+  selector-back (token_in n m e) h = (refl, back-if e h)
+  selector-back (rule_in t u) h = let a = took-back u (took-back t h).1 in (rw a.0 refl, a.1)
+  selector-back (operation_in t c) h =
       let a = took-back t h in
       let b = constant-back c a.1 in
       (rw (a.0, b.0) refl, b.1)
 
   labels-back : {ws ws' ls : List Word} → LabelsIn ws ws' ls → Back ws → Back ls × Back ws'
-  unfolding moveWords
-  labels-back (last-label r n) h = let a = reference-back r h in (rw a.0 refl, a.1)
-  labels-back (more-labels r t q) h =
+  unfolding move_words
+  labels-back (last_label r n) h = let a = reference-back r h in (rw a.0 refl, a.1)
+  labels-back (more_labels r t q) h =
       let a = reference-back r h in
       let b = labels-back q (took-back t a.1).1 in
       (rw (a.0, b.0) refl, b.1)
@@ -83,31 +83,31 @@ module _ (back to : ℕ → ℕ) where
   -- Actions
 
   mutual
-    unfolding moveAct
+    unfolding move_act
 
-    act-back : {ws ws' : List Word} {a : Act} → ActIn ws ws' a → Back ws → (moveAct back (moveAct to a) ≡ a) × Back ws'
+    act-back : {ws ws' : List Word} {a : Act} → ActIn ws ws' a → Back ws → (move_act back (move_act to a) ≡ a) × Back ws'
     act-back (plain_in p) h = let a = plain_back p h in (rw a.0 refl, a.1)
-    act-back (cycle-in t q u) h = let a = acts-back q (took-back t h).1 in (rw a.0 refl, (took-back u a.1).1)
-    act-back (choice-in t s u q) h =
+    act-back (cycle_in t q u) h = let a = acts-back q (took-back t h).1 in (rw a.0 refl, (took-back u a.1).1)
+    act-back (choice_in t s u q) h =
         let a = selector-back s (took-back t h).1 in
         let b = alts-back q (took-back u a.1).1 in
         (rw (a.0, b.0, b.1) refl, b.2)
 
-    acts-back : {ws ws' : List Word} {q : Acts} → ActsIn ws ws' q → Back ws → (moveActs back (moveActs to q) ≡ q) × Back ws'
+    acts-back : {ws ws' : List Word} {q : Acts} → ActsIn ws ws' q → Back ws → (move_acts back (move_acts to q) ≡ q) × Back ws'
     acts-back (none_in t e) h = (refl, back-if e h)
-    acts-back (more-in t x q) h =
+    acts-back (more_in t x q) h =
         let a = act-back x h in
         let b = acts-back q a.1 in
         (rw (a.0, b.0) refl, b.1)
 
     alts-back : {ws ws' : List Word} {room : ℕ} {q : Alts} {o : Other} → AltsIn ws ws' room q o → Back ws
-        → (moveAlts back (moveAlts to q) ≡ q) × (moveOther back (moveOther to o) ≡ o) × Back ws'
-    alts-back (other-in t u q v) h = let a = acts-back q (took-back u (took-back t h).1).1 in (refl, rw a.0 refl, (took-back v a.1).1)
-    alts-back (last-in l few t q u) h =
+        → (move_alts back (move_alts to q) ≡ q) × (move_other back (move_other to o) ≡ o) × Back ws'
+    alts-back (other_in t u q v) h = let a = acts-back q (took-back u (took-back t h).1).1 in (refl, rw a.0 refl, (took-back v a.1).1)
+    alts-back (last_in l few t q u) h =
         let a = labels-back l h in
         let b = acts-back q (took-back t a.1).1 in
         (rw (a.0, b.0) refl, refl, (took-back u b.1).1)
-    alts-back (next-in l few t q u r) h =
+    alts-back (next_in l few t q u r) h =
         let a = labels-back l h in
         let b = acts-back q (took-back t a.1).1 in
         let d = alts-back r (took-back u b.1).1 in
@@ -115,21 +115,21 @@ module _ (back to : ℕ → ℕ) where
 
   -- Rules
 
-  gives_back : {ws ws' : List Word} {g : Option Word} → GivesIn ws ws' g → Back ws → (moveIf back (moveIf to g) ≡ g) × Back ws'
-  unfolding moveIf
+  gives_back : {ws ws' : List Word} {g : Option Word} → GivesIn ws ws' g → Back ws → (move_if back (move_if to g) ≡ g) × Back ws'
+  unfolding move_if
   gives_back (gives_none n e) h = (refl, back-if e h)
-  gives_back (gives-some t u) h = let a = took-back u (took-back t h).1 in (rw a.0 refl, a.1)
+  gives_back (gives_some t u) h = let a = took-back u (took-back t h).1 in (rw a.0 refl, a.1)
 
-  rule-back : {ws ws' : List Word} {r : Rule} → RuleIn ws ws' r → Back ws → (moveRule back (moveRule to r) ≡ r) × Back ws'
-  unfolding moveRule
-  rule-back (a-rule t g u q v) h =
+  rule-back : {ws ws' : List Word} {r : Rule} → RuleIn ws ws' r → Back ws → (move_rule back (move_rule to r) ≡ r) × Back ws'
+  unfolding move_rule
+  rule-back (a_rule t g u q v) h =
       let a = took-back t h in
       let b = gives_back g a.1 in
       let d = acts-back q (took-back u b.1).1 in
       let e = took-back v d.1 in
       (rw (a.0, b.0, d.0, e.0) refl, e.1)
 
-  pub rules-back : {ws ws' : List Word} {rs : List Rule} → RulesIn ws ws' rs → Back ws → moveRules back (moveRules to rs) ≡ rs
-  unfolding moveRules
-  rules-back (last-rule r n) h = rw (rule-back r h).0 refl
-  rules-back (more-rules r e q) h = let a = rule-back r h in rw (a.0, rules-back q a.1) refl
+  pub rules-back : {ws ws' : List Word} {rs : List Rule} → RulesIn ws ws' rs → Back ws → move_rules back (move_rules to rs) ≡ rs
+  unfolding move_rules
+  rules-back (last_rule r n) h = rw (rule-back r h).0 refl
+  rules-back (more_rules r e q) h = let a = rule-back r h in rw (a.0, rules-back q a.1) refl

@@ -4,10 +4,10 @@ use mathlib.Core.Path.{◌≡◌, refl}
 use Rattle.parts.specs.Form as form
 use Rattle.parts.specs.Moved as moved
 use Rattle.partwriter.specs.Put as put
-use Rattle.partwriter.specs.Put.{nameHere, front}
+use Rattle.partwriter.specs.Put.{name_here, front}
 
 -- the name `b`, which stands at 7 in the text at hand and at 2 in its part
-fact-name : nameHere (0 ∷ 0 ∷ 0 ∷ 0 ∷ 0 ∷ 0 ∷ 0 ∷ 98 ∷ 0 ∷ []) 7 1 5 ≡ 2 ∷ 1 ∷ 98 ∷ []
+fact-name : name_here (0 ∷ 0 ∷ 0 ∷ 0 ∷ 0 ∷ 0 ∷ 0 ∷ 98 ∷ 0 ∷ []) 7 1 5 ≡ 2 ∷ 1 ∷ 98 ∷ []
 unfolding put.opened form.opened moved.opened
 fact-name = refl
 

@@ -5,20 +5,20 @@ use Prim.Native.Nat.{ℕ, zero, suc, ◌+◌, ◌*◌, ◌-◌, ◌/◌, ◌%◌
 use native.Mathlib.Omega.{arith}
 use lib.ListN.{length, get_or, take, drop, set, replicate, length-set, length-take, length-drop, length-replicate}
 use lib.Seq.{sets, set_out, drop-set-lt, drop-cons, sets-eq, drop-length}
-use Rattle.buffers.specs.Words.{putWord}
-use Rattle.machine.proofs.Bytes.{length-wordsOf}
+use Rattle.buffers.specs.Words.{put_word}
+use Rattle.machine.proofs.Bytes.{length-words_of}
 use Rattle.machine.specs.Bytes.{count, words_of}
 use native.Mathlib.Numerals.{add-one}
-use Rattle.parts.specs.Form.{packed, nameWords}
-use Rattle.parts.specs.Moved.{moveWord}
+use Rattle.parts.specs.Form.{packed, name_words}
+use Rattle.parts.specs.Moved.{move_word}
 use Rattle.resolver.proofs.Appending.{appends-then}
 use Rattle.resolver.specs.Resolved.{Appends}
-use Rattle.partwriter.specs.Put.{Leaves, Puts, nameHere}
+use Rattle.partwriter.specs.Put.{Leaves, Puts, name_here}
 
 -- One word
 
-word_set : (out : List ℕ) (i x : ℕ) → words_of (putWord out i x) ≡ set (words_of out) i x
-unfolding words_of putWord
+word_set : (out : List ℕ) (i x : ℕ) → words_of (put_word out i x) ≡ set (words_of out) i x
+unfolding words_of put_word
 word_set [] i x = refl
 word_set (h ∷ []) zero x = refl
 word_set (h ∷ []) (suc i) x =
@@ -31,8 +31,8 @@ word_set (h ∷ l ∷ out) (suc i) x =
     let f : 2 * suc i + 1 ≡ suc (suc (2 * i + 1)) = omega arith in
     rw (f, e) (ap (λ ws. (h * 256 + l) ∷ ws) (word_set out i x))
 
-pub leaves_word : {out out' : List ℕ} {i : ℕ} (x : ℕ) → i < count out → out' ≡ putWord out i x → Leaves out (set (words_of out) i x) out'
-unfolding putWord
+pub leaves_word : {out out' : List ℕ} {i : ℕ} (x : ℕ) → i < count out → out' ≡ put_word out i x → Leaves out (set (words_of out) i x) out'
+unfolding put_word
 leaves_word {out} {out'} {i} x h e = record {
   words = ap words_of e ∙ word_set out i x;
   size = ap length e ∙ length-set (set out (2 * i) (x / 256)) (2 * i + 1) (x % 256) ∙ length-set out (2 * i) (x / 256);
@@ -43,7 +43,7 @@ pub leaves-same : (out : List ℕ) → Leaves out (words_of out) out
 leaves-same out = record { words = refl; size = refl; odd = refl }
 
 pub leaves-out : (out : List ℕ) (i x : ℕ) → count out ≤ i → Leaves out (set (words_of out) i x) out
-leaves-out out i x h = record { words = sym (set_out (words_of out) i x (omega (arith, length-wordsOf out))); size = refl; odd = refl }
+leaves-out out i x h = record { words = sym (set_out (words_of out) i x (omega (arith, length-words_of out))); size = refl; odd = refl }
 
 pub same_count : (out out' : List ℕ) → length out' ≡ length out → count out' ≡ count out
 unfolding count
@@ -60,7 +60,7 @@ leaves-then {out} {out₁} {out₂} {ws} {ws₂} a b = record {
 -- Words behind words
 
 pub puts-appends : {out out' xs : List ℕ} {c c' : ℕ} → Puts out c xs out' c' → Appends (words_of out) c xs (words_of out') c'
-puts-appends {out} {out'} {xs} {c} {c'} h = record { cells = h.leaves.words; count = h.total ∙ ap (λ n. min (suc n) (c + length xs)) (sym (length-wordsOf out)) }
+puts-appends {out} {out'} {xs} {c} {c'} h = record { cells = h.leaves.words; count = h.total ∙ ap (λ n. min (suc n) (c + length xs)) (sym (length-words_of out)) }
 
 pub puts-size : {out out' xs : List ℕ} {c c' : ℕ} → Puts out c xs out' c' → length out' ≡ length out
 puts-size h = h.leaves.size
@@ -72,7 +72,7 @@ puts-bound {out} {out'} h = omega (arith, h.total, same_count out out' h.leaves.
 pub puts_none : {out : List ℕ} {c c' : ℕ} → c' ≡ min c (count out + 1) → Puts out c [] out c'
 puts_none {out} {c} {c'} e = record { leaves = leaves-same out; total = omega (arith, e) }
 
-pub puts_one : {out out' : List ℕ} {c : ℕ} (x : ℕ) → c < count out → out' ≡ putWord out c x → Puts out c (x ∷ []) out' (c + 1)
+pub puts_one : {out out' : List ℕ} {c : ℕ} (x : ℕ) → c < count out → out' ≡ put_word out c x → Puts out c (x ∷ []) out' (c + 1)
 puts_one x h e = record { leaves = leaves_word x h e; total = omega arith }
 
 pub puts-past : (out : List ℕ) (c x : ℕ) → count out ≤ c → Puts out c (x ∷ []) out (count out + 1)
@@ -84,7 +84,7 @@ puts_then {out} {out₁} {out₂} {xs} {ys} {c} {c₁} {c₂} a b =
     let l = leaves-then a.leaves b.leaves in
     record {
       leaves = record { words = t.cells; size = l.size; odd = l.odd };
-      total = t.count ∙ ap (λ n. min (suc n) (c + length (xs ++ ys))) (length-wordsOf out);
+      total = t.count ∙ ap (λ n. min (suc n) (c + length (xs ++ ys))) (length-words_of out);
     }
 
 pub puts-next : {out out₁ out₂ xs ys : List ℕ} {c c₁ c₂ x : ℕ} → xs ≡ x ∷ ys → Puts out c (x ∷ []) out₁ c₁ → Puts out₁ c₁ ys out₂ c₂ → Puts out c xs out₂ c₂
@@ -112,8 +112,8 @@ no_byte text end p h = let z : end - p ≡ 0 = omega arith in ap (λ i. take i (
 
 -- A name
 
-pub name-words : (text : List ℕ) (start len moved : ℕ) → start + len ≤ length text → nameHere text start len moved ≡ (start - moved) ∷ len ∷ take len (drop start text)
-unfolding nameHere nameWords moveWord
+pub name-words : (text : List ℕ) (start len moved : ℕ) → start + len ≤ length text → name_here text start len moved ≡ (start - moved) ∷ len ∷ take len (drop start text)
+unfolding name_here name_words move_word
 name-words text start len moved h =
     let e : length (take len (drop start text)) ≡ len = omega (arith, length-take len (drop start text), length-drop start text) in
     ap (λ n. (start - moved) ∷ n ∷ take len (drop start text)) e
@@ -161,7 +161,7 @@ zeros-behind l i h =
 
 pub zeros-left : {out out' : List ℕ} {c n m : ℕ} → n ≡ count out → c ≤ n → Puts out c (replicate (n - c) 0) out' m → Leaves out (take c (words_of out) ++ replicate (count out - c) 0) out'
 zeros-left {out} {out'} {c} {n} {m} e h p =
-    let l = length-wordsOf out in
+    let l = length-words_of out in
     let f : n ≡ length (words_of out) = e ∙ sym l in
     let z = zeros-behind (words_of out) c (omega (arith, f, h)) in
     record {

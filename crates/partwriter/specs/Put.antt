@@ -2,8 +2,8 @@
 use Rattle.std.specs.Prelude.{List, [], ◌∷◌, ◌++◌, ◌≡◌, ℕ, suc, ◌+◌, ◌*◌, ◌-◌, min, length, drop}
 use Rattle.std.proofs.lemmas.List.Edits.{sets}
 use Rattle.machine.specs.Bytes.{count, words_of}
-use Rattle.parts.specs.Form.{packed, nameWords}
-use Rattle.parts.specs.Moved.{moveWord}
+use Rattle.parts.specs.Form.{packed, name_words}
+use Rattle.parts.specs.Moved.{move_word}
 use Rattle.symbols.specs.Rows.{word_of}
 use Rattle.partwriter.specs.declared.Sizes.{Sizes}
 
@@ -23,8 +23,8 @@ abbrev pub back : ℕ → ℕ → ℕ
 back moved start = start - moved
 
 -- the words of the name that stands here
-unfoldable pub nameHere : List ℕ → ℕ → ℕ → ℕ → List ℕ
-nameHere text start len moved = nameWords (moveWord (back moved) (word_of text 257 start len))
+unfoldable pub name_here : List ℕ → ℕ → ℕ → ℕ → List ℕ
+name_here text start len moved = name_words (move_word (back moved) (word_of text 257 start len))
 
 -- the words in front of an object's pairs and rules, the number of words behind the first three not yet known
 unfoldable pub front : List ℕ → Sizes → List ℕ
@@ -32,5 +32,5 @@ front common s = 20559 ∷ 0 ∷ 0 ∷ length common ∷ s.part ∷ s.rules ∷ 
 
 -- all of this file computes where this is unfolded
 unfoldable pub opened : Unit {0}
-unfolding nameHere front
+unfolding name_here front
 opened = tt

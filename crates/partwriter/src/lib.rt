@@ -2,7 +2,7 @@
 ghost use Rattle.std.specs.Prelude.{List, [], ◌∷◌, ◌++◌, ◌≡◌, ◌+◌, ◌*◌, ◌-◌, ◌<◌, ◌≤◌, length, take, drop, set, get_or, replicate};
 ghost use Rattle.machine.specs.Bytes.{count, words_of};
 ghost use Rattle.parts.specs.Form.{packed};
-ghost use Rattle.partwriter.specs.Put.{Leaves, Puts, nameHere, front};
+ghost use Rattle.partwriter.specs.Put.{Leaves, Puts, name_here, front};
 
 use base::{byte_word, least};
 
@@ -85,7 +85,7 @@ pub fn put_name(
     moved: usize,
 ) -> usize
     requires { (start + len ≤ length text.now) × (length text.now < 65536) }
-    ensures { Puts object.old c (nameHere text.now start len moved) object.new result }
+    ensures { Puts object.old c (name_here text.now start len moved) object.new result }
 {
     let n = put_two(object, c, moved_back(start, moved) as u16, len as u16);
     put_bytes(object, n, text, start, len)

@@ -1,7 +1,7 @@
 -- Operators in an accepted text.
 use Rattle.std.specs.Prelude.{true, List, [], ◌∷◌, ◌++◌, ◌≡◌, ℕ, length}
 use Rattle.names.specs.Known.{KnownRule, Names}
-use Rattle.names.specs.Uses.{Use, pairsOf, lowestOf, levelsUsed, operandOf}
+use Rattle.names.specs.Uses.{Use, pairs_of, lowest_of, levels_used, operand_of}
 use Rattle.precedence.specs.Sums.{Apart, Stand}
 use Rattle.program.specs.Program.{Rule}
 use Rattle.syntax.specs.Written.{Program}
@@ -9,5 +9,5 @@ use Rattle.syntax.specs.Written.{Program}
 -- a use in the rules is a call of this place; there stand the rules of its section's levels over its operand rule, and no token is an operator of two
 -- levels: what `Postfix` asks for
 pub record Stands (p : Program) (n : Names) (rules : List KnownRule) (prog : List Rule) (u : Use) : Type 0 where
-  pub stand : Stand prog (lowestOf n u (length p.rules) (pairsOf p.rules)) (operandOf rules u) (levelsUsed n u)
-  pub apart : Apart (levelsUsed n u)
+  pub stand : Stand prog (lowest_of n u (length p.rules) (pairs_of p.rules)) (operand_of rules u) (levels_used n u)
+  pub apart : Apart (levels_used n u)

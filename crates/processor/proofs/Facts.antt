@@ -17,7 +17,7 @@ use Rattle.names.specs.Understand
 use Rattle.names.specs.Uses
 use Rattle.program.specs.Made
 use Rattle.processor.specs.Process
-use Rattle.processor.specs.Process.{Understood, meaning, Answer, accepted, refused, answerFor, process, lentBytes}
+use Rattle.processor.specs.Process.{Understood, meaning, Answer, accepted, refused, answer_for, process, lent_bytes}
 use Rattle.program.specs.Past
 use Rattle.program.specs.Program
 use Rattle.program.specs.Program.{any, Acts}
@@ -62,11 +62,11 @@ pub holds : Lent → Bool
 holds l =
     let before : List ℕ = replicate l.lent 7 in
     let a = process (bytes l.text) (count before) in
-    eqb (number_of a) l.number && eqb (start_of a) l.start && same (lentBytes a before) l.after
+    eqb (number_of a) l.number && eqb (start_of a) l.start && same (lent_bytes a before) l.after
 
-pub allHold : List Lent → Bool
-allHold [] = true
-allHold (l ∷ ls) = holds l && allHold ls
+pub all_hold : List Lent → Bool
+all_hold [] = true
+all_hold (l ∷ ls) = holds l && all_hold ls
 
 -- "20 the table passes the lent buffer": enough, one word more, one short; "an odd last byte counts for nothing and is not touched"; "On
 -- acceptance the words after the table are zero", "lent table all zero words", "table zeroed"; "words high byte first"
@@ -87,19 +87,19 @@ buffers =
     ∷ lends "input: a = 65535; output: b = 258; rules M: a .b; end" 11 0 0 (0 ∷ 3 ∷ 255 ∷ 255 ∷ 0 ∷ 5 ∷ 1 ∷ 2 ∷ 0 ∷ 9 ∷ 7 ∷ [])
     ∷ []
 
-pub buffers-hold : T (allHold buffers)
-unfolding processing number_of start_of holds allHold buffers
+pub buffers-hold : T (all_hold buffers)
+unfolding processing number_of start_of holds all_hold buffers
 buffers-hold = tt
 
 -- The verdict, from the text on; each way of a path is worked out in crate finishing
 
-pub saysYes : Answer → Bool
-saysYes (accepted ws f) = f
-saysYes (refused n at) = false
+pub says_yes : Answer → Bool
+says_yes (accepted ws f) = f
+says_yes (refused n at) = false
 
-pub saysNo : Answer → Bool
-saysNo (accepted ws f) = not f
-saysNo (refused n at) = false
+pub says_no : Answer → Bool
+says_no (accepted ws f) = not f
+says_no (refused n at) = false
 
 pub every : (Answer → Bool) → List String → Bool
 every test [] = true
@@ -124,8 +124,8 @@ looping-texts =
     ∷ "rules M: ; N: { }; end"
     ∷ []
 
-pub verdicts : T (every saysYes finishing-texts && every saysNo looping-texts)
-unfolding processing saysYes saysNo every finishing-texts looping-texts
+pub verdicts : T (every says_yes finishing-texts && every says_no looping-texts)
+unfolding processing says_yes says_no every finishing-texts looping-texts
 verdicts = tt
 
 -- 4,096 words
@@ -139,21 +139,21 @@ abbrev pub sized : ℕ → Understood
 sized n = meaning (record { valued = false; body = anys n } ∷ [])
 
 -- "or 4,096 words": the empty part at the end of the text, here one of three bytes
-pub isAnswer : Answer → ℕ → ℕ → Bool
-isAnswer a n s = eqb (number_of a) n && eqb (start_of a) s && eqb (size_of a) 0
+pub is_answer : Answer → ℕ → ℕ → Bool
+is_answer a n s = eqb (number_of a) n && eqb (start_of a) s && eqb (size_of a) 0
 
 abbrev pub text : List ℕ
 text = 1 ∷ 2 ∷ 3 ∷ []
 
-pub most-words : T (isAnswer (answerFor text 4096 (sized 4095)) 0 0 && isAnswer (answerFor text 9000 (sized 4095)) 0 0
-    && isAnswer (answerFor text 4095 (sized 4095)) 20 3 && isAnswer (answerFor text 4096 (sized 4096)) 20 3
-    && isAnswer (answerFor text 4097 (sized 4096)) 20 3 && isAnswer (answerFor text 9000 (sized 4096)) 20 3)
-unfolding processing number_of start_of size_of anys isAnswer
+pub most-words : T (is_answer (answer_for text 4096 (sized 4095)) 0 0 && is_answer (answer_for text 9000 (sized 4095)) 0 0
+    && is_answer (answer_for text 4095 (sized 4095)) 20 3 && is_answer (answer_for text 4096 (sized 4096)) 20 3
+    && is_answer (answer_for text 4097 (sized 4096)) 20 3 && is_answer (answer_for text 9000 (sized 4096)) 20 3)
+unfolding processing number_of start_of size_of anys is_answer
 most-words = tt
 
 -- "no size or distance may be cut to 16 bits on the way": 65,537 words
-pub no_cut : T (isAnswer (answerFor text 70000 (sized 65536)) 20 3)
-unfolding processing number_of start_of size_of anys isAnswer
+pub no_cut : T (is_answer (answer_for text 70000 (sized 65536)) 20 3)
+unfolding processing number_of start_of size_of anys is_answer
 no_cut = tt
 
 pub sum : List ℕ → ℕ
@@ -162,8 +162,8 @@ sum (n ∷ ns) = n + sum ns
 
 -- 4,097 words and an odd byte lent, each byte 7: all words are zero but the table's, also past 4,096
 pub long-buffer : T (let before : List ℕ = replicate 8195 7 in
-    let done = lentBytes (accepted (9 ∷ []) true) before in
-    let undone = lentBytes (refused 20 (record { start = 3; size = 0 })) before in
+    let done = lent_bytes (accepted (9 ∷ []) true) before in
+    let undone = lent_bytes (refused 20 (record { start = 3; size = 0 })) before in
     eqb (length done) 8195 && eqb (sum done) 16 && eqb (length undone) 8195 && eqb (sum undone) 7)
 unfolding processing sum
 long-buffer = tt

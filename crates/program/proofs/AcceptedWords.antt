@@ -6,8 +6,8 @@ use native.Mathlib.Omega.{arith}
 use lib.ListN.{length, get_or}
 use Rattle.base.specs.Tree.{plain, cycle, choice, done, ◌▸◌, nil, alternative, absent, otherwise}
 use Rattle.program.specs.Accepted.{Values, OkPlain, OkSelector, Ok, Oks, OkAlts, OkOther, Accepted}
-use Rattle.program.specs.Program.{Plain, match, any, emit, error, exit, call, back, give, update, updateWith, Selector, byToken, byRule, byOperation, byOperationWith, Act, Acts, Alts, Other, Rule, ruleOf, body_of}
-use Rattle.program.specs.Table.{sizeRules, table}
+use Rattle.program.specs.Program.{Plain, match, any, emit, error, exit, call, back, give, update, update_with, Selector, by_token, by_rule, by_operation, by_operation_with, Act, Acts, Alts, Other, Rule, rule_of, body_of}
+use Rattle.program.specs.Table.{size_rules, table}
 use Rattle.program.proofs.Bounds.{Word, All, all_nil, all_cons, SmallPlain, SmallSelector, Small, Smalls, SmallAlts, SmallOther, SmallRule, SmallProgram, table-word}
 
 small-labels : (ls : List ℕ) → Values ls → All Word ls
@@ -27,14 +27,14 @@ module _ (prog : List Rule) where
   small_plain back v c g = tt
   small_plain (give w) v c g = g.1
   small_plain (update op) v c g = omega arith
-  small_plain (updateWith op w) v c g = omega arith
+  small_plain (update_with op w) v c g = omega arith
 
   small-selector : (s : Selector) → OkSelector prog s → SmallSelector (length prog) s
   unfolding OkSelector SmallSelector
-  small-selector byToken g = tt
-  small-selector (byRule r) g = g.there
-  small-selector (byOperation op) g = omega arith
-  small-selector (byOperationWith op w) g = omega arith
+  small-selector by_token g = tt
+  small-selector (by_rule r) g = g.there
+  small-selector (by_operation op) g = omega arith
+  small-selector (by_operation_with op w) g = omega arith
 
   mutual
     unfolding Ok Small
@@ -58,7 +58,7 @@ module _ (prog : List Rule) where
 
   pub accepted-small : Accepted prog → SmallProgram prog
   unfolding SmallProgram SmallRule body_of
-  accepted-small a r l = smalls (body_of prog r) (ruleOf prog r).valued false (a.in_order r l)
+  accepted-small a r l = smalls (body_of prog r) (rule_of prog r).valued false (a.in_order r l)
 
-  pub accepted-word : Accepted prog → sizeRules prog ≤ 4096 → (i : ℕ) → get_or (table prog) i 0 < 65536
+  pub accepted-word : Accepted prog → size_rules prog ≤ 4096 → (i : ℕ) → get_or (table prog) i 0 < 65536
   accepted-word a = table-word prog (accepted-small a)

@@ -7,7 +7,7 @@ use lib.ListN.{length, replicate}
 use Rattle.base.specs.Common.{same}
 use Rattle.base.specs.Tree.{plain, done, ◌▸◌}
 use Rattle.program.specs.Made
-use Rattle.program.specs.Made.{Operator, Level, levelsOf, levelRules, crowded}
+use Rattle.program.specs.Made.{Operator, Level, levels_of, level_rules, crowded}
 use Rattle.program.specs.Program.{match, call, Rule}
 use Rattle.program.specs.Table
 use Rattle.program.specs.Table.{table}
@@ -24,13 +24,13 @@ pub sizes : List Level → List ℕ
 sizes [] = []
 sizes (l ∷ ls) = length l.operators ∷ sizes ls
 
-pub levels-used : T (same (sizes (levelsOf entries)) (2 ∷ 1 ∷ 1 ∷ []))
+pub levels-used : T (same (sizes (levels_of entries)) (2 ∷ 1 ∷ 1 ∷ []))
 unfolding sizes entries Made.opened
 levels-used = tt
 
 -- M: ^E @P; P: a; and the rules of levels 1, 2 and 15
 pub prog : List Rule
-prog = record { valued = false; body = plain (call 2) ▸ done } ∷ record { valued = false; body = plain (match 0) ▸ done } ∷ levelRules 2 1 (levelsOf entries)
+prog = record { valued = false; body = plain (call 2) ▸ done } ∷ record { valued = false; body = plain (match 0) ▸ done } ∷ level_rules 2 1 (levels_of entries)
 
 pub words_are : T (same (table prog)
     (8 ∷ 7 ∷ 9 ∷ 3 ∷ 0 ∷ 9

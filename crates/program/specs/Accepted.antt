@@ -1,8 +1,8 @@
 -- What the checks of the processor leave of a program: the shape and the ranges that its table and both walks rest on.
 use Rattle.std.specs.Prelude.{Bool, true, false, List, [], ◌∷◌, ◌≡◌, ℕ, ◌<◌, ◌≤◌, length}
 use Rattle.base.specs.Tree.{plain, cycle, choice, done, ◌▸◌, nil, alternative, absent, otherwise}
-use Rattle.program.specs.Past.{pastAll}
-use Rattle.program.specs.Program.{Plain, match, any, emit, error, exit, call, back, give, update, updateWith, Selector, byToken, byRule, byOperation, byOperationWith, Act, Acts, Alts, Other, Rule, ruleOf, body_of}
+use Rattle.program.specs.Past.{past_all}
+use Rattle.program.specs.Program.{Plain, match, any, emit, error, exit, call, back, give, update, update_with, Selector, by_token, by_rule, by_operation, by_operation_with, Act, Acts, Alts, Other, Rule, rule_of, body_of}
 
 -- "values to 65,535"
 abbrev pub Value : ℕ → Type 0
@@ -19,16 +19,16 @@ Labelled (alternative [] b q) = ⊥
 Labelled (alternative (v ∷ ls) b q) = Unit {0}
 
 unfoldable pub NeedsLabel : Selector → Other → Alts → Type 0
-NeedsLabel byToken absent q = Labelled q
-NeedsLabel byToken (otherwise b) q = Unit {0}
-NeedsLabel (byRule r) o q = Unit {0}
-NeedsLabel (byOperation op) o q = Unit {0}
-NeedsLabel (byOperationWith op v) o q = Unit {0}
+NeedsLabel by_token absent q = Labelled q
+NeedsLabel by_token (otherwise b) q = Unit {0}
+NeedsLabel (by_rule r) o q = Unit {0}
+NeedsLabel (by_operation op) o q = Unit {0}
+NeedsLabel (by_operation_with op v) o q = Unit {0}
 
 -- rule r is there, and is a choice rule or not as v says
 pub record Calls (prog : List Rule) (r : ℕ) (v : Bool) : Type 0 where
   pub there : r < length prog
-  pub sort : (ruleOf prog r).valued ≡ v
+  pub sort : (rule_of prog r).valued ≡ v
 
 module _ (prog : List Rule) where
   -- v: in a choice rule; c: in a cycle
@@ -42,13 +42,13 @@ module _ (prog : List Rule) where
   OkPlain back v c = v ≡ false
   OkPlain (give w) v c = (v ≡ true) × Value w
   OkPlain (update op) v c = (256 ≤ op) × (op < 512)
-  OkPlain (updateWith op w) v c = (512 ≤ op) × (op < 768) × Value w
+  OkPlain (update_with op w) v c = (512 ≤ op) × (op < 768) × Value w
 
   unfoldable pub OkSelector : Selector → Type 0
-  OkSelector byToken = Unit {0}
-  OkSelector (byRule r) = Calls prog r true
-  OkSelector (byOperation op) = (768 ≤ op) × (op < 1024)
-  OkSelector (byOperationWith op w) = (1024 ≤ op) × (op < 1280) × Value w
+  OkSelector by_token = Unit {0}
+  OkSelector (by_rule r) = Calls prog r true
+  OkSelector (by_operation op) = (768 ≤ op) × (op < 1024)
+  OkSelector (by_operation_with op w) = (1024 ≤ op) × (op < 1280) × Value w
 
   unfoldable mutual
     pub Ok : Act → Bool → Bool → Type 0
@@ -70,7 +70,7 @@ module _ (prog : List Rule) where
 
   -- every rule in order, no choice rule at its semicolon, the first a procedure rule
   pub record Accepted : Type 0 where
-    pub some-rule : 0 < length prog
-    pub first : (ruleOf prog 0).valued ≡ false
-    pub in_order : (r : ℕ) → r < length prog → Oks (body_of prog r) (ruleOf prog r).valued false
-    pub no_end : (r : ℕ) → r < length prog → (ruleOf prog r).valued ≡ true → pastAll (body_of prog r) ≡ false
+    pub some_rule : 0 < length prog
+    pub first : (rule_of prog 0).valued ≡ false
+    pub in_order : (r : ℕ) → r < length prog → Oks (body_of prog r) (rule_of prog r).valued false
+    pub no_end : (r : ℕ) → r < length prog → (rule_of prog r).valued ≡ true → past_all (body_of prog r) ≡ false

@@ -10,34 +10,34 @@ once [] = true
 once (v ∷ vs) = not (member v vs) && once vs
 
 -- the labels of a choice's alternatives, in text order
-unfoldable pub labelsIn : Alts → List ℕ
-labelsIn nil = []
-labelsIn (alternative ls b q) = ls ++ labelsIn q
+unfoldable pub labels_in : Alts → List ℕ
+labels_in nil = []
+labels_in (alternative ls b q) = ls ++ labels_in q
 
 unfoldable mutual
   pub distinct : Act → Bool
   distinct (plain p) = true
-  distinct (cycle b) = distinctAll b
-  distinct (choice s q o) = once (labelsIn q) && distinctSome q && distinctOther o
+  distinct (cycle b) = distinct_all b
+  distinct (choice s q o) = once (labels_in q) && distinct_some q && distinct_other o
 
-  pub distinctAll : Acts → Bool
-  distinctAll done = true
-  distinctAll (a ▸ q) = distinct a && distinctAll q
+  pub distinct_all : Acts → Bool
+  distinct_all done = true
+  distinct_all (a ▸ q) = distinct a && distinct_all q
 
-  pub distinctSome : Alts → Bool
-  distinctSome nil = true
-  distinctSome (alternative ls b q) = distinctAll b && distinctSome q
+  pub distinct_some : Alts → Bool
+  distinct_some nil = true
+  distinct_some (alternative ls b q) = distinct_all b && distinct_some q
 
-  pub distinctOther : Other → Bool
-  distinctOther absent = true
-  distinctOther (otherwise b) = distinctAll b
+  pub distinct_other : Other → Bool
+  distinct_other absent = true
+  distinct_other (otherwise b) = distinct_all b
 
 -- of every rule, those made for operators among them
-unfoldable pub distinctLabels : List Rule → Bool
-distinctLabels [] = true
-distinctLabels (r ∷ rs) = distinctAll r.body && distinctLabels rs
+unfoldable pub distinct_labels : List Rule → Bool
+distinct_labels [] = true
+distinct_labels (r ∷ rs) = distinct_all r.body && distinct_labels rs
 
 -- all of this file computes where this is unfolded
 unfoldable pub opened : Unit {0}
-unfolding once labelsIn distinct distinctLabels
+unfolding once labels_in distinct distinct_labels
 opened = tt

@@ -13,13 +13,13 @@ pub data Plain : Type 0 where
   back : Plain  -- `>>` in a procedure rule
   give : ℕ → Plain  -- `>>` with its value, in a choice rule
   update : ℕ → Plain
-  updateWith : ℕ → ℕ → Plain  -- an operation and its parameter
+  update_with : ℕ → ℕ → Plain  -- an operation and its parameter
 
 -- "A choice has a selector (none, `@choice rule`, or a choice operation with its constant if it has a parameter)"
 pub data Selector : Type 0 where
-  byToken : Selector
-  byRule byOperation : ℕ → Selector
-  byOperationWith : ℕ → ℕ → Selector
+  by_token : Selector
+  by_rule by_operation : ℕ → Selector
+  by_operation_with : ℕ → ℕ → Selector
 
 abbrev pub Act : Type 0
 Act = Action Plain Selector ℕ
@@ -39,13 +39,13 @@ pub record Rule : Type 0 where
   pub body : Acts
 
 -- the rule at a place of the text; past the last, a procedure rule with no actions
-unfoldable pub ruleOf : List Rule → ℕ → Rule
-ruleOf prog r = get_or prog r (record { valued = false; body = done })
+unfoldable pub rule_of : List Rule → ℕ → Rule
+rule_of prog r = get_or prog r (record { valued = false; body = done })
 
 unfoldable pub body_of : List Rule → ℕ → Acts
-body_of prog r = (ruleOf prog r).body
+body_of prog r = (rule_of prog r).body
 
 -- all of this file computes where this is unfolded
 unfoldable pub opened : Unit {0}
-unfolding ruleOf body_of
+unfolding rule_of body_of
 opened = tt

@@ -8,20 +8,20 @@ use native.Mathlib.Omega.{arith}
 use lib.Dec.{T, eqb, leb}
 use lib.ListN.{length}
 use borrow.Author.Tests.{ne_eqb, eq-eqb, lt-ltb, le-ltb, leb-true, leb-false}
-use Rattle.base.specs.Common.{if◌then◌else◌}
+use Rattle.std.specs.Prelude.{if◌then◌else◌}
 use Rattle.base.specs.Tree.{nil, absent, alternative}
 use Rattle.reader.specs.Answers.{Brings, Faulty, Here, Holds, Tells, Told, failed, held, refusal, says, told, void, went}
-use Rattle.reader.specs.Parts.{LeavesBoth, aLabelled, oneAction, withConstant}
+use Rattle.reader.specs.Parts.{LeavesBoth, a_labelled, one_action, with_constant}
 use Rattle.scanner.proofs.WordLaws.{part_length}
-use Rattle.scanner.specs.Next.{asWord, Next}
-use Rattle.syntax.specs.Actions.{closes, aConstant, actions, anAlternative, someLabels}
-use Rattle.syntax.specs.Reading.{Read, Reader, aName, expect, fault, got, on◌then◌else◌, onward, over, pass, peek, refuse, short, within}
+use Rattle.scanner.specs.Next.{as_word, Next}
+use Rattle.syntax.specs.Actions.{closes, a_constant, actions, an_alternative, some_labels}
+use Rattle.syntax.specs.Reading.{Read, Reader, a_name, expect, fault, got, on◌then◌else◌, onward, over, pass, peek, refuse, short, within}
 use Rattle.syntax.specs.Written.{Acts, Choices, Constant}
-use Rattle.words.specs.Words.{Word, wordsAt}
+use Rattle.words.specs.Words.{Word, words_at}
 use Rattle.reader.specs.declared.Out.{Out}
 use Rattle.scanner.specs.declared.WordAt.{WordAt}
 
-pub says_on : (text : List ℕ) (r : Out) → r.fault ≡ 0 → says text r ≡ went (wordsAt text r.at)
+pub says_on : (text : List ℕ) (r : Out) → r.fault ≡ 0 → says text r ≡ went (words_at text r.at)
 unfolding says
 says_on text r e = rw e
 
@@ -43,8 +43,8 @@ then-off (fault m w) f n s l e = e
 
 -- a part was read, and the rest goes on from where it ended
 pub goes : {A B : Type 0} {m : Read A} (f : A → Reader B) {text : List ℕ} {r s : Out}
-    → Tells m text r → r.fault ≡ 0 → ((a : A) → Tells (f a (wordsAt text r.at)) text s) → Tells (onward m f) text s
-goes {m = m} f {text} {r} {s} e h g = record { same = then-on m f (wordsAt text r.at) (says text s) (e.same ∙ says_on text r h) (λ a. (g a).same) }
+    → Tells m text r → r.fault ≡ 0 → ((a : A) → Tells (f a (words_at text r.at)) text s) → Tells (onward m f) text s
+goes {m = m} f {text} {r} {s} e h g = record { same = then-on m f (words_at text r.at) (says text s) (e.same ∙ says_on text r h) (λ a. (g a).same) }
 
 -- a part has a fault
 pub stops : {A B : Type 0} {m : Read A} (f : A → Reader B) {text : List ℕ} {r : Out}
@@ -62,38 +62,38 @@ pub ends : {A B : Type 0} {m : Read A} (f : A → B) {text : List ℕ} {r : Out}
 ends {m = m} f e = record { same = end m f ∙ e.same }
 
 -- a value is given with nothing more read
-pub gives : {A : Type 0} {a : A} {text : List ℕ} {r : Out} → r.fault ≡ 0 → Tells (got a (wordsAt text r.at)) text r
+pub gives : {A : Type 0} {a : A} {text : List ℕ} {r : Out} → r.fault ≡ 0 → Tells (got a (words_at text r.at)) text r
 gives {text = text} {r} e = record { same = sym (says_on text r e) }
 
 -- the next word is passed
 pub passes : {B : Type 0} (f : Word → Reader B) {text : List ℕ} {at : ℕ} {w : WordAt} {s : Out} → Here text at w → 2 ≤ w.kind
-    → Tells (f (asWord text w) (wordsAt text w.next)) text s → Tells (onward (pass (wordsAt text at)) f) text s
+    → Tells (f (as_word text w) (words_at text w.next)) text s → Tells (onward (pass (words_at text at)) f) text s
 unfolding pass onward
 passes f n h t = rw (n.more h) t
 
 -- a test on the next word
 pub yes : {A : Type 0} (k : ℕ) (a b : Reader A) {text : List ℕ} {at : ℕ} {w : WordAt} {s : Out} → Here text at w → w.kind ≡ k
-    → Tells (a (wordsAt text at)) text s → Tells ((on k then a else b) (wordsAt text at)) text s
+    → Tells (a (words_at text at)) text s → Tells ((on k then a else b) (words_at text at)) text s
 unfolding on◌then◌else◌
 yes k a b {w = w} n e t = rw (n.head, eq-eqb w.kind k e) t
 
 pub no : {A : Type 0} (k : ℕ) (a b : Reader A) {text : List ℕ} {at : ℕ} {w : WordAt} {s : Out} → Here text at w → (w.kind ≡ k → ⊥)
-    → Tells (b (wordsAt text at)) text s → Tells ((on k then a else b) (wordsAt text at)) text s
+    → Tells (b (words_at text at)) text s → Tells ((on k then a else b) (words_at text at)) text s
 unfolding on◌then◌else◌
 no k a b {w = w} n e t = rw (n.head, ne_eqb w.kind k e) t
 
 -- faults at the next word
-pub word-length : {text : List ℕ} {at : ℕ} {w : WordAt} → Here text at w → length (asWord text w).text ≡ w.len
+pub word-length : {text : List ℕ} {at : ℕ} {w : WordAt} → Here text at w → length (as_word text w).text ≡ w.len
 word-length {text} {w = w} n = part_length text w.start w.len n.inside
 
-pub faults : {A : Type 0} {text : List ℕ} {at n : ℕ} {w : WordAt} {r : Out} → Here text at w → 0 < n → Faulty n w r → Tells {A = A} (fault n (peek (wordsAt text at))) text r
+pub faults : {A : Type 0} {text : List ℕ} {at n : ℕ} {w : WordAt} {r : Out} → Here text at w → 0 < n → Faulty n w r → Tells {A = A} (fault n (peek (words_at text at))) text r
 faults {text = text} {w = w} {r} e h f = record { same = rw (e.head, word-length e, ← f.number, ← f.place, ← f.size) (sym (says-off text r (λ z. omega arith))) }
 
 -- the same at a word that was read before
-pub at-word : {A : Type 0} {text : List ℕ} (n : ℕ) {w : WordAt} {r : Out} → 0 < n → w.start + w.len ≤ length text → Faulty n w r → Tells {A = A} (fault n (asWord text w)) text r
-at-word {text = text} n {w} {r} h i f = record { same = rw (part_length text w.start w.len i, ← f.number, ← f.place, ← f.size) (sym (says-off text r (λ z. omega (arith, f.number)))) }
+pub at_word : {A : Type 0} {text : List ℕ} (n : ℕ) {w : WordAt} {r : Out} → 0 < n → w.start + w.len ≤ length text → Faulty n w r → Tells {A = A} (fault n (as_word text w)) text r
+at_word {text = text} n {w} {r} h i f = record { same = rw (part_length text w.start w.len i, ← f.number, ← f.place, ← f.size) (sym (says-off text r (λ z. omega (arith, f.number)))) }
 
-pub overs : {A : Type 0} {text : List ℕ} {at : ℕ} {w : WordAt} {r : Out} → Here text at w → Faulty 9 w r → Tells (over {A = A} (wordsAt text at)) text r
+pub overs : {A : Type 0} {text : List ℕ} {at : ℕ} {w : WordAt} {r : Out} → Here text at w → Faulty 9 w r → Tells (over {A = A} (words_at text at)) text r
 unfolding over
 overs n f = faults n (omega arith) f
 
@@ -106,32 +106,32 @@ one-or-two k = choose (eqb k 0) where
 pub one-or-two-not : (k : ℕ) → refusal k ≡ 0 → ⊥
 one-or-two-not k e = let h = one-or-two k in omega arith
 
-pub refuses : {A : Type 0} {text : List ℕ} {at : ℕ} {w : WordAt} {r : Out} → Here text at w → Faulty (refusal w.kind) w r → Tells (refuse {A = A} (wordsAt text at)) text r
+pub refuses : {A : Type 0} {text : List ℕ} {at : ℕ} {w : WordAt} {r : Out} → Here text at w → Faulty (refusal w.kind) w r → Tells (refuse {A = A} (words_at text at)) text r
 unfolding refuse
 refuses {A} {w = w} n f = rw n.head (rw n.head at (faults {A = A} n (one-or-two w.kind) f))
 
 -- a limit
 pub under : {A : Type 0} (left : ℕ) (m : Reader A) {text : List ℕ} (at : ℕ) {s : Out} → (left ≡ 0 → ⊥)
-    → Tells (m (wordsAt text at)) text s → Tells (within left m (wordsAt text at)) text s
+    → Tells (m (words_at text at)) text s → Tells (within left m (words_at text at)) text s
 unfolding within
 under left m at e t = rw (ne_eqb left 0 e) t
 
 pub above : {A : Type 0} (left : ℕ) (m : Reader A) {text : List ℕ} (at : ℕ) {s : Out} → left ≡ 0
-    → Tells (over {A = A} (wordsAt text at)) text s → Tells (within left m (wordsAt text at)) text s
+    → Tells (over {A = A} (words_at text at)) text s → Tells (within left m (words_at text at)) text s
 unfolding within
 above left m at e t = rw (eq-eqb left 0 e) t
 
 pub passed : {text : List ℕ} {at : ℕ} {w : WordAt} {r : Out} → Here text at w → 2 ≤ w.kind → r.fault ≡ 0 → r.at ≡ w.next
-    → Tells (pass (wordsAt text at)) text r
+    → Tells (pass (words_at text at)) text r
 unfolding pass
 passed n h e f = rw (n.more h, ← f) (gives e)
 
-pub long : {text : List ℕ} {at : ℕ} {w : WordAt} {r : Out} → Here text at w → 32 < w.len → Faulty 9 w r → Tells (short (wordsAt text at)) text r
+pub long : {text : List ℕ} {at : ℕ} {w : WordAt} {r : Out} → Here text at w → 32 < w.len → Faulty 9 w r → Tells (short (words_at text at)) text r
 unfolding short
 long {w = w} n h f = rw (n.head, word-length n, lt-ltb 32 w.len h) (overs n f)
 
 pub shorts : {text : List ℕ} {at : ℕ} {w : WordAt} {r : Out} → Here text at w → 2 ≤ w.kind → w.len ≤ 32 → r.fault ≡ 0 → r.at ≡ w.next
-    → Tells (short (wordsAt text at)) text r
+    → Tells (short (words_at text at)) text r
 unfolding short
 shorts {w = w} n k h e f = rw (n.head, word-length n, le-ltb 32 w.len h) (passed n k e f)
 
@@ -144,34 +144,34 @@ apart {x} m n e f t = differ (eqb m n) (eq-eqb m n (sym e ∙ f)) t where
 
 -- fuel that is enough is not zero
 pub fueled : {A : Type 0} (m : ℕ → Reader A) {text : List ℕ} {at : ℕ} {r : Out} → at ≤ length text
-    → ((j : ℕ) → length text < at + suc j → Tells (m (suc j) (wordsAt text at)) text r)
-    → (k : ℕ) → length text < at + k → Tells (m k (wordsAt text at)) text r
+    → ((j : ℕ) → length text < at + suc j → Tells (m (suc j) (words_at text at)) text r)
+    → (k : ℕ) → length text < at + k → Tells (m k (words_at text at)) text r
 fueled m l f zero h = absurd (omega arith)
 fueled m l f (suc j) h = f j h
 
 -- a row of actions ends here, goes on after one more, or has a fault in one more
 pub row_ends : {text : List ℕ} {at : ℕ} {w : WordAt} {r : Out} (j left : ℕ) → Here text at w → closes w.kind ≡ true → r.fault ≡ 0 → r.at ≡ at
-    → Tells (actions (suc j) left (wordsAt text at)) text r
+    → Tells (actions (suc j) left (words_at text at)) text r
 unfolding actions
 row_ends j left n e f g = rw (n.head, e, ← g) (gives f)
 
 pub row_goes : {text : List ℕ} {at : ℕ} {w : WordAt} {r s : Out} (j left : ℕ) → Here text at w → closes w.kind ≡ false
-    → Tells (oneAction j left (wordsAt text at)) text r → r.fault ≡ 0 → Tells (actions j left (wordsAt text r.at)) text s
-    → Tells (actions (suc j) left (wordsAt text at)) text s
+    → Tells (one_action j left (words_at text at)) text r → r.fault ≡ 0 → Tells (actions j left (words_at text r.at)) text s
+    → Tells (actions (suc j) left (words_at text at)) text s
 unfolding actions
 row_goes j left n e t f u = rw (n.head, e) (goes _ t f (λ a. ends _ u))
 
 pub row-stops : {text : List ℕ} {at : ℕ} {w : WordAt} {r : Out} (j left : ℕ) → Here text at w → closes w.kind ≡ false
-    → Tells (oneAction j left (wordsAt text at)) text r → (r.fault ≡ 0 → ⊥)
-    → Tells (actions (suc j) left (wordsAt text at)) text r
+    → Tells (one_action j left (words_at text at)) text r → (r.fault ≡ 0 → ⊥)
+    → Tells (actions (suc j) left (words_at text at)) text r
 unfolding actions
 row-stops j left n e t f = rw (n.head, e) (stops _ t f)
 
 -- the next word is the one that the scanner found
-pub head-next : {text : List ℕ} {at : ℕ} {w : WordAt} → Next text at w → peek (wordsAt text at) ≡ asWord text w
+pub head-next : {text : List ℕ} {at : ℕ} {w : WordAt} → Next text at w → peek (words_at text at) ≡ as_word text w
 unfolding peek
 head-next {text} {at} {w} n = first (leb 2 w.kind) refl where
-  first : (t : Bool) → leb 2 w.kind ≡ t → peek (wordsAt text at) ≡ asWord text w
+  first : (t : Bool) → leb 2 w.kind ≡ t → peek (words_at text at) ≡ as_word text w
   first true e = rw (n.more (leb-true 2 w.kind e)) refl
   first false e = rw (n.final (leb-false 2 w.kind e)) refl
 
@@ -202,8 +202,8 @@ then-with Q (fault n w) f text ws s e void h = let y : ◌≡◌ {A = ℕ} 0 1 =
 
 -- a part was read with its value, and the rest goes on
 pub goes_with : {A B : Type 0} {P : A → Type 0} {Q : B → Type 0} {m : Read A} (f : A → Reader B) {text : List ℕ} {r s : Out}
-    → Brings P m text r → r.fault ≡ 0 → ((a : A) → P a → Brings Q (f a (wordsAt text r.at)) text s) → Brings Q (onward m f) text s
-goes_with {Q = Q} {m} f {text} {r} {s} b h g = then-with Q m f text (wordsAt text r.at) s (b.tells.same ∙ says_on text r h) b.holds g
+    → Brings P m text r → r.fault ≡ 0 → ((a : A) → P a → Brings Q (f a (words_at text r.at)) text s) → Brings Q (onward m f) text s
+goes_with {Q = Q} {m} f {text} {r} {s} b h g = then-with Q m f text (words_at text r.at) s (b.tells.same ∙ says_on text r h) b.holds g
 
 -- the same with all that is known of what was read
 then_is : {A B : Type 0} (Q : B → Type 0) (m : Read A) (f : A → Reader B) (text : List ℕ) (ws : List Word) (s : Out)
@@ -213,8 +213,8 @@ then_is Q (got a vs) f text ws s e h = let same : vs ≡ ws = cc in rw same (h a
 then_is Q (fault n w) f text ws s e h = let y : ◌≡◌ {A = ℕ} 0 1 = cc in absurd (omega arith)
 
 pub goes-as : {A B : Type 0} {Q : B → Type 0} {m : Read A} (f : A → Reader B) {text : List ℕ} {r s : Out}
-    → Tells m text r → r.fault ≡ 0 → ((a : A) → m ≡ got a (wordsAt text r.at) → Brings Q (f a (wordsAt text r.at)) text s) → Brings Q (onward m f) text s
-goes-as {Q = Q} {m} f {text} {r} {s} e h g = then_is Q m f text (wordsAt text r.at) s (e.same ∙ says_on text r h) g
+    → Tells m text r → r.fault ≡ 0 → ((a : A) → m ≡ got a (words_at text r.at) → Brings Q (f a (words_at text r.at)) text s) → Brings Q (onward m f) text s
+goes-as {Q = Q} {m} f {text} {r} {s} e h g = then_is Q m f text (words_at text r.at) s (e.same ∙ says_on text r h) g
 
 -- a fault has no value
 no_value : {A : Type 0} (P : A → Type 0) (m : Read A) (n s l : ℕ) → told m ≡ failed n s l → Holds P m
@@ -234,7 +234,7 @@ any_value {m = m} e = record { tells = e; holds = anything m }
 
 -- a part was read with its value; nothing is said of the whole
 pub goes-from : {A B : Type 0} {P : A → Type 0} {m : Read A} (f : A → Reader B) {text : List ℕ} {r s : Out}
-    → Brings P m text r → r.fault ≡ 0 → ((a : A) → P a → Tells (f a (wordsAt text r.at)) text s) → Tells (onward m f) text s
+    → Brings P m text r → r.fault ≡ 0 → ((a : A) → P a → Tells (f a (words_at text r.at)) text s) → Tells (onward m f) text s
 goes-from f b h g = (goes_with f b h (λ a p. any_value (g a p))).tells
 
 -- a value is made of the last part
@@ -256,35 +256,35 @@ pub ends_as : {A B : Type 0} {Q : B → Type 0} {m : Read A} (f : A → B) {text
     → Tells m text r → ((a : A) (ws : List Word) → m ≡ got a ws → Q (f a)) → Brings Q (onward m (λ a ws. got (f a) ws)) text r
 ends_as {m = m} f e g = record { tells = ends f e; holds = made_as m f g }
 
-pub gives-with : {A : Type 0} {P : A → Type 0} {a : A} {text : List ℕ} {r : Out} → r.fault ≡ 0 → P a → Brings P (got a (wordsAt text r.at)) text r
+pub gives-with : {A : Type 0} {P : A → Type 0} {a : A} {text : List ℕ} {r : Out} → r.fault ≡ 0 → P a → Brings P (got a (words_at text r.at)) text r
 gives-with e p = record { tells = gives e; holds = held p }
 
 pub passes-with : {B : Type 0} {Q : B → Type 0} (f : Word → Reader B) {text : List ℕ} {at : ℕ} {w : WordAt} {s : Out} → Here text at w → 2 ≤ w.kind
-    → Brings Q (f (asWord text w) (wordsAt text w.next)) text s → Brings Q (onward (pass (wordsAt text at)) f) text s
+    → Brings Q (f (as_word text w) (words_at text w.next)) text s → Brings Q (onward (pass (words_at text at)) f) text s
 unfolding pass onward
 passes-with f n h t = rw (n.more h) t
 
 pub yes-with : {A : Type 0} {P : A → Type 0} (k : ℕ) (a b : Reader A) {text : List ℕ} {at : ℕ} {w : WordAt} {s : Out} → Here text at w → w.kind ≡ k
-    → Brings P (a (wordsAt text at)) text s → Brings P ((on k then a else b) (wordsAt text at)) text s
+    → Brings P (a (words_at text at)) text s → Brings P ((on k then a else b) (words_at text at)) text s
 unfolding on◌then◌else◌
 yes-with k a b {w = w} n e t = rw (n.head, eq-eqb w.kind k e) t
 
 pub no-with : {A : Type 0} {P : A → Type 0} (k : ℕ) (a b : Reader A) {text : List ℕ} {at : ℕ} {w : WordAt} {s : Out} → Here text at w → (w.kind ≡ k → ⊥)
-    → Brings P (b (wordsAt text at)) text s → Brings P ((on k then a else b) (wordsAt text at)) text s
+    → Brings P (b (words_at text at)) text s → Brings P ((on k then a else b) (words_at text at)) text s
 unfolding on◌then◌else◌
 no-with k a b {w = w} n e t = rw (n.head, ne_eqb w.kind k e) t
 
 pub fueled-with : {A : Type 0} {P : A → Type 0} (m : ℕ → Reader A) {text : List ℕ} {at : ℕ} {r : Out} → at ≤ length text
-    → ((j : ℕ) → length text < at + suc j → Brings P (m (suc j) (wordsAt text at)) text r)
-    → (k : ℕ) → length text < at + k → Brings P (m k (wordsAt text at)) text r
+    → ((j : ℕ) → length text < at + suc j → Brings P (m (suc j) (words_at text at)) text r)
+    → (k : ℕ) → length text < at + k → Brings P (m k (words_at text at)) text r
 fueled-with m l f zero h = absurd (omega arith)
 fueled-with m l f (suc j) h = f j h
 
 -- the same where the fuel may be spent at the end of the text
 pub fueled-late : {A : Type 0} {P : A → Type 0} (m : ℕ → Reader A) {text : List ℕ} {at : ℕ} {r : Out} → at ≤ length text
-    → (at ≡ length text → Brings P (m 0 (wordsAt text at)) text r)
-    → ((j : ℕ) → length text < at + 1 + suc j → Brings P (m (suc j) (wordsAt text at)) text r)
-    → (k : ℕ) → length text < at + 1 + k → Brings P (m k (wordsAt text at)) text r
+    → (at ≡ length text → Brings P (m 0 (words_at text at)) text r)
+    → ((j : ℕ) → length text < at + 1 + suc j → Brings P (m (suc j) (words_at text at)) text r)
+    → (k : ℕ) → length text < at + 1 + k → Brings P (m k (words_at text at)) text r
 fueled-late m l e f zero h = e (omega arith)
 fueled-late m l e f (suc j) h = f j h
 
@@ -302,10 +302,10 @@ unfolding onward
 two (got a ws) n f g = last-two (n ws) (f a) (g a)
 two (fault n w) m f g = refl
 
-pub constants : {C : Type 0} (f : Word → Option Constant → C) {text : List ℕ} (at : ℕ) {r : Out} → Tells (withConstant (wordsAt text at)) text r
-    → Tells (onward (aName (wordsAt text at)) (λ a ws. onward (aConstant ws) (λ b ws. got (f a b) ws))) text r
-unfolding withConstant
-constants f {text} at e = record { same = two (aName (wordsAt text at)) aConstant f (λ a b. (a, b)) ∙ e.same }
+pub constants : {C : Type 0} (f : Word → Option Constant → C) {text : List ℕ} (at : ℕ) {r : Out} → Tells (with_constant (words_at text at)) text r
+    → Tells (onward (a_name (words_at text at)) (λ a ws. onward (a_constant ws) (λ b ws. got (f a b) ws))) text r
+unfolding with_constant
+constants f {text} at e = record { same = two (a_name (words_at text at)) a_constant f (λ a b. (a, b)) ∙ e.same }
 
 -- three parts, of which the first and the last are kept, and what goes on from them
 abbrev pair : {A C : Type 0} → A → C → A × C
@@ -335,21 +335,21 @@ abbrev afterwards : (ℕ → Reader Choices) → ℕ → Reader Choices
 afterwards more left = on 124 then (λ ws. onward (pass ws) (λ _. more left)) else (λ ws. onward (expect 93 ws) (λ _ ws. got (record { labelled = nil; default = absent }) ws))
 
 in_parts : (k room : ℕ) (inner : Reader Acts) (more : ℕ → Reader Choices) (ws : List Word)
-    → anAlternative k room inner more ws
-    ≡ onward (aLabelled k room inner ws) (λ p ws. onward (afterwards more (room - length p.0) ws)
+    → an_alternative k room inner more ws
+    ≡ onward (a_labelled k room inner ws) (λ p ws. onward (afterwards more (room - length p.0) ws)
     (λ c ws. got (record { labelled = alternative p.0 p.1 c.labelled; default = c.default }) ws))
-unfolding anAlternative aLabelled
+unfolding an_alternative a_labelled
 in_parts k room inner more ws =
-    three (someLabels k room ws) (expect 58) inner
+    three (some_labels k room ws) (expect 58) inner
     (λ ls b ws. onward (afterwards more (room - length ls) ws) (λ c ws. got (record { labelled = alternative ls b c.labelled; default = c.default }) ws))
 
 -- an alternative stops in its labels or actions
 pub alternative-stops : (k room : ℕ) (inner : Reader Acts) (more : ℕ → Reader Choices) {text : List ℕ} (at : ℕ) {r : Out}
-    → Tells (aLabelled k room inner (wordsAt text at)) text r → (r.fault ≡ 0 → ⊥) → Tells (anAlternative k room inner more (wordsAt text at)) text r
-alternative-stops k room inner more {text} at e h = rw (in_parts k room inner more (wordsAt text at)) (stops _ e h)
+    → Tells (a_labelled k room inner (words_at text at)) text r → (r.fault ≡ 0 → ⊥) → Tells (an_alternative k room inner more (words_at text at)) text r
+alternative-stops k room inner more {text} at e h = rw (in_parts k room inner more (words_at text at)) (stops _ e h)
 
 -- its labels and actions are read, and `|` or `]` follows
 pub alternative-goes : (k room left : ℕ) (inner : Reader Acts) (more : ℕ → Reader Choices) {text : List ℕ} (at : ℕ) {r s : Out}
-    → Brings (LeavesBoth room left) (aLabelled k room inner (wordsAt text at)) text r → r.fault ≡ 0
-    → Tells (afterwards more left (wordsAt text r.at)) text s → Tells (anAlternative k room inner more (wordsAt text at)) text s
-alternative-goes k room left inner more {text} at b h t = rw (in_parts k room inner more (wordsAt text at)) (goes-from _ b h (λ a e. ends _ (rw e t)))
+    → Brings (LeavesBoth room left) (a_labelled k room inner (words_at text at)) text r → r.fault ≡ 0
+    → Tells (afterwards more left (words_at text r.at)) text s → Tells (an_alternative k room inner more (words_at text at)) text s
+alternative-goes k room left inner more {text} at b h t = rw (in_parts k room inner more (words_at text at)) (goes-from _ b h (λ a e. ends _ (rw e t)))

@@ -11,18 +11,19 @@ use lib.Dec.{eqb, leb}
 use lib.ListN.{length, get_or, take, drop, drop_of_length-le}
 use lib.Seq.{drop-cons}
 use borrow.Author.Tests.{leb-false, ne_eqb, lt-leb, le-leb, lt-ltb, le-ltb, eq-eqb, leb-true, eqb-true}
-use Rattle.base.specs.Common.{if◌then◌else◌, given, bytes, same}
-use Rattle.reader.proofs.Laws.{at-word, ends_as, ends_with, faults, faulty, goes-as, stops, gives-with, no, no-with, overs, passes-with, says-off, says_on, shorts, word-length, yes-with, one-or-two-not, refuses, gives}
+use Rattle.std.specs.Prelude.{if◌then◌else◌}
+use Rattle.base.specs.Common.{given, bytes, same}
+use Rattle.reader.proofs.Laws.{at_word, ends_as, ends_with, faults, faulty, goes-as, stops, gives-with, no, no-with, overs, passes-with, says-off, says_on, shorts, word-length, yes-with, one-or-two-not, refuses, gives}
 use Rattle.reader.specs.Answers.{Brings, Faulty, Here, Holds, Tells, failed, held, told, void, went, refusal}
-use Rattle.reader.specs.Counting.{Adds, Decides, Kinds, count_of, toldKind, fullIn, listed, oneMore, wrong, Entered, Operated, Keeps, ending, fine, NumberOf}
+use Rattle.reader.specs.Counting.{Adds, Decides, Kinds, count_of, told_kind, full_in, listed, one_more, wrong, Entered, Operated, Keeps, ending, fine, NumberOf}
 use Rattle.scanner.proofs.WordLaws.{part_at, part_length}
-use Rattle.scanner.specs.Next.{asWord}
+use Rattle.scanner.specs.Next.{as_word}
 use Rattle.syntax.proofs.Ahead.{kind-read, kinds-read}
-use Rattle.syntax.specs.Parse.{parse, end_of, program, someRules}
-use Rattle.syntax.specs.Reading.{Read, Reader, aName, a_number, expect, fault, got, onward, optional, pass, peek, short, small, within, on◌then◌else◌, oneName}
-use Rattle.syntax.specs.Sections.{aCount, entries, first_of, next_of, kind_at, kindAhead, isFull, aParameter, numbered, ofKind, after, instructions, nothing, Sofar, someOperations, spells, ranking, aSide, operatorSection, mechanismSection, otherSection}
+use Rattle.syntax.specs.Parse.{parse, end_of, program, some_rules}
+use Rattle.syntax.specs.Reading.{Read, Reader, a_name, a_number, expect, fault, got, onward, optional, pass, peek, short, small, within, on◌then◌else◌, one_name}
+use Rattle.syntax.specs.Sections.{a_count, entries, first_of, next_of, kind_at, kind_ahead, is_full, a_parameter, numbered, of_kind, after, instructions, nothing, Sofar, some_operations, spells, ranking, a_side, operator_section, mechanism_section, other_section}
 use Rattle.syntax.specs.Written.{Entry, Section, both, Operation, errors, inputs, operations, outputs, values, Operator, operators}
-use Rattle.words.specs.Words.{Word, wordsAt, value, words}
+use Rattle.words.specs.Words.{Word, words_at, value, words}
 use Rattle.reader.specs.declared.Ahead.{Ahead}
 use Rattle.reader.specs.declared.State.{State}
 use Rattle.reader.specs.declared.Out.{Out}
@@ -40,17 +41,17 @@ so {m = m} b f = record { tells = b.tells; holds = mapped m b.holds f }
 -- Names
 
 pub under-with : {A : Type 0} {P : A → Type 0} (left : ℕ) (m : Reader A) {text : List ℕ} (at : ℕ) {s : Out} → (left ≡ 0 → ⊥)
-    → Brings P (m (wordsAt text at)) text s → Brings P (within left m (wordsAt text at)) text s
+    → Brings P (m (words_at text at)) text s → Brings P (within left m (words_at text at)) text s
 unfolding within
 under-with left m at e t = rw (ne_eqb left 0 e) t
 
 short-is : {text : List ℕ} {at : ℕ} {w : WordAt} → Here text at w → 2 ≤ w.kind → w.len ≤ 32
-    → short (wordsAt text at) ≡ got (asWord text w) (wordsAt text w.next)
+    → short (words_at text at) ≡ got (as_word text w) (words_at text w.next)
 unfolding short pass
 short-is {w = w} n k h = rw (n.head, word-length n, le-ltb 32 w.len h, n.more k)
 
 pub shorts-with : {text : List ℕ} {at : ℕ} {w : WordAt} {r : Out} → Here text at w → 2 ≤ w.kind → w.len ≤ 32 → r.fault ≡ 0 → r.at ≡ w.next
-    → Brings (λ a. a ≡ peek (wordsAt text at)) (short (wordsAt text at)) text r
+    → Brings (λ a. a ≡ peek (words_at text at)) (short (words_at text at)) text r
 shorts-with n k h e f = record { tells = shorts n k h e f; holds = rw (short-is n k h) (held (sym n.head)) }
 
 -- Numbers
@@ -81,30 +82,30 @@ number_past text start len n i d h g e m f =
     omega (arith, value_low (n * 10 + d) (drop (i + 1) (take len (drop start text))), number-on text start len n i d h g e f)
 
 pub small-over : {text : List ℕ} {at : ℕ} {w : WordAt} {r : Out} → Here text at w → 65535 < value 0 (take w.len (drop w.start text)) → Faulty 9 w r
-    → Tells (small (wordsAt text at)) text r
+    → Tells (small (words_at text at)) text r
 unfolding small
 small-over {text} {w = w} n h f = rw (n.head, lt-ltb 65535 (value 0 (take w.len (drop w.start text))) h) (overs n f)
 
 pub small-got : {text : List ℕ} {at : ℕ} {w : WordAt} {r : Out} (v : ℕ) → Here text at w → 2 ≤ w.kind → value 0 (take w.len (drop w.start text)) ≡ v → v ≤ 65535
-    → r.fault ≡ 0 → r.at ≡ w.next → Brings (λ n. n ≡ v) (small (wordsAt text at)) text r
+    → r.fault ≡ 0 → r.at ≡ w.next → Brings (λ n. n ≡ v) (small (words_at text at)) text r
 unfolding small pass onward
 small-got {text} {w = w} v n k p h e f = rw (n.head, p, le-ltb 65535 v h, n.more k, ← f) (gives-with e refl)
 
 -- Entries
 
 pub count_set : {P : ℕ → Type 0} (w : Word) (v : ℕ) {text : List ℕ} {at : ℕ} {y : WordAt} {r : Out} → Here text at y → y.kind ≡ 61
-    → Brings P (a_number (wordsAt text y.next)) text r → Brings P (aCount w v (wordsAt text at)) text r
-unfolding aCount
+    → Brings P (a_number (words_at text y.next)) text r → Brings P (a_count w v (words_at text at)) text r
+unfolding a_count
 count_set w v n e b = yes-with _ _ _ n e (passes-with _ n (omega arith) b)
 
 pub count-on : (w : Word) (v : ℕ) {text : List ℕ} {at : ℕ} {y : WordAt} {r : Out} → Here text at y → (y.kind ≡ 61 → ⊥) → v ≤ 65535 → r.fault ≡ 0 → r.at ≡ at
-    → Brings (λ n. n ≡ v) (aCount w v (wordsAt text at)) text r
-unfolding aCount
+    → Brings (λ n. n ≡ v) (a_count w v (words_at text at)) text r
+unfolding a_count
 count-on w v n e h z f = no-with _ _ _ n e (rw (le-ltb 65535 v h, ← f) (gives-with z refl))
 
 pub count-over : (w : Word) (v : ℕ) {text : List ℕ} {at from : ℕ} {x y : WordAt} {r : Out} → Here text at y → (y.kind ≡ 61 → ⊥) → 65535 < v
-    → w ≡ peek (wordsAt text from) → Here text from x → Faulty 9 x r → Tells (aCount w v (wordsAt text at)) text r
-unfolding aCount
+    → w ≡ peek (words_at text from) → Here text from x → Faulty 9 x r → Tells (a_count w v (words_at text at)) text r
+unfolding a_count
 count-over w v n e h d m f = no _ _ _ n e (rw (lt-ltb 65535 v h, d) (faults m (omega arith) f))
 
 -- the last entry, and one before others
@@ -122,13 +123,13 @@ assoc (got a ws) f g = refl
 assoc (fault n w) f g = refl
 
 pub listed-made : {P : List Entry → Type 0} {Q : Section → Type 0} (k left : ℕ) (strings : Bool) (v : ℕ) (f : List Entry → Section) {text : List ℕ} (at : ℕ) {r : Out}
-    → Brings P (listed k left strings v (wordsAt text at)) text r → ((es : List Entry) → P es → Q (f es))
-    → Brings Q (onward (expect 58 (wordsAt text at)) (λ _ ws. onward (entries k left strings v ws) (λ es ws. got (f es) ws))) text r
+    → Brings P (listed k left strings v (words_at text at)) text r → ((es : List Entry) → P es → Q (f es))
+    → Brings Q (onward (expect 58 (words_at text at)) (λ _ ws. onward (entries k left strings v ws) (λ es ws. got (f es) ws))) text r
 unfolding listed
-listed-made k left strings v f {text} at b g = rw (← assoc (expect 58 (wordsAt text at)) (λ _ ws. entries k left strings v ws) (λ es ws. got (f es) ws)) (ends_with f b g)
+listed-made k left strings v f {text} at b g = rw (← assoc (expect 58 (words_at text at)) (λ _ ws. entries k left strings v ws) (λ es ws. got (f es) ws)) (ends_with f b g)
 
 listed-as : {P : List Entry → Type 0} (k left left' : ℕ) (strings : Bool) (v v' : ℕ) {text : List ℕ} (at : ℕ) {r : Out} → left ≡ left' → v ≡ v'
-    → Brings P (listed k left strings v (wordsAt text at)) text r → Brings P (listed k left' strings v' (wordsAt text at)) text r
+    → Brings P (listed k left strings v (words_at text at)) text r → Brings P (listed k left' strings v' (words_at text at)) text r
 listed-as k left left' strings v v' at e f b = rw (← e, ← f) b
 
 pub next-max : (n : ℕ) (es : List Entry) → next_of n es ≡ max n (next_of 0 es)
@@ -138,30 +139,30 @@ next-max n (e ∷ es) = omega (arith, next-max (max n (e.value + 1)) es, next-ma
 
 -- Operations
 
-kind-in : (b i : ℕ) (is : List ℕ) → b ≤ i → i < b + 256 → ofKind b (i ∷ is) ≡ 1 + ofKind b is
-unfolding ofKind
+kind-in : (b i : ℕ) (is : List ℕ) → b ≤ i → i < b + 256 → of_kind b (i ∷ is) ≡ 1 + of_kind b is
+unfolding of_kind
 kind-in b i is h g = rw (le-leb b i h, lt-ltb i (b + 256) g)
 
-kind-below : (b i : ℕ) (is : List ℕ) → i < b → ofKind b (i ∷ is) ≡ ofKind b is
-unfolding ofKind
-kind-below b i is h = rw (lt-leb b i h) (zero-add (ofKind b is))
+kind-below : (b i : ℕ) (is : List ℕ) → i < b → of_kind b (i ∷ is) ≡ of_kind b is
+unfolding of_kind
+kind-below b i is h = rw (lt-leb b i h) (zero-add (of_kind b is))
 
-kind-above : (b i : ℕ) (is : List ℕ) → b + 256 ≤ i → ofKind b (i ∷ is) ≡ ofKind b is
-unfolding ofKind
-kind-above b i is h = rw (le-leb b i (omega arith), le-ltb i (b + 256) h) (zero-add (ofKind b is))
+kind-above : (b i : ℕ) (is : List ℕ) → b + 256 ≤ i → of_kind b (i ∷ is) ≡ of_kind b is
+unfolding of_kind
+kind-above b i is h = rw (le-leb b i (omega arith), le-ltb i (b + 256) h) (zero-add (of_kind b is))
 
-kind-none : (b : ℕ) → ofKind b [] ≡ 0
-unfolding ofKind
+kind-none : (b : ℕ) → of_kind b [] ≡ 0
+unfolding of_kind
 kind-none b = refl
 
-pub count-is : (is : List ℕ) (s : Seen) (x y : Bool) → Kinds is s → count_of s x y ≡ ofKind (first_of x y) is
+pub count-is : (is : List ℕ) (s : Seen) (x y : Bool) → Kinds is s → count_of s x y ≡ of_kind (first_of x y) is
 unfolding first_of
 count-is is s false false k = k.plain
 count-is is s true false k = k.taking
 count-is is s false true k = k.giving
 count-is is s true true k = k.both
 
-pub adds_one : (s : Seen) (x y : Bool) (n : ℕ) → n < 256 → Adds ((first_of x y + n) ∷ []) s (oneMore s x y)
+pub adds_one : (s : Seen) (x y : Bool) (n : ℕ) → n < 256 → Adds ((first_of x y + n) ∷ []) s (one_more s x y)
 unfolding first_of
 adds_one s false false n h = record {
   plain = omega (arith, kind-in 256 (256 + n) [] (omega arith) (omega arith), kind-none 256);
@@ -188,8 +189,8 @@ adds_one s true true n h = record {
   both = omega (arith, kind-in 1024 (1024 + n) [] (omega arith) (omega arith), kind-none 1024);
 }
 
-kind-append : (b : ℕ) (is js : List ℕ) → ofKind b (is ++ js) ≡ ofKind b is + ofKind b js
-unfolding ofKind
+kind-append : (b : ℕ) (is js : List ℕ) → of_kind b (is ++ js) ≡ of_kind b is + of_kind b js
+unfolding of_kind
 kind-append b [] js = omega arith
 kind-append b (i ∷ is) js = omega (arith, kind-append b is js)
 
@@ -211,110 +212,110 @@ kinds-then is js s t k a = record {
 }
 
 -- the kind that was seen ahead
-told-known : (a : Ahead) (b : ℕ) → toldKind a ≡ some b → a.known ≡ true
-unfolding toldKind
+told-known : (a : Ahead) (b : ℕ) → told_kind a ≡ some b → a.known ≡ true
+unfolding told_kind
 told-known a b e = go a.known e
   where
     go : (t : Bool) → (if t then some (first_of a.takes a.gives) else none) ≡ some b → t ≡ true
     go true d = refl
     go false d = let y : ◌≡◌ {A = ℕ} 0 1 = cc in absurd (omega arith)
 
-told-as : (a : Ahead) (b : ℕ) → toldKind a ≡ some b → first_of a.takes a.gives ≡ b
-unfolding toldKind
+told-as : (a : Ahead) (b : ℕ) → told_kind a ≡ some b → first_of a.takes a.gives ≡ b
+unfolding told_kind
 told-as a b e = let d : some (first_of a.takes a.gives) ≡ some b = rw (told-known a b e) at e in cc
 
-full_is : (is : List ℕ) (s : Seen) (a : Ahead) → Kinds is s → fullIn s a ≡ isFull (toldKind a) is
-unfolding fullIn toldKind isFull
+full_is : (is : List ℕ) (s : Seen) (a : Ahead) → Kinds is s → full_in s a ≡ is_full (told_kind a) is
+unfolding full_in told_kind is_full
 full_is is s a k = go a.known
   where
-    go : (t : Bool) → (if t then leb 256 (count_of s a.takes a.gives) else false) ≡ isFull (if t then some (first_of a.takes a.gives) else none) is
+    go : (t : Bool) → (if t then leb 256 (count_of s a.takes a.gives) else false) ≡ is_full (if t then some (first_of a.takes a.gives) else none) is
     go true = rw (count-is is s a.takes a.gives k) refl
     go false = refl
 
-room_in : (s : Seen) (a : Ahead) → a.known ≡ true → fullIn s a ≡ false → count_of s a.takes a.gives < 256
-unfolding fullIn
+room_in : (s : Seen) (a : Ahead) → a.known ≡ true → full_in s a ≡ false → count_of s a.takes a.gives < 256
+unfolding full_in
 room_in s a e u = leb-false 256 (count_of s a.takes a.gives) (rw e at u)
 
 -- a parameter was read: the kind is known, and not full
-pub room-read : (s : Seen) (a : Ahead) {text : List ℕ} (at : ℕ) {r : Out} → toldKind a ≡ kindAhead (wordsAt text at) → fullIn s a ≡ false
-    → Tells (aParameter (wordsAt text at)) text r → r.fault ≡ 0 → count_of s a.takes a.gives < 256
-room-read s a {text} at {r} d u e h = go (aParameter (wordsAt text at)) refl (e.same ∙ says_on text r h)
+pub room-read : (s : Seen) (a : Ahead) {text : List ℕ} (at : ℕ) {r : Out} → told_kind a ≡ kind_ahead (words_at text at) → full_in s a ≡ false
+    → Tells (a_parameter (words_at text at)) text r → r.fault ≡ 0 → count_of s a.takes a.gives < 256
+room-read s a {text} at {r} d u e h = go (a_parameter (words_at text at)) refl (e.same ∙ says_on text r h)
   where
-    go : (m : Read (Option Word)) → aParameter (wordsAt text at) ≡ m → told m ≡ went (wordsAt text r.at) → count_of s a.takes a.gives < 256
-    go (got t vs) q z = room_in s a (told-known a _ (d ∙ kind-read (wordsAt text at) vs t q)) u
+    go : (m : Read (Option Word)) → a_parameter (words_at text at) ≡ m → told m ≡ went (words_at text r.at) → count_of s a.takes a.gives < 256
+    go (got t vs) q z = room_in s a (told-known a _ (d ∙ kind-read (words_at text at) vs t q)) u
     go (fault n w) q z = let y : ◌≡◌ {A = ℕ} 0 1 = cc in absurd (omega arith)
 
 -- an operation past the 256 of its kind, or the next one
 pub operation-over : (name : Word) (is : List ℕ) (s : Seen) (a : Ahead) {text : List ℕ} (at : ℕ) {w : WordAt} {r : Out} → Kinds is s
-    → toldKind a ≡ kindAhead (wordsAt text at) → fullIn s a ≡ true → name ≡ asWord text w → w.start + w.len ≤ length text → Faulty 9 w r
-    → Tells ((if isFull (kindAhead (wordsAt text at)) is then (λ _. fault 9 name) else numbered name is) (wordsAt text at)) text r
-operation-over name is s a at k d u e i f = rw (← d, ← full_is is s a k, u, e) (at-word 9 (omega arith) i f)
+    → told_kind a ≡ kind_ahead (words_at text at) → full_in s a ≡ true → name ≡ as_word text w → w.start + w.len ≤ length text → Faulty 9 w r
+    → Tells ((if is_full (kind_ahead (words_at text at)) is then (λ _. fault 9 name) else numbered name is) (words_at text at)) text r
+operation-over name is s a at k d u e i f = rw (← d, ← full_is is s a k, u, e) (at_word 9 (omega arith) i f)
 
 pub operation-rest : {P : Operation → Type 0} (name : Word) (is : List ℕ) (s : Seen) (a : Ahead) {text : List ℕ} (at : ℕ) {r : Out} → Kinds is s
-    → toldKind a ≡ kindAhead (wordsAt text at) → fullIn s a ≡ false → Brings P (numbered name is (wordsAt text at)) text r
-    → Brings P ((if isFull (kindAhead (wordsAt text at)) is then (λ _. fault 9 name) else numbered name is) (wordsAt text at)) text r
+    → told_kind a ≡ kind_ahead (words_at text at) → full_in s a ≡ false → Brings P (numbered name is (words_at text at)) text r
+    → Brings P ((if is_full (kind_ahead (words_at text at)) is then (λ _. fault 9 name) else numbered name is) (words_at text at)) text r
 operation-rest name is s a at k d u b = rw (← d, ← full_is is s a k, u) b
 
-one-added : (is : List ℕ) (s t : Seen) (a : Ahead) (b : ℕ) → Kinds is s → fullIn s a ≡ false → toldKind a ≡ some b → t ≡ oneMore s a.takes a.gives
-    → Adds ((b + ofKind b is) ∷ []) s t
+one-added : (is : List ℕ) (s t : Seen) (a : Ahead) (b : ℕ) → Kinds is s → full_in s a ≡ false → told_kind a ≡ some b → t ≡ one_more s a.takes a.gives
+    → Adds ((b + of_kind b is) ∷ []) s t
 one-added is s t a b k u d e =
     let h = room_in s a (told-known a b d) u in
-    rw (← told-as a b d, e) (adds_one s a.takes a.gives (ofKind (first_of a.takes a.gives) is) (omega (arith, h, count-is is s a.takes a.gives k)))
+    rw (← told-as a b d, e) (adds_one s a.takes a.gives (of_kind (first_of a.takes a.gives) is) (omega (arith, h, count-is is s a.takes a.gives k)))
 
 pub numbered-got : (name : Word) (is : List ℕ) (s after : Seen) (a : Ahead) {text : List ℕ} (at : ℕ) {t r : Out} → Kinds is s
-    → toldKind a ≡ kindAhead (wordsAt text at) → fullIn s a ≡ false → after ≡ oneMore s a.takes a.gives
-    → Tells (aParameter (wordsAt text at)) text t → t.fault ≡ 0 → Tells (optional 256 aName (wordsAt text t.at)) text r
-    → Brings (λ (o : Operation). Adds (o.instruction ∷ []) s after) (numbered name is (wordsAt text at)) text r
+    → told_kind a ≡ kind_ahead (words_at text at) → full_in s a ≡ false → after ≡ one_more s a.takes a.gives
+    → Tells (a_parameter (words_at text at)) text t → t.fault ≡ 0 → Tells (optional 256 a_name (words_at text t.at)) text r
+    → Brings (λ (o : Operation). Adds (o.instruction ∷ []) s after) (numbered name is (words_at text at)) text r
 unfolding numbered
 numbered-got name is s after a {text} at {t} k d u m e h v =
-    goes-as _ e h (λ x q. ends_as _ v (λ y ws z. one-added is s after a (first_of (given x) (given y)) k u (d ∙ kinds-read (wordsAt text at) (wordsAt text t.at) ws x y q z) m))
+    goes-as _ e h (λ x q. ends_as _ v (λ y ws z. one-added is s after a (first_of (given x) (given y)) k u (d ∙ kinds-read (words_at text at) (words_at text t.at) ws x y q z) m))
 
-pub numbered-stops : {P : Operation → Type 0} (name : Word) (is : List ℕ) {text : List ℕ} (at : ℕ) {t : Out} → Tells (aParameter (wordsAt text at)) text t → (t.fault ≡ 0 → ⊥)
-    → Brings P (numbered name is (wordsAt text at)) text t
+pub numbered-stops : {P : Operation → Type 0} (name : Word) (is : List ℕ) {text : List ℕ} (at : ℕ) {t : Out} → Tells (a_parameter (words_at text at)) text t → (t.fault ≡ 0 → ⊥)
+    → Brings P (numbered name is (words_at text at)) text t
 unfolding numbered
 numbered-stops name is at e h = faulty (stops _ e h) h
 
 -- what the words ahead tell
 ahead-by : (ws : List Word) (p t c g : ℕ) → kind_at 0 ws ≡ p → kind_at 1 ws ≡ t → kind_at 2 ws ≡ c → kind_at 3 ws ≡ g
-    → kindAhead ws ≡ (if eqb p 40 then (if eqb t 257 && eqb c 41 then some (first_of true (eqb g 256)) else none) else some (first_of false (eqb p 256)))
-unfolding kindAhead
+    → kind_ahead ws ≡ (if eqb p 40 then (if eqb t 257 && eqb c 41 then some (first_of true (eqb g 256)) else none) else some (first_of false (eqb p 256)))
+unfolding kind_ahead
 ahead-by ws p t c g d e f h = rw (← d, ← e, ← f, ← h) refl
 
-kind-here : {text : List ℕ} {at : ℕ} {w : WordAt} → Here text at w → kind_at 0 (wordsAt text at) ≡ w.kind
+kind-here : {text : List ℕ} {at : ℕ} {w : WordAt} → Here text at w → kind_at 0 (words_at text at) ≡ w.kind
 unfolding kind_at
 kind-here n = ap (λ (w : Word). w.kind) n.head
 
-kind-next : {text : List ℕ} {at : ℕ} {w : WordAt} (i : ℕ) → Here text at w → 2 ≤ w.kind → kind_at (suc i) (wordsAt text at) ≡ kind_at i (wordsAt text w.next)
+kind-next : {text : List ℕ} {at : ℕ} {w : WordAt} (i : ℕ) → Here text at w → 2 ≤ w.kind → kind_at (suc i) (words_at text at) ≡ kind_at i (words_at text w.next)
 unfolding kind_at
 kind-next i n h = rw (n.more h) refl
 
-pub ahead-plain : {text : List ℕ} {at : ℕ} {p : WordAt} → Here text at p → (p.kind ≡ 40 → ⊥) → some (first_of false (eqb p.kind 256)) ≡ kindAhead (wordsAt text at)
-ahead-plain {text} {at} {p} n e = rw (ahead-by (wordsAt text at) p.kind _ _ _ (kind-here n) refl refl refl, ne_eqb p.kind 40 e) refl
+pub ahead-plain : {text : List ℕ} {at : ℕ} {p : WordAt} → Here text at p → (p.kind ≡ 40 → ⊥) → some (first_of false (eqb p.kind 256)) ≡ kind_ahead (words_at text at)
+ahead-plain {text} {at} {p} n e = rw (ahead-by (words_at text at) p.kind _ _ _ (kind-here n) refl refl refl, ne_eqb p.kind 40 e) refl
 
-pub ahead-open : {text : List ℕ} {at : ℕ} {p t : WordAt} → Here text at p → p.kind ≡ 40 → Here text p.next t → (t.kind ≡ 257 → ⊥) → none ≡ kindAhead (wordsAt text at)
+pub ahead-open : {text : List ℕ} {at : ℕ} {p t : WordAt} → Here text at p → p.kind ≡ 40 → Here text p.next t → (t.kind ≡ 257 → ⊥) → none ≡ kind_ahead (words_at text at)
 ahead-open {text} {at} {p} {t} n e m f =
-    rw (ahead-by (wordsAt text at) p.kind t.kind _ _ (kind-here n) (kind-next 0 n (omega arith) ∙ kind-here m) refl refl, eq-eqb p.kind 40 e, ne_eqb t.kind 257 f) refl
+    rw (ahead-by (words_at text at) p.kind t.kind _ _ (kind-here n) (kind-next 0 n (omega arith) ∙ kind-here m) refl refl, eq-eqb p.kind 40 e, ne_eqb t.kind 257 f) refl
 
 -- the third word behind the name
 third : {text : List ℕ} {at : ℕ} {p t c : WordAt} → Here text at p → p.kind ≡ 40 → Here text p.next t → t.kind ≡ 257 → Here text t.next c
-    → kind_at 2 (wordsAt text at) ≡ c.kind
+    → kind_at 2 (words_at text at) ≡ c.kind
 third n e m f o = kind-next 1 n (omega arith) ∙ kind-next 0 m (omega arith) ∙ kind-here o
 
 pub ahead-unclosed : {text : List ℕ} {at : ℕ} {p t c : WordAt} → Here text at p → p.kind ≡ 40 → Here text p.next t → t.kind ≡ 257 → Here text t.next c → (c.kind ≡ 41 → ⊥)
-    → none ≡ kindAhead (wordsAt text at)
+    → none ≡ kind_ahead (words_at text at)
 ahead-unclosed {text} {at} {p} {t} {c} n e m f o h =
     rw (
-      ahead-by (wordsAt text at) p.kind t.kind c.kind _ (kind-here n) (kind-next 0 n (omega arith) ∙ kind-here m) (third n e m f o) refl,
+      ahead-by (words_at text at) p.kind t.kind c.kind _ (kind-here n) (kind-next 0 n (omega arith) ∙ kind-here m) (third n e m f o) refl,
       eq-eqb p.kind 40 e,
       eq-eqb t.kind 257 f,
       ne_eqb c.kind 41 h,
     ) refl
 
 pub ahead-taking : {text : List ℕ} {at : ℕ} {p t c g : WordAt} → Here text at p → p.kind ≡ 40 → Here text p.next t → t.kind ≡ 257 → Here text t.next c → c.kind ≡ 41
-    → Here text c.next g → some (first_of true (eqb g.kind 256)) ≡ kindAhead (wordsAt text at)
+    → Here text c.next g → some (first_of true (eqb g.kind 256)) ≡ kind_ahead (words_at text at)
 ahead-taking {text} {at} {p} {t} {c} {g} n e m f o h q =
     rw (
-      ahead-by (wordsAt text at) p.kind t.kind c.kind g.kind (kind-here n) (kind-next 0 n (omega arith) ∙ kind-here m) (third n e m f o)
+      ahead-by (words_at text at) p.kind t.kind c.kind g.kind (kind-here n) (kind-next 0 n (omega arith) ∙ kind-here m) (third n e m f o)
           (kind-next 2 n (omega arith) ∙ kind-next 1 m (omega arith) ∙ kind-next 0 o (omega arith) ∙ kind-here q),
       eq-eqb p.kind 40 e,
       eq-eqb t.kind 257 f,
@@ -364,52 +365,52 @@ kept-operations s t n u os q z = record { left = omega (arith, z.less); input = 
 
 -- a section of entries, from what its list of entries brings
 pub inputs_read : (s : Sofar) (t : State) (k n m i : ℕ) {text : List ℕ} (at : ℕ) {r : Out} → Keeps s t → i ≡ max t.input m
-    → Brings (Entered t.left 0 n m) (listed k t.left true t.input (wordsAt text at)) text r
+    → Brings (Entered t.left 0 n m) (listed k t.left true t.input (words_at text at)) text r
     → Brings (λ x. Keeps (after s x) (record { left = n; input = i; output = t.output; error = t.error; seen = t.seen }))
-    (onward (expect 58 (wordsAt text at)) (λ _ ws. onward (entries k s.left true s.input ws) (λ es ws. got (inputs es) ws))) text r
+    (onward (expect 58 (words_at text at)) (λ _ ws. onward (entries k s.left true s.input ws) (λ es ws. got (inputs es) ws))) text r
 inputs_read s t k n m i at q e b = listed-made k s.left true s.input inputs at (listed-as k _ _ true _ _ at q.left q.input b) (λ es z. kept-inputs s t n m i es q z e)
 
 pub outputs-read : (s : Sofar) (t : State) (k n m o : ℕ) {text : List ℕ} (at : ℕ) {r : Out} → Keeps s t → o ≡ max t.output m
-    → Brings (Entered t.left 0 n m) (listed k t.left true t.output (wordsAt text at)) text r
+    → Brings (Entered t.left 0 n m) (listed k t.left true t.output (words_at text at)) text r
     → Brings (λ x. Keeps (after s x) (record { left = n; input = t.input; output = o; error = t.error; seen = t.seen }))
-    (onward (expect 58 (wordsAt text at)) (λ _ ws. onward (entries k s.left true s.output ws) (λ es ws. got (outputs es) ws))) text r
+    (onward (expect 58 (words_at text at)) (λ _ ws. onward (entries k s.left true s.output ws) (λ es ws. got (outputs es) ws))) text r
 outputs-read s t k n m o at q e b = listed-made k s.left true s.output outputs at (listed-as k _ _ true _ _ at q.left q.output b) (λ es z. kept-outputs s t n m o es q z e)
 
 pub both_read : (s : Sofar) (t : State) (k v n m i o : ℕ) {text : List ℕ} (at : ℕ) {r : Out} → Keeps s t → v ≡ max t.input t.output → i ≡ max t.input m → o ≡ max t.output m
-    → Brings (Entered t.left 0 n m) (listed k t.left true v (wordsAt text at)) text r
+    → Brings (Entered t.left 0 n m) (listed k t.left true v (words_at text at)) text r
     → Brings (λ x. Keeps (after s x) (record { left = n; input = i; output = o; error = t.error; seen = t.seen }))
-    (onward (expect 58 (wordsAt text at)) (λ _ ws. onward (entries k s.left true (max s.input s.output) ws) (λ es ws. got (both es) ws))) text r
+    (onward (expect 58 (words_at text at)) (λ _ ws. onward (entries k s.left true (max s.input s.output) ws) (λ es ws. got (both es) ws))) text r
 both_read s t k v n m i o at q d e f b =
     listed-made k s.left true (max s.input s.output) both at (listed-as k _ _ true _ _ at q.left (omega arith) b) (λ es z. kept-both s t n m i o es q z e f)
 
 pub errors-read : (s : Sofar) (t : State) (k n m e : ℕ) {text : List ℕ} (at : ℕ) {r : Out} → Keeps s t → e ≡ max t.error m
-    → Brings (Entered t.left 0 n m) (listed k t.left false t.error (wordsAt text at)) text r
+    → Brings (Entered t.left 0 n m) (listed k t.left false t.error (words_at text at)) text r
     → Brings (λ x. Keeps (after s x) (record { left = n; input = t.input; output = t.output; error = e; seen = t.seen }))
-    (onward (expect 58 (wordsAt text at)) (λ _ ws. onward (entries k s.left false s.error ws) (λ es ws. got (errors es) ws))) text r
+    (onward (expect 58 (words_at text at)) (λ _ ws. onward (entries k s.left false s.error ws) (λ es ws. got (errors es) ws))) text r
 errors-read s t k n m e at q f b = listed-made k s.left false s.error errors at (listed-as k _ _ false _ _ at q.left q.error b) (λ es z. kept-errors s t n m e es q z f)
 
 pub values-read : (s : Sofar) (t : State) (k n m : ℕ) (w : Word) {text : List ℕ} (at : ℕ) {r : Out} → Keeps s t
-    → Brings (Entered (t.left - 1) 0 n m) (listed k (t.left - 1) false 0 (wordsAt text at)) text r
+    → Brings (Entered (t.left - 1) 0 n m) (listed k (t.left - 1) false 0 (words_at text at)) text r
     → Brings (λ x. Keeps (after s x) (record { left = n; input = t.input; output = t.output; error = t.error; seen = t.seen }))
-    (onward (expect 58 (wordsAt text at)) (λ _ ws. onward (entries k (s.left - 1) false 0 ws) (λ es ws. got (values w es) ws))) text r
+    (onward (expect 58 (words_at text at)) (λ _ ws. onward (entries k (s.left - 1) false 0 ws) (λ es ws. got (values w es) ws))) text r
 values-read s t k n m w at q b = listed-made k (s.left - 1) false 0 (values w) at (listed-as k _ _ false _ _ at (omega arith) refl b) (λ es z. kept-values s t n m w es q z)
 
 -- The sections and the rules of a program
 
 pub operations-as : {P : List Operation → Type 0} (k left left' : ℕ) (is : List ℕ) {text : List ℕ} (at : ℕ) {r : Out} → left ≡ left'
-    → Brings P (someOperations k left is (wordsAt text at)) text r → Brings P (someOperations k left' is (wordsAt text at)) text r
+    → Brings P (some_operations k left is (words_at text at)) text r → Brings P (some_operations k left' is (words_at text at)) text r
 operations-as k left left' is at e b = rw (← e) b
 
 pub name-as : {P : Word → Type 0} (left left' : ℕ) {text : List ℕ} (at : ℕ) {r : Out} → left ≡ left'
-    → Brings P (oneName left (wordsAt text at)) text r → Brings P (oneName left' (wordsAt text at)) text r
+    → Brings P (one_name left (words_at text at)) text r → Brings P (one_name left' (words_at text at)) text r
 name-as left left' at e b = rw (← e) b
 
-pub rules-as : (k m l n : ℕ) {text : List ℕ} (at : ℕ) {r : Out} → m ≡ min 128 n → l ≡ n → Tells (someRules k m (wordsAt text at)) text r
-    → Tells (someRules k (min 128 l) (wordsAt text at)) text r
+pub rules-as : (k m l n : ℕ) {text : List ℕ} (at : ℕ) {r : Out} → m ≡ min 128 n → l ≡ n → Tells (some_rules k m (words_at text at)) text r
+    → Tells (some_rules k (min 128 l) (words_at text at)) text r
 rules-as k m l n at e f t = rw (f, ← e) t
 
 pub start-kept : Keeps nothing (record { left = 512; input = 0; output = 0; error = 0; seen = record { plain = 0; taking = 0; giving = 0; both = 0 } })
-unfolding nothing ofKind
+unfolding nothing of_kind
 start-kept = record { left = refl; input = refl; output = refl; error = refl; kinds = record { plain = refl; taking = refl; giving = refl; both = refl } }
 
 -- The whole
@@ -421,8 +422,8 @@ decide-on (got a vs) f ws r e (held p) h = let same : vs ≡ ws = cc in rw same 
 decide-on (fault n w) f ws r e void h = let y : ◌≡◌ {A = ℕ} 0 1 = cc in absurd (omega arith)
 
 pub decides-on : {A B : Type 0} {P : A → Type 0} {m : Read A} (f : A → Reader B) {text : List ℕ} {r s : Out}
-    → Brings P m text r → r.fault ≡ 0 → ((a : A) → P a → Decides s (f a (wordsAt text r.at))) → Decides s (onward m f)
-decides-on {m = m} f {text} {r} {s} b h g = decide-on m f (wordsAt text r.at) s (b.tells.same ∙ says_on text r h) b.holds g
+    → Brings P m text r → r.fault ≡ 0 → ((a : A) → P a → Decides s (f a (words_at text r.at))) → Decides s (onward m f)
+decides-on {m = m} f {text} {r} {s} b h g = decide-on m f (words_at text r.at) s (b.tells.same ∙ says_on text r h) b.holds g
 
 decide-off : {A : Type 0} (m : Read A) (r : Out) → (r.fault ≡ 0 → ⊥) → told m ≡ failed r.fault r.at r.len → Decides r m
 decide-off (got a vs) r h e = let y : ◌≡◌ {A = ℕ} 0 1 = cc in absurd (omega arith)
@@ -434,11 +435,11 @@ pub decides-off : {A : Type 0} {m : Read A} {text : List ℕ} {r : Out} → Tell
 decides-off {m = m} {text} {r} e h = decide-off m r h (e.same ∙ says-off text r h)
 
 -- `end`, then the end of the text
-pub last_word : {text : List ℕ} {at : ℕ} {w : WordAt} {r : Out} → Here text at w → w.kind ≡ 1 → r.fault ≡ 0 → Decides r (expect 1 (wordsAt text at))
+pub last_word : {text : List ℕ} {at : ℕ} {w : WordAt} {r : Out} → Here text at w → w.kind ≡ 1 → r.fault ≡ 0 → Decides r (expect 1 (words_at text at))
 unfolding expect on◌then◌else◌ pass
 last_word {w = w} n e f = rw (n.head, eq-eqb w.kind 1 e, n.final (omega arith)) (fine f)
 
-pub no_last : {text : List ℕ} {at : ℕ} {w : WordAt} {r : Out} → Here text at w → (w.kind ≡ 1 → ⊥) → Faulty (refusal w.kind) w r → Decides r (expect 1 (wordsAt text at))
+pub no_last : {text : List ℕ} {at : ℕ} {w : WordAt} {r : Out} → Here text at w → (w.kind ≡ 1 → ⊥) → Faulty (refusal w.kind) w r → Decides r (expect 1 (words_at text at))
 unfolding expect
 no_last {w = w} n e f = decides-off (no _ _ _ n e (refuses n f)) (λ z. one-or-two-not w.kind (sym f.number ∙ z))
 
@@ -453,8 +454,8 @@ unfolding ending
 ends-whole p ws d = rw (← assoc (expect 266 ws) (λ _ ws. expect 1 ws) (λ _ ws. got p ws)) (decides-made _ (λ _. p) d)
 
 -- the whole text
-pub from_start : (text : List ℕ) → words text ≡ wordsAt text 0
-unfolding words wordsAt
+pub from_start : (text : List ℕ) → words text ≡ words_at text 0
+unfolding words words_at
 from_start text = refl
 
 pub too_long : (text : List ℕ) {r : Out} → 32768 < length text → r.fault ≡ 9 → r.at ≡ length text → r.len ≡ 0 → Decides r (parse text)
@@ -467,17 +468,17 @@ not-long text h d = rw (le-ltb 32768 (length text) h) d
 
 -- Operators
 
-pub level-zero : {text : List ℕ} {at : ℕ} {w : WordAt} {r : Out} → Here text at w → value 0 (take w.len (drop w.start text)) ≡ 0 → Faulty 9 w r → Tells (ranking (wordsAt text at)) text r
+pub level-zero : {text : List ℕ} {at : ℕ} {w : WordAt} {r : Out} → Here text at w → value 0 (take w.len (drop w.start text)) ≡ 0 → Faulty 9 w r → Tells (ranking (words_at text at)) text r
 unfolding ranking
 level-zero {text} {w = w} n h f = rw (n.head, eq-eqb (value 0 (take w.len (drop w.start text))) 0 h) (overs n f)
 
-pub level-high : {text : List ℕ} {at : ℕ} {w : WordAt} {r : Out} → Here text at w → 15 < value 0 (take w.len (drop w.start text)) → Faulty 9 w r → Tells (ranking (wordsAt text at)) text r
+pub level-high : {text : List ℕ} {at : ℕ} {w : WordAt} {r : Out} → Here text at w → 15 < value 0 (take w.len (drop w.start text)) → Faulty 9 w r → Tells (ranking (words_at text at)) text r
 unfolding ranking
 level-high {text} {w = w} n h f =
     rw (n.head, ne_eqb (value 0 (take w.len (drop w.start text))) 0 (λ e. omega (arith, e)), lt-ltb 15 (value 0 (take w.len (drop w.start text))) h) (overs n f)
 
 pub level-got : {text : List ℕ} {at : ℕ} {w : WordAt} {r : Out} (v : ℕ) → Here text at w → 2 ≤ w.kind → value 0 (take w.len (drop w.start text)) ≡ v → (v ≡ 0 → ⊥) → v ≤ 15
-    → r.fault ≡ 0 → r.at ≡ w.next → Tells (ranking (wordsAt text at)) text r
+    → r.fault ≡ 0 → r.at ≡ w.next → Tells (ranking (words_at text at)) text r
 unfolding ranking pass onward
 level-got {text} {w = w} v n k p z h e f = rw (n.head, p, ne_eqb v 0 z, le-ltb 15 v h, n.more k, ← f) (gives e)
 
@@ -490,27 +491,27 @@ level-past ds n h l = go (leb n 65535) refl
     go false e = let x = h.past (leb-false n 65535 e) in omega arith
 
 -- the next word is this name, or is not
-pub spelling : (s : List ℕ) {text : List ℕ} {at : ℕ} {w : WordAt} → Here text at w → spells s (wordsAt text at) ≡ (eqb w.kind 257 && same (take w.len (drop w.start text)) s)
+pub spelling : (s : List ℕ) {text : List ℕ} {at : ℕ} {w : WordAt} → Here text at w → spells s (words_at text at) ≡ (eqb w.kind 257 && same (take w.len (drop w.start text)) s)
 unfolding spells
 spelling s n = rw n.head refl
 
-pub side-none : {text : List ℕ} {at : ℕ} {w : WordAt} {r : Out} → Here text at w → (w.kind ≡ 257 → ⊥) → Faulty (refusal w.kind) w r → Tells (aSide (wordsAt text at)) text r
-unfolding aSide
+pub side-none : {text : List ℕ} {at : ℕ} {w : WordAt} {r : Out} → Here text at w → (w.kind ≡ 257 → ⊥) → Faulty (refusal w.kind) w r → Tells (a_side (words_at text at)) text r
+unfolding a_side
 side-none {w = w} n d f = rw (spelling (bytes "left") n, spelling (bytes "right") n, ne_eqb w.kind 257 d) (refuses n f)
 
 pub side_left : {text : List ℕ} {at : ℕ} {w : WordAt} {r : Out} → Here text at w → w.kind ≡ 257 → same (take w.len (drop w.start text)) (bytes "left") ≡ true → r.fault ≡ 0 → r.at ≡ w.next
-    → Tells (aSide (wordsAt text at)) text r
-unfolding aSide pass onward
+    → Tells (a_side (words_at text at)) text r
+unfolding a_side pass onward
 side_left {w = w} n d e z f = rw (spelling (bytes "left") n, eq-eqb w.kind 257 d, e, n.more (omega arith), ← f) (gives z)
 
 pub side_right : {text : List ℕ} {at : ℕ} {w : WordAt} {r : Out} → Here text at w → w.kind ≡ 257 → same (take w.len (drop w.start text)) (bytes "left") ≡ false
-    → same (take w.len (drop w.start text)) (bytes "right") ≡ true → r.fault ≡ 0 → r.at ≡ w.next → Tells (aSide (wordsAt text at)) text r
-unfolding aSide pass onward
+    → same (take w.len (drop w.start text)) (bytes "right") ≡ true → r.fault ≡ 0 → r.at ≡ w.next → Tells (a_side (words_at text at)) text r
+unfolding a_side pass onward
 side_right {w = w} n d e g z f = rw (spelling (bytes "left") n, spelling (bytes "right") n, eq-eqb w.kind 257 d, e, g, n.more (omega arith), ← f) (gives z)
 
 pub side-neither : {text : List ℕ} {at : ℕ} {w : WordAt} {r : Out} → Here text at w → w.kind ≡ 257 → same (take w.len (drop w.start text)) (bytes "left") ≡ false
-    → same (take w.len (drop w.start text)) (bytes "right") ≡ false → Faulty (refusal w.kind) w r → Tells (aSide (wordsAt text at)) text r
-unfolding aSide
+    → same (take w.len (drop w.start text)) (bytes "right") ≡ false → Faulty (refusal w.kind) w r → Tells (a_side (words_at text at)) text r
+unfolding a_side
 side-neither {w = w} n d e g f = rw (spelling (bytes "left") n, spelling (bytes "right") n, eq-eqb w.kind 257 d, e, g) (refuses n f)
 
 -- the state after a section of operators
@@ -521,14 +522,14 @@ kept-operators s t w os q = record { left = rw q.left refl; input = q.input; out
 
 pub other-operators : {P : Section → Type 0} (k : ℕ) (s : Sofar) {text : List ℕ} {at : ℕ} {w : WordAt} {r : Out} → Here text at w → 2 ≤ w.kind
     → (eqb w.kind 257 && same (take w.len (drop w.start text)) (bytes "operators")) ≡ true
-    → Brings P (operatorSection k s (wordsAt text w.next)) text r → Brings P (otherSection k s (wordsAt text at)) text r
-unfolding otherSection
+    → Brings P (operator_section k s (words_at text w.next)) text r → Brings P (other_section k s (words_at text at)) text r
+unfolding other_section
 other-operators k s n h e b = rw (spelling (bytes "operators") n, e) (passes-with _ n h b)
 
 pub other-mechanism : {P : Section → Type 0} (k : ℕ) (s : Sofar) {text : List ℕ} {at : ℕ} {w : WordAt} {r : Out} → Here text at w
     → (eqb w.kind 257 && same (take w.len (drop w.start text)) (bytes "operators")) ≡ false
-    → Brings P (mechanismSection k s (wordsAt text at)) text r → Brings P (otherSection k s (wordsAt text at)) text r
-unfolding otherSection
+    → Brings P (mechanism_section k s (words_at text at)) text r → Brings P (other_section k s (words_at text at)) text r
+unfolding other_section
 other-mechanism k s n e b = rw (spelling (bytes "operators") n, e) b
 
 -- a name by its kind

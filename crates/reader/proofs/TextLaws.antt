@@ -7,21 +7,21 @@ use native.Mathlib.Omega.{arith}
 use lib.Dec.{eqb}
 use lib.ListN.{length, take, drop, length-drop}
 use borrow.Author.Tests.{eqb-true, lt-ltb, le-ltb}
-use Rattle.base.specs.Common.{if◌then◌else◌}
+use Rattle.std.specs.Prelude.{if◌then◌else◌}
 use Rattle.reader.proofs.Laws.{faulty, says_on}
 use Rattle.reader.proofs.SectionLaws.{assoc, decides-off, ends-whole}
 use Rattle.reader.specs.Answers.{Brings, Here, Holds, Tells, held, told, void, went}
 use Rattle.reader.specs.Counting.{Decides, ending, fine, wrong}
-use Rattle.reader.specs.Texts.{Listed, Settles, unlessLong, upToEnd}
+use Rattle.reader.specs.Texts.{Listed, Settles, unless_long, up_to_end}
 use Rattle.reader.specs.declared.Out.{Out}
 use Rattle.scanner.proofs.Joined.{joined, moved, words-moved}
-use Rattle.scanner.specs.Next.{asWord}
+use Rattle.scanner.specs.Next.{as_word}
 use Rattle.scanner.specs.declared.WordAt.{WordAt}
 use Rattle.syntax.specs.Parse.{end_of}
 use Rattle.syntax.specs.Reading.{Read, Reader, expect, fault, got, on◌then◌else◌, onward, pass, peek, refuse}
-use Rattle.syntax.specs.Sections.{nothing, someSections}
-use Rattle.syntax.specs.Texts.{Common, aCommon, someHeads, tooLong}
-use Rattle.words.specs.Words.{Word, blank, run, wordHere, words, wordsAt, wordsFrom}
+use Rattle.syntax.specs.Sections.{nothing, some_sections}
+use Rattle.syntax.specs.Texts.{Common, a_common, some_heads, too_long}
+use Rattle.words.specs.Words.{Word, blank, run, word_here, words, words_at, words_from}
 
 -- a part was read, with all that is known of it, and the rest settles the whole
 settle-on : {A B : Type 0} {P : A → Type 0} {Q : B → Type 0} (m : Read A) (f : A → Reader B) (ws : List Word) (s : Out)
@@ -31,8 +31,8 @@ settle-on (got a vs) f ws s e (held p) h = let same : vs ≡ ws = cc in rw same 
 settle-on (fault n w) f ws s e void h = let y : ◌≡◌ {A = ℕ} 0 1 = cc in absurd (omega arith)
 
 pub settles_on : {A B : Type 0} {P : A → Type 0} {Q : B → Type 0} {m : Read A} (f : A → Reader B) {text : List ℕ} {r s : Out}
-    → Brings P m text r → r.fault ≡ 0 → ((a : A) → P a → m ≡ got a (wordsAt text r.at) → Settles Q s (f a (wordsAt text r.at))) → Settles Q s (onward m f)
-settles_on {m = m} f {text} {r} {s} b h g = settle-on m f (wordsAt text r.at) s (b.tells.same ∙ says_on text r h) b.holds g
+    → Brings P m text r → r.fault ≡ 0 → ((a : A) → P a → m ≡ got a (words_at text r.at) → Settles Q s (f a (words_at text r.at))) → Settles Q s (onward m f)
+settles_on {m = m} f {text} {r} {s} b h g = settle-on m f (words_at text r.at) s (b.tells.same ∙ says_on text r h) b.holds g
 
 -- a fault settles it
 pub settles-off : {A : Type 0} {Q : A → Type 0} {m : Read A} {text : List ℕ} {r : Out} → Tells m text r → (r.fault ≡ 0 → ⊥) → Settles Q r m
@@ -59,7 +59,7 @@ unfolding ending
 closes-on a ws d e f q = rw (← assoc (expect 266 ws) (λ _ ws. expect 1 ws) (λ _ ws. got a ws)) (close-on a _ d e f q)
 
 -- where that is read `end` is next
-pub end-next : {text : List ℕ} {at : ℕ} {w : WordAt} {e : Out} → Here text at w → Decides e (ending (wordsAt text at)) → e.fault ≡ 0 → w.kind ≡ 266
+pub end-next : {text : List ℕ} {at : ℕ} {w : WordAt} {e : Out} → Here text at w → Decides e (ending (words_at text at)) → e.fault ≡ 0 → w.kind ≡ 266
 unfolding ending expect on◌then◌else◌ refuse onward
 end-next {text} {at} {w} {e} n d z = go (eqb w.kind 266) refl
   where
@@ -78,17 +78,17 @@ begins-if : (t : Bool) (n : ℕ) (x y : List Word) → Begins n x → Begins n y
 begins-if true n x y p q = p
 begins-if false n x y p q = q
 
-begins : (skip at : ℕ) (s : List ℕ) → Begins (at + length s) (wordsFrom skip at s)
-unfolding wordsFrom peek
+begins : (skip at : ℕ) (s : List ℕ) → Begins (at + length s) (words_from skip at s)
+unfolding words_from peek
 begins skip at [] = λ h. absurd (omega arith)
 begins (suc n) at (b ∷ s) = λ h. omega (arith, begins n (suc at) s h)
 begins zero at (b ∷ s) =
     begins-if (blank b) _ _ _ (λ h. omega (arith, begins 0 (suc at) s h))
     (begins-if (eqb b 37) _ _ _ (λ h. omega (arith, begins (run (λ c. not (eqb c 10)) s) (suc at) s h))
-    (begins-if (eqb (wordHere b s).kind 0) _ _ _ (λ h. omega arith) (λ h. omega arith)))
+    (begins-if (eqb (word_here b s).kind 0) _ _ _ (λ h. omega arith) (λ h. omega arith)))
 
 pub begins-inside : {text : List ℕ} {at : ℕ} {w : WordAt} → Here text at w → at ≤ length text → 2 ≤ w.kind → w.start < length text
-unfolding wordsAt
+unfolding words_at
 begins-inside {text} {at} {w} n l h =
     let b : w.start < at + length (drop at text) = rw n.head at (begins 0 at (drop at text)) h in
     omega (arith, length-drop at text)
@@ -114,27 +114,27 @@ unfolding onward
 three-of (got a ws) n o f g = two-of a (n ws) o f g
 three-of (fault x w) n o f g = refl
 
-pub in_two : (k : ℕ) (ws : List Word) → aCommon k ws ≡ onward (upToEnd k ws) closing
-unfolding aCommon upToEnd
+pub in_two : (k : ℕ) (ws : List Word) → a_common k ws ≡ onward (up_to_end k ws) closing
+unfolding a_common up_to_end
 in_two k ws =
-    three-of (someSections k nothing ws) (expect 265) (λ s ws. someHeads k (min 128 s.left) ws) (λ s hs. record { sections = s.sections; left = s.left; listed = hs }) closing
+    three-of (some_sections k nothing ws) (expect 265) (λ s ws. some_heads k (min 128 s.left) ws) (λ s hs. record { sections = s.sections; left = s.left; listed = hs }) closing
 
-pub heads-as : (k m l n : ℕ) {text : List ℕ} (at : ℕ) {r : Out} → m ≡ min 128 n → l ≡ n → Tells (someHeads k m (wordsAt text at)) text r
-    → Tells (someHeads k (min 128 l) (wordsAt text at)) text r
+pub heads-as : (k m l n : ℕ) {text : List ℕ} (at : ℕ) {r : Out} → m ≡ min 128 n → l ≡ n → Tells (some_heads k m (words_at text at)) text r
+    → Tells (some_heads k (min 128 l) (words_at text at)) text r
 heads-as k m l n at e f t = rw (f, ← e) t
 
 -- the list is read, and `end` is next
-pub listed : {text : List ℕ} {at n : ℕ} {c : Common} {w : WordAt} {e : Out} → c.left ≡ n → at ≤ length text → Here text at w → Decides e (ending (wordsAt text at)) → e.fault ≡ 0
-    → upToEnd (length text + 1) (words text) ≡ got c (wordsAt text at) → Listed text w.start n c
+pub listed : {text : List ℕ} {at n : ℕ} {c : Common} {w : WordAt} {e : Out} → c.left ≡ n → at ≤ length text → Here text at w → Decides e (ending (words_at text at)) → e.fault ≡ 0
+    → up_to_end (length text + 1) (words text) ≡ got c (words_at text at) → Listed text w.start n c
 listed {text} {w = w} l i h d z q =
     let k = end-next h d z in
     record {
       leaves = l;
       inside = begins-inside h i (omega arith);
-      keyword = asWord text w;
+      keyword = as_word text w;
       kind = k;
       start = refl;
-      rest = wordsAt text w.next;
+      rest = words_at text w.next;
       reads = rw (h.more (omega arith)) at q;
     }
 
@@ -150,13 +150,13 @@ first_word (v ∷ ws) vs w e = go (eqb v.kind 265) e
     go false q = let y : ◌≡◌ {A = ℕ} 0 1 = cc in absurd (omega arith)
 
 -- a place behind a word is not the start
-pub behind : (text : List ℕ) (at : ℕ) (w : Word) → wordsAt text 0 ≡ w ∷ wordsAt text at → 0 < at
-behind text zero w e = let n : length (wordsAt text 0) ≡ length (w ∷ wordsAt text 0) = ap length e in absurd (omega arith)
+pub behind : (text : List ℕ) (at : ℕ) (w : Word) → words_at text 0 ≡ w ∷ words_at text at → 0 < at
+behind text zero w e = let n : length (words_at text 0) ≡ length (w ∷ words_at text 0) = ap length e in absurd (omega arith)
 behind text (suc n) w e = omega arith
 
-placed : (s : List ℕ) (d : ℕ) → wordsFrom 0 d s ≡ moved d (words s)
+placed : (s : List ℕ) (d : ℕ) → words_from 0 d s ≡ moved d (words s)
 unfolding words
-placed s d = ap (λ (k : ℕ). wordsFrom 0 k s) (omega arith) ∙ words-moved s d 0 0
+placed s d = ap (λ (k : ℕ). words_from 0 k s) (omega arith) ∙ words-moved s d 0 0
 
 -- One buffer of both: the common part up to its `end`, a line feed, the further part from behind its `rules`. Its words are those of the common part before
 -- `end`, and then those of the further part behind `rules`, at other places.
@@ -167,17 +167,17 @@ one-buffer {common} {at} l part from ws q =
     let j = joined common (drop from part) ws l.rest l.keyword (omega (arith, l.start, l.inside)) q in
     (rw l.start at j) ∙ ap (λ (vs : List Word). ws ++ vs) (placed (drop from part) (at + 1))
 
-pub part-words : (part : List ℕ) (from : ℕ) → wordsAt part from ≡ moved from (words (drop from part))
-unfolding wordsAt
+pub part-words : (part : List ℕ) (from : ℕ) → words_at part from ≡ moved from (words (drop from part))
+unfolding words_at
 part-words part from = placed (drop from part) from
 
 -- The limit on the text's bytes
 
 pub long-text : {A : Type 0} {Q : A → Type 0} (m : Read A) (text : List ℕ) {r : Out} → 32768 < length text → r.fault ≡ 9 → r.at ≡ length text → r.len ≡ 0
-    → Settles Q r (unlessLong text m)
-unfolding unlessLong tooLong end_of
+    → Settles Q r (unless_long text m)
+unfolding unless_long too_long end_of
 long-text m text h a b c = rw (lt-ltb 32768 (length text) h) (record { decides = wrong (λ z. let y : ◌≡◌ {A = ℕ} 9 0 = z in omega arith) a b c; holds = void })
 
-pub short-text : {A : Type 0} {Q : A → Type 0} {m : Read A} (text : List ℕ) {r : Out} → length text ≤ 32768 → Settles Q r m → Settles Q r (unlessLong text m)
-unfolding unlessLong tooLong
+pub short-text : {A : Type 0} {Q : A → Type 0} {m : Read A} (text : List ℕ) {r : Out} → length text ≤ 32768 → Settles Q r m → Settles Q r (unless_long text m)
+unfolding unless_long too_long
 short-text text h s = rw (le-ltb 32768 (length text) h) s

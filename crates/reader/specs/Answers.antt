@@ -1,17 +1,16 @@
 -- What the code's answers say of the definitions.
-use Rattle.std.specs.Prelude.{◌≡◌, true, List, [], ◌∷◌, ℕ, ◌+◌, ◌≤◌, ◌<◌, eqb, length}
-use Rattle.base.specs.Common.{if◌then◌else◌}
+use Rattle.std.specs.Prelude.{◌≡◌, true, List, [], ◌∷◌, ℕ, ◌+◌, ◌≤◌, ◌<◌, eqb, length, if◌then◌else◌}
 use Rattle.reader.specs.declared.Out.{Out}
-use Rattle.scanner.specs.Next.{asWord}
+use Rattle.scanner.specs.Next.{as_word}
 use Rattle.scanner.specs.declared.WordAt.{WordAt}
 use Rattle.syntax.specs.Reading.{Read, Reader, got, fault, peek}
-use Rattle.words.specs.Words.{Word, wordsAt}
+use Rattle.words.specs.Words.{Word, words_at}
 
 -- what `look` promises: `Next` inside the text
 pub record Here (text : List ℕ) (at : ℕ) (w : WordAt) : Type 0 where
-  pub head : peek (wordsAt text at) ≡ asWord text w
-  pub more : 2 ≤ w.kind → wordsAt text at ≡ asWord text w ∷ wordsAt text w.next
-  pub final : w.kind < 2 → wordsAt text at ≡ asWord text w ∷ []
+  pub head : peek (words_at text at) ≡ as_word text w
+  pub more : 2 ≤ w.kind → words_at text at ≡ as_word text w ∷ words_at text w.next
+  pub final : w.kind < 2 → words_at text at ≡ as_word text w ∷ []
   pub moves : 2 ≤ w.kind → at < w.next
   pub onto : at ≤ w.next
   pub low : at ≤ w.start
@@ -29,7 +28,7 @@ told (fault n w) = failed n w.start (length w.text)
 
 -- what an answer of the code says: fault 0, read up to the place `at`; or the fault and its word
 unfoldable pub says : List ℕ → Out → Told
-says text r = if eqb r.fault 0 then went (wordsAt text r.at) else failed r.fault r.at r.len
+says text r = if eqb r.fault 0 then went (words_at text r.at) else failed r.fault r.at r.len
 
 -- the answer r of the code is right for the reading m
 pub record Tells {A : Type 0} (m : Read A) (text : List ℕ) (r : Out) : Type 0 where
@@ -49,7 +48,7 @@ pub record Brings {A : Type 0} (P : A → Type 0) (m : Read A) (text : List ℕ)
 pub record Reads {A : Type 0} (text : List ℕ) (at from : ℕ) (m : ℕ → Reader A) (r : Out) : Type 0 where
   pub low : at ≤ r.at
   pub high : r.at ≤ length text
-  pub tells : (k : ℕ) → length text < from + k → Tells (m k (wordsAt text at)) text r
+  pub tells : (k : ℕ) → length text < from + k → Tells (m k (words_at text at)) text r
 
 -- the same of a function that gets past its first word
 pub record Moves {A : Type 0} (text : List ℕ) (at from : ℕ) (m : ℕ → Reader A) (r : Out) : Type 0 where
@@ -61,7 +60,7 @@ pub record Yields {A : Type 0} (P : A → Type 0) (text : List ℕ) (at from : �
   pub low : at ≤ r.at
   pub high : r.at ≤ length text
   pub past : r.fault ≡ 0 → at < r.at
-  pub brings : (k : ℕ) → length text < from + k → Brings P (m k (wordsAt text at)) text r
+  pub brings : (k : ℕ) → length text < from + k → Brings P (m k (words_at text at)) text r
 
 -- the answer r is the fault n at the word w
 pub record Faulty (n : ℕ) (w : WordAt) (r : Out) : Type 0 where

@@ -1,8 +1,7 @@
 -- What the functions that read sections, rules and the program promise.
-use Rattle.std.specs.Prelude.{◌≡◌, Bool, true, false, List, [], ◌∷◌, ℕ, ◌+◌, ◌-◌, ◌≤◌, ◌<◌, leb, length}
+use Rattle.std.specs.Prelude.{◌≡◌, Bool, true, false, List, [], ◌∷◌, ℕ, ◌+◌, ◌-◌, ◌≤◌, ◌<◌, leb, length, if◌then◌else◌}
 use Rattle.std.proofs.Math.Option.{Option, none, some}
 use Prim.Native.Char.{code}
-use Rattle.base.specs.Common.{if◌then◌else◌}
 use Rattle.reader.specs.Answers.{Brings, Reads, Moves, Yields}
 use Rattle.reader.specs.declared.Added.{Added}
 use Rattle.reader.specs.declared.Ahead.{Ahead}
@@ -11,15 +10,15 @@ use Rattle.reader.specs.declared.Out.{Out}
 use Rattle.reader.specs.declared.Seen.{Seen}
 use Rattle.reader.specs.declared.State.{State}
 use Rattle.reader.specs.declared.Valued.{Valued}
-use Rattle.syntax.specs.Parse.{aRule}
-use Rattle.syntax.specs.Reading.{Read, got, fault, Reader, ◌>>=◌, ◌>>◌, pure, peek, expect, oneName, a_number}
-use Rattle.syntax.specs.Sections.{anEntry, entries, ofKind, first_of, anOperation, someOperations, Sofar, next_of, instructions, after, Sections, someSections}
+use Rattle.syntax.specs.Parse.{a_rule}
+use Rattle.syntax.specs.Reading.{Read, got, fault, Reader, ◌>>=◌, ◌>>◌, pure, peek, expect, one_name, a_number}
+use Rattle.syntax.specs.Sections.{an_entry, entries, of_kind, first_of, an_operation, some_operations, Sofar, next_of, instructions, after, Sections, some_sections}
 use Rattle.syntax.specs.Written.{Entry, Operation, Section, outputs, errors, values}
-use Rattle.words.specs.Words.{Word, wordsAt, value, end, last}
+use Rattle.words.specs.Words.{Word, words_at, value, end, last}
 
 -- a name was read where one more may be declared
 pub record OneName (text : List ℕ) (at left : ℕ) (r : Out) : Type 0 where
-  pub yields : Yields (λ a. a ≡ peek (wordsAt text at)) text at at (λ _. oneName left) r
+  pub yields : Yields (λ a. a ≡ peek (words_at text at)) text at at (λ _. one_name left) r
   pub some : r.fault ≡ 0 → 0 < left
 
 -- Entries
@@ -39,7 +38,7 @@ pub record Sure {A : Type 0} (text : List ℕ) (at : ℕ) (m : Reader A) (r : Ou
   pub sure : r.fault ≡ 0
 
 pub record AnEntry (text : List ℕ) (at left : ℕ) (strings : Bool) (v : ℕ) (r : Valued) : Type 0 where
-  pub yields : Yields (λ (e : Entry). e.value ≡ r.value) text at at (λ _. anEntry left strings v) r.out
+  pub yields : Yields (λ (e : Entry). e.value ≡ r.value) text at at (λ _. an_entry left strings v) r.out
   pub some : r.out.fault ≡ 0 → 0 < left
   pub small : r.value ≤ 65535
 
@@ -61,40 +60,40 @@ count_of s true false = s.taking
 count_of s false true = s.giving
 count_of s true true = s.both
 
-abbrev pub oneMore : Seen → Bool → Bool → Seen
-oneMore s false false = record { plain = s.plain + 1; taking = s.taking; giving = s.giving; both = s.both }
-oneMore s true false = record { plain = s.plain; taking = s.taking + 1; giving = s.giving; both = s.both }
-oneMore s false true = record { plain = s.plain; taking = s.taking; giving = s.giving + 1; both = s.both }
-oneMore s true true = record { plain = s.plain; taking = s.taking; giving = s.giving; both = s.both + 1 }
+abbrev pub one_more : Seen → Bool → Bool → Seen
+one_more s false false = record { plain = s.plain + 1; taking = s.taking; giving = s.giving; both = s.both }
+one_more s true false = record { plain = s.plain; taking = s.taking + 1; giving = s.giving; both = s.both }
+one_more s false true = record { plain = s.plain; taking = s.taking; giving = s.giving + 1; both = s.both }
+one_more s true true = record { plain = s.plain; taking = s.taking; giving = s.giving; both = s.both + 1 }
 
 -- the four counts of these instruction numbers
 pub record Kinds (is : List ℕ) (s : Seen) : Type 0 where
-  pub plain : s.plain ≡ ofKind 256 is
-  pub taking : s.taking ≡ ofKind 512 is
-  pub giving : s.giving ≡ ofKind 768 is
-  pub both : s.both ≡ ofKind 1024 is
+  pub plain : s.plain ≡ of_kind 256 is
+  pub taking : s.taking ≡ of_kind 512 is
+  pub giving : s.giving ≡ of_kind 768 is
+  pub both : s.both ≡ of_kind 1024 is
 
 -- these instruction numbers were added
 pub record Adds (is : List ℕ) (s t : Seen) : Type 0 where
-  pub plain : t.plain ≡ s.plain + ofKind 256 is
-  pub taking : t.taking ≡ s.taking + ofKind 512 is
-  pub giving : t.giving ≡ s.giving + ofKind 768 is
-  pub both : t.both ≡ s.both + ofKind 1024 is
+  pub plain : t.plain ≡ s.plain + of_kind 256 is
+  pub taking : t.taking ≡ s.taking + of_kind 512 is
+  pub giving : t.giving ≡ s.giving + of_kind 768 is
+  pub both : t.both ≡ s.both + of_kind 1024 is
 
 -- where the kind begins that was seen ahead
-unfoldable pub toldKind : Ahead → Option ℕ
-toldKind a = if a.known then some (first_of a.takes a.gives) else none
+unfoldable pub told_kind : Ahead → Option ℕ
+told_kind a = if a.known then some (first_of a.takes a.gives) else none
 
 -- the kind that was seen ahead is full by the counts
-unfoldable pub fullIn : Seen → Ahead → Bool
-fullIn s a = if a.known then leb 256 (count_of s a.takes a.gives) else false
+unfoldable pub full_in : Seen → Ahead → Bool
+full_in s a = if a.known then leb 256 (count_of s a.takes a.gives) else false
 
 pub record AnOperation (text : List ℕ) (at left : ℕ) (seen : Seen) (r : Added) : Type 0 where
   pub low : at ≤ r.out.at
   pub high : r.out.at ≤ length text
   pub past : r.out.fault ≡ 0 → at < r.out.at
   pub some : r.out.fault ≡ 0 → 0 < left
-  pub brings : (is : List ℕ) → Kinds is seen → Brings (λ o. Adds (o.instruction ∷ []) seen r.seen) (anOperation left is (wordsAt text at)) text r.out
+  pub brings : (is : List ℕ) → Kinds is seen → Brings (λ o. Adds (o.instruction ∷ []) seen r.seen) (an_operation left is (words_at text at)) text r.out
 
 -- operations leave n names of `left`, and the counts t of the counts s
 pub record Operated (left n : ℕ) (s t : Seen) (os : List Operation) : Type 0 where
@@ -105,19 +104,19 @@ pub record SomeOperations (text : List ℕ) (at left : ℕ) (seen : Seen) (o : O
   pub low : at ≤ o.at
   pub high : o.at ≤ length text
   pub past : o.fault ≡ 0 → at < o.at
-  pub brings : (is : List ℕ) → Kinds is seen → (k : ℕ) → length text < at + k → Brings (Operated left n seen t) (someOperations k left is (wordsAt text at)) text o
+  pub brings : (is : List ℕ) → Kinds is seen → (k : ℕ) → length text < at + k → Brings (Operated left n seen t) (some_operations k left is (words_at text at)) text o
 
 -- Sections
 
 -- sections without the word that says which
-unfoldable pub outputSection : ℕ → Sofar → Reader Section
-outputSection k s = do expect (code ":"); es ← entries k s.left true s.output; pure (outputs es)
+unfoldable pub output_section : ℕ → Sofar → Reader Section
+output_section k s = do expect (code ":"); es ← entries k s.left true s.output; pure (outputs es)
 
-unfoldable pub errorSection : ℕ → Sofar → Reader Section
-errorSection k s = do expect (code ":"); es ← entries k s.left false s.error; pure (errors es)
+unfoldable pub error_section : ℕ → Sofar → Reader Section
+error_section k s = do expect (code ":"); es ← entries k s.left false s.error; pure (errors es)
 
-unfoldable pub typeSection : ℕ → Sofar → Reader Section
-typeSection k s = do w ← oneName s.left; expect (code ":"); es ← entries k (s.left - 1) false 0; pure (values w es)
+unfoldable pub type_section : ℕ → Sofar → Reader Section
+type_section k s = do w ← one_name s.left; expect (code ":"); es ← entries k (s.left - 1) false 0; pure (values w es)
 
 -- the code's state is the definition's
 pub record Keeps (s : Sofar) (t : State) : Type 0 where
@@ -133,18 +132,18 @@ pub record ASection (text : List ℕ) (at from : ℕ) (m : ℕ → Sofar → Rea
   pub high : r.out.at ≤ length text
   pub past : r.out.fault ≡ 0 → at < r.out.at
   pub brings : (s : Sofar) → Keeps s t → (k : ℕ) → length text < from + k
-      → Brings (λ x. Keeps (after s x) r.state) (m k s (wordsAt text at)) text r.out
+      → Brings (λ x. Keeps (after s x) r.state) (m k s (words_at text at)) text r.out
 
 pub record SomeSections (text : List ℕ) (at : ℕ) (t : State) (o : Out) (left : ℕ) : Type 0 where
   pub low : at ≤ o.at
   pub high : o.at ≤ length text
   pub brings : (s : Sofar) → Keeps s t → (k : ℕ) → length text < at + k
-      → Brings (λ (x : Sections). x.left ≡ left) (someSections k s (wordsAt text at)) text o
+      → Brings (λ (x : Sections). x.left ≡ left) (some_sections k s (words_at text at)) text o
 
 -- Rules
 
 pub record ARule (text : List ℕ) (at left : ℕ) (r : Out) : Type 0 where
-  pub moves : Moves text at (at + 1) (λ k. aRule k left) r
+  pub moves : Moves text at (at + 1) (λ k. a_rule k left) r
   pub some : r.fault ≡ 0 → 0 < left
 
 -- The whole

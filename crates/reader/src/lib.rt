@@ -1,16 +1,16 @@
 // The syntax pass: faults 1, 2 and 9, by reading the text word by word. Nothing is kept but places and counts.
 ghost use Rattle.std.specs.Prelude.{List, ◌≡◌, ℕ, ◌+◌, ◌-◌, ◌≤◌, ◌<◌, max, min, length, take, drop, eqb, ◌&&◌};
-ghost use Rattle.syntax.specs.Actions.{aConstant, aValue, aPlain, aSelector, someLabels, closes, aCycle, aChoice, anOtherwise, actions, alternatives};
-ghost use Rattle.syntax.specs.Reading.{expect, aName, nameOrString, optional};
+ghost use Rattle.syntax.specs.Actions.{a_constant, a_value, a_plain, a_selector, some_labels, closes, a_cycle, a_choice, an_otherwise, actions, alternatives};
+ghost use Rattle.syntax.specs.Reading.{expect, a_name, name_or_string, optional};
 ghost use Rattle.reader.specs.Answers.{Here, Reads, Moves, Yields, Faulty, refusal};
-ghost use Rattle.reader.specs.Parts.{withConstant, oneAction, aLabelled, OneLabel, Leaves, LeavesBoth, ARanked};
-ghost use Rattle.reader.specs.Texts.{AHead, Shares, Settles, Listed, RulesAt, unlessLong};
-ghost use Rattle.reader.specs.Counting.{OneName, NumberOf, ANumber, Sure, AnEntry, Entered, listed, count_of, oneMore, toldKind, fullIn, AnOperation, SomeOperations, ASection, outputSection, errorSection, typeSection, SomeSections, ARule, ending, Decides, Keeps};
-ghost use Rattle.syntax.specs.Sections.{nothing, aSpelling, entries, kindAhead, aParameter, tokenSection, aSection, aLevel, aSide, anOperator, someOperators, operatorSection, mechanismSection, otherSection};
+ghost use Rattle.reader.specs.Parts.{with_constant, one_action, a_labelled, OneLabel, Leaves, LeavesBoth, ARanked};
+ghost use Rattle.reader.specs.Texts.{AHead, Shares, Settles, Listed, RulesAt, unless_long};
+ghost use Rattle.reader.specs.Counting.{OneName, NumberOf, ANumber, Sure, AnEntry, Entered, listed, count_of, one_more, told_kind, full_in, AnOperation, SomeOperations, ASection, output_section, error_section, type_section, SomeSections, ARule, ending, Decides, Keeps};
+ghost use Rattle.syntax.specs.Sections.{nothing, a_spelling, entries, kind_ahead, a_parameter, token_section, a_section, a_level, a_side, an_operator, some_operators, operator_section, mechanism_section, other_section};
 ghost use Rattle.base.specs.Common.{same, bytes};
-ghost use Rattle.syntax.specs.Parse.{someRules, program, parse};
-ghost use Rattle.syntax.specs.Texts.{someHeads, readCommon, readPart};
-ghost use Rattle.words.specs.Words.{words, wordsAt};
+ghost use Rattle.syntax.specs.Parse.{some_rules, program, parse};
+ghost use Rattle.syntax.specs.Texts.{some_heads, read_common, read_part};
+ghost use Rattle.words.specs.Words.{words, words_at};
 
 use scanner::WordAt;
 
@@ -146,7 +146,7 @@ fn expect_word(text: &[u8], at: usize, kind: u16) -> Out
 
 // A word that is to be a name.
 fn check_name(w: WordAt) -> Out
-    ensures { (text : List ℕ) (at : ℕ) → Here text at w → Moves text at at (λ _. aName) result }
+    ensures { (text : List ℕ) (at : ℕ) → Here text at w → Moves text at at (λ _. a_name) result }
 {
     if w.kind != words::NAME {
         return refused(w);
@@ -163,7 +163,7 @@ fn check_name(w: WordAt) -> Out
 
 fn read_name(text: &[u8], at: usize) -> Out
     requires { at ≤ length text.now }
-    ensures { Moves text.now at at (λ _. aName) result }
+    ensures { Moves text.now at at (λ _. a_name) result }
 {
     let w = look(text, at);
     check_name(w)
@@ -171,7 +171,7 @@ fn read_name(text: &[u8], at: usize) -> Out
 
 fn name_or_string(text: &[u8], at: usize) -> Out
     requires { at ≤ length text.now }
-    ensures { Moves text.now at at (λ _. nameOrString) result }
+    ensures { Moves text.now at at (λ _. name_or_string) result }
 {
     let w = look(text, at);
     if w.kind == words::STRING {
@@ -186,7 +186,7 @@ fn name_or_string(text: &[u8], at: usize) -> Out
 
 fn read_constant(text: &[u8], at: usize) -> Out
     requires { at ≤ length text.now }
-    ensures { Reads text.now at at (λ _. aConstant) result }
+    ensures { Reads text.now at at (λ _. a_constant) result }
 {
     let w = look(text, at);
     if w.kind != words::OPENING {
@@ -206,7 +206,7 @@ fn read_constant(text: &[u8], at: usize) -> Out
 // A name, the word w at the place, and its constant.
 fn with_constant(text: &[u8], at: usize, w: WordAt) -> Out
     requires { Here text.now at w }
-    ensures { Moves text.now at at (λ _. withConstant) result }
+    ensures { Moves text.now at at (λ _. with_constant) result }
 {
     let r = check_name(w);
     if r.fault != 0 {
@@ -217,7 +217,7 @@ fn with_constant(text: &[u8], at: usize, w: WordAt) -> Out
 
 fn read_value(text: &[u8], at: usize) -> Out
     requires { at ≤ length text.now }
-    ensures { Reads text.now at at (λ _. aValue) result }
+    ensures { Reads text.now at at (λ _. a_value) result }
 {
     let w = look(text, at);
     if w.kind == words::NAME {
@@ -239,7 +239,7 @@ fn read_value(text: &[u8], at: usize) -> Out
 
 fn read_selector(text: &[u8], at: usize) -> Out
     requires { at ≤ length text.now }
-    ensures { Reads text.now at at (λ _. aSelector) result }
+    ensures { Reads text.now at at (λ _. a_selector) result }
 {
     let w = look(text, at);
     if w.kind == words::AT {
@@ -274,7 +274,7 @@ fn read_ranked(text: &[u8], at: usize) -> Out
 // A plain action, whose first word is w.
 fn read_plain(text: &[u8], at: usize, w: WordAt) -> Out
     requires { Here text.now at w }
-    ensures { Moves text.now at at (λ _. aPlain) result }
+    ensures { Moves text.now at at (λ _. a_plain) result }
 {
     let kind = w.kind;
     match kind {
@@ -334,7 +334,7 @@ fn read_label(text: &[u8], at: usize, room: usize) -> Out
 // Labels up to a word that is no comma.
 fn read_labels(text: &[u8], at: usize, room: usize) -> Counted
     requires { at ≤ length text.now }
-    ensures { Yields (Leaves room result.room) text.now at (at + 1) (λ k. someLabels k room) result.out }
+    ensures { Yields (Leaves room result.room) text.now at (at + 1) (λ k. some_labels k room) result.out }
 {
     let mut i = at;
     let mut left = room;
@@ -395,7 +395,7 @@ fn read_actions(text: &[u8], at: usize, left: usize) -> Out
 #[cycle(read_action_read_actions_read_alternatives_read_choice_read_cycle_read_labelled_read_otherwise)]
 fn read_action(text: &[u8], at: usize, w: WordAt, left: usize) -> Out
     requires { Here text.now at w }
-    ensures { Moves text.now at (at + 1) (λ k. oneAction k left) result }
+    ensures { Moves text.now at (at + 1) (λ k. one_action k left) result }
 {
     if w.kind == words::DO {
         if left == 0 {
@@ -416,7 +416,7 @@ fn read_action(text: &[u8], at: usize, w: WordAt, left: usize) -> Out
 #[cycle(read_action_read_actions_read_alternatives_read_choice_read_cycle_read_labelled_read_otherwise)]
 fn read_cycle(text: &[u8], at: usize, left: usize) -> Out
     requires { at ≤ length text.now }
-    ensures { Reads text.now at at (λ k. aCycle (actions k left)) result }
+    ensures { Reads text.now at at (λ k. a_cycle (actions k left)) result }
 {
     let r = read_actions(text, at, left);
     if r.fault != 0 {
@@ -429,7 +429,7 @@ fn read_cycle(text: &[u8], at: usize, left: usize) -> Out
 #[cycle(read_action_read_actions_read_alternatives_read_choice_read_cycle_read_labelled_read_otherwise)]
 fn read_choice(text: &[u8], at: usize, left: usize) -> Out
     requires { at ≤ length text.now }
-    ensures { Reads text.now at at (λ k. aChoice (alternatives k left 64)) result }
+    ensures { Reads text.now at at (λ k. a_choice (alternatives k left 64)) result }
 {
     let h = read_selector(text, at);
     if h.fault != 0 {
@@ -473,7 +473,7 @@ fn read_alternatives(text: &[u8], at: usize, left: usize, room: usize) -> Out
 #[cycle(read_action_read_actions_read_alternatives_read_choice_read_cycle_read_labelled_read_otherwise)]
 fn read_otherwise(text: &[u8], at: usize, left: usize) -> Out
     requires { at ≤ length text.now }
-    ensures { Reads text.now at at (λ k. anOtherwise (actions k left)) result }
+    ensures { Reads text.now at at (λ k. an_otherwise (actions k left)) result }
 {
     let c = expect_word(text, at, words::COLON);
     if c.fault != 0 {
@@ -490,7 +490,7 @@ fn read_otherwise(text: &[u8], at: usize, left: usize) -> Out
 #[cycle(read_action_read_actions_read_alternatives_read_choice_read_cycle_read_labelled_read_otherwise)]
 fn read_labelled(text: &[u8], at: usize, left: usize, room: usize) -> Counted
     requires { at ≤ length text.now }
-    ensures { Yields (LeavesBoth room result.room) text.now at (at + 1) (λ k. aLabelled k room (actions k left)) result.out }
+    ensures { Yields (LeavesBoth room result.room) text.now at (at + 1) (λ k. a_labelled k room (actions k left)) result.out }
 {
     let m = read_labels(text, at, room);
     let l = m.out;
@@ -585,7 +585,7 @@ fn read_number(text: &[u8], at: usize) -> Valued
 // An entry's string, where it may have one.
 fn read_spelling(text: &[u8], at: usize, strings: bool) -> Out
     requires { at ≤ length text.now }
-    ensures { Sure text.now at (aSpelling strings) result }
+    ensures { Sure text.now at (a_spelling strings) result }
 {
     if strings {
         let w = look(text, at);
@@ -701,7 +701,7 @@ fn read_listed(text: &[u8], at: usize, left: usize, strings: bool, v: usize) -> 
 // A parameter's type in parentheses, where there is one.
 fn read_parameter(text: &[u8], at: usize) -> Out
     requires { at ≤ length text.now }
-    ensures { Reads text.now at at (λ _. aParameter) result }
+    ensures { Reads text.now at at (λ _. a_parameter) result }
 {
     let w = look(text, at);
     if w.kind != words::OPENING {
@@ -721,7 +721,7 @@ fn read_parameter(text: &[u8], at: usize) -> Out
 // The type after `>>`, where there is one.
 fn read_gives(text: &[u8], at: usize) -> Out
     requires { at ≤ length text.now }
-    ensures { Reads text.now at at (λ _. optional 256 aName) result }
+    ensures { Reads text.now at at (λ _. optional 256 a_name) result }
 {
     let w = look(text, at);
     if w.kind != words::TWICE {
@@ -751,7 +751,7 @@ pub fn count_of(seen: Seen, takes: bool, gives: bool) -> usize
 
 pub fn one_more(seen: Seen, takes: bool, gives: bool) -> Seen
     requires { count_of seen takes gives < 256 }
-    ensures { result ≡ oneMore seen takes gives }
+    ensures { result ≡ one_more seen takes gives }
 {
     if takes {
         if gives {
@@ -792,7 +792,7 @@ pub fn one_more(seen: Seen, takes: bool, gives: bool) -> Seen
 // The kind of an operation, from the kinds of the words after its name alone.
 fn look_ahead(text: &[u8], at: usize) -> Ahead
     requires { at ≤ length text.now }
-    ensures { toldKind result ≡ kindAhead (wordsAt text.now at) }
+    ensures { told_kind result ≡ kind_ahead (words_at text.now at) }
 {
     let p = look(text, at);
     if p.kind != words::OPENING {
@@ -830,7 +830,7 @@ fn look_ahead(text: &[u8], at: usize) -> Ahead
 
 // Whether the kind is known, and no more operations of it may stand.
 fn is_full(seen: Seen, kind: Ahead) -> bool
-    ensures { result ≡ fullIn seen kind }
+    ensures { result ≡ full_in seen kind }
 {
     if kind.known {
         let n = count_of(seen, kind.takes, kind.gives);
@@ -905,7 +905,7 @@ fn read_operations(text: &[u8], at: usize, left: usize, seen: Seen) -> Operation
 // An input section, or one of inputs and outputs, after its word `input`.
 fn read_tokens(text: &[u8], at: usize, state: State) -> Sectioned
     requires { at ≤ length text.now }
-    ensures { ASection text.now at at tokenSection state result }
+    ensures { ASection text.now at at token_section state result }
 {
     let seen = state.seen;
     let w = look(text, at);
@@ -940,7 +940,7 @@ fn read_tokens(text: &[u8], at: usize, state: State) -> Sectioned
 // An output section after its head.
 fn read_outputs(text: &[u8], at: usize, state: State) -> Sectioned
     requires { at ≤ length text.now }
-    ensures { ASection text.now at at outputSection state result }
+    ensures { ASection text.now at at output_section state result }
 {
     let seen = state.seen;
     let e = read_listed(text, at, state.left, true, state.output);
@@ -959,7 +959,7 @@ fn read_outputs(text: &[u8], at: usize, state: State) -> Sectioned
 // An error section after its head.
 fn read_errors(text: &[u8], at: usize, state: State) -> Sectioned
     requires { at ≤ length text.now }
-    ensures { ASection text.now at at errorSection state result }
+    ensures { ASection text.now at at error_section state result }
 {
     let seen = state.seen;
     let e = read_listed(text, at, state.left, false, state.error);
@@ -978,7 +978,7 @@ fn read_errors(text: &[u8], at: usize, state: State) -> Sectioned
 // A type section after its word `type`.
 fn read_types(text: &[u8], at: usize, state: State) -> Sectioned
     requires { at ≤ length text.now }
-    ensures { ASection text.now at at typeSection state result }
+    ensures { ASection text.now at at type_section state result }
 {
     let seen = state.seen;
     let o = read_one_name(text, at, state.left);
@@ -1001,7 +1001,7 @@ fn read_types(text: &[u8], at: usize, state: State) -> Sectioned
 // A section of operations.
 fn read_mechanism(text: &[u8], at: usize, state: State) -> Sectioned
     requires { at ≤ length text.now }
-    ensures { ASection text.now at (at + 1) mechanismSection state result }
+    ensures { ASection text.now at (at + 1) mechanism_section state result }
 {
     let m = expect_word(text, at, words::MECHANISM);
     if m.fault != 0 {
@@ -1032,7 +1032,7 @@ fn read_mechanism(text: &[u8], at: usize, state: State) -> Sectioned
 // A level, 1 to 15.
 fn read_level(text: &[u8], at: usize) -> Out
     requires { at ≤ length text.now }
-    ensures { Moves text.now at at (λ _. aLevel) result }
+    ensures { Moves text.now at at (λ _. a_level) result }
 {
     let v = look(text, at);
     if v.kind != words::NUMBER {
@@ -1055,7 +1055,7 @@ fn read_level(text: &[u8], at: usize) -> Out
 // `left` or `right`.
 fn read_side(text: &[u8], at: usize) -> Out
     requires { at ≤ length text.now }
-    ensures { Moves text.now at at (λ _. aSide) result }
+    ensures { Moves text.now at at (λ _. a_side) result }
 {
     let w = look(text, at);
     if w.kind != words::NAME {
@@ -1081,7 +1081,7 @@ fn read_side(text: &[u8], at: usize) -> Out
 // Token, level, side, output token.
 fn read_operator(text: &[u8], at: usize) -> Out
     requires { at ≤ length text.now }
-    ensures { Moves text.now at at (λ _. anOperator) result }
+    ensures { Moves text.now at at (λ _. an_operator) result }
 {
     let t = name_or_string(text, at);
     if t.fault != 0 {
@@ -1101,7 +1101,7 @@ fn read_operator(text: &[u8], at: usize) -> Out
 // Operators to the semicolon.
 fn read_operators(text: &[u8], at: usize) -> Out
     requires { at ≤ length text.now }
-    ensures { Moves text.now at at (λ k. someOperators k) result }
+    ensures { Moves text.now at at (λ k. some_operators k) result }
 {
     let mut i = at;
     loop {
@@ -1124,7 +1124,7 @@ fn read_operators(text: &[u8], at: usize) -> Out
 // A section of operators, after its `operators`.
 fn read_operator_section(text: &[u8], at: usize, state: State) -> Sectioned
     requires { at ≤ length text.now }
-    ensures { ASection text.now at at operatorSection state result }
+    ensures { ASection text.now at at operator_section state result }
 {
     let seen = state.seen;
     let o = read_one_name(text, at, state.left);
@@ -1161,7 +1161,7 @@ fn is_operators(text: &[u8], w: WordAt) -> bool
 // A section of operators or operations.
 fn read_other(text: &[u8], at: usize, state: State) -> Sectioned
     requires { at ≤ length text.now }
-    ensures { ASection text.now at (at + 1) otherSection state result }
+    ensures { ASection text.now at (at + 1) other_section state result }
 {
     let w = look(text, at);
     if is_operators(text, w) {
@@ -1172,7 +1172,7 @@ fn read_other(text: &[u8], at: usize, state: State) -> Sectioned
 
 fn read_section(text: &[u8], at: usize, state: State) -> Sectioned
     requires { at ≤ length text.now }
-    ensures { ASection text.now at (at + 1) aSection state result }
+    ensures { ASection text.now at (at + 1) a_section state result }
 {
     let w = look(text, at);
     let kind = w.kind;
@@ -1242,7 +1242,7 @@ fn read_rule(text: &[u8], at: usize, left: usize) -> Out
 
 fn read_rules(text: &[u8], at: usize, left: usize) -> Out
     requires { at ≤ length text.now }
-    ensures { Reads text.now at at (λ k. someRules k left) result }
+    ensures { Reads text.now at at (λ k. some_rules k left) result }
 {
     let mut i = at;
     let mut names = left;
@@ -1273,7 +1273,7 @@ fn smaller(a: usize, b: usize) -> usize
 // The word `end`, and no word after it.
 fn read_end(text: &[u8], at: usize) -> Out
     requires { at ≤ length text.now }
-    ensures { Decides result (ending (wordsAt text.now at)) }
+    ensures { Decides result (ending (words_at text.now at)) }
 {
     let e = expect_word(text, at, words::END);
     if e.fault != 0 {
@@ -1374,7 +1374,7 @@ fn read_head(text: &[u8], at: usize, left: usize) -> Out
 // The lines of the list: there may be none.
 fn read_heads(text: &[u8], at: usize, left: usize) -> Out
     requires { at ≤ length text.now }
-    ensures { Reads text.now at at (λ k. someHeads k left) result }
+    ensures { Reads text.now at at (λ k. some_heads k left) result }
 {
     let mut i = at;
     let mut names = left;
@@ -1417,7 +1417,7 @@ fn read_shared(text: &[u8]) -> Counted
 }
 
 fn read_common(text: &[u8]) -> Counted
-    ensures { Settles (Listed text.now result.out.at result.room) result.out (readCommon text.now) }
+    ensures { Settles (Listed text.now result.out.at result.room) result.out (read_common text.now) }
 {
     let s = read_shared(text);
     let o = s.out;
@@ -1441,7 +1441,7 @@ fn read_common(text: &[u8]) -> Counted
 }
 
 fn read_part(text: &[u8], left: usize) -> Out
-    ensures { Settles (RulesAt text.now left result.at) result (readPart left text.now) }
+    ensures { Settles (RulesAt text.now left result.at) result (read_part left text.now) }
 {
     let k = expect_word(text, 0, words::RULES);
     if k.fault != 0 {
@@ -1462,7 +1462,7 @@ fn read_part(text: &[u8], left: usize) -> Out
 // The first fault 1, 2 or 9 of a common part and its word. Or fault 0: `at` is the start of its word `end`, and `room` how many names its sections leave
 // for the rules.
 pub fn check_common(text: &[u8]) -> Counted
-    ensures { Settles (Listed text.now result.out.at result.room) result.out (unlessLong text.now (readCommon text.now)) }
+    ensures { Settles (Listed text.now result.out.at result.room) result.out (unless_long text.now (read_common text.now)) }
 {
     let n = text.len();
     if base::TEXT_BYTES < n {
@@ -1474,7 +1474,7 @@ pub fn check_common(text: &[u8]) -> Counted
 
 // The first fault 1, 2 or 9 of a further part, where `left` names may be declared, and its word. Or fault 0: `at` is the place right behind its word `rules`.
 pub fn check_part(text: &[u8], left: usize) -> Out
-    ensures { Settles (RulesAt text.now left result.at) result (unlessLong text.now (readPart left text.now)) }
+    ensures { Settles (RulesAt text.now left result.at) result (unless_long text.now (read_part left text.now)) }
 {
     let n = text.len();
     if base::TEXT_BYTES < n {

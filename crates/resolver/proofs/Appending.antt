@@ -8,9 +8,9 @@ use native.Mathlib.Nat.{add-zero}
 use native.Mathlib.Omega.{arith}
 use lib.ListN.{length, drop, set, length-append}
 use lib.Seq.{sets, length-sets, sets-eq, set_out}
-use Rattle.cells.specs.Cells.{plainCells, selectorCells}
-use Rattle.program.specs.Program.{Plain, match, any, emit, error, exit, call, back, give, update, updateWith, Selector, byToken, byRule, byOperation, byOperationWith}
-use Rattle.resolver.specs.Parts.{operationCells}
+use Rattle.cells.specs.Cells.{plain_cells, selector_cells}
+use Rattle.program.specs.Program.{Plain, match, any, emit, error, exit, call, back, give, update, update_with, Selector, by_token, by_rule, by_operation, by_operation_with}
+use Rattle.resolver.specs.Parts.{operation_cells}
 use Rattle.resolver.specs.Resolved.{Appends}
 
 side : (a b : ℕ) → (a ≤ b) ⊎ (b < a)
@@ -72,8 +72,8 @@ appends-over {cs} {xs} {cs'} {c'} h q = omega (arith, h.count)
 
 -- Cells before others
 
-pub plain-behind : (b : Plain) (k : List ℕ) → plainCells b k ≡ plainCells b [] ++ k
-unfolding plainCells
+pub plain-behind : (b : Plain) (k : List ℕ) → plain_cells b k ≡ plain_cells b [] ++ k
+unfolding plain_cells
 plain-behind (match t) k = refl
 plain-behind any k = refl
 plain-behind (emit t) k = refl
@@ -83,24 +83,24 @@ plain-behind (call r) k = refl
 plain-behind back k = refl
 plain-behind (give v) k = refl
 plain-behind (update op) k = refl
-plain-behind (updateWith op v) k = refl
+plain-behind (update_with op v) k = refl
 
-pub selector-behind : (s : Selector) (k : List ℕ) → selectorCells s k ≡ selectorCells s [] ++ k
-unfolding selectorCells
-selector-behind byToken k = refl
-selector-behind (byRule r) k = refl
-selector-behind (byOperation op) k = refl
-selector-behind (byOperationWith op v) k = refl
+pub selector-behind : (s : Selector) (k : List ℕ) → selector_cells s k ≡ selector_cells s [] ++ k
+unfolding selector_cells
+selector-behind by_token k = refl
+selector-behind (by_rule r) k = refl
+selector-behind (by_operation op) k = refl
+selector-behind (by_operation_with op v) k = refl
 
 -- An operation's cells
 
-pub operation-with : {cs cs' : List ℕ} {c c' op op' v : ℕ} (b : Bool) → op' ≡ op → b ≡ true → Appends cs c (op' ∷ v ∷ []) cs' c' → Appends cs c (operationCells op b v) cs' c'
-unfolding operationCells
+pub operation-with : {cs cs' : List ℕ} {c c' op op' v : ℕ} (b : Bool) → op' ≡ op → b ≡ true → Appends cs c (op' ∷ v ∷ []) cs' c' → Appends cs c (operation_cells op b v) cs' c'
+unfolding operation_cells
 operation-with true e q h = rw (← e) h
 operation-with false e q h = let z : ◌≡◌ {A = ℕ} 0 1 = cc in absurd (omega arith)
 
-pub operation-alone : {cs cs' : List ℕ} {c c' op op' : ℕ} (b : Bool) (v : ℕ) → op' ≡ op → b ≡ false → Appends cs c (op' ∷ []) cs' c' → Appends cs c (operationCells op b v) cs' c'
-unfolding operationCells
+pub operation-alone : {cs cs' : List ℕ} {c c' op op' : ℕ} (b : Bool) (v : ℕ) → op' ≡ op → b ≡ false → Appends cs c (op' ∷ []) cs' c' → Appends cs c (operation_cells op b v) cs' c'
+unfolding operation_cells
 operation-alone false v e q h = rw (← e) h
 operation-alone true v e q h = let z : ◌≡◌ {A = ℕ} 0 1 = cc in absurd (omega arith)
 

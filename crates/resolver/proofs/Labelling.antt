@@ -10,12 +10,13 @@ use borrow.Author.Tests.{eq-eqb, ne_eqb}
 use lib.Dec.{eqb}
 use lib.ListN.{length, get_or, take, set, length-set}
 use lib.Seq.{take-suc, take-suc-set}
-use Rattle.base.specs.Common.{if◌then◌else◌, member}
-use Rattle.declarations.specs.Decls.{Decl, Agrees, knownsIn, lookupIn}
+use Rattle.std.specs.Prelude.{if◌then◌else◌}
+use Rattle.base.specs.Common.{member}
+use Rattle.declarations.specs.Decls.{Decl, Agrees, knowns_in, lookup_in}
 use Rattle.declarations.proofs.Uses.{uses-lookup}
-use Rattle.grammar.specs.Derived.{Took, Not, Reference, LabelsIn, last-label, more-labels}
-use Rattle.names.specs.Known.{Checked, good, wrong, ◌>>=◌, faultIf, Known, KnownRule, Names}
-use Rattle.names.specs.Resolve.{labelsOf}
+use Rattle.grammar.specs.Derived.{Took, Not, Reference, LabelsIn, last_label, more_labels}
+use Rattle.names.specs.Known.{Checked, good, wrong, ◌>>=◌, fault_if, Known, KnownRule, Names}
+use Rattle.names.specs.Resolve.{labels_of}
 use Rattle.places.proofs.Heres.{took-here, took-kind, not-here, reference-kind, reference-here}
 use Rattle.resolver.proofs.Looking.{looks-good, looks-wrong, lookup-about, after-good, after-wrong}
 use Rattle.resolver.proofs.Rests.{Fails, fails-here, fails-after, fails_by}
@@ -23,11 +24,11 @@ use Rattle.resolver.specs.declared.Label.{Label}
 use Rattle.resolver.specs.declared.Labels.{Labels}
 use Rattle.resolver.specs.Parts.{Mislabel, label_of, LabelEnds, named, unnamed, LabelDone}
 use Rattle.resolver.specs.Resolved.{LabelsEnd, labelled, mislabelled, LabelsDone}
-use Rattle.scanner.specs.Next.{Next, asWord}
+use Rattle.scanner.specs.Next.{Next, as_word}
 use Rattle.scanner.specs.declared.WordAt.{WordAt}
 use Rattle.symbols.specs.Rows.{held, Looks}
 use Rattle.syntax.specs.Written.{Program}
-use Rattle.words.specs.Words.{Word, wordsAt}
+use Rattle.words.specs.Words.{Word, words_at}
 
 -- Members
 
@@ -68,7 +69,7 @@ seen_end v i used seen q e = ap (λ (k : ℕ). member v (take k seen)) (sym q) �
 -- One label
 
 module _ {text rows : List ℕ} {n at used : ℕ} {seen : List ℕ} {r : Label} (class : ℕ) (w : WordAt) (h : Next text at w) where
-  pub label-failed : {f : ℕ} → Mislabel f w r → (f ≡ 0 → ⊥) → (used < length seen → (u : Word) (ws : List Word) → Reference (wordsAt text at) u ws → Fails f w.start w.len (label_of (held text rows n) class (take used seen) u))
+  pub label-failed : {f : ℕ} → Mislabel f w r → (f ≡ 0 → ⊥) → (used < length seen → (u : Word) (ws : List Word) → Reference (words_at text at) u ws → Fails f w.start w.len (label_of (held text rows n) class (take used seen) u))
       → LabelDone text rows n at class seen used r
   label-failed {f} m z k = record {
     moves = λ e. absurd (z (sym m.fault ∙ e));
@@ -91,18 +92,18 @@ module _ {text rows : List ℕ} {n at used : ℕ} {seen : List ℕ} {r : Label} 
   pub label-full : length seen ≤ used → Mislabel 2 w r → LabelDone text rows n at class seen used r
   label-full q m = label-failed m (λ e. omega arith) (λ b u ws t. absurd (omega arith))
 
-label-found : (text rows : List ℕ) (n class used : ℕ) (seen : List ℕ) (w : WordAt) (b : Bool) {fl v : ℕ} → Looks fl v (lookupIn (held text rows n) class (asWord text w)) → fl ≡ 0 → member v (take used seen) ≡ b
-    → label_of (held text rows n) class (take used seen) (asWord text w) ≡ ◌>>=◌ (faultIf b 6 (asWord text w)) (λ _. good v)
+label-found : (text rows : List ℕ) (n class used : ℕ) (seen : List ℕ) (w : WordAt) (b : Bool) {fl v : ℕ} → Looks fl v (lookup_in (held text rows n) class (as_word text w)) → fl ≡ 0 → member v (take used seen) ≡ b
+    → label_of (held text rows n) class (take used seen) (as_word text w) ≡ ◌>>=◌ (fault_if b 6 (as_word text w)) (λ _. good v)
 label-found text rows n class used seen w b {fl} {v} looks z e =
-    after-good (λ v. ◌>>=◌ (faultIf (member v (take used seen)) 6 (asWord text w)) (λ _. good v)) v (looks-good looks z)
-    ∙ ap (λ (b : Bool). ◌>>=◌ (faultIf b 6 (asWord text w)) (λ _. good v)) e
+    after-good (λ v. ◌>>=◌ (fault_if (member v (take used seen)) 6 (as_word text w)) (λ _. good v)) v (looks-good looks z)
+    ∙ ap (λ (b : Bool). ◌>>=◌ (fault_if b 6 (as_word text w)) (λ _. good v)) e
 
 module _ {text rows : List ℕ} {n at fl v used : ℕ} {seen : List ℕ} {r : Label} (class : ℕ) (w : WordAt) (h : Next text at w) (inside : at ≤ length text)
-    (looks : Looks fl v (lookupIn (held text rows n) class (asWord text w))) where
+    (looks : Looks fl v (lookup_in (held text rows n) class (as_word text w))) where
   pub label-stops : (fl ≡ 0 → ⊥) → Mislabel fl w r → LabelDone text rows n at class seen used r
   label-stops z m = label-failed class w h m z (λ b u ws t.
       fails-here text w (h.inside inside) (ap (label_of (held text rows n) class (take used seen)) (reference-here text at w u ws h t).word
-      ∙ after-wrong (λ v. ◌>>=◌ (faultIf (member v (take used seen)) 6 (asWord text w)) (λ _. good v)) fl (asWord text w) (looks-wrong (lookup-about (held text rows n) class (asWord text w)) looks z)))
+      ∙ after-wrong (λ v. ◌>>=◌ (fault_if (member v (take used seen)) 6 (as_word text w)) (λ _. good v)) fl (as_word text w) (looks-wrong (lookup-about (held text rows n) class (as_word text w)) looks z)))
 
   pub label-repeats : fl ≡ 0 → member v (take used seen) ≡ true → Mislabel 6 w r → LabelDone text rows n at class seen used r
   label-repeats z e m = label-failed class w h m (λ e. omega arith) (λ b u ws t.
@@ -116,8 +117,8 @@ module _ {text rows : List ℕ} {n at fl v used : ℕ} {seen : List ℕ} {r : La
     done = λ b u ws t. ends (ap (label_of (held text rows n) class (take used seen)) (reference-here text at w u ws h t).word ∙ label-found text rows n class used seen w false looks z e) (reference-here text at w u ws h t).behind;
   }
     where
-      ends : {ws : List Word} {o : Checked ℕ} → o ≡ good v → ws ≡ wordsAt text w.next → LabelEnds text ws r o
-      ends e s = rw e (named f x (s ∙ ap (wordsAt text) (sym a)))
+      ends : {ws : List Word} {o : Checked ℕ} → o ≡ good v → ws ≡ words_at text w.next → LabelEnds text ws r o
+      ends e s = rw e (named f x (s ∙ ap (words_at text) (sym a)))
 
 pub label-fails : {text : List ℕ} {ws : List Word} {l : Label} {m : Checked ℕ} → LabelEnds text ws l m → (l.fault ≡ 0 → ⊥) → Fails l.fault l.at l.len m
 label-fails (named e q s) z = absurd (z e)
@@ -127,7 +128,7 @@ pub label-good : {text : List ℕ} {ws : List Word} {l : Label} {m : Checked ℕ
 label-good (named e q s) z = ap good (sym q)
 label-good (unnamed e q a l) z = absurd (q (sym e ∙ z))
 
-pub label-words : {text : List ℕ} {ws : List Word} {l : Label} {m : Checked ℕ} → LabelEnds text ws l m → l.fault ≡ 0 → ws ≡ wordsAt text l.at
+pub label-words : {text : List ℕ} {ws : List Word} {l : Label} {m : Checked ℕ} → LabelEnds text ws l m → l.fault ≡ 0 → ws ≡ words_at text l.at
 label-words (named e q s) z = s
 label-words (unnamed e q a l) z = absurd (q (sym e ∙ z))
 
@@ -135,23 +136,23 @@ label-words (unnamed e q a l) z = absurd (q (sym e ∙ z))
 
 -- the labels behind the one of value v
 abbrev others : Program → Names → List KnownRule → List Word → List Known → List ℕ → ℕ → Checked (List ℕ)
-others p names rs ls ks old v = ◌>>=◌ (labelsOf p names rs ls ks (v ∷ old)) (λ more. good (v ∷ more))
+others p names rs ls ks old v = ◌>>=◌ (labels_of p names rs ls ks (v ∷ old)) (λ more. good (v ∷ more))
 
 labels-first : {p : Program} {names : Names} {rs : List KnownRule} {ds : List Decl} → Agrees p names rs ds → (class : ℕ) (w : Word) (ls : List Word) (old sl : List ℕ)
     → ((v : ℕ) → member v old ≡ member v sl)
-    → labelsOf p names rs (w ∷ ls) (knownsIn class ds) old ≡ ◌>>=◌ (label_of ds class sl w) (others p names rs ls (knownsIn class ds) old)
-unfolding labelsOf
+    → labels_of p names rs (w ∷ ls) (knowns_in class ds) old ≡ ◌>>=◌ (label_of ds class sl w) (others p names rs ls (knowns_in class ds) old)
+unfolding labels_of
 labels-first {p} {names} {rs} {ds} ag class w ls old sl same =
-    ap (λ m. ◌>>=◌ m (λ v. ◌>>=◌ (faultIf (member v old) 6 w) (λ _. others p names rs ls (knownsIn class ds) old v))) (uses-lookup ag class w) ∙ go (lookupIn ds class w)
+    ap (λ m. ◌>>=◌ m (λ v. ◌>>=◌ (fault_if (member v old) 6 w) (λ _. others p names rs ls (knowns_in class ds) old v))) (uses-lookup ag class w) ∙ go (lookup_in ds class w)
   where
-    inner : (b : Bool) (v : ℕ) → ◌>>=◌ (faultIf b 6 w) (λ _. others p names rs ls (knownsIn class ds) old v)
-        ≡ ◌>>=◌ (◌>>=◌ (faultIf b 6 w) (λ _. good v)) (others p names rs ls (knownsIn class ds) old)
+    inner : (b : Bool) (v : ℕ) → ◌>>=◌ (fault_if b 6 w) (λ _. others p names rs ls (knowns_in class ds) old v)
+        ≡ ◌>>=◌ (◌>>=◌ (fault_if b 6 w) (λ _. good v)) (others p names rs ls (knowns_in class ds) old)
     inner true v = refl
     inner false v = refl
 
-    go : (m : Checked ℕ) → ◌>>=◌ m (λ v. ◌>>=◌ (faultIf (member v old) 6 w) (λ _. others p names rs ls (knownsIn class ds) old v))
-        ≡ ◌>>=◌ (◌>>=◌ m (λ v. ◌>>=◌ (faultIf (member v sl) 6 w) (λ _. good v))) (others p names rs ls (knownsIn class ds) old)
-    go (good v) = ap (λ (b : Bool). ◌>>=◌ (faultIf b 6 w) (λ _. others p names rs ls (knownsIn class ds) old v)) (same v) ∙ inner (member v sl) v
+    go : (m : Checked ℕ) → ◌>>=◌ m (λ v. ◌>>=◌ (fault_if (member v old) 6 w) (λ _. others p names rs ls (knowns_in class ds) old v))
+        ≡ ◌>>=◌ (◌>>=◌ m (λ v. ◌>>=◌ (fault_if (member v sl) 6 w) (λ _. good v))) (others p names rs ls (knowns_in class ds) old)
+    go (good v) = ap (λ (b : Bool). ◌>>=◌ (fault_if b 6 w) (λ _. others p names rs ls (knowns_in class ds) old v)) (same v) ∙ inner (member v sl) v
     go (wrong n u) = refl
 
 labels-by : {text : List ℕ} {ws : List Word} {seen seen' : List ℕ} {used : ℕ} {r : Labels} {m m' : Checked (List ℕ)} → m ≡ m' → LabelsEnd text ws seen used seen' r m' → LabelsEnd text ws seen used seen' r m
@@ -179,21 +180,21 @@ module _ {text rows : List ℕ} {n at class used : ℕ} {seen : List ℕ} {l : L
     done = λ p names rs ag ls ws t q old same. go p names rs ag ls ws t q old same;
   }
     where
-      first : (p : Program) (names : Names) (rs : List KnownRule) → Agrees p names rs (held text rows n) → (w : Word) (ls ws ws₁ : List Word) → Reference (wordsAt text at) w ws₁
+      first : (p : Program) (names : Names) (rs : List KnownRule) → Agrees p names rs (held text rows n) → (w : Word) (ls ws ws₁ : List Word) → Reference (words_at text at) w ws₁
           → used < length seen → (old : List ℕ) → ((v : ℕ) → member v old ≡ member v (take used seen))
-          → LabelsEnd text ws seen used seen r (labelsOf p names rs (w ∷ ls) (knownsIn class (held text rows n)) old)
+          → LabelsEnd text ws seen used seen r (labels_of p names rs (w ∷ ls) (knowns_in class (held text rows n)) old)
       first p names rs ag w ls ws ws₁ t q old same =
-          labels-fail f a b z (fails_by (labels-first ag class w ls old (take used seen) same) (fails-after (others p names rs ls (knownsIn class (held text rows n)) old) (label-fails (d.done q w ws₁ t) z)))
+          labels-fail f a b z (fails_by (labels-first ag class w ls old (take used seen) same) (fails-after (others p names rs ls (knowns_in class (held text rows n)) old) (label-fails (d.done q w ws₁ t) z)))
 
-      go : (p : Program) (names : Names) (rs : List KnownRule) → Agrees p names rs (held text rows n) → (ls ws : List Word) → LabelsIn (wordsAt text at) ws ls
+      go : (p : Program) (names : Names) (rs : List KnownRule) → Agrees p names rs (held text rows n) → (ls ws : List Word) → LabelsIn (words_at text at) ws ls
           → used + length ls ≤ length seen → (old : List ℕ) → ((v : ℕ) → member v old ≡ member v (take used seen))
-          → LabelsEnd text ws seen used seen r (labelsOf p names rs ls (knownsIn class (held text rows n)) old)
-      go p names rs ag (w ∷ []) ws (last-label t y) q old same = first p names rs ag w [] ws ws t (omega arith) old same
-      go p names rs ag (w ∷ ls) ws (more-labels {ws₁ = ws₁} t c u) q old same = first p names rs ag w ls ws ws₁ t (omega arith) old same
+          → LabelsEnd text ws seen used seen r (labels_of p names rs ls (knowns_in class (held text rows n)) old)
+      go p names rs ag (w ∷ []) ws (last_label t y) q old same = first p names rs ag w [] ws ws t (omega arith) old same
+      go p names rs ag (w ∷ ls) ws (more_labels {ws₁ = ws₁} t c u) q old same = first p names rs ag w ls ws ws₁ t (omega arith) old same
 
   module _ (z : l.fault ≡ 0) (k : WordAt) (h : Next text l.at k) where
     pub labels-last : (k.kind ≡ 44 → ⊥) → r.fault ≡ 0 → r.at ≡ l.at → r.used ≡ used + 1 → LabelsDone text rows n at class seen used (set seen used l.value) r
-    unfolding labelsOf
+    unfolding labels_of
     labels-last y f a b = record {
       same = length-set seen used l.value;
       moves = λ _. omega (arith, d.moves z);
@@ -203,19 +204,19 @@ module _ {text rows : List ℕ} {n at class used : ℕ} {seen : List ℕ} {l : L
       done = λ p names rs ag ls ws t q old same. go p names rs ag ls ws t q old same;
     }
       where
-        end : {ws : List Word} → ws ≡ wordsAt text l.at → LabelsEnd text ws (set seen used l.value) (used + 1) (set seen used l.value) r (good [])
-        end s = labelled {vs = []} f (s ∙ ap (wordsAt text) (sym a)) (omega arith) (ap (λ (k : ℕ). take k (set seen used l.value)) b ∙ sym (append-nil (take (used + 1) (set seen used l.value))))
+        end : {ws : List Word} → ws ≡ words_at text l.at → LabelsEnd text ws (set seen used l.value) (used + 1) (set seen used l.value) r (good [])
+        end s = labelled {vs = []} f (s ∙ ap (words_at text) (sym a)) (omega arith) (ap (λ (k : ℕ). take k (set seen used l.value)) b ∙ sym (append-nil (take (used + 1) (set seen used l.value))))
 
-        go : (p : Program) (names : Names) (rs : List KnownRule) → Agrees p names rs (held text rows n) → (ls ws : List Word) → LabelsIn (wordsAt text at) ws ls
+        go : (p : Program) (names : Names) (rs : List KnownRule) → Agrees p names rs (held text rows n) → (ls ws : List Word) → LabelsIn (words_at text at) ws ls
             → used + length ls ≤ length seen → (old : List ℕ) → ((v : ℕ) → member v old ≡ member v (take used seen))
-            → LabelsEnd text ws seen used (set seen used l.value) r (labelsOf p names rs ls (knownsIn class (held text rows n)) old)
-        go p names rs ag (w ∷ []) ws (last-label t x) q old same =
+            → LabelsEnd text ws seen used (set seen used l.value) r (labels_of p names rs ls (knowns_in class (held text rows n)) old)
+        go p names rs ag (w ∷ []) ws (last_label t x) q old same =
             let e : LabelEnds text ws l (label_of (held text rows n) class (take used seen) w) = d.done (d.room z) w ws t in
-            labels-by (labels-first ag class w [] old (take used seen) same ∙ after-good (others p names rs [] (knownsIn class (held text rows n)) old) l.value (label-good e z))
+            labels-by (labels-first ag class w [] old (take used seen) same ∙ after-good (others p names rs [] (knowns_in class (held text rows n)) old) l.value (label-good e z))
             (labels-extend l.value (d.room z) (end (label-words e z)))
-        go p names rs ag (w ∷ ls) ws (more-labels {ws₁ = ws₁} {ws₂ = ws₂} {comma = comma} t c u) q old same =
+        go p names rs ag (w ∷ ls) ws (more_labels {ws₁ = ws₁} {ws₂ = ws₂} {comma = comma} t c u) q old same =
             let e : LabelEnds text ws₁ l (label_of (held text rows n) class (take used seen) w) = d.done (d.room z) w ws₁ t in
-            let c' : Took 44 (wordsAt text l.at) comma ws₂ = rw (label-words e z) at c in
+            let c' : Took 44 (words_at text l.at) comma ws₂ = rw (label-words e z) at c in
             absurd (y (took-kind text l.at 44 k comma ws₂ h c'))
 
     pub labels-more : {seen' : List ℕ} → k.kind ≡ 44 → LabelsDone text rows n k.next class (set seen used l.value) (used + 1) seen' r → LabelsDone text rows n at class seen used seen' r
@@ -228,17 +229,17 @@ module _ {text rows : List ℕ} {n at class used : ℕ} {seen : List ℕ} {l : L
       done = λ p names rs ag ls ws t q old same. go p names rs ag ls ws t q old same;
     }
       where
-        go : (p : Program) (names : Names) (rs : List KnownRule) → Agrees p names rs (held text rows n) → (ls ws : List Word) → LabelsIn (wordsAt text at) ws ls
+        go : (p : Program) (names : Names) (rs : List KnownRule) → Agrees p names rs (held text rows n) → (ls ws : List Word) → LabelsIn (words_at text at) ws ls
             → used + length ls ≤ length seen → (old : List ℕ) → ((v : ℕ) → member v old ≡ member v (take used seen))
-            → LabelsEnd text ws seen used seen' r (labelsOf p names rs ls (knownsIn class (held text rows n)) old)
-        go p names rs ag (w ∷ []) ws (last-label t x) q old same =
+            → LabelsEnd text ws seen used seen' r (labels_of p names rs ls (knowns_in class (held text rows n)) old)
+        go p names rs ag (w ∷ []) ws (last_label t x) q old same =
             let e : LabelEnds text ws l (label_of (held text rows n) class (take used seen) w) = d.done (d.room z) w ws t in
-            let x' : Not 44 (wordsAt text l.at) = rw (label-words e z) at x in
+            let x' : Not 44 (words_at text l.at) = rw (label-words e z) at x in
             absurd (not-here text l.at 44 k h x' y)
-        go p names rs ag (w ∷ ls) ws (more-labels {ws₁ = ws₁} {ws₂ = ws₂} {comma = comma} t c u) q old same =
+        go p names rs ag (w ∷ ls) ws (more_labels {ws₁ = ws₁} {ws₂ = ws₂} {comma = comma} t c u) q old same =
             let e : LabelEnds text ws₁ l (label_of (held text rows n) class (take used seen) w) = d.done (d.room z) w ws₁ t in
-            let c' : Took 44 (wordsAt text l.at) comma ws₂ = rw (label-words e z) at c in
-            let u' : LabelsIn (wordsAt text k.next) ws ls = rw (took-here text l.at 44 k comma ws₂ (omega arith) h c').behind at u in
-            labels-by (labels-first ag class w ls old (take used seen) same ∙ after-good (others p names rs ls (knownsIn class (held text rows n)) old) l.value (label-good e z))
+            let c' : Took 44 (words_at text l.at) comma ws₂ = rw (label-words e z) at c in
+            let u' : LabelsIn (words_at text k.next) ws ls = rw (took-here text l.at 44 k comma ws₂ (omega arith) h c').behind at u in
+            labels-by (labels-first ag class w ls old (take used seen) same ∙ after-good (others p names rs ls (knowns_in class (held text rows n)) old) l.value (label-good e z))
             (labels-extend l.value (d.room z) (g.done p names rs ag ls ws u' (omega (arith, length-set seen used l.value)) (l.value ∷ old)
             (λ v. member-more v l.value old seen used (d.room z) (same v))))

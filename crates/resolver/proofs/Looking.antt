@@ -7,15 +7,16 @@ use Prim.Native.Nat.{ℕ, ◌+◌, ◌<◌, ◌≤◌}
 use native.Mathlib.Omega.{arith}
 use borrow.Author.Tests.{eq-eqb, ne_eqb}
 use lib.ListN.{length}
-use Rattle.base.specs.Common.{if◌then◌else◌, given}
-use Rattle.declarations.specs.Decls.{Decl, Agrees, knownsIn, index_of, declOf, typeClass, classNamed, operationFrom, ruleFrom, mapped, elsewhereIn, lookupIn, entriesOf, operatorsFrom}
+use Rattle.std.specs.Prelude.{if◌then◌else◌}
+use Rattle.base.specs.Common.{given}
+use Rattle.declarations.specs.Decls.{Decl, Agrees, knowns_in, index_of, decl_of, type_class, class_named, operation_from, rule_from, mapped, elsewhere_in, lookup_in, entries_of, operators_from}
 use Rattle.declarations.proofs.Uses.{uses-elsewhere}
-use Rattle.names.specs.Known.{Checked, good, wrong, ◌>>=◌, faultIf, KnownOperation, KnownRule, Names, find, findOperation, findRule, elsewhere}
-use Rattle.names.specs.Resolve.{operationOf, ruleNamed, rankedOf}
-use Rattle.names.specs.Uses.{lowestOf, pairsOf}
-use Rattle.program.specs.Made.{levelsOf}
+use Rattle.names.specs.Known.{Checked, good, wrong, ◌>>=◌, fault_if, KnownOperation, KnownRule, Names, find, find_operation, find_rule, elsewhere}
+use Rattle.names.specs.Resolve.{operation_of, rule_named, ranked_of}
+use Rattle.names.specs.Uses.{lowest_of, pairs_of}
+use Rattle.program.specs.Made.{levels_of}
 use Rattle.program.specs.Program.{Plain, call}
-use Rattle.symbols.specs.Rows.{word_of, optionOf, row_in, operationIn, operatorsRow, ruleIn, givesOf, Looks, found, missing}
+use Rattle.symbols.specs.Rows.{word_of, option_of, row_in, operation_in, operators_row, rule_in, gives_of, Looks, found, missing}
 use Rattle.symbols.specs.Search.{Tells, there, nowhere}
 use Rattle.syntax.specs.Written.{Program}
 use Rattle.words.specs.Words.{Word}
@@ -41,11 +42,11 @@ after-good f a e = ap (λ m. ◌>>=◌ m f) e
 pub after-wrong : {A B : Type 0} {m : Checked A} (f : A → Checked B) (n : ℕ) (w : Word) → m ≡ wrong n w → ◌>>=◌ m f ≡ wrong n w
 after-wrong f n w e = ap (λ m. ◌>>=◌ m f) e
 
-pub lookup-about : (ds : List Decl) (c : ℕ) (w : Word) → About w (lookupIn ds c w)
-unfolding lookupIn
-lookup-about ds c w = go (find w.text (knownsIn c ds))
+pub lookup-about : (ds : List Decl) (c : ℕ) (w : Word) → About w (lookup_in ds c w)
+unfolding lookup_in
+lookup-about ds c w = go (find w.text (knowns_in c ds))
   where
-    go : (x : Option ℕ) → About {A = ℕ} w (elim x as (λ _. Checked ℕ) [ some v ↦ good v | none ↦ wrong (elsewhereIn ds w.text) w ])
+    go : (x : Option ℕ) → About {A = ℕ} w (elim x as (λ _. Checked ℕ) [ some v ↦ good v | none ↦ wrong (elsewhere_in ds w.text) w ])
     go none = faulty
     go (some v) = fine
 
@@ -53,7 +54,7 @@ pub row-about : (c : ℕ) (ds : List Decl) (w : Word) → About w (row_in c ds w
 unfolding row_in
 row-about c ds w = go (index_of c w.text 0 ds)
   where
-    go : (x : Option ℕ) → About {A = ℕ} w (elim x as (λ _. Checked ℕ) [ some v ↦ good v | none ↦ wrong (elsewhereIn ds w.text) w ])
+    go : (x : Option ℕ) → About {A = ℕ} w (elim x as (λ _. Checked ℕ) [ some v ↦ good v | none ↦ wrong (elsewhere_in ds w.text) w ])
     go none = faulty
     go (some v) = fine
 
@@ -64,11 +65,11 @@ index-found : {x : Option ℕ} (m : ℕ) (w : Word) (i : ℕ) → (elim x as (λ
 index-found {x = none} m w i e = absurd (wrong-good e)
 index-found {x = some v} m w i e = cc
 
-pub rule-about : (ds : List Decl) (w : Word) → About w (ruleIn ds w)
-unfolding ruleIn
+pub rule-about : (ds : List Decl) (w : Word) → About w (rule_in ds w)
+unfolding rule_in
 rule-about ds w = go (given (index_of 6 w.text 0 ds)) (index_of 7 w.text 0 ds)
   where
-    go : (b : Bool) (x : Option ℕ) → About {A = ℕ} w (if b then wrong 5 w else elim x as (λ _. Checked ℕ) [ some v ↦ good v | none ↦ wrong (elsewhereIn ds w.text) w ])
+    go : (b : Bool) (x : Option ℕ) → About {A = ℕ} w (if b then wrong 5 w else elim x as (λ _. Checked ℕ) [ some v ↦ good v | none ↦ wrong (elsewhere_in ds w.text) w ])
     go true x = faulty
     go false none = faulty
     go false (some v) = fine
@@ -76,83 +77,83 @@ rule-about ds w = go (given (index_of 6 w.text 0 ds)) (index_of 7 w.text 0 ds)
 -- the row that was found
 pub row-index : (c : ℕ) (ds : List Decl) (w : Word) (i : ℕ) → row_in c ds w ≡ good i → index_of c w.text 0 ds ≡ some i
 unfolding row_in
-row-index c ds w i e = index-found (elsewhereIn ds w.text) w i e
+row-index c ds w i e = index-found (elsewhere_in ds w.text) w i e
 
-pub rule-index : (ds : List Decl) (w : Word) (i : ℕ) → ruleIn ds w ≡ good i → index_of 7 w.text 0 ds ≡ some i
-unfolding ruleIn
+pub rule-index : (ds : List Decl) (w : Word) (i : ℕ) → rule_in ds w ≡ good i → index_of 7 w.text 0 ds ≡ some i
+unfolding rule_in
 rule-index ds w i e = go (given (index_of 6 w.text 0 ds)) e
   where
-    go : (b : Bool) → (if b then wrong 5 w else elim (index_of 7 w.text 0 ds) as (λ _. Checked ℕ) [ some v ↦ good v | none ↦ wrong (elsewhereIn ds w.text) w ]) ≡ good i
+    go : (b : Bool) → (if b then wrong 5 w else elim (index_of 7 w.text 0 ds) as (λ _. Checked ℕ) [ some v ↦ good v | none ↦ wrong (elsewhere_in ds w.text) w ]) ≡ good i
         → index_of 7 w.text 0 ds ≡ some i
     go true q = absurd (wrong-good q)
-    go false q = index-found (elsewhereIn ds w.text) w i q
+    go false q = index-found (elsewhere_in ds w.text) w i q
 
 -- Names by the row
 
 -- an action that needs a procedure rule of the name
-abbrev pub procedureOf : Program → Names → List KnownRule → (KnownRule → Plain) → Word → Checked Plain
-procedureOf p names rs g w = ◌>>=◌ (ruleNamed p names rs w) (λ r. ◌>>=◌ (faultIf (given r.gives) 5 w) (λ _. good (g r)))
+abbrev pub procedure_of : Program → Names → List KnownRule → (KnownRule → Plain) → Word → Checked Plain
+procedure_of p names rs g w = ◌>>=◌ (rule_named p names rs w) (λ r. ◌>>=◌ (fault_if (given r.gives) 5 w) (λ _. good (g r)))
 
 -- the call of the lowest rule that is made
-abbrev pub lowestFor : Program → Names → Word → Word → Word → KnownRule → Plain
-lowestFor p names s w o r = call (lowestOf names (record { sign = s; section = w; operand = o }) (length p.rules) (pairsOf p.rules))
+abbrev pub lowest_for : Program → Names → Word → Word → Word → KnownRule → Plain
+lowest_for p names s w o r = call (lowest_of names (record { sign = s; section = w; operand = o }) (length p.rules) (pairs_of p.rules))
 
 module _ {p : Program} {names : Names} {rs : List KnownRule} {ds : List Decl} (ag : Agrees p names rs ds) where
-  pub operation-is : (w : Word) → operationOf p names rs w ≡ ◌>>=◌ (operationIn ds w) (λ i. good (operationFrom ds (declOf ds i)))
-  unfolding operationOf row_in
+  pub operation-is : (w : Word) → operation_of p names rs w ≡ ◌>>=◌ (operation_in ds w) (λ i. good (operation_from ds (decl_of ds i)))
+  unfolding operation_of row_in
   operation-is w = ap (λ x. elim x as (λ _. Checked KnownOperation) [ some o ↦ good o | none ↦ elsewhere p w ]) (ag.operations w.text) ∙ go (index_of 6 w.text 0 ds)
     where
-      go : (x : Option ℕ) → elim (mapped (λ i. operationFrom ds (declOf ds i)) x) as (λ _. Checked KnownOperation) [ some o ↦ good o | none ↦ elsewhere p w ]
-          ≡ ◌>>=◌ (elim x as (λ _. Checked ℕ) [ some i ↦ good i | none ↦ wrong (elsewhereIn ds w.text) w ]) (λ i. good (operationFrom ds (declOf ds i)))
+      go : (x : Option ℕ) → elim (mapped (λ i. operation_from ds (decl_of ds i)) x) as (λ _. Checked KnownOperation) [ some o ↦ good o | none ↦ elsewhere p w ]
+          ≡ ◌>>=◌ (elim x as (λ _. Checked ℕ) [ some i ↦ good i | none ↦ wrong (elsewhere_in ds w.text) w ]) (λ i. good (operation_from ds (decl_of ds i)))
       go none = uses-elsewhere ag w
       go (some i) = refl
 
   -- `^` by the row of its section
-  pub ranked-is : (s w o : Word) → rankedOf p names rs s w o ≡ ◌>>=◌ (operatorsRow ds w) (λ _. procedureOf p names rs (lowestFor p names s w o) o)
-  unfolding rankedOf row_in
+  pub ranked-is : (s w o : Word) → ranked_of p names rs s w o ≡ ◌>>=◌ (operators_row ds w) (λ _. procedure_of p names rs (lowest_for p names s w o) o)
+  unfolding ranked_of row_in
   ranked-is s w o =
-      ap (λ x. elim x as (λ _. Checked Plain) [ none ↦ elsewhere p w | some ls ↦ procedureOf p names rs (lowestFor p names s w o) o ]) (ag.operators w.text) ∙ go (index_of 600 w.text 0 ds)
+      ap (λ x. elim x as (λ _. Checked Plain) [ none ↦ elsewhere p w | some ls ↦ procedure_of p names rs (lowest_for p names s w o) o ]) (ag.operators w.text) ∙ go (index_of 600 w.text 0 ds)
     where
-      go : (x : Option ℕ) → elim (mapped (λ i. levelsOf (operatorsFrom ds (entriesOf p i))) x) as (λ _. Checked Plain) [ none ↦ elsewhere p w | some ls ↦ procedureOf p names rs (lowestFor p names s w o) o ]
-          ≡ ◌>>=◌ {A = ℕ} (elim x as (λ _. Checked ℕ) [ some i ↦ good i | none ↦ wrong (elsewhereIn ds w.text) w ]) (λ _. procedureOf p names rs (lowestFor p names s w o) o)
+      go : (x : Option ℕ) → elim (mapped (λ i. levels_of (operators_from ds (entries_of p i))) x) as (λ _. Checked Plain) [ none ↦ elsewhere p w | some ls ↦ procedure_of p names rs (lowest_for p names s w o) o ]
+          ≡ ◌>>=◌ {A = ℕ} (elim x as (λ _. Checked ℕ) [ some i ↦ good i | none ↦ wrong (elsewhere_in ds w.text) w ]) (λ _. procedure_of p names rs (lowest_for p names s w o) o)
       go none = uses-elsewhere ag w
       go (some i) = refl
 
-  given_is : (w : List ℕ) → given (findOperation w names.operations) ≡ given (index_of 6 w 0 ds)
+  given_is : (w : List ℕ) → given (find_operation w names.operations) ≡ given (index_of 6 w 0 ds)
   given_is w = ap given (ag.operations w) ∙ go (index_of 6 w 0 ds)
     where
-      go : (x : Option ℕ) → given (mapped (λ i. operationFrom ds (declOf ds i)) x) ≡ given x
+      go : (x : Option ℕ) → given (mapped (λ i. operation_from ds (decl_of ds i)) x) ≡ given x
       go none = refl
       go (some i) = refl
 
-  pub rule-is : (w : Word) → ruleNamed p names rs w ≡ ◌>>=◌ (ruleIn ds w) (λ i. good (ruleFrom (declOf ds i)))
-  unfolding ruleNamed ruleIn
+  pub rule-is : (w : Word) → rule_named p names rs w ≡ ◌>>=◌ (rule_in ds w) (λ i. good (rule_from (decl_of ds i)))
+  unfolding rule_named rule_in
   rule-is w =
-      ap (λ b. if b then wrong 5 w else elim (findRule w.text rs) as (λ _. Checked KnownRule) [ some r ↦ good r | none ↦ elsewhere p w ]) (given_is w.text)
+      ap (λ b. if b then wrong 5 w else elim (find_rule w.text rs) as (λ _. Checked KnownRule) [ some r ↦ good r | none ↦ elsewhere p w ]) (given_is w.text)
       ∙ ap (λ x. if given (index_of 6 w.text 0 ds) then wrong 5 w else elim x as (λ _. Checked KnownRule) [ some r ↦ good r | none ↦ elsewhere p w ]) (ag.rules w.text)
       ∙ go (given (index_of 6 w.text 0 ds)) (index_of 7 w.text 0 ds)
     where
-      go : (b : Bool) (x : Option ℕ) → (if b then wrong 5 w else elim (mapped (λ i. ruleFrom (declOf ds i)) x) as (λ _. Checked KnownRule) [ some r ↦ good r | none ↦ elsewhere p w ])
-          ≡ ◌>>=◌ (if b then wrong 5 w else elim x as (λ _. Checked ℕ) [ some i ↦ good i | none ↦ wrong (elsewhereIn ds w.text) w ]) (λ i. good (ruleFrom (declOf ds i)))
+      go : (b : Bool) (x : Option ℕ) → (if b then wrong 5 w else elim (mapped (λ i. rule_from (decl_of ds i)) x) as (λ _. Checked KnownRule) [ some r ↦ good r | none ↦ elsewhere p w ])
+          ≡ ◌>>=◌ (if b then wrong 5 w else elim x as (λ _. Checked ℕ) [ some i ↦ good i | none ↦ wrong (elsewhere_in ds w.text) w ]) (λ i. good (rule_from (decl_of ds i)))
       go true x = refl
       go false none = uses-elsewhere ag w
       go false (some i) = refl
 
 -- The class of a type
 
-pub class-there : (ds : List Decl) (w : List ℕ) (i : ℕ) → Tells i (index_of 5 w 0 ds) → i < 65536 → 8 + i ≡ classNamed ds w
-unfolding classNamed
+pub class-there : (ds : List Decl) (w : List ℕ) (i : ℕ) → Tells i (index_of 5 w 0 ds) → i < 65536 → 8 + i ≡ class_named ds w
+unfolding class_named
 class-there ds w i t h = go (index_of 5 w 0 ds) t
   where
-    go : (x : Option ℕ) → Tells i x → 8 + i ≡ typeClass x
+    go : (x : Option ℕ) → Tells i x → 8 + i ≡ type_class x
     go none (nowhere e) = absurd (omega arith)
     go (some v) (there e q) = ap (λ (k : ℕ). 8 + k) e
 
-pub class-nowhere : (ds : List Decl) (w : List ℕ) (i : ℕ) → Tells i (index_of 5 w 0 ds) → 65536 ≤ i → 0 ≡ classNamed ds w
-unfolding classNamed
+pub class-nowhere : (ds : List Decl) (w : List ℕ) (i : ℕ) → Tells i (index_of 5 w 0 ds) → 65536 ≤ i → 0 ≡ class_named ds w
+unfolding class_named
 class-nowhere ds w i t h = go (index_of 5 w 0 ds) t
   where
-    go : (x : Option ℕ) → Tells i x → 0 ≡ typeClass x
+    go : (x : Option ℕ) → Tells i x → 0 ≡ type_class x
     go none (nowhere e) = refl
     go (some v) (there e q) = absurd (omega arith)
 
@@ -167,18 +168,18 @@ tells_none (nowhere e) h = refl
 
 -- Declarations of the row
 
-pub option-none : (text : List ℕ) (kind start len : ℕ) → len ≡ 0 → optionOf text kind start len ≡ none
-unfolding optionOf
+pub option-none : (text : List ℕ) (kind start len : ℕ) → len ≡ 0 → option_of text kind start len ≡ none
+unfolding option_of
 option-none text kind start len e = rw (eq-eqb len 0 e)
 
-pub option-some : (text : List ℕ) (kind start len : ℕ) → (len ≡ 0 → ⊥) → optionOf text kind start len ≡ some (word_of text kind start len)
-unfolding optionOf
+pub option-some : (text : List ℕ) (kind start len : ℕ) → (len ≡ 0 → ⊥) → option_of text kind start len ≡ some (word_of text kind start len)
+unfolding option_of
 option-some text kind start len e = rw (ne_eqb len 0 e)
 
-pub gives_none : (ds : List Decl) (class : ℕ) → class ≡ 0 → givesOf ds class ≡ none
-unfolding givesOf
+pub gives_none : (ds : List Decl) (class : ℕ) → class ≡ 0 → gives_of ds class ≡ none
+unfolding gives_of
 gives_none ds class e = rw (eq-eqb class 0 e)
 
-pub gives-some : (ds : List Decl) (class : ℕ) → (class ≡ 0 → ⊥) → givesOf ds class ≡ some (knownsIn class ds)
-unfolding givesOf
-gives-some ds class e = rw (ne_eqb class 0 e)
+pub gives_some : (ds : List Decl) (class : ℕ) → (class ≡ 0 → ⊥) → gives_of ds class ≡ some (knowns_in class ds)
+unfolding gives_of
+gives_some ds class e = rw (ne_eqb class 0 e)

@@ -6,79 +6,79 @@ use mathlib.Core.Path.{◌≡◌, refl, sym, ap, ◌∙◌}
 use Prim.Native.Nat.{ℕ, ◌<◌, ◌≤◌}
 use native.Mathlib.Omega.{arith}
 use lib.ListN.{length}
-use Rattle.cells.specs.Cells.{plainCells}
-use Rattle.declarations.specs.Decls.{Agrees, lookupIn}
-use Rattle.grammar.specs.Derived.{Took, Reference, ConstantIn, ValueIn, PlainIn, named_in, any-in, emit-in, error-in, exit_in, call-in, give-in, ranked-in}
+use Rattle.cells.specs.Cells.{plain_cells}
+use Rattle.declarations.specs.Decls.{Agrees, lookup_in}
+use Rattle.grammar.specs.Derived.{Took, Reference, ConstantIn, ValueIn, PlainIn, named_in, any_in, emit_in, error_in, exit_in, call_in, give_in, ranked_in}
 use Rattle.maker.specs.Pairs.{PairsAre}
 use Rattle.names.specs.Known.{KnownRule, Names}
-use Rattle.names.specs.Resolve.{plain_of, giveOf, rankedOf}
+use Rattle.names.specs.Resolve.{plain_of, give_of, ranked_of}
 use Rattle.places.proofs.Heres.{Same, took-here, took-kind, reference-kind, reference-here}
-use Rattle.program.specs.Past.{plainPast, isExit}
+use Rattle.program.specs.Past.{plain_past, is_exit}
 use Rattle.program.specs.Program.{Plain, emit, error}
 use Rattle.resolver.proofs.Outcomes.{emit-is, error-is}
 use Rattle.resolver.proofs.Rests.{ends_by}
 use Rattle.resolver.specs.declared.Built.{Built}
-use Rattle.resolver.specs.Parts.{Lies, PlainEnds, RestDone, NothingIn, ReferenceIn, NameIn, valued, Sends, named_of, call_of, any_of, exit_of, RankedIn, ranked-words, byRank}
+use Rattle.resolver.specs.Parts.{Lies, PlainEnds, RestDone, NothingIn, ReferenceIn, NameIn, valued, Sends, named_of, call_of, any_of, exit_of, RankedIn, ranked_words, by_rank}
 use Rattle.resolver.specs.Resolved.{PlainDone}
-use Rattle.scanner.specs.Next.{Next, asWord}
+use Rattle.scanner.specs.Next.{Next, as_word}
 use Rattle.scanner.specs.declared.WordAt.{WordAt}
-use Rattle.symbols.specs.Rows.{held, givesOf}
+use Rattle.symbols.specs.Rows.{held, gives_of}
 use Rattle.syntax.specs.Written as written
 use Rattle.syntax.specs.Written.{Program}
-use Rattle.words.specs.Words.{Word, wordsAt}
+use Rattle.words.specs.Words.{Word, words_at}
 
 pub lies-here : {text : List ℕ} {at : ℕ} {w : WordAt} → Next text at w → at ≤ length text → Lies text w
 lies-here h q = record { inside = h.inside q; high = h.high q }
 
 -- what stands behind the first word w, for each kind that it may have
 record Arms (text rows : List ℕ) (n class : ℕ) (inside : Bool) (cs : List ℕ) (c : ℕ) (cs' : List ℕ) (r : Built) (w : WordAt) : Type 0 where
-  pub on-name : w.kind ≡ 257 → RestDone ConstantIn (λ p names rs. named_of p names rs (asWord text w)) text rows n w.next cs c cs' r
-  pub on-string : w.kind ≡ 259 → RestDone ConstantIn (λ p names rs. named_of p names rs (asWord text w)) text rows n w.next cs c cs' r
+  pub on-name : w.kind ≡ 257 → RestDone ConstantIn (λ p names rs. named_of p names rs (as_word text w)) text rows n w.next cs c cs' r
+  pub on-string : w.kind ≡ 259 → RestDone ConstantIn (λ p names rs. named_of p names rs (as_word text w)) text rows n w.next cs c cs' r
   pub on-any : w.kind ≡ 63 → RestDone NothingIn any_of text rows n w.next cs c cs' r
-  pub on-emit : w.kind ≡ 46 → RestDone ReferenceIn (λ p names rs u. valued emit (lookupIn (held text rows n) 2 u)) text rows n w.next cs c cs' r
-  pub on-error : w.kind ≡ 35 → RestDone ReferenceIn (λ p names rs u. valued error (lookupIn (held text rows n) 4 u)) text rows n w.next cs c cs' r
-  pub on-exit : w.kind ≡ 62 → RestDone NothingIn (exit_of inside (asWord text w)) text rows n w.next cs c cs' r
+  pub on-emit : w.kind ≡ 46 → RestDone ReferenceIn (λ p names rs u. valued emit (lookup_in (held text rows n) 2 u)) text rows n w.next cs c cs' r
+  pub on-error : w.kind ≡ 35 → RestDone ReferenceIn (λ p names rs u. valued error (lookup_in (held text rows n) 4 u)) text rows n w.next cs c cs' r
+  pub on-exit : w.kind ≡ 62 → RestDone NothingIn (exit_of inside (as_word text w)) text rows n w.next cs c cs' r
   pub on_call : w.kind ≡ 64 → RestDone NameIn call_of text rows n w.next cs c cs' r
-  pub on-give : w.kind ≡ 256 → RestDone ValueIn (λ p names rs. giveOf p names rs (givesOf (held text rows n) class) (asWord text w)) text rows n w.next cs c cs' r
-  pub on-ranked : w.kind ≡ 94 → RestDone RankedIn (byRank (asWord text w)) text rows n w.next cs c cs' r
+  pub on-give : w.kind ≡ 256 → RestDone ValueIn (λ p names rs. give_of p names rs (gives_of (held text rows n) class) (as_word text w)) text rows n w.next cs c cs' r
+  pub on-ranked : w.kind ≡ 94 → RestDone RankedIn (by_rank (as_word text w)) text rows n w.next cs c cs' r
 
 module _ {text rows : List ℕ} {n at : ℕ} {cs cs' : List ℕ} {c : ℕ} {r : Built} (class : ℕ) (inside : Bool) (w : WordAt) (h : Next text at w) where
   -- a derivation goes by the kind of the first word
-  by_first : Arms text rows n class inside cs c cs' r w → (p : Program) (names : Names) (rs : List KnownRule) → Agrees p names rs (held text rows n) → (a : written.Plain) (ws : List Word) → PlainIn (wordsAt text at) ws a
-      → PlainEnds (PairsAre text rows n p names) text ws cs c cs' r (plain_of p names rs (record { inside = inside; gives = givesOf (held text rows n) class }) a)
+  by_first : Arms text rows n class inside cs c cs' r w → (p : Program) (names : Names) (rs : List KnownRule) → Agrees p names rs (held text rows n) → (a : written.Plain) (ws : List Word) → PlainIn (words_at text at) ws a
+      → PlainEnds (PairsAre text rows n p names) text ws cs c cs' r (plain_of p names rs (record { inside = inside; gives = gives_of (held text rows n) class }) a)
   unfolding plain_of
   by_first arms p names rs ag (written.named v o) ws (named_in {ws₁ = ws₁} t u) =
       let s : Same text w v ws₁ = reference-here text at w v ws₁ h t in
-      let u' : ConstantIn (wordsAt text w.next) ws o = rw s.behind at u in
+      let u' : ConstantIn (words_at text w.next) ws o = rw s.behind at u in
       ends_by (ap (λ v. named_of p names rs v o) s.word) (go (reference-kind text at w v ws₁ h t) u')
     where
-      go : (w.kind ≡ 257) ⊎ (w.kind ≡ 259) → ConstantIn (wordsAt text w.next) ws o → PlainEnds (PairsAre text rows n p names) text ws cs c cs' r (named_of p names rs (asWord text w) o)
+      go : (w.kind ≡ 257) ⊎ (w.kind ≡ 259) → ConstantIn (words_at text w.next) ws o → PlainEnds (PairsAre text rows n p names) text ws cs c cs' r (named_of p names rs (as_word text w) o)
       go (inl e) u = (arms.on-name e).done p names rs ag o ws u
       go (inr e) u = (arms.on-string e).done p names rs ag o ws u
-  by_first arms p names rs ag (written.any v) ws (any-in t) =
+  by_first arms p names rs ag (written.any v) ws (any_in t) =
       (arms.on-any (took-kind text at 63 w v ws h t)).done p names rs ag tt ws (took-here text at 63 w v ws (omega arith) h t).behind
   by_first arms p names rs ag (written.exit v) ws (exit_in t) =
       let s : Same text w v ws = took-here text at 62 w v ws (omega arith) h t in
       ends_by (ap (λ v. exit_of inside v p names rs tt) s.word) ((arms.on-exit (took-kind text at 62 w v ws h t)).done p names rs ag tt ws s.behind)
-  by_first arms p names rs ag (written.emit v) ws (emit-in {dot = d} {ws₁ = ws₁} t u) =
-      let u' : Reference (wordsAt text w.next) v ws = rw (took-here text at 46 w d ws₁ (omega arith) h t).behind at u in
-      ends_by (emit-is text rows n ag (record { inside = inside; gives = givesOf (held text rows n) class }) v) ((arms.on-emit (took-kind text at 46 w d ws₁ h t)).done p names rs ag v ws u')
-  by_first arms p names rs ag (written.error v) ws (error-in {hash = d} {ws₁ = ws₁} t u) =
-      let u' : Reference (wordsAt text w.next) v ws = rw (took-here text at 35 w d ws₁ (omega arith) h t).behind at u in
-      ends_by (error-is text rows n ag (record { inside = inside; gives = givesOf (held text rows n) class }) v) ((arms.on-error (took-kind text at 35 w d ws₁ h t)).done p names rs ag v ws u')
-  by_first arms p names rs ag (written.call v) ws (call-in {at = d} {ws₁ = ws₁} t u) =
-      let u' : Took 257 (wordsAt text w.next) v ws = rw (took-here text at 64 w d ws₁ (omega arith) h t).behind at u in
+  by_first arms p names rs ag (written.emit v) ws (emit_in {dot = d} {ws₁ = ws₁} t u) =
+      let u' : Reference (words_at text w.next) v ws = rw (took-here text at 46 w d ws₁ (omega arith) h t).behind at u in
+      ends_by (emit-is text rows n ag (record { inside = inside; gives = gives_of (held text rows n) class }) v) ((arms.on-emit (took-kind text at 46 w d ws₁ h t)).done p names rs ag v ws u')
+  by_first arms p names rs ag (written.error v) ws (error_in {hash = d} {ws₁ = ws₁} t u) =
+      let u' : Reference (words_at text w.next) v ws = rw (took-here text at 35 w d ws₁ (omega arith) h t).behind at u in
+      ends_by (error-is text rows n ag (record { inside = inside; gives = gives_of (held text rows n) class }) v) ((arms.on-error (took-kind text at 35 w d ws₁ h t)).done p names rs ag v ws u')
+  by_first arms p names rs ag (written.call v) ws (call_in {at = d} {ws₁ = ws₁} t u) =
+      let u' : Took 257 (words_at text w.next) v ws = rw (took-here text at 64 w d ws₁ (omega arith) h t).behind at u in
       (arms.on_call (took-kind text at 64 w d ws₁ h t)).done p names rs ag v ws u'
-  by_first arms p names rs ag (written.give v o) ws (give-in {ws₁ = ws₁} t u) =
+  by_first arms p names rs ag (written.give v o) ws (give_in {ws₁ = ws₁} t u) =
       let s : Same text w v ws₁ = took-here text at 256 w v ws₁ (omega arith) h t in
-      let u' : ValueIn (wordsAt text w.next) ws o = rw s.behind at u in
-      ends_by (ap (λ v. giveOf p names rs (givesOf (held text rows n) class) v o) s.word) ((arms.on-give (took-kind text at 256 w v ws₁ h t)).done p names rs ag o ws u')
-  by_first arms p names rs ag (written.ranked v u o) ws (ranked-in {ws₁ = ws₁} {ws₂ = ws₂} t a b d) =
+      let u' : ValueIn (words_at text w.next) ws o = rw s.behind at u in
+      ends_by (ap (λ v. give_of p names rs (gives_of (held text rows n) class) v o) s.word) ((arms.on-give (took-kind text at 256 w v ws₁ h t)).done p names rs ag o ws u')
+  by_first arms p names rs ag (written.ranked v u o) ws (ranked_in {ws₁ = ws₁} {ws₂ = ws₂} t a b d) =
       let s : Same text w v ws₁ = took-here text at 94 w v ws₁ (omega arith) h t in
-      let a' : Took 257 (wordsAt text w.next) u ws₂ = rw s.behind at a in
-      ends_by (ap (λ v. rankedOf p names rs v u o) s.word) ((arms.on-ranked (took-kind text at 94 w v ws₁ h t)).done p names rs ag (u, o) ws (ranked-words a' b d))
+      let a' : Took 257 (words_at text w.next) u ws₂ = rw s.behind at a in
+      ends_by (ap (λ v. ranked_of p names rs v u o) s.word) ((arms.on-ranked (took-kind text at 94 w v ws₁ h t)).done p names rs ag (u, o) ws (ranked_words a' b d))
 
-  pub first-name : w.kind ≡ 257 → RestDone ConstantIn (λ p names rs. named_of p names rs (asWord text w)) text rows n w.next cs c cs' r → PlainDone text rows n at inside class cs c cs' r
+  pub first-name : w.kind ≡ 257 → RestDone ConstantIn (λ p names rs. named_of p names rs (as_word text w)) text rows n w.next cs c cs' r → PlainDone text rows n at inside class cs c cs' r
   first-name q d = record {
     same = d.same;
     moves = λ f. omega (arith, d.low f, h.moves (omega arith));
@@ -86,7 +86,7 @@ module _ {text rows : List ℕ} {n at : ℕ} {cs cs' : List ℕ} {c : ℕ} {r : 
     done = by_first (record { on-name = λ e. d; on-string = λ e. absurd (omega arith); on-any = λ e. absurd (omega arith); on-emit = λ e. absurd (omega arith); on-error = λ e. absurd (omega arith); on-exit = λ e. absurd (omega arith); on_call = λ e. absurd (omega arith); on-give = λ e. absurd (omega arith); on-ranked = λ e. absurd (omega arith) });
   }
 
-  pub first-string : w.kind ≡ 259 → RestDone ConstantIn (λ p names rs. named_of p names rs (asWord text w)) text rows n w.next cs c cs' r → PlainDone text rows n at inside class cs c cs' r
+  pub first-string : w.kind ≡ 259 → RestDone ConstantIn (λ p names rs. named_of p names rs (as_word text w)) text rows n w.next cs c cs' r → PlainDone text rows n at inside class cs c cs' r
   first-string q d = record {
     same = d.same;
     moves = λ f. omega (arith, d.low f, h.moves (omega arith));
@@ -102,7 +102,7 @@ module _ {text rows : List ℕ} {n at : ℕ} {cs cs' : List ℕ} {c : ℕ} {r : 
     done = by_first (record { on-name = λ e. absurd (omega arith); on-string = λ e. absurd (omega arith); on-any = λ e. d; on-emit = λ e. absurd (omega arith); on-error = λ e. absurd (omega arith); on-exit = λ e. absurd (omega arith); on_call = λ e. absurd (omega arith); on-give = λ e. absurd (omega arith); on-ranked = λ e. absurd (omega arith) });
   }
 
-  pub first-emit : w.kind ≡ 46 → RestDone ReferenceIn (λ p names rs u. valued emit (lookupIn (held text rows n) 2 u)) text rows n w.next cs c cs' r → PlainDone text rows n at inside class cs c cs' r
+  pub first-emit : w.kind ≡ 46 → RestDone ReferenceIn (λ p names rs u. valued emit (lookup_in (held text rows n) 2 u)) text rows n w.next cs c cs' r → PlainDone text rows n at inside class cs c cs' r
   first-emit q d = record {
     same = d.same;
     moves = λ f. omega (arith, d.low f, h.moves (omega arith));
@@ -110,7 +110,7 @@ module _ {text rows : List ℕ} {n at : ℕ} {cs cs' : List ℕ} {c : ℕ} {r : 
     done = by_first (record { on-name = λ e. absurd (omega arith); on-string = λ e. absurd (omega arith); on-any = λ e. absurd (omega arith); on-emit = λ e. d; on-error = λ e. absurd (omega arith); on-exit = λ e. absurd (omega arith); on_call = λ e. absurd (omega arith); on-give = λ e. absurd (omega arith); on-ranked = λ e. absurd (omega arith) });
   }
 
-  pub first-error : w.kind ≡ 35 → RestDone ReferenceIn (λ p names rs u. valued error (lookupIn (held text rows n) 4 u)) text rows n w.next cs c cs' r → PlainDone text rows n at inside class cs c cs' r
+  pub first-error : w.kind ≡ 35 → RestDone ReferenceIn (λ p names rs u. valued error (lookup_in (held text rows n) 4 u)) text rows n w.next cs c cs' r → PlainDone text rows n at inside class cs c cs' r
   first-error q d = record {
     same = d.same;
     moves = λ f. omega (arith, d.low f, h.moves (omega arith));
@@ -118,7 +118,7 @@ module _ {text rows : List ℕ} {n at : ℕ} {cs cs' : List ℕ} {c : ℕ} {r : 
     done = by_first (record { on-name = λ e. absurd (omega arith); on-string = λ e. absurd (omega arith); on-any = λ e. absurd (omega arith); on-emit = λ e. absurd (omega arith); on-error = λ e. d; on-exit = λ e. absurd (omega arith); on_call = λ e. absurd (omega arith); on-give = λ e. absurd (omega arith); on-ranked = λ e. absurd (omega arith) });
   }
 
-  pub first-exit : w.kind ≡ 62 → RestDone NothingIn (exit_of inside (asWord text w)) text rows n w.next cs c cs' r → PlainDone text rows n at inside class cs c cs' r
+  pub first-exit : w.kind ≡ 62 → RestDone NothingIn (exit_of inside (as_word text w)) text rows n w.next cs c cs' r → PlainDone text rows n at inside class cs c cs' r
   first-exit q d = record {
     same = d.same;
     moves = λ f. omega (arith, d.low f, h.moves (omega arith));
@@ -134,7 +134,7 @@ module _ {text rows : List ℕ} {n at : ℕ} {cs cs' : List ℕ} {c : ℕ} {r : 
     done = by_first (record { on-name = λ e. absurd (omega arith); on-string = λ e. absurd (omega arith); on-any = λ e. absurd (omega arith); on-emit = λ e. absurd (omega arith); on-error = λ e. absurd (omega arith); on-exit = λ e. absurd (omega arith); on_call = λ e. d; on-give = λ e. absurd (omega arith); on-ranked = λ e. absurd (omega arith) });
   }
 
-  pub first-give : w.kind ≡ 256 → RestDone ValueIn (λ p names rs. giveOf p names rs (givesOf (held text rows n) class) (asWord text w)) text rows n w.next cs c cs' r → PlainDone text rows n at inside class cs c cs' r
+  pub first-give : w.kind ≡ 256 → RestDone ValueIn (λ p names rs. give_of p names rs (gives_of (held text rows n) class) (as_word text w)) text rows n w.next cs c cs' r → PlainDone text rows n at inside class cs c cs' r
   first-give q d = record {
     same = d.same;
     moves = λ f. omega (arith, d.low f, h.moves (omega arith));
@@ -142,7 +142,7 @@ module _ {text rows : List ℕ} {n at : ℕ} {cs cs' : List ℕ} {c : ℕ} {r : 
     done = by_first (record { on-name = λ e. absurd (omega arith); on-string = λ e. absurd (omega arith); on-any = λ e. absurd (omega arith); on-emit = λ e. absurd (omega arith); on-error = λ e. absurd (omega arith); on-exit = λ e. absurd (omega arith); on_call = λ e. absurd (omega arith); on-give = λ e. d; on-ranked = λ e. absurd (omega arith) });
   }
 
-  pub first-ranked : w.kind ≡ 94 → RestDone RankedIn (byRank (asWord text w)) text rows n w.next cs c cs' r → PlainDone text rows n at inside class cs c cs' r
+  pub first-ranked : w.kind ≡ 94 → RestDone RankedIn (by_rank (as_word text w)) text rows n w.next cs c cs' r → PlainDone text rows n at inside class cs c cs' r
   first-ranked q d = record {
     same = d.same;
     moves = λ f. omega (arith, d.low f, h.moves (omega arith));
@@ -161,9 +161,9 @@ module _ {text rows : List ℕ} {n at : ℕ} {cs cs' : List ℕ} {c : ℕ} {r : 
   }
 
 pub emit-sends : Sends 5 true emit
-unfolding plainCells plainPast isExit
+unfolding plain_cells plain_past is_exit
 emit-sends = record { cells = λ v. refl; past = λ v. refl; exits = λ v. refl }
 
 pub error-sends : Sends 6 true error
-unfolding plainCells plainPast isExit
+unfolding plain_cells plain_past is_exit
 error-sends = record { cells = λ v. refl; past = λ v. refl; exits = λ v. refl }

@@ -3,21 +3,21 @@
 use Rattle.std.specs.Prelude.{Bool, true, List, [], ◌∷◌, ◌++◌, ◌≡◌, ℕ, suc, ◌+◌, ◌<◌, ◌≤◌, min, length, take}
 use Rattle.std.proofs.lemmas.List.Edits.{sets}
 use Rattle.base.specs.Common.{member}
-use Rattle.cells.specs.Cells.{plainCells, selectorCells, absentCell}
-use Rattle.declarations.specs.Decls.{Agrees, knownsIn}
+use Rattle.cells.specs.Cells.{plain_cells, selector_cells, absent_cell}
+use Rattle.declarations.specs.Decls.{Agrees, knowns_in}
 use Rattle.grammar.specs.Derived.{PlainIn, SelectorIn, LabelsIn}
 use Rattle.maker.specs.Pairs.{PairsAre}
 use Rattle.names.specs.Known.{Checked, good, wrong, KnownRule, Names}
-use Rattle.names.specs.Resolve.{plain_of, selectorOf, labelsOf}
-use Rattle.program.specs.Past.{plainPast, isExit}
+use Rattle.names.specs.Resolve.{plain_of, selector_of, labels_of}
+use Rattle.program.specs.Past.{plain_past, is_exit}
 use Rattle.resolver.specs.declared.Built.{Built}
 use Rattle.resolver.specs.declared.Done.{Done}
 use Rattle.resolver.specs.declared.Labels.{Labels}
 use Rattle.resolver.specs.declared.Selected.{Selected}
-use Rattle.symbols.specs.Rows.{held, givesOf}
+use Rattle.symbols.specs.Rows.{held, gives_of}
 use Rattle.syntax.specs.Written as written
 use Rattle.syntax.specs.Written.{Program}
-use Rattle.words.specs.Words.{Word, wordsAt}
+use Rattle.words.specs.Words.{Word, words_at}
 
 -- the cells xs appended to the first c of cs; past the end nothing is written and the count stays one above the room
 pub record Appends (cs : List ℕ) (c : ℕ) (xs cs' : List ℕ) (c' : ℕ) : Type 0 where
@@ -27,7 +27,7 @@ pub record Appends (cs : List ℕ) (c : ℕ) (xs cs' : List ℕ) (c' : ℕ) : Ty
 -- the code's answer tells a check's outcome: the words left, the cells of the value and what P says of it, or the fault at its word. The cells rest on E: a
 -- `^` is the call of a rule made for it, and where that stands the rows say, if they hold the text's pairs
 pub data Ends {B : Type 0} (E : Type 0) (text : List ℕ) (ws : List Word) (cs : List ℕ) (c : ℕ) (cs' : List ℕ) (cells_of : B → List ℕ) (P : B → Type 0) (r : Done) : Checked B → Type 0 where
-  ended : {b : B} → r.fault ≡ 0 → ws ≡ wordsAt text r.at → (E → Appends cs c (cells_of b) cs' r.count) → P b → Ends E text ws cs c cs' cells_of P r (good b)
+  ended : {b : B} → r.fault ≡ 0 → ws ≡ words_at text r.at → (E → Appends cs c (cells_of b) cs' r.count) → P b → Ends E text ws cs c cs' cells_of P r (good b)
   failed : {n : ℕ} {w : Word} → r.fault ≡ n → (n ≡ 0 → ⊥) → r.at ≡ w.start → r.len ≡ length w.text → Ends E text ws cs c cs' cells_of P r (wrong n w)
 
 -- whether an action goes past itself, and whether it is an exit
@@ -39,22 +39,22 @@ pub record PlainDone (text rows : List ℕ) (n at : ℕ) (inside : Bool) (class 
   pub same : length cs' ≡ length cs
   pub moves : r.done.fault ≡ 0 → at < r.done.at
   pub high : r.done.fault ≡ 0 → r.done.at ≤ length text
-  pub done : (p : Program) (names : Names) (rs : List KnownRule) → Agrees p names rs (held text rows n) → (a : written.Plain) (ws : List Word) → PlainIn (wordsAt text at) ws a
-      → Ends (PairsAre text rows n p names) text ws cs c cs' (λ b. plainCells b []) (λ b. Flags r.past r.exits (plainPast b) (isExit b)) r.done
-      (plain_of p names rs (record { inside = inside; gives = givesOf (held text rows n) class }) a)
+  pub done : (p : Program) (names : Names) (rs : List KnownRule) → Agrees p names rs (held text rows n) → (a : written.Plain) (ws : List Word) → PlainIn (words_at text at) ws a
+      → Ends (PairsAre text rows n p names) text ws cs c cs' (λ b. plain_cells b []) (λ b. Flags r.past r.exits (plain_past b) (is_exit b)) r.done
+      (plain_of p names rs (record { inside = inside; gives = gives_of (held text rows n) class }) a)
 
 -- a selector: the class of the choice's labels, and the cell that stands for no otherwise
 pub record SelectorDone (text rows : List ℕ) (n at : ℕ) (cs : List ℕ) (c : ℕ) (cs' : List ℕ) (r : Selected) : Type 0 where
   pub same : length cs' ≡ length cs
   pub low : r.done.fault ≡ 0 → at ≤ r.done.at
   pub high : r.done.fault ≡ 0 → r.done.at ≤ length text
-  pub done : (p : Program) (names : Names) (rs : List KnownRule) → Agrees p names rs (held text rows n) → (s : written.Selector) (ws : List Word) → SelectorIn (wordsAt text at) ws s
-      → Ends (PairsAre text rows n p names) text ws cs c cs' (λ x. selectorCells x.by []) (λ x. (x.labels ≡ knownsIn r.class (held text rows n)) × (r.absent ≡ absentCell x.by)) r.done
-      (selectorOf p names rs s)
+  pub done : (p : Program) (names : Names) (rs : List KnownRule) → Agrees p names rs (held text rows n) → (s : written.Selector) (ws : List Word) → SelectorIn (words_at text at) ws s
+      → Ends (PairsAre text rows n p names) text ws cs c cs' (λ x. selector_cells x.by []) (λ x. (x.labels ≡ knowns_in r.class (held text rows n)) × (r.absent ≡ absent_cell x.by)) r.done
+      (selector_of p names rs s)
 
 -- the values of an alternative's labels stand behind the first `used` of the choice's
 pub data LabelsEnd (text : List ℕ) (ws : List Word) (seen : List ℕ) (used : ℕ) (seen' : List ℕ) (r : Labels) : Checked (List ℕ) → Type 0 where
-  labelled : {vs : List ℕ} → r.fault ≡ 0 → ws ≡ wordsAt text r.at → r.used ≡ used + length vs → take r.used seen' ≡ take used seen ++ vs
+  labelled : {vs : List ℕ} → r.fault ≡ 0 → ws ≡ words_at text r.at → r.used ≡ used + length vs → take r.used seen' ≡ take used seen ++ vs
       → LabelsEnd text ws seen used seen' r (good vs)
   mislabelled : {n : ℕ} {w : Word} → r.fault ≡ n → (n ≡ 0 → ⊥) → r.at ≡ w.start → r.len ≡ length w.text → LabelsEnd text ws seen used seen' r (wrong n w)
 
@@ -65,6 +65,6 @@ pub record LabelsDone (text rows : List ℕ) (n at class : ℕ) (seen : List ℕ
   pub high : r.fault ≡ 0 → r.at ≤ length text
   pub more : r.fault ≡ 0 → used ≤ r.used
   pub room : r.fault ≡ 0 → r.used ≤ length seen
-  pub done : (p : Program) (names : Names) (rs : List KnownRule) → Agrees p names rs (held text rows n) → (ls ws : List Word) → LabelsIn (wordsAt text at) ws ls
+  pub done : (p : Program) (names : Names) (rs : List KnownRule) → Agrees p names rs (held text rows n) → (ls ws : List Word) → LabelsIn (words_at text at) ws ls
       → used + length ls ≤ length seen → (old : List ℕ) → ((v : ℕ) → member v old ≡ member v (take used seen))
-      → LabelsEnd text ws seen used seen' r (labelsOf p names rs ls (knownsIn class (held text rows n)) old)
+      → LabelsEnd text ws seen used seen' r (labels_of p names rs ls (knowns_in class (held text rows n)) old)

@@ -1,10 +1,10 @@
 // The parts of a rule that hold no actions: plain actions, selectors and labels, resolved and appended as cells.
 ghost use Rattle.std.specs.Prelude.{◌≡◌, List, [], ◌∷◌, ℕ, ◌+◌, ◌*◌, ◌<◌, ◌≤◌, length, get_or, take};
 ghost use Rattle.base.specs.Common.{member};
-ghost use Rattle.declarations.specs.Decls.{classNamed};
+ghost use Rattle.declarations.specs.Decls.{class_named};
 ghost use Rattle.program.specs.Program.{Plain, emit, error};
 ghost use Rattle.resolver.specs.Parts.{Lies, Went, Stopped, RestDone, NameIn, Sends, MatchDone, UpdateDone, NamedDone, SentDone, call_of, GivenDone, GiveDone, AnyDone, ExitDone, RankedDone};
-ghost use Rattle.resolver.specs.Parts.{operationCells, Misfit, ValueDone, OperandDone, Chose, Balked, ChoiceDone, byRuleOf, WithDone, ByOperationDone, Mislabel, LabelDone};
+ghost use Rattle.resolver.specs.Parts.{operation_cells, Misfit, ValueDone, OperandDone, Chose, Balked, ChoiceDone, by_rule_of, WithDone, ByOperationDone, Mislabel, LabelDone};
 ghost use Rattle.resolver.specs.Resolved.{Appends, PlainDone, SelectorDone, LabelsDone};
 ghost use Rattle.scanner.specs.Next.{Next};
 ghost use Rattle.symbols.specs.Index.{Kept};
@@ -120,7 +120,7 @@ fn put_operation(
     count: usize,
 ) -> usize
     requires { (row < 512) × (value < 65536) }
-    ensures { Appends cells.old count (operationCells (get_or rows.now (8 * row + 1) 0) there value) cells.new result }
+    ensures { Appends cells.old count (operation_cells (get_or rows.now (8 * row + 1) 0) there value) cells.new result }
 {
     let op = base::number(rows, symbols::ROW * row + symbols::VALUE) as u16;
     if there {
@@ -200,7 +200,7 @@ fn balked(fault: u16, at: usize, len: usize) -> Selected
 // The class of the values of a type, 0 where there is no such type.
 fn class_named(text: &[u8], rows: &[u16], n: usize, start: usize, len: usize) -> usize
     requires { Kept text.now rows.now n }
-    ensures { result ≡ classNamed (held text.now rows.now n) (part text.now start len) }
+    ensures { result ≡ class_named (held text.now rows.now n) (part text.now start len) }
 {
     let i = symbols::find_row(text, rows, n, symbols::TYPE, start, len);
     if i < symbols::NONE {
@@ -582,7 +582,7 @@ fn select_rule(
     count: usize,
 ) -> Selected
     requires { (at ≤ length text.now) × Kept text.now rows.now n }
-    ensures { ChoiceDone NameIn byRuleOf text.now rows.now n at cells.old count cells.new result }
+    ensures { ChoiceDone NameIn by_rule_of text.now rows.now n at cells.old count cells.new result }
 {
     let w = scanner::next_word(text, at);
     let o = symbols::rule_of(text, rows, n, w.start, w.len);

@@ -12,14 +12,15 @@ use lib.ListN.{length, get_or}
 use borrow.Author.Tests.{eqb-true, eqb-false, leb-true, not-true}
 use Rattle.base.proofs.Laws.{above_zero}
 use Rattle.base.specs.Bools.{never, and, both, split}
-use Rattle.base.specs.Common.{if◌then◌else◌, member}
+use Rattle.std.specs.Prelude.{if◌then◌else◌}
+use Rattle.base.specs.Common.{member}
 use Rattle.machine.proofs.Decoded.{of-operation, of_one, of_two, of_word}
-use Rattle.machine.specs.Decode.{fetch, Instruction, decodeTwo, decode_one, decodeAt, decode}
+use Rattle.machine.specs.Decode.{fetch, Instruction, decode_two, decode_one, decode_at, decode}
 use Rattle.machine.specs.Lengths.{lengths, length_of}
 use Rattle.loading.proofs.Files.{loads-exactly}
 use Rattle.loading.specs.Reach.{Taken}
 use Rattle.rights.specs.Promise.{AdmitsExactly, Denied, NamesLowest, LargerAdmits, LoadedAnswers}
-use Rattle.rights.specs.Rights.{operationOf, allows, right, Admitted, lowest, denied, Admission, says, admit, admitLoaded}
+use Rattle.rights.specs.Rights.{operation_of, allows, right, Admitted, lowest, denied, Admission, says, admit, admit_loaded}
 use Rattle.loading.specs.Taking.{reached, taken}
 use Rattle.loading.proofs.Exact.{reached-reach, reach-reached, taken-Taken, Taken-taken, good-there}
 use Rattle.loading.proofs.Members.{fetch-inside}
@@ -112,7 +113,7 @@ module _ (T set : List ℕ) where
       rw (Taken-taken T t, z)
 
 pub admits-exactly : (T set : List ℕ) → AdmitsExactly T set
-admits-exactly T set = record { only-these = admit-Admitted T set; all-these = Admitted-admit T set }
+admits-exactly T set = record { only_these = admit-Admitted T set; all_these = Admitted-admit T set }
 
 -- "above 1,279": no operation has a greater number
 one_word : (i : ℕ) → length_of i ≡ 1 → i < 1280
@@ -125,7 +126,7 @@ one_word i e = go (leb 1 i && leb i 13) (leb 256 i && leb i 1279) refl refl e
     go false false x y d = absurd (omega arith)
 
 Small : Instruction → Type 0
-Small x = (op : ℕ) → operationOf x ≡ some op → op < 1280
+Small x = (op : ℕ) → operation_of x ≡ some op → op < 1280
 
 no-operation {ℓ} : {A : Type ℓ} {op : ℕ} → none ≡ some op → A
 no-operation e = let z : ◌≡◌ {A = ℕ} 0 1 = cc in absurd (omega arith)
@@ -134,7 +135,7 @@ this-operation : {i : ℕ} → i < 1280 → (op : ℕ) → some i ≡ some op �
 this-operation {i} h op e = let d : i ≡ op = cc in omega arith
 
 small-decoded : (T : List ℕ) (l : ℕ) → Small (decode T l)
-unfolding decode decodeAt Small operationOf
+unfolding decode decode_at Small operation_of
 small-decoded T l = go (fetch T l)
   where
     one : (i : ℕ) → i < 1280 → Small (decode_one i)
@@ -142,12 +143,12 @@ small-decoded T l = go (fetch T l)
         of_one Small i (λ _ op e. no-operation e) (λ _ op e. no-operation e) (λ _ op e. no-operation e)
         (of-operation Small i (λ _. this-operation h) (λ _. this-operation h) (λ _. this-operation h) (λ _. this-operation h))
 
-    two : (i x : ℕ) → Small (decodeTwo l i x)
+    two : (i x : ℕ) → Small (decode_two l i x)
     two i x =
         of_two Small l i x (λ _ m op e. no-operation e) (λ _ m op e. no-operation e) (λ _ op e. no-operation e) (λ _ op e. no-operation e) (λ _ op e. no-operation e)
         (λ _ c _ op e. no-operation e) (λ _ op e. no-operation e) (λ _ op e. no-operation e) (λ _ c _ op e. no-operation e) (λ op e. no-operation e)
 
-    go : (o : Option ℕ) → Small (decodeAt l o (fetch T (suc l)))
+    go : (o : Option ℕ) → Small (decode_at l o (fetch T (suc l)))
     go none = λ op e. no-operation e
     go (some i) = of_word Small l i (fetch T (suc l)) (λ op e. no-operation e) (λ e. one i (one_word i e)) (λ x _. two i x)
 
@@ -156,7 +157,7 @@ pub larger-admits : LargerAdmits
 unfolding right allows Small
 larger-admits T set larger f e =
     let h = admit-Admitted T set e in
-    ap (λ (v : Admission). v.number) (Admitted-admit T larger h.0 (λ l r. go (operationOf (decode T l)) (small-decoded T l) (h.1 l r)))
+    ap (λ (v : Admission). v.number) (Admitted-admit T larger h.0 (λ l r. go (operation_of (decode T l)) (small-decoded T l) (h.1 l r)))
   where
     go : (o : Option ℕ) → ((op : ℕ) → o ≡ some op → op < 1280) → allows set o ≡ true → allows larger o ≡ true
     go none s d = d
@@ -177,7 +178,7 @@ names-lowest T set l e = go (taken T) refl e
         record {
           takes = taken-Taken T t;
           reached = reached-reach T at w.0;
-          not-granted = not-true (right T set at) w.1;
+          not_granted = not-true (right T set at) w.1;
           lowest = λ m r f. elim (dec_le at m) [
             | yes h ↦ h
             | no h ↦ (let q = fetch-inside T m (good-there T m (taken-Taken T t m r)) in
@@ -197,11 +198,11 @@ names-lowest T set l e = go (taken T) refl e
     go false t d = let z : ◌≡◌ {A = ℕ} 41 48 = ap (λ (v : Admission). v.number) d in absurd (omega arith)
 
 pub loaded-answers : LoadedAnswers
-unfolding admitLoaded admit
+unfolding admit_loaded admit
 loaded-answers file set room ws verdict e = rw e (go (eqb (denied ws set) 0))
   where
     t : taken ws ≡ true
-    t = Taken-taken ws ((loads-exactly file room ws verdict).only-these e).takes
+    t = Taken-taken ws ((loads-exactly file room ws verdict).only_these e).takes
 
     go : (b : Bool) → ((if taken ws then (if b then says 0 0 else says 48 (denied ws set)) else says 41 0).number ≡ 0) ⊎ ((if taken ws then (if b then says 0 0 else says 48 (denied ws set)) else says 41 0).number ≡ 48)
     go true = inl (rw t)

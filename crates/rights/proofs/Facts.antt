@@ -5,16 +5,16 @@ use mathlib.Core.Path.{◌≡◌, refl}
 use Prim.Native.Nat.{ℕ}
 use lib.Dec.{T, eqb}
 use lib.ListN.{replicate}
-use Rattle.base.specs.Common.{if◌then◌else◌}
+use Rattle.std.specs.Prelude.{if◌then◌else◌}
 use Rattle.loading.specs.File
-use Rattle.loading.specs.File.{fileBytes, done, load}
+use Rattle.loading.specs.File.{file_bytes, done, load}
 use Rattle.loading.specs.Reach
 use Rattle.loading.specs.Taking
 use Rattle.machine.specs.Bytes
 use Rattle.machine.specs.Decode
 use Rattle.machine.specs.Lengths
 use Rattle.rights.specs.Rights
-use Rattle.rights.specs.Rights.{granted, says, admit, admitLoaded, tells}
+use Rattle.rights.specs.Rights.{granted, says, admit, admit_loaded, tells}
 
 pub data Case : Type 0 where
   -- granted set, instruction number
@@ -29,7 +29,7 @@ holds (grants set op) = granted set op
 holds (denies set op) = not (granted set op)
 holds (admits ws set number location) = let a = admit ws set in eqb a.number number && eqb a.location location
 holds (loads file room set number words verdict location) =
-    let a = admitLoaded set (load file room) in
+    let a = admit_loaded set (load file room) in
     eqb a.number number && eqb a.words words && eqb a.verdict verdict && eqb a.location location
 
 unfoldable pub all : List Case → Bool
@@ -72,14 +72,14 @@ cases =
     -- 41 comes first; the lowest location, not the first that is found
     ∷ admits (256 ∷ []) [] 41 0 ∷ admits (1 ∷ 3 ∷ 257 ∷ 9 ∷ 256 ∷ 2 ∷ 4 ∷ []) [] 48 3 ∷ admits (1 ∷ 3 ∷ 257 ∷ 9 ∷ 256 ∷ 2 ∷ 4 ∷ []) (64 ∷ []) 48 5
     -- in one call with loading: 40, 20 and 41 before 48; with 48 the words and the verdict word are told
-    ∷ loads [] 9 [] 40 0 0 0 ∷ loads (fileBytes (256 ∷ 9 ∷ []) 1) 1 [] 20 0 0 0 ∷ loads (fileBytes (256 ∷ []) 1) 9 [] 41 0 0 0
-    ∷ loads (fileBytes (256 ∷ 9 ∷ []) 1) 9 [] 48 2 1 1 ∷ loads (fileBytes (256 ∷ 9 ∷ []) 1) 2 (128 ∷ []) 0 2 1 0 ∷ []
+    ∷ loads [] 9 [] 40 0 0 0 ∷ loads (file_bytes (256 ∷ 9 ∷ []) 1) 1 [] 20 0 0 0 ∷ loads (file_bytes (256 ∷ []) 1) 9 [] 41 0 0 0
+    ∷ loads (file_bytes (256 ∷ 9 ∷ []) 1) 9 [] 48 2 1 1 ∷ loads (file_bytes (256 ∷ 9 ∷ []) 1) 2 (128 ∷ []) 0 2 1 0 ∷ []
 
 all_hold : T (all cases)
 unfolding all holds cases footnote four without256 without512 without768 without1024 Bytes.opened Decode.opened Lengths.opened File.opened Reach.opened Rights.opened Taking.opened
 all_hold = tt
 
 -- what the C caller reads: the number and the location that it names; behind a loaded table the number, its words, the verdict word and that location
-told : (admit (256 ∷ 9 ∷ []) [] ≡ says 48 1) × (admitLoaded [] (done (9 ∷ 9 ∷ 256 ∷ []) 1) ≡ tells 0 3 1 0) × (admitLoaded [] (done (4 ∷ 256 ∷ 9 ∷ []) 1) ≡ tells 48 3 1 2)
+told : (admit (256 ∷ 9 ∷ []) [] ≡ says 48 1) × (admit_loaded [] (done (9 ∷ 9 ∷ 256 ∷ []) 1) ≡ tells 0 3 1 0) × (admit_loaded [] (done (4 ∷ 256 ∷ 9 ∷ []) 1) ≡ tells 48 3 1 2)
 unfolding Bytes.opened Decode.opened Lengths.opened File.opened Reach.opened Rights.opened Taking.opened
 told = (refl, refl, refl)

@@ -2,18 +2,18 @@
 use Rattle.std.specs.Prelude.{true, false, List, ◌⊎◌, ◌≡◌, ℕ, ◌<◌, ◌≤◌}
 use Rattle.loading.specs.File.{done, load}
 use Rattle.loading.specs.Reach.{Reachable, Taken}
-use Rattle.rights.specs.Rights.{granted, right, Admitted, says, admit, admitLoaded}
+use Rattle.rights.specs.Rights.{granted, right, Admitted, says, admit, admit_loaded}
 
 -- "A loaded table is admitted for a publisher exactly if every operation at a location reachable in the sense of A.4 is granted."
 pub record AdmitsExactly (T set : List ℕ) : Type 0 where
-  pub only-these : (admit T set).number ≡ 0 → Taken T × Admitted T set
-  pub all-these : Taken T → Admitted T set → admit T set ≡ says 0 0
+  pub only_these : (admit T set).number ≡ 0 → Taken T × Admitted T set
+  pub all_these : Taken T → Admitted T set → admit T set ≡ says 0 0
 
 -- "48 for an operation not granted, after 41, naming the lowest such location"
 pub record Denied (T set : List ℕ) (l : ℕ) : Type 0 where
   pub takes : Taken T
   pub reached : Reachable T l
-  pub not-granted : right T set l ≡ false
+  pub not_granted : right T set l ≡ false
   pub lowest : (m : ℕ) → Reachable T m → right T set m ≡ false → l ≤ m
 
 abbrev pub NamesLowest : Type 0
@@ -31,4 +31,4 @@ LargerAdmits = (T set larger : List ℕ) → Larger set larger → (admit T set)
 abbrev pub LoadedAnswers : Type 0
 LoadedAnswers =
     (file set : List ℕ) (room : ℕ) (ws : List ℕ) (verdict : ℕ) → load file room ≡ done ws verdict
-    → ((admitLoaded set (load file room)).number ≡ 0) ⊎ ((admitLoaded set (load file room)).number ≡ 48)
+    → ((admit_loaded set (load file room)).number ≡ 0) ⊎ ((admit_loaded set (load file room)).number ≡ 48)

@@ -1,8 +1,8 @@
 -- "Rights over the operations": the granted set, and which tables are admitted.
-use Rattle.std.specs.Prelude.{Bool, true, ◌&&◌, not, List, ◌∷◌, ◌≡◌, ℕ, zero, suc, ◌-◌, ◌/◌, ◌%◌, ◌^◌, eqb, leb, length, get_or}
+use Rattle.std.specs.Prelude.{Bool, true, ◌&&◌, not, List, ◌∷◌, ◌≡◌, ℕ, zero, suc, ◌-◌, ◌/◌, ◌%◌, ◌^◌, eqb, leb, length, get_or, if◌then◌else◌}
 use Rattle.std.proofs.Math.Option.{Option, none, some}
-use Rattle.base.specs.Common.{if◌then◌else◌, member}
-use Rattle.machine.specs.Decode.{Instruction, invalid, jump, input, inputAny, write, inputChoice, callRule, return, setResult, choice, endChoice, setParameter, update, updateWith, choose, chooseWith, decode}
+use Rattle.base.specs.Common.{member}
+use Rattle.machine.specs.Decode.{Instruction, invalid, jump, input, input_any, write, input_choice, call_rule, return, set_result, choice, end_choice, set_parameter, update, update_with, choose, choose_with, decode}
 use Rattle.loading.specs.File.{Answer, done, refused}
 use Rattle.loading.specs.Reach.{Reachable}
 use Rattle.loading.specs.Taking.{reached, taken}
@@ -16,23 +16,23 @@ unfoldable pub granted : List ℕ → ℕ → Bool
 granted set op = leb 256 op && eqb (bit_of set (op - 256)) 1
 
 -- the operation of an instruction
-unfoldable pub operationOf : Instruction → Option ℕ
-operationOf invalid = none
-operationOf (jump m) = none
-operationOf (input t) = none
-operationOf inputAny = none
-operationOf (write e) = none
-operationOf (inputChoice c) = none
-operationOf (callRule m) = none
-operationOf return = none
-operationOf (setResult v) = none
-operationOf (choice c) = none
-operationOf endChoice = none
-operationOf (setParameter v) = none
-operationOf (update op) = some op
-operationOf (updateWith op) = some op
-operationOf (choose op) = some op
-operationOf (chooseWith op) = some op
+unfoldable pub operation_of : Instruction → Option ℕ
+operation_of invalid = none
+operation_of (jump m) = none
+operation_of (input t) = none
+operation_of input_any = none
+operation_of (write e) = none
+operation_of (input_choice c) = none
+operation_of (call_rule m) = none
+operation_of return = none
+operation_of (set_result v) = none
+operation_of (choice c) = none
+operation_of end_choice = none
+operation_of (set_parameter v) = none
+operation_of (update op) = some op
+operation_of (update_with op) = some op
+operation_of (choose op) = some op
+operation_of (choose_with op) = some op
 
 unfoldable pub allows : List ℕ → Option ℕ → Bool
 allows set none = true
@@ -40,7 +40,7 @@ allows set (some op) = granted set op
 
 -- the instruction at l is no operation, or one that is granted
 unfoldable pub right : List ℕ → List ℕ → ℕ → Bool
-right T set l = allows set (operationOf (decode T l))
+right T set l = allows set (operation_of (decode T l))
 
 -- "every operation at a location reachable in the sense of A.4 is granted"
 abbrev pub Admitted : List ℕ → List ℕ → Type 0
@@ -77,9 +77,9 @@ pub record Numbers : Type 0 where
   pub location : ℕ
 
 -- "the loaded table stays": with 48 its words and the verdict word are told as with 0
-unfoldable pub admitLoaded : List ℕ → Answer → Numbers
-admitLoaded set (done ws verdict) = let a = admit ws set in record { number = a.number; words = length ws; verdict = verdict; location = a.location }
-admitLoaded set (refused number) = record { number = number; words = 0; verdict = 0; location = 0 }
+unfoldable pub admit_loaded : List ℕ → Answer → Numbers
+admit_loaded set (done ws verdict) = let a = admit ws set in record { number = a.number; words = length ws; verdict = verdict; location = a.location }
+admit_loaded set (refused number) = record { number = number; words = 0; verdict = 0; location = 0 }
 
 -- what a call leaves with its caller
 abbrev pub tells : ℕ → ℕ → ℕ → ℕ → Numbers
@@ -87,5 +87,5 @@ tells number words verdict location = record { number = number; words = words; v
 
 -- all of this file computes where this is unfolded
 unfoldable pub opened : Unit {0}
-unfolding bit_of granted operationOf allows right lowest denied admit admitLoaded
+unfolding bit_of granted operation_of allows right lowest denied admit admit_loaded
 opened = tt

@@ -1,25 +1,25 @@
 -- What the functions that fill a sheet promise: the row of each rule has its location and its name.
 use Rattle.std.specs.Prelude.{List, ◌++◌, ◌≡◌, ℕ, ◌+◌, ◌-◌, ◌*◌, ◌%◌, ◌<◌, ◌≤◌, length, get_or, set}
-use Rattle.carrier.specs.Held.{numberHeld, nameHeld}
-use Rattle.carry.specs.Carry.{Name, written, name_of, writtenNames, levelNames, madeNames}
-use Rattle.declarations.specs.Decls.{Agrees, Decl, EntriesAt, entriesOf, operatorsFrom}
+use Rattle.carrier.specs.Held.{number_held, name_held}
+use Rattle.carry.specs.Carry.{Name, written, name_of, written_names, level_names, made_names}
+use Rattle.declarations.specs.Decls.{Agrees, Decl, EntriesAt, entries_of, operators_from}
 use Rattle.frontend.specs.Resolving.{Rowed}
 use Rattle.frontend.specs.declared.Resolved.{Resolved}
 use Rattle.grammar.specs.Derived.{OperatorsIn}
 use Rattle.maker.specs.Pairing.{PlaceOf}
-use Rattle.maker.specs.Pairs.{AllOrdered, pairsFrom, pairsMean}
+use Rattle.maker.specs.Pairs.{AllOrdered, pairs_from, pairs_mean}
 use Rattle.names.specs.Known.{good, KnownRule, Names}
 use Rattle.names.specs.Understand.{understand}
-use Rattle.names.specs.Uses.{Use, pairsOf}
-use Rattle.program.specs.Made.{levelsOf}
+use Rattle.names.specs.Uses.{Use, pairs_of}
+use Rattle.program.specs.Made.{levels_of}
 use Rattle.program.specs.Program.{Rule}
 use Rattle.program.specs.Table.{place}
 use Rattle.rulerows.specs.declared.Pair.{Pair}
 use Rattle.rulerows.specs.declared.Row.{Row}
-use Rattle.symbols.specs.Rows.{declAt, held}
+use Rattle.symbols.specs.Rows.{decl_at, held}
 use Rattle.symbols.specs.Search.{part}
 use Rattle.syntax.specs.Written.{Operator, Program}
-use Rattle.words.specs.Words.{Word, wordsAt}
+use Rattle.words.specs.Words.{Word, words_at}
 
 -- the six numbers of a row, from place i on
 abbrev pub set_row : List ℕ → ℕ → Row → List ℕ
@@ -28,13 +28,13 @@ set_row sheet i r = set (set (set (set (set (set sheet i r.location) (i + 1) r.s
 -- the rows from the k-th on have these names, and the places' locations; what stood before them stays
 pub record Puts (text places sheet sheet' : List ℕ) (k : ℕ) (names : List Name) : Type 0 where
   pub kept : (j : ℕ) → j < 6 * k → get_or sheet' j 0 ≡ get_or sheet j 0
-  pub located : (i : ℕ) → i < length names → numberHeld sheet' (k + i) 0 ≡ get_or places (k + i) 0 % 65536
-  pub named : (i : ℕ) → i < length names → nameHeld text sheet' (k + i) ≡ name_of names i
+  pub located : (i : ℕ) → i < length names → number_held sheet' (k + i) 0 ≡ get_or places (k + i) 0 % 65536
+  pub named : (i : ℕ) → i < length names → name_held text sheet' (k + i) ≡ name_of names i
 
 -- the first rows are those of so many rules that are written, by their declarations from the row `first` on, whatever the text
 pub record WrittenPut (rows : List ℕ) (first : ℕ) (places : List ℕ) (rules : ℕ) (sheet : List ℕ) : Type 0 where
-  pub located : (i : ℕ) → i < rules → numberHeld sheet i 0 ≡ get_or places i 0 % 65536
-  pub named : (text : List ℕ) (i : ℕ) → i < rules → nameHeld text sheet i ≡ written (declAt text rows (first + i)).name.text
+  pub located : (i : ℕ) → i < rules → number_held sheet i 0 ≡ get_or places i 0 % 65536
+  pub named : (text : List ℕ) (i : ℕ) → i < rules → name_held text sheet i ≡ written (decl_at text rows (first + i)).name.text
 
 -- pair j, by the declarations of its section and of its operand rule
 pub record PairOf (text rows : List ℕ) (j : ℕ) (q : Pair) : Type 0 where
@@ -52,25 +52,25 @@ pub record Named (text : List ℕ) (q : Pair) (u : Use) : Type 0 where
 -- the rules of a pair, one a level, from rule k on; they end at r
 pub record LevelsPut (text : List ℕ) (q : Pair) (places : List ℕ) (k rules : ℕ) (sheet sheet' : List ℕ) (r : ℕ) : Type 0 where
   pub low : r ≤ rules
-  pub ends : (ds : List Decl) (os : List Operator) (ws' : List Word) → OperatorsIn (wordsAt text q.at) ws' os → k + length (levelsOf (operatorsFrom ds os)) ≤ rules
-      → r ≡ k + length (levelsOf (operatorsFrom ds os))
-  pub puts : (ds : List Decl) (os : List Operator) (ws' : List Word) → OperatorsIn (wordsAt text q.at) ws' os → k + length (levelsOf (operatorsFrom ds os)) ≤ rules
-      → (u : Use) → Named text q u → Puts text places sheet sheet' k (levelNames u (levelsOf (operatorsFrom ds os)))
+  pub ends : (ds : List Decl) (os : List Operator) (ws' : List Word) → OperatorsIn (words_at text q.at) ws' os → k + length (levels_of (operators_from ds os)) ≤ rules
+      → r ≡ k + length (levels_of (operators_from ds os))
+  pub puts : (ds : List Decl) (os : List Operator) (ws' : List Word) → OperatorsIn (words_at text q.at) ws' os → k + length (levels_of (operators_from ds os)) ≤ rules
+      → (u : Use) → Named text q u → Puts text places sheet sheet' k (level_names u (levels_of (operators_from ds os)))
 
 -- the rules made for the pairs from the j-th on, from rule k on
 pub record MadePut (text rows : List ℕ) (b : Resolved) (j k : ℕ) (places sheet sheet' : List ℕ) : Type 0 where
-  pub puts : (p : Program) (names : Names) (ks : List KnownRule) → Agrees p names ks (held text rows b.declared) → EntriesAt text (held text rows b.declared) (entriesOf p)
-      → (us : List Use) → pairsFrom rows j (get_or rows 5632 0 - j) ≡ pairsMean names (held text rows b.declared) k us → AllOrdered (held text rows b.declared) us
-      → k + length (madeNames names us) ≤ b.rules → Puts text places sheet sheet' k (madeNames names us)
+  pub puts : (p : Program) (names : Names) (ks : List KnownRule) → Agrees p names ks (held text rows b.declared) → EntriesAt text (held text rows b.declared) (entries_of p)
+      → (us : List Use) → pairs_from rows j (get_or rows 5632 0 - j) ≡ pairs_mean names (held text rows b.declared) k us → AllOrdered (held text rows b.declared) us
+      → k + length (made_names names us) ≤ b.rules → Puts text places sheet sheet' k (made_names names us)
 
 -- the rows of a program: each rule has its location in the table and its name
 pub record RowsOf (text sheet : List ℕ) (p : Program) (prog : List Rule) (known : Names) : Type 0 where
-  pub locations : (i : ℕ) → i < length prog → numberHeld sheet i 0 ≡ place 1 prog i
-  pub names : (i : ℕ) → i < length prog → nameHeld text sheet i ≡ name_of (writtenNames p.rules ++ madeNames known (pairsOf p.rules)) i
+  pub locations : (i : ℕ) → i < length prog → number_held sheet i 0 ≡ place 1 prog i
+  pub names : (i : ℕ) → i < length prog → name_held text sheet i ≡ name_of (written_names p.rules ++ made_names known (pairs_of p.rules)) i
 
 -- the sheet of the program in the buffers, whatever text it was read from
 pub record Filled (text rows : List ℕ) (b : Resolved) (places sheet' : List ℕ) : Type 0 where
   pub long : length sheet' ≡ 770
-  pub rules-are : (p : Program) (prog : List Rule) (rowed : Rowed text rows b p) → understand p ≡ good prog → length prog ≡ b.rules
+  pub rules_are : (p : Program) (prog : List Rule) (rowed : Rowed text rows b p) → understand p ≡ good prog → length prog ≡ b.rules
       → ((r : ℕ) → r < b.rules → get_or places r 0 ≡ place 1 prog r) → ((r : ℕ) → r < b.rules → place 1 prog r < 65536)
       → RowsOf text sheet' p prog rowed.names

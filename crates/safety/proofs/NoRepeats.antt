@@ -10,18 +10,18 @@ use Rattle.acceptance.proofs.Accepts.{understood-accepted, accepted-table}
 use Rattle.acceptance.proofs.Distinct.{understood-distinct}
 use Rattle.acceptance.specs.Answers.{TableOf}
 use Rattle.agreement.proofs.Lay.{Entry, entries, Entries, entries-nil, entries-cons, LayAlts, alts-nil, alts-cons}
-use Rattle.base.specs.Bools.{and, not-both}
+use Rattle.base.specs.Bools.{and, not_both}
 use Rattle.base.specs.Common.{member}
 use Rattle.base.specs.Tree.{choice, ◌▸◌, otherwise}
 use Rattle.figure.proofs.Spots.{as-rule}
-use Rattle.figure.specs.Promise.{RuleStart, rule-start}
+use Rattle.figure.specs.Promise.{RuleStart, rule_start}
 use Rattle.loading.proofs.Members.{member-head, member-tail}
 use Rattle.loading.specs.Reach.{by_token, by_result}
 use Rattle.machine.specs.Decode.{fetch}
 use Rattle.program.proofs.Places.{place-first}
 use Rattle.program.specs.Accepted.{Accepted}
-use Rattle.program.specs.Labels.{once, labelsIn, distinct, distinctAll, distinctSome, distinctOther, distinctLabels}
-use Rattle.program.specs.Program.{Selector, Acts, Alts, Other, Rule, ruleOf, body_of}
+use Rattle.program.specs.Labels.{once, labels_in, distinct, distinct_all, distinct_some, distinct_other, distinct_labels}
+use Rattle.program.specs.Program.{Selector, Acts, Alts, Other, Rule, rule_of, body_of}
 use Rattle.program.specs.Table.{place, table}
 use Rattle.safety.specs.Reached.{Begun, first, called, NoRepeats, OneReach, TextRepeatsNot, TableReach, BegunRules}
 use Rattle.safety.proofs.Reached.{reached-alike}
@@ -29,39 +29,39 @@ use Rattle.safety.proofs.Written.{Has, has-rule, has_rest, has-cycle, has-altern
 
 -- What all rules have, each part of them has
 
-rule-distinct : (prog : List Rule) → distinctLabels prog ≡ true → (r : ℕ) → r < length prog → distinctAll (body_of prog r) ≡ true
-unfolding distinctLabels ruleOf body_of
+rule-distinct : (prog : List Rule) → distinct_labels prog ≡ true → (r : ℕ) → r < length prog → distinct_all (body_of prog r) ≡ true
+unfolding distinct_labels rule_of body_of
 rule-distinct [] h r l = absurd (omega arith)
-rule-distinct (b ∷ bs) h zero l = (and (distinctAll b.body) (distinctLabels bs) h).0
-rule-distinct (b ∷ bs) h (suc r) l = rule-distinct bs (and (distinctAll b.body) (distinctLabels bs) h).1 r (omega arith)
+rule-distinct (b ∷ bs) h zero l = (and (distinct_all b.body) (distinct_labels bs) h).0
+rule-distinct (b ∷ bs) h (suc r) l = rule-distinct bs (and (distinct_all b.body) (distinct_labels bs) h).1 r (omega arith)
 
 -- of a choice: its labels, its alternatives, its otherwise
 record Choice (q : Alts) (o : Other) : Type 0 where
-  labels : once (labelsIn q) ≡ true
-  some_of : distinctSome q ≡ true
-  other : distinctOther o ≡ true
+  labels : once (labels_in q) ≡ true
+  some_of : distinct_some q ≡ true
+  other : distinct_other o ≡ true
 
-choice-distinct : (s : Selector) (q : Alts) (o : Other) (r : Acts) → distinctAll (choice s q o ▸ r) ≡ true → Choice q o
+choice-distinct : (s : Selector) (q : Alts) (o : Other) (r : Acts) → distinct_all (choice s q o ▸ r) ≡ true → Choice q o
 unfolding distinct
 choice-distinct s q o r h =
-    let x = and (once (labelsIn q) && distinctSome q) (distinctOther o) (and (distinct (choice s q o)) (distinctAll r) h).0 in
-    let y = and (once (labelsIn q)) (distinctSome q) x.0 in
+    let x = and (once (labels_in q) && distinct_some q) (distinct_other o) (and (distinct (choice s q o)) (distinct_all r) h).0 in
+    let y = and (once (labels_in q)) (distinct_some q) x.0 in
     record { labels = y.0; some_of = y.1; other = x.1 }
 
-module _ (prog : List Rule) (h : distinctLabels prog ≡ true) where
+module _ (prog : List Rule) (h : distinct_labels prog ≡ true) where
   mutual
     unfolding distinct
 
-    has-distinct : {q : Acts} → Has prog q → distinctAll q ≡ true
+    has-distinct : {q : Acts} → Has prog q → distinct_all q ≡ true
     has-distinct (has-rule r l e) = rw e (rule-distinct prog h r l)
-    has-distinct (has_rest {a = a} {q = q} z) = (and (distinct a) (distinctAll q) (has-distinct z)).1
-    has-distinct (has-cycle {b = b} {q = q} z) = (and (distinctAll b) (distinctAll q) (has-distinct z)).0
-    has-distinct (has-alternative {b = b} {q = q} z) = (and (distinctAll b) (distinctSome q) (alts-distinct z)).0
+    has-distinct (has_rest {a = a} {q = q} z) = (and (distinct a) (distinct_all q) (has-distinct z)).1
+    has-distinct (has-cycle {b = b} {q = q} z) = (and (distinct_all b) (distinct_all q) (has-distinct z)).0
+    has-distinct (has-alternative {b = b} {q = q} z) = (and (distinct_all b) (distinct_some q) (alts-distinct z)).0
     has-distinct (has-otherwise {s = s} {q = q} {b = b} {r = r} z) = (choice-distinct s q (otherwise b) r (has-distinct z)).other
 
-    alts-distinct : {q : Alts} → HasAlts prog q → distinctSome q ≡ true
+    alts-distinct : {q : Alts} → HasAlts prog q → distinct_some q ≡ true
     alts-distinct (has-choice {s = s} {q = q} {o = o} {r = r} z) = (choice-distinct s q o r (has-distinct z)).some_of
-    alts-distinct (has-later {b = b} {q = q} z) = (and (distinctAll b) (distinctSome q) (alts-distinct z)).1
+    alts-distinct (has-later {b = b} {q = q} z) = (and (distinct_all b) (distinct_some q) (alts-distinct z)).1
 
 -- Choice tables
 
@@ -76,8 +76,8 @@ heads-entries [] l ps = refl
 heads-entries (v ∷ ls) l ps = ap (λ (vs : List ℕ). v ∷ vs) (heads-entries ls l ps)
 
 module _ (T : List ℕ) where
-  labels-are : {start : ℕ → ℕ} {prog : List Rule} {v : Bool} {q : Alts} {x y l : ℕ} {ps : List Entry} → LayAlts T start prog v q x y l ps → heads ps ≡ labelsIn q
-  unfolding heads labelsIn
+  labels-are : {start : ℕ → ℕ} {prog : List Rule} {v : Bool} {q : Alts} {x y l : ℕ} {ps : List Entry} → LayAlts T start prog v q x y l ps → heads ps ≡ labels_in q
+  unfolding heads labels_in
   labels-are alts-nil = refl
   labels-are (alts-cons {ls = ls} {l = l} {ps = ps} h d t) = heads-entries ls l ps ∙ ap (λ (vs : List ℕ). ls ++ vs) (labels-are t)
 
@@ -101,7 +101,7 @@ module _ (T : List ℕ) where
       let z : l + 2 * 0 ≡ l = omega arith in
       let y : l + 2 * suc j ≡ l + 2 + 2 * j = omega arith in
       let q : fetch T l ≡ fetch T (l + 2 + 2 * j) = rw (z, y) at e in
-      not-both (member u (heads ps)) (and (not (member u (heads ps))) (once (heads ps)) o).0 (entry-label t j u (omega arith) (sym q ∙ w))
+      not_both (member u (heads ps)) (and (not (member u (heads ps))) (once (heads ps)) o).0 (entry-label t j u (omega arith) (sym q ∙ w))
   entries-once {l} (entries-cons {v = u} {ps = ps} w f d t) o (suc i) (suc j) h k e =
       let z : l + 2 * suc i ≡ l + 2 + 2 * i = omega arith in
       let y : l + 2 * suc j ≡ l + 2 + 2 * j = omega arith in
@@ -111,7 +111,7 @@ module _ (prog : List Rule) (more : List ℕ) (a : Accepted prog) where
   abbrev Words : List ℕ
   Words = table prog ++ more
 
-  table-once : (c n i j : ℕ) → distinctLabels prog ≡ true → TableAt Words (place 1 prog) prog c → fetch Words c ≡ some n → i < j → j < n
+  table-once : (c n i j : ℕ) → distinct_labels prog ≡ true → TableAt Words (place 1 prog) prog c → fetch Words c ≡ some n → i < j → j < n
       → fetch Words (c + 2 * i + 1) ≡ fetch Words (c + 2 * j + 1) → ⊥
   table-once c n i j dl (table_at {s = s} {q = q} {o = o} {r = r} {ps = ps} z t la) e h k f =
       let len : n ≡ length ps = cc t.count in
@@ -119,14 +119,14 @@ module _ (prog : List Rule) (more : List ℕ) (a : Accepted prog) where
       let y : c + 2 * j + 1 ≡ c + 1 + 2 * j = omega arith in
       entries-once Words t.all (rw (labels-are Words la) (choice-distinct s q o r (has-distinct prog dl z)).labels) i j h (rw len at k) (rw (x, y) at f)
 
-  program-once : distinctLabels prog ≡ true → NoRepeats Words
+  program-once : distinct_labels prog ≡ true → NoRepeats Words
   unfolding Refers
   program-once dl l c n i j r (by_token d e t) = table-once c n i j dl (rw d at (program-refers prog more a r)) e
   program-once dl l c n i j r (by_result d e t) = table-once c n i j dl (rw d at (program-refers prog more a r)) e
 
   program-begun : {s : ℕ} → Begun Words s → RuleStart prog s
   unfolding Refers
-  program-begun first = rule-start 0 a.some-rule (sym (place-first 1 prog))
+  program-begun first = rule_start 0 a.some_rule (sym (place-first 1 prog))
   program-begun (called r d) = as-rule (rw d at (program-refers prog more a r))
 
 -- The theorems
@@ -142,4 +142,4 @@ table-reach text room words verdict e =
     let t : TableOf text room words verdict = accepted-table text room words verdict e in
     let no-two : NoRepeats words = rw t.words_are (rw (append-nil (table t.prog)) at (text-repeats-not text t.prog [] t.means)) in
     let tied : OneReach words = reached-alike words (written-taken text room words verdict e) in
-    record { all-these = tied.all-these no-two; only-these = tied.only-these }
+    record { all_these = tied.all_these no-two; only_these = tied.only_these }

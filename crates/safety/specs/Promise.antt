@@ -4,7 +4,7 @@ use Rattle.agreement.specs.Demand.{Listed}
 use Rattle.events.specs.Events.{Event}
 use Rattle.machine.specs.Walk.{Walk}
 use Rattle.processor.specs.Process.{accepted, process}
-use Rattle.loading.specs.File.{fileBytes, done, load}
+use Rattle.loading.specs.File.{file_bytes, done, load}
 use Rattle.loading.specs.Reach.{Taken}
 
 -- no list of calls over the table T from a fresh walk, with any allowance, tokens and answers, has a call that answers 37
@@ -25,7 +25,7 @@ LoadedNever37 =
 
 -- what stands behind a taken table, in the lent buffer, changes nothing: a list of calls leads to the same walk, events, steps and numbers with it and without it
 pub record SameBehind (T more tokens answers : List ℕ) (allowance : ℕ) : Type 0 where
-  pub with-more : {w : Walk} {es : List Event} {n : ℕ} {ns : List ℕ} → Listed T tokens answers allowance w es n ns → Listed (T ++ more) tokens answers allowance w es n ns
+  pub with_more : {w : Walk} {es : List Event} {n : ℕ} {ns : List ℕ} → Listed T tokens answers allowance w es n ns → Listed (T ++ more) tokens answers allowance w es n ns
   pub without : {w : Walk} {es : List Event} {n : ℕ} {ns : List ℕ} → Listed (T ++ more) tokens answers allowance w es n ns → Listed T tokens answers allowance w es n ns
 
 abbrev pub BehindNothing : Type 0
@@ -44,4 +44,4 @@ claim_of false = 0
 abbrev pub AcceptedLoads : Type 0
 AcceptedLoads =
     (text : List ℕ) (room : ℕ) (words : List ℕ) (verdict : Bool) (room' : ℕ) → process text room ≡ accepted words verdict → length words ≤ room'
-    → load (fileBytes words (claim_of verdict)) room' ≡ done words (claim_of verdict)
+    → load (file_bytes words (claim_of verdict)) room' ≡ done words (claim_of verdict)

@@ -1,10 +1,10 @@
 -- What rights over the operations promise of walks. The proof is in proofs/Rights.antt.
 use Rattle.std.specs.Prelude.{Bool, true, List, [], ◌∷◌, ◌++◌, ◌≡◌, ℕ}
 use Rattle.agreement.specs.Demand.{Listed}
-use Rattle.events.specs.Events.{Event, output, signal, repair, operation, operationWith}
+use Rattle.events.specs.Events.{Event, output, signal, repair, operation, operation_with}
 use Rattle.loading.specs.File.{done, load}
 use Rattle.machine.specs.Walk.{Walk}
-use Rattle.rights.specs.Rights.{granted, admit, admitLoaded}
+use Rattle.rights.specs.Rights.{granted, admit, admit_loaded}
 
 -- the event is no operation's, or one of the set's
 unfoldable pub within : List ℕ → Event → Bool
@@ -12,12 +12,12 @@ within set (output t) = true
 within set (signal n) = true
 within set (repair t) = true
 within set (operation op) = granted set op
-within set (operationWith op v) = granted set op
+within set (operation_with op v) = granted set op
 
 -- all of them are
 pub data Within (set : List ℕ) : List Event → Type 0 where
-  within-nil : Within set []
-  within-cons : {e : Event} {es : List Event} → within set e ≡ true → Within set es → Within set (e ∷ es)
+  within_nil : Within set []
+  within_cons : {e : Event} {es : List Event} → within set e ≡ true → Within set es → Within set (e ∷ es)
 
 -- no list of calls over the table T from a fresh walk, with any allowance, tokens and answers, writes an event of an operation outside the set
 abbrev pub Keeps : List ℕ → List ℕ → Type 0
@@ -32,4 +32,4 @@ AdmittedKeeps = (T more set : List ℕ) → (admit T set).number ≡ 0 → Keeps
 abbrev pub LoadedKeeps : Type 0
 LoadedKeeps =
     (file set : List ℕ) (room : ℕ) (ws : List ℕ) (verdict : ℕ) (more : List ℕ) → load file room ≡ done ws verdict
-    → (admitLoaded set (load file room)).number ≡ 0 → Keeps (ws ++ more) set
+    → (admit_loaded set (load file room)).number ≡ 0 → Keeps (ws ++ more) set

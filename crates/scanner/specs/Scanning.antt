@@ -1,21 +1,20 @@
 -- What the functions inside the scanner promise.
-use Rattle.std.specs.Prelude.{◌≡◌, Bool, false, not, List, [], ◌∷◌, ℕ, suc, ◌+◌, ◌≤◌, ◌<◌, eqb, length, get_or, take, drop}
-use Rattle.base.specs.Common.{if◌then◌else◌}
+use Rattle.std.specs.Prelude.{◌≡◌, Bool, false, not, List, [], ◌∷◌, ℕ, suc, ◌+◌, ◌≤◌, ◌<◌, eqb, length, get_or, take, drop, if◌then◌else◌}
 use Rattle.scanner.specs.declared.Class.{Class}
 use Rattle.scanner.specs.declared.Class.TheVariants.{Name, Digit, Inside, Line}
 use Rattle.scanner.specs.declared.WordAt.{WordAt}
-use Rattle.words.specs.Words.{Found, Spelling, spelling, input, output, error, type, mechanism, rules, end, number, twice, bad, kind_of, reserved, run, digit, nameByte, stringByte, symbol, blank, wordsAt}
+use Rattle.words.specs.Words.{Found, Spelling, spelling, input, output, error, type, mechanism, rules, end, number, twice, bad, kind_of, reserved, run, digit, name_byte, string_byte, symbol, blank, words_at}
 use Prim.Native.Char.{code}
 
-abbrev pub inClass : Class → ℕ → Bool
-inClass Name b = nameByte b
-inClass Digit b = digit b
-inClass Inside b = stringByte b
-inClass Line b = not (eqb b 10)
+abbrev pub in_class : Class → ℕ → Bool
+in_class Name b = name_byte b
+in_class Digit b = digit b
+in_class Inside b = string_byte b
+in_class Line b = not (eqb b 10)
 
 -- r bytes from `at` on are of the class, and not the byte after them
 pub record Ran (text : List ℕ) (at : ℕ) (class : Class) (r : ℕ) : Type 0 where
-  pub count : r ≡ run (inClass class) (drop at text)
+  pub count : r ≡ run (in_class class) (drop at text)
   pub inside : at + r ≤ length text
 
 -- the reserved words in three parts
@@ -31,21 +30,21 @@ others = spelling "mechanism" mechanism ∷ spelling "rules" rules ∷ spelling 
 abbrev pub found : ℕ → ℕ → Found
 found k n = record { kind = k; size = n }
 
--- what `wordHere` gives for a letter, a digit, `>` and any other byte
-unfoldable pub nameHere : ℕ → List ℕ → Found
-nameHere b s = found (kind_of (take (suc (run nameByte s)) (b ∷ s)) reserved) (suc (run nameByte s))
+-- what `word_here` gives for a letter, a digit, `>` and any other byte
+unfoldable pub name_here : ℕ → List ℕ → Found
+name_here b s = found (kind_of (take (suc (run name_byte s)) (b ∷ s)) reserved) (suc (run name_byte s))
 
-unfoldable pub numberHere : List ℕ → Found
-numberHere s = found number (suc (run digit s))
+unfoldable pub number_here : List ℕ → Found
+number_here s = found number (suc (run digit s))
 
-unfoldable pub greaterHere : List ℕ → Found
-greaterHere s = if eqb (get_or s 0 0) (code ">") then found twice 2 else found (code ">") 1
+unfoldable pub greater_here : List ℕ → Found
+greater_here s = if eqb (get_or s 0 0) (code ">") then found twice 2 else found (code ">") 1
 
-unfoldable pub symbolHere : ℕ → Found
-symbolHere b = if eqb b (code "!") then found (code "|") 1 else if symbol b then found b 1 else found bad 1
+unfoldable pub symbol_here : ℕ → Found
+symbol_here b = if eqb b (code "!") then found (code "|") 1 else if symbol b then found b 1 else found bad 1
 
-abbrev pub wordFound : ℕ → ℕ → ℕ → WordAt
-wordFound kind start len = record { kind = kind; start = start; len = len; next = start + len }
+abbrev pub word_found : ℕ → ℕ → ℕ → WordAt
+word_found kind start len = record { kind = kind; start = start; len = len; next = start + len }
 
 -- the word w at the place `at` has this kind and length
 pub record Spelt (text : List ℕ) (at : ℕ) (is : Found) (w : WordAt) : Type 0 where
@@ -60,6 +59,6 @@ pub record Spelt (text : List ℕ) (at : ℕ) (is : Found) (w : WordAt) : Type 0
 pub record Skipped (text : List ℕ) (at r : ℕ) : Type 0 where
   pub low : at ≤ r
   pub high : r ≤ length text
-  pub same : wordsAt text at ≡ wordsAt text r
+  pub same : words_at text at ≡ words_at text r
   pub solid : r < length text → blank (get_or text r 0) ≡ false
   pub plain : r < length text → get_or text r 0 ≡ 37 → ⊥

@@ -1,9 +1,9 @@
 // From bytes to words: the first word from a place of a text on.
 ghost use Rattle.std.specs.Prelude.{◌≡◌, ◌+◌, ◌^◌, ◌≤◌, ◌<◌, length, take, drop, get_or};
 ghost use Rattle.base.specs.Common.{same};
-ghost use Rattle.words.specs.Words.{blank, symbol, digit, letter, nameByte, stringByte, kind_of, reserved, stringHere, wordHere};
+ghost use Rattle.words.specs.Words.{blank, symbol, digit, letter, name_byte, string_byte, kind_of, reserved, string_here, word_here};
 ghost use Rattle.scanner.specs.Next.{Next};
-ghost use Rattle.scanner.specs.Scanning.{inClass, Ran, brackets, heads, others, nameHere, numberHere, greaterHere, symbolHere, wordFound, Spelt, Skipped};
+ghost use Rattle.scanner.specs.Scanning.{in_class, Ran, brackets, heads, others, name_here, number_here, greater_here, symbol_here, word_found, Spelt, Skipped};
 
 use base::byte_word;
 
@@ -78,7 +78,7 @@ fn is_letter(b: u8) -> bool
 }
 
 fn is_name_byte(b: u8) -> bool
-    ensures { result ≡ nameByte b }
+    ensures { result ≡ name_byte b }
 {
     if b'a' <= b {
         return b <= b'z';
@@ -93,7 +93,7 @@ fn is_name_byte(b: u8) -> bool
 }
 
 fn is_string_byte(b: u8) -> bool
-    ensures { result ≡ stringByte b }
+    ensures { result ≡ string_byte b }
 {
     if b == b'\'' {
         return false;
@@ -102,7 +102,7 @@ fn is_string_byte(b: u8) -> bool
 }
 
 fn in_class(class: Class, b: u8) -> bool
-    ensures { result ≡ inClass class b }
+    ensures { result ≡ in_class class b }
 {
     match class {
         Class::Name => is_name_byte(b),
@@ -216,7 +216,7 @@ fn kind_of(text: &[u8], start: usize, len: usize) -> u16
 
 fn found(kind: u16, start: usize, len: usize) -> WordAt
     requires { start + len < 2 ^ 64 }
-    ensures { result ≡ wordFound kind start len }
+    ensures { result ≡ word_found kind start len }
 {
     WordAt {
         kind,
@@ -228,7 +228,7 @@ fn found(kind: u16, start: usize, len: usize) -> WordAt
 
 fn name_here(text: &[u8], at: usize) -> WordAt
     requires { at < length text.now }
-    ensures { Spelt text.now at (nameHere (get_or text.now at 0) (drop (at + 1) text.now)) result }
+    ensures { Spelt text.now at (name_here (get_or text.now at 0) (drop (at + 1) text.now)) result }
 {
     let n = run_of(text, at + 1, Class::Name);
     let kind = kind_of(text, at, n + 1);
@@ -237,7 +237,7 @@ fn name_here(text: &[u8], at: usize) -> WordAt
 
 fn number_here(text: &[u8], at: usize) -> WordAt
     requires { at < length text.now }
-    ensures { Spelt text.now at (numberHere (drop (at + 1) text.now)) result }
+    ensures { Spelt text.now at (number_here (drop (at + 1) text.now)) result }
 {
     let n = run_of(text, at + 1, Class::Digit);
     found(words::NUMBER, at, n + 1)
@@ -245,7 +245,7 @@ fn number_here(text: &[u8], at: usize) -> WordAt
 
 fn string_here(text: &[u8], at: usize) -> WordAt
     requires { at < length text.now }
-    ensures { Spelt text.now at (stringHere (drop (at + 1) text.now)) result }
+    ensures { Spelt text.now at (string_here (drop (at + 1) text.now)) result }
 {
     let n = run_of(text, at + 1, Class::Inside);
     if n < 1 {
@@ -267,7 +267,7 @@ fn string_here(text: &[u8], at: usize) -> WordAt
 
 fn greater_here(text: &[u8], at: usize) -> WordAt
     requires { at < length text.now }
-    ensures { Spelt text.now at (greaterHere (drop (at + 1) text.now)) result }
+    ensures { Spelt text.now at (greater_here (drop (at + 1) text.now)) result }
 {
     let e = at + 1;
     if e < text.len() {
@@ -282,7 +282,7 @@ fn greater_here(text: &[u8], at: usize) -> WordAt
 
 fn symbol_here(text: &[u8], at: usize) -> WordAt
     requires { at < length text.now }
-    ensures { Spelt text.now at (symbolHere (get_or text.now at 0)) result }
+    ensures { Spelt text.now at (symbol_here (get_or text.now at 0)) result }
 {
     let b = text[at];
     if b == b'!' {
@@ -296,7 +296,7 @@ fn symbol_here(text: &[u8], at: usize) -> WordAt
 
 fn word_here(text: &[u8], at: usize) -> WordAt
     requires { at < length text.now }
-    ensures { Spelt text.now at (wordHere (get_or text.now at 0) (drop (at + 1) text.now)) result }
+    ensures { Spelt text.now at (word_here (get_or text.now at 0) (drop (at + 1) text.now)) result }
 {
     let b = text[at];
     if is_letter(b) {

@@ -12,7 +12,7 @@ use Rattle.machine.specs.Call
 use Rattle.machine.specs.Call.{whole, paused}
 use Rattle.machine.specs.Decode
 use Rattle.machine.specs.Form
-use Rattle.machine.specs.Form.{Outcome, walkBytes}
+use Rattle.machine.specs.Form.{Outcome, walk_bytes}
 use Rattle.machine.specs.Lengths
 use Rattle.machine.specs.Step
 use Rattle.machine.specs.Walk
@@ -20,7 +20,7 @@ use Rattle.machine.specs.Walk.{fresh}
 use Rattle.screen.specs.Items
 use Rattle.screen.specs.Items.{Item, turn, refill, heard, lefts, spent, granted}
 use Rattle.screen.specs.Screen
-use Rattle.screen.specs.Screen.{turnBytes, refillNumber, refillBytes, screenNumber, freshBytes}
+use Rattle.screen.specs.Screen.{turn_bytes, refill_number, refill_bytes, screen_number, fresh_bytes}
 
 -- the table: { (?).9 768 }: read a token, emit 9, a choice operation, and back
 abbrev table : List ℕ
@@ -28,7 +28,7 @@ table = 0 ∷ 4 ∷ 0 ∷ 5 ∷ 0 ∷ 9 ∷ 3 ∷ 0 ∷ 0 ∷ 2 ∷ 0 ∷ 5 ∷ 
 
 -- a fresh screen with repair allowances
 abbrev begun : List ℕ
-begun = freshBytes 0 3 (replicate 332 170)
+begun = fresh_bytes 0 3 (replicate 332 170)
 
 -- number, events written and steps done of each turn, the last first
 unfoldable pub told : List Outcome → List ℕ
@@ -50,9 +50,9 @@ holds (runs items first second left₀ left₁) =
     same (told (heard table 0 items begun)) first && same (told (heard table 1 items begun)) second && same (lefts table 0 items begun) left₀ && same (lefts table 1 items begun) left₁
 holds (counts items b done set) = eqb (spent table b items begun) done && eqb (granted b items begun) set
 holds (refuses b r) =
-    let g = turnBytes table (0 ∷ 7 ∷ []) (whole (1 ∷ [])) b r (1 ∷ 2 ∷ 3 ∷ []) in
+    let g = turn_bytes table (0 ∷ 7 ∷ []) (whole (1 ∷ [])) b r (1 ∷ 2 ∷ 3 ∷ []) in
     eqb g.number 21 && same g.screen r && same g.buffer (1 ∷ 2 ∷ 3 ∷ []) && eqb g.events 0 && eqb g.steps 0
-holds (refills b n r number s) = eqb (refillNumber b r) number && same (refillBytes b n r) s
+holds (refills b n r number s) = eqb (refill_number b r) number && same (refill_bytes b n r) s
 
 unfoldable pub all : List Case → Bool
 all [] = true
@@ -70,7 +70,7 @@ one-answered = turn 1 (0 ∷ 7 ∷ []) (paused (some 5)) (replicate 60 170)
 
 -- a fresh walk and eight bytes more
 abbrev seat : List ℕ
-seat = walkBytes (fresh 3) ++ replicate 8 1
+seat = walk_bytes (fresh 3) ++ replicate 8 1
 
 unfoldable pub cases : List Case
 cases =
@@ -90,7 +90,7 @@ cases =
     ∷ runs (one-paused ∷ refill 1 18446744073709551615 ∷ []) [] (22 ∷ 2 ∷ 3 ∷ []) [] (18446744073709551612 ∷ 18446744073709551615 ∷ [])
     -- another number, a byte more or less, bytes of this book that are no walk
     ∷ refuses 2 (seat ++ seat)
-    ∷ refuses 0 (seat ++ walkBytes (fresh 3) ++ replicate 7 1)
+    ∷ refuses 0 (seat ++ walk_bytes (fresh 3) ++ replicate 7 1)
     ∷ refuses 0 (seat ++ seat ++ replicate 1 1)
     ∷ refuses 0 (replicate 158 9 ++ replicate 8 1 ++ seat)
     ∷ refuses 1 (seat ++ replicate 158 9 ++ replicate 8 1)
@@ -106,8 +106,8 @@ unfolding all holds told cases Events.opened Bytes.opened Lengths.opened Decode.
 all_hold = tt
 
 -- both books begin, each with its own allowance and no steps left; another length is refused and kept
-pub begins : T (eqb (screenNumber (replicate 332 9)) 0 && eqb (screenNumber (replicate 331 9)) 21 && eqb (screenNumber (replicate 333 9)) 21
-    && same (freshBytes 1 258 (replicate 332 9)) (walkBytes (fresh 1) ++ (replicate 8 0 ++ (walkBytes (fresh 258) ++ replicate 8 0)))
-    && same (freshBytes 1 258 (replicate 331 9)) (replicate 331 9))
+pub begins : T (eqb (screen_number (replicate 332 9)) 0 && eqb (screen_number (replicate 331 9)) 21 && eqb (screen_number (replicate 333 9)) 21
+    && same (fresh_bytes 1 258 (replicate 332 9)) (walk_bytes (fresh 1) ++ (replicate 8 0 ++ (walk_bytes (fresh 258) ++ replicate 8 0)))
+    && same (fresh_bytes 1 258 (replicate 331 9)) (replicate 331 9))
 unfolding Events.opened Bytes.opened Walk.opened Form.opened Screen.opened
 begins = tt

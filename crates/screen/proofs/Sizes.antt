@@ -7,51 +7,52 @@ use Prim.Native.Nat.{ℕ, zero, suc, ◌+◌, ◌-◌, ◌≤◌, ◌<◌}
 use native.Mathlib.Omega.{arith}
 use lib.Dec.{ltb}
 use lib.ListN.{length, get_or, length-append, length-take, length-drop, length-reverse}
-use Rattle.base.specs.Common.{if◌then◌else◌, same}
+use Rattle.std.specs.Prelude.{if◌then◌else◌}
+use Rattle.base.specs.Common.{same}
 use Rattle.base.specs.Bools.{never, split}
 use Rattle.events.specs.Events.{Event, Reason, outside, unanswered, answer}
 use Rattle.machine.proofs.Form.{length-walk}
 use Rattle.machine.proofs.Words.{small-words, number64-words64, words64-number64}
-use Rattle.machine.proofs.Bytes.{wordsOf-bytesOf, length-bytesOf, length-wordsOf, bytesOf-wordsOf}
+use Rattle.machine.proofs.Bytes.{words_of-bytes_of, length-bytes_of, length-words_of, bytes_of-words_of}
 use Rattle.machine.specs.Bytes.{count, words_of, table_of, bytes_of}
 use Rattle.machine.specs.Call as call
-use Rattle.machine.specs.Call.{Mode, whole, paused, Called, ends, endsFor, writing, takes, handsOut, run, call_in, callWalk}
-use Rattle.machine.specs.Form.{words64, walkBytes, number64, walkNamed, walk_of, outcome, callBytes}
-use Rattle.machine.specs.Step.{Next, goesOutside, stops, goes, tells, asks, step}
+use Rattle.machine.specs.Call.{Mode, whole, paused, Called, ends, ends_for, writing, takes, hands_out, run, call_in, call_walk}
+use Rattle.machine.specs.Form.{words64, walk_bytes, number64, walk_named, walk_of, outcome, call_bytes}
+use Rattle.machine.specs.Step.{Next, goes_outside, stops, goes, tells, asks, step}
 use Rattle.machine.specs.Walk as walks
-use Rattle.screen.specs.Screen.{bookSize, freshBook}
-use Rattle.machine.specs.Walk.{Phase, going, waiting, stopped, Walk, atRest, withAnswer, inPhase, fresh}
+use Rattle.screen.specs.Screen.{book_size, fresh_book}
+use Rattle.machine.specs.Walk.{Phase, going, waiting, stopped, Walk, at_rest, with_answer, in_phase, fresh}
 
 abbrev Shallow : Walk → Type 0
 Shallow w = length w.returns ≤ 64
 
-pub length-fresh : (a : ℕ) → length (walkBytes (fresh a)) ≡ 158
+pub length-fresh : (a : ℕ) → length (walk_bytes (fresh a)) ≡ 158
 unfolding fresh
 length-fresh a = length-walk (fresh a) (omega arith)
 
 pub length-counter : (n : ℕ) → length (bytes_of (words64 n)) ≡ 8
 unfolding words64
-length-counter n = length-bytesOf (words64 n)
+length-counter n = length-bytes_of (words64 n)
 
-pub length-freshBook : (a : ℕ) → length (freshBook a) ≡ bookSize
-unfolding freshBook
-length-freshBook a = length-append (walkBytes (fresh a)) (bytes_of (words64 0)) ∙ omega (arith, length-fresh a, length-counter 0)
+pub length-fresh_book : (a : ℕ) → length (fresh_book a) ≡ book_size
+unfolding fresh_book
+length-fresh_book a = length-append (walk_bytes (fresh a)) (bytes_of (words64 0)) ∙ omega (arith, length-fresh a, length-counter 0)
 
 pub counter-back : (n : ℕ) → number64 (words_of (bytes_of (words64 n))) ≡ n
 unfolding words64
-counter-back n = ap number64 (wordsOf-bytesOf (words64 n)) ∙ number64-words64 n []
+counter-back n = ap number64 (words_of-bytes_of (words64 n)) ∙ number64-words64 n []
 
 -- a walk that is read from bytes holds 64 return locations or fewer
-shallow-named : (ws : List ℕ) → Shallow (walkNamed ws)
-unfolding walkNamed
+shallow-named : (ws : List ℕ) → Shallow (walk_named ws)
+unfolding walk_named
 shallow-named ws = simp (length-reverse, length-take, length-drop) (omega arith)
 
 pub shallow-read : (s : List ℕ) (w : Walk) → walk_of s ≡ some w → Shallow w
 unfolding walk_of
 shallow-read s w e =
-    split (same (walkBytes (walkNamed (words_of s))) s)
-    (λ t. let v : some (walkNamed (words_of s)) ≡ some w = rw t at e in
-    let u : walkNamed (words_of s) ≡ w = cc in
+    split (same (walk_bytes (walk_named (words_of s))) s)
+    (λ t. let v : some (walk_named (words_of s)) ≡ some w = rw t at e in
+    let u : walk_named (words_of s) ≡ w = cc in
     subst Shallow u (shallow-named (words_of s)))
     (λ f. let v : none ≡ some w = rw f at e in let z : ◌≡◌ {A = Bool} false true = cc in never z)
 
@@ -63,9 +64,9 @@ shallow-ends : (number n : ℕ) (w : Walk) → Gives (ends number n w)
 unfolding ends walks.opened
 shallow-ends number n w = omega (arith, length-drop (length w.returns - 64) w.returns)
 
-shallow-endsFor : (r : Reason) (n : ℕ) (w : Walk) → Gives (endsFor r n w)
-unfolding endsFor
-shallow-endsFor r n w = shallow-ends (Rattle.events.specs.Events.reasonNumber r) n (inPhase (stopped r) w)
+shallow-ends_for : (r : Reason) (n : ℕ) (w : Walk) → Gives (ends_for r n w)
+unfolding ends_for
+shallow-ends_for r n w = shallow-ends (Rattle.events.specs.Events.reason_number r) n (in_phase (stopped r) w)
 
 abbrev After : (ℕ → Walk → Called) → call.Turn → Called
 After f (call.over c) = c
@@ -74,13 +75,13 @@ After f (call.further room v) = f room v
 module _ (f : ℕ → Walk → Called) (rest : (room : ℕ) (v : Walk) → Gives (f room v)) where
   taking : (o : Option ℕ) (room n : ℕ) (w : Walk) (e : Event) (v : Walk) → Gives (After f (takes o room n w e v))
   unfolding takes
-  taking none room n w e v = shallow-endsFor unanswered (n + 1) w
-  taking (some x) room n w e v = rest (room - 3) (withAnswer x (writing e v))
+  taking none room n w e v = shallow-ends_for unanswered (n + 1) w
+  taking (some x) room n w e v = rest (room - 3) (with_answer x (writing e v))
 
-  handing : (m : Mode) (room n : ℕ) (w : Walk) (e : Event) (v : Walk) → Gives (After f (handsOut m room n w e v))
-  unfolding handsOut
+  handing : (m : Mode) (room n : ℕ) (w : Walk) (e : Event) (v : Walk) → Gives (After f (hands_out m room n w e v))
+  unfolding hands_out
   handing (whole given) room n w e v = taking (answer given w.io) room n w e v
-  handing (paused x) room n w e v = shallow-ends call.waits (n + 1) (inPhase waiting (writing e v))
+  handing (paused x) room n w e v = shallow-ends call.waits (n + 1) (in_phase waiting (writing e v))
 
   either : (t : Bool) (x y : call.Turn) → Gives (After f x) → Gives (After f y) → Gives (After f (if t then x else y))
   either true x y p q = p
@@ -88,11 +89,11 @@ module _ (f : ℕ → Walk → Called) (rest : (room : ℕ) (v : Walk) → Gives
 
   turned : (m : Mode) (room n : ℕ) (w : Walk) (nx : Next) → Gives (After f (call.turn m room n w nx))
   unfolding call.turn
-  turned m room n w goesOutside = shallow-endsFor outside n w
-  turned m room n w (stops r) = shallow-endsFor r (n + 1) w
+  turned m room n w goes_outside = shallow-ends_for outside n w
+  turned m room n w (stops r) = shallow-ends_for r (n + 1) w
   turned m room n w (goes v) = rest room v
   turned m room n w (tells e v) = either (ltb room 3) (call.over (ends 35 n w)) (call.further (room - 3) (writing e v)) (shallow-ends 35 n w) (rest (room - 3) (writing e v))
-  turned m room n w (asks e v) = either (ltb room 3) (call.over (ends 35 n w)) (handsOut m room n w e v) (shallow-ends 35 n w) (handing m room n w e v)
+  turned m room n w (asks e v) = either (ltb room 3) (call.over (ends 35 n w)) (hands_out m room n w e v) (shallow-ends 35 n w) (handing m room n w e v)
 
 module _ (T tokens : List ℕ) where
   ran : (b : ℕ) (m : Mode) (room n : ℕ) (w : Walk) → Gives (run T tokens b m room n w)
@@ -108,23 +109,23 @@ module _ (T tokens : List ℕ) where
 
   in-phase : (p : Phase) (m : Mode) (budget room : ℕ) (w : Walk) → Shallow w → Gives (call_in T tokens p m budget room w)
   unfolding call_in
-  in-phase going (whole given) budget room w h = ran budget (whole given) room 0 (atRest w)
-  in-phase going (paused none) budget room w h = ran budget (paused none) room 0 (atRest w)
+  in-phase going (whole given) budget room w h = ran budget (whole given) room 0 (at_rest w)
+  in-phase going (paused none) budget room w h = ran budget (paused none) room 0 (at_rest w)
   in-phase going (paused (some x)) budget room w h = h
   in-phase waiting (whole given) budget room w h = h
   in-phase waiting (paused none) budget room w h = h
-  in-phase waiting (paused (some x)) budget room w h = ran budget (paused none) room 0 (withAnswer x (atRest w))
+  in-phase waiting (paused (some x)) budget room w h = ran budget (paused none) room 0 (with_answer x (at_rest w))
   in-phase (stopped r) (whole given) budget room w h = h
   in-phase (stopped r) (paused none) budget room w h = h
   in-phase (stopped r) (paused (some x)) budget room w h = h
 
 pub length-call : (table tokens : List ℕ) (m : Mode) (budget : ℕ) (walk buffer : List ℕ) → length walk ≡ 158
-    → length (callBytes table tokens m budget walk buffer).walk ≡ 158
-unfolding callBytes outcome callWalk
+    → length (call_bytes table tokens m budget walk buffer).walk ≡ 158
+unfolding call_bytes outcome call_walk
 length-call table tokens m budget walk buffer h = go (walk_of walk) refl
   where
     f : Walk → Called
-    f = callWalk (table_of table) (words_of tokens) m budget (count buffer)
+    f = call_walk (table_of table) (words_of tokens) m budget (count buffer)
 
     go : (x : Option Walk) → walk_of walk ≡ x → length (outcome x walk buffer f).walk ≡ 158
     go none d = h
@@ -142,4 +143,4 @@ number_same (a ∷ b ∷ c ∷ d ∷ e ∷ ws) k h = absurd (omega arith)
 
 pub counter-same : (s : List ℕ) → ((i : ℕ) → get_or s i 0 < 256) → length s ≡ 8 → bytes_of (words64 (number64 (words_of s))) ≡ s
 unfolding count
-counter-same s b k = ap bytes_of (number_same (words_of s) (length-wordsOf s ∙ omega arith) (small-words s b)) ∙ bytesOf-wordsOf s b (omega arith)
+counter-same s b k = ap bytes_of (number_same (words_of s) (length-words_of s ∙ omega arith) (small-words s b)) ∙ bytes_of-words_of s b (omega arith)

@@ -8,19 +8,19 @@ use native.Mathlib.Omega.{arith}
 use lib.Dec.{eqb, ltb}
 use lib.ListN.{length, get_or}
 use borrow.Author.Tests.{lt-ltb, le-ltb, ltb-true, ltb-false, eqb-true, eqb-false, eq-eqb, ne_eqb}
-use Rattle.base.specs.Common.{if◌then◌else◌}
+use Rattle.std.specs.Prelude.{if◌then◌else◌}
 use Rattle.base.specs.Bools.{both, and, split, never}
 use Rattle.machine.proofs.Keeps.{steps-budget}
 use Rattle.machine.proofs.Refused.{refused-unchanged}
 use Rattle.machine.specs.Bytes.{count, words_of, table_of, bytes_of}
-use Rattle.machine.specs.Call.{Mode, Called, callWalk}
-use Rattle.machine.specs.Form.{words64, number64, walk_of, Outcome, outcome, callBytes}
+use Rattle.machine.specs.Call.{Mode, Called, call_walk}
+use Rattle.machine.specs.Form.{words64, number64, walk_of, Outcome, outcome, call_bytes}
 use Rattle.machine.specs.Walk.{Walk}
 use Rattle.screen.proofs.Cuts.{length_cut, length-patch, cut-patch, cut-before, cut-behind, patch-same, small_cut}
 use Rattle.screen.proofs.Sizes.{length-call, length-counter, counter-back, counter-same}
-use Rattle.screen.specs.Items.{Item, turn, refill, bookOf, ownView, screenAfter, after, spent, granted}
+use Rattle.screen.specs.Items.{Item, turn, refill, book_of, own_view, screen_after, after, spent, granted}
 use Rattle.screen.specs.Promise.{OneTurn, EveryTurn, KeepsAllowance}
-use Rattle.screen.specs.Screen.{cut, patch, bookSize, screenSize, walkIn, leftIn, withLeft, isScreen, isBook, Turned, taken, turnedAway, turnBytes, refillBytes}
+use Rattle.screen.specs.Screen.{cut, patch, book_size, screen_size, walk_in, left_in, with_left, is_screen, is_book, Turned, taken, turned_away, turn_bytes, refill_bytes}
 
 -- both outcomes of a test
 
@@ -34,37 +34,37 @@ if-false false x y e = refl
 
 -- a screen, and a number that names a book of it
 
-pub screen-is : (r : List ℕ) → length r ≡ screenSize → isScreen r ≡ true
-unfolding isScreen
-screen-is r k = eq-eqb (length r) screenSize k
+pub screen-is : (r : List ℕ) → length r ≡ screen_size → is_screen r ≡ true
+unfolding is_screen
+screen-is r k = eq-eqb (length r) screen_size k
 
-pub screen-not : (r : List ℕ) → (length r ≡ screenSize → ⊥) → isScreen r ≡ false
-unfolding isScreen
-screen-not r k = ne_eqb (length r) screenSize k
+pub screen-not : (r : List ℕ) → (length r ≡ screen_size → ⊥) → is_screen r ≡ false
+unfolding is_screen
+screen-not r k = ne_eqb (length r) screen_size k
 
-pub book-is : (b : ℕ) (r : List ℕ) → b < 2 → length r ≡ screenSize → isBook b r ≡ true
-unfolding isBook
-book-is b r h k = both (ltb b 2) (isScreen r) (lt-ltb b 2 h) (screen-is r k)
+pub book-is : (b : ℕ) (r : List ℕ) → b < 2 → length r ≡ screen_size → is_book b r ≡ true
+unfolding is_book
+book-is b r h k = both (ltb b 2) (is_screen r) (lt-ltb b 2 h) (screen-is r k)
 
-pub book-in : (b : ℕ) (r : List ℕ) → isBook b r ≡ true → (b < 2) × (length r ≡ screenSize)
-unfolding isBook isScreen
-book-in b r e = let p = and (ltb b 2) (eqb (length r) screenSize) e in (ltb-true b 2 p.0, eqb-true (length r) screenSize p.1)
+pub book-in : (b : ℕ) (r : List ℕ) → is_book b r ≡ true → (b < 2) × (length r ≡ screen_size)
+unfolding is_book is_screen
+book-in b r e = let p = and (ltb b 2) (eqb (length r) screen_size) e in (ltb-true b 2 p.0, eqb-true (length r) screen_size p.1)
 
-pub no-book : (b : ℕ) (r : List ℕ) → 2 ≤ b → isBook b r ≡ false
-unfolding isBook
-no-book b r h = rw (le-ltb b 2 h) refl
+pub no_book : (b : ℕ) (r : List ℕ) → 2 ≤ b → is_book b r ≡ false
+unfolding is_book
+no_book b r h = rw (le-ltb b 2 h) refl
 
-pub no-screen : (b : ℕ) (r : List ℕ) → (length r ≡ screenSize → ⊥) → isBook b r ≡ false
-unfolding isBook
+pub no-screen : (b : ℕ) (r : List ℕ) → (length r ≡ screen_size → ⊥) → is_book b r ≡ false
+unfolding is_book
 no-screen b r h = rw (screen-not r h) (and-false (ltb b 2))
 
 -- a call over bytes does no more steps than its budget: what the subtraction needs
-pub bytes-budget : (table tokens : List ℕ) (m : Mode) (budget : ℕ) (walk buffer : List ℕ) → (callBytes table tokens m budget walk buffer).steps ≤ budget
-unfolding callBytes outcome
+pub bytes-budget : (table tokens : List ℕ) (m : Mode) (budget : ℕ) (walk buffer : List ℕ) → (call_bytes table tokens m budget walk buffer).steps ≤ budget
+unfolding call_bytes outcome
 bytes-budget table tokens m budget walk buffer = go (walk_of walk)
   where
     f : Walk → Called
-    f = callWalk (table_of table) (words_of tokens) m budget (count buffer)
+    f = call_walk (table_of table) (words_of tokens) m budget (count buffer)
 
     go : (x : Option Walk) → (outcome x walk buffer f).steps ≤ budget
     go none = omega arith
@@ -73,7 +73,7 @@ bytes-budget table tokens m budget walk buffer = go (walk_of walk)
 -- Parts of a record
 
 -- what stands in the bytes of book c is kept by what is written in those of another
-apart : (b c g n f : ℕ) (new r : List ℕ) → b < 2 → c < 2 → (c ≡ b → ⊥) → length r ≡ screenSize → c * bookSize ≤ g → g + n ≤ c * bookSize + bookSize → b * bookSize ≤ f → f + length new ≤ b * bookSize + bookSize
+apart : (b c g n f : ℕ) (new r : List ℕ) → b < 2 → c < 2 → (c ≡ b → ⊥) → length r ≡ screen_size → c * book_size ≤ g → g + n ≤ c * book_size + book_size → b * book_size ≤ f → f + length new ≤ b * book_size + book_size
     → cut g n (patch f new r) ≡ cut g n r
 apart zero zero g n f new r h i d k p q u v = absurd (d refl)
 apart zero (suc zero) g n f new r h i d k p q u v = cut-behind g n f (g - (f + length new)) new r (omega arith) (omega arith)
@@ -83,90 +83,90 @@ apart (suc (suc b)) c g n f new r h i d k p q u v = absurd (omega arith)
 apart zero (suc (suc c)) g n f new r h i d k p q u v = absurd (omega arith)
 apart (suc zero) (suc (suc c)) g n f new r h i d k p q u v = absurd (omega arith)
 
-module _ (b n : ℕ) (r : List ℕ) (h : b < 2) (k : length r ≡ screenSize) where
-  length-withLeft : length (withLeft b n r) ≡ screenSize
-  unfolding withLeft
-  length-withLeft = let l = length-counter n in length-patch (b * bookSize + 158) (bytes_of (words64 n)) r (omega arith) ∙ k
+module _ (b n : ℕ) (r : List ℕ) (h : b < 2) (k : length r ≡ screen_size) where
+  length-with_left : length (with_left b n r) ≡ screen_size
+  unfolding with_left
+  length-with_left = let l = length-counter n in length-patch (b * book_size + 158) (bytes_of (words64 n)) r (omega arith) ∙ k
 
-  left-set : leftIn b (withLeft b n r) ≡ n
-  unfolding leftIn withLeft
+  left-set : left_in b (with_left b n r) ≡ n
+  unfolding left_in with_left
   left-set =
-      ap (λ (s : List ℕ). number64 (words_of s)) (cut-patch (b * bookSize + 158) 8 (bytes_of (words64 n)) r (length-counter n) (omega arith)) ∙ counter-back n
+      ap (λ (s : List ℕ). number64 (words_of s)) (cut-patch (b * book_size + 158) 8 (bytes_of (words64 n)) r (length-counter n) (omega arith)) ∙ counter-back n
 
-  own-kept : walkIn b (withLeft b n r) ≡ walkIn b r
-  unfolding walkIn withLeft
-  own-kept = cut-before (b * bookSize) 158 (b * bookSize + 158) (bytes_of (words64 n)) r (omega arith) (omega arith)
+  own-kept : walk_in b (with_left b n r) ≡ walk_in b r
+  unfolding walk_in with_left
+  own-kept = cut-before (b * book_size) 158 (b * book_size + 158) (bytes_of (words64 n)) r (omega arith) (omega arith)
 
   module _ (c : ℕ) (i : c < 2) (d : c ≡ b → ⊥) where
-    other-walk : walkIn c (withLeft b n r) ≡ walkIn c r
-    unfolding walkIn withLeft
-    other-walk = let l = length-counter n in apart b c (c * bookSize) 158 (b * bookSize + 158) (bytes_of (words64 n)) r h i d k (omega arith) (omega arith) (omega arith) (omega arith)
+    other_walk : walk_in c (with_left b n r) ≡ walk_in c r
+    unfolding walk_in with_left
+    other_walk = let l = length-counter n in apart b c (c * book_size) 158 (b * book_size + 158) (bytes_of (words64 n)) r h i d k (omega arith) (omega arith) (omega arith) (omega arith)
 
-    other-left : leftIn c (withLeft b n r) ≡ leftIn c r
-    unfolding leftIn withLeft
-    other-left =
+    other_left : left_in c (with_left b n r) ≡ left_in c r
+    unfolding left_in with_left
+    other_left =
         let l = length-counter n in
         ap (λ (s : List ℕ). number64 (words_of s))
-        (apart b c (c * bookSize + 158) 8 (b * bookSize + 158) (bytes_of (words64 n)) r h i d k (omega arith) (omega arith) (omega arith) (omega arith))
+        (apart b c (c * book_size + 158) 8 (b * book_size + 158) (bytes_of (words64 n)) r h i d k (omega arith) (omega arith) (omega arith) (omega arith))
 
-left-same : (b : ℕ) (r : List ℕ) → b < 2 → ((i : ℕ) → get_or r i 0 < 256) → length r ≡ screenSize → withLeft b (leftIn b r) r ≡ r
-unfolding leftIn withLeft
+left-same : (b : ℕ) (r : List ℕ) → b < 2 → ((i : ℕ) → get_or r i 0 < 256) → length r ≡ screen_size → with_left b (left_in b r) r ≡ r
+unfolding left_in with_left
 left-same b r h y k =
-    let f = b * bookSize + 158 in
+    let f = b * book_size + 158 in
     ap (λ (s : List ℕ). patch f s r) (counter-same (cut f 8 r) (small_cut f 8 r y) (length_cut f 8 r (omega arith))) ∙ patch-same f 8 r (omega arith)
 
 -- One turn
 
-module _ (table tokens : List ℕ) (m : Mode) (b : ℕ) (r buffer : List ℕ) (h : b < 2) (k : length r ≡ screenSize) where
+module _ (table tokens : List ℕ) (m : Mode) (b : ℕ) (r buffer : List ℕ) (h : b < 2) (k : length r ≡ screen_size) where
   abbrev call : Outcome
-  call = callBytes table tokens m (leftIn b r) (walkIn b r) buffer
+  call = call_bytes table tokens m (left_in b r) (walk_in b r) buffer
 
   -- the record with the walk that the call gives back, and the steps that are then left
   abbrev put : List ℕ
-  put = patch (b * bookSize) call.walk r
+  put = patch (b * book_size) call.walk r
 
   abbrev rest : ℕ
-  rest = leftIn b r - call.steps
+  rest = left_in b r - call.steps
 
-  pub turn_is : turnBytes table tokens m b r buffer ≡ taken b r call
-  unfolding turnBytes
-  turn_is = if-true (isBook b r) (taken b r call) (turnedAway r buffer) (book-is b r h k)
+  pub turn_is : turn_bytes table tokens m b r buffer ≡ taken b r call
+  unfolding turn_bytes
+  turn_is = if-true (is_book b r) (taken b r call) (turned_away r buffer) (book-is b r h k)
 
   size-call : length call.walk ≡ 158
-  unfolding walkIn
-  size-call = length-call table tokens m (leftIn b r) (walkIn b r) buffer (length_cut (b * bookSize) 158 r (omega arith))
+  unfolding walk_in
+  size-call = length-call table tokens m (left_in b r) (walk_in b r) buffer (length_cut (b * book_size) 158 r (omega arith))
 
-  size-put : length put ≡ screenSize
-  size-put = let l = size-call in length-patch (b * bookSize) call.walk r (omega arith) ∙ k
+  size-put : length put ≡ screen_size
+  size-put = let l = size-call in length-patch (b * book_size) call.walk r (omega arith) ∙ k
 
-  own-walk : walkIn b (withLeft b rest put) ≡ call.walk
-  own-walk = own-kept b rest put h size-put ∙ unfold walkIn in cut-patch (b * bookSize) 158 call.walk r size-call (omega arith)
+  own-walk : walk_in b (with_left b rest put) ≡ call.walk
+  own-walk = own-kept b rest put h size-put ∙ unfold walk_in in cut-patch (b * book_size) 158 call.walk r size-call (omega arith)
 
-  walk-apart : (c : ℕ) → c < 2 → (c ≡ b → ⊥) → walkIn c put ≡ walkIn c r
-  unfolding walkIn
-  walk-apart c i d = let l = size-call in apart b c (c * bookSize) 158 (b * bookSize) call.walk r h i d k (omega arith) (omega arith) (omega arith) (omega arith)
+  walk-apart : (c : ℕ) → c < 2 → (c ≡ b → ⊥) → walk_in c put ≡ walk_in c r
+  unfolding walk_in
+  walk-apart c i d = let l = size-call in apart b c (c * book_size) 158 (b * book_size) call.walk r h i d k (omega arith) (omega arith) (omega arith) (omega arith)
 
-  left-apart : (c : ℕ) → c < 2 → (c ≡ b → ⊥) → leftIn c put ≡ leftIn c r
-  unfolding leftIn
+  left-apart : (c : ℕ) → c < 2 → (c ≡ b → ⊥) → left_in c put ≡ left_in c r
+  unfolding left_in
   left-apart c i d =
       let l = size-call in
-      ap (λ (s : List ℕ). number64 (words_of s)) (apart b c (c * bookSize + 158) 8 (b * bookSize) call.walk r h i d k (omega arith) (omega arith) (omega arith) (omega arith))
+      ap (λ (s : List ℕ). number64 (words_of s)) (apart b c (c * book_size + 158) 8 (b * book_size) call.walk r h i d k (omega arith) (omega arith) (omega arith) (omega arith))
 
-  unchanged : ((i : ℕ) → get_or r i 0 < 256) → call.number ≡ 21 → withLeft b rest put ≡ r
+  unchanged : ((i : ℕ) → get_or r i 0 < 256) → call.number ≡ 21 → with_left b rest put ≡ r
   unchanged y e =
-      let u = refused-unchanged table tokens m (leftIn b r) (walkIn b r) buffer e in
-      let p : put ≡ r = ap (λ (w : List ℕ). patch (b * bookSize) w r) u.walk-bytes ∙ unfold walkIn in patch-same (b * bookSize) 158 r (omega arith) in
-      let n : rest ≡ leftIn b r = omega (arith, u.no_step) in
-      ap₂ (withLeft b) n p ∙ left-same b r h y k
+      let u = refused-unchanged table tokens m (left_in b r) (walk_in b r) buffer e in
+      let p : put ≡ r = ap (λ (w : List ℕ). patch (b * book_size) w r) u.walk_bytes ∙ unfold walk_in in patch-same (b * book_size) 158 r (omega arith) in
+      let n : rest ≡ left_in b r = omega (arith, u.no_step) in
+      ap₂ (with_left b) n p ∙ left-same b r h y k
 
   one-turn : OneTurn table tokens m b r buffer (taken b r call)
-  unfolding ownView taken
+  unfolding own_view taken
   one-turn = record {
     alone = λ i. record { number = call.number; walk = own-walk i; buffer = call.buffer; events = call.events; steps = call.steps };
-    falls = omega (arith, left-set b rest put h size-put, bytes-budget table tokens m (leftIn b r) (walkIn b r) buffer);
-    other-walk = λ c i d. other-walk b rest put h size-put c i d ∙ walk-apart c i d;
-    other-left = λ c i d. other-left b rest put h size-put c i d ∙ left-apart c i d;
-    size = length-withLeft b rest put h size-put;
+    falls = omega (arith, left-set b rest put h size-put, bytes-budget table tokens m (left_in b r) (walk_in b r) buffer);
+    other_walk = λ c i d. other_walk b rest put h size-put c i d ∙ walk-apart c i d;
+    other_left = λ c i d. other_left b rest put h size-put c i d ∙ left-apart c i d;
+    size = length-with_left b rest put h size-put;
     refused = unchanged;
   }
 
@@ -175,45 +175,45 @@ every-turn table tokens m b r buffer h k =
     subst (OneTurn table tokens m b r buffer) (sym (turn_is table tokens m b r buffer h k)) (one-turn table tokens m b r buffer h k)
 
 -- a turn with a number that names no book, or of another length
-pub away : (table tokens : List ℕ) (m : Mode) (b : ℕ) (r buffer : List ℕ) → isBook b r ≡ false → turnBytes table tokens m b r buffer ≡ turnedAway r buffer
-unfolding turnBytes
-away table tokens m b r buffer e = if-false (isBook b r) (taken b r (callBytes table tokens m (leftIn b r) (walkIn b r) buffer)) (turnedAway r buffer) e
+pub away : (table tokens : List ℕ) (m : Mode) (b : ℕ) (r buffer : List ℕ) → is_book b r ≡ false → turn_bytes table tokens m b r buffer ≡ turned_away r buffer
+unfolding turn_bytes
+away table tokens m b r buffer e = if-false (is_book b r) (taken b r (call_bytes table tokens m (left_in b r) (walk_in b r) buffer)) (turned_away r buffer) e
 
 -- Lists
 
 -- what an item of any number leaves
 pub record Kept (c : ℕ) (r s : List ℕ) : Type 0 where
-  pub size : length s ≡ screenSize
-  pub walk : (b : ℕ) → b < 2 → (b ≡ c → ⊥) → walkIn b s ≡ walkIn b r
-  pub left : (b : ℕ) → b < 2 → (b ≡ c → ⊥) → leftIn b s ≡ leftIn b r
+  pub size : length s ≡ screen_size
+  pub walk : (b : ℕ) → b < 2 → (b ≡ c → ⊥) → walk_in b s ≡ walk_in b r
+  pub left : (b : ℕ) → b < 2 → (b ≡ c → ⊥) → left_in b s ≡ left_in b r
 
-pub refill-is : (b n : ℕ) (r : List ℕ) → b < 2 → length r ≡ screenSize → refillBytes b n r ≡ withLeft b n r
-unfolding refillBytes
-refill-is b n r h k = if-true (isBook b r) (withLeft b n r) r (book-is b r h k)
+pub refill-is : (b n : ℕ) (r : List ℕ) → b < 2 → length r ≡ screen_size → refill_bytes b n r ≡ with_left b n r
+unfolding refill_bytes
+refill-is b n r h k = if-true (is_book b r) (with_left b n r) r (book-is b r h k)
 
 -- of its own book a refill sets the steps left and keeps the walk
-pub refilled : (b n : ℕ) (r : List ℕ) → b < 2 → length r ≡ screenSize → (leftIn b (refillBytes b n r) ≡ n) × (walkIn b (refillBytes b n r) ≡ walkIn b r)
+pub refilled : (b n : ℕ) (r : List ℕ) → b < 2 → length r ≡ screen_size → (left_in b (refill_bytes b n r) ≡ n) × (walk_in b (refill_bytes b n r) ≡ walk_in b r)
 refilled b n r h k = rw (refill-is b n r h k) (left-set b n r h k, own-kept b n r h k)
 
 module _ (table : List ℕ) where
-  pub kept : (i : Item) (r : List ℕ) → length r ≡ screenSize → Kept (bookOf i) r (screenAfter table i r)
-  unfolding screenAfter bookOf turnedAway refillBytes
+  pub kept : (i : Item) (r : List ℕ) → length r ≡ screen_size → Kept (book_of i) r (screen_after table i r)
+  unfolding screen_after book_of turned_away refill_bytes
   kept (turn c tokens m buffer) r k =
       split (ltb c 2)
-      (λ t. let o = every-turn table tokens m c r buffer (ltb-true c 2 t) k in record { size = o.size; walk = o.other-walk; left = o.other-left })
-      (λ z. let e = ap (λ (g : Turned). g.screen) (away table tokens m c r buffer (no-book c r (ltb-false c 2 z))) in subst (Kept c r) (sym e) (record { size = k; walk = λ b h d. refl; left = λ b h d. refl }))
+      (λ t. let o = every-turn table tokens m c r buffer (ltb-true c 2 t) k in record { size = o.size; walk = o.other_walk; left = o.other_left })
+      (λ z. let e = ap (λ (g : Turned). g.screen) (away table tokens m c r buffer (no_book c r (ltb-false c 2 z))) in subst (Kept c r) (sym e) (record { size = k; walk = λ b h d. refl; left = λ b h d. refl }))
   kept (refill c n) r k =
       split (ltb c 2)
-      (λ t. let h = ltb-true c 2 t in subst (Kept c r) (sym (refill-is c n r h k)) (record { size = length-withLeft c n r h k; walk = λ b i d. other-walk c n r h k b i d; left = λ b i d. other-left c n r h k b i d }))
-      (λ z. rw (no-book c r (ltb-false c 2 z)) (record { size = k; walk = λ b h d. refl; left = λ b h d. refl }))
+      (λ t. let h = ltb-true c 2 t in subst (Kept c r) (sym (refill-is c n r h k)) (record { size = length-with_left c n r h k; walk = λ b i d. other_walk c n r h k b i d; left = λ b i d. other_left c n r h k b i d }))
+      (λ z. rw (no_book c r (ltb-false c 2 z)) (record { size = k; walk = λ b h d. refl; left = λ b h d. refl }))
 
-  pub length-after : (items : List Item) (r : List ℕ) → length r ≡ screenSize → length (after table items r) ≡ screenSize
+  pub length-after : (items : List Item) (r : List ℕ) → length r ≡ screen_size → length (after table items r) ≡ screen_size
   unfolding after
   length-after [] r k = k
   length-after (i ∷ items) r k = (kept i (after table items r) (length-after items r k)).size
 
 pub keeps-allowance : KeepsAllowance
-unfolding after screenAfter spent granted bookOf
+unfolding after screen_after spent granted book_of
 keeps-allowance table b h [] r k = omega arith
 keeps-allowance table b h (turn c tokens m buffer ∷ items) r k =
     let s = after table items r in

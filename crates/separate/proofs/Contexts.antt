@@ -6,17 +6,17 @@ use mathlib.Core.Path.{◌≡◌, refl, sym, ap, ◌∙◌}
 use Prim.Native.Nat.{ℕ, suc, ◌+◌, ◌≤◌}
 use native.Mathlib.Omega.{arith}
 use lib.ListN.{length}
-use Rattle.cells.specs.Cells.{actsCells}
+use Rattle.cells.specs.Cells.{acts_cells}
 use Rattle.grammar.specs.Derived.{RulesIn}
 use Rattle.names.specs.Known.{Checked, good, wrong, Names}
-use Rattle.names.specs.Uses.{Use, rulesUses, pairsOf}
+use Rattle.names.specs.Uses.{Use, rules_uses, pairs_of}
 use Rattle.partnames.proofs.Together.{rules-length}
 use Rattle.partpairs.proofs.Open.{open-acts, opens-ordered}
 use Rattle.partpairs.specs.Numbers.{Numbered}
 use Rattle.partpairs.specs.Pairing.{Collected, PairsDone}
 use Rattle.partrules.specs.Opened.{Context, OpenActs, Holds}
-use Rattle.parts.specs.Objects.{OpenRule, openAll, openRules, others, together}
-use Rattle.program.specs.Past.{pastAll, exitsAll}
+use Rattle.parts.specs.Objects.{OpenRule, open_all, open_rules, others, together}
+use Rattle.program.specs.Past.{past_all, exits_all}
 use Rattle.program.specs.Program.{Acts}
 use Rattle.resolver.specs.Resolved.{Ends, ended, failed, Flags}
 use Rattle.resolver.specs.declared.Built.{Built}
@@ -28,20 +28,20 @@ use Rattle.symbols.specs.Rows.{held}
 use Rattle.syntax.specs.Reading.{peek}
 use Rattle.syntax.specs.Texts.{Common}
 use Rattle.syntax.specs.Written.{Rule}
-use Rattle.words.specs.Words.{Word, wordsAt}
+use Rattle.words.specs.Words.{Word, words_at}
 
 -- the other names and the pairs are those of any rules that are the same but for places
 abbrev pub context_of : Common → Names → List Rule → List Word → List Use → Bool → Context
-context_of c names rs ws us sure = record { program = together c rs; names = names; known = openRules c.listed rs; listed = c.listed; others = ws; uses = us; sure = sure }
+context_of c names rs ws us sure = record { program = together c rs; names = names; known = open_rules c.listed rs; listed = c.listed; others = ws; uses = us; sure = sure }
 
 told : {E F : Type 0} {text : List ℕ} {ws : List Word} {cs : List ℕ} {c : ℕ} {cs' : List ℕ} {r : Built} (x : Checked Acts)
-    → Ends E text ws cs c cs' (λ b. actsCells b []) (λ b. Flags r.past r.exits (true && pastAll b) (false || exitsAll b)) r.done x → (F → E)
-    → Ends F text ws cs c cs' (λ b. actsCells b []) (λ b. r.past ≡ pastAll b) r.done x
+    → Ends E text ws cs c cs' (λ b. acts_cells b []) (λ b. Flags r.past r.exits (true && past_all b) (false || exits_all b)) r.done x → (F → E)
+    → Ends F text ws cs c cs' (λ b. acts_cells b []) (λ b. r.past ≡ past_all b) r.done x
 told (good b) (ended e h k f) g = ended e h (λ y. k (g y)) f.0
 told (wrong n w) (failed e z a l) g = failed e z a l
 
 pub holds : {text rows : List ℕ} {n own : ℕ} {c : Common} {rs : List Rule} {names : Names} (ws : List Word) (us : List Use) (sure : Bool) → Known text rows n own c rs names
-    → length ws ≡ length (others c.listed rs) → (sure ≡ true → Numbered text rows n own (pairsOf rs)) → Holds text rows n own (context_of c names rs ws us sure)
+    → length ws ≡ length (others c.listed rs) → (sure ≡ true → Numbered text rows n own (pairs_of rs)) → Holds text rows n own (context_of c names rs ws us sure)
 holds {text} {rows} {n} {own} {c} {rs} {names} ws us sure k l h = record {
   agrees = k.agrees;
   acts = record {
@@ -59,11 +59,11 @@ known_behind {text} {old} {new} {n} f k =
       kept = kept-behind f k.kept;
       agrees = rw e k.agrees;
       entries = rw e k.entries;
-      held-are = e ∙ k.held-are;
+      held_are = e ∙ k.held_are;
       own_is = k.own_is;
     }
 
 pub collected : {text rows rows' signs signs' : List ℕ} {n own at r : ℕ} {c : Common} {rs : List Rule} {names : Names} {left : List Word} {os : List OpenRule} → Known text rows n own c rs names
-    → PairsDone text rows signs n own at rows' signs' r → RulesIn (wordsAt text at) left rs → (peek left).kind ≡ 266
-    → openAll (together c rs) names (openRules c.listed rs) [] rs ≡ good os → Collected text rows' signs' n own (pairsOf rs) r
+    → PairsDone text rows signs n own at rows' signs' r → RulesIn (words_at text at) left rs → (peek left).kind ≡ 266
+    → open_all (together c rs) names (open_rules c.listed rs) [] rs ≡ good os → Collected text rows' signs' n own (pairs_of rs) r
 collected {rs = rs} {left = left} {os} k p i e o = p.done rs left i e (opens-ordered k.agrees [] rs os o)

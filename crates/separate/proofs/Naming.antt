@@ -6,22 +6,22 @@ use mathlib.Core.Path.{◌≡◌, refl, sym, ap, ◌∙◌}
 use Prim.Native.Nat.{ℕ, ◌+◌, ◌-◌, ◌≤◌}
 use native.Mathlib.Omega.{arith}
 use lib.ListN.{length}
-use Rattle.declarations.specs.Decls.{EntriesAt, declsOf, entriesOf}
+use Rattle.declarations.specs.Decls.{EntriesAt, decls_of, entries_of}
 use Rattle.declarer.specs.declared.Fault as declarer
 use Rattle.names.specs.Known.{Checked, good, wrong, Names}
 use Rattle.partnames.proofs.Commons.{rules-no-line}
 use Rattle.partnames.proofs.Together.{others-rowed, rows-together, rules-known}
 use Rattle.partnames.specs.Declaring.{CommonIn, CommonRows, Declares}
 use Rattle.partnames.specs.Mentioning.{AddsFrom}
-use Rattle.partnames.specs.Settling.{Rowed, in_rows, past-names, Settled, in_order, faulty, Settles}
+use Rattle.partnames.specs.Settling.{Rowed, in_rows, past_names, Settled, in_order, faulty, Settles}
 use Rattle.partnames.specs.declared.Added.{Added}
 use Rattle.partnames.specs.declared.Declared.{Declared}
-use Rattle.parts.specs.Moved.{movePart, moveTranslated}
-use Rattle.parts.specs.Objects.{commonMeans, meaning, ofCommon, others, pastNames, read_on, together, unlessPast}
+use Rattle.parts.specs.Moved.{move_part, move_translated}
+use Rattle.parts.specs.Objects.{common_means, meaning, of_common, others, past_names, read_on, together, unless_past}
 use Rattle.partwriter.specs.Put.{back}
 use Rattle.processor.specs.Process.{part_of}
 use Rattle.separate.proofs.Reading.{IsFault}
-use Rattle.separate.specs.Steps.{Refuses, refuses-common, refuses-part, StandsIn, translatedIn, Known, openedBy, Finds, names-found, names-faulty, FindsNames}
+use Rattle.separate.specs.Steps.{Refuses, refuses_common, refuses_part, StandsIn, translated_in, Known, opened_by, Finds, names_found, names_faulty, FindsNames}
 use Rattle.separate.specs.declared.Fault.{Fault}
 use Rattle.separate.specs.declared.Named.{Named}
 use Rattle.symbols.specs.Index.{Kept}
@@ -29,72 +29,72 @@ use Rattle.symbols.specs.Rows.{held}
 use Rattle.syntax.specs.Reading.{got}
 use Rattle.syntax.specs.Texts.{Common}
 use Rattle.syntax.specs.Written.{Rule}
-use Rattle.words.specs.Words.{Word, wordsAt}
+use Rattle.words.specs.Words.{Word, words_at}
 
 -- the first name past the 512
 abbrev past : Common → List Rule → Option Word
-past c rs = pastNames (c.left - length c.listed) (others c.listed rs)
+past c rs = past_names (c.left - length c.listed) (others c.listed rs)
 
-common-rows : {text rows rows₁ : List ℕ} {d : Declared} {at : ℕ} → length rows ≡ 6017 → Declares text rows rows₁ d → (s : StandsIn text at) → CommonRows text rows₁ d (wordsAt text at) s.shared
-common-rows {at = at} z d s = d.common s.shared (wordsAt _ at) s.common-in (rules-no-line s.rules-in) z
+common-rows : {text rows rows₁ : List ℕ} {d : Declared} {at : ℕ} → length rows ≡ 6017 → Declares text rows rows₁ d → (s : StandsIn text at) → CommonRows text rows₁ d (words_at text at) s.shared
+common-rows {at = at} z d s = d.common s.shared (words_at _ at) s.common_in (rules-no-line s.rules_in) z
 
 rowed : {text rows rows₁ rows₂ : List ℕ} {d : Declared} {a : Added} {at : ℕ} → length rows ≡ 6017 → Declares text rows rows₁ d → AddsFrom text rows₁ rows₂ d.first d.count d.at true a
     → (s : StandsIn text at) → Rowed text rows₂ d.first a s.shared s.rules (past s.shared s.rules)
 rowed z d a s =
     let r = common-rows z d s in
-    others-rowed s.common-in r a (d.size ∙ z) (rw r.rest at s.rules-in) s.ends
+    others-rowed s.common_in r a (d.size ∙ z) (rw r.rest at s.rules_in) s.ends
 
 past-fault : {text rows : List ℕ} {first : ℕ} (moved : ℕ) {a : Added} {f : Fault} {c : Common} {rs : List Rule} (o : Option Word) → Rowed text rows first a c rs o → (a.fault ≡ 0 → ⊥)
-    → IsFault f a.fault 1 (a.at - moved) a.len → Refuses f (moveTranslated (back moved) (unlessPast o (meaning c rs)))
-unfolding unlessPast moveTranslated movePart part_of
+    → IsFault f a.fault 1 (a.at - moved) a.len → Refuses f (move_translated (back moved) (unless_past o (meaning c rs)))
+unfolding unless_past move_translated move_part part_of
 past-fault moved none (in_rows z e k) n f = absurd (n z)
-past-fault moved (some w) (past-names z i l) n f = refuses-part (f.number_is ∙ z) f.text-is (f.start_is ∙ ap (λ k. k - moved) i) (f.len_is ∙ l)
+past-fault moved (some w) (past_names z i l) n f = refuses_part (f.number_is ∙ z) f.text_is (f.start_is ∙ ap (λ k. k - moved) i) (f.len_is ∙ l)
 
 pub finds_past : {text rows rows₁ rows₂ : List ℕ} {d : Declared} {a : Added} {moved : ℕ} {r : Named} → length rows ≡ 6017 → Declares text rows rows₁ d
     → AddsFrom text rows₁ rows₂ d.first d.count d.at true a → length rows₂ ≡ length rows₁ → (a.fault ≡ 0 → ⊥) → IsFault r.fault a.fault 1 (a.at - moved) a.len → r.first ≡ 0 → r.count ≡ 0
     → FindsNames text rows rows₂ moved r
-unfolding translatedIn read_on
+unfolding translated_in read_on
 finds_past {moved = moved} z d a l n f p q = record {
   size = l ∙ d.size;
   early = omega (arith, p);
   small = omega (arith, q);
   kept = λ e. absurd (n (sym f.number_is ∙ e));
-  finds = λ s. names-faulty (λ e. n (sym f.number_is ∙ e)) (past-fault moved (past s.shared s.rules) (rowed z d a s) n f);
+  finds = λ s. names_faulty (λ e. n (sym f.number_is ∙ e)) (past-fault moved (past s.shared s.rules) (rowed z d a s) n f);
 }
 
 -- where there is none
 record InRows (text rows : List ℕ) (first n : ℕ) (c : Common) (rs : List Rule) : Type 0 where
   within : past c rs ≡ none
-  held-are : held text rows n ≡ declsOf (together c rs)
+  held_are : held text rows n ≡ decls_of (together c rs)
   count : n ≡ first + length (together c rs).rules
 
 in-them : {text rows : List ℕ} {first : ℕ} {a : Added} {c : Common} {rs : List Rule} → a.fault ≡ 0 → Rowed text rows first a c rs (past c rs) → InRows text rows first a.count c rs
 in-them {text} {rows} {first} {a} {c} {rs} z r = go (past c rs) refl r
   where
     go : (o : Option Word) → past c rs ≡ o → Rowed text rows first a c rs o → InRows text rows first a.count c rs
-    go none q (in_rows y e k) = record { within = q; held-are = e; count = k }
-    go (some w) q (past-names y i l) = absurd (omega (arith, z, y))
+    go none q (in_rows y e k) = record { within = q; held_are = e; count = k }
+    go (some w) q (past_names y i l) = absurd (omega (arith, z, y))
 
 -- so that the common part's names decide
-means : {text : List ℕ} {at : ℕ} (moved : ℕ) (s : StandsIn text at) → past s.shared s.rules ≡ none → translatedIn moved s ≡ moveTranslated (back moved) (meaning s.shared s.rules)
-unfolding translatedIn read_on unlessPast
-means moved s e = ap (λ (o : Option Word). moveTranslated (back moved) (unlessPast o (meaning s.shared s.rules))) e
+means : {text : List ℕ} {at : ℕ} (moved : ℕ) (s : StandsIn text at) → past s.shared s.rules ≡ none → translated_in moved s ≡ move_translated (back moved) (meaning s.shared s.rules)
+unfolding translated_in read_on unless_past
+means moved s e = ap (λ (o : Option Word). move_translated (back moved) (unless_past o (meaning s.shared s.rules))) e
 
-common-fault : {text rows : List ℕ} {n : ℕ} (moved : ℕ) {g : declarer.Fault} {f : Fault} {c : Common} {rs : List Rule} → Settled text rows n g c rs (commonMeans c rs) → (g.fault ≡ 0 → ⊥)
-    → IsFault f g.fault 0 g.at g.len → Refuses f (moveTranslated (back moved) (meaning c rs))
-unfolding meaning ofCommon moveTranslated part_of
-common-fault {text} {rows} {n} moved {g} {f} {c} {rs} s z i = go (commonMeans c rs) s _
+common-fault : {text rows : List ℕ} {n : ℕ} (moved : ℕ) {g : declarer.Fault} {f : Fault} {c : Common} {rs : List Rule} → Settled text rows n g c rs (common_means c rs) → (g.fault ≡ 0 → ⊥)
+    → IsFault f g.fault 0 g.at g.len → Refuses f (move_translated (back moved) (meaning c rs))
+unfolding meaning of_common move_translated part_of
+common-fault {text} {rows} {n} moved {g} {f} {c} {rs} s z i = go (common_means c rs) s _
   where
-    go : (m : Checked Names) → Settled text rows n g c rs m → (k : Names → _) → Refuses f (moveTranslated (back moved) (ofCommon m k))
+    go : (m : Checked Names) → Settled text rows n g c rs m → (k : Names → _) → Refuses f (move_translated (back moved) (of_common m k))
     go (good names) (in_order e d a) k = absurd (z e)
-    go (wrong x w) (faulty e y b l) k = refuses-common (i.number_is ∙ e) i.text-is (i.start_is ∙ b) (i.len_is ∙ l)
+    go (wrong x w) (faulty e y b l) k = refuses_common (i.number_is ∙ e) i.text_is (i.start_is ∙ b) (i.len_is ∙ l)
 
 settled : {text rows rows₁ rows₂ rows₃ : List ℕ} {d : Declared} {a : Added} {g : declarer.Fault} {at lines : ℕ} → length rows ≡ 6017 → Declares text rows rows₁ d
     → AddsFrom text rows₁ rows₂ d.first d.count d.at true a → a.fault ≡ 0 → Settles text rows₂ rows₃ a.count d.first lines g → lines ≡ d.count - d.first
-    → (s : StandsIn text at) → Settled text rows₃ a.count g s.shared s.rules (commonMeans s.shared s.rules)
+    → (s : StandsIn text at) → Settled text rows₃ a.count g s.shared s.rules (common_means s.shared s.rules)
 settled z d a y t e s =
     let i = in-them y (rowed z d a s) in
-    t.settled s.shared s.rules (rw e (rows-together s.common-in (common-rows z d s) i.held-are))
+    t.settled s.shared s.rules (rw e (rows-together s.common_in (common-rows z d s) i.held_are))
 
 pub finds-fault : {text rows rows₁ rows₂ rows₃ : List ℕ} {d : Declared} {a : Added} {g : declarer.Fault} {moved lines : ℕ} {r : Named} → length rows ≡ 6017 → Declares text rows rows₁ d
     → AddsFrom text rows₁ rows₂ d.first d.count d.at true a → length rows₂ ≡ length rows₁ → a.fault ≡ 0 → Settles text rows₂ rows₃ a.count d.first lines g → lines ≡ d.count - d.first
@@ -104,17 +104,17 @@ finds-fault {moved = moved} z d a l y t e n f p q = record {
   early = omega (arith, p);
   small = omega (arith, q);
   kept = λ x. absurd (n (sym f.number_is ∙ x));
-  finds = λ s. names-faulty (λ x. n (sym f.number_is ∙ x))
+  finds = λ s. names_faulty (λ x. n (sym f.number_is ∙ x))
       (rw (means moved s (in-them y (rowed z d a s)).within) (common-fault moved (settled z d a y t e s) n f));
 }
 
 known : {text rows rows₁ rows₂ rows₃ : List ℕ} {d : Declared} {a : Added} {g : declarer.Fault} {at lines : ℕ} (moved : ℕ) {r : Named} → length rows ≡ 6017 → Declares text rows rows₁ d
     → AddsFrom text rows₁ rows₂ d.first d.count d.at true a → a.fault ≡ 0 → Settles text rows₂ rows₃ a.count d.first lines g → lines ≡ d.count - d.first
     → g.fault ≡ 0 → r.fault.number ≡ 0 → r.count ≡ a.count → r.first ≡ d.first → (s : StandsIn text at) → Finds text rows₃ moved r s
-unfolding meaning ofCommon openedBy
+unfolding meaning of_common opened_by
 known {text} {rows} {rows₁} {rows₂} {rows₃} {d} {a} {g} {at} {lines} moved {r} z dd aa y t e n m p q s =
     let i = in-them y (rowed z dd aa s) in
-    go i (commonMeans s.shared s.rules) refl (settled z dd aa y t e s)
+    go i (common_means s.shared s.rules) refl (settled z dd aa y t e s)
   where
     c : Common
     c = s.shared
@@ -122,20 +122,20 @@ known {text} {rows} {rows₁} {rows₂} {rows₃} {d} {a} {g} {at} {lines} moved
     rs : List Rule
     rs = s.rules
 
-    go : InRows text rows₂ d.first a.count c rs → (x : Checked Names) → commonMeans c rs ≡ x → Settled text rows₃ a.count g c rs x → Finds text rows₃ moved r s
+    go : InRows text rows₂ d.first a.count c rs → (x : Checked Names) → common_means c rs ≡ x → Settled text rows₃ a.count g c rs x → Finds text rows₃ moved r s
     go i (wrong k w) o (faulty h u b l) = absurd (u (sym h ∙ n))
     go i (good names) o (in_order h u ag) =
-        let w = rows-together s.common-in (common-rows z dd s) i.held-are in
-        let same : held text rows₃ a.count ≡ declsOf (together c rs) = t.same text ∙ i.held-are in
-        names-found names m o
+        let w = rows-together s.common_in (common-rows z dd s) i.held_are in
+        let same : held text rows₃ a.count ≡ decls_of (together c rs) = t.same text ∙ i.held_are in
+        names_found names m o
         (rw (p, q) (record {
           kept = t.kept;
           agrees = rw (rules-known c rs) at ag;
           entries = rw same w.entries;
-          held-are = same;
+          held_are = same;
           own_is = omega (arith, i.count);
         }))
-        (means moved s i.within ∙ ap (λ (x : Checked Names). moveTranslated (back moved) (ofCommon x (openedBy c rs))) o)
+        (means moved s i.within ∙ ap (λ (x : Checked Names). move_translated (back moved) (of_common x (opened_by c rs))) o)
 
 pub finds-all : {text rows rows₁ rows₂ rows₃ : List ℕ} {d : Declared} {a : Added} {g : declarer.Fault} {lines moved : ℕ} {r : Named} → length rows ≡ 6017 → Declares text rows rows₁ d
     → AddsFrom text rows₁ rows₂ d.first d.count d.at true a → length rows₂ ≡ length rows₁ → a.fault ≡ 0 → Settles text rows₂ rows₃ a.count d.first lines g → lines ≡ d.count - d.first

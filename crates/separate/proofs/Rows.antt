@@ -4,13 +4,13 @@ use mathlib.Core.Path.{◌≡◌, refl, ◌∙◌}
 use Prim.Native.Nat.{ℕ, zero, suc, ◌+◌, ◌*◌, ◌<◌, ◌≤◌}
 use native.Mathlib.Omega.{arith}
 use lib.ListN.{length, get_or}
-use Rattle.declarations.specs.Decls.{Decl, EntriesAt, declsOf, entriesOf, Agrees}
+use Rattle.declarations.specs.Decls.{Decl, EntriesAt, decls_of, entries_of, Agrees}
 use Rattle.names.specs.Known.{Names}
-use Rattle.parts.specs.Objects.{together, openRules}
+use Rattle.parts.specs.Objects.{together, open_rules}
 use Rattle.separate.specs.Steps.{Known}
 use Rattle.symbols.proofs.Indexing.{kept-alike}
 use Rattle.symbols.specs.Index.{Kept}
-use Rattle.symbols.specs.Rows.{declAt, heldFrom, held}
+use Rattle.symbols.specs.Rows.{decl_at, held_from, held}
 use Rattle.syntax.specs.Texts.{Common}
 use Rattle.syntax.specs.Written.{Rule}
 
@@ -26,8 +26,8 @@ get_d_front (x ∷ xs) ys (suc j) h = get_d_front xs ys j (omega arith)
 pub in-front : (xs ys : List ℕ) → 5632 ≤ length xs → Front xs (xs ++ ys)
 in-front xs ys h = record { same = λ j l. get_d_front xs ys j (omega (arith, l)) }
 
-decl-front : {old new : List ℕ} (text : List ℕ) (i : ℕ) → Front old new → i < 512 → declAt text new i ≡ declAt text old i
-unfolding declAt
+decl-front : {old new : List ℕ} (text : List ℕ) (i : ℕ) → Front old new → i < 512 → decl_at text new i ≡ decl_at text old i
+unfolding decl_at
 decl-front text i f l =
     rw (
       f.same (8 * i) (omega (arith, l)),
@@ -40,8 +40,8 @@ decl-front text i f l =
       f.same (8 * i + 7) (omega (arith, l)),
     ) refl
 
-held-from-front : {old new : List ℕ} (text : List ℕ) (i n : ℕ) → Front old new → i + n ≤ 512 → heldFrom text new i n ≡ heldFrom text old i n
-unfolding heldFrom
+held-from-front : {old new : List ℕ} (text : List ℕ) (i n : ℕ) → Front old new → i + n ≤ 512 → held_from text new i n ≡ held_from text old i n
+unfolding held_from
 held-from-front text i zero f l = refl
 held-from-front text i (suc n) f l = rw (decl-front text i f (omega (arith, l)), held-from-front text (suc i) n f (omega (arith, l))) refl
 
@@ -59,6 +59,6 @@ known-front {text} {old} {new} {n} {own} {c} {rs} {names} f k =
       kept = kept-front f k.kept;
       agrees = rw e k.agrees;
       entries = rw e k.entries;
-      held-are = e ∙ k.held-are;
+      held_are = e ∙ k.held_are;
       own_is = k.own_is;
     }

@@ -5,16 +5,16 @@ use mathlib.Core.Path.{◌≡◌, refl, sym, ap, subst, ◌∙◌}
 use Prim.Native.Nat.{ℕ, suc, ◌+◌, ◌-◌, ◌<◌, ◌≤◌}
 use native.Mathlib.Omega.{arith}
 use lib.ListN.{length, take, drop, replicate, length-append, length-drop, length-take, length-replicate}
-use Rattle.grammar.specs.Derived.{RulesIn, last-rule, more-rules}
+use Rattle.grammar.specs.Derived.{RulesIn, last_rule, more_rules}
 use Rattle.names.specs.Known.{good}
-use Rattle.names.specs.Understand.{isOne}
+use Rattle.names.specs.Understand.{is_one}
 use Rattle.partnames.proofs.Together.{rules-length}
 use Rattle.partpairs.specs.Pairing.{PairsDone}
 use Rattle.parts.specs.Objects.{mentions, fresh, names_of, others, together}
 use Rattle.separate.proofs.Contexts.{known_behind, collected}
 use Rattle.separate.proofs.Rows.{Front, in-front, kept-front, known-front}
 use Rattle.separate.specs.Objects.{Writes, not_written, Ordered, WritesObject, TranslatesIn}
-use Rattle.separate.specs.Steps.{StandsIn, translatedIn, Known, Finds, names-found, names-faulty, FindsNames}
+use Rattle.separate.specs.Steps.{StandsIn, translated_in, Known, Finds, names_found, names_faulty, FindsNames}
 use Rattle.separate.specs.declared.Named.{Named}
 use Rattle.separate.specs.declared.Plan.{Plan}
 use Rattle.separate.specs.declared.Written.{Written}
@@ -47,17 +47,17 @@ rows_of {e = e} n h = rows_long e (omega (arith, n.size, h))
 -- Some rule is named
 
 some-name : (hs : List Head) {ws ws' : List Word} {rs : List Rule} → RulesIn ws ws' rs → 0 < length hs + length (others hs rs)
-unfolding others names_of mentions fresh isOne
-some-name [] (last-rule x m) = omega arith
-some-name [] (more-rules x m q) = omega arith
+unfolding others names_of mentions fresh is_one
+some-name [] (last_rule x m) = omega arith
+some-name [] (more_rules x m q) = omega arith
 some-name (h ∷ hs) q = omega arith
 
-pub some-rule : {text rows rows' : List ℕ} {at moved : ℕ} {f : Named} → FindsNames text rows rows' moved f → f.fault.number ≡ 0 → StandsIn text at → 0 < f.count - f.first
-some-rule {text} {rows} {rows'} {at} {moved} {f} n z s = go (n.finds s)
+pub some_rule : {text rows rows' : List ℕ} {at moved : ℕ} {f : Named} → FindsNames text rows rows' moved f → f.fault.number ≡ 0 → StandsIn text at → 0 < f.count - f.first
+some_rule {text} {rows} {rows'} {at} {moved} {f} n z s = go (n.finds s)
   where
     go : Finds text rows' moved f s → 0 < f.count - f.first
-    go (names-found names e m k q) = omega (arith, k.own_is, rules-length s.shared s.rules, some-name s.shared.listed s.rules-in)
-    go (names-faulty x y) = absurd (x z)
+    go (names_found names e m k q) = omega (arith, k.own_is, rules-length s.shared s.rules, some-name s.shared.listed s.rules_in)
+    go (names_faulty x y) = absurd (x z)
 
 -- A fault of the names
 
@@ -65,9 +65,9 @@ pub translates-fault : {common lent text rows rows' : List ℕ} {size at moved :
     → TranslatesIn common size text at moved lent w
 translates-fault {common} {lent} {text} {rows} {rows'} {size} {at} {moved} {f} {w} n z e s o = go (n.finds s)
   where
-    go : Finds text rows' moved f s → Writes common size lent w (translatedIn moved s)
-    go (names-found names x m k q) = absurd (z x)
-    go (names-faulty x y) = not_written {t = translatedIn moved s} (rw e x) (rw e y)
+    go : Finds text rows' moved f s → Writes common size lent w (translated_in moved s)
+    go (names_found names x m k q) = absurd (z x)
+    go (names_faulty x y) = not_written {t = translated_in moved s} (rw e x) (rw e y)
 
 -- The rest
 
@@ -76,9 +76,9 @@ pub translates : {common lent text rows e rows₂ rows₃ signs signs' : List �
     → TranslatesIn common p.size text p.at p.moved lent w
 translates {common} {lent} {text} {rows} {e} {rows₂} {rows₃} {signs} {signs'} p {f} {w} n z g a b d x s o = go (n.finds s)
   where
-    go : Finds text e p.moved f s → Writes common p.size lent w (translatedIn p.moved s)
-    go (names-faulty y r) = absurd (y z)
-    go (names-found names y m k q) =
+    go : Finds text e p.moved f s → Writes common p.size lent w (translated_in p.moved s)
+    go (names_faulty y r) = absurd (y z)
+    go (names_found names y m k q) =
         let k₂ : Known text rows₂ p.count p.rules s.shared s.rules names = rw (a, b) (known-front g k) in
         let k₃ = known_behind d.index k₂ in
-        rw q (x.writes s o names m q k₃ (λ os h. collected k₂ d s.rules-in s.ends h))
+        rw q (x.writes s o names m q k₃ (λ os h. collected k₂ d s.rules_in s.ends h))

@@ -7,23 +7,23 @@ use lib.ListN.{length, take, drop, length-append, length-drop, length-take}
 use lib.Seq.{drop_at}
 use Rattle.machine.specs.Bytes.{count, bytes_of, words_of}
 use Rattle.parts.specs.Form as form
-use Rattle.parts.specs.Form.{made, unmade, ifFits, asMade, makeObject, lentObject, objectWords}
-use Rattle.parts.specs.Objects.{Object, Translated, object, inCommon, inPart, translate}
-use Rattle.separate.specs.Answers.{lentBytes, Settles, Makes, unmadeBy, Refused, Holds, Concludes}
-use Rattle.separate.specs.Objects.{Writes, object-written, not_written}
-use Rattle.separate.specs.Steps.{Refuses, refuses-common, refuses-part, ReadsTexts}
+use Rattle.parts.specs.Form.{made, unmade, if_fits, as_made, make_object, lent_object, object_words}
+use Rattle.parts.specs.Objects.{Object, Translated, object, in_common, in_part, translate}
+use Rattle.separate.specs.Answers.{lent_bytes, Settles, Makes, unmade_by, Refused, Holds, Concludes}
+use Rattle.separate.specs.Objects.{Writes, object_written, not_written}
+use Rattle.separate.specs.Steps.{Refuses, refuses_common, refuses_part, ReadsTexts}
 use Rattle.separate.specs.declared.Fault.{Fault}
 use Rattle.separate.specs.declared.Made.{Made}
 use Rattle.separate.specs.declared.Texts.{Texts}
 use Rattle.separate.specs.declared.Written.{Written}
 
-refused-is : (common part : List ℕ) (room : ℕ) {f : Fault} {t : Translated} → Refuses f t → unmadeBy f ≡ asMade common part room t
-unfolding asMade
-refused-is common part room (refuses-common a b c d) = rw (a, b, c, d) refl
-refused-is common part room (refuses-part a b c d) = rw (a, b, c, d) refl
+refused-is : (common part : List ℕ) (room : ℕ) {f : Fault} {t : Translated} → Refuses f t → unmade_by f ≡ as_made common part room t
+unfolding as_made
+refused-is common part room (refuses_common a b c d) = rw (a, b, c, d) refl
+refused-is common part room (refuses_part a b c d) = rw (a, b, c, d) refl
 
 pub makes-fault : {common part old new : List ℕ} {t : Texts} {r : Made} (f : Fault) → ReadsTexts common part t → f ≡ t.fault → (f.number ≡ 0 → ⊥) → Refused old new f r → Makes common part old new r
-unfolding makeObject
+unfolding make_object
 makes-fault {common} {part} {old} {new} {t} {r} f x e z s =
     subst (λ (m : form.Made). Settles m old new r) (refused-is common part (count old) (rw (← e) at (x.refused (λ h. z (rw e h))))) s
 
@@ -52,12 +52,12 @@ mid-count {old} {lent} {mid} v =
     let a = ap length v.is ∙ length-append lent (drop (2 * (length old / 2)) old) in
     (omega (arith, a, v.long, length-drop (2 * (length old / 2)) old), omega (arith, v.long))
 
-lent_same : {old lent mid : List ℕ} (m : form.Made) → Even old lent mid → lentBytes m mid ≡ lentBytes m old
-unfolding lentBytes
+lent_same : {old lent mid : List ℕ} (m : form.Made) → Even old lent mid → lent_bytes m mid ≡ lent_bytes m old
+unfolding lent_bytes
 lent_same {old} {lent} {mid} m v =
     let c = (mid-count v).0 in
     let d : drop (2 * count old) mid ≡ drop (2 * count old) old = ap (drop (2 * count old)) v.is ∙ drop_at lent (drop (2 * count old) old) (2 * count old) v.long in
-    ap (λ n. bytes_of (lentObject m n) ++ drop (2 * n) mid) c ∙ ap (λ (l : List ℕ). bytes_of (lentObject m (count old)) ++ l) d
+    ap (λ n. bytes_of (lent_object m n) ++ drop (2 * n) mid) c ∙ ap (λ (l : List ℕ). bytes_of (lent_object m (count old)) ++ l) d
 
 settles-old : {old lent mid new : List ℕ} {r : Made} (m : form.Made) → Even old lent mid → Settles m mid new r → Settles m old new r
 settles-old m v s = record { answer = s.answer; lent = s.lent ∙ lent_same m v }
@@ -73,17 +73,17 @@ holds-mid {old} {lent} {mid} {ws} {n} v h =
 
 concluded : (common part : List ℕ) {old lent mid new : List ℕ} {w : Written} {r : Made} {t : Translated} → translate common part ≡ t → Writes common (length part) lent w t → length lent ≡ 2 * count old
     → mid ≡ lent ++ drop (2 * count old) old → Concludes mid new (length part) w r → Makes common part old new r
-unfolding makeObject asMade
-concluded common part {old} {lent} {mid} {new} {w} {r} e x l y k = subst (λ (t : Translated). Settles (asMade common part (count old) t) old new r) (sym e) (go x)
+unfolding make_object as_made
+concluded common part {old} {lent} {mid} {new} {w} {r} e x l y k = subst (λ (t : Translated). Settles (as_made common part (count old) t) old new r) (sym e) (go x)
   where
     v : Even old lent mid
     v = record { long = l; is = y }
 
-    go : {t : Translated} → Writes common (length part) lent w t → Settles (asMade common part (count old) t) old new r
-    go (object-written {o} z h) =
-        let ws = objectWords common (length part) o in
-        subst (λ n. Settles (ifFits part n ws) old new r) (mid-count v).0 (settles-old (ifFits part (count mid) ws) v (k.whole z part ws refl (holds-mid v h)))
-    go (not_written {t} z f) = subst (λ (m : form.Made). Settles m old new r) (refused-is common part (count old) f) (settles-old (unmadeBy w.fault) v (k.faulty z))
+    go : {t : Translated} → Writes common (length part) lent w t → Settles (as_made common part (count old) t) old new r
+    go (object_written {o} z h) =
+        let ws = object_words common (length part) o in
+        subst (λ n. Settles (if_fits part n ws) old new r) (mid-count v).0 (settles-old (if_fits part (count mid) ws) v (k.whole z part ws refl (holds-mid v h)))
+    go (not_written {t} z f) = subst (λ (m : form.Made). Settles m old new r) (refused-is common part (count old) f) (settles-old (unmade_by w.fault) v (k.faulty z))
 
 -- the whole words of what is lent
 

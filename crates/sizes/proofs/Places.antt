@@ -9,9 +9,9 @@ use lib.ListN.{length, get_or, set}
 use lib.Seq.{get_or-set_same, get_or-set_other}
 use Rattle.base.proofs.Laws.{lt-or-le}
 use Rattle.program.specs.Program.{Rule}
-use Rattle.program.specs.Table.{endWords, sizes, sizeRule, sizeRules, place}
+use Rattle.program.specs.Table.{end_words, sizes, size_rule, size_rules, place}
 use Rattle.program.proofs.Places.{place-first}
-use Rattle.emitter.specs.Emitted.{sortOf, IsRules, rules-more}
+use Rattle.emitter.specs.Emitted.{sort_of, IsRules, rules_more}
 use Rattle.emitter.proofs.Link.{program-stands}
 use Rattle.sizes.specs.Located.{Scanned, Locates}
 
@@ -19,7 +19,7 @@ pub record PlacesRest (cs sorts : List ℕ) (n rules : ℕ) (prog : List Rule) (
   pub rest : List Rule
   pub stands : IsRules cs sorts n q r rest
   pub count : r + length rest ≡ rules
-  pub sum : w + sizeRules rest ≡ sizeRules prog
+  pub sum : w + size_rules rest ≡ size_rules prog
   pub onward : (i : ℕ) → place (w + 1) rest i ≡ place 1 prog (r + i)
   pub behind : (i : ℕ) → i < r → i < length starts → get_or starts i 0 ≡ place 1 prog i
 
@@ -30,8 +30,8 @@ pub places-start : (cs sorts : List ℕ) (rules : ℕ) (starts : List ℕ) → P
 places-start cs sorts rules starts n prog h c =
     record { rest = prog; stands = h; count = omega arith; sum = omega arith; onward = λ i. (let a : 0 + 1 ≡ 1 = omega arith in let b : i ≡ 0 + i = omega arith in ap (λ (j : ℕ). place 1 prog j) b); behind = λ i l k. absurd (omega arith) }
 
-end_is : (v : Bool) (sort k : ℕ) → sort ≡ sortOf v → (sort ≡ 0 → k ≡ 1) → (sort ≡ 1 → k ≡ 0) → k ≡ length (endWords v)
-unfolding sortOf endWords
+end_is : (v : Bool) (sort k : ℕ) → sort ≡ sort_of v → (sort ≡ 0 → k ≡ 1) → (sort ≡ 1 → k ≡ 0) → k ≡ length (end_words v)
+unfolding sort_of end_words
 end_is true sort k e f g = g e
 end_is false sort k e f g = f e
 
@@ -42,12 +42,12 @@ place_kept prog starts r l i f e h k s (inr x) =
     let z : i ≡ r = omega arith in
     ap (λ (j : ℕ). get_or (set starts r l) j 0) z ∙ get_or-set_same starts r l 0 (omega arith) ∙ e ∙ ap (λ (j : ℕ). place 1 prog j) (sym z)
 
-places-step : (cs sorts : List ℕ) (n rules : ℕ) (prog : List Rule) (starts new : List ℕ) (q w r sort k q' v : ℕ) (rest : List Rule) → IsRules cs sorts n q r rest → r + length rest ≡ rules → w + sizeRules rest ≡ sizeRules prog
+places-step : (cs sorts : List ℕ) (n rules : ℕ) (prog : List Rule) (starts new : List ℕ) (q w r sort k q' v : ℕ) (rest : List Rule) → IsRules cs sorts n q r rest → r + length rest ≡ rules → w + size_rules rest ≡ size_rules prog
     → ((i : ℕ) → place (w + 1) rest i ≡ place 1 prog (r + i)) → ((i : ℕ) → i < r → i < length starts → get_or starts i 0 ≡ place 1 prog i)
     → r < rules → new ≡ set starts r (w + 1) → length new ≡ length starts → sort ≡ get_or sorts r 0 → (sort ≡ 0 → k ≡ 1) → (sort ≡ 1 → k ≡ 0) → Scanned cs q q' v → PlacesRest cs sorts n rules prog new q' (w + v + k) (r + 1)
-unfolding Scanned sizeRules sizeRule place
+unfolding Scanned size_rules size_rule place
 places-step cs sorts n rules prog starts new q w r sort k q' v [] h c s f g i e L y a b d = absurd (omega arith)
-places-step cs sorts n rules prog starts new q w r sort k q' v (b ∷ bs) (rules-more {e = E} x y z) c s f g i e L t a o d =
+places-step cs sorts n rules prog starts new q w r sort k q' v (b ∷ bs) (rules_more {e = E} x y z) c s f g i e L t a o d =
     let u = d n b.body E x in
     let m = end_is b.valued sort k (t ∙ y) a o in
     let z0 : r + 0 ≡ r = omega arith in
@@ -57,7 +57,7 @@ places-step cs sorts n rules prog starts new q w r sort k q' v (b ∷ bs) (rules
       stands = subst (λ (j : ℕ). IsRules cs sorts n j (r + 1) bs) (sym u.1) z;
       count = omega arith;
       sum = omega arith;
-      onward = λ j. (let p : w + v + k + 1 ≡ w + 1 + (sizes b.body + length (endWords b.valued)) = omega arith in let p2 : r + suc j ≡ r + 1 + j = omega arith in ap (λ (l : ℕ). place l bs j) p ∙ (f (suc j) ∙ ap (λ (l : ℕ). place 1 prog l) p2));
+      onward = λ j. (let p : w + v + k + 1 ≡ w + 1 + (sizes b.body + length (end_words b.valued)) = omega arith in let p2 : r + suc j ≡ r + 1 + j = omega arith in ap (λ (l : ℕ). place l bs j) p ∙ (f (suc j) ∙ ap (λ (l : ℕ). place 1 prog l) p2));
       behind = λ j l l2. subst (λ (ss : List ℕ). get_or ss j 0 ≡ place 1 prog j) (sym e) (place_kept prog starts r (w + 1) j g here l (omega (arith, ap length e)) (omega (arith, ap length e)) (lt-or-le j r));
     }
 
@@ -67,8 +67,8 @@ places-go cs sorts rules starts new q w r sort k q' v i e L t a o d f n prog h c
     let g = f n prog h c in
     places-step cs sorts n rules prog starts new q w r sort k q' v g.rest g.stands g.count g.sum g.onward g.behind i e L t a o d
 
-none_left : (rest : List Rule) → length rest ≡ 0 → sizeRules rest ≡ 0
-unfolding sizeRules
+none_left : (rest : List Rule) → length rest ≡ 0 → size_rules rest ≡ 0
+unfolding size_rules
 none_left [] h = refl
 none_left (b ∷ bs) h = absurd (omega arith)
 

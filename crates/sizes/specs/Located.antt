@@ -1,7 +1,7 @@
 -- Rule locations from the cells.
 use Rattle.std.specs.Prelude.{ℕ, ◌+◌, ◌*◌, ◌<◌, ◌≤◌, ◌≡◌, List, length, get_or}
 use Rattle.program.specs.Program.{Acts, Rule}
-use Rattle.program.specs.Table.{sizes, sizeRules, place}
+use Rattle.program.specs.Table.{sizes, size_rules, place}
 use Rattle.emitter.specs.Stands.{IsAll}
 use Rattle.emitter.specs.Emitted.{CellsOf}
 
@@ -24,7 +24,7 @@ Scanned cs p p' w = (n : ℕ) (q : Acts) (e : ℕ) → IsAll cs n p e q → (w �
 
 -- each rule's location, where there is room for it, and the whole size
 pub record Located (prog : List Rule) (starts : List ℕ) (size : ℕ) : Type 0 where
-  pub words : size ≡ sizeRules prog
+  pub words : size ≡ size_rules prog
   pub places : (r : ℕ) → r < length prog → r < length starts → get_or starts r 0 ≡ place 1 prog r
 
 unfoldable pub Locates : List ℕ → List ℕ → ℕ → List ℕ → ℕ → Type 0

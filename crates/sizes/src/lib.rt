@@ -1,7 +1,7 @@
 // Where each rule of a program stands in its table, from the program's cells, without the table.
 // Nothing is asked of the cells: on any cells each function ends and keeps to its bounds.
 ghost use Rattle.std.specs.Prelude.{◌≡◌, ℕ, ◌+◌, ◌-◌, ◌<◌, ◌≤◌, length, set};
-ghost use Rattle.sizes.specs.Heads.{cells_of, words_of, openAfter};
+ghost use Rattle.sizes.specs.Heads.{cells_of, words_of, open_after};
 ghost use Rattle.sizes.specs.Located.{Room, Moved, Scanned, Locates};
 
 use base::{byte, cell, least, wide};
@@ -65,7 +65,7 @@ fn words_of(k: u16) -> usize
 
 fn open_after(k: u16, d: usize) -> usize
     requires { (0 < d) × (d < 2000000000) }
-    ensures { result ≡ openAfter k d }
+    ensures { result ≡ open_after k d }
 {
     if k == cells::END {
         return d - 1;

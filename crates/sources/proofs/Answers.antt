@@ -12,7 +12,7 @@ use Rattle.frontend.specs.declared.Resolved.{Resolved}
 use Rattle.mapper.proofs.Answers.{its-place}
 use Rattle.names.specs.Known.{Checked, good, wrong}
 use Rattle.names.specs.Understand.{understand}
-use Rattle.processor.specs.Process.{process, part_of, checked, answerFor}
+use Rattle.processor.specs.Process.{process, part_of, checked, answer_for}
 use Rattle.program.specs.Program.{Rule}
 use Rattle.reader.specs.Counting.{Decides}
 use Rattle.reader.specs.declared.Out.{Out}
@@ -25,8 +25,8 @@ use Rattle.words.specs.Words.{Word}
 -- A text that is read
 
 module _ {text rows cells starts sorts : List ℕ} {r : Resolved} {p : Program} (resolved : Resolves text rows cells starts sorts r p (understand p)) (ws : List Word) (e : parse text ≡ got p ws) where
-  answer-by : (m : Checked (List Rule)) → understand p ≡ m → process text 4096 ≡ answerFor text 4096 (checked m)
-  answer-by m u = process-read text 4096 p ws e ∙ ap (λ k. answerFor text 4096 (checked k)) u
+  answer-by : (m : Checked (List Rule)) → understand p ≡ m → process text 4096 ≡ answer_for text 4096 (checked m)
+  answer-by m u = process-read text 4096 p ws e ∙ ap (λ k. answer_for text 4096 (checked k)) u
 
   pub read-wrong : {sheet : List ℕ} → (r.fault ≡ 0 → ⊥) → Reads text cells sorts sheet r.fault r.at r.len
   unfolding part_of

@@ -1,6 +1,6 @@
 -- What making a text ready for carrying promises: its table and its rules' rows, or the number and the part of its first fault.
 use Rattle.std.specs.Prelude.{Bool, List, ◌++◌, ◌≡◌, ℕ, ◌≤◌, length}
-use Rattle.carrier.specs.Held.{countHeld}
+use Rattle.carrier.specs.Held.{count_held}
 use Rattle.carrier.specs.Sheets.{Sheet}
 use Rattle.carry.specs.Carry.{source_of}
 use Rattle.emitter.specs.Emitted.{CellsOf}
@@ -36,8 +36,8 @@ pub data Prepares (text table sheet : List ℕ) (number start len : ℕ) : Answe
 pub record Sourced (text cells sorts sheet : List ℕ) : Type 0 where
   pub long : length sheet ≡ 770
   pub rows : Sheet text sheet (source_of text)
-  pub cells_are : CellsOf cells sorts (countHeld sheet) (source_of text).rules
-  pub short : Table.sizeRules (source_of text).rules ≤ 4096
+  pub cells_are : CellsOf cells sorts (count_held sheet) (source_of text).rules
+  pub short : Table.size_rules (source_of text).rules ≤ 4096
 
 -- a table that begins with the rules' words
 pub record Begins (table : List ℕ) (prog : List Rule) : Type 0 where
@@ -51,7 +51,7 @@ pub record Reads (text cells sorts sheet : List ℕ) (number start len : ℕ) : 
 
 -- the table of whatever rules are in the cells, if it has its room
 pub record Writes (cells sorts sheet table : List ℕ) : Type 0 where
-  pub writes : (prog : List Rule) → CellsOf cells sorts (countHeld sheet) prog → Table.sizeRules prog ≤ 4096 → Begins table prog
+  pub writes : (prog : List Rule) → CellsOf cells sorts (count_held sheet) prog → Table.size_rules prog ≤ 4096 → Begins table prog
 
 -- the text was read, and what it means is in the buffers, whole
 pub record InBuffers (text rows : List ℕ) (b : Resolved) (cells sorts : List ℕ) : Type 0 where

@@ -12,11 +12,11 @@ use Rattle.base.proofs.Laws.{same-eq}
 use Rattle.base.specs.Bools.{never}
 use Rattle.base.specs.Common.{same}
 use Rattle.declarations.specs.Decls.{Decl, feeds}
-use Rattle.names.specs.Known.{isWord}
+use Rattle.names.specs.Known.{is_word}
 use Rattle.symbols.proofs.Chains.{least-none, least_more, Following, chain-least, to-node, no_more, found_at, not_at}
 use Rattle.symbols.proofs.Searches.{Search, start}
-use Rattle.symbols.specs.Index.{Chain, chain-end, chain-node, Among, headAt, link_at, next_of, seedOf, bucketOf, key_of, Indexed}
-use Rattle.symbols.specs.Rows.{declAt, held}
+use Rattle.symbols.specs.Index.{Chain, chain_end, chain_node, Among, head_at, link_at, next_of, seed_of, bucket_of, key_of, Indexed}
+use Rattle.symbols.specs.Rows.{decl_at, held}
 use Rattle.symbols.specs.Search.{serves, knows, named}
 use Rattle.words.specs.Words.{Word}
 
@@ -65,7 +65,7 @@ module _ {X : Type 0} {F : ℕ → List Decl → X} {t : Decl → Bool} {h : ℕ
     pub ahead : (p ≡ 0) ⊎ (2 * lo < p)
     pub following : Following s text rows n lo rest
 
-  pub along-start : (b p : ℕ) (f : Indexed text rows n) → b < 511 → p ≡ headAt rows b → ((j : ℕ) → j < n → t (declAt text rows j) ≡ true → Among j (f.chain b)) → Along p
+  pub along-start : (b p : ℕ) (f : Indexed text rows n) → b < 511 → p ≡ head_at rows b → ((j : ℕ) → j < n → t (decl_at text rows j) ≡ true → Among j (f.chain b)) → Along p
   along-start b p f l e g = record {
     lo = 0;
     rest = f.chain b;
@@ -78,8 +78,8 @@ module _ {X : Type 0} {F : ℕ → List Decl → X} {t : Decl → Bool} {h : ℕ
   along-end {p} e a = go a.chain a.following
     where
       go : {is : List ℕ} → Chain rows p is → Following s text rows n a.lo is → F 0 (held text rows n) ≡ z
-      go (chain-end d) f = no_more s text rows least-none f
-      go (chain-node d u q c) f = absurd (omega (arith, d, e))
+      go (chain_end d) f = no_more s text rows least-none f
+      go (chain_node d u q c) f = absurd (omega (arith, d, e))
 
   -- the row of the node is past the rows
   pub along-past : {p : ℕ} → (p ≡ 0 → ⊥) → n ≤ (p - 1) / 2 → Along p → F 0 (held text rows n) ≡ z
@@ -88,7 +88,7 @@ module _ {X : Type 0} {F : ℕ → List Decl → X} {t : Decl → Bool} {h : ℕ
       high : (p ≡ 0 → ⊥) → 2 * n < p
       high x = omega (arith, l)
 
-  pub along-hit : {p : ℕ} → (p ≡ 0 → ⊥) → (p - 1) / 2 < n → t (declAt text rows ((p - 1) / 2)) ≡ true → Along p → F 0 (held text rows n) ≡ h ((p - 1) / 2) (declAt text rows ((p - 1) / 2))
+  pub along-hit : {p : ℕ} → (p ≡ 0 → ⊥) → (p - 1) / 2 < n → t (decl_at text rows ((p - 1) / 2)) ≡ true → Along p → F 0 (held text rows n) ≡ h ((p - 1) / 2) (decl_at text rows ((p - 1) / 2))
   along-hit {p} d l e a = found_at s text rows l (to-node s text rows (low d a.ahead) (chain-least ((p - 1) / 2) a.chain (inr (high d))) a.following) e
     where
       high : (p ≡ 0 → ⊥) → 2 * ((p - 1) / 2) < p
@@ -98,7 +98,7 @@ module _ {X : Type 0} {F : ℕ → List Decl → X} {t : Decl → Bool} {h : ℕ
       low x (inl y) = absurd (x y)
       low x (inr y) = omega (arith, y)
 
-  pub along-miss : {p q : ℕ} → (p ≡ 0 → ⊥) → t (declAt text rows ((p - 1) / 2)) ≡ false → q ≡ next_of rows p → Along p → Along q
+  pub along-miss : {p q : ℕ} → (p ≡ 0 → ⊥) → t (decl_at text rows ((p - 1) / 2)) ≡ false → q ≡ next_of rows p → Along p → Along q
   along-miss {p} {q} d e g a = go a.chain a.following
     where
       low : (k : ℕ) → p ≡ suc k → (p ≡ 0) ⊎ (2 * a.lo < p) → a.lo ≤ k / 2
@@ -106,13 +106,13 @@ module _ {X : Type 0} {F : ℕ → List Decl → X} {t : Decl → Bool} {h : ℕ
       low k c (inr y) = omega (arith, y, c)
 
       go : {is : List ℕ} → Chain rows p is → Following s text rows n a.lo is → Along q
-      go (chain-end c) f = absurd (d c)
-      go (chain-node {k = k} {is = is} c u w more) f = record {
+      go (chain_end c) f = absurd (d c)
+      go (chain_node {k = k} {is = is} c u w more) f = record {
         lo = k / 2;
         rest = is;
         chain = rw (g ∙ sym (next-link rows p k c w)) more;
         ahead = rw (g ∙ sym (next-link rows p k c w)) (up w);
-        following = not_at s text rows (to-node s text rows (low k c a.ahead) (least_more (omega arith) (chain-least (k / 2) more (up w))) f) (ap (λ (j : ℕ). t (declAt text rows j)) own ∙ e);
+        following = not_at s text rows (to-node s text rows (low k c a.ahead) (least_more (omega arith) (chain-least (k / 2) more (up w))) f) (ap (λ (j : ℕ). t (decl_at text rows j)) own ∙ e);
       }
         where
           own : k / 2 ≡ (p - 1) / 2
@@ -125,13 +125,13 @@ module _ {X : Type 0} {F : ℕ → List Decl → X} {t : Decl → Bool} {h : ℕ
 -- a row that passes a test is in the chain of the word
 
 -- a declaration and the class that it feeds begin with one number
-pub same-seed : (c d : ℕ) → serves c d ≡ true → seedOf c ≡ seedOf d
-unfolding serves seedOf
+pub same-seed : (c d : ℕ) → serves c d ≡ true → seed_of c ≡ seed_of d
+unfolding serves seed_of
 same-seed c d e = go (eqb d c) refl (eqb d 3) refl (eqb c 1) refl (eqb c 2) refl e
   where
     go : (own : Bool) → eqb d c ≡ own → (both : Bool) → eqb d 3 ≡ both → (input : Bool) → eqb c 1 ≡ input → (output : Bool) → eqb c 2 ≡ output
-        → (own || (both && (input || output))) ≡ true → seedOf c ≡ seedOf d
-    go true p both q input r output t z = ap seedOf (sym (eqb-true d c p))
+        → (own || (both && (input || output))) ≡ true → seed_of c ≡ seed_of d
+    go true p both q input r output t z = ap seed_of (sym (eqb-true d c p))
     go false p true q true r output t z = rw (eqb-true d 3 q, eqb-true c 1 r) refl
     go false p true q false r true t z = rw (eqb-true d 3 q, eqb-true c 2 t) refl
     go false p true q false r false t z = never z
@@ -140,36 +140,36 @@ same-seed c d e = go (eqb d c) refl (eqb d 3) refl (eqb c 1) refl (eqb c 2) refl
 module _ {text rows : List ℕ} {n : ℕ} (f : Indexed text rows n) (w : List ℕ) (j : ℕ) (l : j < n) (c : ℕ) where
   -- the chain of the word in the class c
   abbrev InChain : Type 0
-  InChain = Among j (f.chain (bucketOf (key_of rows) c w))
+  InChain = Among j (f.chain (bucket_of (key_of rows) c w))
 
-  alike : (v : List ℕ) → serves c (declAt text rows j).class ≡ true → w ≡ v → bucketOf (key_of rows) c w ≡ bucketOf (key_of rows) (declAt text rows j).class v
-  unfolding bucketOf
-  alike v s e = rw (e, same-seed c (declAt text rows j).class s) refl
+  alike : (v : List ℕ) → serves c (decl_at text rows j).class ≡ true → w ≡ v → bucket_of (key_of rows) c w ≡ bucket_of (key_of rows) (decl_at text rows j).class v
+  unfolding bucket_of
+  alike v s e = rw (e, same-seed c (decl_at text rows j).class s) refl
 
-  by-own-name : serves c (declAt text rows j).class ≡ true → same w (declAt text rows j).name.text ≡ true → InChain
-  by-own-name s e = rw (alike (declAt text rows j).name.text s (same-eq w (declAt text rows j).name.text e)) (f.names j l)
+  by-own-name : serves c (decl_at text rows j).class ≡ true → same w (decl_at text rows j).name.text ≡ true → InChain
+  by-own-name s e = rw (alike (decl_at text rows j).name.text s (same-eq w (decl_at text rows j).name.text e)) (f.names j l)
 
-  by-second : serves c (declAt text rows j).class ≡ true → isWord w (declAt text rows j).second ≡ true → InChain
-  unfolding isWord
-  by-second s e = go (declAt text rows j).second refl e
+  by-second : serves c (decl_at text rows j).class ≡ true → is_word w (decl_at text rows j).second ≡ true → InChain
+  unfolding is_word
+  by-second s e = go (decl_at text rows j).second refl e
     where
-      go : (o : Option Word) → (declAt text rows j).second ≡ o → isWord w o ≡ true → InChain
+      go : (o : Option Word) → (decl_at text rows j).second ≡ o → is_word w o ≡ true → InChain
       go none p q = never q
       go (some v) p q = rw (alike v.text s (same-eq w v.text q)) (f.seconds j v l p)
 
-  pub known_among : knows c w (declAt text rows j) ≡ true → InChain
+  pub known_among : knows c w (decl_at text rows j) ≡ true → InChain
   unfolding knows feeds serves
-  known_among e = go (feeds c (declAt text rows j)) refl (same w (declAt text rows j).name.text) refl e
+  known_among e = go (feeds c (decl_at text rows j)) refl (same w (decl_at text rows j).name.text) refl e
     where
-      go : (s : Bool) → feeds c (declAt text rows j) ≡ s → (a : Bool) → same w (declAt text rows j).name.text ≡ a → (s && (a || isWord w (declAt text rows j).second)) ≡ true → InChain
+      go : (s : Bool) → feeds c (decl_at text rows j) ≡ s → (a : Bool) → same w (decl_at text rows j).name.text ≡ a → (s && (a || is_word w (decl_at text rows j).second)) ≡ true → InChain
       go true p true q z = by-own-name p q
       go true p false q z = by-second p z
       go false p a q z = never z
 
-  pub named-among : named c w (declAt text rows j) ≡ true → InChain
+  pub named-among : named c w (decl_at text rows j) ≡ true → InChain
   unfolding named serves
-  named-among e = go (eqb (declAt text rows j).class c) refl e
+  named-among e = go (eqb (decl_at text rows j).class c) refl e
     where
-      go : (s : Bool) → eqb (declAt text rows j).class c ≡ s → (s && same w (declAt text rows j).name.text) ≡ true → InChain
+      go : (s : Bool) → eqb (decl_at text rows j).class c ≡ s → (s && same w (decl_at text rows j).name.text) ≡ true → InChain
       go true p z = by-own-name (rw p refl) z
       go false p z = never z

@@ -11,14 +11,14 @@ use Rattle.base.specs.Common.{same}
 use Rattle.scanner.proofs.WordLaws.{part_at}
 use Rattle.symbols.proofs.Orders.{Three, less, equal, more, three, first-lower, first-higher, first-same, lower-before, higher-after, lower-next, lower-here, higher-here, lower-longer, lower-end}
 use Rattle.symbols.proofs.Parts.{part-whole, part-own}
-use Rattle.symbols.specs.Index.{seedOf, word_at, count_of, nodeAt, key_at, nodeKey, lower, Ordered, Bound}
+use Rattle.symbols.specs.Index.{seed_of, word_at, count_of, node_at, key_at, node_key, lower, Ordered, Bound}
 use Rattle.symbols.specs.Search.{part}
 
-pub key-by : (text rows : List ℕ) (k a b c : ℕ) → 8 * (k / 2) ≡ a → word_at k ≡ b → word_at k + 1 ≡ c → key_at text rows k ≡ seedOf (get_or rows a 0) ∷ part text (get_or rows b 0) (get_or rows c 0)
+pub key-by : (text rows : List ℕ) (k a b c : ℕ) → 8 * (k / 2) ≡ a → word_at k ≡ b → word_at k + 1 ≡ c → key_at text rows k ≡ seed_of (get_or rows a 0) ∷ part text (get_or rows b 0) (get_or rows c 0)
 unfolding key_at
 key-by text rows k a b c e f g = keys e f g
   where
-    keys : {x y z u v w : ℕ} → x ≡ u → y ≡ v → z ≡ w → seedOf (get_or rows x 0) ∷ part text (get_or rows y 0) (get_or rows z 0) ≡ seedOf (get_or rows u 0) ∷ part text (get_or rows v 0) (get_or rows w 0)
+    keys : {x y z u v w : ℕ} → x ≡ u → y ≡ v → z ≡ w → seed_of (get_or rows x 0) ∷ part text (get_or rows y 0) (get_or rows z 0) ≡ seed_of (get_or rows u 0) ∷ part text (get_or rows v 0) (get_or rows w 0)
     keys p q r = cc
 
 -- Two words
@@ -74,29 +74,29 @@ module _ (text : List ℕ) (a n b m i : ℕ) (h : n ≤ length text - a) (k : m 
 
 -- A node's key and another
 
-module _ (text rows : List ℕ) (k f fam : ℕ) (w : List ℕ) (e : fam ≡ seedOf (get_or rows (8 * (k / 2)) 0)) where
+module _ (text rows : List ℕ) (k f fam : ℕ) (w : List ℕ) (e : fam ≡ seed_of (get_or rows (8 * (k / 2)) 0)) where
   pub below-first : fam < f → true ≡ lower (key_at text rows k) (f ∷ w)
   unfolding key_at
-  below-first l = sym (first-lower (seedOf (get_or rows (8 * (k / 2)) 0)) f _ w (omega (arith, e, l)))
+  below-first l = sym (first-lower (seed_of (get_or rows (8 * (k / 2)) 0)) f _ w (omega (arith, e, l)))
 
   pub above-first : f < fam → false ≡ lower (key_at text rows k) (f ∷ w)
   unfolding key_at
-  above-first l = sym (first-higher (seedOf (get_or rows (8 * (k / 2)) 0)) f _ w (omega (arith, e, l)))
+  above-first l = sym (first-higher (seed_of (get_or rows (8 * (k / 2)) 0)) f _ w (omega (arith, e, l)))
 
   pub below_word : f ≤ fam → fam ≤ f → (start len : ℕ) → start ≡ get_or rows (word_at k) 0 → len ≡ get_or rows (word_at k + 1) 0 → (r : Bool) → r ≡ lower (part text start len) w → r ≡ lower (key_at text rows k) (f ∷ w)
   unfolding key_at
-  below_word l m start len p q r g = (g ∙ parts p q) ∙ sym (first-same (seedOf (get_or rows (8 * (k / 2)) 0)) f _ w (omega (arith, e, l, m)))
+  below_word l m start len p q r g = (g ∙ parts p q) ∙ sym (first-same (seed_of (get_or rows (8 * (k / 2)) 0)) f _ w (omega (arith, e, l, m)))
     where
       parts : {x y u v : ℕ} → x ≡ u → y ≡ v → lower (part text x y) w ≡ lower (part text u v) w
       parts a b = cc
 
   pub other-seed : (fam ≡ f → ⊥) → false ≡ same (key_at text rows k) (f ∷ w)
   unfolding key_at
-  other-seed d = rw (ne_eqb (seedOf (get_or rows (8 * (k / 2)) 0)) f (λ z. d (e ∙ z))) refl
+  other-seed d = rw (ne_eqb (seed_of (get_or rows (8 * (k / 2)) 0)) f (λ z. d (e ∙ z))) refl
 
   pub same_word : fam ≡ f → (start len : ℕ) → start ≡ get_or rows (word_at k) 0 → len ≡ get_or rows (word_at k + 1) 0 → (r : Bool) → r ≡ same (part text start len) w → r ≡ same (key_at text rows k) (f ∷ w)
   unfolding key_at
-  same_word d start len p q r g = rw (eq-eqb (seedOf (get_or rows (8 * (k / 2)) 0)) f (sym e ∙ d)) (g ∙ parts p q)
+  same_word d start len p q r g = rw (eq-eqb (seed_of (get_or rows (8 * (k / 2)) 0)) f (sym e ∙ d)) (g ∙ parts p q)
     where
       parts : {x y u v : ℕ} → x ≡ u → y ≡ v → same (part text x y) w ≡ same (part text u v) w
       parts a b = cc
@@ -104,15 +104,15 @@ module _ (text rows : List ℕ) (k f fam : ℕ) (w : List ℕ) (e : fam ≡ seed
 -- The search
 
 -- what the code has compared is the key at the place p
-pub node-below : (text rows key : List ℕ) (k p : ℕ) → k ≡ nodeAt rows p → (r : Bool) → r ≡ lower (key_at text rows k) key → {t : Bool} → r ≡ t → lower (nodeKey text rows p) key ≡ t
+pub node-below : (text rows key : List ℕ) (k p : ℕ) → k ≡ node_at rows p → (r : Bool) → r ≡ lower (key_at text rows k) key → {t : Bool} → r ≡ t → lower (node_key text rows p) key ≡ t
 node-below text rows key k p e r f g = ap (λ (n : ℕ). lower (key_at text rows n) key) (sym e) ∙ (sym f ∙ g)
 
 -- the first place is from low to high
 pub record Between (text rows key : List ℕ) (low high : ℕ) : Type 0 where
   pub inside : low ≤ high
   pub top : high ≤ count_of rows
-  pub below : (p : ℕ) → p < low → lower (nodeKey text rows p) key ≡ true
-  pub above : (p : ℕ) → high ≤ p → p < count_of rows → lower (nodeKey text rows p) key ≡ false
+  pub below : (p : ℕ) → p < low → lower (node_key text rows p) key ≡ true
+  pub above : (p : ℕ) → high ≤ p → p < count_of rows → lower (node_key text rows p) key ≡ false
 
 pub between-all : {text rows key : List ℕ} {high : ℕ} → high ≡ count_of rows → Between text rows key 0 high
 between-all e = record { inside = omega arith; top = omega (arith, e); below = λ p l. absurd (omega (arith, l)); above = λ p l m. absurd (omega (arith, e, l, m)) }
@@ -121,18 +121,18 @@ pub between_done : {text rows key : List ℕ} {low high : ℕ} → high ≤ low 
 between_done l b = record { inside = omega (arith, b.inside, b.top); below = b.below; above = λ p m n. b.above p (omega (arith, l, m)) n }
 
 module _ {text rows key : List ℕ} {low high : ℕ} (o : Ordered text rows) (b : Between text rows key low high) (mid : ℕ) (h : mid < high) where
-  pub between-up : lower (nodeKey text rows mid) key ≡ true → Between text rows key (mid + 1) high
+  pub between-up : lower (node_key text rows mid) key ≡ true → Between text rows key (mid + 1) high
   between-up e = record { inside = omega (arith, h); top = b.top; below = λ p l. go p l (three p mid); above = b.above }
     where
-      go : (p : ℕ) → p < mid + 1 → Three p mid → lower (nodeKey text rows p) key ≡ true
-      go p l (less x) = lower-before (nodeKey text rows mid) (nodeKey text rows p) key (o.up p mid x (omega (arith, h, b.top))) e
-      go p l (equal x) = ap (λ (q : ℕ). lower (nodeKey text rows q) key) x ∙ e
+      go : (p : ℕ) → p < mid + 1 → Three p mid → lower (node_key text rows p) key ≡ true
+      go p l (less x) = lower-before (node_key text rows mid) (node_key text rows p) key (o.up p mid x (omega (arith, h, b.top))) e
+      go p l (equal x) = ap (λ (q : ℕ). lower (node_key text rows q) key) x ∙ e
       go p l (more x) = absurd (omega (arith, l, x))
 
-  pub between-down : low ≤ mid → lower (nodeKey text rows mid) key ≡ false → Between text rows key low mid
+  pub between-down : low ≤ mid → lower (node_key text rows mid) key ≡ false → Between text rows key low mid
   between-down m e = record { inside = m; top = omega (arith, h, b.top); below = b.below; above = λ p l n. go p l n (three p mid) }
     where
-      go : (p : ℕ) → mid ≤ p → p < count_of rows → Three p mid → lower (nodeKey text rows p) key ≡ false
+      go : (p : ℕ) → mid ≤ p → p < count_of rows → Three p mid → lower (node_key text rows p) key ≡ false
       go p l n (less x) = absurd (omega (arith, l, x))
-      go p l n (equal x) = ap (λ (q : ℕ). lower (nodeKey text rows q) key) x ∙ e
-      go p l n (more x) = higher-after key (nodeKey text rows mid) (nodeKey text rows p) e (o.up mid p x n)
+      go p l n (equal x) = ap (λ (q : ℕ). lower (node_key text rows q) key) x ∙ e
+      go p l n (more x) = higher-after key (node_key text rows mid) (node_key text rows p) e (o.up mid p x n)

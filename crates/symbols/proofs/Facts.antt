@@ -6,13 +6,13 @@ use mathlib.Core.Path.{◌≡◌, refl}
 use Prim.Native.Nat.{ℕ}
 use Rattle.base.specs.Common.{bytes}
 use Rattle.declarations.specs.Decls
-use Rattle.declarations.specs.Decls.{Decl, lookupIn, typeIn}
+use Rattle.declarations.specs.Decls.{Decl, lookup_in, type_in}
 use Rattle.names.specs.Known
 use Rattle.names.specs.Known.{good, wrong}
 use Rattle.symbols.specs.Index
-use Rattle.symbols.specs.Index.{bucketOf, seedOf, lower}
+use Rattle.symbols.specs.Index.{bucket_of, seed_of, lower}
 use Rattle.symbols.specs.Rows
-use Rattle.symbols.specs.Rows.{word_of, held, operationIn, ruleIn}
+use Rattle.symbols.specs.Rows.{word_of, held, operation_in, rule_in}
 use Rattle.words.specs.Words.{Word}
 
 abbrev text : List ℕ
@@ -52,34 +52,34 @@ pub past : held text rows 8 ≡ ds ++ (decl 0 0 (word_of text 257 0 0) none none
 unfolding Rows.opened
 past = refl
 
-pub looked-up : (lookupIn ds 1 (name 0) ∷ lookupIn ds 2 string ∷ lookupIn ds 10 (name 10) ∷ lookupIn ds 2 (name 6) ∷ lookupIn ds 4 (word_of text 257 1 1) ∷ [])
+pub looked-up : (lookup_in ds 1 (name 0) ∷ lookup_in ds 2 string ∷ lookup_in ds 10 (name 10) ∷ lookup_in ds 2 (name 6) ∷ lookup_in ds 4 (word_of text 257 1 1) ∷ [])
     ≡ (good 7 ∷ good 7 ∷ good 1 ∷ wrong 5 (name 6) ∷ wrong 3 (word_of text 257 1 1) ∷ [])
 unfolding Rows.opened Decls.opened Known.opened
 looked-up = refl
 
-pub called : (operationIn ds (name 12) ∷ operationIn ds (name 14) ∷ ruleIn ds (name 14) ∷ ruleIn ds (name 0) ∷ ruleIn ds (name 12) ∷ ruleIn ds (name 6) ∷ [])
+pub called : (operation_in ds (name 12) ∷ operation_in ds (name 14) ∷ rule_in ds (name 14) ∷ rule_in ds (name 0) ∷ rule_in ds (name 12) ∷ rule_in ds (name 6) ∷ [])
     ≡ (good 4 ∷ wrong 5 (name 14) ∷ good 5 ∷ good 6 ∷ wrong 5 (name 12) ∷ wrong 5 (name 6) ∷ [])
 unfolding Rows.opened Decls.opened Known.opened
 called = refl
 
 -- a type that is declared later is 3
-pub typed : (typeIn ds (held text rows 3) (name 8) ∷ typeIn ds (held text rows 2) (name 8) ∷ typeIn ds (held text rows 3) (name 12) ∷ [])
+pub typed : (type_in ds (held text rows 3) (name 8) ∷ type_in ds (held text rows 2) (name 8) ∷ type_in ds (held text rows 3) (name 12) ∷ [])
     ≡ (good 10 ∷ wrong 3 (name 8) ∷ wrong 5 (name 12) ∷ [])
 unfolding Rows.opened Decls.opened Known.opened
 typed = refl
 
 -- ((7 * 33 + 97) * 33 + 98) % 511, ((7 * 35 + 97) * 35 + 98) % 511
-pub hashed : (bucketOf 33 7 [] ∷ bucketOf 33 7 (bytes "ab") ∷ bucketOf 35 7 (bytes "ab") ∷ []) ≡ (7 ∷ 191 ∷ 315 ∷ [])
+pub hashed : (bucket_of 33 7 [] ∷ bucket_of 33 7 (bytes "ab") ∷ bucket_of 35 7 (bytes "ab") ∷ []) ≡ (7 ∷ 191 ∷ 315 ∷ [])
 unfolding Index.opened
 hashed = refl
 
 -- the classes of tokens are alike, that of errors is another
-pub hashed-tokens : (bucketOf 33 1 (bytes "ab") ∷ bucketOf 33 2 (bytes "ab") ∷ bucketOf 33 3 (bytes "ab") ∷ bucketOf 33 4 (bytes "ab") ∷ []) ≡ (300 ∷ 300 ∷ 300 ∷ 501 ∷ [])
+pub hashed-tokens : (bucket_of 33 1 (bytes "ab") ∷ bucket_of 33 2 (bytes "ab") ∷ bucket_of 33 3 (bytes "ab") ∷ bucket_of 33 4 (bytes "ab") ∷ []) ≡ (300 ∷ 300 ∷ 300 ∷ 501 ∷ [])
 unfolding Index.opened
 hashed-tokens = refl
 
 -- by class and then byte by byte; a word's beginning stands before it
-pub ordered : (lower (seedOf 2 ∷ bytes "b") (seedOf 4 ∷ bytes "a") ∷ lower (bytes "ab") (bytes "b") ∷ lower (bytes "a") (bytes "ab") ∷ lower (bytes "ab") (bytes "a") ∷ lower (bytes "a") (bytes "a") ∷ [])
+pub ordered : (lower (seed_of 2 ∷ bytes "b") (seed_of 4 ∷ bytes "a") ∷ lower (bytes "ab") (bytes "b") ∷ lower (bytes "a") (bytes "ab") ∷ lower (bytes "ab") (bytes "a") ∷ lower (bytes "a") (bytes "a") ∷ [])
     ≡ (true ∷ true ∷ true ∷ false ∷ false ∷ [])
 unfolding Index.opened
 ordered = refl

@@ -8,7 +8,7 @@ use native.Mathlib.Omega.{arith}
 use lib.ListN.{length, get_or, take, drop, length-take, length-drop, drop_of_length-le}
 use lib.Seq.{drop-cons, get_or-take, get_or-drop}
 use Rattle.base.specs.Common.{same}
-use Rattle.symbols.specs.Index.{hashFrom, seedOf, bucketOf}
+use Rattle.symbols.specs.Index.{hash_from, seed_of, bucket_of}
 use Rattle.symbols.specs.Search.{part}
 
 pub part-past : (text : List ℕ) (start len : ℕ) → length text ≤ start → 0 ≡ length (part text start len)
@@ -46,20 +46,20 @@ part-byte text start len i h = get_or-take len (drop start text) i 0 low ∙ get
     low = let g : length (part text start len) ≤ len = simp (length-take) (omega arith) in omega (arith, h, g)
 
 -- the hash takes one byte more
-pub hash-more : (key : ℕ) (w : List ℕ) (h i b : ℕ) → i < length w → get_or w i 0 ≡ b → hashFrom key h (drop i w) ≡ hashFrom key ((h * key + b) % 281474976710656) (drop (i + 1) w)
-unfolding hashFrom
+pub hash-more : (key : ℕ) (w : List ℕ) (h i b : ℕ) → i < length w → get_or w i 0 ≡ b → hash_from key h (drop i w) ≡ hash_from key ((h * key + b) % 281474976710656) (drop (i + 1) w)
+unfolding hash_from
 hash-more key w h i b l e = rw (add-one, drop-cons w i 0 l, sym e) refl
 
-pub hash-end : (key : ℕ) (w : List ℕ) (h i : ℕ) → length w ≤ i → hashFrom key h (drop i w) ≡ h
-unfolding hashFrom
+pub hash-end : (key : ℕ) (w : List ℕ) (h i : ℕ) → length w ≤ i → hash_from key h (drop i w) ≡ h
+unfolding hash_from
 hash-end key w h i l = rw (drop_of_length-le w l) refl
 
-pub bucket-end : (key class : ℕ) (w : List ℕ) (h i : ℕ) → length w ≤ i → hashFrom key h (drop i w) ≡ hashFrom key (seedOf class) w → h % 511 ≡ bucketOf key class w
-unfolding bucketOf
+pub bucket-end : (key class : ℕ) (w : List ℕ) (h i : ℕ) → length w ≤ i → hash_from key h (drop i w) ≡ hash_from key (seed_of class) w → h % 511 ≡ bucket_of key class w
+unfolding bucket_of
 bucket-end key class w h i l e = ap (λ (x : ℕ). x % 511) (sym (hash-end key w h i l) ∙ e)
 
-pub bucket-low : (key class : ℕ) (w : List ℕ) → bucketOf key class w < 511
-unfolding bucketOf
+pub bucket-low : (key class : ℕ) (w : List ℕ) → bucket_of key class w < 511
+unfolding bucket_of
 bucket-low key class w = omega arith
 
 -- a hash by a key of 16 bits

@@ -8,16 +8,16 @@ use lib.ListN.{length, get_or, set, length-set}
 use lib.Seq.{get_or-set_same, get_or-set_other}
 use Rattle.base.specs.Bools.{never}
 use Rattle.symbols.proofs.Orders.{Three, less, equal, more, three, lower-own, lower-not, key-alike}
-use Rattle.symbols.specs.Index.{seedOf, key_of, word_at, count_of, nodeAt, key_at, nodeKey, lower, Ordered, Bound, RowsKept, Opened, Inserted, InsertedSecond, none-second, put_second, Stands, Sorted, Kept}
+use Rattle.symbols.specs.Index.{seed_of, key_of, word_at, count_of, node_at, key_at, node_key, lower, Ordered, Bound, RowsKept, Opened, Inserted, InsertedSecond, none_second, put_second, Stands, Sorted, Kept}
 use Rattle.symbols.specs.Search.{part}
 
 -- the nodes from lo to hi are sorted
 pub record SortedFrom (text rows : List ℕ) (lo hi : ℕ) : Type 0 where
   pub ordered : Ordered text rows
-  pub rising : (p q : ℕ) → p < q → q < count_of rows → nodeKey text rows p ≡ nodeKey text rows q → nodeAt rows p < nodeAt rows q
-  pub high : (p : ℕ) → p < count_of rows → lo ≤ nodeAt rows p
+  pub rising : (p q : ℕ) → p < q → q < count_of rows → node_key text rows p ≡ node_key text rows q → node_at rows p < node_at rows q
+  pub high : (p : ℕ) → p < count_of rows → lo ≤ node_at rows p
   pub fits : count_of rows + lo ≤ hi
-  pub worded : (p : ℕ) → p < count_of rows → nodeAt rows p % 2 ≡ 1 → get_or rows (8 * (nodeAt rows p / 2) + 5) 0 ≡ 0 → ⊥
+  pub worded : (p : ℕ) → p < count_of rows → node_at rows p % 2 ≡ 1 → get_or rows (8 * (node_at rows p / 2) + 5) 0 ≡ 0 → ⊥
   pub names : (j : ℕ) → lo ≤ 2 * j → 2 * j < hi → Stands rows (2 * j)
   pub seconds : (j : ℕ) → lo ≤ 2 * j + 1 → 2 * j + 1 < hi → (get_or rows (8 * j + 5) 0 ≡ 0 → ⊥) → Stands rows (2 * j + 1)
 
@@ -64,8 +64,8 @@ sorted-skip {text} {rows} {hi} i z s = record {
 -- Node k before the sorted ones from k + 1 on
 
 module _ {text old new : List ℕ} {k hi : ℕ} (few : hi ≤ 1024) (s : SortedFrom text old (k + 1) hi) (f : Inserted text old new k) (word : k % 2 ≡ 1 → get_or old (8 * (k / 2) + 5) 0 ≡ 0 → ⊥) where
-  node-behind : (q : ℕ) → f.at < q → q < count_of new → nodeAt new q ≡ nodeAt old (q - 1)
-  node-behind q l m = ap (nodeAt new) (up_one q l) ∙ f.behind (q - 1) (omega (arith, l)) (omega (arith, l, m, f.count))
+  node-behind : (q : ℕ) → f.at < q → q < count_of new → node_at new q ≡ node_at old (q - 1)
+  node-behind q l m = ap (node_at new) (up_one q l) ∙ f.behind (q - 1) (omega (arith, l)) (omega (arith, l, m, f.count))
     where
       up_one : (q : ℕ) → f.at < q → q ≡ q - 1 + 1
       up_one q l = omega (arith, l)
@@ -82,40 +82,40 @@ module _ {text old new : List ℕ} {k hi : ℕ} (few : hi ≤ 1024) (s : SortedF
   old-behind : (q : ℕ) → f.at < q → q < count_of new → q - 1 < count_of old
   old-behind q l m = omega (arith, l, m, f.count)
 
-  key-before : (q : ℕ) → q < f.at → nodeKey text new q ≡ nodeKey text old q
-  key-before q l = ap (key_at text new) (f.before q l) ∙ key-kept (nodeAt old q) (s.ordered.low q (old-before q l))
+  key-before : (q : ℕ) → q < f.at → node_key text new q ≡ node_key text old q
+  key-before q l = ap (key_at text new) (f.before q l) ∙ key-kept (node_at old q) (s.ordered.low q (old-before q l))
 
-  key-own : nodeKey text new f.at ≡ key_at text old k
+  key-own : node_key text new f.at ≡ key_at text old k
   key-own = ap (key_at text new) f.own ∙ key-kept k low-node
 
-  key-behind : (q : ℕ) → f.at < q → q < count_of new → nodeKey text new q ≡ nodeKey text old (q - 1)
-  key-behind q l m = ap (key_at text new) (node-behind q l m) ∙ key-kept (nodeAt old (q - 1)) (s.ordered.low (q - 1) (old-behind q l m))
+  key-behind : (q : ℕ) → f.at < q → q < count_of new → node_key text new q ≡ node_key text old (q - 1)
+  key-behind q l m = ap (key_at text new) (node-behind q l m) ∙ key-kept (node_at old (q - 1)) (s.ordered.low (q - 1) (old-behind q l m))
 
-  low-at : (q : ℕ) → q < count_of new → Three q f.at → nodeAt new q < 1024
+  low-at : (q : ℕ) → q < count_of new → Three q f.at → node_at new q < 1024
   low-at q m (less x) = rw (f.before q x) (s.ordered.low q (old-before q x))
   low-at q m (equal x) = rw (x, f.own) low-node
   low-at q m (more x) = rw (node-behind q x m) (s.ordered.low (q - 1) (old-behind q x m))
 
-  high-at : (q : ℕ) → q < count_of new → Three q f.at → k ≤ nodeAt new q
+  high-at : (q : ℕ) → q < count_of new → Three q f.at → k ≤ node_at new q
   high-at q m (less x) = omega (arith, f.before q x, s.high q (old-before q x))
   high-at q m (equal x) = rw (x, f.own) (omega arith)
   high-at q m (more x) = omega (arith, node-behind q x m, s.high (q - 1) (old-behind q x m))
 
   -- the length of the second word of a node's row
-  second-kept : (q j : ℕ) → nodeAt new q ≡ j → j < 1024 → get_or new (8 * (nodeAt new q / 2) + 5) 0 ≡ 0 → get_or old (8 * (j / 2) + 5) 0 ≡ 0
+  second-kept : (q j : ℕ) → node_at new q ≡ j → j < 1024 → get_or new (8 * (node_at new q / 2) + 5) 0 ≡ 0 → get_or old (8 * (j / 2) + 5) 0 ≡ 0
   second-kept q j e l z = sym (f.rows.kept (8 * (j / 2) + 5) (omega (arith, l))) ∙ (ap (λ (i : ℕ). get_or new (8 * (i / 2) + 5) 0) (sym e) ∙ z)
 
-  odd-kept : (q j : ℕ) → nodeAt new q ≡ j → nodeAt new q % 2 ≡ 1 → j % 2 ≡ 1
+  odd-kept : (q j : ℕ) → node_at new q ≡ j → node_at new q % 2 ≡ 1 → j % 2 ≡ 1
   odd-kept q j e o = ap (λ (i : ℕ). i % 2) (sym e) ∙ o
 
-  worded-at : (q : ℕ) → q < count_of new → Three q f.at → nodeAt new q % 2 ≡ 1 → get_or new (8 * (nodeAt new q / 2) + 5) 0 ≡ 0 → ⊥
-  worded-at q m (less x) o z = s.worded q (old-before q x) (odd-kept q (nodeAt old q) (f.before q x) o) (second-kept q (nodeAt old q) (f.before q x) (s.ordered.low q (old-before q x)) z)
-  worded-at q m (equal x) o z = word (odd-kept q k (ap (nodeAt new) x ∙ f.own) o) (second-kept q k (ap (nodeAt new) x ∙ f.own) low-node z)
-  worded-at q m (more x) o z = s.worded (q - 1) (old-behind q x m) (odd-kept q (nodeAt old (q - 1)) (node-behind q x m) o) (second-kept q (nodeAt old (q - 1)) (node-behind q x m) (s.ordered.low (q - 1) (old-behind q x m)) z)
+  worded-at : (q : ℕ) → q < count_of new → Three q f.at → node_at new q % 2 ≡ 1 → get_or new (8 * (node_at new q / 2) + 5) 0 ≡ 0 → ⊥
+  worded-at q m (less x) o z = s.worded q (old-before q x) (odd-kept q (node_at old q) (f.before q x) o) (second-kept q (node_at old q) (f.before q x) (s.ordered.low q (old-before q x)) z)
+  worded-at q m (equal x) o z = word (odd-kept q k (ap (node_at new) x ∙ f.own) o) (second-kept q k (ap (node_at new) x ∙ f.own) low-node z)
+  worded-at q m (more x) o z = s.worded (q - 1) (old-behind q x m) (odd-kept q (node_at old (q - 1)) (node-behind q x m) o) (second-kept q (node_at old (q - 1)) (node-behind q x m) (s.ordered.low (q - 1) (old-behind q x m)) z)
 
-  up_at : (p q : ℕ) → p < q → q < count_of new → Three p f.at → Three q f.at → lower (nodeKey text new q) (nodeKey text new p) ≡ false
+  up_at : (p q : ℕ) → p < q → q < count_of new → Three p f.at → Three q f.at → lower (node_key text new q) (node_key text new p) ≡ false
   up_at p q l m (less x) (less y) = rw (key-before p x, key-before q y) (s.ordered.up p q l (old-before q y))
-  up_at p q l m (less x) (equal y) = rw (key-before p x, y, key-own) (lower-not (nodeKey text old p) (key_at text old k) (f.bound.below p x))
+  up_at p q l m (less x) (equal y) = rw (key-before p x, y, key-own) (lower-not (node_key text old p) (key_at text old k) (f.bound.below p x))
   up_at p q l m (less x) (more y) = rw (key-before p x, key-behind q y m) (s.ordered.up p (q - 1) (omega (arith, x, y)) (old-behind q y m))
   up_at p q l m (equal x) (less y) = absurd (omega (arith, x, y, l))
   up_at p q l m (equal x) (equal y) = absurd (omega (arith, x, y, l))
@@ -124,12 +124,12 @@ module _ {text old new : List ℕ} {k hi : ℕ} (few : hi ≤ 1024) (s : SortedF
   up_at p q l m (more x) (equal y) = absurd (omega (arith, x, y, l))
   up_at p q l m (more x) (more y) = rw (key-behind p x (omega (arith, l, m)), key-behind q y m) (s.ordered.up (p - 1) (q - 1) (omega (arith, l, x)) (old-behind q y m))
 
-  rising-at : (p q : ℕ) → p < q → q < count_of new → nodeKey text new p ≡ nodeKey text new q → Three p f.at → Three q f.at → nodeAt new p < nodeAt new q
+  rising-at : (p q : ℕ) → p < q → q < count_of new → node_key text new p ≡ node_key text new q → Three p f.at → Three q f.at → node_at new p < node_at new q
   rising-at p q l m e (less x) (less y) = rw (f.before p x, f.before q y) (s.rising p q l (old-before q y) (sym (key-before p x) ∙ (e ∙ key-before q y)))
   rising-at p q l m e (less x) (equal y) = never (sym (ap (λ (v : List ℕ). lower v (key_at text old k)) same_key ∙ lower-own (key_at text old k)) ∙ f.bound.below p x)
     where
-      same_key : nodeKey text old p ≡ key_at text old k
-      same_key = sym (key-before p x) ∙ (e ∙ (ap (nodeKey text new) y ∙ key-own))
+      same_key : node_key text old p ≡ key_at text old k
+      same_key = sym (key-before p x) ∙ (e ∙ (ap (node_key text new) y ∙ key-own))
   rising-at p q l m e (less x) (more y) = rw (f.before p x, node-behind q y m) (s.rising p (q - 1) (omega (arith, x, y)) (old-behind q y m) (sym (key-before p x) ∙ (e ∙ key-behind q y m)))
   rising-at p q l m e (equal x) (less y) = absurd (omega (arith, x, y, l))
   rising-at p q l m e (equal x) (equal y) = absurd (omega (arith, x, y, l))
@@ -177,15 +177,15 @@ module _ {text old new : List ℕ} {k hi : ℕ} (few : hi ≤ 1024) (s : SortedF
 -- A row's second word, where it has one, and then its name
 
 pub second-rows : {text old new : List ℕ} {i : ℕ} → InsertedSecond text old new i → RowsKept old new
-second-rows {text} {old} {new} (none-second z e) = record { size = ap length e; kept = λ j l. ap (λ (v : List ℕ). get_or v j 0) e }
+second-rows {text} {old} {new} (none_second z e) = record { size = ap length e; kept = λ j l. ap (λ (v : List ℕ). get_or v j 0) e }
 second-rows (put_second d f) = f.rows
 
 pub second_key : {text old new : List ℕ} {i : ℕ} → InsertedSecond text old new i → key_of new ≡ key_of old
-second_key (none-second z e) = ap (λ (v : List ℕ). get_or v 4607 0) e
+second_key (none_second z e) = ap (λ (v : List ℕ). get_or v 4607 0) e
 second_key (put_second d f) = f.key
 
 pub second-sorted : (text old new : List ℕ) (i : ℕ) {hi : ℕ} → 0 < i → hi ≤ 1024 → InsertedSecond text old new (i - 1) → SortedFrom text old (2 * i) hi → SortedFrom text new (2 * (i - 1) + 1) hi
-second-sorted text old new i {hi} l few (none-second z e) s = subst (λ (v : List ℕ). SortedFrom text v (2 * (i - 1) + 1) hi) (sym e) (sorted-skip (i - 1) z (subst (λ (k : ℕ). SortedFrom text old k hi) two-more s))
+second-sorted text old new i {hi} l few (none_second z e) s = subst (λ (v : List ℕ). SortedFrom text v (2 * (i - 1) + 1) hi) (sym e) (sorted-skip (i - 1) z (subst (λ (k : ℕ). SortedFrom text old k hi) two-more s))
   where
     two-more : 2 * i ≡ 2 * (i - 1) + 2
     two-more = omega (arith, l)
@@ -210,12 +210,12 @@ pub record Shifted (old rows : List ℕ) (j : ℕ) : Type 0 where
   pub size : length rows ≡ length old
   pub top : j ≤ count_of old
   pub kept : (i : ℕ) → i < 4608 + j → get_or rows i 0 ≡ get_or old i 0
-  pub behind : (q : ℕ) → j ≤ q → q < count_of old → nodeAt rows (q + 1) ≡ nodeAt old q
+  pub behind : (q : ℕ) → j ≤ q → q < count_of old → node_at rows (q + 1) ≡ node_at old q
 
 pub shift_none : (rows : List ℕ) (j : ℕ) → j ≡ count_of rows → Shifted rows rows j
 shift_none rows j e = record { size = refl; top = omega (arith, e); kept = λ i l. refl; behind = λ q l m. absurd (omega (arith, e, l, m)) }
 
-pub shift-more : {old rows : List ℕ} (j x : ℕ) → length old ≡ 6017 → count_of old < 1024 → Shifted old rows (j + 1) → x ≡ nodeAt rows j → Shifted old (set rows (4608 + j + 1) x) j
+pub shift-more : {old rows : List ℕ} (j x : ℕ) → length old ≡ 6017 → count_of old < 1024 → Shifted old rows (j + 1) → x ≡ node_at rows j → Shifted old (set rows (4608 + j + 1) x) j
 shift-more {old} {rows} j x size room s e = record {
   size = length-set rows (4608 + j + 1) x ∙ s.size;
   top = omega (arith, s.top);
@@ -223,15 +223,15 @@ shift-more {old} {rows} j x size room s e = record {
   behind = λ q l m. go q l m (three q j);
 }
   where
-    go : (q : ℕ) → j ≤ q → q < count_of old → Three q j → nodeAt (set rows (4608 + j + 1) x) (q + 1) ≡ nodeAt old q
+    go : (q : ℕ) → j ≤ q → q < count_of old → Three q j → node_at (set rows (4608 + j + 1) x) (q + 1) ≡ node_at old q
     go q l m (less y) = absurd (omega (arith, l, y))
-    go q l m (equal y) = ap (λ (i : ℕ). get_or (set rows (4608 + j + 1) x) i 0) here ∙ (get_or-set_same rows (4608 + j + 1) x 0 (omega (arith, s.size, size, room, s.top)) ∙ (e ∙ (s.kept (4608 + j) (omega arith) ∙ ap (nodeAt old) (sym y))))
+    go q l m (equal y) = ap (λ (i : ℕ). get_or (set rows (4608 + j + 1) x) i 0) here ∙ (get_or-set_same rows (4608 + j + 1) x 0 (omega (arith, s.size, size, room, s.top)) ∙ (e ∙ (s.kept (4608 + j) (omega arith) ∙ ap (node_at old) (sym y))))
       where
         here : 4608 + (q + 1) ≡ 4608 + j + 1
         here = omega (arith, y)
     go q l m (more y) = get_or-set_other rows (4608 + j + 1) (4608 + (q + 1)) x 0 (λ z. omega (arith, z, y)) ∙ s.behind q (omega (arith, y)) m
 
-pub shift-down : {old rows : List ℕ} (j x : ℕ) → 0 < j → length old ≡ 6017 → count_of old < 1024 → Shifted old rows j → x ≡ nodeAt rows (j - 1) → Shifted old (set rows (4608 + (j - 1) + 1) x) (j - 1)
+pub shift-down : {old rows : List ℕ} (j x : ℕ) → 0 < j → length old ≡ 6017 → count_of old < 1024 → Shifted old rows j → x ≡ node_at rows (j - 1) → Shifted old (set rows (4608 + (j - 1) + 1) x) (j - 1)
 shift-down {old} {rows} j x l size room s e = shift-more (j - 1) x size room (subst (Shifted old rows) one_more s) e
   where
     one_more : j ≡ j - 1 + 1
@@ -241,7 +241,7 @@ pub shift-done : {old rows : List ℕ} (p j : ℕ) → p ≤ j → j ≤ p → S
 shift-done p j l m s = record { size = s.size; kept = λ i n. s.kept i (omega (arith, n, l)); behind = λ q n o. s.behind q (omega (arith, n, m)) o }
 
 -- the first place by the code's numbers is that of the node's key
-pub bound-own : (text rows : List ℕ) (k f start len p : ℕ) → f ≡ seedOf (get_or rows (8 * (k / 2)) 0) → start ≡ get_or rows (word_at k) 0 → len ≡ get_or rows (word_at k + 1) 0
+pub bound-own : (text rows : List ℕ) (k f start len p : ℕ) → f ≡ seed_of (get_or rows (8 * (k / 2)) 0) → start ≡ get_or rows (word_at k) 0 → len ≡ get_or rows (word_at k + 1) 0
     → Bound text rows (f ∷ part text start len) p → Bound text rows (key_at text rows k) p
 unfolding key_at
 bound-own text rows k f start len p d e g b = subst (λ (v : List ℕ). Bound text rows v p) (keys d e g) b
@@ -268,5 +268,5 @@ inserted {text} {old} {mid} {new} k p c size room b o e refl-new = record {
     at_count : count_of new ≡ c + 1
     at_count = ap (λ (v : List ℕ). get_or v 4096 0) refl-new ∙ get_or-set_same (set mid (4608 + p) k) 4096 (c + 1) 0 (omega (arith, length-set mid (4608 + p) k, o.size, size))
 
-    at_place : nodeAt new p ≡ k
+    at_place : node_at new p ≡ k
     at_place = ap (λ (v : List ℕ). get_or v (4608 + p) 0) refl-new ∙ (get_or-set_other (set mid (4608 + p) k) 4096 (4608 + p) (c + 1) 0 (λ z. omega (arith, z)) ∙ get_or-set_same mid (4608 + p) k 0 (omega (arith, b.inside, room, o.size, size)))

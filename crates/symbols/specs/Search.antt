@@ -3,7 +3,7 @@ use Rattle.std.specs.Prelude.{Bool, ◌&&◌, ◌||◌, not, List, ◌≡◌, �
 use Rattle.std.proofs.Math.Option.{Option, none, some}
 use Rattle.base.specs.Common.{same}
 use Rattle.declarations.specs.Decls.{Decl, feeds}
-use Rattle.names.specs.Known.{isWord}
+use Rattle.names.specs.Known.{is_word}
 
 -- a part of the text, cut at the text's end
 abbrev pub part : List ℕ → ℕ → ℕ → List ℕ
@@ -15,7 +15,7 @@ serves c d = eqb d c || (eqb d 3 && (eqb c 1 || eqb c 2))
 
 -- w is its name or its string, in the class c
 unfoldable pub knows : ℕ → List ℕ → Decl → Bool
-knows c w d = feeds c d && (same w d.name.text || isWord w d.second)
+knows c w d = feeds c d && (same w d.name.text || is_word w d.second)
 
 -- w is its name, and c its class
 unfoldable pub named : ℕ → List ℕ → Decl → Bool
@@ -23,7 +23,7 @@ named c w d = eqb d.class c && same w d.name.text
 
 -- w is declared by it
 unfoldable pub declares : List ℕ → Decl → Bool
-declares w d = same w d.name.text || (not (eqb d.class 6) && isWord w d.second)
+declares w d = same w d.name.text || (not (eqb d.class 6) && is_word w d.second)
 
 -- a declaration of class d and value u has the value v in the class c
 unfoldable pub counts : ℕ → ℕ → ℕ → ℕ → Bool

@@ -2,11 +2,11 @@
 // read as 0, and a part of the text that reaches past the text's end is cut there.
 ghost use Rattle.std.specs.Prelude.{◌≡◌, List, ◌∷◌, ℕ, ◌+◌, ◌*◌, ◌-◌, ◌<◌, ◌≤◌, length, get_or};
 ghost use Rattle.base.specs.Common.{same, member, given};
-ghost use Rattle.names.specs.Known.{find, isWord};
+ghost use Rattle.names.specs.Known.{find, is_word};
 ghost use Rattle.names.specs.Declare.{values_of};
-ghost use Rattle.declarations.specs.Decls.{knownsIn, index_of, declaredIn, elsewhereIn, lookupIn, typeIn};
-ghost use Rattle.symbols.specs.Index.{seedOf, bucketOf, headAt, key_of, next_of, pushRows, pushSecond, pushName, RowsKept, count_of, key_at, lower, Ordered, Bound, Indexed, Opened, Inserted, InsertedSecond, Sorted, Kept};
-ghost use Rattle.symbols.specs.Rows.{word_of, declAt, held, number_of, row_in, operationIn, operatorsRow, ruleIn, Looks};
+ghost use Rattle.declarations.specs.Decls.{knowns_in, index_of, declared_in, elsewhere_in, lookup_in, type_in};
+ghost use Rattle.symbols.specs.Index.{seed_of, bucket_of, head_at, key_of, next_of, push_rows, push_second, push_name, RowsKept, count_of, key_at, lower, Ordered, Bound, Indexed, Opened, Inserted, InsertedSecond, Sorted, Kept};
+ghost use Rattle.symbols.specs.Rows.{word_of, decl_at, held, number_of, row_in, operation_in, operators_row, rule_in, Looks};
 ghost use Rattle.symbols.specs.Search.{part, serves, knows, named, declares, counts, Tells};
 
 use base::{byte, number};
@@ -149,7 +149,7 @@ fn serves(c: usize, d: usize) -> bool
 // The part is the name of declaration i.
 fn is_name(text: &[u8], rows: &[u16], i: usize, start: usize, len: usize) -> bool
     requires { i ≤ 512 }
-    ensures { result ≡ same (part text.now start len) (declAt text.now rows.now i).name.text }
+    ensures { result ≡ same (part text.now start len) (decl_at text.now rows.now i).name.text }
 {
     same_part(
         text,
@@ -163,7 +163,7 @@ fn is_name(text: &[u8], rows: &[u16], i: usize, start: usize, len: usize) -> boo
 // The part is the second word of declaration i.
 fn is_second(text: &[u8], rows: &[u16], i: usize, start: usize, len: usize) -> bool
     requires { i ≤ 512 }
-    ensures { result ≡ isWord (part text.now start len) (declAt text.now rows.now i).second }
+    ensures { result ≡ is_word (part text.now start len) (decl_at text.now rows.now i).second }
 {
     let n = number(rows, ROW * i + SECOND_LEN);
     if n == 0 {
@@ -175,7 +175,7 @@ fn is_second(text: &[u8], rows: &[u16], i: usize, start: usize, len: usize) -> b
 // The part is its name or its string, in the class.
 fn knows(text: &[u8], rows: &[u16], i: usize, class: usize, start: usize, len: usize) -> bool
     requires { i ≤ 512 }
-    ensures { result ≡ knows class (part text.now start len) (declAt text.now rows.now i) }
+    ensures { result ≡ knows class (part text.now start len) (decl_at text.now rows.now i) }
 {
     if !serves(class, number(rows, ROW * i)) {
         return false;
@@ -189,7 +189,7 @@ fn knows(text: &[u8], rows: &[u16], i: usize, class: usize, start: usize, len: u
 // The part is its name, and this is its class.
 fn named(text: &[u8], rows: &[u16], i: usize, class: usize, start: usize, len: usize) -> bool
     requires { i ≤ 512 }
-    ensures { result ≡ named class (part text.now start len) (declAt text.now rows.now i) }
+    ensures { result ≡ named class (part text.now start len) (decl_at text.now rows.now i) }
 {
     if number(rows, ROW * i) != class {
         return false;
@@ -200,7 +200,7 @@ fn named(text: &[u8], rows: &[u16], i: usize, class: usize, start: usize, len: u
 // The part is declared by it.
 fn declares(text: &[u8], rows: &[u16], i: usize, start: usize, len: usize) -> bool
     requires { i ≤ 512 }
-    ensures { result ≡ declares (part text.now start len) (declAt text.now rows.now i) }
+    ensures { result ≡ declares (part text.now start len) (decl_at text.now rows.now i) }
 {
     if is_name(text, rows, i, start, len) {
         return true;
@@ -226,7 +226,7 @@ fn counts(rows: &[u16], i: usize, class: usize, v: usize) -> bool
 
 // What the hash of a word of a class begins with: a token of both sides is looked up in both classes of tokens.
 fn seed(class: usize) -> usize
-    ensures same { result ≡ seedOf class }
+    ensures same { result ≡ seed_of class }
     ensures low { result < 281474976710656 }
 {
     if class == OUTPUT {
@@ -241,7 +241,7 @@ fn seed(class: usize) -> usize
 // The chain of a word of a class, by a key.
 fn bucket(text: &[u8], key: usize, class: usize, start: usize, len: usize) -> usize
     requires { key < 65536 }
-    ensures value { result ≡ bucketOf key class (part text.now start len) }
+    ensures value { result ≡ bucket_of key class (part text.now start len) }
     ensures upper_bound { result < 511 }
 {
     let n = part_len(text, start, len);
@@ -257,7 +257,7 @@ fn bucket(text: &[u8], key: usize, class: usize, start: usize, len: usize) -> us
 // Node k is put before the chain b.
 fn push_node(rows: &mut [u16], b: usize, k: usize)
     requires { (length rows.old ≡ 6017) × (b < 511) × (k < 1024) }
-    ensures { rows.new ≡ pushRows rows.old b k }
+    ensures { rows.new ≡ push_rows rows.old b k }
 {
     let first = rows[HEADS + b];
     rows[LINKS + k] = first;
@@ -267,7 +267,7 @@ fn push_node(rows: &mut [u16], b: usize, k: usize)
 // Row i is put before the chain of its second word, where it has one.
 fn push_second(text: &[u8], rows: &mut [u16], key: usize, i: usize)
     requires { (length rows.old ≡ 6017) × (key < 65536) × (i < 512) }
-    ensures { rows.new ≡ pushSecond key text.now rows.old i }
+    ensures { rows.new ≡ push_second key text.now rows.old i }
 {
     let len = number(rows, ROW * i + SECOND_LEN);
     if len == 0 {
@@ -281,7 +281,7 @@ fn push_second(text: &[u8], rows: &mut [u16], key: usize, i: usize)
 // Row i is put before the chain of its name.
 fn push_name(text: &[u8], rows: &mut [u16], key: usize, i: usize)
     requires { (length rows.old ≡ 6017) × (key < 65536) × (i < 512) }
-    ensures { rows.new ≡ pushName key text.now rows.old i }
+    ensures { rows.new ≡ push_name key text.now rows.old i }
 {
     let b = bucket(
         text,
@@ -297,7 +297,7 @@ fn push_name(text: &[u8], rows: &mut [u16], key: usize, i: usize)
 fn clear_heads(rows: &mut [u16], key: usize)
     requires { (length rows.old ≡ 6017) × (key < 65536) }
     ensures kept { RowsKept rows.old rows.new }
-    ensures clear { (b : ℕ) → b < 511 → headAt rows.new b ≡ 0 }
+    ensures clear { (b : ℕ) → b < 511 → head_at rows.new b ≡ 0 }
     ensures keyed { key_of rows.new ≡ key }
 {
     let mut b: usize = 0;
@@ -310,7 +310,7 @@ fn clear_heads(rows: &mut [u16], key: usize)
 
 // The first node of the chain of a word of a class.
 fn first_node(text: &[u8], rows: &[u16], class: usize, start: usize, len: usize) -> usize
-    ensures same { result ≡ headAt rows.now (bucketOf (key_of rows.now) class (part text.now start len)) }
+    ensures same { result ≡ head_at rows.now (bucket_of (key_of rows.now) class (part text.now start len)) }
     ensures low { result < 65536 }
 {
     number(
@@ -536,7 +536,7 @@ fn chained_value(
     len: usize,
 ) -> usize
     requires { (n ≤ 512) × Indexed text.now rows.now n }
-    ensures { Tells result (find (part text.now start len) (knownsIn class (held text.now rows.now n))) }
+    ensures { Tells result (find (part text.now start len) (knowns_in class (held text.now rows.now n))) }
 {
     let mut p = first_node(text, rows, class, start, len);
     while p != 0 {
@@ -584,7 +584,7 @@ fn sorted_value(
     len: usize,
 ) -> usize
     requires { (n ≤ 512) × Sorted text.now rows.now n }
-    ensures { Tells result (find (part text.now start len) (knownsIn class (held text.now rows.now n))) }
+    ensures { Tells result (find (part text.now start len) (knowns_in class (held text.now rows.now n))) }
 {
     let f = seed(class);
     let count = number(rows, COUNT);
@@ -642,8 +642,8 @@ pub fn find_value(
     len: usize,
 ) -> usize
     requires { Kept text.now rows.now n }
-    ensures same { result ≡ number_of (find (part text.now start len) (knownsIn class (held text.now rows.now n))) }
-    ensures tells { Tells result (find (part text.now start len) (knownsIn class (held text.now rows.now n))) }
+    ensures same { result ≡ number_of (find (part text.now start len) (knowns_in class (held text.now rows.now n))) }
+    ensures tells { Tells result (find (part text.now start len) (knowns_in class (held text.now rows.now n))) }
 {
     if number(rows, KEY) == 0 {
         return sorted_value(text, rows, n, class, start, len);
@@ -674,7 +674,7 @@ pub fn find_row(
 // The class has the part as a name or string.
 pub fn is_known(text: &[u8], rows: &[u16], n: usize, class: usize, start: usize, len: usize) -> bool
     requires { Kept text.now rows.now n }
-    ensures { result ≡ given (find (part text.now start len) (knownsIn class (held text.now rows.now n))) }
+    ensures { result ≡ given (find (part text.now start len) (knowns_in class (held text.now rows.now n))) }
 {
     find_value(text, rows, n, class, start, len) < NONE
 }
@@ -690,7 +690,7 @@ pub fn has_row(text: &[u8], rows: &[u16], n: usize, class: usize, start: usize, 
 // The part is declared in some class. The index goes by classes, so each row is asked: a lookup that failed asks this, for its fault.
 pub fn is_declared(text: &[u8], rows: &[u16], n: usize, start: usize, len: usize) -> bool
     requires { Kept text.now rows.now n }
-    ensures { result ≡ declaredIn (part text.now start len) (held text.now rows.now n) }
+    ensures { result ≡ declared_in (part text.now start len) (held text.now rows.now n) }
 {
     let mut i = 0;
     while i < n {
@@ -705,7 +705,7 @@ pub fn is_declared(text: &[u8], rows: &[u16], n: usize, start: usize, len: usize
 // The class has the value, whatever the text.
 pub fn has_value(rows: &[u16], n: usize, class: usize, v: usize) -> bool
     requires { n ≤ 512 }
-    ensures { (text : List ℕ) → result ≡ member v (values_of (knownsIn class (held text rows.now n))) }
+    ensures { (text : List ℕ) → result ≡ member v (values_of (knowns_in class (held text rows.now n))) }
 {
     let mut i = 0;
     while i < n {
@@ -729,7 +729,7 @@ pub struct Looked {
 // The fault of a part that is not in the class wanted.
 fn elsewhere(text: &[u8], rows: &[u16], n: usize, start: usize, len: usize) -> u16
     requires { Kept text.now rows.now n }
-    ensures { result ≡ elsewhereIn (held text.now rows.now n) (part text.now start len) }
+    ensures { result ≡ elsewhere_in (held text.now rows.now n) (part text.now start len) }
 {
     if is_declared(text, rows, n, start, len) {
         return base::NOT_WANTED;
@@ -747,7 +747,7 @@ pub fn value_of(
     len: usize,
 ) -> Looked
     requires { Kept text.now rows.now n }
-    ensures looks { (kind : ℕ) → Looks result.fault result.value (lookupIn (held text.now rows.now n) class (word_of text.now kind start len)) }
+    ensures looks { (kind : ℕ) → Looks result.fault result.value (lookup_in (held text.now rows.now n) class (word_of text.now kind start len)) }
     ensures low { result.value < 65536 }
 {
     let v = find_value(text, rows, n, class, start, len);
@@ -779,7 +779,7 @@ fn row_of(text: &[u8], rows: &[u16], n: usize, class: usize, start: usize, len: 
 // The declaration of an operation.
 pub fn operation_of(text: &[u8], rows: &[u16], n: usize, start: usize, len: usize) -> Looked
     requires { Kept text.now rows.now n }
-    ensures looks { (kind : ℕ) → Looks result.fault result.value (operationIn (held text.now rows.now n) (word_of text.now kind start len)) }
+    ensures looks { (kind : ℕ) → Looks result.fault result.value (operation_in (held text.now rows.now n) (word_of text.now kind start len)) }
     ensures low { result.fault ≡ 0 → result.value < n }
 {
     row_of(text, rows, n, OPERATION, start, len)
@@ -788,7 +788,7 @@ pub fn operation_of(text: &[u8], rows: &[u16], n: usize, start: usize, len: usiz
 // The declaration of a section of operators.
 pub fn operators_of(text: &[u8], rows: &[u16], n: usize, start: usize, len: usize) -> Looked
     requires { Kept text.now rows.now n }
-    ensures looks { (kind : ℕ) → Looks result.fault result.value (operatorsRow (held text.now rows.now n) (word_of text.now kind start len)) }
+    ensures looks { (kind : ℕ) → Looks result.fault result.value (operators_row (held text.now rows.now n) (word_of text.now kind start len)) }
     ensures low { result.fault ≡ 0 → result.value < n }
 {
     row_of(text, rows, n, OPERATORS, start, len)
@@ -797,7 +797,7 @@ pub fn operators_of(text: &[u8], rows: &[u16], n: usize, start: usize, len: usiz
 // The declaration of a rule.
 pub fn rule_of(text: &[u8], rows: &[u16], n: usize, start: usize, len: usize) -> Looked
     requires { Kept text.now rows.now n }
-    ensures looks { (kind : ℕ) → Looks result.fault result.value (ruleIn (held text.now rows.now n) (word_of text.now kind start len)) }
+    ensures looks { (kind : ℕ) → Looks result.fault result.value (rule_in (held text.now rows.now n) (word_of text.now kind start len)) }
     ensures low { result.fault ≡ 0 → result.value < n }
 {
     if has_row(text, rows, n, OPERATION, start, len) {
@@ -826,7 +826,7 @@ pub fn type_of(
     len: usize,
 ) -> Looked
     requires { Kept text.now rows.now n × (before ≤ n) }
-    ensures looks { (kind : ℕ) → Looks result.fault result.value (typeIn (held text.now rows.now n) (held text.now rows.now before) (word_of text.now kind start len)) }
+    ensures looks { (kind : ℕ) → Looks result.fault result.value (type_in (held text.now rows.now n) (held text.now rows.now before) (word_of text.now kind start len)) }
     ensures low { result.fault ≡ 0 → result.value < 8 + before }
 {
     let i = find_row(text, rows, before, TYPE, start, len);

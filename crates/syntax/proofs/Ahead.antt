@@ -9,9 +9,10 @@ use native.Mathlib.Omega.{arith}
 use borrow.Author.Tests.{leb-false}
 use lib.Dec.{eqb, ltb}
 use lib.ListN.{length}
-use Rattle.base.specs.Common.{if◌then◌else◌, given}
-use Rattle.syntax.specs.Reading.{Read, got, fault, Reader, onward, ◌>>=◌, ◌>>◌, pure, peek, pass, refuse, over, on◌then◌else◌, expect, longest, short, aName, optional}
-use Rattle.syntax.specs.Sections.{first_of, ofKind, kind_at, kindAhead, isFull, aParameter}
+use Rattle.std.specs.Prelude.{if◌then◌else◌}
+use Rattle.base.specs.Common.{given}
+use Rattle.syntax.specs.Reading.{Read, got, fault, Reader, onward, ◌>>=◌, ◌>>◌, pure, peek, pass, refuse, over, on◌then◌else◌, expect, longest, short, a_name, optional}
+use Rattle.syntax.specs.Sections.{first_of, of_kind, kind_at, kind_ahead, is_full, a_parameter}
 use Rattle.words.specs.Words.{Word, twice, name}
 
 no-got {ℓ} : {A : Type 0} {B : Type ℓ} {n : ℕ} {w : Word} {a : A} {rest : List Word} → fault n w ≡ got a rest → B
@@ -35,9 +36,9 @@ closed t vs w (c ∷ us) e = go (eqb c.kind (code ")")) e
     go true e₁ = same t (some w) vs us e₁
     go false e₁ = no-got e₁
 
-opened : (t : Option Word) (vs ws : List Word) → onward (aName ws) (λ w. (◌>>◌ (expect (code ")")) (pure (some w)))) ≡ got t vs
+opened : (t : Option Word) (vs ws : List Word) → onward (a_name ws) (λ w. (◌>>◌ (expect (code ")")) (pure (some w)))) ≡ got t vs
     → Same t vs (if eqb (peek ws).kind name && eqb (kind_at 1 ws) (code ")") then some (first_of true (eqb (kind_at 2 ws) twice)) else none)
-unfolding aName short over on◌then◌else◌ onward pass refuse peek kind_at
+unfolding a_name short over on◌then◌else◌ onward pass refuse peek kind_at
 opened t vs [] e = no-got e
 opened t vs (w ∷ us) e = go (eqb w.kind name) e
   where
@@ -51,12 +52,12 @@ opened t vs (w ∷ us) e = go (eqb w.kind name) e
     go true e₁ = judged (ltb longest (length w.text)) e₁
     go false e₁ = no-got e₁
 
-pub kind-read : (ws vs : List Word) (t : Option Word) → aParameter ws ≡ got t vs → kindAhead ws ≡ some (first_of (given t) (eqb (peek vs).kind twice))
-unfolding aParameter kindAhead on◌then◌else◌ onward pass peek kind_at
+pub kind-read : (ws vs : List Word) (t : Option Word) → a_parameter ws ≡ got t vs → kind_ahead ws ≡ some (first_of (given t) (eqb (peek vs).kind twice))
+unfolding a_parameter kind_ahead on◌then◌else◌ onward pass peek kind_at
 kind-read [] vs t e = same t none vs [] e
 kind-read (p ∷ ws) vs t e = go (eqb p.kind (code "(")) e
   where
-    go : (b : Bool) → (if b then (◌>>◌ pass (◌>>=◌ aName (λ w. (◌>>◌ (expect (code ")")) (pure (some w)))))) else pure none) (p ∷ ws) ≡ got t vs
+    go : (b : Bool) → (if b then (◌>>◌ pass (◌>>=◌ a_name (λ w. (◌>>◌ (expect (code ")")) (pure (some w)))))) else pure none) (p ∷ ws) ≡ got t vs
         → Same t vs (if b then (if eqb (peek ws).kind name && eqb (kind_at 1 ws) (code ")") then some (first_of true (eqb (kind_at 2 ws) twice)) else none)
         else some (first_of false (eqb p.kind twice)))
     go true e₁ = opened t vs ws e₁
@@ -80,11 +81,11 @@ optional-given {A} k m ws rest x e = go (eqb (peek ws).kind k) e
     go false d = let y : none ≡ x = cc in ap given (sym y)
 
 -- the kind of an operation of which both types have been read
-pub kinds-read : (ws vs rest : List Word) (t g : Option Word) → aParameter ws ≡ got t vs → optional twice aName vs ≡ got g rest
-    → kindAhead ws ≡ some (first_of (given t) (given g))
-kinds-read ws vs rest t g d e = kind-read ws vs t d ∙ ap (λ c. some (first_of (given t) c)) (sym (optional-given twice aName vs rest g e))
+pub kinds-read : (ws vs rest : List Word) (t g : Option Word) → a_parameter ws ≡ got t vs → optional twice a_name vs ≡ got g rest
+    → kind_ahead ws ≡ some (first_of (given t) (given g))
+kinds-read ws vs rest t g d e = kind-read ws vs t d ∙ ap (λ c. some (first_of (given t) c)) (sym (optional-given twice a_name vs rest g e))
 
 -- a kind that is not full has room for one more
-pub room-left : (seen : List ℕ) (k : Option ℕ) (b : ℕ) → k ≡ some b → isFull k seen ≡ false → ofKind b seen < 256
-unfolding isFull
-room-left seen k b d u = leb-false 256 (ofKind b seen) (rw d at u)
+pub room-left : (seen : List ℕ) (k : Option ℕ) (b : ℕ) → k ≡ some b → is_full k seen ≡ false → of_kind b seen < 256
+unfolding is_full
+room-left seen k b d u = leb-false 256 (of_kind b seen) (rw d at u)

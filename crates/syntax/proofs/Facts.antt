@@ -8,14 +8,14 @@ use Prim.Native.String.{String}
 use lib.Dec.{T, eqb}
 use lib.ListN.{length, replicate}
 use Rattle.base.specs.Common.{bytes}
-use Rattle.syntax.proofs.Marks.{markAt, unmarked}
+use Rattle.syntax.proofs.Marks.{mark_at, unmarked}
 use Rattle.syntax.specs.Actions
 use Rattle.syntax.specs.Parse
 use Rattle.syntax.specs.Parse.{parse}
 use Rattle.syntax.specs.Reading
 use Rattle.syntax.specs.Reading.{Read, got, fault}
 use Rattle.syntax.specs.Sections
-use Rattle.syntax.specs.Sections.{anOperation}
+use Rattle.syntax.specs.Sections.{an_operation}
 use Rattle.words.specs.Words
 use Rattle.words.specs.Words.{words}
 
@@ -39,9 +39,9 @@ agrees (got p ws) (stops n s l) = false
 agrees (fault m w) reads = false
 agrees (fault m w) (stops n s l) = eqb m n && eqb w.start s && eqb (length w.text) l
 
-unfoldable pub allAgree : List Line → Bool
-allAgree [] = true
-allAgree (l ∷ ls) = agrees (parse l.text) l.outcome && allAgree ls
+unfoldable pub all_agree : List Line → Bool
+all_agree [] = true
+all_agree (l ∷ ls) = agrees (parse l.text) l.outcome && all_agree ls
 
 -- so many times the same bytes
 unfoldable pub times : ℕ → String → List ℕ
@@ -52,11 +52,11 @@ times (suc n) s = bytes s ++ times n s
 abbrev pub fine : String → Line
 fine t = record { text = bytes t; outcome = reads }
 
-abbrev pub fineOf : List ℕ → Line
-fineOf t = record { text = t; outcome = reads }
+abbrev pub fine_of : List ℕ → Line
+fine_of t = record { text = t; outcome = reads }
 
 abbrev pub at_of : List ℕ → ℕ → ℕ → Line
-at_of t n l = record { text = unmarked (code "^") t; outcome = stops n (markAt (code "^") t) l }
+at_of t n l = record { text = unmarked (code "^") t; outcome = stops n (mark_at (code "^") t) l }
 
 abbrev pub at : String → ℕ → ℕ → Line
 at t n l = at_of (bytes t) n l
@@ -87,8 +87,8 @@ programs =
     ∷ at "rules M: ; END^" 2 0
     ∷ []
 
-pub programs-agree : T (allAgree programs)
-unfolding reading agrees allAgree markAt unmarked programs
+pub programs-agree : T (all_agree programs)
+unfolding reading agrees all_agree mark_at unmarked programs
 programs-agree = tt
 
 -- "A section is a head, a colon, one entry or more, a semicolon."
@@ -118,8 +118,8 @@ heads =
     ∷ at "input: a; ^; rules M: ; end" 2 1
     ∷ []
 
-pub heads-agree : T (allAgree heads)
-unfolding reading agrees allAgree markAt unmarked heads
+pub heads-agree : T (all_agree heads)
+unfolding reading agrees all_agree mark_at unmarked heads
 heads-agree = tt
 
 -- "A token entry is a name, an optional string, an optional `= number`; error and type entries have no string."
@@ -148,8 +148,8 @@ entries =
     ∷ at "input: a = ^_; rules M: ; end" 1 1
     ∷ []
 
-pub entries-agree : T (allAgree entries)
-unfolding reading agrees allAgree markAt unmarked entries
+pub entries-agree : T (all_agree entries)
+unfolding reading agrees all_agree mark_at unmarked entries
 entries-agree = tt
 
 -- "An operation entry is a name, an optional `(type)`, an optional `>> type`"; R2: types are names
@@ -172,8 +172,8 @@ operations =
     ∷ at "mechanism m: f^, g; rules M: ; end" 2 1
     ∷ []
 
-pub operations-agree : T (allAgree operations)
-unfolding reading agrees allAgree markAt unmarked operations
+pub operations-agree : T (all_agree operations)
+unfolding reading agrees all_agree mark_at unmarked operations
 operations-agree = tt
 
 -- "A rule is a name, an optional `>> type` (a choice rule), a colon, actions (perhaps none), a semicolon."
@@ -194,8 +194,8 @@ heading =
     ∷ at "rules M: a N^: ; end" 2 1
     ∷ []
 
-pub heading-agree : T (allAgree heading)
-unfolding reading agrees allAgree markAt unmarked heading
+pub heading-agree : T (all_agree heading)
+unfolding reading agrees all_agree mark_at unmarked heading
 heading-agree = tt
 
 -- "Actions: match a token; `?`; `.token`; `#error`; a cycle `{ }`; `>` ..; a choice `[ ]`; `@rule`; `>>`; an update operation, with its
@@ -234,8 +234,8 @@ actions =
     ∷ at "rules M: ^input; end" 2 5
     ∷ []
 
-pub actions-agree : T (allAgree actions)
-unfolding reading agrees allAgree markAt unmarked actions
+pub actions-agree : T (all_agree actions)
+unfolding reading agrees all_agree mark_at unmarked actions
 actions-agree = tt
 
 -- cycles and choices; "`*` alone, in the last place, is otherwise and may be the only alternative"
@@ -287,8 +287,8 @@ nested =
     ∷ at "rules M: {{{ ^" 2 0
     ∷ []
 
-pub nested-agree : T (allAgree nested)
-unfolding reading agrees allAgree markAt unmarked nested
+pub nested-agree : T (all_agree nested)
+unfolding reading agrees all_agree mark_at unmarked nested
 nested-agree = tt
 
 -- "Then 1, 2, 9 by the first word in the text, the lower number where one word has two"
@@ -306,13 +306,13 @@ order =
     ∷ at "rules M: ^abcdefghijklmnopqrstuvwxyz1234567 '' ; end" 9 33
     ∷ []
 
-pub order-agree : T (allAgree order)
-unfolding reading agrees allAgree markAt unmarked order
+pub order-agree : T (all_agree order)
+unfolding reading agrees all_agree mark_at unmarked order
 order-agree = tt
 
 -- "32 bytes a name", where a name may stand, and 2 where none may
-pub longNames : List Line
-longNames =
+pub long_names : List Line
+long_names =
     fine "input: abcdefghijklmnopqrstuvwxyz123456; rules abcdefghijklmnopqrstuvwxyz123456: abcdefghijklmnopqrstuvwxyz123456; end"
     ∷ at "input: ^abcdefghijklmnopqrstuvwxyz1234567;" 9 33
     ∷ at "type ^abcdefghijklmnopqrstuvwxyz1234567: v;" 9 33
@@ -337,13 +337,13 @@ longNames =
     ∷ at "rules M: op(v ^abcdefghijklmnopqrstuvwxyz1234567" 2 33
     ∷ []
 
-pub longNames-agree : T (allAgree longNames)
-unfolding reading agrees allAgree markAt unmarked longNames
-longNames-agree = tt
+pub long_names-agree : T (all_agree long_names)
+unfolding reading agrees all_agree mark_at unmarked long_names
+long_names-agree = tt
 
 -- "values to 65,535": a number, or the name that counting on comes to; where a number may not stand it is 2 (R9)
-pub bigValues : List Line
-bigValues =
+pub big_values : List Line
+big_values =
     fine "input: a = 65535; output: b; error: e; type t: v = 65535; type u: v; rules M: ; end"
     ∷ fine "input: a = 0000065535 b = 0 c; rules M: ; end"
     ∷ fine "input: a = 65534 b; rules M: ; end"
@@ -371,18 +371,18 @@ bigValues =
     ∷ at "rules M: op(^99999); end" 2 5
     ∷ []
 
-pub bigValues-agree : T (allAgree bigValues)
-unfolding reading agrees allAgree markAt unmarked bigValues
-bigValues-agree = tt
+pub big_values-agree : T (all_agree big_values)
+unfolding reading agrees all_agree mark_at unmarked big_values
+big_values-agree = tt
 
 -- R8: "at most 32 deep", cycles and choices counted together, anew in each rule; the word at fault is the 33rd that opens
 pub deep : List Line
 deep =
-    fineOf (bytes "rules M:" ++ (times 32 "{" ++ (times 32 "}" ++ bytes ";end")))
-    ∷ fineOf (bytes "rules M:" ++ (times 32 "[|a:" ++ (times 32 "]" ++ bytes ";end")))
-    ∷ fineOf (bytes "rules M:" ++ (times 16 "{[@R|*:" ++ (times 16 "]}" ++ (bytes ";N:" ++ (times 16 "[op|a:{" ++ (times 16 "}]" ++ bytes ";end"))))))
-    ∷ fineOf (bytes "rules M:" ++ (times 40 "{}[|*:]" ++ bytes ";end"))
-    ∷ fineOf (bytes "rules M:" ++ (times 31 "{" ++ (times 3 "{}[|a:|*:]" ++ (times 31 "}" ++ bytes ";end"))))
+    fine_of (bytes "rules M:" ++ (times 32 "{" ++ (times 32 "}" ++ bytes ";end")))
+    ∷ fine_of (bytes "rules M:" ++ (times 32 "[|a:" ++ (times 32 "]" ++ bytes ";end")))
+    ∷ fine_of (bytes "rules M:" ++ (times 16 "{[@R|*:" ++ (times 16 "]}" ++ (bytes ";N:" ++ (times 16 "[op|a:{" ++ (times 16 "}]" ++ bytes ";end"))))))
+    ∷ fine_of (bytes "rules M:" ++ (times 40 "{}[|*:]" ++ bytes ";end"))
+    ∷ fine_of (bytes "rules M:" ++ (times 31 "{" ++ (times 3 "{}[|a:|*:]" ++ (times 31 "}" ++ bytes ";end"))))
     ∷ at_of (bytes "rules M:" ++ (times 32 "{" ++ bytes "^{")) 9 1
     ∷ at_of (bytes "rules M:" ++ (times 32 "{" ++ bytes "^do od")) 9 2
     ∷ at_of (bytes "rules M:" ++ (times 16 "{[|*:" ++ bytes "^[ $")) 9 1
@@ -397,10 +397,10 @@ deep =
 -- "64 labels a choice", over all its alternatives; a 65th that is no label is 1 or 2
 pub labels : List Line
 labels =
-    fineOf (bytes "rules M:[|a" ++ (times 63 ",a" ++ bytes ":|*:];end"))
-    ∷ fineOf (bytes "rules M:[|a" ++ (times 31 ",a" ++ (bytes ":|b" ++ (times 31 ",'b'" ++ bytes ":];end"))))
-    ∷ fineOf (bytes "rules M:[|a" ++ (times 31 ",a" ++ (bytes ":[|c" ++ (times 63 ",c" ++ (bytes ":]|b" ++ (times 31 ",b" ++ bytes ":];end"))))))
-    ∷ fineOf (bytes "rules M:[" ++ (times 64 "|a:" ++ bytes "|*:];end"))
+    fine_of (bytes "rules M:[|a" ++ (times 63 ",a" ++ bytes ":|*:];end"))
+    ∷ fine_of (bytes "rules M:[|a" ++ (times 31 ",a" ++ (bytes ":|b" ++ (times 31 ",'b'" ++ bytes ":];end"))))
+    ∷ fine_of (bytes "rules M:[|a" ++ (times 31 ",a" ++ (bytes ":[|c" ++ (times 63 ",c" ++ (bytes ":]|b" ++ (times 31 ",b" ++ bytes ":];end"))))))
+    ∷ fine_of (bytes "rules M:[" ++ (times 64 "|a:" ++ bytes "|*:];end"))
     ∷ at_of (bytes "rules M:[|a" ++ (times 63 ",a" ++ bytes ",^bc:];end")) 9 2
     ∷ at_of (bytes "rules M:[|a" ++ (times 63 ",a" ++ bytes ",^'x'")) 9 3
     ∷ at_of (bytes "rules M:[|a" ++ (times 63 ",a" ++ bytes ",^abcdefghijklmnopqrstuvwxyz1234567:];end")) 9 33
@@ -426,8 +426,8 @@ many =
     ∷ record { text = replicate 32769 (code "$"); outcome = stops 9 32769 0 }
     ∷ []
 
-pub limits-agree : T (allAgree (deep ++ (labels ++ many)))
-unfolding reading agrees allAgree markAt unmarked times deep labels many
+pub limits-agree : T (all_agree (deep ++ (labels ++ many)))
+unfolding reading agrees all_agree mark_at unmarked times deep labels many
 limits-agree = tt
 
 -- an operation entry, and where the kind begins of which 256 operations stand before it
@@ -438,9 +438,9 @@ pub record Full : Type 0 where
 abbrev full : ℕ → Line → Full
 full b l = record { kind = b; entry = l }
 
-pub entriesAgree : List Full → Bool
-entriesAgree [] = true
-entriesAgree (f ∷ fs) = agrees (anOperation 256 (replicate 256 f.kind) (words f.entry.text)) f.entry.outcome && entriesAgree fs
+pub entries_agree : List Full → Bool
+entries_agree [] = true
+entries_agree (f ∷ fs) = agrees (an_operation 256 (replicate 256 f.kind) (words f.entry.text)) f.entry.outcome && entries_agree fs
 
 -- the 257th of its kind is at fault at its name, whatever faults stand behind it; while the kind is open it is not at fault yet (R9)
 pub crowded : List Full
@@ -484,6 +484,6 @@ crowded =
     ∷ full 768 (at "g(t ^>> abcdefghijklmnopqrstuvwxyz1234567;" 2 2)
     ∷ []
 
-pub crowded-agree : T (entriesAgree crowded)
-unfolding reading agrees entriesAgree markAt unmarked crowded
+pub crowded-agree : T (entries_agree crowded)
+unfolding reading agrees entries_agree mark_at unmarked crowded
 crowded-agree = tt

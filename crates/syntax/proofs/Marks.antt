@@ -2,11 +2,11 @@
 use mathlib.Core.List.{List, [], ◌∷◌}
 use Prim.Native.Nat.{ℕ, suc}
 use lib.Dec.{eqb}
-use Rattle.base.specs.Common.{if◌then◌else◌}
+use Rattle.std.specs.Prelude.{if◌then◌else◌}
 
-unfoldable pub markAt : ℕ → List ℕ → ℕ
-markAt mark [] = 0
-markAt mark (b ∷ s) = let later = suc (markAt mark s) in if eqb b mark then 0 else later
+unfoldable pub mark_at : ℕ → List ℕ → ℕ
+mark_at mark [] = 0
+mark_at mark (b ∷ s) = let later = suc (mark_at mark s) in if eqb b mark then 0 else later
 
 unfoldable pub unmarked : ℕ → List ℕ → List ℕ
 unmarked mark [] = []

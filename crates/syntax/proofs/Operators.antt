@@ -7,12 +7,12 @@ use Prim.Native.Nat.{ℕ}
 use Prim.Native.String.{String}
 use lib.Dec.{T}
 use Rattle.base.specs.Common.{bytes}
-use Rattle.syntax.proofs.Facts.{reading, stops, Line, agrees, allAgree, fine}
-use Rattle.syntax.proofs.Marks.{markAt, unmarked}
-use Rattle.syntax.proofs.Trees.{Counted, counted, values_of, instructionsOf, rankingsOf, countsIn, counts, allCount, sectionsOf}
+use Rattle.syntax.proofs.Facts.{reading, stops, Line, agrees, all_agree, fine}
+use Rattle.syntax.proofs.Marks.{mark_at, unmarked}
+use Rattle.syntax.proofs.Trees.{Counted, counted, values_of, instructions_of, rankings_of, counts_in, counts, all_count, sections_of}
 
 abbrev pub at : String → ℕ → ℕ → Line
-at t n l = record { text = unmarked (code "~") (bytes t); outcome = stops n (markAt (code "~") (bytes t)) l }
+at t n l = record { text = unmarked (code "~") (bytes t); outcome = stops n (mark_at (code "~") (bytes t)) l }
 
 pub operators : List Line
 operators =
@@ -59,8 +59,8 @@ operators =
     ∷ at "rules M: ^E~" 2 0
     ∷ []
 
-pub operators-read : T (allAgree operators)
-unfolding reading agrees allAgree markAt unmarked operators
+pub operators-read : T (all_agree operators)
+unfolding reading agrees all_agree mark_at unmarked operators
 operators-read = tt
 
 -- "9 for a level outside 1 to 15", at the number; 32 bytes a name; a word that may not stand there is 2 whatever its length
@@ -79,8 +79,8 @@ limits =
     ∷ at "rules M: ^E @~n23456789012345678901234567890123 0" 9 33
     ∷ []
 
-pub limits-read : T (allAgree limits)
-unfolding reading agrees allAgree markAt unmarked limits
+pub limits-read : T (all_agree limits)
+unfolding reading agrees all_agree mark_at unmarked limits
 limits-read = tt
 
 -- levels and sides
@@ -90,6 +90,6 @@ levels =
     ∷ counted "input: a; operators E: p 1 left x; input: b; rules M: ; end" ((0 ∷ []) ∷ (1 ∷ 0 ∷ []) ∷ (1 ∷ []) ∷ [])
     ∷ []
 
-pub levels-counted : T (allCount levels)
-unfolding reading values_of instructionsOf rankingsOf countsIn counts allCount sectionsOf levels
+pub levels-counted : T (all_count levels)
+unfolding reading values_of instructions_of rankings_of counts_in counts all_count sections_of levels
 levels-counted = tt

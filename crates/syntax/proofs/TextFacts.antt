@@ -5,20 +5,20 @@ use Prim.Native.Nat.{ℕ}
 use lib.Dec.{T, eqb}
 use lib.ListN.{length, replicate}
 use Rattle.base.specs.Common.{bytes}
-use Rattle.syntax.proofs.Facts.{reading, Line, agrees, times, fine, fineOf, at, at_of}
-use Rattle.syntax.proofs.Marks.{markAt, unmarked}
+use Rattle.syntax.proofs.Facts.{reading, Line, agrees, times, fine, fine_of, at, at_of}
+use Rattle.syntax.proofs.Marks.{mark_at, unmarked}
 use Rattle.syntax.specs.Reading.{Read, got, fault}
 use Rattle.syntax.specs.Texts
-use Rattle.syntax.specs.Texts.{Common, tooLong, readCommon, readPart}
+use Rattle.syntax.specs.Texts.{Common, too_long, read_common, read_part}
 
-unfoldable pub commonsAgree : List Line → Bool
-commonsAgree [] = true
-commonsAgree (l ∷ ls) = agrees (readCommon l.text) l.outcome && commonsAgree ls
+unfoldable pub commons_agree : List Line → Bool
+commons_agree [] = true
+commons_agree (l ∷ ls) = agrees (read_common l.text) l.outcome && commons_agree ls
 
 -- parts where `left` names may be declared
-unfoldable pub partsAgree : ℕ → List Line → Bool
-partsAgree left [] = true
-partsAgree left (l ∷ ls) = agrees (readPart left l.text) l.outcome && partsAgree left ls
+unfoldable pub parts_agree : ℕ → List Line → Bool
+parts_agree left [] = true
+parts_agree left (l ∷ ls) = agrees (read_part left l.text) l.outcome && parts_agree left ls
 
 -- "Sections go in one common part, then `rules`, `NAME >> type;` for every choice rule .., `end`"
 pub commons : List Line
@@ -52,14 +52,14 @@ commons =
 -- "128 rules, 512 names": 9 at the first listed name past what the sections leave
 pub crowds : List Line
 crowds =
-    fineOf (bytes "rules " ++ (times 128 "A>>t;" ++ bytes "end"))
+    fine_of (bytes "rules " ++ (times 128 "A>>t;" ++ bytes "end"))
     ∷ at_of (bytes "rules " ++ (times 128 "A>>t;" ++ bytes "^B $")) 9 1
-    ∷ fineOf (bytes "type t:v;input:" ++ (times 509 "a " ++ bytes ";rules A>>t;end"))
+    ∷ fine_of (bytes "type t:v;input:" ++ (times 509 "a " ++ bytes ";rules A>>t;end"))
     ∷ at_of (bytes "type t:v;input:" ++ (times 509 "a " ++ bytes ";rules A>>t;^B $")) 9 1
     ∷ []
 
-pub commons-agree : T (commonsAgree commons && commonsAgree crowds)
-unfolding reading Texts.opened agrees commonsAgree markAt unmarked times commons crowds
+pub commons-agree : T (commons_agree commons && commons_agree crowds)
+unfolding reading Texts.opened agrees commons_agree mark_at unmarked times commons crowds
 commons-agree = tt
 
 -- "rules go, between `rules` and `end`, in up to 16 further parts": one or more in each, and no section
@@ -78,8 +78,8 @@ parts =
     ∷ at "rules M: ; N: ; ^$" 1 1
     ∷ []
 
-pub parts-agree : T (partsAgree 2 parts && partsAgree 0 (at "rules ^M: ; end" 9 1 ∷ []) && partsAgree 512 (at_of (bytes "rules " ++ (times 128 "r:;" ++ bytes "^q $")) 9 1 ∷ []))
-unfolding reading Texts.opened agrees partsAgree markAt unmarked times parts
+pub parts-agree : T (parts_agree 2 parts && parts_agree 0 (at "rules ^M: ; end" 9 1 ∷ []) && parts_agree 512 (at_of (bytes "rules " ++ (times 128 "r:;" ++ bytes "^q $")) 9 1 ∷ []))
+unfolding reading Texts.opened agrees parts_agree mark_at unmarked times parts
 parts-agree = tt
 
 -- the names that the sections leave, and the lines of the list, which is not counted among them
@@ -87,11 +87,11 @@ unfoldable pub tells : Read Common → ℕ → ℕ → Bool
 tells (got c ws) left lines = eqb c.left left && eqb (length c.listed) lines
 tells (fault n w) left lines = false
 
-pub left-told : T (tells (readCommon (bytes "rules end")) 512 0 && tells (readCommon (bytes "input: a b; type t: x; rules A >> t; B >> t; C >> t; end")) 508 3)
+pub left-told : T (tells (read_common (bytes "rules end")) 512 0 && tells (read_common (bytes "input: a b; type t: x; rules A >> t; B >> t; C >> t; end")) 508 3)
 unfolding reading Texts.opened tells
 left-told = tt
 
 -- "The byte limit counts for each part"
-pub bytes-told : T (tooLong (replicate 32769 32) && not (tooLong (replicate 32768 32)))
+pub bytes-told : T (too_long (replicate 32769 32) && not (too_long (replicate 32768 32)))
 unfolding Texts.opened
 bytes-told = tt

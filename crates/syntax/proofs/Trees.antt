@@ -5,21 +5,22 @@ use mathlib.Core.Option.{Option, none, some}
 use Prim.Native.Nat.{ℕ}
 use Prim.Native.String.{String}
 use lib.Dec.{T}
-use Rattle.base.specs.Common.{if◌then◌else◌, bytes, same}
+use Rattle.std.specs.Prelude.{if◌then◌else◌}
+use Rattle.base.specs.Common.{bytes, same}
 use Rattle.base.specs.Tree.{plain, cycle, choice, done, ◌▸◌, nil, alternative, absent, otherwise}
 use Rattle.syntax.proofs.Facts.{reading}
 use Rattle.syntax.specs.Parse.{parse}
 use Rattle.syntax.specs.Reading.{Read, got, fault}
-use Rattle.syntax.specs.Written.{Constant, Plain, named, any, exit, emit, error, call, give, ranked, Selector, byToken, byRule, byOperation, Act, Acts, Alts, Other, Entry, Operation, Operator, Section, inputs, outputs, both, errors, values, operations, operators, Rule, Program}
+use Rattle.syntax.specs.Written.{Constant, Plain, named, any, exit, emit, error, call, give, ranked, Selector, by_token, by_rule, by_operation, Act, Acts, Alts, Other, Entry, Operation, Operator, Section, inputs, outputs, both, errors, values, operations, operators, Rule, Program}
 use Rattle.words.specs.Words.{Word}
 
-unfoldable pub sectionsOf : Read Program → List Section
-sectionsOf (got p ws) = p.sections
-sectionsOf (fault n w) = []
+unfoldable pub sections_of : Read Program → List Section
+sections_of (got p ws) = p.sections
+sections_of (fault n w) = []
 
-pub rulesOf : Read Program → List Rule
-rulesOf (got p ws) = p.rules
-rulesOf (fault n w) = []
+pub rules_of : Read Program → List Rule
+rules_of (got p ws) = p.rules
+rules_of (fault n w) = []
 
 -- Values and instruction numbers
 
@@ -27,29 +28,29 @@ unfoldable pub values_of : List Entry → List ℕ
 values_of [] = []
 values_of (e ∷ es) = e.value ∷ values_of es
 
-unfoldable pub instructionsOf : List Operation → List ℕ
-instructionsOf [] = []
-instructionsOf (o ∷ os) = o.instruction ∷ instructionsOf os
+unfoldable pub instructions_of : List Operation → List ℕ
+instructions_of [] = []
+instructions_of (o ∷ os) = o.instruction ∷ instructions_of os
 
 -- an operator's level, and 1 for right
-unfoldable pub rankingsOf : List Operator → List ℕ
-rankingsOf [] = []
-rankingsOf (o ∷ os) = o.level ∷ (if o.right then 1 else 0) ∷ rankingsOf os
+unfoldable pub rankings_of : List Operator → List ℕ
+rankings_of [] = []
+rankings_of (o ∷ os) = o.level ∷ (if o.right then 1 else 0) ∷ rankings_of os
 
-unfoldable pub countsIn : Section → List ℕ
-countsIn (inputs es) = values_of es
-countsIn (outputs es) = values_of es
-countsIn (both es) = values_of es
-countsIn (errors es) = values_of es
-countsIn (values w es) = values_of es
-countsIn (operations os) = instructionsOf os
-countsIn (operators w os) = rankingsOf os
+unfoldable pub counts_in : Section → List ℕ
+counts_in (inputs es) = values_of es
+counts_in (outputs es) = values_of es
+counts_in (both es) = values_of es
+counts_in (errors es) = values_of es
+counts_in (values w es) = values_of es
+counts_in (operations os) = instructions_of os
+counts_in (operators w os) = rankings_of os
 
 unfoldable pub counts : List Section → List (List ℕ) → Bool
 counts [] [] = true
 counts [] (x ∷ xs) = false
 counts (s ∷ ss) [] = false
-counts (s ∷ ss) (x ∷ xs) = same (countsIn s) x && counts ss xs
+counts (s ∷ ss) (x ∷ xs) = same (counts_in s) x && counts ss xs
 
 -- a text and the numbers of each of its sections
 pub record Counted : Type 0 where
@@ -59,9 +60,9 @@ pub record Counted : Type 0 where
 abbrev pub counted : String → List (List ℕ) → Counted
 counted t ns = record { text = t; numbers = ns }
 
-unfoldable pub allCount : List Counted → Bool
-allCount [] = true
-allCount (c ∷ cs) = counts (sectionsOf (parse (bytes c.text))) c.numbers && allCount cs
+unfoldable pub all_count : List Counted → Bool
+all_count [] = true
+all_count (c ∷ cs) = counts (sections_of (parse (bytes c.text))) c.numbers && all_count cs
 
 -- "types count from 0; a token or error section begins one above the greatest number so far in any class it feeds, or at 0. `= number`
 -- sets a value and counting goes on from it."; "updates from 256, updates with a parameter from 512, choice operations from 768, with a
@@ -80,66 +81,66 @@ countings =
     ((0 ∷ []) ∷ (256 ∷ 512 ∷ 768 ∷ 1024 ∷ 257 ∷ 513 ∷ []) ∷ (258 ∷ 769 ∷ 1025 ∷ 514 ∷ []) ∷ [])
     ∷ []
 
-pub all-counted : T (allCount countings)
-unfolding reading sectionsOf values_of instructionsOf rankingsOf countsIn counts allCount countings
+pub all-counted : T (all_count countings)
+unfolding reading sections_of values_of instructions_of rankings_of counts_in counts all_count countings
 all-counted = tt
 
 -- Rules
 
-pub constantText : Option Constant → List ℕ
-constantText none = []
-constantText (some c) = c.paren.text ++ (c.constant.text ++ bytes ")")
+pub constant_text : Option Constant → List ℕ
+constant_text none = []
+constant_text (some c) = c.paren.text ++ (c.constant.text ++ bytes ")")
 
 -- a value after `>>`, or `-`
-pub givenText : Option Word → List ℕ
-givenText none = bytes "-"
-givenText (some v) = v.text
+pub given_text : Option Word → List ℕ
+given_text none = bytes "-"
+given_text (some v) = v.text
 
-pub plainText : Plain → List ℕ
-plainText (named w c) = w.text ++ constantText c
-plainText (any w) = w.text
-plainText (exit w) = w.text
-plainText (emit w) = bytes "." ++ w.text
-plainText (error w) = bytes "#" ++ w.text
-plainText (call w) = bytes "@" ++ w.text
-plainText (give w v) = w.text ++ givenText v
-plainText (ranked s w r) = s.text ++ (w.text ++ (bytes "@" ++ r.text))
+pub plain_text : Plain → List ℕ
+plain_text (named w c) = w.text ++ constant_text c
+plain_text (any w) = w.text
+plain_text (exit w) = w.text
+plain_text (emit w) = bytes "." ++ w.text
+plain_text (error w) = bytes "#" ++ w.text
+plain_text (call w) = bytes "@" ++ w.text
+plain_text (give w v) = w.text ++ given_text v
+plain_text (ranked s w r) = s.text ++ (w.text ++ (bytes "@" ++ r.text))
 
-pub selectorText : Selector → List ℕ
-selectorText byToken = []
-selectorText (byRule w) = bytes "@" ++ w.text
-selectorText (byOperation w c) = w.text ++ constantText c
+pub selector_text : Selector → List ℕ
+selector_text by_token = []
+selector_text (by_rule w) = bytes "@" ++ w.text
+selector_text (by_operation w c) = w.text ++ constant_text c
 
-pub labelsText : List Word → List ℕ
-labelsText [] = bytes ":"
-labelsText (w ∷ ws) = bytes "," ++ (w.text ++ labelsText ws)
+pub labels_text : List Word → List ℕ
+labels_text [] = bytes ":"
+labels_text (w ∷ ws) = bytes "," ++ (w.text ++ labels_text ws)
 
 -- the actions, each with a space after it
 mutual
-  pub actText : Act → List ℕ
-  actText (plain p) = plainText p ++ bytes " "
-  actText (cycle b) = bytes "{" ++ (actsText b ++ bytes "}")
-  actText (choice s q o) = bytes "[" ++ (selectorText s ++ (altsText q ++ (otherText o ++ bytes "]")))
+  pub act_text : Act → List ℕ
+  act_text (plain p) = plain_text p ++ bytes " "
+  act_text (cycle b) = bytes "{" ++ (acts_text b ++ bytes "}")
+  act_text (choice s q o) = bytes "[" ++ (selector_text s ++ (alts_text q ++ (other_text o ++ bytes "]")))
 
-  pub actsText : Acts → List ℕ
-  actsText done = []
-  actsText (a ▸ q) = actText a ++ actsText q
+  pub acts_text : Acts → List ℕ
+  acts_text done = []
+  acts_text (a ▸ q) = act_text a ++ acts_text q
 
-  pub altsText : Alts → List ℕ
-  altsText nil = []
-  altsText (alternative ls b q) = bytes "|" ++ (labelsText ls ++ (actsText b ++ altsText q))
+  pub alts_text : Alts → List ℕ
+  alts_text nil = []
+  alts_text (alternative ls b q) = bytes "|" ++ (labels_text ls ++ (acts_text b ++ alts_text q))
 
-  pub otherText : Other → List ℕ
-  otherText absent = []
-  otherText (otherwise b) = bytes "|*" ++ actsText b
+  pub other_text : Other → List ℕ
+  other_text absent = []
+  other_text (otherwise b) = bytes "|*" ++ acts_text b
 
-pub headText : Option Word → List ℕ
-headText none = []
-headText (some t) = bytes ">>" ++ t.text
+pub head_text : Option Word → List ℕ
+head_text none = []
+head_text (some t) = bytes ">>" ++ t.text
 
-pub rulesText : List Rule → List ℕ
-rulesText [] = []
-rulesText (r ∷ rs) = r.rule.text ++ (headText r.gives ++ (bytes ":" ++ (actsText r.body ++ (r.closing.text ++ rulesText rs))))
+pub rules_text : List Rule → List ℕ
+rules_text [] = []
+rules_text (r ∷ rs) = r.rule.text ++ (head_text r.gives ++ (bytes ":" ++ (acts_text r.body ++ (r.closing.text ++ rules_text rs))))
 
 -- a text and its rules in one spelling
 pub record Spelt : Type 0 where
@@ -149,9 +150,9 @@ pub record Spelt : Type 0 where
 abbrev pub spelt : String → String → Spelt
 spelt t a = record { text = t; again = a }
 
-pub allSpell : List Spelt → Bool
-allSpell [] = true
-allSpell (x ∷ xs) = same (rulesText (rulesOf (parse (bytes x.text)))) (bytes x.again) && allSpell xs
+pub all_spell : List Spelt → Bool
+all_spell [] = true
+all_spell (x ∷ xs) = same (rules_text (rules_of (parse (bytes x.text)))) (bytes x.again) && all_spell xs
 
 pub spellings : List Spelt
 spellings =
@@ -166,6 +167,6 @@ spellings =
     ∷ spelt "rules M: a % b ;\n c % ; end\n; N: ; end" "M:a c ;N:;"
     ∷ []
 
-pub all-spelt : T (allSpell spellings)
-unfolding reading rulesOf constantText givenText plainText selectorText labelsText actText headText rulesText allSpell spellings
+pub all-spelt : T (all_spell spellings)
+unfolding reading rules_of constant_text given_text plain_text selector_text labels_text act_text head_text rules_text all_spell spellings
 all-spelt = tt

@@ -1,38 +1,37 @@
 -- "A program is sections, then `rules`, one rule or more, `end`, and no word after it."
-use Rattle.std.specs.Prelude.{true, List, [], ◌∷◌, ℕ, zero, suc, ◌+◌, ◌-◌, min, eqb, ltb, length}
+use Rattle.std.specs.Prelude.{true, List, [], ◌∷◌, ℕ, zero, suc, ◌+◌, ◌-◌, min, eqb, ltb, length, if◌then◌else◌}
 use Rattle.std.proofs.Math.Option.{none, some}
 use Prim.Native.Char.{code}
-use Rattle.base.specs.Common.{if◌then◌else◌}
 use Rattle.syntax.specs.Actions.{actions}
-use Rattle.syntax.specs.Reading.{Read, fault, Reader, onward, ◌>>=◌, ◌>>◌, pure, peek, pass, refuse, on◌then◌else◌, expect, aName, oneName, optional}
-use Rattle.syntax.specs.Sections.{nothing, someSections}
+use Rattle.syntax.specs.Reading.{Read, fault, Reader, onward, ◌>>=◌, ◌>>◌, pure, peek, pass, refuse, on◌then◌else◌, expect, a_name, one_name, optional}
+use Rattle.syntax.specs.Sections.{nothing, some_sections}
 use Rattle.syntax.specs.Written.{Rule, Program}
 use Rattle.words.specs.Words.{Word, words, last, twice, name, rules, end}
 
 -- a rule, where `left` more may be declared
-unfoldable pub aRule : ℕ → ℕ → Reader Rule
-aRule k left = do
-  w ← oneName left
-  g ← optional twice aName
+unfoldable pub a_rule : ℕ → ℕ → Reader Rule
+a_rule k left = do
+  w ← one_name left
+  g ← optional twice a_name
   expect (code ":")
   b ← actions k 32
   e ← expect (code ";")
   pure (record { rule = w; gives = g; body = b; closing = e })
 
-unfoldable pub someRules : ℕ → ℕ → Reader (List Rule)
-someRules zero left ws = refuse ws
-someRules (suc k) left ws =
+unfoldable pub some_rules : ℕ → ℕ → Reader (List Rule)
+some_rules zero left ws = refuse ws
+some_rules (suc k) left ws =
     (do
-      r ← aRule k left
-      more ← on name then someRules k (left - 1) else pure []
+      r ← a_rule k left
+      more ← on name then some_rules k (left - 1) else pure []
       pure (r ∷ more)) ws
 
 -- "Limits: 128 rules"
 unfoldable pub program : ℕ → Reader Program
 program k = do
-  s ← someSections k nothing
+  s ← some_sections k nothing
   expect rules
-  rs ← someRules k (min 128 s.left)
+  rs ← some_rules k (min 128 s.left)
   expect end
   expect last
   pure (record { sections = s.sections; rules = rs })
@@ -47,5 +46,5 @@ parse text = let read = program (length text + 1) (words text) in if ltb 32768 (
 
 -- all of this file computes where this is unfolded
 unfoldable pub opened : Unit {0}
-unfolding aRule someRules program end_of parse
+unfolding a_rule some_rules program end_of parse
 opened = tt

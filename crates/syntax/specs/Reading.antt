@@ -1,8 +1,7 @@
 -- Reading words one after the other: what is read, or the first fault 1, 2 or 9 at its word. "Then 1, 2, 9 by the first word in the
 -- text, the lower number where one word has two": a word's kind is tested before a limit that it passes.
-use Rattle.std.specs.Prelude.{true, ◌&&◌, List, [], ◌∷◌, ℕ, eqb, ltb, length}
+use Rattle.std.specs.Prelude.{true, ◌&&◌, List, [], ◌∷◌, ℕ, eqb, ltb, length, if◌then◌else◌}
 use Rattle.std.proofs.Math.Option.{Option, none, some}
-use Rattle.base.specs.Common.{if◌then◌else◌}
 use Rattle.words.specs.Words.{Word, bad, last, name, number, string, value}
 
 -- what reading gives: a value and the words left, or a fault and its word
@@ -64,15 +63,15 @@ longest = 32
 unfoldable pub short : Reader Word
 short ws = if ltb longest (length (peek ws).text) then over ws else pass ws
 
-unfoldable pub aName : Reader Word
-aName = on name then short else refuse
+unfoldable pub a_name : Reader Word
+a_name = on name then short else refuse
 
 -- a name where `left` more may stand
-unfoldable pub oneName : ℕ → Reader Word
-oneName left = on name then within left short else refuse
+unfoldable pub one_name : ℕ → Reader Word
+one_name left = on name then within left short else refuse
 
-unfoldable pub nameOrString : Reader Word
-nameOrString = on string then pass else aName
+unfoldable pub name_or_string : Reader Word
+name_or_string = on string then pass else a_name
 
 -- "values to 65,535": the next word, a number
 unfoldable pub small : Reader ℕ
@@ -87,5 +86,5 @@ optional k m = on k then (do pass; a ← m; pure (some a)) else pure none
 
 -- all of this file computes where this is unfolded
 unfoldable pub opened : Unit {0}
-unfolding onward peek pass refuse over within on◌then◌else◌ expect short aName oneName nameOrString small a_number optional
+unfolding onward peek pass refuse over within on◌then◌else◌ expect short a_name one_name name_or_string small a_number optional
 opened = tt

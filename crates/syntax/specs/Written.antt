@@ -20,9 +20,9 @@ pub data Plain : Type 0 where
 
 -- what a choice goes by: the present token, a rule, an operation with its constant
 pub data Selector : Type 0 where
-  byToken : Selector
-  byRule : Word → Selector
-  byOperation : Word → Option Constant → Selector
+  by_token : Selector
+  by_rule : Word → Selector
+  by_operation : Word → Option Constant → Selector
 
 abbrev pub Act : Type 0
 Act = Action Plain Selector Word

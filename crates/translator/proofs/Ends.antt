@@ -12,7 +12,7 @@ use Rattle.base.specs.Bools.{and}
 use Rattle.buffers.proofs.Writes.{over-length}
 use Rattle.buffers.proofs.Zeros.{length-zeroed, over-zeroed}
 use Rattle.buffers.specs.Words.{zeroed}
-use Rattle.emitter.specs.Emitted.{EmitDone, fits, emittedWords, emittedBytes, faultOf}
+use Rattle.emitter.specs.Emitted.{EmitDone, fits, emitted_words, emitted_bytes, fault_of}
 use Rattle.figure.specs.Told.{untold}
 use Rattle.finishing.proofs.Exact.{finishing-sound}
 use Rattle.finishing.specs.Test.{finishing}
@@ -21,26 +21,26 @@ use Rattle.frontend.specs.Resolving.{Ready}
 use Rattle.loader.proofs.Loading.{part-is}
 use Rattle.machine.specs.Bytes.{count, bytes_of, table_of, over}
 use Rattle.processor.specs.Process as means
-use Rattle.processor.specs.Process.{refused, meaning, answerFor, lentBytes, lentWords}
+use Rattle.processor.specs.Process.{refused, meaning, answer_for, lent_bytes, lent_words}
 use Rattle.program.proofs.Lengths.{length-table}
 use Rattle.program.specs.Program.{Rule}
-use Rattle.program.specs.Table.{sizeRules, table}
+use Rattle.program.specs.Table.{size_rules, table}
 use Rattle.sizes.specs.Located.{Locates}
-use Rattle.translator.proofs.Measured.{starts-are}
+use Rattle.translator.proofs.Measured.{starts_are}
 use Rattle.translator.specs.Answered.{answered, Settles, Stands}
 use Rattle.translator.specs.declared.Answer.{Answer}
 
 -- Refusals
 
 pub end_refused : (text : List ℕ) (prog : List Rule) {old new : List ℕ} {r : Answer} {size : ℕ} → Settles (refused 20 (record { start = size; size = 0 })) untold old new r → length text ≡ size
-    → fits prog (count old) ≡ false → Settles (answerFor text (count old) (meaning prog)) untold old new r
+    → fits prog (count old) ≡ false → Settles (answer_for text (count old) (meaning prog)) untold old new r
 end_refused text prog {old} {new} {r} {size} s e f =
-    let a : answerFor text (count old) (meaning prog) ≡ refused 20 (record { start = size; size = 0 }) = rw (← e) (refused-20 text prog (count old) f) in
+    let a : answer_for text (count old) (meaning prog) ≡ refused 20 (record { start = size; size = 0 }) = rw (← e) (refused-20 text prog (count old) f) in
     rw a s
 
 -- the emitter's fault says whether the table fits
 emit-fits : {old new : List ℕ} {prog : List Rule} {fault size : ℕ} → EmitDone prog old new fault size → fault ≡ 0 → fits prog (count old) ≡ true
-unfolding faultOf
+unfolding fault_of
 emit-fits {old} {new} {prog} {fault} {size} d e = go (fits prog (count old)) refl
   where
     go : (t : Bool) → fits prog (count old) ≡ t → t ≡ true
@@ -48,7 +48,7 @@ emit-fits {old} {new} {prog} {fault} {size} d e = go (fits prog (count old)) ref
     go false q = let z : fault ≡ 20 = d.number ∙ rw q refl in absurd (omega (arith, z, e))
 
 emit-not : {old new : List ℕ} {prog : List Rule} {fault size : ℕ} → EmitDone prog old new fault size → (fault ≡ 0 → ⊥) → fits prog (count old) ≡ false
-unfolding faultOf
+unfolding fault_of
 emit-not {old} {new} {prog} {fault} {size} d e = go (fits prog (count old)) refl
   where
     go : (t : Bool) → fits prog (count old) ≡ t → t ≡ false
@@ -56,8 +56,8 @@ emit-not {old} {new} {prog} {fault} {size} d e = go (fits prog (count old)) refl
     go false q = refl
 
 pub end-20 : (text : List ℕ) {old new : List ℕ} {prog : List Rule} {fault size n : ℕ} {r : Answer} → EmitDone prog old new fault n → (fault ≡ 0 → ⊥) → length text ≡ size
-    → r ≡ answered (refused 20 (record { start = size; size = 0 })) untold → Settles (answerFor text (count old) (meaning prog)) untold old new r
-unfolding emittedBytes emittedWords lentBytes lentWords
+    → r ≡ answered (refused 20 (record { start = size; size = 0 })) untold → Settles (answer_for text (count old) (meaning prog)) untold old new r
+unfolding emitted_bytes emitted_words lent_bytes lent_words
 end-20 text {old} {new} {prog} {fault} {size} {n} d f e q =
     let z = emit-not d f in
     end_refused text prog (record { answer = q; lent = d.bytes ∙ rw z refl }) e z
@@ -65,15 +65,15 @@ end-20 text {old} {new} {prog} {fault} {size} {n} d f e q =
 -- A table that fits
 
 pub end-good : (text : List ℕ) {old new : List ℕ} {prog : List Rule} {fault n : ℕ} {b : Bool} {r : Answer} → EmitDone prog old new fault n → fault ≡ 0 → b ≡ finishing prog
-    → r ≡ record { number = 0; start = 0; len = 0; words = n; finishing = b; figure = 0; check = 0 } → Settles (answerFor text (count old) (meaning prog)) untold old new r
-unfolding emittedBytes emittedWords lentBytes lentWords answered untold
+    → r ≡ record { number = 0; start = 0; len = 0; words = n; finishing = b; figure = 0; check = 0 } → Settles (answer_for text (count old) (meaning prog)) untold old new r
+unfolding emitted_bytes emitted_words lent_bytes lent_words answered untold
 end-good text {old} {prog = prog} d f e z =
     let x = emit-fits d f in
     rw (accepts-it text prog (count old) x) (record { answer = z ∙ rw (d.words ∙ sym (length-table prog), e) refl; lent = d.bytes ∙ rw x refl })
 
 -- A finishing text
 
-module _ (text : List ℕ) (prog : List Rule) {old new : List ℕ} {r : Answer} (s : Settles (answerFor text (count old) (meaning prog)) untold old new r) (v : r.finishing ≡ true) where
+module _ (text : List ℕ) (prog : List Rule) {old new : List ℕ} {r : Answer} (s : Settles (answer_for text (count old) (meaning prog)) untold old new r) (v : r.finishing ≡ true) where
   it-fits : fits prog (count old) ≡ true
   unfolding answered
   it-fits = go (fits prog (count old)) refl
@@ -91,19 +91,19 @@ module _ (text : List ℕ) (prog : List Rule) {old new : List ℕ} {r : Answer} 
   unfolding answered
   size_is = ap (λ (a : Answer). a.words) as-accepted.answer
 
-  verdict-is : finishing prog ≡ true
+  verdict_is : finishing prog ≡ true
   unfolding answered
-  verdict-is = sym (ap (λ (a : Answer). a.finishing) as-accepted.answer) ∙ v
+  verdict_is = sym (ap (λ (a : Answer). a.finishing) as-accepted.answer) ∙ v
 
   within : (r.words ≤ count old) × (r.words ≤ 4096)
   unfolding fits
   within =
-      let x = and (leb (sizeRules prog) (count old)) (leb (sizeRules prog) 4096) it-fits in
-      (omega (arith, size_is, length-table prog, leb-true (sizeRules prog) (count old) x.0), omega (arith, size_is, length-table prog, leb-true (sizeRules prog) 4096 x.1))
+      let x = and (leb (size_rules prog) (count old)) (leb (size_rules prog) 4096) it-fits in
+      (omega (arith, size_is, length-table prog, leb-true (size_rules prog) (count old) x.0), omega (arith, size_is, length-table prog, leb-true (size_rules prog) 4096 x.1))
 
   -- the table stands in front of the lent bytes
   front : new ≡ over (bytes_of (table prog)) (zeroed old)
-  unfolding lentBytes lentWords
+  unfolding lent_bytes lent_words
   front = as-accepted.lent ∙ sym (over-zeroed (table prog) old (omega (arith, within.0, size_is)))
 
   -- no more cells than there is room for
@@ -123,9 +123,9 @@ module _ (text : List ℕ) (prog : List Rule) {old new : List ℕ} {r : Answer} 
         room = room;
         tabled = record {
           words = ap (λ (y : List ℕ). table_of (take (2 * r.words) y)) front ∙ part-is (table prog) (zeroed old) r.words size_is within.1;
-          begins = starts-are places size l its room;
+          begins = starts_are places size l its room;
           few = omega (arith, h.few, h.number);
           accepts = h.accepts;
-          finishes = finishing-sound prog verdict-is;
+          finishes = finishing-sound prog verdict_is;
         };
       }

@@ -4,7 +4,7 @@ use mathlib.Core.List.{List}
 use mathlib.Core.Path.{◌≡◌, refl, sym, ap, ◌∙◌}
 use Prim.Native.Nat.{ℕ}
 use lib.ListN.{length}
-use Rattle.figure.specs.Told.{Told, untold, told, toldFor, toldIf, figureOf}
+use Rattle.figure.specs.Told.{Told, untold, told, told_for, told_if, figure_of}
 use Rattle.figure.specs.Count.{figure}
 use Rattle.frontend.proofs.Meant.{its-meaning}
 use Rattle.frontend.proofs.Steps.{process-read, understood-read}
@@ -14,16 +14,16 @@ use Rattle.machine.specs.Bytes.{count}
 use Rattle.names.specs.Known.{Checked, good, wrong}
 use Rattle.names.specs.Understand.{understand}
 use Rattle.processor.specs.Process as means
-use Rattle.processor.specs.Process.{Understood, meaning, faulty, accepted, refused, checked, answerFor, process, understood}
+use Rattle.processor.specs.Process.{Understood, meaning, faulty, accepted, refused, checked, answer_for, process, understood}
 use Rattle.program.specs.Program.{Rule}
 use Rattle.sizes.specs.Located.{Locates}
 use Rattle.syntax.specs.Parse.{parse}
 use Rattle.syntax.specs.Reading.{got}
 use Rattle.syntax.specs.Written.{Program}
 use Rattle.translator.proofs.Ends.{stands}
-use Rattle.translator.proofs.Steps.{at-word}
+use Rattle.translator.proofs.Steps.{at_word}
 use Rattle.translator.specs.Answered.{answered, Settles, Finishes, Translates}
-use Rattle.translator.specs.Measured.{asTold}
+use Rattle.translator.specs.Measured.{as_told}
 use Rattle.translator.specs.declared.Answer.{Answer}
 use Rattle.translator.specs.declared.Figure.{Figure}
 use Rattle.words.specs.Words.{Word}
@@ -31,12 +31,12 @@ use Rattle.words.specs.Words.{Word}
 module _ (text : List ℕ) (p : Program) (ws : List Word) (e : parse text ≡ got p ws) {rows cells starts sorts : List ℕ} {r : Resolved} (resolved : Resolves text rows cells starts sorts r p (understand p)) where
   -- what is answered goes by what the text means
   by-meaning : {old new : List ℕ} {a : Answer} (m : Checked (List Rule)) → understand p ≡ m
-      → Settles (answerFor text (count old) (checked m)) untold old new a → Settles (process text (count old)) untold old new a
+      → Settles (answer_for text (count old) (checked m)) untold old new a → Settles (process text (count old)) untold old new a
   by-meaning {old} {new} {a} m u s = rw (process-read text (count old) p ws e, u) s
 
   pub answered-wrong : {old new places : List ℕ} {a : Answer} {rules : ℕ} → (r.fault ≡ 0 → ⊥) → Settles (refused r.fault (record { start = r.at; size = r.len })) untold old new a
       → Translates text old new places a rules
-  unfolding answerFor checked answered
+  unfolding answer_for checked answered
   answered-wrong {old} {new} {places} {a} z s = record {
     settles = go (understand p) refl resolved;
     placed = λ v. absurd (false≢true (sym (ap (λ (b : Answer). b.finishing) s.answer) ∙ v));
@@ -44,7 +44,7 @@ module _ (text : List ℕ) (p : Program) (ws : List Word) (e : parse text ≡ go
     where
       go : (m : Checked (List Rule)) → understand p ≡ m → Resolves text rows cells starts sorts r p m → Settles (process text (count old)) untold old new a
       go (good prog) u (meant q ready rowed) = absurd (z q)
-      go (wrong k w) u (mistaken q nonzero start len) = by-meaning (wrong k w) u (rw q at (at-word r.fault r.at r.len w s start len))
+      go (wrong k w) u (mistaken q nonzero start len) = by-meaning (wrong k w) u (rw q at (at_word r.fault r.at r.len w s start len))
 
   pub answered-good : {old new : List ℕ} (places : List ℕ) (located : ℕ) {a : Answer} {size : ℕ} → r.fault ≡ 0 → length text ≡ size → length places ≡ 128
       → Finishes size cells starts sorts r.rules r.cells old new a → Locates cells sorts r.rules places located → Translates text old new places a r.rules
@@ -61,24 +61,24 @@ module _ (text : List ℕ) (p : Program) (ws : List Word) (e : parse text ≡ go
 
 module _ {text old new places : List ℕ} {r : Answer} {rules : ℕ} (t : Translates text old new places r rules) where
   -- a text whose answer is not "finishing" has none
-  pub no-figure : r.finishing ≡ false → Settles (process text (count old)) (figureOf text (count old)) old new r
-  unfolding figureOf toldFor toldIf answered
+  pub no-figure : r.finishing ≡ false → Settles (process text (count old)) (figure_of text (count old)) old new r
+  unfolding figure_of told_for told_if answered
   no-figure v = go (process text (count old)) (understood text) t.settles
     where
-      go : (a : means.Answer) (u : Understood) → Settles a untold old new r → Settles a (toldFor a u) old new r
+      go : (a : means.Answer) (u : Understood) → Settles a untold old new r → Settles a (told_for a u) old new r
       go (accepted words true) u s = absurd (false≢true (sym v ∙ ap (λ (b : Answer). b.finishing) s.answer))
       go (accepted words false) (meaning prog) s = s
       go (accepted words false) (faulty n w) s = s
       go (refused n w) (meaning prog) s = s
       go (refused n w) (faulty k w') s = s
 
-  pub the-figure : {f : Figure} {r' : Answer} (v : r.finishing ≡ true) → asTold f ≡ told (figure (t.placed v).prog)
+  pub the-figure : {f : Figure} {r' : Answer} (v : r.finishing ≡ true) → as_told f ≡ told (figure (t.placed v).prog)
       → r' ≡ record { number = r.number; start = r.start; len = r.len; words = r.words; finishing = r.finishing; figure = f.figure; check = f.number }
-      → Settles (process text (count old)) (figureOf text (count old)) old new r'
-  unfolding figureOf toldFor toldIf answered
+      → Settles (process text (count old)) (figure_of text (count old)) old new r'
+  unfolding figure_of told_for told_if answered
   the-figure {f} {r'} v e q = go (process text (count old)) (understood text) t.settles (t.placed v).means
     where
-      go : (a : means.Answer) (u : Understood) → Settles a untold old new r → u ≡ meaning (t.placed v).prog → Settles a (toldFor a u) old new r'
+      go : (a : means.Answer) (u : Understood) → Settles a untold old new r → u ≡ meaning (t.placed v).prog → Settles a (told_for a u) old new r'
       go (accepted words true) u s m = rw m (record { answer = q ∙ rw s.answer (ap (λ (o : Told). answered (accepted words true) o) e); lent = s.lent })
       go (accepted words false) u s m = absurd (false≢true (sym (ap (λ (b : Answer). b.finishing) s.answer) ∙ v))
       go (refused n w) u s m = absurd (false≢true (sym (ap (λ (b : Answer). b.finishing) s.answer) ∙ v))

@@ -1,11 +1,11 @@
--- What the processor's code promises: its answer and every lent byte are those of the definition `process`, and the figure is that of `figureOf`.
+-- What the processor's code promises: its answer and every lent byte are those of the definition `process`, and the figure is that of `figure_of`.
 use Rattle.std.specs.Prelude.{true, false, List, ◌≡◌, ℕ, ◌*◌, ◌≤◌, length, take, drop}
 use Rattle.acceptance.specs.Shown.{Shows}
 use Rattle.figure.specs.Told.{Told, untold}
 use Rattle.frontend.specs.Resolving.{Ready}
 use Rattle.machine.specs.Bytes.{count}
 use Rattle.processor.specs.Process as means
-use Rattle.processor.specs.Process.{Part, accepted, refused, meaning, understood, answerFor, lentBytes}
+use Rattle.processor.specs.Process.{Part, accepted, refused, meaning, understood, answer_for, lent_bytes}
 use Rattle.program.specs.Program.{Rule}
 use Rattle.translator.specs.Measured.{Tabled}
 use Rattle.translator.specs.declared.Answer.{Answer}
@@ -18,12 +18,12 @@ answered (refused number at) f = record { number = number; start = at.start; len
 -- the code's answer and the lent bytes are those of a, the figure is that of f
 pub record Settles (a : means.Answer) (f : Told) (old new : List ℕ) (r : Answer) : Type 0 where
   pub answer : r ≡ answered a f
-  pub lent : new ≡ lentBytes a old
+  pub lent : new ≡ lent_bytes a old
 
 -- the answer for the program in the buffers but for its figure, whatever text of that size it was read from
 abbrev pub Finishes : ℕ → List ℕ → List ℕ → List ℕ → ℕ → ℕ → List ℕ → List ℕ → Answer → Type 0
 Finishes size cells starts sorts rules filled old new r = (text : List ℕ) (prog : List Rule) → length text ≡ size → Ready cells starts sorts rules filled prog
-    → Settles (answerFor text (count old) (meaning prog)) untold old new r
+    → Settles (answer_for text (count old) (meaning prog)) untold old new r
 
 -- the table of a finishing program stands in front of the lent bytes, and its rules' starts in front of the places
 pub record Stands (new places : List ℕ) (words rules : ℕ) (prog : List Rule) : Type 0 where
@@ -44,16 +44,16 @@ pub record Translates (text old new places : List ℕ) (r : Answer) (rules : ℕ
   pub placed : r.finishing ≡ true → Placed text new places r.words rules
 
 -- "The word at fault is handed back as a part of the author's text"
-unfoldable pub faultWord : List ℕ → Answer → List ℕ
-faultWord text r = take r.len (drop r.start text)
+unfoldable pub fault_word : List ℕ → Answer → List ℕ
+fault_word text r = take r.len (drop r.start text)
 
--- of the code's answer for a text that is refused it is a word of the text, the one that the number shows; or nothing, for over-long text and 20
+-- of the code's answer for a text that is refused it is a word of the text, the one that the number shows; or nothing, for over_long text and 20
 abbrev pub FaultShown : Type 0
 FaultShown =
     (text : List ℕ) (room number : ℕ) (at : Part) (f : Told) → means.process text room ≡ refused number at
-    → Shows text number (faultWord text (answered (refused number at) f))
+    → Shows text number (fault_word text (answered (refused number at) f))
 
 -- all of this file computes where this is unfolded
 unfoldable pub opened : Unit {0}
-unfolding answered faultWord
+unfolding answered fault_word
 opened = tt

@@ -5,7 +5,7 @@ use Rattle.figure.specs.Told.{Told, told}
 use Rattle.finishing.specs.Finishing.{Finishing}
 use Rattle.machine.specs.Bytes.{table_of}
 use Rattle.meter.specs.Found.{Found}
-use Rattle.meter.specs.Starts.{startsIn}
+use Rattle.meter.specs.Starts.{starts_in}
 use Rattle.program.specs.Accepted.{Accepted}
 use Rattle.program.specs.Program.{Rule}
 use Rattle.program.specs.Table.{table}
@@ -14,7 +14,7 @@ use Rattle.translator.specs.declared.Figure.{Figure}
 -- the table of prog, which is accepted and finishing, and where its rules start
 pub record Tabled (bytes starts : List ℕ) (prog : List Rule) : Type 0 where
   pub words : table_of bytes ≡ table prog
-  pub begins : starts ≡ startsIn prog
+  pub begins : starts ≡ starts_in prog
   pub few : length prog ≤ 128
   pub accepts : Accepted prog
   pub finishes : Finishing prog
@@ -26,11 +26,11 @@ pub record IsTabled (bytes starts : List ℕ) : Type 0 where
 
 -- what is found in its table
 abbrev pub Measures : List ℕ → List ℕ → ℕ → Type 0
-Measures bytes starts q = (prog : List Rule) → Tabled bytes starts prog → Found (table prog) (startsIn prog) q
+Measures bytes starts q = (prog : List Rule) → Tabled bytes starts prog → Found (table prog) (starts_in prog) q
 
-abbrev pub asTold : Figure → Told
-asTold f = record { figure = f.figure; number = f.number }
+abbrev pub as_told : Figure → Told
+as_told f = record { figure = f.figure; number = f.number }
 
 -- Q, or 47
 abbrev pub FigureOf : List ℕ → List ℕ → Figure → Type 0
-FigureOf bytes starts f = (prog : List Rule) → Tabled bytes starts prog → asTold f ≡ told (count.figure prog)
+FigureOf bytes starts f = (prog : List Rule) → Tabled bytes starts prog → as_told f ≡ told (count.figure prog)

@@ -1,11 +1,11 @@
 // The processor: any text and a lent buffer to a table, a verdict and a figure, or to a number and a part of the text.
 ghost use Rattle.std.specs.Prelude.{◌≡◌, ℕ, ◌+◌, ◌≤◌, length, take, drop};
-ghost use Rattle.figure.specs.Told.{untold, figureOf};
+ghost use Rattle.figure.specs.Told.{untold, figure_of};
 ghost use Rattle.frontend.specs.Resolving.{IsRead};
 ghost use Rattle.machine.specs.Bytes.{count};
 ghost use Rattle.processor.specs.Process as means;
 ghost use Rattle.processor.specs.Process.{refused};
-ghost use Rattle.translator.specs.Answered.{Settles, Finishes, Translates, answered, faultWord};
+ghost use Rattle.translator.specs.Answered.{Settles, Finishes, Translates, answered, fault_word};
 ghost use Rattle.translator.specs.Measured.{IsTabled, Measures, FigureOf};
 
 // The greatest figure there is.
@@ -168,7 +168,7 @@ fn translate(text: &[u8], table: &mut [u8], places: &mut [usize]) -> Translated
 // The table, the verdict and the figure of a text, or the number and the part of its first fault. Every lent word is written.
 // The figure's numbers take more room than all else here: they come once that is gone.
 pub fn process(text: &[u8], table: &mut [u8]) -> Answer
-    ensures { Settles (means.process text.now (count table.old)) (figureOf text.now (count table.old)) table.old table.new result }
+    ensures { Settles (means.process text.now (count table.old)) (figure_of text.now (count table.old)) table.old table.new result }
 {
     let s = reader::check_syntax(text);
     if s.fault != 0 {
@@ -200,7 +200,7 @@ fn part<'a>(text: &'a [u8], start: usize, len: usize) -> &'a [u8]
 
 // The part of the text at fault.
 pub fn fault_word<'a>(text: &'a [u8], answer: Answer) -> &'a [u8]
-    ensures { result.now ≡ faultWord text.now answer }
+    ensures { result.now ≡ fault_word text.now answer }
 {
     part(text, answer.start, answer.len)
 }

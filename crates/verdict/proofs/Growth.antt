@@ -13,7 +13,7 @@ use borrow.Author.Tests.{eq-eqb, ne_eqb, eqb-true, not-false}
 use Rattle.base.specs.Bools.{never, and, both, split}
 use Rattle.finishing.proofs.Rounds.{last, one_more}
 use Rattle.finishing.proofs.Exact.{below-same, below_true, true_below}
-use Rattle.verdict.specs.Told.{member, someIn, known_in, alike, Same, Grows, Widens, outside, Joined, NotedTold, Marked, NotesTold, sought, Asked, GatheredTold}
+use Rattle.verdict.specs.Told.{member, some_in, known_in, alike, Same, Grows, Widens, outside, Joined, NotedTold, Marked, NotesTold, sought, Asked, GatheredTold}
 use Rattle.verdict.specs.declared.Rules.{Rules}
 use Rattle.verdict.specs.declared.Learnt.{Learnt}
 
@@ -30,8 +30,8 @@ grows-trans a b c m n k g h = record {
   apart = λ x. h.apart (g.apart x);
 }
 
-pub some-here : (facts : List ℕ) (m r v i : ℕ) → i < m → get_or facts (2 * i) 0 ≡ r → get_or facts (2 * i + 1) 0 ≡ v → someIn facts m r (λ u. eqb u v) ≡ true
-unfolding someIn
+pub some-here : (facts : List ℕ) (m r v i : ℕ) → i < m → get_or facts (2 * i) 0 ≡ r → get_or facts (2 * i + 1) 0 ≡ v → some_in facts m r (λ u. eqb u v) ≡ true
+unfolding some_in
 some-here facts m r v i l d e = below_true m (λ i. eqb (get_or facts (2 * i) 0) r && eqb (get_or facts (2 * i + 1) 0) v) i l
     (both (eqb (get_or facts (2 * i) 0) r) (eqb (get_or facts (2 * i + 1) 0) v) (eq-eqb (get_or facts (2 * i) 0) r d) (eq-eqb (get_or facts (2 * i + 1) 0) v e))
 
@@ -42,23 +42,23 @@ pub record Fact (facts : List ℕ) (m r v : ℕ) : Type 0 where
   pub rule : get_or facts (2 * index) 0 ≡ r
   pub value : get_or facts (2 * index + 1) 0 ≡ v
 
-pub here-some : (facts : List ℕ) (m r v : ℕ) → someIn facts m r (λ u. eqb u v) ≡ true → Fact facts m r v
-unfolding someIn
+pub here-some : (facts : List ℕ) (m r v : ℕ) → some_in facts m r (λ u. eqb u v) ≡ true → Fact facts m r v
+unfolding some_in
 here-some facts m r v e =
     let x = true_below m (λ i. eqb (get_or facts (2 * i) 0) r && eqb (get_or facts (2 * i + 1) 0) v) e in
     let y = and (eqb (get_or facts (2 * x.0) 0) r) (eqb (get_or facts (2 * x.0 + 1) 0) v) x.2 in
     record { index = x.0; below = x.1; rule = eqb-true (get_or facts (2 * x.0) 0) r y.0; value = eqb-true (get_or facts (2 * x.0 + 1) 0) v y.1 }
 
-pub some-kept : (old : List ℕ) (m : ℕ) (new : List ℕ) (k r v : ℕ) → Grows old m new k → someIn old m r (λ u. eqb u v) ≡ true → someIn new k r (λ u. eqb u v) ≡ true
+pub some-kept : (old : List ℕ) (m : ℕ) (new : List ℕ) (k r v : ℕ) → Grows old m new k → some_in old m r (λ u. eqb u v) ≡ true → some_in new k r (λ u. eqb u v) ≡ true
 some-kept old m new k r v g e =
     let f = here-some old m r v e in
     some-here new k r v f.index (omega (arith, f.below, g.more)) (g.kept (2 * f.index) (omega (arith, f.below)) ∙ f.rule) (g.kept (2 * f.index + 1) (omega (arith, f.below)) ∙ f.value)
 
 known_kept : (ps : Rules) (old new : List ℕ) (m : ℕ) → ((i : ℕ) → i < 2 * m → get_or new i 0 ≡ get_or old i 0) → known_in ps old m ≡ known_in ps new m
-unfolding known_in someIn
+unfolding known_in some_in
 known_kept ps old new m h = λ i. record {
   passed = member ps;
-  some-value = λ r p. below-same m (λ j. eqb (get_or old (2 * j) 0) r && p (get_or old (2 * j + 1) 0)) (λ j. eqb (get_or new (2 * j) 0) r && p (get_or new (2 * j + 1) 0))
+  some_value = λ r p. below-same m (λ j. eqb (get_or old (2 * j) 0) r && p (get_or old (2 * j + 1) 0)) (λ j. eqb (get_or new (2 * j) 0) r && p (get_or new (2 * j + 1) 0))
       (λ j l. rw (h (2 * j) (omega arith), h (2 * j + 1) (omega arith)) refl) i;
 }
 
@@ -163,13 +163,13 @@ widens-less j k old new c w = go w.sets
     go (inr d) = omega (arith, w.facts.more)
 
 -- One fact more
-pub noted-known : (old : List ℕ) (m r v : ℕ) → 2 * m ≤ length old → someIn old m r (λ u. eqb u v) ≡ true → NotedTold old m r v old m
+pub noted-known : (old : List ℕ) (m r v : ℕ) → 2 * m ≤ length old → some_in old m r (λ u. eqb u v) ≡ true → NotedTold old m r v old m
 noted-known old m r v h e = record { grows = grows_self old m h; each = λ i a b. absurd (omega arith); whole = λ x. e }
 
 pub noted-full : (old : List ℕ) (m r v : ℕ) → 2 * m ≤ length old → length old - 2 * m < 2 → NotedTold old m r v old m
 noted-full old m r v h l = record { grows = grows_self old m h; each = λ i a b. absurd (omega arith); whole = λ x. absurd (omega arith) }
 
-pub noted_more : (old : List ℕ) (m r v : ℕ) → 2 * m + 1 < length old → someIn old m r (λ u. eqb u v) ≡ false → NotedTold old m r v (set (set old (2 * m) r) (2 * m + 1) v) (m + 1)
+pub noted_more : (old : List ℕ) (m r v : ℕ) → 2 * m + 1 < length old → some_in old m r (λ u. eqb u v) ≡ false → NotedTold old m r v (set (set old (2 * m) r) (2 * m + 1) v) (m + 1)
 noted_more old m r v h e = record {
   grows = record {
     sized = sized;
@@ -242,10 +242,10 @@ notes-on old m r vs j s mid k new n v q e t u = record {
 }
 
 -- Values to ask for
-pub seeks-yes : (cells : List ℕ) (i : ℕ) (facts : List ℕ) (m r v : ℕ) (b : Bool) → get_or cells i 0 ≡ 10 → v ≡ get_or cells (i + 1) 0 → b ≡ someIn facts m r (λ u. eqb u v) → not b ≡ sought cells i facts m r
+pub seeks-yes : (cells : List ℕ) (i : ℕ) (facts : List ℕ) (m r v : ℕ) (b : Bool) → get_or cells i 0 ≡ 10 → v ≡ get_or cells (i + 1) 0 → b ≡ some_in facts m r (λ u. eqb u v) → not b ≡ sought cells i facts m r
 unfolding sought
 seeks-yes cells i facts m r v b e q d =
-    let z : b ≡ someIn facts m r (λ u. eqb u (get_or cells (i + 1) 0)) = rw q at d in
+    let z : b ≡ some_in facts m r (λ u. eqb u (get_or cells (i + 1) 0)) = rw q at d in
     rw (eq-eqb (get_or cells i 0) 10 e, z) refl
 
 pub seeks-no : (cells : List ℕ) (i : ℕ) (facts : List ℕ) (m r : ℕ) → (get_or cells i 0 ≡ 10 → ⊥) → false ≡ sought cells i facts m r
@@ -256,16 +256,16 @@ pub record Gathering (cells : List ℕ) (from : ℕ) (facts : List ℕ) (m r : �
   pub after : from ≤ i
   pub few : n ≤ length vs
   pub some : 0 < n → from < i
-  pub all : (j : ℕ) → from ≤ j → j < i → get_or cells j 0 ≡ 10 → (someIn facts m r (λ u. eqb u (get_or cells (j + 1) 0)) ≡ true) ⊎ Asked vs n (get_or cells (j + 1) 0)
+  pub all : (j : ℕ) → from ≤ j → j < i → get_or cells j 0 ≡ 10 → (some_in facts m r (λ u. eqb u (get_or cells (j + 1) 0)) ≡ true) ⊎ Asked vs n (get_or cells (j + 1) 0)
 
 pub gather-start : (cells : List ℕ) (from : ℕ) (facts : List ℕ) (m r : ℕ) (vs : List ℕ) → Gathering cells from facts m r vs 0 from
 gather-start cells from facts m r vs = record { after = omega arith; few = omega arith; some = λ x. absurd (omega arith); all = λ j a b. absurd (omega arith) }
 
-not-sought : (cells : List ℕ) (i : ℕ) (facts : List ℕ) (m r : ℕ) → sought cells i facts m r ≡ false → get_or cells i 0 ≡ 10 → someIn facts m r (λ u. eqb u (get_or cells (i + 1) 0)) ≡ true
+not-sought : (cells : List ℕ) (i : ℕ) (facts : List ℕ) (m r : ℕ) → sought cells i facts m r ≡ false → get_or cells i 0 ≡ 10 → some_in facts m r (λ u. eqb u (get_or cells (i + 1) 0)) ≡ true
 unfolding sought
 not-sought cells i facts m r e d =
-    let z : not (someIn facts m r (λ u. eqb u (get_or cells (i + 1) 0))) ≡ false = rw (eq-eqb (get_or cells i 0) 10 d) at e in
-    not-false (someIn facts m r (λ u. eqb u (get_or cells (i + 1) 0))) z
+    let z : not (some_in facts m r (λ u. eqb u (get_or cells (i + 1) 0))) ≡ false = rw (eq-eqb (get_or cells i 0) 10 d) at e in
+    not-false (some_in facts m r (λ u. eqb u (get_or cells (i + 1) 0))) z
 
 pub gather-skip : (cells : List ℕ) (from : ℕ) (facts : List ℕ) (m r : ℕ) (vs : List ℕ) (n i : ℕ) → sought cells i facts m r ≡ false → Gathering cells from facts m r vs n i → Gathering cells from facts m r vs n (i + 1)
 gather-skip cells from facts m r vs n i e g = record {

@@ -11,11 +11,12 @@ use lib.Seq.{drop-cons, get_or-drop, take-suc, take-suc-set}
 use borrow.Author.Tests.{eq-eqb, ne_eqb, eqb-true, eqb-false}
 use Rattle.base.specs.Bools.{split}
 use Rattle.base.proofs.Laws.{neither}
-use Rattle.base.specs.Common.{if◌then◌else◌, member}
+use Rattle.std.specs.Prelude.{if◌then◌else◌}
+use Rattle.base.specs.Common.{member}
 use Rattle.finishing.specs.Test.{some_below}
 use Rattle.finishing.proofs.Rounds.{last}
 use mathlib.Core.Logic.{inl, inr}
-use Rattle.verdict.specs.Told.{someIn, Collected}
+use Rattle.verdict.specs.Told.{some_in, Collected}
 
 unroll : (cells : List ℕ) (i to : ℕ) → i < to → to ≤ length cells → take (to - i) (drop i cells) ≡ get_or cells i 0 ∷ take (to - (i + 1)) (drop (i + 1) cells)
 unroll cells i to h l =
@@ -75,8 +76,8 @@ either-fact (suc m) a p q = rw (either-fact m a p q) (go (a m) (p m) (q m) (some
     go false p q b c = refl
 
 pub open-split : (cells : List ℕ) (facts : List ℕ) (m r i to : ℕ) → i < to → to ≤ length cells
-    → someIn facts m r (λ v. member v (take (to - i) (drop i cells))) ≡ (someIn facts m r (λ u. eqb u (get_or cells i 0)) || someIn facts m r (λ v. member v (take (to - (i + 1)) (drop (i + 1) cells))))
-unfolding someIn
+    → some_in facts m r (λ v. member v (take (to - i) (drop i cells))) ≡ (some_in facts m r (λ u. eqb u (get_or cells i 0)) || some_in facts m r (λ v. member v (take (to - (i + 1)) (drop (i + 1) cells))))
+unfolding some_in
 open-split cells facts m r i to h l =
     rw (unroll cells i to h l) (either-fact m (λ j. eqb (get_or facts (2 * j) 0) r) (λ j. eqb (get_or facts (2 * j + 1) 0) (get_or cells i 0)) (λ j. member (get_or facts (2 * j + 1) 0) (take (to - (i + 1)) (drop (i + 1) cells))))
 
@@ -89,8 +90,8 @@ none_of (suc m) a = rw (none_of m a) (go (a m))
     go true = refl
     go false = refl
 
-pub open-end : (cells : List ℕ) (facts : List ℕ) (m r i to : ℕ) → to ≤ i → someIn facts m r (λ v. member v (take (to - i) (drop i cells))) ≡ false
-unfolding someIn
+pub open-end : (cells : List ℕ) (facts : List ℕ) (m r i to : ℕ) → to ≤ i → some_in facts m r (λ v. member v (take (to - i) (drop i cells))) ≡ false
+unfolding some_in
 open-end cells facts m r i to h =
     let e : to - i ≡ 0 = omega arith in
     rw e (none_of m (λ j. eqb (get_or facts (2 * j) 0) r))

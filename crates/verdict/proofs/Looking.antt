@@ -14,7 +14,7 @@ use Rattle.base.specs.Bools.{never, or, and, or₁, both}
 use Rattle.program.specs.Program.{Rule, body_of}
 use Rattle.finishing.specs.Finishing.{Gives, Passed}
 use Rattle.finishing.specs.Test.{Known, end, return, gives, quiets, loops, passes}
-use Rattle.finishing.proofs.Rounds.{values-in}
+use Rattle.finishing.proofs.Rounds.{values_in}
 use Rattle.finishing.proofs.Paths.{passes-sound, gives-sound}
 use Rattle.verdict.specs.Told.{member, known_in, Tells, RuleTold, Laid, True, Exhausts, Apart, ClosedAt, alike, Same, GatheredTold, NotesTold, outside, Widens, Joined, Looks, AskedTold, TriedTold, LookedTold, SweepTold, LearntTold}
 use Rattle.verdict.specs.declared.Rules.{Rules}
@@ -43,7 +43,7 @@ module _ (cells starts : List ℕ) (r : ℕ) (j : Learnt) (old : List ℕ) (vs :
 
   passed-by : (prog : List Rule) → r < length prog → Laid cells starts prog → passes kn (body_of prog r) ≡ (w.end || w.ret)
   unfolding passes
-  passed-by prog h l = let t = its prog h l in rw (← t.at-end, ← t.at_return) refl
+  passed-by prog h l = let t = its prog h l in rw (← t.at_end, ← t.at_return) refl
 
   given_by : (prog : List Rule) → r < length prog → Laid cells starts prog → g.count ≤ length vs → (i : ℕ) → i < g.count → member w.given i ≡ quiets kn (body_of prog r) (gives (get_or vs i 0))
   given_by prog h l f i b = (its prog h l).at_gives i (omega arith) (omega arith)
@@ -198,7 +198,7 @@ looks-done cells starts r j old a from t new ea ed h x = record {
   closed = λ prog p l q b. record {
     passing = x.passing prog p l q;
     giving = λ v e.
-        let m = values-in (known_in t.known.passed new t.known.count) v (body_of prog r) e in
+        let m = values_in (known_in t.known.passed new t.known.count) v (body_of prog r) e in
         let s = stands_at (drop from cells) (drop (get_or starts r 0) cells) (l.tail r) v (ed ∙ ap (λ (n : ℕ). drop n cells) ea) (stands v (l.lies r p) m) in
         let i = from + s.at in
         let mark : get_or cells i 0 ≡ 10 = sym (get_or-drop from cells s.at 0) ∙ s.mark in

@@ -11,18 +11,18 @@ use lib.ListN.{length, get_or, length-append}
 use borrow.Author.Tests.{eqb-true}
 use Rattle.base.specs.Bools.{never, or, and, split}
 use Rattle.base.specs.Tree.{plain, cycle, choice, done, ◌▸◌, nil, alternative, absent, otherwise}
-use Rattle.program.specs.Program.{Plain, match, any, emit, error, exit, call, back, give, update, updateWith, Selector, byToken, byRule, byOperation, byOperationWith, Act, Acts, Alts, Other, Rule, ruleOf, body_of}
-use Rattle.cells.specs.Cells.{plainCells, selectorCells, absentCell, actCells, actsCells, altsCells, otherCells, rulesCells}
+use Rattle.program.specs.Program.{Plain, match, any, emit, error, exit, call, back, give, update, update_with, Selector, by_token, by_rule, by_operation, by_operation_with, Act, Acts, Alts, Other, Rule, rule_of, body_of}
+use Rattle.cells.specs.Cells.{plain_cells, selector_cells, absent_cell, act_cells, acts_cells, alts_cells, other_cells, rules_cells}
 use Rattle.finishing.specs.Finishing as paths
 use Rattle.finishing.specs.Finishing.{Gives}
-use Rattle.finishing.specs.Test.{Fact, giving, same, within, known, valuesPlain, values, valuesAll, valuesSome, valuesOther, givings}
-use Rattle.finishing.proofs.Rounds.{missing, cons-missing, missing-le, giving-in, values-in, known-closed}
+use Rattle.finishing.specs.Test.{Fact, giving, same, within, known, values_plain, values, values_all, values_some, values_other, givings}
+use Rattle.finishing.proofs.Rounds.{missing, cons-missing, missing-le, giving-in, values_in, known-closed}
 use Rattle.finishing.proofs.Paths.{completes, meets-give}
 use Rattle.verdict.specs.Told.{True, Apart, Holds}
 use Rattle.verdict.specs.declared.Rules.{Rules}
 
-plain-room : (p : Plain) (k : List ℕ) → 2 * length (valuesPlain p) + length k ≤ length (plainCells p k)
-unfolding plainCells valuesPlain
+plain-room : (p : Plain) (k : List ℕ) → 2 * length (values_plain p) + length k ≤ length (plain_cells p k)
+unfolding plain_cells values_plain
 plain-room (match t) k = omega arith
 plain-room any k = omega arith
 plain-room (emit t) k = omega arith
@@ -32,64 +32,64 @@ plain-room (call r) k = omega arith
 plain-room back k = omega arith
 plain-room (give v) k = omega arith
 plain-room (update op) k = omega arith
-plain-room (updateWith op v) k = omega arith
+plain-room (update_with op v) k = omega arith
 
-selector-room : (s : Selector) (k : List ℕ) → length k ≤ length (selectorCells s k)
-unfolding selectorCells
-selector-room byToken k = omega arith
-selector-room (byRule r) k = omega arith
-selector-room (byOperation op) k = omega arith
-selector-room (byOperationWith op v) k = omega arith
+selector-room : (s : Selector) (k : List ℕ) → length k ≤ length (selector_cells s k)
+unfolding selector_cells
+selector-room by_token k = omega arith
+selector-room (by_rule r) k = omega arith
+selector-room (by_operation op) k = omega arith
+selector-room (by_operation_with op v) k = omega arith
 
 mutual
-  unfolding actCells values
+  unfolding act_cells values
 
-  act-room : (a : Act) (k : List ℕ) → 2 * length (values a) + length k ≤ length (actCells a k)
+  act-room : (a : Act) (k : List ℕ) → 2 * length (values a) + length k ≤ length (act_cells a k)
   act-room (plain p) k = plain-room p k
   act-room (cycle b) k = let h = acts-room b k in omega (arith, h)
   act-room (choice s q o) k =
-      let h₁ = selector-room s (altsCells q (otherCells o (absentCell s) k)) in
-      let h₂ = alts-room q (otherCells o (absentCell s) k) in
-      let h₃ = other-room o (absentCell s) k in
-      omega (arith, h₁, h₂, h₃, length-append (valuesSome q) (valuesOther o))
+      let h₁ = selector-room s (alts_cells q (other_cells o (absent_cell s) k)) in
+      let h₂ = alts-room q (other_cells o (absent_cell s) k) in
+      let h₃ = other-room o (absent_cell s) k in
+      omega (arith, h₁, h₂, h₃, length-append (values_some q) (values_other o))
 
-  acts-room : (q : Acts) (k : List ℕ) → 2 * length (valuesAll q) + (1 + length k) ≤ length (actsCells q k)
+  acts-room : (q : Acts) (k : List ℕ) → 2 * length (values_all q) + (1 + length k) ≤ length (acts_cells q k)
   acts-room done k = omega arith
   acts-room (a ▸ q) k =
-      let h₁ = act-room a (actsCells q k) in
+      let h₁ = act-room a (acts_cells q k) in
       let h₂ = acts-room q k in
-      omega (arith, h₁, h₂, length-append (values a) (valuesAll q))
+      omega (arith, h₁, h₂, length-append (values a) (values_all q))
 
-  alts-room : (q : Alts) (k : List ℕ) → 2 * length (valuesSome q) + length k ≤ length (altsCells q k)
+  alts-room : (q : Alts) (k : List ℕ) → 2 * length (values_some q) + length k ≤ length (alts_cells q k)
   alts-room nil k = omega arith
   alts-room (alternative ls b q) k =
-      let h₁ = acts-room b (altsCells q k) in
+      let h₁ = acts-room b (alts_cells q k) in
       let h₂ = alts-room q k in
-      omega (arith, h₁, h₂, length-append ls (actsCells b (altsCells q k)), length-append (valuesAll b) (valuesSome q))
+      omega (arith, h₁, h₂, length-append ls (acts_cells b (alts_cells q k)), length-append (values_all b) (values_some q))
 
-  other-room : (o : Other) (c : ℕ) (k : List ℕ) → 2 * length (valuesOther o) + length k ≤ length (otherCells o c k)
+  other-room : (o : Other) (c : ℕ) (k : List ℕ) → 2 * length (values_other o) + length k ≤ length (other_cells o c k)
   other-room absent c k = omega arith
   other-room (otherwise b) c k = let h = acts-room b k in omega (arith, h)
 
 -- the `>>` of all rules, the first of them rule i
 unfoldable returned : ℕ → List Rule → List Fact
 returned i [] = []
-returned i (b ∷ bs) = givings i (valuesAll b.body) ++ returned (suc i) bs
+returned i (b ∷ bs) = givings i (values_all b.body) ++ returned (suc i) bs
 
 givings-length : (r : ℕ) (vs : List ℕ) → length (givings r vs) ≡ length vs
 unfolding givings
 givings-length r [] = refl
 givings-length r (v ∷ vs) = ap suc (givings-length r vs)
 
-rules-room : (i : ℕ) (bs : List Rule) → 2 * length (returned i bs) + length bs ≤ length (rulesCells bs)
-unfolding returned rulesCells
+rules-room : (i : ℕ) (bs : List Rule) → 2 * length (returned i bs) + length bs ≤ length (rules_cells bs)
+unfolding returned rules_cells
 rules-room i [] = omega arith
 rules-room i (b ∷ bs) =
-    let h₁ = acts-room b.body (rulesCells bs) in
+    let h₁ = acts-room b.body (rules_cells bs) in
     let h₂ = rules-room (suc i) bs in
-    omega (arith, h₁, h₂, length-append (givings i (valuesAll b.body)) (returned (suc i) bs), givings-length i (valuesAll b.body))
+    omega (arith, h₁, h₂, length-append (givings i (values_all b.body)) (returned (suc i) bs), givings-length i (values_all b.body))
 
-returned-in : (i : ℕ) (bs : List Rule) (r v : ℕ) → r < length bs → Memᴰ v (valuesAll (get_or bs r (record { valued = false; body = done })).body) → Memᴰ (giving (i + r) v) (returned i bs)
+returned-in : (i : ℕ) (bs : List Rule) (r v : ℕ) → r < length bs → Memᴰ v (values_all (get_or bs r (record { valued = false; body = done })).body) → Memᴰ (giving (i + r) v) (returned i bs)
 unfolding returned
 returned-in i [] r v l m = absurd (omega arith)
 returned-in i (b ∷ bs) zero v l m =
@@ -97,12 +97,12 @@ returned-in i (b ∷ bs) zero v l m =
     rw e (Memᴰ.append_left (returned (suc i) bs) (giving-in i v m))
 returned-in i (b ∷ bs) (suc r) v l m =
     let e : i + suc r ≡ suc i + r = omega arith in
-    rw e (Memᴰ.append_right (givings i (valuesAll b.body)) (returned-in (suc i) bs r v (omega arith) m))
+    rw e (Memᴰ.append_right (givings i (values_all b.body)) (returned-in (suc i) bs r v (omega arith) m))
 
 gives-in : (prog : List Rule) (r v : ℕ) → Gives prog r v → Memᴰ (giving r v) (returned 0 prog) × (0 < length prog)
-unfolding body_of ruleOf
+unfolding body_of rule_of
 gives-in prog r v (paths.gives l p) =
-    let m = values-in (known prog) v (body_of prog r) (completes prog (known prog) (known-closed prog) p meets-give) in
+    let m = values_in (known prog) v (body_of prog r) (completes prog (known prog) (known-closed prog) p meets-give) in
     let e : 0 + r ≡ r = omega arith in
     (rw e at (returned-in 0 prog r v l m), omega arith)
 
@@ -142,4 +142,4 @@ room cells starts n prog ps facts m h t a = go m refl
     go zero e = omega arith
     go (suc k) e =
         let x = (gives-in prog (get_or facts (2 * 0) 0) (get_or facts (2 * 0 + 1) 0) (t.returns 0 (omega arith))).1 in
-        omega (arith, x, le, rules-room 0 prog, h.short, ap length h.its, length-append (rulesCells prog) h.rest)
+        omega (arith, x, le, rules-room 0 prog, h.short, ap length h.its, length-append (rules_cells prog) h.rest)

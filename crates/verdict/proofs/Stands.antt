@@ -8,10 +8,10 @@ use Prim.Native.Nat.{ℕ, suc, ◌+◌, ◌<◌, ◌≤◌}
 use lib.ListN.{length, drop, get_or, length-drop}
 use lib.Seq.{get_or-drop, drop-drop}
 use Rattle.base.specs.Tree.{choice, otherwise}
-use Rattle.program.specs.Program.{Plain, match, any, emit, error, exit, call, back, give, update, updateWith, Act, Acts, Alts, Other}
-use Rattle.cells.specs.Cells.{plainCells}
-use Rattle.finishing.specs.Test.{valuesPlain, values, valuesAll, valuesSome, valuesOther}
-use Rattle.verdict.specs.Lies.{Lies, lies-plain, lies-cycle, lies-token, lies-rule, lies-operation, lies-operationWith, LiesAll, lies-done, lies-next, LiesRest, lies-absent, lies-absent-token, lies-otherwise, lies-alternative}
+use Rattle.program.specs.Program.{Plain, match, any, emit, error, exit, call, back, give, update, update_with, Act, Acts, Alts, Other}
+use Rattle.cells.specs.Cells.{plain_cells}
+use Rattle.finishing.specs.Test.{values_plain, values, values_all, values_some, values_other}
+use Rattle.verdict.specs.Lies.{Lies, lies_plain, lies_cycle, lies_token, lies_rule, lies_operation, lies_operation_with, LiesAll, lies_done, lies_next, LiesRest, lies_absent, lies_absent_token, lies_otherwise, lies_alternative}
 
 -- k is the end of l
 pub record End (l k : List ℕ) : Type 0 where
@@ -36,8 +36,8 @@ end_same q e = rw q e
 end_short : {l k : List ℕ} → End l k → length k ≤ length l
 end_short {l} {k} e = omega (arith, ap length e.its, length-drop e.from l)
 
-plain_end : (p : Plain) (k : List ℕ) → End (plainCells p k) k
-unfolding plainCells
+plain_end : (p : Plain) (k : List ℕ) → End (plain_cells p k) k
+unfolding plain_cells
 plain_end (match t) k = end-cons 3 (end-cons t (end-self k))
 plain_end any k = end-cons 4 (end-self k)
 plain_end (emit t) k = end-cons 5 (end-cons t (end-self k))
@@ -47,26 +47,26 @@ plain_end (call r) k = end-cons 8 (end-cons r (end-self k))
 plain_end back k = end-cons 9 (end-self k)
 plain_end (give v) k = end-cons 10 (end-cons v (end-self k))
 plain_end (update op) k = end-cons op (end-self k)
-plain_end (updateWith op v) k = end-cons op (end-cons v (end-self k))
+plain_end (update_with op v) k = end-cons op (end-cons v (end-self k))
 
 mutual
   end-act : {l k : List ℕ} {a : Act} → Lies l a k → End l k
-  end-act {k = k} (lies-plain {p = p} e h) = end_same e (plain_end p k)
-  end-act (lies-cycle x) = end-cons 2 (end-acts x)
-  end-act (lies-token x) = end-cons 7 (end_rest x)
-  end-act (lies-rule {r = r} h x) = end-cons 11 (end-cons r (end_rest x))
-  end-act (lies-operation {op = op} h l x) = end-cons op (end_rest x)
-  end-act (lies-operationWith {op = op} {v = v} h l x) = end-cons op (end-cons v (end_rest x))
+  end-act {k = k} (lies_plain {p = p} e h) = end_same e (plain_end p k)
+  end-act (lies_cycle x) = end-cons 2 (end-acts x)
+  end-act (lies_token x) = end-cons 7 (end_rest x)
+  end-act (lies_rule {r = r} h x) = end-cons 11 (end-cons r (end_rest x))
+  end-act (lies_operation {op = op} h l x) = end-cons op (end_rest x)
+  end-act (lies_operation_with {op = op} {v = v} h l x) = end-cons op (end-cons v (end_rest x))
 
   pub end-acts : {l k : List ℕ} {q : Acts} → LiesAll l q k → End l k
-  end-acts {k = k} lies-done = end-cons 0 (end-self k)
-  end-acts (lies-next x y) = end-trans (end-act x) (end-acts y)
+  end-acts {k = k} lies_done = end-cons 0 (end-self k)
+  end-acts (lies_next x y) = end-trans (end-act x) (end-acts y)
 
   end_rest : {l k : List ℕ} {q : Alts} {o : Other} → LiesRest l q o k → End l k
-  end_rest {k = k} lies-absent = end-cons 12 (end-self k)
-  end_rest {k = k} lies-absent-token = end-cons 14 (end-self k)
-  end_rest (lies-otherwise x) = end-cons 13 (end-acts x)
-  end_rest (lies-alternative {t = t} n e d x y) = end-cons t (end-drop n (end-trans (end-acts x) (end_rest y)))
+  end_rest {k = k} lies_absent = end-cons 12 (end-self k)
+  end_rest {k = k} lies_absent_token = end-cons 14 (end-self k)
+  end_rest (lies_otherwise x) = end-cons 13 (end-acts x)
+  end_rest (lies_alternative {t = t} n e d x y) = end-cons t (end-drop n (end-trans (end-acts x) (end_rest y)))
 
 -- v stands behind a cell 10 of l, before k
 pub record Stands (l k : List ℕ) (v : ℕ) : Type 0 where
@@ -100,8 +100,8 @@ module _ (v : ℕ) where
   stands-give : (u : ℕ) (k : List ℕ) → v ≡ u → Stands (10 ∷ u ∷ k) k v
   stands-give u k e = record { at = 0; before = omega arith; mark = refl; its = sym e }
 
-  stands_plain : (p : Plain) (k : List ℕ) → Memᴰ v (valuesPlain p) → Stands (plainCells p k) k v
-  unfolding plainCells valuesPlain
+  stands_plain : (p : Plain) (k : List ℕ) → Memᴰ v (values_plain p) → Stands (plain_cells p k) k v
+  unfolding plain_cells values_plain
   stands_plain (match t) k m = elim m [ ]
   stands_plain any k m = elim m [ ]
   stands_plain (emit t) k m = elim m [ ]
@@ -112,34 +112,34 @@ module _ (v : ℕ) where
   stands_plain (give u) k (Memᴰ.head e) = stands-give u k e
   stands_plain (give u) k (Memᴰ.tail m) = elim m [ ]
   stands_plain (update op) k m = elim m [ ]
-  stands_plain (updateWith op w) k m = elim m [ ]
+  stands_plain (update_with op w) k m = elim m [ ]
 
   mutual
     unfolding values
 
     stands-act : {l k : List ℕ} {a : Act} → Lies l a k → Memᴰ v (values a) → Stands l k v
-    stands-act {k = k} (lies-plain {p = p} e h) m = stands_same e (stands_plain p k m)
-    stands-act (lies-cycle {l = l} x) m = stands-end (end-first 2 l) (stands x m)
-    stands-act (lies-token {l = l} x) m = stands-end (end-first 7 l) (stands-rest x m)
-    stands-act (lies-rule {r = r} {l = l} h x) m = stands-end (end-cons 11 (end-first r l)) (stands-rest x m)
-    stands-act (lies-operation {op = op} {l = l} h b x) m = stands-end (end-first op l) (stands-rest x m)
-    stands-act (lies-operationWith {op = op} {v = w} {l = l} h b x) m = stands-end (end-cons op (end-first w l)) (stands-rest x m)
+    stands-act {k = k} (lies_plain {p = p} e h) m = stands_same e (stands_plain p k m)
+    stands-act (lies_cycle {l = l} x) m = stands-end (end-first 2 l) (stands x m)
+    stands-act (lies_token {l = l} x) m = stands-end (end-first 7 l) (stands-rest x m)
+    stands-act (lies_rule {r = r} {l = l} h x) m = stands-end (end-cons 11 (end-first r l)) (stands-rest x m)
+    stands-act (lies_operation {op = op} {l = l} h b x) m = stands-end (end-first op l) (stands-rest x m)
+    stands-act (lies_operation_with {op = op} {v = w} {l = l} h b x) m = stands-end (end-cons op (end-first w l)) (stands-rest x m)
 
-    pub stands : {l k : List ℕ} {q : Acts} → LiesAll l q k → Memᴰ v (valuesAll q) → Stands l k v
-    stands lies-done m = elim m [ ]
-    stands (lies-next {a = a} {q = q} x y) m = elim (Memᴰ.append_cases (values a) m) [
+    pub stands : {l k : List ℕ} {q : Acts} → LiesAll l q k → Memᴰ v (values_all q) → Stands l k v
+    stands lies_done m = elim m [ ]
+    stands (lies_next {a = a} {q = q} x y) m = elim (Memᴰ.append_cases (values a) m) [
       | inl i ↦ stands-within (stands-act x i) (end_short (end-acts y))
       | inr i ↦ stands-end (end-act x) (stands y i)
     ]
 
-    stands-rest : {l k : List ℕ} {q : Alts} {o : Other} → LiesRest l q o k → Memᴰ v (valuesSome q ++ valuesOther o) → Stands l k v
-    stands-rest lies-absent m = elim m [ ]
-    stands-rest lies-absent-token m = elim m [ ]
-    stands-rest (lies-otherwise {l = l} x) m = stands-end (end-first 13 l) (stands x m)
-    stands-rest (lies-alternative {t = t} {b = b} {q = q} {o = o} {l = l} n e d x y) m = elim (Memᴰ.append_cases (valuesAll b ++ valuesSome q) m) [
-      | inl i ↦ elim (Memᴰ.append_cases (valuesAll b) i) [
+    stands-rest : {l k : List ℕ} {q : Alts} {o : Other} → LiesRest l q o k → Memᴰ v (values_some q ++ values_other o) → Stands l k v
+    stands-rest lies_absent m = elim m [ ]
+    stands-rest lies_absent_token m = elim m [ ]
+    stands-rest (lies_otherwise {l = l} x) m = stands-end (end-first 13 l) (stands x m)
+    stands-rest (lies_alternative {t = t} {b = b} {q = q} {o = o} {l = l} n e d x y) m = elim (Memᴰ.append_cases (values_all b ++ values_some q) m) [
+      | inl i ↦ elim (Memᴰ.append_cases (values_all b) i) [
         | inl j ↦ stands-end (end-cons t (end-drop n (end-self (drop n l)))) (stands-within (stands x j) (end_short (end_rest y)))
-        | inr j ↦ stands-end (end-cons t (end-drop n (end-acts x))) (stands-rest y (Memᴰ.append_left (valuesOther o) j))
+        | inr j ↦ stands-end (end-cons t (end-drop n (end-acts x))) (stands-rest y (Memᴰ.append_left (values_other o) j))
       ]
-      | inr i ↦ stands-end (end-cons t (end-drop n (end-acts x))) (stands-rest y (Memᴰ.append_right (valuesSome q) i))
+      | inr i ↦ stands-end (end-cons t (end-drop n (end-acts x))) (stands-rest y (Memᴰ.append_right (values_some q) i))
     ]

@@ -10,7 +10,7 @@ use lib.ListN.{length, get_or, set, length-set}
 use lib.Seq.{get_or-set_same, get_or-set_other}
 use Rattle.program.specs.Program.{Rule, body_of}
 use Rattle.finishing.specs.Test.{Known, loops, reach, some_below, arrow, finishing}
-use Rattle.verdict.specs.Told.{member, RuleTold, Laid, True, ClosedAt, someIn, known_in, row_of, Puts, Widened, Closure, Arrows}
+use Rattle.verdict.specs.Told.{member, RuleTold, Laid, True, ClosedAt, some_in, known_in, row_of, Puts, Widened, Closure, Arrows}
 use Rattle.finishing.proofs.Rounds.{last}
 use Rattle.finishing.proofs.Exact.{tells, tells-sound, tells-complete, exact, below-same, below_true, true_below}
 use Rattle.finishing.specs.Finishing.{Gives}
@@ -87,10 +87,10 @@ unfolding some_below arrow
 filling-next cells starts n kn r b mid new w h t p f = record {
   looping = λ prog e l.
       let x = (t.told (body_of prog r) (l.tail r) (l.lies r (omega arith))).1 in
-      rw (add-one, ← x.at-loops, ← f.looping prog e l) (or_comm b w.looping);
+      rw (add-one, ← x.at_loops, ← f.looping prog e l) (or_comm b w.looping);
   rows = λ prog e l j s k u. elim (last r j (omega arith)) [
     | inl y ↦ rw (p.there j (λ e. omega arith)) (f.rows prog e l j s y u)
-    | inr y ↦ let x = (t.told (body_of prog r) (l.tail r) (l.lies r (omega arith))).1 in rw (y, p.here) (x.at-calls s u)
+    | inr y ↦ let x = (t.told (body_of prog r) (l.tail r) (l.lies r (omega arith))).1 in rw (y, p.here) (x.at_calls s u)
   ];
 }
 
@@ -120,7 +120,7 @@ given_by : (prog : List Rule) (a b v : ℕ) → a ≡ b → Gives prog a v → G
 given_by prog a b v e g = rw e at g
 
 pub sound-known : (prog : List Rule) (ps : Rules) (facts : List ℕ) (m : ℕ) → True prog ps facts m → Sound prog (known_in ps facts m)
-unfolding known_in someIn
+unfolding known_in some_in
 sound-known prog ps facts m t = record {
   of-passed = t.passes;
   of_values = λ r p e.
@@ -134,7 +134,7 @@ some_more : (n : ℕ) (f g : ℕ → Bool) → ((i : ℕ) → f i ≡ true → g
 some_more n f g h e = let x = true_below n f e in below_true n g x.0 x.1 (h x.0 x.2)
 
 pub closed-known : (prog : List Rule) (ps : Rules) (facts : List ℕ) (m : ℕ) → ((r : ℕ) → r < length prog → ClosedAt prog (known_in ps facts m) r) → Closed prog (known_in ps facts m)
-unfolding known_in someIn
+unfolding known_in some_in
 closed-known prog ps facts m c = record {
   of-passed = λ r l e. (c r l).passing e;
   of_values = λ r v p l e h. some_more m (λ i. eqb (get_or facts (2 * i) 0) r && eqb (get_or facts (2 * i + 1) 0) v) (λ i. eqb (get_or facts (2 * i) 0) r && p (get_or facts (2 * i + 1) 0))

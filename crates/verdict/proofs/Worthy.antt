@@ -6,7 +6,7 @@ use mathlib.Core.List.{List}
 use native.Mathlib.Omega.{arith}
 use Rattle.base.specs.Bools.{never}
 use Rattle.finishing.specs.Test.{some_below}
-use Rattle.verdict.specs.Told.{member, someIn, Either, Covers, Worth, all-worth, none-worth}
+use Rattle.verdict.specs.Told.{member, some_in, Either, Covers, Worth, all_worth, none_worth}
 use Rattle.verdict.specs.declared.Rules.{Rules}
 use Rattle.verdict.specs.declared.Ways.{Ways}
 
@@ -17,8 +17,8 @@ implied false true e = e
 implied false false e = refl
 
 -- a union that has the words of the one is the one
-pub same-words : (s u : Rules) → u.lo ≡ s.lo → u.hi ≡ s.hi → (k : ℕ) → member u k ≡ member s k
-same-words s u d e k =
+pub same_words : (s u : Rules) → u.lo ≡ s.lo → u.hi ≡ s.hi → (k : ℕ) → member u k ≡ member s k
+same_words s u d e k =
     let f : u ≡ s = ap (λ (x : ℕ). record { lo = x; hi = u.hi }) d ∙ ap (λ (x : ℕ). record { lo = s.lo; hi = x }) e in
     ap (λ (v : Rules). member v k) f
 
@@ -38,14 +38,14 @@ covered true c h = record {
 }
 covered false c h = h
 
-no-facts : (facts : List ℕ) (q : ℕ) (p : ℕ → Bool) → someIn facts 0 q p ≡ false
-unfolding someIn some_below
+no-facts : (facts : List ℕ) (q : ℕ) (p : ℕ → Bool) → some_in facts 0 q p ≡ false
+unfolding some_in some_below
 no-facts facts q p = refl
 
-pub either-worth : {w a r : Ways} {m n : ℕ} {x : Bool} (q : ℕ) (facts : List ℕ) (p : ℕ → Bool) → Worth w a m n → x ≡ someIn facts n q p → Either w a x r → Either w a (someIn facts m q p) r
-either-worth q facts p all-worth e h = rw (← e) h
-either-worth q facts p (none-worth c) e h = covered _ c (rw (e ∙ no-facts facts q p) at h)
+pub either-worth : {w a r : Ways} {m n : ℕ} {x : Bool} (q : ℕ) (facts : List ℕ) (p : ℕ → Bool) → Worth w a m n → x ≡ some_in facts n q p → Either w a x r → Either w a (some_in facts m q p) r
+either-worth q facts p all_worth e h = rw (← e) h
+either-worth q facts p (none_worth c) e h = covered _ c (rw (e ∙ no-facts facts q p) at h)
 
 pub worth-few : {w a : Ways} {m n k : ℕ} → Worth w a m n → 2 * m ≤ k → 2 * n ≤ k
-worth-few all-worth h = h
-worth-few (none-worth c) h = omega arith
+worth-few all_worth h = h
+worth-few (none_worth c) h = omega arith

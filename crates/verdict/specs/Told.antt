@@ -4,8 +4,8 @@ use Rattle.std.specs.Int.Bits.{bit_and}
 use Rattle.base.specs.Tree.{plain}
 use Rattle.program.specs.Program.{Plain, Act, Acts, Alts, Other, Rule, body_of}
 use Rattle.finishing.specs.Finishing.{Passed, Gives, named}
-use Rattle.finishing.specs.Test.{Goal, end, leave, return, gives, calls, Known, quiet, quiets, quietSome, quietNamed, quietOther, loop, loops, loopsSome, loopsOther, passes, reach, some_below, arrow, finishing}
-use Rattle.cells.specs.Cells.{plainCells, rulesCells, cellsStart}
+use Rattle.finishing.specs.Test.{Goal, end, leave, return, gives, calls, Known, quiet, quiets, quiet_some, quiet_named, quiet_other, loop, loops, loops_some, loops_other, passes, reach, some_below, arrow, finishing}
+use Rattle.cells.specs.Cells.{plain_cells, rules_cells, cells_start}
 use Rattle.verdict.specs.Lies.{RangePlain, labelled, InRange, Lies, LiesAll, LiesRest}
 use Rattle.verdict.specs.declared.Rules.{Rules}
 use Rattle.verdict.specs.declared.Ways.{Ways}
@@ -20,21 +20,21 @@ unfoldable pub member : Rules → ℕ → Bool
 member s r = cond (ltb r 64) (bit s.lo r) (cond (ltb r 128) (bit s.hi (r - 64)) false)
 
 -- m facts in a row, a rule and a value each: some value of rule r has the property
-unfoldable pub someIn : List ℕ → ℕ → ℕ → (ℕ → Bool) → Bool
-someIn facts m r p = some_below m (λ i. eqb (get_or facts (2 * i) 0) r && p (get_or facts (2 * i + 1) 0))
+unfoldable pub some_in : List ℕ → ℕ → ℕ → (ℕ → Bool) → Bool
+some_in facts m r p = some_below m (λ i. eqb (get_or facts (2 * i) 0) r && p (get_or facts (2 * i + 1) 0))
 
 -- what is known: rules that are passed, and such facts
 unfoldable pub known_in : Rules → List ℕ → ℕ → Known
-known_in ps facts m = record { passed = member ps; some-value = λ r p. someIn facts m r p }
+known_in ps facts m = record { passed = member ps; some_value = λ r p. some_in facts m r p }
 
 -- w tells of what the ways to each goal are, those to a return of each value asked for among them, and of cycles
 pub record Tells (vs : List ℕ) (w : Ways) (f : Goal → Bool) (l : Bool) : Type 0 where
-  pub at-end : w.end ≡ f end
+  pub at_end : w.end ≡ f end
   pub at_exit : w.exit ≡ f leave
   pub at_return : w.ret ≡ f return
-  pub at-calls : (r : ℕ) → r < 128 → member w.calls r ≡ f (calls r)
+  pub at_calls : (r : ℕ) → r < 128 → member w.calls r ≡ f (calls r)
   pub at_gives : (j : ℕ) → j < length vs → j < 128 → member w.given j ≡ f (gives (get_or vs j 0))
-  pub at-loops : w.looping ≡ l
+  pub at_loops : w.looping ≡ l
 
 -- what the small functions give
 pub record Simple (x y z : Bool) (n : ℕ) (r : Ways) : Type 0 where
@@ -83,8 +83,8 @@ pub record Covers (w a : Ways) : Type 0 where
 
 -- of m facts all are worth a look, or none where they could only open ways that bring nothing
 pub data Worth (w a : Ways) (m : ℕ) : ℕ → Type 0 where
-  all-worth : Worth w a m m
-  none-worth : Covers w a → Worth w a m 0
+  all_worth : Worth w a m m
+  none_worth : Covers w a → Worth w a m 0
 
 pub record Cycled (b r : Ways) : Type 0 where
   pub end : r.end ≡ b.exit
@@ -114,8 +114,8 @@ pub record Placed (b : Ways) (n : ℕ) (r : Ways) : Type 0 where
   pub next : r.next ≡ n
 
 -- An action that holds no other, by its first cell: quietly past it, a return, the cells that it takes
-unfoldable pub pastCell : ℕ → Bool
-pastCell t = (eqb t 5 || eqb t 6) || leb 256 t
+unfoldable pub past_cell : ℕ → Bool
+past_cell t = (eqb t 5 || eqb t 6) || leb 256 t
 
 unfoldable pub takes : ℕ → ℕ
 takes t = cond ((eqb t 1 || eqb t 4) || eqb t 9) 1 (cond (ltb t 256) 2 (cond (ltb t 512) 1 2))
@@ -128,7 +128,7 @@ heads t = cond (ltb t 1024) 1 2
 pub record LeafTold (cells : List ℕ) (at : ℕ) (ps : Rules) (vs : List ℕ) (w : Ways) : Type 0 where
   pub after : at < w.next
   pub within : w.next ≤ length cells
-  pub told : (facts : List ℕ) (m : ℕ) (p : Plain) (k : List ℕ) → drop at cells ≡ plainCells p k → RangePlain p
+  pub told : (facts : List ℕ) (m : ℕ) (p : Plain) (k : List ℕ) → drop at cells ≡ plain_cells p k → RangePlain p
       → (drop w.next cells ≡ k) × Tells vs w (quiet (known_in ps facts m) (plain p)) (loop (known_in ps facts m) (plain p))
 
 pub record ActTold (cells : List ℕ) (at : ℕ) (kn : Known) (vs : List ℕ) (w : Ways) : Type 0 where
@@ -142,23 +142,23 @@ pub record ActsTold (cells : List ℕ) (at : ℕ) (kn : Known) (vs : List ℕ) (
   pub told : (q : Acts) (k : List ℕ) → LiesAll (drop at cells) q k → (drop w.next cells ≡ k) × Tells vs w (quiets kn q) (loops kn q)
 
 unfoldable pub among : Known → Bool → Bool → Alts → Other → Goal → Bool
-among kn x y q o g = (x && quietSome kn q g) || (y && quietOther kn o g)
+among kn x y q o g = (x && quiet_some kn q g) || (y && quiet_other kn o g)
 
 pub record AltsTold (cells : List ℕ) (at : ℕ) (kn : Known) (vs : List ℕ) (x y : Bool) (w : Ways) : Type 0 where
   pub after : at ≤ w.next
   pub within : w.next ≤ length cells
   pub told : (q : Alts) (o : Other) (k : List ℕ) → LiesRest (drop at cells) q o k
-      → (drop w.next cells ≡ k) × Tells vs w (among kn x y q o) (loopsSome kn q || loopsOther kn o)
+      → (drop w.next cells ≡ k) × Tells vs w (among kn x y q o) (loops_some kn q || loops_other kn o)
 
 -- alternatives by the value of rule r
-unfoldable pub byValue : Known → ℕ → Alts → Other → Goal → Bool
-byValue kn r q o g = quietNamed kn r q g || (kn.some-value r (λ v. not (named v q)) && quietOther kn o g)
+unfoldable pub by_value : Known → ℕ → Alts → Other → Goal → Bool
+by_value kn r q o g = quiet_named kn r q g || (kn.some_value r (λ v. not (named v q)) && quiet_other kn o g)
 
 pub record ValuedTold (cells : List ℕ) (at : ℕ) (kn : Known) (vs : List ℕ) (r : ℕ) (w : Ways) : Type 0 where
   pub after : at ≤ w.next
   pub within : w.next ≤ length cells
   pub told : (q : Alts) (o : Other) (k : List ℕ) → labelled q ≤ 64 → LiesRest (drop at cells) q o k
-      → (drop w.next cells ≡ k) × Tells vs w (byValue kn r q o) (loopsSome kn q || loopsOther kn o)
+      → (drop w.next cells ≡ k) × Tells vs w (by_value kn r q o) (loops_some kn q || loops_other kn o)
 
 -- the labels from one place to another, put behind the first n as far as there is room
 pub record Collected (cells : List ℕ) (from to : ℕ) (old : List ℕ) (n : ℕ) (new : List ℕ) (k : ℕ) : Type 0 where
@@ -181,7 +181,7 @@ pub record True (prog : List Rule) (ps : Rules) (facts : List ℕ) (m : ℕ) : T
 
 -- all that follows from them about rule r is among them, of the values that stand behind a cell 10 from one place to another
 pub record Exhausts (cells : List ℕ) (prog : List Rule) (ps : Rules) (facts : List ℕ) (m r from to : ℕ) : Type 0 where
-  pub values : (i : ℕ) → from ≤ i → i < to → get_or cells i 0 ≡ 10 → quiets (known_in ps facts m) (body_of prog r) (gives (get_or cells (i + 1) 0)) ≡ true → someIn facts m r (λ u. eqb u (get_or cells (i + 1) 0)) ≡ true
+  pub values : (i : ℕ) → from ≤ i → i < to → get_or cells i 0 ≡ 10 → quiets (known_in ps facts m) (body_of prog r) (gives (get_or cells (i + 1) 0)) ≡ true → some_in facts m r (λ u. eqb u (get_or cells (i + 1) 0)) ≡ true
 
 -- no fact stands twice
 pub record Apart (facts : List ℕ) (m : ℕ) : Type 0 where
@@ -190,7 +190,7 @@ pub record Apart (facts : List ℕ) (m : ℕ) : Type 0 where
 -- what follows about rule r is known
 pub record ClosedAt (prog : List Rule) (kn : Known) (r : ℕ) : Type 0 where
   pub passing : passes kn (body_of prog r) ≡ true → kn.passed r ≡ true
-  pub giving : (v : ℕ) → quiets kn (body_of prog r) (gives v) ≡ true → kn.some-value r (λ u. eqb u v) ≡ true
+  pub giving : (v : ℕ) → quiets kn (body_of prog r) (gives v) ≡ true → kn.some_value r (λ u. eqb u v) ≡ true
 
 unfoldable pub alike : Learnt → Learnt → Bool
 alike j k = (eqb j.passed.lo k.passed.lo && eqb j.passed.hi k.passed.hi) && eqb j.count k.count
@@ -202,7 +202,7 @@ pub record Same (j k : Learnt) : Type 0 where
 
 -- a value that stands behind a cell 10 and is not known of rule r
 unfoldable pub sought : List ℕ → ℕ → List ℕ → ℕ → ℕ → Bool
-sought cells i facts m r = eqb (get_or cells i 0) 10 && not (someIn facts m r (λ u. eqb u (get_or cells (i + 1) 0)))
+sought cells i facts m r = eqb (get_or cells i 0) 10 && not (some_in facts m r (λ u. eqb u (get_or cells (i + 1) 0)))
 
 -- v is one of the first n values
 pub record Asked (vs : List ℕ) (n v : ℕ) : Type 0 where
@@ -216,7 +216,7 @@ pub record GatheredTold (cells : List ℕ) (from to : ℕ) (facts : List ℕ) (m
   pub within : g.next ≤ to
   pub further : from < to → from < g.next
   pub few : g.count ≤ length vs
-  pub all : (i : ℕ) → from ≤ i → i < g.next → get_or cells i 0 ≡ 10 → (someIn facts m r (λ u. eqb u (get_or cells (i + 1) 0)) ≡ true) ⊎ Asked vs g.count (get_or cells (i + 1) 0)
+  pub all : (i : ℕ) → from ≤ i → i < g.next → get_or cells i 0 ≡ 10 → (some_in facts m r (λ u. eqb u (get_or cells (i + 1) 0)) ≡ true) ⊎ Asked vs g.count (get_or cells (i + 1) 0)
 
 -- the facts grow behind those that were there, and none stands twice
 pub record Grows (old : List ℕ) (m : ℕ) (new : List ℕ) (k : ℕ) : Type 0 where
@@ -230,7 +230,7 @@ pub record Grows (old : List ℕ) (m : ℕ) (new : List ℕ) (k : ℕ) : Type 0 
 pub record NotedTold (old : List ℕ) (m r v : ℕ) (new : List ℕ) (k : ℕ) : Type 0 where
   pub grows : Grows old m new k
   pub each : (i : ℕ) → m ≤ i → i < k → (get_or new (2 * i) 0 ≡ r) × (get_or new (2 * i + 1) 0 ≡ v)
-  pub whole : 2 * k + 1 < length new → someIn new k r (λ u. eqb u v) ≡ true
+  pub whole : 2 * k + 1 < length new → some_in new k r (λ u. eqb u v) ≡ true
 
 -- one of the first n values, with its bit in the set
 pub record Marked (vs : List ℕ) (n : ℕ) (s : Rules) (v : ℕ) : Type 0 where
@@ -243,7 +243,7 @@ pub record Marked (vs : List ℕ) (n : ℕ) (s : Rules) (v : ℕ) : Type 0 where
 pub record NotesTold (old : List ℕ) (m r : ℕ) (vs : List ℕ) (n : ℕ) (s : Rules) (new : List ℕ) (k : ℕ) : Type 0 where
   pub grows : Grows old m new k
   pub each : (i : ℕ) → m ≤ i → i < k → (get_or new (2 * i) 0 ≡ r) × Marked vs n s (get_or new (2 * i + 1) 0)
-  pub whole : 2 * k + 1 < length new → (j : ℕ) → j < n → member s j ≡ true → someIn new k r (λ u. eqb u (get_or vs j 0)) ≡ true
+  pub whole : 2 * k + 1 < length new → (j : ℕ) → j < n → member s j ≡ true → some_in new k r (λ u. eqb u (get_or vs j 0)) ≡ true
 
 -- how many numbers below n the test does not hold of
 unfoldable pub outside : ℕ → (ℕ → Bool) → ℕ
@@ -324,9 +324,9 @@ pub record Holds (cells starts : List ℕ) (count : ℕ) (prog : List Rule) : Ty
   pub number : length prog ≡ count
   pub few : count ≤ 128
   pub ranges : InRange prog
-  pub its : cells ≡ rulesCells prog ++ rest
+  pub its : cells ≡ rules_cells prog ++ rest
   pub short : length cells ≤ 4224
-  pub begins : (r : ℕ) → r < count → get_or starts r 0 ≡ cellsStart 0 prog r
+  pub begins : (r : ℕ) → r < count → get_or starts r 0 ≡ cells_start 0 prog r
 
 -- with room for as many numbers as there can be cells, two for each fact
 pub record Verdict (cells starts : List ℕ) (count room : ℕ) (b : Bool) : Type 0 where

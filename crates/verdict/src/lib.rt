@@ -2,7 +2,7 @@
 ghost use Rattle.std.specs.Prelude.{◌≡◌, ℕ, ◌+◌, ◌-◌, ◌<◌, ◌≤◌, true, false, ◌||◌, ◌&&◌, eqb, length, get_or, take, drop, ◌*◌, not};
 ghost use Rattle.base.specs.Common.{member as listed};
 ghost use Rattle.finishing.specs.Test.{some_below};
-ghost use Rattle.verdict.specs.Told.{member, someIn, known_in, Simple, Giving, Then, Either, Covers, Worth, Cycled, Calling, Placed, pastCell, takes, heads, LeafTold, ActTold, ActsTold, AltsTold, ValuedTold, Collected, RuleTold, row_of, sought, GatheredTold, NotedTold, NotesTold, Joined, AskedTold, TriedTold, LookedTold, SweepTold, LearntTold, alike, Puts, Widened, Closure, Arrows, Verdict};
+ghost use Rattle.verdict.specs.Told.{member, some_in, known_in, Simple, Giving, Then, Either, Covers, Worth, Cycled, Calling, Placed, past_cell, takes, heads, LeafTold, ActTold, ActsTold, AltsTold, ValuedTold, Collected, RuleTold, row_of, sought, GatheredTold, NotedTold, NotesTold, Joined, AskedTold, TriedTold, LookedTold, SweepTold, LearntTold, alike, Puts, Widened, Closure, Arrows, Verdict};
 
 use base::{cell, number, wide};
 
@@ -346,7 +346,7 @@ fn head(tag: usize) -> usize
 
 // A quiet path goes past such an action.
 fn past(tag: usize) -> bool
-    ensures { result ≡ pastCell tag }
+    ensures { result ≡ past_cell tag }
 {
     (tag == EMIT) | (tag == ERROR) | (UPDATE <= tag)
 }
@@ -436,7 +436,7 @@ fn packed(r: u16, v: u16) -> usize
 // Rule r is known to return v.
 fn told(facts: &[u16], m: usize, r: u16, v: u16) -> bool
     requires { 2 * m ≤ length facts.now }
-    ensures { result ≡ someIn facts.now m r (λ u. eqb u v) }
+    ensures { result ≡ some_in facts.now m r (λ u. eqb u v) }
 {
     let fact = packed(r, v);
     let mut some = false;
@@ -451,7 +451,7 @@ fn told(facts: &[u16], m: usize, r: u16, v: u16) -> bool
 // Some value that rule r is known to return stands from one place to another.
 fn opened(cells: &[u16], from: usize, to: usize, facts: &[u16], m: usize, r: u16) -> bool
     requires { (from ≤ to) × (to ≤ length cells.now) × (2 * m ≤ length facts.now) }
-    ensures { result ≡ someIn facts.now m r (λ v. listed v (take (to - from) (drop from cells.now))) }
+    ensures { result ≡ some_in facts.now m r (λ v. listed v (take (to - from) (drop from cells.now))) }
 {
     let mut i = from;
     while i < to {
@@ -477,7 +477,7 @@ fn lacks(labels: &[u16], n: usize, facts: &[u16], i: usize, r: u16) -> bool
 // Some value that rule r is known to return is none of the first n labels.
 fn unnamed(labels: &[u16], n: usize, facts: &[u16], m: usize, r: u16) -> bool
     requires { (n ≤ length labels.now) × (2 * m ≤ length facts.now) }
-    ensures { result ≡ someIn facts.now m r (λ v. not (listed v (take n labels.now))) }
+    ensures { result ≡ some_in facts.now m r (λ v. not (listed v (take n labels.now))) }
 {
     let mut i = 0;
     while i < m {

@@ -1,9 +1,9 @@
--- What a call's code gives, by phase, is what `whole_of` and `pausedOf` say. Assumes nothing.
+-- What a call's code gives, by phase, is what `whole_of` and `paused_of` say. Assumes nothing.
 use mathlib.Core.Path.{◌≡◌, refl, sym, ap, ◌∙◌}
 use mathlib.Core.Bool.{Bool, true, false}
 use mathlib.Core.List.{List, []}
 use Prim.Native.Nat.{ℕ}
-use Rattle.walker.specs.Shape.{Outcome, answeredOne, first64, number_of, goOf, keptOf, whole_of, pausedOf}
+use Rattle.walker.specs.Shape.{Outcome, answered_one, first64, number_of, go_of, kept_of, whole_of, paused_of}
 use Rattle.walker.specs.declared.Phase.{Phase}
 use Rattle.walker.specs.declared.Reason.{Reason}
 use Rattle.walker.specs.declared.Walk.{Walk}
@@ -15,39 +15,39 @@ retold p h = (h.0 ∙ ap (λ (z : Outcome). z.walk) p, (h.1.0 ∙ ap (λ (z : Ou
 
 module _ (t k : List ℕ) (n : ℕ) (w : Walk) (o : List ℕ) where
   module _ (a : List ℕ) where
-    pub whole-goes : (v : Walk) → v.at ≡ first64 w.at → v.returns ≡ w.returns → w.phase ≡ Phase.Going → goOf t k a false n v.at v.returns o 0 0 ≡ whole_of t k a n w o w.phase
+    pub whole-goes : (v : Walk) → v.at ≡ first64 w.at → v.returns ≡ w.returns → w.phase ≡ Phase.Going → go_of t k a false n v.at v.returns o 0 0 ≡ whole_of t k a n w o w.phase
     unfolding whole_of
     whole-goes v q r p = rw (p, q, r) refl
 
-    pub whole-waits : w.phase ≡ Phase.Waiting → keptOf w o 21 ≡ whole_of t k a n w o w.phase
+    pub whole-waits : w.phase ≡ Phase.Waiting → kept_of w o 21 ≡ whole_of t k a n w o w.phase
     unfolding whole_of
     whole-waits p = rw p refl
 
-    pub whole-stops : (x : Reason) (m : ℕ) → w.phase ≡ Phase.Stopped x → m ≡ number_of x → keptOf w o m ≡ whole_of t k a n w o w.phase
+    pub whole-stops : (x : Reason) (m : ℕ) → w.phase ≡ Phase.Stopped x → m ≡ number_of x → kept_of w o m ≡ whole_of t k a n w o w.phase
     unfolding whole_of
-    whole-stops x m p q = ap (keptOf w o) q ∙ sym (ap (whole_of t k a n w o) p)
+    whole-stops x m p q = ap (kept_of w o) q ∙ sym (ap (whole_of t k a n w o) p)
 
   module _ (given : Bool) (x : ℕ) where
-    pub paused-goes : (b : List ℕ) (v : Walk) → v.at ≡ first64 w.at → v.returns ≡ w.returns → w.phase ≡ Phase.Going → given ≡ false → goOf t k b true n v.at v.returns o 0 0 ≡ pausedOf t k given x n w o w.phase
-    unfolding pausedOf
+    pub paused-goes : (b : List ℕ) (v : Walk) → v.at ≡ first64 w.at → v.returns ≡ w.returns → w.phase ≡ Phase.Going → given ≡ false → go_of t k b true n v.at v.returns o 0 0 ≡ paused_of t k given x n w o w.phase
+    unfolding paused_of
     paused-goes b v q r p g = rw (p, g, q, r) (go-paused t k b [] n (first64 w.at) w.returns o 0 0)
 
-    pub paused-answers : (b : List ℕ) (v : Walk) → v.at ≡ answeredOne (first64 w.at) x → v.returns ≡ w.returns → w.phase ≡ Phase.Waiting → given ≡ true → goOf t k b true n v.at v.returns o 0 0 ≡ pausedOf t k given x n w o w.phase
-    unfolding pausedOf
-    paused-answers b v q r p g = rw (p, g, q, r) (go-paused t k b [] n (answeredOne (first64 w.at) x) w.returns o 0 0)
+    pub paused-answers : (b : List ℕ) (v : Walk) → v.at ≡ answered_one (first64 w.at) x → v.returns ≡ w.returns → w.phase ≡ Phase.Waiting → given ≡ true → go_of t k b true n v.at v.returns o 0 0 ≡ paused_of t k given x n w o w.phase
+    unfolding paused_of
+    paused-answers b v q r p g = rw (p, g, q, r) (go-paused t k b [] n (answered_one (first64 w.at) x) w.returns o 0 0)
 
-    pub paused-stops : (y : Reason) (m : ℕ) → w.phase ≡ Phase.Stopped y → m ≡ number_of y → given ≡ false → keptOf w o m ≡ pausedOf t k given x n w o w.phase
-    unfolding pausedOf
-    paused-stops y m p q g = rw g (ap (keptOf w o) q ∙ sym (ap (pausedOf t k false x n w o) p))
+    pub paused-stops : (y : Reason) (m : ℕ) → w.phase ≡ Phase.Stopped y → m ≡ number_of y → given ≡ false → kept_of w o m ≡ paused_of t k given x n w o w.phase
+    unfolding paused_of
+    paused-stops y m p q g = rw g (ap (kept_of w o) q ∙ sym (ap (paused_of t k false x n w o) p))
 
-    pub refused-going : w.phase ≡ Phase.Going → given ≡ true → keptOf w o 21 ≡ pausedOf t k given x n w o w.phase
-    unfolding pausedOf
+    pub refused-going : w.phase ≡ Phase.Going → given ≡ true → kept_of w o 21 ≡ paused_of t k given x n w o w.phase
+    unfolding paused_of
     refused-going p g = rw (p, g) refl
 
-    pub refused-waiting : w.phase ≡ Phase.Waiting → given ≡ false → keptOf w o 21 ≡ pausedOf t k given x n w o w.phase
-    unfolding pausedOf
+    pub refused-waiting : w.phase ≡ Phase.Waiting → given ≡ false → kept_of w o 21 ≡ paused_of t k given x n w o w.phase
+    unfolding paused_of
     refused-waiting p g = rw (p, g) refl
 
-    pub refused-stopped : (y : Reason) → w.phase ≡ Phase.Stopped y → given ≡ true → keptOf w o 21 ≡ pausedOf t k given x n w o w.phase
-    unfolding pausedOf
+    pub refused-stopped : (y : Reason) → w.phase ≡ Phase.Stopped y → given ≡ true → kept_of w o 21 ≡ paused_of t k given x n w o w.phase
+    unfolding paused_of
     refused-stopped y p g = rw (p, g) refl

@@ -9,27 +9,27 @@ use borrow.Author.Tests.{eq-eqb, ne_eqb, le-leb, lt-leb, lt-ltb, le-ltb, ltb-tru
 use Rattle.base.specs.Bools.{split}
 use Rattle.machine.specs.Bytes.{word_at}
 use Rattle.machine.specs.Lengths.{lengths, length_of}
-use Rattle.walker.specs.Shape.{size, swapped, findFrom, label_of, otherwiseOf, labelledOf, actOf, operateOf, fetchedOf}
+use Rattle.walker.specs.Shape.{size, swapped, find_from, label_of, otherwise_of, labelled_of, act_of, operate_of, fetched_of}
 use Rattle.walker.specs.declared.Next.{Next}
 use Rattle.walker.specs.declared.Registers.{Registers}
 
 -- Labels
 
-pub find-end : (t : List ℕ) (b x k i : ℕ) → k ≡ 0 → findFrom t b x k i ≡ i
-unfolding findFrom
+pub find-end : (t : List ℕ) (b x k i : ℕ) → k ≡ 0 → find_from t b x k i ≡ i
+unfolding find_from
 find-end t b x k i e = rw e refl
 
-pub find-hit : (t : List ℕ) (b x k i : ℕ) → 0 < k → word_at t (b + 2 * i) ≡ x → findFrom t b x k i ≡ i
-unfolding findFrom
+pub find-hit : (t : List ℕ) (b x k i : ℕ) → 0 < k → word_at t (b + 2 * i) ≡ x → find_from t b x k i ≡ i
+unfolding find_from
 find-hit t b x zero i h e = absurd (omega arith)
-find-hit t b x (suc k) i h e = rw (eq-eqb (word_at t (b + 2 * i)) x e, findFrom) refl
+find-hit t b x (suc k) i h e = rw (eq-eqb (word_at t (b + 2 * i)) x e, find_from) refl
 
-pub find-miss : (t : List ℕ) (b x k j i : ℕ) → k ≡ j + 1 → (word_at t (b + 2 * i) ≡ x → ⊥) → findFrom t b x k i ≡ findFrom t b x j (i + 1)
-unfolding findFrom
+pub find-miss : (t : List ℕ) (b x k j i : ℕ) → k ≡ j + 1 → (word_at t (b + 2 * i) ≡ x → ⊥) → find_from t b x k i ≡ find_from t b x j (i + 1)
+unfolding find_from
 find-miss t b x zero j i h e = absurd (omega arith)
 find-miss t b x (suc k) j i h e =
     let same : k ≡ j = omega arith in
-    rw (ne_eqb (word_at t (b + 2 * i)) x e, findFrom) (ap (λ (n : ℕ). findFrom t b x n (i + 1)) same)
+    rw (ne_eqb (word_at t (b + 2 * i)) x e, find_from) (ap (λ (n : ℕ). find_from t b x n (i + 1)) same)
 
 -- two words are the same if they are with their bytes exchanged
 pub swapped_same : (x y : ℕ) → x < 65536 → y < 65536 → swapped x ≡ swapped y → x ≡ y
@@ -41,17 +41,17 @@ pub record Sought (t : List ℕ) (b labels x at : ℕ) : Type 0 where
   pub i : ℕ
   pub place : at ≡ b + 2 * i
   pub within : i ≤ labels
-  pub same : findFrom t b x (labels - i) i ≡ findFrom t b x labels 0
+  pub same : find_from t b x (labels - i) i ≡ find_from t b x labels 0
 
 module _ (t : List ℕ) (b labels x at : ℕ) (s : Sought t b labels x at) where
   word-at : word_at t at ≡ word_at t (b + 2 * s.i)
   word-at = ap (word_at t) s.place
 
-  pub sought-hit : at < b + 2 * labels → word_at t at ≡ x → label_of t at ≡ labelledOf t b labels x
-  unfolding labelledOf
+  pub sought-hit : at < b + 2 * labels → word_at t at ≡ x → label_of t at ≡ labelled_of t b labels x
+  unfolding labelled_of
   sought-hit h e =
       let p = s.place in
-      let f : findFrom t b x labels 0 ≡ s.i = sym s.same ∙ find-hit t b x (labels - s.i) s.i (omega arith) (sym word-at ∙ e) in
+      let f : find_from t b x labels 0 ≡ s.i = sym s.same ∙ find-hit t b x (labels - s.i) s.i (omega arith) (sym word-at ∙ e) in
       let g : s.i < labels = omega arith in
       rw (f, lt-ltb s.i labels g) (ap (label_of t) s.place)
 
@@ -65,12 +65,12 @@ module _ (t : List ℕ) (b labels x at : ℕ) (s : Sought t b labels x at) where
         same = sym (find-miss t b x (labels - s.i) (labels - (s.i + 1)) s.i (omega arith) (λ q. e (word-at ∙ q))) ∙ s.same;
       }
 
-  pub sought-none : b + 2 * labels ≤ at → otherwiseOf (size t) (b + 2 * labels) ≡ labelledOf t b labels x
-  unfolding labelledOf
+  pub sought-none : b + 2 * labels ≤ at → otherwise_of (size t) (b + 2 * labels) ≡ labelled_of t b labels x
+  unfolding labelled_of
   sought-none h =
       let p = s.place in
       let w = s.within in
-      let f : findFrom t b x labels 0 ≡ s.i = sym s.same ∙ find-end t b x (labels - s.i) s.i (omega arith) in
+      let f : find_from t b x labels 0 ≡ s.i = sym s.same ∙ find-end t b x (labels - s.i) s.i (omega arith) in
       let g : labels ≤ s.i = omega arith in
       rw (f, le-ltb s.i labels g)
 
@@ -95,11 +95,11 @@ pub here : {n l s : ℕ} → l ≤ n → n ≡ s → leb (l + 1) (s + 1) ≡ tru
 here {n} {l} {s} h e = le-leb (l + 1) (s + 1) (omega arith)
 
 -- 0 is no instruction
-pub nothing : (rs t k a : List ℕ) (room : ℕ) (q : Bool) (r : Registers) → Next.Outside ≡ fetchedOf rs t k a room q 0 r
-unfolding fetchedOf actOf lengths length_of
+pub nothing : (rs t k a : List ℕ) (room : ℕ) (q : Bool) (r : Registers) → Next.Outside ≡ fetched_of rs t k a room q 0 r
+unfolding fetched_of act_of lengths length_of
 nothing rs t k a room q r = split (leb (r.location + 0) (size t + 1)) (λ u. rw u) (λ u. rw u)
 
 -- a number above 13 is an operation's, or none at all
-pub above : (rs t k a : List ℕ) (room : ℕ) (q : Bool) (i : ℕ) (r : Registers) → (i < 14 → ⊥) → operateOf room q a i r ≡ fetchedOf rs t k a room q i r
-unfolding fetchedOf
+pub above : (rs t k a : List ℕ) (room : ℕ) (q : Bool) (i : ℕ) (r : Registers) → (i < 14 → ⊥) → operate_of room q a i r ≡ fetched_of rs t k a room q i r
+unfolding fetched_of
 above rs t k a room q i r h = split (ltb i 14) (λ y. absurd (h (ltb-true i 14 y))) (λ y. rw y)

@@ -9,11 +9,11 @@ use lib.Dec.{eqb, leb}
 use lib.ListN.{set}
 use borrow.Author.Tests.{leb-true}
 use types.Run.{OneOf, miss}
-use Rattle.base.specs.Common.{if◌then◌else◌}
+use Rattle.std.specs.Prelude.{if◌then◌else◌}
 use Rattle.machine.specs.Bytes.{count, word_at}
 use Rattle.machine.specs.Lengths.{lengths, length_of}
-use Rattle.walker.specs.Shape.{size, putEvent, number_of, any_of, returnOf, actOf, fetchedOf, withDepth, first64, answeredOne, step_of, goOf, whole_of, pausedOf, Outcome}
-use Rattle.walker.specs.Steps.{says, Holds, Ends, tookOf, number_at, next_of, walkStepOf, turn_of, last_of, steps_of, Repeats}
+use Rattle.walker.specs.Shape.{size, put_event, number_of, any_of, return_of, act_of, fetched_of, with_depth, first64, answered_one, step_of, go_of, whole_of, paused_of, Outcome}
+use Rattle.walker.specs.Steps.{says, Holds, Ends, took_of, number_at, next_of, walk_step_of, turn_of, last_of, steps_of, Repeats}
 use Rattle.walker.specs.declared.Next.{Next}
 use Rattle.walker.specs.declared.Phase.{Phase}
 use Rattle.walker.specs.declared.Reason.{Reason}
@@ -32,48 +32,48 @@ going r rs = record { phase = Phase.Going; at = r; returns = rs }
 as-they-are : (r : Registers) → r.depth ≤ 64 → first64 r ≡ r
 as-they-are r deep =
     let e : min r.depth 64 ≡ r.depth = omega arith in
-    ap (withDepth r) e
+    ap (with_depth r) e
 
 module _ (t k a : List ℕ) (paused : Bool) where
   abbrev Same : ℕ → Type 0
-  Same n = (r : Registers) (rs o : List ℕ) (e d : ℕ) → r.depth ≤ 64 → goOf t k a paused n r rs o e d ≡ steps_of t k a paused n (going r rs) o e d
+  Same n = (r : Registers) (rs o : List ℕ) (e d : ℕ) → r.depth ≤ 64 → go_of t k a paused n r rs o e d ≡ steps_of t k a paused n (going r rs) o e d
 
   module _ (n : ℕ) (less : Same n) (r : Registers) (rs o : List ℕ) (e d : ℕ) where
     -- after a step that does x
     then-x : Next → Outcome
-    then-x x = turn_of (steps_of t k a paused n) (tookOf (going r rs) x) o e d
+    then-x x = turn_of (steps_of t k a paused n) (took_of (going r rs) x) o e d
 
-    one_more : first64 r ≡ r → (x : Next) → stepped t k a paused r rs o e d ≡ x → steps_of t k a paused (suc n) (going r rs) o e d ≡ then-x x
-    unfolding steps_of walkStepOf then-x
-    one_more f x s =
-        ap (λ (q : Registers). turn_of (steps_of t k a paused n) (tookOf (going q rs) (step_of rs t k a (count o - 3 * e) paused q)) o e d) f ∙ ap then-x s
+    one_more_lem : first64 r ≡ r → (x : Next) → stepped t k a paused r rs o e d ≡ x → steps_of t k a paused (suc n) (going r rs) o e d ≡ then-x x
+    unfolding steps_of walk_step_of then-x
+    one_more_lem f x s =
+        ap (λ (q : Registers). turn_of (steps_of t k a paused n) (took_of (going q rs) (step_of rs t k a (count o - 3 * e) paused q)) o e d) f ∙ ap then-x s
 
-    by-step : r.depth ≤ 64 → (x : Next) → stepped t k a paused r rs o e d ≡ x → Keeps (count o - 3 * e) r x → goOf t k a paused (suc n) r rs o e d ≡ then-x x
-    unfolding then-x turn_of tookOf
+    by-step : r.depth ≤ 64 → (x : Next) → stepped t k a paused r rs o e d ≡ x → Keeps (count o - 3 * e) r x → go_of t k a paused (suc n) r rs o e d ≡ then-x x
+    unfolding then-x turn_of took_of
     by-step deep Next.Full s h = full t k a paused r rs o e d (suc n) (omega arith) s
     by-step deep Next.Outside s h = outside t k a paused r rs o e d (suc n) (omega arith) s
     by-step deep (Next.Stop x) s h = stops t k a paused r rs o e d (suc n) x (omega arith) s
     by-step deep (Next.On v) s h = on t k a paused r rs o e d (suc n) n v (omega arith) s ∙ less v rs o e (d + 1) (omega (arith, deep, h.depth))
-    by-step deep (Next.Tells v x) s h = tells t k a paused r rs o e d (suc n) n v x (omega arith) s ∙ less v rs (putEvent o (3 * e) x) (e + 1) (d + 1) (omega (arith, deep, h.0.depth))
-    by-step deep (Next.Push v l) s h = pushes t k a paused r rs o e d (suc n) n v l (omega arith) s ∙ less (withDepth v (v.depth + 1)) (set rs v.depth l) o e (d + 1) (omega (arith, h.1))
+    by-step deep (Next.Tells v x) s h = tells t k a paused r rs o e d (suc n) n v x (omega arith) s ∙ less v rs (put_event o (3 * e) x) (e + 1) (d + 1) (omega (arith, deep, h.0.depth))
+    by-step deep (Next.Push v l) s h = pushes t k a paused r rs o e d (suc n) n v l (omega arith) s ∙ less (with_depth v (v.depth + 1)) (set rs v.depth l) o e (d + 1) (omega (arith, h.1))
     by-step deep (Next.Waits v x) s h = waits t k a paused r rs o e d (suc n) v x (omega arith) s
 
   pub steps-go : (n : ℕ) → Same n
-  unfolding goOf steps_of
+  unfolding go_of steps_of
   steps-go zero r rs o e d deep = refl
   steps-go (suc n) r rs o e d deep =
       let x = stepped t k a paused r rs o e d in
-      by-step n (steps-go n) r rs o e d deep x refl (keeps (count o - 3 * e) r rs t k a paused) ∙ sym (one_more n (steps-go n) r rs o e d (as-they-are r deep) x refl)
+      by-step n (steps-go n) r rs o e d deep x refl (keeps (count o - 3 * e) r rs t k a paused) ∙ sym (one_more_lem n (steps-go n) r rs o e d (as-they-are r deep) x refl)
 
 read-64 : (d : ℕ) → min d 64 ≤ 64
 read-64 d = omega arith
 
 pub repeats : (t k : List ℕ) (n : ℕ) (w : Walk) (o : List ℕ) → Repeats t k n w o
-unfolding whole_of pausedOf
+unfolding whole_of paused_of
 repeats t k n w o = record {
   whole = λ a p. rw p (steps-go t k a false n (first64 w.at) w.returns o 0 0 (read-64 w.at.depth));
   paused = λ x p. rw p (steps-go t k [] true n (first64 w.at) w.returns o 0 0 (read-64 w.at.depth));
-  answer = λ x p. rw p (steps-go t k [] true n (answeredOne (first64 w.at) x) w.returns o 0 0 (read-64 w.at.depth));
+  answer = λ x p. rw p (steps-go t k [] true n (answered_one (first64 w.at) x) w.returns o 0 0 (read-64 w.at.depth));
 }
 
 -- The instructions that `Walk::next` does by the walk's own methods
@@ -93,13 +93,13 @@ module _ (t : List ℕ) where
 
   module _ (rs k a : List ℕ) (room : ℕ) (q : Bool) (r : Registers) where
     pub step-any : number_at t r.location ≡ 4 → step_of rs t k a room q r ≡ any_of k r
-    unfolding step_of fetchedOf actOf lengths length_of
+    unfolding step_of fetched_of act_of lengths length_of
     step-any e =
         let f = found r.location 3 e in
         rw (f.0, f.1.0, f.1.1, here (leb-true r.location (size t) f.1.0) refl) refl
 
-    pub step-return : number_at t r.location ≡ 9 → step_of rs t k a room q r ≡ returnOf rs t r
-    unfolding step_of fetchedOf actOf lengths length_of
+    pub step-return : number_at t r.location ≡ 9 → step_of rs t k a room q r ≡ return_of rs t r
+    unfolding step_of fetched_of act_of lengths length_of
     step-return e =
         let f = found r.location 8 e in
         rw (f.0, f.1.0, f.1.1, here (leb-true r.location (size t) f.1.0) refl) refl
@@ -129,20 +129,20 @@ only-full room (Next.Tells v y) h k = absurd h
 only-full room (Next.Push v l) h k = absurd h
 only-full room (Next.Waits v y) h k = absurd (miss (0 ∷ 3 ∷ 4 ∷ 5 ∷ []) _ tt k)
 
-pub last_as : (w : Walk) (o : List ℕ) (e d : ℕ) {x y : Next} → x ≡ y → last_of (tookOf w y) o e d ≡ last_of (tookOf w x) o e d
-last_as w o e d p = ap (λ (z : Next). last_of (tookOf w z) o e d) (sym p)
+pub last_as : (w : Walk) (o : List ℕ) (e d : ℕ) {x y : Next} → x ≡ y → last_of (took_of w y) o e d ≡ last_of (took_of w x) o e d
+last_as w o e d p = ap (λ (z : Next). last_of (took_of w z) o e d) (sym p)
 
 -- A step by the walk's phase
 
 module _ (t k a : List ℕ) (room : ℕ) (q : Bool) (w : Walk) where
-  pub step-goes : (v : Walk) → v.phase ≡ w.phase → v.at ≡ first64 w.at → v.returns ≡ w.returns → w.phase ≡ Phase.Going → next_of t k a room q v ≡ walkStepOf t k a room q w w.phase
-  unfolding walkStepOf
-  step-goes v p at rs g = ap (next_of t k a room q) (λ i. record { phase = p i; at = at i; returns = rs i }) ∙ sym (ap (walkStepOf t k a room q w) g)
+  pub step-goes : (v : Walk) → v.phase ≡ w.phase → v.at ≡ first64 w.at → v.returns ≡ w.returns → w.phase ≡ Phase.Going → next_of t k a room q v ≡ walk_step_of t k a room q w w.phase
+  unfolding walk_step_of
+  step-goes v p at rs g = ap (next_of t k a room q) (λ i. record { phase = p i; at = at i; returns = rs i }) ∙ sym (ap (walk_step_of t k a room q w) g)
 
-  pub step_waits : w.phase ≡ Phase.Waiting → says w (Said.Undone 21) ≡ walkStepOf t k a room q w w.phase
-  unfolding walkStepOf
-  step_waits g = sym (ap (walkStepOf t k a room q w) g)
+  pub step_waits : w.phase ≡ Phase.Waiting → says w (Said.Undone 21) ≡ walk_step_of t k a room q w w.phase
+  unfolding walk_step_of
+  step_waits g = sym (ap (walk_step_of t k a room q w) g)
 
-  pub step-stops : (x : Reason) (m : ℕ) → w.phase ≡ Phase.Stopped x → m ≡ number_of x → says w (Said.Undone m) ≡ walkStepOf t k a room q w w.phase
-  unfolding walkStepOf
-  step-stops x m g e = ap (λ (n : ℕ). says w (Said.Undone n)) e ∙ sym (ap (walkStepOf t k a room q w) g)
+  pub step-stops : (x : Reason) (m : ℕ) → w.phase ≡ Phase.Stopped x → m ≡ number_of x → says w (Said.Undone m) ≡ walk_step_of t k a room q w w.phase
+  unfolding walk_step_of
+  step-stops x m g e = ap (λ (n : ℕ). says w (Said.Undone n)) e ∙ sym (ap (walk_step_of t k a room q w) g)

@@ -3,7 +3,7 @@ use Rattle.std.specs.Prelude.{Bool, true, false, List, ◌≡◌, ℕ, ◌<◌, 
 use Rattle.std.proofs.Math.Option.{Option, none, some}
 use Rattle.machine.specs.Bytes.{bytes_of, over}
 use Rattle.machine.specs.Call.{Called}
-use Rattle.machine.specs.Form.{eventsWords}
+use Rattle.machine.specs.Form.{events_words}
 use Rattle.walker.specs.Shape.{Outcome}
 use Rattle.walker.specs.View.{walk_of}
 
@@ -22,4 +22,4 @@ pub record Agrees (s : List ℕ) (x : Outcome) (c : Called) : Type 0 where
   pub steps : x.steps ≡ c.steps
   pub events : x.events ≡ length c.events
   pub walk : walk_of x.walk ≡ c.walk
-  pub out : x.out ≡ over (bytes_of (eventsWords c.events)) s
+  pub out : x.out ≡ over (bytes_of (events_words c.events)) s

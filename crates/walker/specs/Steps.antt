@@ -1,8 +1,7 @@
 -- "Each step takes the walk and gives the walk back": the walk's methods, one step, and steps repeated. A call's loop does the same (`Repeats`).
-use Rattle.std.specs.Prelude.{Bool, true, false, List, [], ◌≡◌, ℕ, zero, suc, ◌+◌, ◌*◌, ◌-◌, ◌<◌, ◌≤◌, eqb, leb, get_or}
-use Rattle.base.specs.Common.{if◌then◌else◌}
+use Rattle.std.specs.Prelude.{Bool, true, false, List, [], ◌≡◌, ℕ, zero, suc, ◌+◌, ◌*◌, ◌-◌, ◌<◌, ◌≤◌, eqb, leb, get_or, if◌then◌else◌}
 use Rattle.machine.specs.Bytes.{count, word_at}
-use Rattle.walker.specs.Shape.{size, putEvent, readOne, answeredOne, poppedTo, pushed, first64, number_of, step_of, Outcome, whole_of, pausedOf}
+use Rattle.walker.specs.Shape.{size, put_event, read_one, answered_one, popped_to, pushed, first64, number_of, step_of, Outcome, whole_of, paused_of}
 use Rattle.walker.specs.declared.Called.{Called}
 use Rattle.walker.specs.declared.Next.{Next}
 use Rattle.walker.specs.declared.Phase.{Phase}
@@ -15,27 +14,27 @@ use Rattle.walker.specs.declared.Walk.{Walk}
 
 -- The walk's methods; `pushed` stands with the shapes
 
-abbrev pub withAt : Walk → Registers → Walk
-withAt w r = record { phase = w.phase; at = r; returns = w.returns }
+abbrev pub with_at : Walk → Registers → Walk
+with_at w r = record { phase = w.phase; at = r; returns = w.returns }
 
-abbrev pub inPhase : Walk → Phase → Walk
-inPhase w p = record { phase = p; at = w.at; returns = w.returns }
+abbrev pub in_phase : Walk → Phase → Walk
+in_phase w p = record { phase = p; at = w.at; returns = w.returns }
 
 -- a token read
-abbrev pub tokenRead : Walk → Walk
-tokenRead w = withAt w (readOne w.at)
+abbrev pub token_read : Walk → Walk
+token_read w = with_at w (read_one w.at)
 
 -- back behind the newest call
 abbrev pub returned : Walk → Walk
-returned w = withAt w (poppedTo w.at (get_or w.returns (w.at.depth - 1) 0))
+returned w = with_at w (popped_to w.at (get_or w.returns (w.at.depth - 1) 0))
 
 -- the answer taken: the walk goes on
 abbrev pub answered : Walk → ℕ → Walk
-answered w x = inPhase (withAt w (answeredOne w.at x)) Going
+answered w x = in_phase (with_at w (answered_one w.at x)) Going
 
 -- "more than 64 return locations are read as the first 64"
-abbrev pub asRead : Walk → Walk
-asRead w = withAt w (first64 w.at)
+abbrev pub as_read : Walk → Walk
+as_read w = with_at w (first64 w.at)
 
 -- One step
 
@@ -53,14 +52,14 @@ Holds (Next.Push r l) = r.depth < 64
 Holds (Next.Waits r e) = Unit {0}
 
 -- what an instruction does to the walk, and what the call is told of it; 35 and 37 "do nothing and count nothing"
-unfoldable pub tookOf : Walk → Next → Stepped
-tookOf w Next.Full = says w (Said.Undone 35)
-tookOf w Next.Outside = says (inPhase w (Stopped Reason.Outside)) (Said.Undone 37)
-tookOf w (Next.Stop x) = says (inPhase w (Stopped x)) (Said.Stops (number_of x))
-tookOf w (Next.On r) = says (withAt w r) Said.On
-tookOf w (Next.Tells r e) = says (withAt w r) (Said.Tells e)
-tookOf w (Next.Push r l) = says (pushed (withAt w r) l) Said.On
-tookOf w (Next.Waits r e) = says (inPhase (withAt w r) Waiting) (Said.Hands e)
+unfoldable pub took_of : Walk → Next → Stepped
+took_of w Next.Full = says w (Said.Undone 35)
+took_of w Next.Outside = says (in_phase w (Stopped Reason.Outside)) (Said.Undone 37)
+took_of w (Next.Stop x) = says (in_phase w (Stopped x)) (Said.Stops (number_of x))
+took_of w (Next.On r) = says (with_at w r) Said.On
+took_of w (Next.Tells r e) = says (with_at w r) (Said.Tells e)
+took_of w (Next.Push r l) = says (pushed (with_at w r) l) Said.On
+took_of w (Next.Waits r e) = says (in_phase (with_at w r) Waiting) (Said.Hands e)
 
 -- the number of the instruction at l, or 0 outside the table
 unfoldable pub number_at : List ℕ → ℕ → ℕ
@@ -68,13 +67,13 @@ number_at t l = if eqb l 0 then 0 else if leb l (size t) then word_at t (l - 1) 
 
 -- a step of a walk that goes on: t the table, k the tokens, a the answers
 abbrev pub next_of : List ℕ → List ℕ → List ℕ → ℕ → Bool → Walk → Stepped
-next_of t k a room paused w = tookOf w (step_of w.returns t k a room paused w.at)
+next_of t k a room paused w = took_of w (step_of w.returns t k a room paused w.at)
 
 -- a step of any walk: one that waits or has stopped stays as it is
-unfoldable pub walkStepOf : List ℕ → List ℕ → List ℕ → ℕ → Bool → Walk → Phase → Stepped
-walkStepOf t k a room paused w Going = next_of t k a room paused (asRead w)
-walkStepOf t k a room paused w Waiting = says w (Said.Undone 21)
-walkStepOf t k a room paused w (Stopped x) = says w (Said.Undone (number_of x))
+unfoldable pub walk_step_of : List ℕ → List ℕ → List ℕ → ℕ → Bool → Walk → Phase → Stepped
+walk_step_of t k a room paused w Going = next_of t k a room paused (as_read w)
+walk_step_of t k a room paused w Waiting = says w (Said.Undone 21)
+walk_step_of t k a room paused w (Stopped x) = says w (Said.Undone (number_of x))
 
 -- Steps repeated
 
@@ -90,10 +89,10 @@ unfoldable pub turn_of : (Walk → List ℕ → ℕ → ℕ → Outcome) → Ste
 turn_of further s o e d =
     elim s.said [
       | Said.On ↦ further s.walk o e (d + 1)
-      | Said.Tells x ↦ further s.walk (putEvent o (3 * e) x) (e + 1) (d + 1)
+      | Said.Tells x ↦ further s.walk (put_event o (3 * e) x) (e + 1) (d + 1)
       | Said.Undone m ↦ outcome s.walk o e d m
       | Said.Stops m ↦ outcome s.walk o e (d + 1) m
-      | Said.Hands x ↦ outcome s.walk (putEvent o (3 * e) x) (e + 1) (d + 1) 22
+      | Said.Hands x ↦ outcome s.walk (put_event o (3 * e) x) (e + 1) (d + 1) 22
     ]
 
 -- a step that does not go on, with room for so many words of events: an operation is handed out only where an event's three are free
@@ -113,10 +112,10 @@ last_of s o e d = turn_of (λ w u f g. outcome w u f g 36) s o e d
 -- up to n steps
 unfoldable pub steps_of : List ℕ → List ℕ → List ℕ → Bool → ℕ → Walk → List ℕ → ℕ → ℕ → Outcome
 steps_of t k a paused zero w o e d = outcome w o e d 36
-steps_of t k a paused (suc n) w o e d = turn_of (steps_of t k a paused n) (walkStepOf t k a (count o - 3 * e) paused w w.phase) o e d
+steps_of t k a paused (suc n) w o e d = turn_of (steps_of t k a paused n) (walk_step_of t k a (count o - 3 * e) paused w w.phase) o e d
 
 -- a call of a walk that goes on, or that is given the answer it waits for, is its steps repeated
 pub record Repeats (t k : List ℕ) (n : ℕ) (w : Walk) (o : List ℕ) : Type 0 where
-  pub whole : (a : List ℕ) → w.phase ≡ Going → whole_of t k a n w o w.phase ≡ steps_of t k a false n (asRead w) o 0 0
-  pub paused : (x : ℕ) → w.phase ≡ Going → pausedOf t k false x n w o w.phase ≡ steps_of t k [] true n (asRead w) o 0 0
-  pub answer : (x : ℕ) → w.phase ≡ Waiting → pausedOf t k true x n w o w.phase ≡ steps_of t k [] true n (answered (asRead w) x) o 0 0
+  pub whole : (a : List ℕ) → w.phase ≡ Going → whole_of t k a n w o w.phase ≡ steps_of t k a false n (as_read w) o 0 0
+  pub paused : (x : ℕ) → w.phase ≡ Going → paused_of t k false x n w o w.phase ≡ steps_of t k [] true n (as_read w) o 0 0
+  pub answer : (x : ℕ) → w.phase ≡ Waiting → paused_of t k true x n w o w.phase ≡ steps_of t k [] true n (answered (as_read w) x) o 0 0

@@ -11,30 +11,30 @@ use Rattle.walker.specs.declared.Reason.TheVariants.{Finished, Differs, Missing,
 use Rattle.walker.specs.declared.Registers.{Registers}
 use Rattle.walker.specs.declared.Walk.{Walk}
 
-unfoldable pub reasonOf : Reason → events.Reason
-reasonOf Finished = events.finished
-reasonOf Differs = events.differs
-reasonOf Missing = events.missing
-reasonOf Unlabelled = events.unlabelled
-reasonOf Deep = events.deep
-reasonOf Unanswered = events.unanswered
-reasonOf Outside = events.outside
+unfoldable pub reason_of : Reason → events.Reason
+reason_of Finished = events.finished
+reason_of Differs = events.differs
+reason_of Missing = events.missing
+reason_of Unlabelled = events.unlabelled
+reason_of Deep = events.deep
+reason_of Unanswered = events.unanswered
+reason_of Outside = events.outside
 
-unfoldable pub phaseOf : Phase → machine.Phase
-phaseOf Going = machine.going
-phaseOf Waiting = machine.waiting
-phaseOf (Stopped r) = machine.stopped (reasonOf r)
+unfoldable pub phase_of : Phase → machine.Phase
+phase_of Going = machine.going
+phase_of Waiting = machine.waiting
+phase_of (Stopped r) = machine.stopped (reason_of r)
 
-unfoldable pub eventOf : Event → events.Event
-eventOf (Output t) = events.output t
-eventOf (Event.Error n) = events.signal n
-eventOf (Repair t) = events.repair t
-eventOf (Plain op) = events.operation op
-eventOf (With op v) = events.operationWith op v
+unfoldable pub event_of : Event → events.Event
+event_of (Output t) = events.output t
+event_of (Event.Error n) = events.signal n
+event_of (Repair t) = events.repair t
+event_of (Plain op) = events.operation op
+event_of (With op v) = events.operation_with op v
 
 -- registers and return locations in a phase, words by their 16 bits: "more than 64 return locations are read as the first 64", the array having no more
-unfoldable pub walkIn : machine.Phase → Registers → List ℕ → machine.Walk
-walkIn ph r returns = record {
+unfoldable pub walk_in : machine.Phase → Registers → List ℕ → machine.Walk
+walk_in ph r returns = record {
   phase = ph;
   location = r.location;
   returns = reverse (take r.depth returns);
@@ -44,9 +44,9 @@ walkIn ph r returns = record {
 }
 
 unfoldable pub walk_of : Walk → machine.Walk
-walk_of w = walkIn (phaseOf w.phase) w.at w.returns
+walk_of w = walk_in (phase_of w.phase) w.at w.returns
 
 -- all of this file computes where this is unfolded
 unfoldable pub opened : Unit {0}
-unfolding reasonOf phaseOf eventOf walkIn walk_of
+unfolding reason_of phase_of event_of walk_in walk_of
 opened = tt

@@ -2,12 +2,12 @@
 ghost use Rattle.std.specs.Prelude.{◌≡◌, ◌+◌, ◌*◌, ◌-◌, ◌%◌, ◌<◌, ◌≤◌, ◌^◌, set};
 ghost use Rattle.machine.specs.Bytes.{count, word_at};
 ghost use Rattle.machine.specs.Lengths.{lengths, length_of};
-ghost use Rattle.walker.specs.Shape.{size, setWord, putEvent, swapped, number_of};
-ghost use Rattle.walker.specs.Shape.{freshAt, moved, readOne, spentOne, answeredOne, withResult, withParameter, poppedTo, withDepth, first64};
-ghost use Rattle.walker.specs.Shape.{otherwiseOf, label_of, labelledOf, choice_of, defaultOf, takeOther};
-ghost use Rattle.walker.specs.Shape.{forwardOf, backOf, mendOf, input_of, any_of, tellOf, inputChoiceOf, call_of, backTo, returnOf, answer_of};
-ghost use Rattle.walker.specs.Shape.{inFull, operateOf, fetchedOf, step_of, goOf, whole_of, pausedOf, pushed};
-ghost use Rattle.walker.specs.Steps.{withAt, inPhase, tokenRead, returned, answered, says, Holds, tookOf, number_at, next_of, walkStepOf, outcome, called, Ends, last_of};
+ghost use Rattle.walker.specs.Shape.{size, set_word, put_event, swapped, number_of};
+ghost use Rattle.walker.specs.Shape.{fresh_at, moved, read_one, spent_one, answered_one, with_result, with_parameter, popped_to, with_depth, first64};
+ghost use Rattle.walker.specs.Shape.{otherwise_of, label_of, labelled_of, choice_of, default_of, take_other};
+ghost use Rattle.walker.specs.Shape.{forward_of, back_of, mend_of, input_of, any_of, tell_of, input_choice_of, call_of, back_to, return_of, answer_of};
+ghost use Rattle.walker.specs.Shape.{in_full, operate_of, fetched_of, step_of, go_of, whole_of, paused_of, pushed};
+ghost use Rattle.walker.specs.Steps.{with_at, in_phase, token_read, returned, answered, says, Holds, took_of, number_at, next_of, walk_step_of, outcome, called, Ends, last_of};
 ghost use Rattle.walker.specs.declared.Phase.TheVariants.{Stopped};
 
 use base::{PENDING, byte_word, low_word, wide};
@@ -155,7 +155,7 @@ fn word(s: &[u8], i: usize) -> u16
 // `buffers::put_word` writes the same. This one stays: the loop that it is put into is timed, and uses `machine` alone.
 fn put_word(out: &mut [u8], i: usize, x: u16)
     requires { i < count out.old }
-    ensures { out.new ≡ setWord out.old i x }
+    ensures { out.new ≡ set_word out.old i x }
 {
     out[2 * i] = (x / 256) as u8;
     out[2 * i + 1] = (x % 256) as u8;
@@ -163,7 +163,7 @@ fn put_word(out: &mut [u8], i: usize, x: u16)
 
 fn put_three(out: &mut [u8], i: usize, a: u16, b: u16, d: u16)
     requires { i + 3 ≤ count out.old }
-    ensures { out.new ≡ setWord (setWord (setWord out.old i a) (i + 1) b) (i + 2) d }
+    ensures { out.new ≡ set_word (set_word (set_word out.old i a) (i + 1) b) (i + 2) d }
 {
     put_word(out, i, a);
     put_word(out, i + 1, b);
@@ -173,7 +173,7 @@ fn put_three(out: &mut [u8], i: usize, a: u16, b: u16, d: u16)
 // An event: its kind first.
 pub fn put_event(out: &mut [u8], i: usize, e: Event)
     requires { i + 3 ≤ count out.old }
-    ensures { out.new ≡ putEvent out.old i e }
+    ensures { out.new ≡ put_event out.old i e }
 {
     match e {
         Event::Output(t) => {
@@ -233,7 +233,7 @@ pub fn number_of(why: Reason) -> u16
 
 // The registers of a fresh walk.
 pub fn fresh(allowance: u16) -> Registers
-    ensures { result ≡ freshAt allowance }
+    ensures { result ≡ fresh_at allowance }
 {
     Registers {
         location: 1,
@@ -258,7 +258,7 @@ impl Registers {
 
     fn read_token(mut self) -> Registers
         requires { self.read + 1 < 2 ^ 64 }
-        ensures { result ≡ readOne self }
+        ensures { result ≡ read_one self }
     {
         self.read += 1;
         self
@@ -267,7 +267,7 @@ impl Registers {
     // One repair less is left.
     fn spend(mut self) -> Registers
         requires { 0 < self.allowance }
-        ensures { result ≡ spentOne self }
+        ensures { result ≡ spent_one self }
     {
         self.allowance -= 1;
         self
@@ -275,7 +275,7 @@ impl Registers {
 
     // Takes an answer: the result, and one more used, up to the greatest count.
     fn give_answer(mut self, x: u16) -> Registers
-        ensures { result ≡ answeredOne self x }
+        ensures { result ≡ answered_one self x }
     {
         self.result = x as u64;
         if self.used < MOST_USED {
@@ -285,14 +285,14 @@ impl Registers {
     }
 
     fn with_result(mut self, x: u16) -> Registers
-        ensures { result ≡ withResult self x }
+        ensures { result ≡ with_result self x }
     {
         self.result = x as u64;
         self
     }
 
     fn with_parameter(mut self, x: u16) -> Registers
-        ensures { result ≡ withParameter self x }
+        ensures { result ≡ with_parameter self x }
     {
         self.parameter = x as u64;
         self
@@ -301,7 +301,7 @@ impl Registers {
     // Goes back behind a call.
     fn popped_to(mut self, to: usize) -> Registers
         requires { 0 < self.depth }
-        ensures { result ≡ poppedTo self to }
+        ensures { result ≡ popped_to self to }
     {
         self.depth -= 1;
         self.location = to;
@@ -311,7 +311,7 @@ impl Registers {
     // One more return location is held.
     pub fn deeper(mut self) -> Registers
         requires { self.depth < 64 }
-        ensures { result ≡ withDepth self (self.depth + 1) }
+        ensures { result ≡ with_depth self (self.depth + 1) }
     {
         self.depth += 1;
         self
@@ -333,7 +333,7 @@ impl Registers {
 // Where a choice goes that has no label for it: past its table, whose last word is the one at location end.
 fn otherwise(n: usize, end: usize) -> Target
     requires { (n ≤ 4096) × (end ≤ n) }
-    ensures { result ≡ otherwiseOf n end }
+    ensures { result ≡ otherwise_of n end }
 {
     if end < n {
         Target::Otherwise(end + 1)
@@ -359,7 +359,7 @@ fn label(t: &[u8], at: usize) -> Target
 // Where a choice goes with x: its labels stand at every second word from index b. They are compared with their bytes exchanged, which spares one each.
 fn labelled(t: &[u8], n: usize, b: usize, labels: usize, x: u16) -> Target
     requires { (n ≡ size t.now) × (b + 2 * labels ≤ n) }
-    ensures { result ≡ labelledOf t.now b labels x }
+    ensures { result ≡ labelled_of t.now b labels x }
 {
     let y = swap_bytes(x);
     let end = b + 2 * labels;
@@ -392,7 +392,7 @@ fn choice_target(t: &[u8], n: usize, loc: usize, x: u16) -> Target
 // Where the choice at loc goes with nothing to look for.
 fn default_target(t: &[u8], n: usize, loc: usize) -> Target
     requires { (n ≡ size t.now) × (loc < n) }
-    ensures { result ≡ defaultOf t.now loc }
+    ensures { result ≡ default_of t.now loc }
 {
     let b = loc + 1 + word(t, loc) as usize;
     if n < b {
@@ -413,7 +413,7 @@ fn default_target(t: &[u8], n: usize, loc: usize) -> Target
 impl Registers {
     fn forward(self, t: &[u8], n: usize, len: usize) -> Next
         requires { (n ≡ size t.now) × (self.location ≤ n) × (len ≡ 2) }
-        ensures { result ≡ inFull t.now 2 self (forwardOf t.now self) }
+        ensures { result ≡ in_full t.now 2 self (forward_of t.now self) }
     {
         let loc = self.location;
         if n < loc + len - 1 {
@@ -429,7 +429,7 @@ impl Registers {
 
     fn back(self, t: &[u8], n: usize, len: usize) -> Next
         requires { (n ≡ size t.now) × (self.location ≤ n) × (len ≡ 2) }
-        ensures { result ≡ inFull t.now 2 self (backOf t.now self) }
+        ensures { result ≡ in_full t.now 2 self (back_of t.now self) }
     {
         let loc = self.location;
         if n < loc + len - 1 {
@@ -446,7 +446,7 @@ impl Registers {
     // A required token that is not there: repaired while allowance is left.
     fn mend(self, t: &[u8], len: usize, room: usize) -> Next
         requires { (self.location < size t.now) × (len ≡ 2) }
-        ensures { result ≡ mendOf t.now room self }
+        ensures { result ≡ mend_of t.now room self }
     {
         let loc = self.location;
         if 0 < low_word(self.allowance) {
@@ -459,7 +459,7 @@ impl Registers {
 
     fn input(self, t: &[u8], n: usize, len: usize, tokens: &[u8], room: usize) -> Next
         requires { (n ≡ size t.now) × (self.location ≤ n) × (len ≡ 2) }
-        ensures { result ≡ inFull t.now 2 self (input_of t.now tokens.now room self) }
+        ensures { result ≡ in_full t.now 2 self (input_of t.now tokens.now room self) }
     {
         let loc = self.location;
         if n < loc + len - 1 {
@@ -495,7 +495,7 @@ impl Registers {
 
     // An event, and on to a location.
     fn tell(self, room: usize, to: usize, e: Event) -> Next
-        ensures { result ≡ tellOf room to e self }
+        ensures { result ≡ tell_of room to e self }
     {
         if EVENT_WORDS <= room {
             Next::Tells(self.moved(to), e)
@@ -506,7 +506,7 @@ impl Registers {
 
     fn output(self, t: &[u8], n: usize, len: usize, room: usize) -> Next
         requires { (n ≡ size t.now) × (self.location ≤ n) × (len ≡ 2) }
-        ensures { result ≡ inFull t.now 2 self (tellOf room (self.location + 2) (Event.Output (word_at t.now self.location)) self) }
+        ensures { result ≡ in_full t.now 2 self (tell_of room (self.location + 2) (Event.Output (word_at t.now self.location)) self) }
     {
         let loc = self.location;
         if n < loc + len - 1 {
@@ -517,7 +517,7 @@ impl Registers {
 
     fn error(self, t: &[u8], n: usize, len: usize, room: usize) -> Next
         requires { (n ≡ size t.now) × (self.location ≤ n) × (len ≡ 2) }
-        ensures { result ≡ inFull t.now 2 self (tellOf room (self.location + 2) (Event.Error (word_at t.now self.location)) self) }
+        ensures { result ≡ in_full t.now 2 self (tell_of room (self.location + 2) (Event.Error (word_at t.now self.location)) self) }
     {
         let loc = self.location;
         if n < loc + len - 1 {
@@ -528,7 +528,7 @@ impl Registers {
 
     fn set_result(self, t: &[u8], n: usize, len: usize) -> Next
         requires { (n ≡ size t.now) × (self.location ≤ n) × (len ≡ 2) }
-        ensures { result ≡ inFull t.now 2 self (Next.On (withResult (moved self (self.location + 2)) (word_at t.now self.location))) }
+        ensures { result ≡ in_full t.now 2 self (Next.On (with_result (moved self (self.location + 2)) (word_at t.now self.location))) }
     {
         let loc = self.location;
         if n < loc + len - 1 {
@@ -539,7 +539,7 @@ impl Registers {
 
     fn set_parameter(self, t: &[u8], n: usize, len: usize) -> Next
         requires { (n ≡ size t.now) × (self.location ≤ n) × (len ≡ 2) }
-        ensures { result ≡ inFull t.now 2 self (Next.On (withParameter (moved self (self.location + 2)) (word_at t.now self.location))) }
+        ensures { result ≡ in_full t.now 2 self (Next.On (with_parameter (moved self (self.location + 2)) (word_at t.now self.location))) }
     {
         let loc = self.location;
         if n < loc + len - 1 {
@@ -550,7 +550,7 @@ impl Registers {
 
     // A choice that reads no token.
     fn take_other(self, g: Target) -> Next
-        ensures { result ≡ takeOther self g }
+        ensures { result ≡ take_other self g }
     {
         match g {
             Target::Label(to) => Next::On(self.moved(to)),
@@ -561,7 +561,7 @@ impl Registers {
 
     fn choice(self, t: &[u8], n: usize, len: usize) -> Next
         requires { (n ≡ size t.now) × (self.location ≤ n) × (len ≡ 2) }
-        ensures { result ≡ inFull t.now 2 self (takeOther self (choice_of t.now self.location (self.result % 65536))) }
+        ensures { result ≡ in_full t.now 2 self (take_other self (choice_of t.now self.location (self.result % 65536))) }
     {
         let loc = self.location;
         if n < loc + len - 1 {
@@ -572,7 +572,7 @@ impl Registers {
 
     fn input_choice(self, t: &[u8], n: usize, len: usize, tokens: &[u8]) -> Next
         requires { (n ≡ size t.now) × (self.location ≤ n) × (len ≡ 2) }
-        ensures { result ≡ inFull t.now 2 self (inputChoiceOf t.now tokens.now self) }
+        ensures { result ≡ in_full t.now 2 self (input_choice_of t.now tokens.now self) }
     {
         let loc = self.location;
         if n < loc + len - 1 {
@@ -594,7 +594,7 @@ impl Registers {
 
     fn call(self, t: &[u8], n: usize, len: usize) -> Next
         requires { (n ≡ size t.now) × (self.location ≤ n) × (len ≡ 2) }
-        ensures { result ≡ inFull t.now 2 self (call_of t.now self) }
+        ensures { result ≡ in_full t.now 2 self (call_of t.now self) }
     {
         let loc = self.location;
         if n < loc + len - 1 {
@@ -617,7 +617,7 @@ impl Registers {
 
     fn back_to(self, n: usize, to: usize, t: &[u8]) -> Next
         requires { (n ≡ size t.now) × (0 < self.depth) }
-        ensures { result ≡ backTo t.now to self }
+        ensures { result ≡ back_to t.now to self }
     {
         if to == 0 {
             return Next::Outside;
@@ -631,7 +631,7 @@ impl Registers {
 
     fn ret(self, returns: &[u16; PENDING], t: &[u8], n: usize, len: usize) -> Next
         requires { (n ≡ size t.now) × (self.location ≤ n) × (len ≡ 1) × (self.depth ≤ 64) }
-        ensures { result ≡ returnOf returns.now t.now self }
+        ensures { result ≡ return_of returns.now t.now self }
     {
         if n < self.location + len - 1 {
             return Next::Outside;
@@ -656,7 +656,7 @@ impl Registers {
     // An operation without an answer.
     fn update(self, n: usize, len: usize, room: usize, e: Event) -> Next
         requires { (n ≤ 4096) × (self.location ≤ n) × (len ≡ 1) }
-        ensures { result ≡ tellOf room (self.location + 1) e self }
+        ensures { result ≡ tell_of room (self.location + 1) e self }
     {
         let loc = self.location;
         if n < loc + len - 1 {
@@ -727,7 +727,7 @@ impl Registers {
         x: Due,
     ) -> Next
         requires { (known.now ≡ lengths) × (x.n ≡ size t.now) × (self.location ≤ x.n) × (self.depth ≤ 64) }
-        ensures { result ≡ fetchedOf returns.now t.now tokens.now answers.now x.room x.paused x.ins self }
+        ensures { result ≡ fetched_of returns.now t.now tokens.now answers.now x.room x.paused x.ins self }
     {
         let n = x.n;
         let room = x.room;
@@ -754,7 +754,7 @@ impl Registers {
     // What an operation does.
     fn operate(self, n: usize, answers: &[u8], room: usize, paused: bool, ins: u16) -> Next
         requires { (n ≤ 4096) × (self.location ≤ n) }
-        ensures { result ≡ operateOf room paused answers.now ins self }
+        ensures { result ≡ operate_of room paused answers.now ins self }
     {
         if ins < UPDATE {
             Next::Outside
@@ -839,14 +839,14 @@ fn fetched(t: &[u8], n: usize, loc: usize) -> u16
 
 impl Walk {
     fn with_registers(mut self, q: Registers) -> Walk
-        ensures { result ≡ withAt self q }
+        ensures { result ≡ with_at self q }
     {
         self.at = q;
         self
     }
 
     fn in_phase(self, p: Phase) -> Walk
-        ensures { result ≡ inPhase self p }
+        ensures { result ≡ in_phase self p }
     {
         let at = self.at;
         let returns = self.returns;
@@ -859,7 +859,7 @@ impl Walk {
 
     fn read_token(self) -> Walk
         requires { self.at.read + 1 < 2 ^ 64 }
-        ensures { result ≡ tokenRead self }
+        ensures { result ≡ token_read self }
     {
         let at = self.at;
         self.with_registers(at.read_token())
@@ -907,7 +907,7 @@ impl Walk {
     // What an instruction does to the walk.
     fn took(self, x: Next) -> Stepped
         requires { Holds x }
-        ensures { result ≡ tookOf self x }
+        ensures { result ≡ took_of self x }
     {
         match x {
             Next::Full => self.says(Said::Undone(base::FULL)),
@@ -927,10 +927,10 @@ impl Walk {
         }
     }
 
-    // An inputAny: reads the present token.
+    // An input_any: reads the present token.
     fn step_any(self, n: usize, len: usize, tokens: &[u8]) -> Stepped
         requires { (n ≤ 4096) × (self.at.location ≤ n) × (len ≡ 1) }
-        ensures { result ≡ tookOf self (any_of tokens.now self.at) }
+        ensures { result ≡ took_of self (any_of tokens.now self.at) }
     {
         let at = self.at;
         let loc = at.location;
@@ -950,7 +950,7 @@ impl Walk {
     // A return: to the newest return location, which is tested here.
     fn step_return(self, t: &[u8], n: usize, len: usize) -> Stepped
         requires { (n ≡ size t.now) × (self.at.location ≤ n) × (len ≡ 1) × (self.at.depth ≤ 64) }
-        ensures { result ≡ tookOf self (returnOf self.returns t.now self.at) }
+        ensures { result ≡ took_of self (return_of self.returns t.now self.at) }
     {
         let at = self.at;
         if n < at.location + len - 1 {
@@ -990,7 +990,7 @@ impl Walk {
 
     // One step of any walk, with room for so many words of events.
     pub fn step(self, t: &[u8], tokens: &[u8], answers: &[u8], room: usize, paused: bool) -> Stepped
-        ensures { result ≡ walkStepOf t.now tokens.now answers.now room paused self self.phase }
+        ensures { result ≡ walk_step_of t.now tokens.now answers.now room paused self self.phase }
     {
         let phase = self.phase;
         match phase {
@@ -1030,7 +1030,7 @@ fn undone(walk: Walk, number: u16) -> Called
 // A call: one return location more is held.
 pub fn hold(returns: &mut [u16; PENDING], q: Registers, back: u16) -> Registers
     requires { q.depth < 64 }
-    ensures value { result ≡ withDepth q (q.depth + 1) }
+    ensures value { result ≡ with_depth q (q.depth + 1) }
     ensures returns_after { returns.new ≡ set returns.old q.depth back }
 {
     let d = q.depth;
@@ -1050,7 +1050,7 @@ impl Walk {
 
     // It stops for good, and its call ends.
     fn stopped(self, why: Reason, events: usize, steps: u64) -> Called
-        ensures { result ≡ called (inPhase self (Stopped why)) events steps (number_of why) }
+        ensures { result ≡ called (in_phase self (Stopped why)) events steps (number_of why) }
     {
         ended(
             self.in_phase(Phase::Stopped(why)),
@@ -1063,7 +1063,7 @@ impl Walk {
     // The end of a call, with a step x that does not go on.
     fn last(self, x: Next, events: usize, steps: u64, out: &mut [u8]) -> Called
         requires { Ends (count out.old - 3 * events) x × (steps + 1 < 2 ^ 64) }
-        ensures { outcome result.walk out.new result.events result.steps result.number ≡ last_of (tookOf self x) out.old events steps }
+        ensures { outcome result.walk out.new result.events result.steps result.number ≡ last_of (took_of self x) out.old events steps }
     {
         match x {
             Next::Outside => self.stopped(Reason::Outside, events, steps),
@@ -1089,11 +1089,11 @@ impl Walk {
         out: &mut [u8],
     ) -> Called
         requires { self.at.depth ≤ 64 }
-        ensures walk_value { result.walk ≡ (goOf t.now tokens.now answers.now pause budget self.at self.returns out.old 0 0).walk }
-        ensures events_value { result.events ≡ (goOf t.now tokens.now answers.now pause budget self.at self.returns out.old 0 0).events }
-        ensures steps_value { result.steps ≡ (goOf t.now tokens.now answers.now pause budget self.at self.returns out.old 0 0).steps }
-        ensures number_value { result.number ≡ (goOf t.now tokens.now answers.now pause budget self.at self.returns out.old 0 0).number }
-        ensures out_after { out.new ≡ (goOf t.now tokens.now answers.now pause budget self.at self.returns out.old 0 0).out }
+        ensures walk_value { result.walk ≡ (go_of t.now tokens.now answers.now pause budget self.at self.returns out.old 0 0).walk }
+        ensures events_value { result.events ≡ (go_of t.now tokens.now answers.now pause budget self.at self.returns out.old 0 0).events }
+        ensures steps_value { result.steps ≡ (go_of t.now tokens.now answers.now pause budget self.at self.returns out.old 0 0).steps }
+        ensures number_value { result.number ≡ (go_of t.now tokens.now answers.now pause budget self.at self.returns out.old 0 0).number }
+        ensures out_after { out.new ≡ (go_of t.now tokens.now answers.now pause budget self.at self.returns out.old 0 0).out }
     {
         let phase = Phase::Going;
         let mut at = self.at;
@@ -1122,7 +1122,7 @@ impl Walk {
     }
 
     // A whole walk's call: up to budget steps, with all answers given. `whole_of` has the code's own order; `whole-call` in proofs/Link.antt says that it is
-    // the machine's `callWalk`, and `repeats` in proofs/Steps.antt that it is `step` repeated.
+    // the machine's `call_walk`, and `repeats` in proofs/Steps.antt that it is `step` repeated.
     pub fn whole(
         self,
         table: &[u8],
@@ -1147,7 +1147,7 @@ impl Walk {
         }
     }
 
-    // A paused walk's call: with an answer if the walk waits for one. It looks at no answers, so that its tokens stand in for them. For `pausedOf` the same
+    // A paused walk's call: with an answer if the walk waits for one. It looks at no answers, so that its tokens stand in for them. For `paused_of` the same
     // is said by `paused-call` and `repeats`.
     pub fn paused(
         self,
@@ -1158,11 +1158,11 @@ impl Walk {
         budget: u64,
         events: &mut [u8],
     ) -> Called
-        ensures walk_value { result.walk ≡ (pausedOf table.now tokens.now given answer budget self events.old self.phase).walk }
-        ensures events_value { result.events ≡ (pausedOf table.now tokens.now given answer budget self events.old self.phase).events }
-        ensures steps_value { result.steps ≡ (pausedOf table.now tokens.now given answer budget self events.old self.phase).steps }
-        ensures number_value { result.number ≡ (pausedOf table.now tokens.now given answer budget self events.old self.phase).number }
-        ensures events_after { events.new ≡ (pausedOf table.now tokens.now given answer budget self events.old self.phase).out }
+        ensures walk_value { result.walk ≡ (paused_of table.now tokens.now given answer budget self events.old self.phase).walk }
+        ensures events_value { result.events ≡ (paused_of table.now tokens.now given answer budget self events.old self.phase).events }
+        ensures steps_value { result.steps ≡ (paused_of table.now tokens.now given answer budget self events.old self.phase).steps }
+        ensures number_value { result.number ≡ (paused_of table.now tokens.now given answer budget self events.old self.phase).number }
+        ensures events_after { events.new ≡ (paused_of table.now tokens.now given answer budget self events.old self.phase).out }
     {
         let phase = self.phase;
         match phase {

@@ -8,7 +8,7 @@ use lib.Dec.{T, eqb}
 use lib.ListN.{length, take, drop, replicate}
 use Rattle.base.specs.Common.{bytes, same}
 use Rattle.words.specs.Words
-use Rattle.words.specs.Words.{Word, bad, last, twice, name, number, string, input, output, error, type, mechanism, rules, end, words, wordsAt, value}
+use Rattle.words.specs.Words.{Word, bad, last, twice, name, number, string, input, output, error, type, mechanism, rules, end, words, words_at, value}
 
 -- Texts and their words
 
@@ -27,18 +27,18 @@ pub record Line : Type 0 where
   pub expected : List Expected
 
 -- a word is of the kind, stands there, and its bytes are that part of the text
-pub isWord : List ℕ → Word → Expected → Bool
-isWord text x e = eqb x.kind e.kind && eqb x.start e.start && same x.text (take e.size (drop e.start text)) && eqb (length x.text) e.size
+pub is_word : List ℕ → Word → Expected → Bool
+is_word text x e = eqb x.kind e.kind && eqb x.start e.start && same x.text (take e.size (drop e.start text)) && eqb (length x.text) e.size
 
-pub areWords : List ℕ → List Word → List Expected → Bool
-areWords text [] [] = true
-areWords text [] (e ∷ es) = false
-areWords text (x ∷ xs) [] = false
-areWords text (x ∷ xs) (e ∷ es) = isWord text x e && areWords text xs es
+pub are_words : List ℕ → List Word → List Expected → Bool
+are_words text [] [] = true
+are_words text [] (e ∷ es) = false
+are_words text (x ∷ xs) [] = false
+are_words text (x ∷ xs) (e ∷ es) = is_word text x e && are_words text xs es
 
-pub allLines : List Line → Bool
-allLines [] = true
-allLines (l ∷ ls) = areWords l.text (wordsAt l.text l.at) l.expected && allLines ls
+pub all_lines : List Line → Bool
+all_lines [] = true
+all_lines (l ∷ ls) = are_words l.text (words_at l.text l.at) l.expected && all_lines ls
 
 -- a text from its start; the same where the bytes are given; a text from a place on
 abbrev pub line : String → List Expected → Line
@@ -139,8 +139,8 @@ comments =
     ∷ []
 
 -- bytes that make no word: each the last word, one byte long
-pub badBytes : List Line
-badBytes =
+pub bad_bytes : List Line
+bad_bytes =
     line "a \0 b" (w name 0 1 ∷ w bad 2 1 ∷ [])
     ∷ line "\u{c}a" (w bad 0 1 ∷ [])
     ∷ line "a\u{b}" (w name 0 1 ∷ w bad 1 1 ∷ [])
@@ -168,8 +168,8 @@ long =
     ∷ made (bytes "a '" ++ (replicate 33 200 ++ bytes "' b")) (w name 0 1 ∷ w bad 2 1 ∷ [])
     ∷ []
 
-pub lines-read : T (allLines (symbols ++ (names ++ (strings ++ (comments ++ (badBytes ++ (places ++ long)))))))
-unfolding symbols names strings comments badBytes places long isWord areWords allLines Words.opened
+pub lines-read : T (all_lines (symbols ++ (names ++ (strings ++ (comments ++ (bad_bytes ++ (places ++ long)))))))
+unfolding symbols names strings comments bad_bytes places long is_word are_words all_lines Words.opened
 lines-read = tt
 
 -- Every byte
@@ -193,9 +193,9 @@ kind_at zero (x ∷ xs) = x.kind
 kind_at (suc n) (x ∷ xs) = kind_at n xs
 
 -- the kinds of the n-th words of texts that differ in one byte, for so many bytes from b on
-pub kindsFrom : ℕ → ℕ → ℕ → (ℕ → List ℕ) → List ℕ
-kindsFrom zero b n text = []
-kindsFrom (suc k) b n text = kind_at n (words (text b)) ∷ kindsFrom k (suc b) n text
+pub kinds_from : ℕ → ℕ → ℕ → (ℕ → List ℕ) → List ℕ
+kinds_from zero b n text = []
+kinds_from (suc k) b n text = kind_at n (words (text b)) ∷ kinds_from k (suc b) n text
 
 -- each byte as the whole text: blanks 9, 10, 13, 32 and `%` leave the end alone, a single quote is not closed
 pub alone : List Run
@@ -207,24 +207,24 @@ alone =
     ∷ r 26 name ∷ r 1 (code "[") ∷ r 1 bad ∷ r 1 (code "]") ∷ r 1 (code "^") ∷ r 2 bad
     ∷ r 26 name ∷ r 1 (code "{") ∷ r 1 (code "|") ∷ r 1 (code "}") ∷ r 130 bad ∷ []
 
-pub bytes-alone : T (same (kindsFrom 256 0 0 (λ b. b ∷ [])) (spread alone))
-unfolding spread kind_at kindsFrom alone Words.opened
+pub bytes-alone : T (same (kinds_from 256 0 0 (λ b. b ∷ [])) (spread alone))
+unfolding spread kind_at kinds_from alone Words.opened
 bytes-alone = tt
 
 -- each byte between quotes: all but line feed and the quote make a string
 pub quoted : List Run
 quoted = r 10 string ∷ r 1 bad ∷ r 28 string ∷ r 1 bad ∷ r 216 string ∷ []
 
-pub bytes-quoted : T (same (kindsFrom 256 0 0 (λ b. code "'" ∷ b ∷ code "'" ∷ [])) (spread quoted))
-unfolding spread kind_at kindsFrom quoted Words.opened
+pub bytes-quoted : T (same (kinds_from 256 0 0 (λ b. code "'" ∷ b ∷ code "'" ∷ [])) (spread quoted))
+unfolding spread kind_at kinds_from quoted Words.opened
 bytes-quoted = tt
 
 -- each byte in a comment before `:`: line feed alone ends it
 pub commented : List Run
 commented = r 10 last ∷ r 1 (code ":") ∷ r 245 last ∷ []
 
-pub bytes-commented : T (same (kindsFrom 256 0 0 (λ b. code "%" ∷ b ∷ code ":" ∷ [])) (spread commented))
-unfolding spread kind_at kindsFrom commented Words.opened
+pub bytes-commented : T (same (kinds_from 256 0 0 (λ b. code "%" ∷ b ∷ code ":" ∷ [])) (spread commented))
+unfolding spread kind_at kinds_from commented Words.opened
 bytes-commented = tt
 
 -- each byte from 0 to 127 between `a` and `:`: a digit, a letter or an underscore goes on with the name, so that `:` is the second word
@@ -237,8 +237,8 @@ joined =
     ∷ r 26 (code ":") ∷ r 1 (code "[") ∷ r 1 bad ∷ r 1 (code "]") ∷ r 1 (code "^") ∷ r 1 (code ":") ∷ r 1 bad
     ∷ r 26 (code ":") ∷ r 1 (code "{") ∷ r 1 (code "|") ∷ r 1 (code "}") ∷ r 2 bad ∷ []
 
-pub bytes-joined : T (same (kindsFrom 128 0 1 (λ b. code "a" ∷ b ∷ code ":" ∷ [])) (spread joined))
-unfolding spread kind_at kindsFrom joined Words.opened
+pub bytes-joined : T (same (kinds_from 128 0 1 (λ b. code "a" ∷ b ∷ code ":" ∷ [])) (spread joined))
+unfolding spread kind_at kinds_from joined Words.opened
 bytes-joined = tt
 
 -- Numbers

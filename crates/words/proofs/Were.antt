@@ -3,10 +3,10 @@ use mathlib.Core.Bool.{true, false, not, ◌&&◌}
 use lib.Dec.{T}
 use Rattle.base.specs.Common.{bytes}
 use Rattle.words.specs.Before
-use Rattle.words.specs.Before.{wordsBefore, wellSpelt}
+use Rattle.words.specs.Before.{words_before, well_spelt}
 use Rattle.words.specs.Words
 use Rattle.words.specs.Words.{words}
 
-pub percent-cut : T (not (wellSpelt (wordsBefore (bytes "a 'b%c' d"))) && wellSpelt (words (bytes "a 'b%c' d")) && wellSpelt (wordsBefore (bytes "a 'bc' d % 'e")))
+pub percent-cut : T (not (well_spelt (words_before (bytes "a 'b%c' d"))) && well_spelt (words (bytes "a 'b%c' d")) && well_spelt (words_before (bytes "a 'bc' d % 'e")))
 unfolding Words.opened Before.opened
 percent-cut = tt

@@ -1,8 +1,8 @@
 -- From bytes to words. "the longest word is taken"
-use Rattle.std.specs.Prelude.{Bool, true, ◌&&◌, ◌||◌, not, List, [], ◌∷◌, ℕ, zero, suc, ◌+◌, ◌*◌, ◌-◌, eqb, leb, take, drop, get_or}
+use Rattle.std.specs.Prelude.{Bool, true, ◌&&◌, ◌||◌, not, List, [], ◌∷◌, ℕ, zero, suc, ◌+◌, ◌*◌, ◌-◌, eqb, leb, take, drop, get_or, if◌then◌else◌}
 use Prim.Native.Char.{code}
 use Prim.Native.String.{String}
-use Rattle.base.specs.Common.{if◌then◌else◌, bytes, same, member}
+use Rattle.base.specs.Common.{bytes, same, member}
 
 -- a word: its kind, the place where it starts, its bytes
 pub record Word : Type 0 where
@@ -85,12 +85,12 @@ unfoldable pub digit : ℕ → Bool
 digit b = between 48 57 b
 
 -- "names (a letter, then letters, digits, underscores; case counts)"
-unfoldable pub nameByte : ℕ → Bool
-nameByte b = letter b || digit b || eqb b (code "_")
+unfoldable pub name_byte : ℕ → Bool
+name_byte b = letter b || digit b || eqb b (code "_")
 
 -- a byte that may stand in a string: "no quote or line feed inside"; "Inside a string the percent sign is an ordinary byte"
-unfoldable pub stringByte : ℕ → Bool
-stringByte b = not (eqb b (code "'") || eqb b 10)
+unfoldable pub string_byte : ℕ → Bool
+string_byte b = not (eqb b (code "'") || eqb b 10)
 
 -- "Space, tab, carriage return and line feed separate words."
 unfoldable pub blank : ℕ → Bool
@@ -116,19 +116,19 @@ abbrev found : ℕ → ℕ → Found
 found k n = record { kind = k; size = n }
 
 -- "strings in single quotes (1 to 32 bytes ..)": the word that begins with the quote before s
-unfoldable pub stringHere : List ℕ → Found
-stringHere s =
-    let inside = run stringByte s in
+unfoldable pub string_here : List ℕ → Found
+string_here s =
+    let inside = run string_byte s in
     if leb 1 inside && leb inside 32 && eqb (get_or s inside 0) (code "'") then found string (inside + 2) else found bad 1
 
 -- the word that begins with the byte b before s
-unfoldable pub wordHere : ℕ → List ℕ → Found
-wordHere b s =
-    let letters = suc (run nameByte s) in
+unfoldable pub word_here : ℕ → List ℕ → Found
+word_here b s =
+    let letters = suc (run name_byte s) in
     let digits = suc (run digit s) in
     if letter b then found (kind_of (take letters (b ∷ s)) reserved) letters
     else if digit b then found number digits
-    else if eqb b (code "'") then stringHere s
+    else if eqb b (code "'") then string_here s
     else if eqb b (code ">") && eqb (get_or s 0 0) (code ">") then found twice 2
     else if eqb b (code "!") then found (code "|") 1
     else if symbol b then found b 1
@@ -136,26 +136,26 @@ wordHere b s =
 
 -- the words from the place `at` on, the next `skip` bytes belonging to the word or comment before. A percent sign "outside" a string
 -- "begins a comment", the rest of its line. The end, or a bad word, is the last.
-unfoldable pub wordsFrom : ℕ → ℕ → List ℕ → List Word
-wordsFrom skip at [] = record { kind = last; start = at; text = [] } ∷ []
-wordsFrom (suc n) at (b ∷ s) = wordsFrom n (suc at) s
-wordsFrom zero at (b ∷ s) =
-    let gap = wordsFrom 0 (suc at) s in
-    let comment = wordsFrom (run (λ c. not (eqb c 10)) s) (suc at) s in
-    let here = wordHere b s in
+unfoldable pub words_from : ℕ → ℕ → List ℕ → List Word
+words_from skip at [] = record { kind = last; start = at; text = [] } ∷ []
+words_from (suc n) at (b ∷ s) = words_from n (suc at) s
+words_from zero at (b ∷ s) =
+    let gap = words_from 0 (suc at) s in
+    let comment = words_from (run (λ c. not (eqb c 10)) s) (suc at) s in
+    let here = word_here b s in
     let word : Word = record { kind = here.kind; start = at; text = take here.size (b ∷ s) } in
-    let more = word ∷ wordsFrom (here.size - 1) (suc at) s in
+    let more = word ∷ words_from (here.size - 1) (suc at) s in
     if blank b then gap
     else if eqb b (code "%") then comment
     else if eqb here.kind bad then word ∷ []
     else more
 
 unfoldable pub words : List ℕ → List Word
-words text = wordsFrom 0 0 text
+words text = words_from 0 0 text
 
 -- the same from a place of the text on
-unfoldable pub wordsAt : List ℕ → ℕ → List Word
-wordsAt text at = wordsFrom 0 at (drop at text)
+unfoldable pub words_at : List ℕ → ℕ → List Word
+words_at text at = words_from 0 at (drop at text)
 
 -- the value of a number's digits
 unfoldable pub value : ℕ → List ℕ → ℕ
@@ -164,5 +164,5 @@ value n (d ∷ ds) = value (n * 10 + (d - 48)) ds
 
 -- all of this file computes where this is unfolded
 unfoldable pub opened : Unit {0}
-unfolding reserved kind_of letter digit nameByte stringByte blank symbol run stringHere wordHere wordsFrom words wordsAt value
+unfolding reserved kind_of letter digit name_byte string_byte blank symbol run string_here word_here words_from words words_at value
 opened = tt

@@ -11,12 +11,12 @@ use borrow.Author.Tests.{le-leb, lt-leb}
 use Rattle.buffers.proofs.Zeros.{length-zeroed, over-zeroed}
 use Rattle.buffers.specs.Words.{zeroed}
 use Rattle.loader.proofs.Filing.{bounds}
-use Rattle.machine.proofs.Bytes.{length-wordsOf}
+use Rattle.machine.proofs.Bytes.{length-words_of}
 use Rattle.machine.specs.Bytes.{count, words_of, table_of, bytes_of, over}
-use Rattle.loading.specs.File.{fileWords, allowed, Answer, done, refused, store, lentWords, lentBytes, numbersOf}
+use Rattle.loading.specs.File.{file_words, allowed, Answer, done, refused, store, lent_words, lent_bytes, numbers_of}
 use Rattle.loading.specs.Taking.{taken}
 use Rattle.writer.proofs.Places.{length-file}
-use Rattle.writer.specs.Storing.{Stores, Sized, Fits, fileLength}
+use Rattle.writer.specs.Storing.{Stores, Sized, Fits, file_length}
 
 -- Which tables have a file
 
@@ -36,17 +36,17 @@ is-allowed (suc n) v a b = rw (le-leb 1 (suc n) (omega arith), le-leb (suc n) 40
 -- Answers
 
 refusal : (a : Answer) (number : ℕ) (before after : List ℕ) → a ≡ refused number → after ≡ zeroed before → Stores a number 0 before after
-unfolding numbersOf lentBytes lentWords zeroed
+unfolding numbers_of lent_bytes lent_words zeroed
 refusal a number before after e f = record { number_is = rw e; words_are = rw e; lent = rw e f }
 
 handed : (a : Answer) (file : List ℕ) (v total : ℕ) (before after : List ℕ) → a ≡ done file v → total ≡ length file
     → after ≡ bytes_of (file ++ replicate (count before - length file) 0) ++ drop (2 * count before) before → Stores a 0 total before after
-unfolding numbersOf lentBytes lentWords
+unfolding numbers_of lent_bytes lent_words
 handed a file v total before after e f h = record { number_is = rw e; words_are = rw e f; lent = rw e h }
 
 module _ (s out : List ℕ) (n v : ℕ) (r : Bool) (en : n ≡ count s) (er : r ≡ allowed n v) where
   size_is : n ≡ length (words_of s)
-  size_is = en ∙ sym (length-wordsOf s)
+  size_is = en ∙ sym (length-words_of s)
 
   right : allowed (length (words_of s)) v ≡ r
   right = ap (λ (m : ℕ). allowed m v) (sym size_is) ∙ sym er
@@ -68,21 +68,21 @@ module _ (s out : List ℕ) (n v : ℕ) (r : Bool) (en : n ≡ count s) (er : r 
     pub few : n ≤ 4096
     few = bound.1
 
-    module _ (total : ℕ) (et : total ≡ fileLength n) where
-      total-is : total ≡ length (fileWords (words_of s) v)
+    module _ (total : ℕ) (et : total ≡ file_length n) where
+      total-is : total ≡ length (file_words (words_of s) v)
       total-is = et ∙ length-file (words_of s) v n sized
 
       total-low : total ≤ 5000
-      unfolding fileLength
+      unfolding file_length
       total-low = omega (arith, et, bound.1)
 
       pub store-20 : count out < total → (after : List ℕ) → after ≡ zeroed out → Stores (store (words_of s) v (count out)) 20 0 out after
       unfolding store
-      store-20 u after e = refusal _ 20 out after (rw (right, t, lt-leb (length (fileWords (words_of s) v)) (count out) (omega (arith, total-is)))) e
+      store-20 u after e = refusal _ 20 out after (rw (right, t, lt-leb (length (file_words (words_of s) v)) (count out) (omega (arith, total-is)))) e
 
       module _ (u : total ≤ count out) where
-        fit : leb (length (fileWords (words_of s) v)) (count out) ≡ true
-        fit = le-leb (length (fileWords (words_of s) v)) (count out) (omega (arith, total-is))
+        fit : leb (length (file_words (words_of s) v)) (count out) ≡ true
+        fit = le-leb (length (file_words (words_of s) v)) (count out) (omega (arith, total-is))
 
         -- a table of up to 4,096 words is all that the buffer holds
         whole : table_of s ≡ words_of s
@@ -93,14 +93,14 @@ module _ (s out : List ℕ) (n v : ℕ) (r : Bool) (en : n ≡ count s) (er : r 
         unfolding store
         store-41 k g f after e = let q : taken (words_of s) ≡ false = ap taken (sym whole) ∙ sym g ∙ f in refusal _ 41 out after (rw (right, t, fit, q)) e
 
-        pub fits : (cleared : List ℕ) → cleared ≡ zeroed out → Fits (fileWords (words_of s) v) total cleared
+        pub fits : (cleared : List ℕ) → cleared ≡ zeroed out → Fits (file_words (words_of s) v) total cleared
         unfolding count
         fits cleared e = record { words = total-is; room = omega (arith, u, ap length e, length-zeroed out); low = total-low }
 
         pub store-0 : (k : Bool) → k ≡ taken (table_of s) → k ≡ true → (cleared after : List ℕ) → cleared ≡ zeroed out
-            → after ≡ over (bytes_of (fileWords (words_of s) v)) cleared → Stores (store (words_of s) v (count out)) 0 total out after
+            → after ≡ over (bytes_of (file_words (words_of s) v)) cleared → Stores (store (words_of s) v (count out)) 0 total out after
         unfolding store
         store-0 k g f cleared after e d =
             let q : taken (words_of s) ≡ true = ap taken (sym whole) ∙ sym g ∙ f in
-            handed _ (fileWords (words_of s) v) v total out after (rw (right, t, fit, q)) total-is
-            (d ∙ ap (over (bytes_of (fileWords (words_of s) v))) e ∙ over-zeroed (fileWords (words_of s) v) out (omega (arith, u, total-is)))
+            handed _ (file_words (words_of s) v) v total out after (rw (right, t, fit, q)) total-is
+            (d ∙ ap (over (bytes_of (file_words (words_of s) v))) e ∙ over-zeroed (file_words (words_of s) v) out (omega (arith, u, total-is)))

@@ -8,8 +8,8 @@ use lib.ListN.{length, take, drop, get_or, length-append, length-drop, get_or-ap
 use lib.Seq.{drop_at, length-take-le, get_or-take, get_or-drop, drop-drop}
 use borrow.Author.Tests.{le-leb, lt-leb}
 use Rattle.loading.proofs.Readings.{below}
-use Rattle.loading.specs.File.{tw, records, fileWords}
-use Rattle.writer.specs.Storing.{Sized, Fits, fileLength}
+use Rattle.loading.specs.File.{tw, records, file_words}
+use Rattle.writer.specs.Storing.{Sized, Fits, file_length}
 
 -- One record
 
@@ -142,25 +142,25 @@ behind-four : (a b c d : ℕ) (ws : List ℕ) (i j : ℕ) → j ≡ suc (suc (su
 behind-four a b c d ws i j e = rw e
 
 module _ (ws : List ℕ) (v n : ℕ) (s : Sized ws n) where
-  pub length-file : fileLength n ≡ length (fileWords ws v)
-  unfolding fileWords fileLength
+  pub length-file : file_length n ≡ length (file_words ws v)
+  unfolding file_words file_length
   length-file = omega (arith, s.size, s.some_words, s.low, length-records 16 ws (omega (arith, s.size, s.some_words)) (omega (arith, s.size, s.low)))
 
-  pub header_at : (x j : ℕ) → j < 4 → x ≡ get_or (18500 ∷ 2 ∷ n ∷ v ∷ []) j 0 → x ≡ get_or (fileWords ws v) j 0
-  unfolding fileWords
+  pub header_at : (x j : ℕ) → j < 4 → x ≡ get_or (18500 ∷ 2 ∷ n ∷ v ∷ []) j 0 → x ≡ get_or (file_words ws v) j 0
+  unfolding file_words
   header_at x zero h e = e
   header_at x (suc zero) h e = e
   header_at x (suc (suc zero)) h e = e ∙ s.size
   header_at x (suc (suc (suc zero))) h e = e
   header_at x (suc (suc (suc (suc j)))) h e = absurd (omega arith)
 
-  pub record-at : (x j : ℕ) → 4 ≤ j → x ≡ get_or (records 16 ws) (j - 4) 0 → x ≡ get_or (fileWords ws v) j 0
-  unfolding fileWords
+  pub record-at : (x j : ℕ) → 4 ≤ j → x ≡ get_or (records 16 ws) (j - 4) 0 → x ≡ get_or (file_words ws v) j 0
+  unfolding file_words
   record-at x j h e = e ∙ sym (behind-four 18500 2 (length ws) v (records 16 ws) (j - 4) j (omega arith))
 
-  pub room_for : (total : ℕ) (out : List ℕ) → Fits (fileWords ws v) total out → 2 * length (fileWords ws v) ≤ length out
+  pub room_for : (total : ℕ) (out : List ℕ) → Fits (file_words ws v) total out → 2 * length (file_words ws v) ≤ length out
   room_for total out f = omega (arith, f.words, f.room)
 
-  pub record-inside : (j : ℕ) → 4 ≤ j → j < length (fileWords ws v) → j - 4 < length (records 16 ws)
-  unfolding fileWords
+  pub record-inside : (j : ℕ) → 4 ≤ j → j < length (file_words ws v) → j - 4 < length (records 16 ws)
+  unfolding file_words
   record-inside j h u = omega arith

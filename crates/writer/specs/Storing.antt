@@ -1,12 +1,12 @@
 -- What writing a file leaves with its caller.
 use Rattle.std.specs.Prelude.{List, ◌≡◌, ℕ, ◌+◌, ◌*◌, ◌-◌, ◌/◌, ◌≤◌, length}
-use Rattle.loading.specs.File.{Answer, numbersOf, lentBytes}
+use Rattle.loading.specs.File.{Answer, numbers_of, lent_bytes}
 
 -- the numbers and the lent bytes are the answer's
 pub record Stores (a : Answer) (number words : ℕ) (before after : List ℕ) : Type 0 where
-  pub number_is : number ≡ (numbersOf a).number
-  pub words_are : words ≡ (numbersOf a).words
-  pub lent : after ≡ lentBytes a before
+  pub number_is : number ≡ (numbers_of a).number
+  pub words_are : words ≡ (numbers_of a).words
+  pub lent : after ≡ lent_bytes a before
 
 -- a table of n words, 1 to 4,096
 pub record Sized (ws : List ℕ) (n : ℕ) : Type 0 where
@@ -21,10 +21,10 @@ pub record Fits (file : List ℕ) (total : ℕ) (out : List ℕ) : Type 0 where
   pub low : total ≤ 5000
 
 -- the words of the file of a table of n words
-unfoldable pub fileLength : ℕ → ℕ
-fileLength n = n + 2 * ((n + 256 - 1) / 256) + 4
+unfoldable pub file_length : ℕ → ℕ
+file_length n = n + 2 * ((n + 256 - 1) / 256) + 4
 
 -- all of this file computes where this is unfolded
 unfoldable pub opened : Unit {0}
-unfolding fileLength
+unfolding file_length
 opened = tt

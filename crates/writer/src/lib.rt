@@ -1,8 +1,8 @@
 // The writer of table files: the one file of a table and a verdict, in a lent buffer.
 ghost use Rattle.std.specs.Prelude.{◌≡◌, [], ◌∷◌, ◌-◌, ◌<◌, ◌≤◌, min, length, get_or};
 ghost use Rattle.machine.specs.Bytes.{count, words_of, bytes_of, over};
-ghost use Rattle.loading.specs.File.{records, fileWords, allowed, store};
-ghost use Rattle.writer.specs.Storing.{Sized, Fits, fileLength, Stores};
+ghost use Rattle.loading.specs.File.{records, file_words, allowed, store};
+ghost use Rattle.writer.specs.Storing.{Sized, Fits, file_length, Stores};
 
 use loader::{RECORD, RECORD_HEAD, RECORD_WORDS, RECORDS_AT};
 
@@ -29,7 +29,7 @@ fn is_allowed(n: usize, verdict: u64) -> bool
 // The words of the file of a table of n words: each record has two more than its words.
 fn file_length(n: usize) -> usize
     requires { n ≤ 4096 }
-    ensures { result ≡ fileLength n }
+    ensures { result ≡ file_length n }
 {
     let records = (n + RECORD_WORDS - 1) / RECORD_WORDS;
     n + RECORD_HEAD * records + RECORDS_AT
@@ -81,8 +81,8 @@ fn record_word(table: &[u8], n: usize, j: usize) -> u16
 
 // The word at index j of the file.
 fn file_word(table: &[u8], n: usize, verdict: u64, j: usize) -> u16
-    requires { Sized (words_of table.now) n × (verdict ≤ 1) × (j < length (fileWords (words_of table.now) verdict)) }
-    ensures { result ≡ get_or (fileWords (words_of table.now) verdict) j 0 }
+    requires { Sized (words_of table.now) n × (verdict ≤ 1) × (j < length (file_words (words_of table.now) verdict)) }
+    ensures { result ≡ get_or (file_words (words_of table.now) verdict) j 0 }
 {
     if j < RECORDS_AT {
         return header_word(n, verdict, j);
@@ -92,8 +92,8 @@ fn file_word(table: &[u8], n: usize, verdict: u64, j: usize) -> u16
 
 // The words of the file, one after the other.
 fn put_file(table: &[u8], n: usize, verdict: u64, total: usize, file: &mut [u8])
-    requires { Sized (words_of table.now) n × (verdict ≤ 1) × Fits (fileWords (words_of table.now) verdict) total file.old }
-    ensures { file.new ≡ over (bytes_of (fileWords (words_of table.now) verdict)) file.old }
+    requires { Sized (words_of table.now) n × (verdict ≤ 1) × Fits (file_words (words_of table.now) verdict) total file.old }
+    ensures { file.new ≡ over (bytes_of (file_words (words_of table.now) verdict)) file.old }
 {
     let mut j: usize = 0;
     while j < total {

@@ -1,7 +1,7 @@
 -- `admission::admits` meets its contract.
 use mathlib.Core.Path.{sym, ◌∙◌}
 use borrow.Author.Tests.{not-true, not-false}
-use Rattle.machine.proofs.Bytes.{length-tableOf}
+use Rattle.machine.proofs.Bytes.{length-table_of}
 use Rattle.admission.proofs.Laws.{not_taken, all-granted, one-denied}
 use borrow.Author.Rules.{rules}
 use Rattle.admission.proofs.admits.Statement.{statement}
@@ -26,7 +26,7 @@ size-of-requires : tie.Need-size-of-requires
 size-of-requires c κs = search rules
 
 lowest-denied-requires : tie.Need-lowest-denied-requires
-lowest-denied-requires c κs = record { size_is = search rules; row = search rules; small = length-tableOf _; flags = c.before.before.before.before.before.reach.ensures.flags (not-false _ c.before.before.if1.false) }
+lowest-denied-requires c κs = record { size_is = search rules; row = search rules; small = length-table_of _; flags = c.before.before.before.before.before.reach.ensures.flags (not-false _ c.before.before.if1.false) }
 
 returns-2 : tie.Need-returns-2
 returns-2 c = all-granted _ _ (sym (not-false _ c.before.before.before.before.if1.false) ∙ c.before.before.before.before.before.before.before.reach.ensures.answer) _ c.before.lowest-denied.ensures c.if2.true

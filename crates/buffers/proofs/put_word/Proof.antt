@@ -1,7 +1,7 @@
 -- `buffers::put_word` meets its contract.
 use mathlib.Core.Path.{◌≡◌, refl}
 use borrow.Author.Rules.{rules}
-use Rattle.buffers.specs.Words.{putWord}
+use Rattle.buffers.specs.Words.{put_word}
 use Rattle.buffers.proofs.put_word.Statement.{statement}
 use Rattle.buffers.proofs.put_word.Tie as tie
 
@@ -30,7 +30,7 @@ same_length : tie.Need-same-length
 same_length c = search rules
 
 returns : tie.Need-returns
-unfolding putWord
+unfolding put_word
 returns c = refl
 
 pub put-word-spec : {M : Type 1} → statement M

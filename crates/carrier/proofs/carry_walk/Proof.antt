@@ -4,13 +4,13 @@ use Prim.Native.Nat.{◌-◌}
 use native.Mathlib.Omega.{arith}
 use lib.ListN.{length}
 use borrow.Author.Rules.{rules}
-use Rattle.carrier.specs.Held.{placeHeld}
+use Rattle.carrier.specs.Held.{place_held}
 use Rattle.carrier.proofs.Walks.{Moving, moving-first, moving-next, location-gone, return-gone, all-carried}
 use Rattle.carrier.proofs.carry_walk.Statement.{statement}
 use Rattle.carrier.proofs.carry_walk.Tie as tie
 
 abbrev invariant-loop : tie.invariant-loop
-invariant-loop a b old sheet new other walk phase at returns₀ held location i₀ returns i = Moving (placeHeld a b old sheet new other) held walk.returns returns i
+invariant-loop a b old sheet new other walk phase at returns₀ held location i₀ returns i = Moving (place_held a b old sheet new other) held walk.returns returns i
 
 abbrev decreases-loop : tie.decreases-loop
 decreases-loop a b old sheet new other walk phase at returns₀ held location i₀ returns i = held - i

@@ -42,7 +42,7 @@ same-words-requires : tie.Need-same-words-requires
 same-words-requires c κs = spans_fit c.before.before.before.before.before.before.before.before.before.before.before.args.a.now c.before.before.before.before.before.before.before.before.before.before.before.args.b.now c.before.before.before.before.before.before.before.before.before.before.before.args.old.now c.before.before.before.before.before.before.before.before.before.before.before.args.sheet.now c.before.before.before.before.before.before.before.before.before.before.before.args.new.now c.before.before.before.before.before.before.before.before.before.before.before.args.other.now c.before.before.before.before.before.before.before.before.before.before.before.args.pair.i c.before.before.before.before.before.before.before.before.before.before.before.args.pair.j (bounds c.before.before.before.before.number.ensures.0 c.before.before.end_of_lem.ensures.0) (bounds c.before.before.before.number2.ensures.0 c.before.end-of2.ensures.0) c.if1.false c.before.before.before.before.before.before.before.before.before.before.before.requires.0 c.before.before.before.before.before.before.before.before.before.before.before.requires.1 c.before.before.before.before.before.before.before.before.before.before.before.requires.2 c.before.before.before.before.before.before.before.before.before.before.before.requires.3
 
 returns-2 : tie.Need-returns-2
-returns-2 c = rules-meet c.before.before.before.before.before.before.before.before.before.before.before.before.args.a.now c.before.before.before.before.before.before.before.before.before.before.before.before.args.b.now c.before.before.before.before.before.before.before.before.before.before.before.before.args.old.now c.before.before.before.before.before.before.before.before.before.before.before.before.args.sheet.now c.before.before.before.before.before.before.before.before.before.before.before.before.args.new.now c.before.before.before.before.before.before.before.before.before.before.before.before.args.other.now c.before.before.before.before.before.before.before.before.before.before.before.before.args.pair.i c.before.before.before.before.before.before.before.before.before.before.before.before.args.pair.j _ (bounds c.before.before.before.before.before.number.ensures.0 c.before.before.before.end_of_lem.ensures.0) (bounds c.before.before.before.before.number2.ensures.0 c.before.before.end-of2.ensures.0) c.before.if1.false c.same-words.ensures
+returns-2 c = rules-meet c.before.before.before.before.before.before.before.before.before.before.before.before.args.a.now c.before.before.before.before.before.before.before.before.before.before.before.before.args.b.now c.before.before.before.before.before.before.before.before.before.before.before.before.args.old.now c.before.before.before.before.before.before.before.before.before.before.before.before.args.sheet.now c.before.before.before.before.before.before.before.before.before.before.before.before.args.new.now c.before.before.before.before.before.before.before.before.before.before.before.before.args.other.now c.before.before.before.before.before.before.before.before.before.before.before.before.args.pair.i c.before.before.before.before.before.before.before.before.before.before.before.before.args.pair.j _ (bounds c.before.before.before.before.before.number.ensures.0 c.before.before.before.end_of_lem.ensures.0) (bounds c.before.before.before.before.number2.ensures.0 c.before.before.end-of2.ensures.0) c.before.if1.false c.same_words.ensures
 
 pub same-rules-spec : {M : Type 1} → statement M
 same-rules-spec =

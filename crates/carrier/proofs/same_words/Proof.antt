@@ -5,7 +5,7 @@ use native.Mathlib.Omega.{arith}
 use Prim.Native.Nat.{◌-◌}
 use Rattle.machine.specs.Bytes.{words_of}
 use Rattle.symbols.specs.Search.{part}
-use Rattle.carrier.specs.Held.{callsHeld}
+use Rattle.carrier.specs.Held.{calls_held}
 use Rattle.carrier.proofs.Laws.{not_so, yet-so}
 use Rattle.carrier.proofs.Loop.{Going, going-first, going-not, going_next, going_end, rule-length, rule-word}
 use Rattle.carrier.proofs.same_words.Statement.{statement}
@@ -13,13 +13,13 @@ use Rattle.carrier.proofs.same_words.Tie as tie
 
 abbrev invariant-loop : tie.invariant-loop
 invariant-loop a b old sheet new other flags₀ next₀ i j n o₀ flags next o =
-    Going (callsHeld old sheet new other) (part (words_of a) i n) (part (words_of b) j n) n o next.kind next.left flags
+    Going (calls_held old sheet new other) (part (words_of a) i n) (part (words_of b) j n) n o next.kind next.left flags
 
 abbrev decreases-loop : tie.decreases-loop
 decreases-loop a b old sheet new other flags₀ next₀ i j n o₀ flags next o = n - o
 
 loop-holds : tie.Need-loop-init invariant-loop decreases-loop
-loop-holds c = going-first (callsHeld c.before.before.before.before.before.before.args.old.now c.before.before.before.before.before.before.args.sheet.now c.before.before.before.before.before.before.args.new.now c.before.before.before.before.before.before.args.other.now) (part (words_of c.before.before.before.before.before.before.args.a.now) c.before.before.before.before.before.before.args.span.i c.before.before.before.before.before.before.args.span.n) (part (words_of c.before.before.before.before.before.before.args.b.now) c.before.before.before.before.before.before.args.span.j c.before.before.before.before.before.before.args.span.n) c.before.before.before.before.before.before.args.span.n (rule-length c.before.before.before.before.before.before.args.a.now c.before.before.before.before.before.before.args.span.i c.before.before.before.before.before.before.args.span.n c.before.before.before.before.before.before.requires.0) (rule-length c.before.before.before.before.before.before.args.b.now c.before.before.before.before.before.before.args.span.j c.before.before.before.before.before.before.args.span.n c.before.before.before.before.before.before.requires.1)
+loop-holds c = going-first (calls_held c.before.before.before.before.before.before.args.old.now c.before.before.before.before.before.before.args.sheet.now c.before.before.before.before.before.before.args.new.now c.before.before.before.before.before.before.args.other.now) (part (words_of c.before.before.before.before.before.before.args.a.now) c.before.before.before.before.before.before.args.span.i c.before.before.before.before.before.before.args.span.n) (part (words_of c.before.before.before.before.before.before.args.b.now) c.before.before.before.before.before.before.args.span.j c.before.before.before.before.before.before.args.span.n) c.before.before.before.before.before.before.args.span.n (rule-length c.before.before.before.before.before.before.args.a.now c.before.before.before.before.before.before.args.span.i c.before.before.before.before.before.before.args.span.n c.before.before.before.before.before.before.requires.0) (rule-length c.before.before.before.before.before.before.args.b.now c.before.before.before.before.before.before.args.span.j c.before.before.before.before.before.before.args.span.n c.before.before.before.before.before.before.requires.1)
 
 add-word : tie.Need-overflow-add-word invariant-loop decreases-loop
 add-word c = omega (arith, c.before.before.before.before.before.before.before.before.requires.3, c.before.before.before.before.before.before.before.before.requires.2, c.loop-test.true)

@@ -1,6 +1,6 @@
 -- `carrier::words_meet` meets its contract.
 use Rattle.carrier.proofs.Words.{meets-no-operand, meets-no-call, meets_call}
-use Rattle.carrier.specs.Held.{callsHeld}
+use Rattle.carrier.specs.Held.{calls_held}
 use borrow.Author.Rules.{rules}
 use Rattle.carrier.proofs.words_meet.Statement.{statement}
 use Rattle.carrier.proofs.words_meet.Tie as tie
@@ -21,7 +21,7 @@ calls-meet-requires : tie.Need-calls-meet-requires
 calls-meet-requires c κs = search rules
 
 returns-3 : tie.Need-returns-3
-returns-3 c = meets_call (callsHeld c.before.before.before.before.before.before.before.before.before.before.before.args.old.now c.before.before.before.before.before.before.before.before.before.before.before.args.sheet.now c.before.before.before.before.before.before.before.before.before.before.before.args.new.now c.before.before.before.before.before.before.before.before.before.before.before.args.other.now) c.before.before.before.before.before.before.before.before.before.before.before.args.n.kind c.before.before.before.before.before.before.before.before.before.before.before.args.n.left c.before.before.before.before.before.before.before.before.before.before.before.args.w c.before.before.before.before.before.before.before.before.before.before.before.args.v _ _ _ c.before.before.before.before.before.if1.false c.before.before.before.if2.false c.before.before.wide.ensures.0 c.before.wide2.ensures.0 c.calls-meet.ensures
+returns-3 c = meets_call (calls_held c.before.before.before.before.before.before.before.before.before.before.before.args.old.now c.before.before.before.before.before.before.before.before.before.before.before.args.sheet.now c.before.before.before.before.before.before.before.before.before.before.before.args.new.now c.before.before.before.before.before.before.before.before.before.before.before.args.other.now) c.before.before.before.before.before.before.before.before.before.before.before.args.n.kind c.before.before.before.before.before.before.before.before.before.before.before.args.n.left c.before.before.before.before.before.before.before.before.before.before.before.args.w c.before.before.before.before.before.before.before.before.before.before.before.args.v _ _ _ c.before.before.before.before.before.if1.false c.before.before.before.if2.false c.before.before.wide.ensures.0 c.before.wide2.ensures.0 c.calls-meet.ensures
 
 pub words-meet-spec : {M : Type 1} → statement M
 words-meet-spec =

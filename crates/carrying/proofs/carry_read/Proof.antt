@@ -31,7 +31,7 @@ slice-aggregate-carry-prepared-2 : tie.Need-slice-aggregate-carry-prepared-2
 slice-aggregate-carry-prepared-2 c = sym (length-take-le 770 c.before.before.before.before.before.before.before.before.before.before.before.before.args.sheets.now (omega (arith, c.before.before.before.before.before.before.before.before.before.before.before.before.requires.0)))
 
 carry-prepared-requires : tie.Need-carry-prepared-requires
-carry-prepared-requires c κs = (c.before.before.before.before.before.before.before.before.before.before.before.before.requires.1.as-ready, (written (second-is-read c.before.before.before.before.before.before.before.before.before.before.before.before.args.sheets.now c.before.before.before.before.before.before.before.before.before.before.before.before.requires.2) c.before.before.before.write-table.ensures).as-ready)
+carry-prepared-requires c κs = (c.before.before.before.before.before.before.before.before.before.before.before.before.requires.1.as_ready, (written (second-is-read c.before.before.before.before.before.before.before.before.before.before.before.before.args.sheets.now c.before.before.before.before.before.before.before.before.before.before.before.before.requires.2) c.before.before.before.write-table.ensures).as_ready)
 
 returns : tie.Need-returns
 returns c = both-accepted c.before.before.before.before.before.before.before.before.before.before.before.before.before.args.old.now c.before.before.before.before.before.before.before.before.before.before.before.before.before.args.new.now c.before.before.before.before.before.before.before.before.before.before.before.before.before.args.walk c.before.before.before.before.before.before.before.before.before.before.before.before.before.requires.1 (written (second-is-read c.before.before.before.before.before.before.before.before.before.before.before.before.before.args.sheets.now c.before.before.before.before.before.before.before.before.before.before.before.before.before.requires.2) c.before.before.before.before.write-table.ensures) c.carry-prepared.ensures

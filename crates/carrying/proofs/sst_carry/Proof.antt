@@ -1,7 +1,7 @@
 -- `carrying::sst_carry` meets its contract: the walk that the bytes are is carried, and what it becomes is written.
 use borrow.Author.Rules.{rules}
 use Rattle.carrier.proofs.Laws.{not_so, yet-so}
-use Rattle.machine.proofs.Form.{walkOf-length}
+use Rattle.machine.proofs.Form.{walk_of-length}
 use Rattle.carrying.proofs.Told.{no_walk, walk-carried, walk_kept}
 use Rattle.carrying.proofs.sst_carry.Statement.{statement}
 use Rattle.carrying.proofs.sst_carry.Tie as tie
@@ -19,7 +19,7 @@ carry-requires : tie.Need-carry-requires
 carry-requires c κs = search rules
 
 put-walk-requires : tie.Need-put-walk-requires
-put-walk-requires c κs = (walkOf-length _ _ (λ i. (c.before.before.before.before.before.before.before.before.before.before.slice-known.given i).fits) (c.before.before.before.before.before.before.before.before.read_Walk.ensures.some_walk (yet-so _ c.before.before.before.before.before.before.if1.false)), c.before.before.before.before.carry.ensures.location c.before.before.if2.true)
+put-walk-requires c κs = (walk_of-length _ _ (λ i. (c.before.before.before.before.before.before.before.before.before.before.slice-known.given i).fits) (c.before.before.before.before.before.before.before.before.read_Walk.ensures.some_walk (yet-so _ c.before.before.before.before.before.before.if1.false)), c.before.before.before.before.carry.ensures.location c.before.before.if2.true)
 
 same-length-2 : tie.Need-same-length-2
 same-length-2 c = search rules

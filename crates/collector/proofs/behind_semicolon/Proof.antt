@@ -3,14 +3,14 @@ use native.Mathlib.Omega.{arith}
 use mathlib.Core.Path.{◌≡◌, refl}
 use Prim.Native.Nat.{◌-◌, ◌≤◌}
 use lib.ListN.{length}
-use Rattle.collector.specs.Collecting.{toSemicolon}
-use Rattle.words.specs.Words.{wordsAt}
+use Rattle.collector.specs.Collecting.{to_semicolon}
+use Rattle.words.specs.Words.{words_at}
 use Rattle.collector.proofs.Skips.{skip-found, skip-lost, skip-on}
 use Rattle.collector.proofs.behind_semicolon.Statement.{statement}
 use Rattle.collector.proofs.behind_semicolon.Tie as tie
 
 abbrev invariant-loop : tie.invariant-loop
-invariant-loop text at i₀ i = (at ≤ i) × (i ≤ length text) × (toSemicolon (wordsAt text at) ≡ toSemicolon (wordsAt text i))
+invariant-loop text at i₀ i = (at ≤ i) × (i ≤ length text) × (to_semicolon (words_at text at) ≡ to_semicolon (words_at text i))
 
 abbrev decreases-loop : tie.decreases-loop
 decreases-loop text at i₀ i = length text - i

@@ -8,13 +8,13 @@ use lib.ListN.{length}
 use Rattle.collector.specs.Collecting.{SomeEntries}
 use Rattle.collector.specs.declared.Entries.{Entries}
 use Rattle.grammar.specs.Derived.{EntriesIn}
-use Rattle.words.specs.Words.{wordsAt}
+use Rattle.words.specs.Words.{words_at}
 use Rattle.collector.proofs.Laws.{entries-last, entries-more, entries-stuck}
 use Rattle.collector.proofs.collect_entries.Statement.{statement}
 use Rattle.collector.proofs.collect_entries.Tie as tie
 
 abbrev invariant-loop : tie.invariant-loop
-invariant-loop text at rows₀ count class strings v i₀ n₀ next₀ most₀ rows i n next most = (at ≤ i) × (i ≤ length text) × (n ≤ 512) × (length rows ≡ length rows₀) × ((rows' : List ℕ) (r : Entries) → SomeEntries (EntriesIn strings next (wordsAt text i)) text rows rows' i n class most r → SomeEntries (EntriesIn strings v (wordsAt text at)) text rows₀ rows' at count class 0 r)
+invariant-loop text at rows₀ count class strings v i₀ n₀ next₀ most₀ rows i n next most = (at ≤ i) × (i ≤ length text) × (n ≤ 512) × (length rows ≡ length rows₀) × ((rows' : List ℕ) (r : Entries) → SomeEntries (EntriesIn strings next (words_at text i)) text rows rows' i n class most r → SomeEntries (EntriesIn strings v (words_at text at)) text rows₀ rows' at count class 0 r)
 
 abbrev decreases-loop : tie.decreases-loop
 decreases-loop text at rows₀ count class strings v i₀ n₀ next₀ most₀ rows i n next most = length text - i

@@ -5,7 +5,7 @@ use mathlib.Core.List.{List}
 use Prim.Native.Nat.{ℕ, ◌-◌, ◌≤◌}
 use lib.ListN.{length}
 use Rattle.collector.specs.Collecting.{SomeRules}
-use Rattle.collector.proofs.Laws.{rules-from, rules-last, rules-more, rules-stuck}
+use Rattle.collector.proofs.Laws.{rules-from, rules-last, rules_more, rules-stuck}
 use Rattle.collector.proofs.collect_rules.Statement.{statement}
 use Rattle.collector.proofs.collect_rules.Tie as tie
 
@@ -43,7 +43,7 @@ loop-less : tie.Need-loop-smaller invariant-loop decreases-loop
 loop-less c = omega (arith, c.if2.false, c.before.before.before.before.before.before.before.collect-rule.ensures.bounds.high)
 
 loop-again : tie.Need-loop-preserved invariant-loop decreases-loop
-loop-again c = (omega (arith, c.if2.false), c.before.before.before.before.before.before.before.collect-rule.ensures.bounds.high, c.before.before.before.before.before.before.before.collect-rule.ensures.bounds.small, c.before.before.before.before.before.before.before.collect-rule.auto.1.1.0 ∙ c.before.before.before.before.before.before.before.before.before.loop.invariant.3, omega (arith, c.before.before.before.before.before.before.before.collect-rule.ensures.bounds.more), λ rows' r e. c.before.before.before.before.before.before.before.before.before.loop.invariant.5 rows' r (rules-more c.before.before.before.before.before.before.before.collect-rule.ensures c.before.before.before.before.look.ensures c.before.before.if1.false c.before.before.before.before.before.before.before.collect-rule.auto.1.1.0 (λ z. omega (arith, z)) e))
+loop-again c = (omega (arith, c.if2.false), c.before.before.before.before.before.before.before.collect-rule.ensures.bounds.high, c.before.before.before.before.before.before.before.collect-rule.ensures.bounds.small, c.before.before.before.before.before.before.before.collect-rule.auto.1.1.0 ∙ c.before.before.before.before.before.before.before.before.before.loop.invariant.3, omega (arith, c.before.before.before.before.before.before.before.collect-rule.ensures.bounds.more), λ rows' r e. c.before.before.before.before.before.before.before.before.before.loop.invariant.5 rows' r (rules_more c.before.before.before.before.before.before.before.collect-rule.ensures c.before.before.before.before.look.ensures c.before.before.if1.false c.before.before.before.before.before.before.before.collect-rule.auto.1.1.0 (λ z. omega (arith, z)) e))
 
 pub collect-rules-spec : {M : Type 1} → statement M
 collect-rules-spec =

@@ -1,4 +1,4 @@
--- `counting::add_book` meets its contract: each way out is a case of `addBytes`.
+-- `counting::add_book` meets its contract: each way out is a case of `add_bytes`.
 use mathlib.Core.Bool.{true, false}
 use mathlib.Core.List.{List}
 use mathlib.Core.Logic.{⊎_elim}
@@ -7,12 +7,12 @@ use Prim.Native.Nat.{ℕ, ◌+◌, ◌-◌, ◌<◌}
 use native.Mathlib.Omega.{arith}
 use lib.ListN.{length}
 use Rattle.counting.proofs.Adds.{another-length, not_sound, steps-within, books-past, total-past, counts-fit, book-steps, past-yes, past-no, adds}
-use Rattle.counting.proofs.Loop.{tells-of}
-use Rattle.counting.specs.Counting.{bookVisits, bookOf, gives}
+use Rattle.counting.proofs.Loop.{tells_of}
+use Rattle.counting.specs.Counting.{book_visits, book_of, gives}
 use Rattle.counting.specs.declared.Told.{Told}
-use Rattle.figures.proofs.Form.{length-numbersAt}
+use Rattle.figures.proofs.Form.{length-numbers_at}
 use Rattle.figures.specs.Figures.{sum, bumps, sound}
-use Rattle.figures.specs.Form.{figuresNamed}
+use Rattle.figures.specs.Form.{figures_named}
 use Rattle.machine.specs.Bytes.{count, words_of}
 use Rattle.walker.specs.Linked.{Bytes}
 use Rattle.walker.specs.Shape.{Outcome}
@@ -32,7 +32,7 @@ start n = n.before.before.before.before.before.before.before.before.before.befor
 long : (n : tie.After-number-at2) → length (start n).args.figures.now ≡ 33296
 long n = n.before.before.before.before.before.before.before.before.before.before.if1.false
 
-good : (n : tie.After-number-at2) → sound (figuresNamed (words_of (start n).args.figures.now)) ≡ true
+good : (n : tie.After-number-at2) → sound (figures_named (words_of (start n).args.figures.now)) ≡ true
 good n = sym n.before.before.before.before.before.is-sound.ensures ∙ not-false _ n.before.before.before.before.if2.false
 
 table : (n : tie.After-number-at2) → Bytes (start n).args.table.now
@@ -49,10 +49,10 @@ allowed n = (start n).ranges.allowance.fits
 
 -- the locations of the book's steps, and its call
 abbrev visits : tie.After-number-at2 → List ℕ → List ℕ
-visits n o = bookVisits (start n).args.table.now (start n).args.tokens.now (start n).args.answers.now (start n).args.budget (start n).args.allowance (count o)
+visits n o = book_visits (start n).args.table.now (start n).args.tokens.now (start n).args.answers.now (start n).args.budget (start n).args.allowance (count o)
 
 abbrev book : tie.After-number-at2 → List ℕ → Outcome
-book n o = bookOf (start n).args.table.now (start n).args.tokens.now (start n).args.answers.now (start n).args.budget (start n).args.allowance o
+book n o = book_of (start n).args.table.now (start n).args.tokens.now (start n).args.answers.now (start n).args.budget (start n).args.allowance o
 
 -- the book's steps stay within 64 bits: measured, or by the budget
 fits : (p : tie.After-passes) → p.passes.result ≡ false → let n = p.before.before.before.before in n.number-at2.result + length (visits n (start n).args.events.now) < 18446744073709551616
@@ -61,12 +61,12 @@ fits p left =
     let small : n.number-at2.result < 18446744073709551616 = n.number-at2.type-inv in
     ⊎_elim
     (λ w. omega (arith, w, small, steps-within (start n).args.table.now (start n).args.tokens.now (start n).args.answers.now (start n).args.budget (start n).args.allowance (start n).args.figures.now (start n).args.events.now (long n) (good n) (table n) (tokens n) (answers n) (allowed n)))
-    (λ w. omega (arith, w, small, book-steps (start n).args.table.now (start n).args.tokens.now (start n).args.answers.now (start n).args.budget (start n).args.allowance (start n).args.figures.now (start n).args.events.now (long n) (good n) (table n) (tokens n) (answers n) (allowed n) (tells-of (book n (start n).args.events.now)) refl))
+    (λ w. omega (arith, w, small, book-steps (start n).args.table.now (start n).args.tokens.now (start n).args.answers.now (start n).args.budget (start n).args.allowance (start n).args.figures.now (start n).args.events.now (long n) (good n) (table n) (tokens n) (answers n) (allowed n) (tells_of (book n (start n).args.events.now)) refl))
     (past-no _ _ _ (sym p.passes.ensures.0 ∙ left))
 
 -- what the call that writes gives
-told : (c : tie.After-count-book) → let n = c.before.before.before.before.before.before.before.before.before.before.before in c.count-book.result ≡ tells-of (book n (start n).args.events.now)
-told c = c.count-book.ensures.0 ∙ ap (λ (l : List ℕ). tells-of (book c.before.before.before.before.before.before.before.before.before.before.before l)) c.before.before.before.before.before.before.before.passes.ensures.1.0
+told : (c : tie.After-count-book) → let n = c.before.before.before.before.before.before.before.before.before.before.before in c.count-book.result ≡ tells_of (book n (start n).args.events.now)
+told c = c.count-book.ensures.0 ∙ ap (λ (l : List ℕ). tells_of (book c.before.before.before.before.before.before.before.before.before.before.before l)) c.before.before.before.before.before.before.before.passes.ensures.1.0
 
 -- as many steps were done as locations counted
 counted : (c : tie.After-count-book) → let n = c.before.before.before.before.before.before.before.before.before.before.before in c.count-book.result.steps ≡ length (visits n (start n).args.events.now)
@@ -129,7 +129,7 @@ slice-aggregate-passes : tie.Need-slice-aggregate-passes
 slice-aggregate-passes c = search rules
 
 passes-requires : tie.Need-passes-requires
-passes-requires c κs = let n = c.before.before.before in ap (λ (l : List ℕ). length l) n.before.before.before.before.before.before.before.before.counts_of.ensures ∙ length-numbersAt (words_of (start n).args.figures.now) 0 4096
+passes-requires c κs = let n = c.before.before.before in ap (λ (l : List ℕ). length l) n.before.before.before.before.before.before.before.before.counts_of.ensures ∙ length-numbers_at (words_of (start n).args.figures.now) 0 4096
 
 ended-requires-4 : tie.Need-ended-requires-4
 ended-requires-4 c κs = search rules
@@ -144,7 +144,7 @@ returns-4 : tie.Need-returns-4
 returns-4 c =
     let n = c.before.before.before.before.before.before.before.before.before in
     let p = c.before.before.before.before.before.passes in
-    let m = book-steps (start n).args.table.now (start n).args.tokens.now (start n).args.answers.now (start n).args.budget (start n).args.allowance (start n).args.figures.now (start n).args.events.now (long n) (good n) (table n) (tokens n) (answers n) (allowed n) (tells-of (book n (start n).args.events.now)) refl in
+    let m = book-steps (start n).args.table.now (start n).args.tokens.now (start n).args.answers.now (start n).args.budget (start n).args.allowance (start n).args.figures.now (start n).args.events.now (long n) (good n) (table n) (tokens n) (answers n) (allowed n) (tells_of (book n (start n).args.events.now)) refl in
     let past = past-yes _ _ _ (sym p.ensures.0 ∙ c.before.if4.true) in
     (λ i. gives (c.ended4.ensures i) (start n).args.figures.now (p.ensures.1.0 i))
     ∙ total-past (start n).args.table.now (start n).args.tokens.now (start n).args.answers.now (start n).args.budget (start n).args.allowance (start n).args.figures.now (start n).args.events.now (long n) (good n) (table n) (tokens n) (answers n) (allowed n) _ n.number-at2.ensures (omega (arith, m, past)) n.number-at2.type-inv
@@ -153,7 +153,7 @@ slice-aggregate-count-book : tie.Need-slice-aggregate-count-book
 slice-aggregate-count-book c =
     let p = c.before.before.before.before.before.before in
     let n = p.before.before.before.before in
-    search (rules, ap (λ (l : List ℕ). length l) (p.passes.ensures.1.1 ∙ n.before.before.before.before.before.before.before.before.counts_of.ensures) ∙ length-numbersAt (words_of (start n).args.figures.now) 0 4096)
+    search (rules, ap (λ (l : List ℕ). length l) (p.passes.ensures.1.1 ∙ n.before.before.before.before.before.before.before.before.counts_of.ensures) ∙ length-numbers_at (words_of (start n).args.figures.now) 0 4096)
 
 count-book-requires : tie.Need-count-book-requires
 count-book-requires c κs =
@@ -162,7 +162,7 @@ count-book-requires c κs =
     let f = counts-fit (start n).args.table.now (start n).args.tokens.now (start n).args.answers.now (start n).args.budget (start n).args.allowance (start n).args.figures.now (start n).args.events.now (long n) (good n) (table n) (tokens n) (answers n) (allowed n) _ n.number-at2.ensures (fits p c.before.before.if4.false) in
     let e = ap (λ (l : List ℕ). length (visits n l)) p.passes.ensures.1.0 in
     let s = p.passes.ensures.1.1 ∙ n.before.before.before.before.before.before.before.before.counts_of.ensures in
-    (ap (λ (l : List ℕ). length l) s ∙ length-numbersAt (words_of (start n).args.figures.now) 0 4096, λ y. omega (arith, ap sum s, e, f))
+    (ap (λ (l : List ℕ). length l) s ∙ length-numbers_at (words_of (start n).args.figures.now) 0 4096, λ y. omega (arith, ap sum s, e, f))
 
 slice-aggregate-put-figures : tie.Need-slice-aggregate-put-figures
 slice-aggregate-put-figures c = search rules
@@ -177,7 +177,7 @@ put-figures-requires : tie.Need-put-figures-requires
 put-figures-requires c κs =
     let p = c.before.before.before.before.before.before.before.before.before.before.before.before.before in
     let n = p.before.before.before.before in
-    (long n, c.before.before.before.before.before.before.count-book.auto.1.1.1.1.1.0 ∙ ap (λ (l : List ℕ). length l) (p.passes.ensures.1.1 ∙ n.before.before.before.before.before.before.before.before.counts_of.ensures) ∙ length-numbersAt (words_of (start n).args.figures.now) 0 4096)
+    (long n, c.before.before.before.before.before.before.count-book.auto.1.1.1.1.1.0 ∙ ap (λ (l : List ℕ). length l) (p.passes.ensures.1.1 ∙ n.before.before.before.before.before.before.before.before.counts_of.ensures) ∙ length-numbers_at (words_of (start n).args.figures.now) 0 4096)
 
 same-length-5 : tie.Need-same-length-5
 same-length-5 c = search rules

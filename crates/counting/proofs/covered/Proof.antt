@@ -6,16 +6,16 @@ use lib.Count.{ones, ones-le}
 use lib.ListN.{take, get_or}
 use lib.Seq.{take_all}
 use Rattle.counting.proofs.Form.{covered_next}
-use Rattle.figures.proofs.Form.{length-numbersAt, getD-numbersAt}
+use Rattle.figures.proofs.Form.{length-numbers_at, get_d-numbers_at}
 use Rattle.figures.specs.Figures as figures
-use Rattle.figures.specs.Form.{numbersAt}
+use Rattle.figures.specs.Form.{numbers_at}
 use Rattle.machine.specs.Bytes.{words_of}
 use borrow.Author.Rules.{rules}
 use Rattle.counting.proofs.covered.Statement.{statement}
 use Rattle.counting.proofs.covered.Tie as tie
 
 abbrev invariant-loop : tie.invariant-loop
-invariant-loop s n₀ j₀ n j = (j ≤ 64) × ((n ≤ j * 64) × (n ≡ figures.covered (take j (numbersAt (words_of s) 4096 64))))
+invariant-loop s n₀ j₀ n j = (j ≤ 64) × ((n ≤ j * 64) × (n ≡ figures.covered (take j (numbers_at (words_of s) 4096 64))))
 
 abbrev decreases-loop : tie.decreases-loop
 decreases-loop s n₀ j₀ n j = 64 - j
@@ -51,16 +51,16 @@ loop-again c =
     let ws = words_of l.before.before.args.s.now in
     let j = l.loop.j in
     let t = c.before.loop-test.true in
-    let w : ones (get_or (numbersAt ws 4096 64) j 0) ≡ ones c.number_at.result = ap ones (getD-numbersAt ws 4096 64 j t ∙ sym c.number_at.ensures) in
-    let n = covered_next (numbersAt ws 4096 64) j (omega (arith, t, length-numbersAt ws 4096 64)) in
+    let w : ones (get_or (numbers_at ws 4096 64) j 0) ≡ ones c.number_at.result = ap ones (get_d-numbers_at ws 4096 64 j t ∙ sym c.number_at.ensures) in
+    let n = covered_next (numbers_at ws 4096 64) j (omega (arith, t, length-numbers_at ws 4096 64)) in
     (omega (arith, t), (omega (arith, few c, l.loop.invariant.1.0), omega (arith, n, w, l.loop.invariant.1.1)))
 
 returns : tie.Need-returns invariant-loop decreases-loop
 returns c =
     let l = c.before in
-    let ws = numbersAt (words_of l.before.before.args.s.now) 4096 64 in
+    let ws = numbers_at (words_of l.before.before.args.s.now) 4096 64 in
     let e : l.loop.j ≡ 64 = omega arith in
-    l.loop.invariant.1.1 ∙ ap (λ (k : ℕ). figures.covered (take k ws)) e ∙ ap figures.covered (take_all 64 ws (omega (arith, length-numbersAt (words_of l.before.before.args.s.now) 4096 64)))
+    l.loop.invariant.1.1 ∙ ap (λ (k : ℕ). figures.covered (take k ws)) e ∙ ap figures.covered (take_all 64 ws (omega (arith, length-numbers_at (words_of l.before.before.args.s.now) 4096 64)))
 
 pub covered-spec : {M : Type 1} → statement M
 covered-spec =

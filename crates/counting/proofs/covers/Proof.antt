@@ -6,16 +6,16 @@ use lib.ListN.{drop}
 use Rattle.base.specs.Common.{same}
 use Rattle.base.proofs.Laws.{same_next, same_not, same_end}
 use Rattle.figures.proofs.Bits.{get_d_bits}
-use Rattle.figures.proofs.Form.{length-numbersAt, getD-numbersAt, length-bits}
-use Rattle.figures.specs.Figures.{bitsOf}
-use Rattle.figures.specs.Form.{numbersAt}
+use Rattle.figures.proofs.Form.{length-numbers_at, get_d-numbers_at, length-bits}
+use Rattle.figures.specs.Figures.{bits_of}
+use Rattle.figures.specs.Form.{numbers_at}
 use Rattle.machine.specs.Bytes.{words_of}
 use borrow.Author.Rules.{rules}
 use Rattle.counting.proofs.covers.Statement.{statement}
 use Rattle.counting.proofs.covers.Tie as tie
 
 abbrev invariant-loop : tie.invariant-loop
-invariant-loop s counts j₀ j = (j ≤ 64) × (same (numbersAt (words_of s) 4096 64) (bitsOf 64 counts) ≡ same (drop j (numbersAt (words_of s) 4096 64)) (drop j (bitsOf 64 counts)))
+invariant-loop s counts j₀ j = (j ≤ 64) × (same (numbers_at (words_of s) 4096 64) (bits_of 64 counts) ≡ same (drop j (numbers_at (words_of s) 4096 64)) (drop j (bits_of 64 counts)))
 
 abbrev decreases-loop : tie.decreases-loop
 decreases-loop s counts j₀ j = 64 - j
@@ -40,8 +40,8 @@ returns c =
     let cs = s.args.counts.now in
     let j = l.loop.j in
     let t = c.before.before.before.loop-test.true in
-    sym (l.loop.invariant.1 ∙ same_not (numbersAt ws 4096 64) (bitsOf 64 cs) j (omega (arith, t, length-numbersAt ws 4096 64)) (omega (arith, t, length-bits 64 cs))
-    (λ e. c.if1.true (c.before.before.number_at.ensures ∙ sym (getD-numbersAt ws 4096 64 j t) ∙ e ∙ get_d_bits 64 cs j t ∙ sym c.before.bits_of.ensures)))
+    sym (l.loop.invariant.1 ∙ same_not (numbers_at ws 4096 64) (bits_of 64 cs) j (omega (arith, t, length-numbers_at ws 4096 64)) (omega (arith, t, length-bits 64 cs))
+    (λ e. c.if1.true (c.before.before.number_at.ensures ∙ sym (get_d-numbers_at ws 4096 64 j t) ∙ e ∙ get_d_bits 64 cs j t ∙ sym c.before.bits_of.ensures)))
 
 add-j : tie.Need-overflow-add-j invariant-loop decreases-loop
 add-j c = search rules
@@ -58,8 +58,8 @@ loop-again c =
     let j = l.loop.j in
     let t = c.before.before.before.loop-test.true in (
       omega (arith, t),
-      l.loop.invariant.1 ∙ same_next (numbersAt ws 4096 64) (bitsOf 64 cs) j (omega (arith, t, length-numbersAt ws 4096 64)) (omega (arith, t, length-bits 64 cs))
-          (getD-numbersAt ws 4096 64 j t ∙ sym c.before.before.number_at.ensures ∙ c.if1.false ∙ c.before.bits_of.ensures ∙ sym (get_d_bits 64 cs j t)),
+      l.loop.invariant.1 ∙ same_next (numbers_at ws 4096 64) (bits_of 64 cs) j (omega (arith, t, length-numbers_at ws 4096 64)) (omega (arith, t, length-bits 64 cs))
+          (get_d-numbers_at ws 4096 64 j t ∙ sym c.before.before.number_at.ensures ∙ c.if1.false ∙ c.before.bits_of.ensures ∙ sym (get_d_bits 64 cs j t)),
     )
 
 returns-2 : tie.Need-returns-2 invariant-loop decreases-loop
@@ -68,7 +68,7 @@ returns-2 c =
     let s = l.before.before.before in
     let ws = words_of s.args.s.now in
     let cs = s.args.counts.now in
-    sym (l.loop.invariant.1 ∙ same_end (numbersAt ws 4096 64) (bitsOf 64 cs) l.loop.j (omega (arith, c.loop-test.false, length-numbersAt ws 4096 64)) (omega (arith, c.loop-test.false, length-bits 64 cs)))
+    sym (l.loop.invariant.1 ∙ same_end (numbers_at ws 4096 64) (bits_of 64 cs) l.loop.j (omega (arith, c.loop-test.false, length-numbers_at ws 4096 64)) (omega (arith, c.loop-test.false, length-bits 64 cs)))
 
 pub covers-spec : {M : Type 1} → statement M
 covers-spec =

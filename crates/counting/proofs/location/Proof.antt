@@ -4,7 +4,7 @@ use borrow.Author.Rules.{rules}
 use borrow.Author.Tests.{lt-ltb, le-ltb}
 use Rattle.counting.proofs.location.Statement.{statement}
 use Rattle.counting.proofs.location.Tie as tie
-use Rattle.figures.specs.Spans.{locationAt}
+use Rattle.figures.specs.Spans.{location_at}
 
 mul-number-at : tie.Need-overflow-mul-number-at
 mul-number-at c = search rules
@@ -16,7 +16,7 @@ number-at-requires : tie.Need-number-at-requires
 number-at-requires c κs = search rules
 
 returns : tie.Need-returns
-unfolding locationAt
+unfolding location_at
 returns c = let a = c.before.before.before.args in rw (lt-ltb a.i a.n c.before.if1.true) c.number_at.ensures
 
 returns-2 : tie.Need-returns-2

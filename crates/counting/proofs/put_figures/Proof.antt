@@ -3,17 +3,17 @@ use mathlib.Core.Path.{◌≡◌, refl, ap, ◌∙◌}
 use Prim.Native.Nat.{ℕ, ◌*◌, ◌-◌, ◌≤◌}
 use native.Mathlib.Omega.{arith}
 use lib.ListN.{length, take}
-use Rattle.counting.proofs.Form.{length-numbersOf, written_next, written_all}
-use Rattle.counting.specs.Counting.{numbersOf}
+use Rattle.counting.proofs.Form.{length-numbers_of, written_next, written_all}
+use Rattle.counting.specs.Counting.{numbers_of}
 use Rattle.machine.specs.Bytes.{bytes_of, over}
-use Rattle.figures.specs.Form.{numberWords}
+use Rattle.figures.specs.Form.{number_words}
 use borrow.Author.Rules.{rules}
 use Rattle.counting.proofs.put_figures.Statement.{statement}
 use Rattle.counting.proofs.put_figures.Tie as tie
 
 abbrev invariant-loop : tie.invariant-loop
 invariant-loop out₀ counts books total i₀ out i =
-    (i ≤ 4162) × ((length out ≡ length out₀) × (out ≡ over (bytes_of (take (4 * i) (numberWords (numbersOf counts books total)))) out₀))
+    (i ≤ 4162) × ((length out ≡ length out₀) × (out ≡ over (bytes_of (take (4 * i) (number_words (numbers_of counts books total)))) out₀))
 
 abbrev decreases-loop : tie.decreases-loop
 decreases-loop out₀ counts books total i₀ out i = 4162 - i
@@ -39,8 +39,8 @@ loop-again c =
     let l = c.before.before.before.before.before.before in
     let s = c.before.before.before.before.before.before.before.before.before in
     let a = s.args in
-    let ns = numbersOf a.counts.now a.books a.total in
-    let n = length-numbersOf a.counts.now a.books a.total s.requires.1 in
+    let ns = numbers_of a.counts.now a.books a.total in
+    let n = length-numbers_of a.counts.now a.books a.total s.requires.1 in
     let t = c.before.before.before.before.before.loop-test.true in (
       omega (arith, t),
       (
@@ -57,10 +57,10 @@ returns c =
     let l = c.before in
     let s = l.before.before.before in
     let a = s.args in
-    let ns = numbersOf a.counts.now a.books a.total in
-    let n = length-numbersOf a.counts.now a.books a.total s.requires.1 in
+    let ns = numbers_of a.counts.now a.books a.total in
+    let n = length-numbers_of a.counts.now a.books a.total s.requires.1 in
     let e : 4 * l.loop.i ≡ 4 * length ns = omega (arith, l.loop.invariant.0, c.loop-test.false, n) in
-    l.loop.invariant.1.1 ∙ ap (λ (k : ℕ). over (bytes_of (take k (numberWords ns))) a.out.now) e ∙ written_all ns a.out.now (omega (arith, n, s.requires.0)) (omega (arith, n, s.requires.0))
+    l.loop.invariant.1.1 ∙ ap (λ (k : ℕ). over (bytes_of (take k (number_words ns))) a.out.now) e ∙ written_all ns a.out.now (omega (arith, n, s.requires.0)) (omega (arith, n, s.requires.0))
 
 pub put-figures-spec : {M : Type 1} → statement M
 put-figures-spec =

@@ -6,9 +6,9 @@ use lib.ListN.{length}
 use borrow.Author.Rules.{rules}
 use borrow.Author.Tests.{not-true, not-false}
 use Rattle.counting.proofs.Rules.{told, no_span, unsound-span, the-span, sound-sum}
-use Rattle.figures.proofs.Form.{length-numbersAt}
+use Rattle.figures.proofs.Form.{length-numbers_at}
 use Rattle.figures.specs.Figures.{sum}
-use Rattle.figures.specs.Spans.{spanTotal}
+use Rattle.figures.specs.Spans.{span_total}
 use Rattle.machine.specs.Bytes.{words_of}
 use Rattle.counting.proofs.rule_total.Statement.{statement}
 use Rattle.counting.proofs.rule_total.Tie as tie
@@ -49,7 +49,7 @@ span-requires : tie.Need-span-requires
 span-requires c κs =
     let fs = c.before.before.before.before.before.before.before.before.args.figures.now in
     let cs = c.before.before.before.before.before.counts_of in (
-      ap (λ (l : List ℕ). length l) cs.ensures ∙ length-numbersAt (words_of fs) 0 4096,
+      ap (λ (l : List ℕ). length l) cs.ensures ∙ length-numbers_at (words_of fs) 0 4096,
       ap sum cs.ensures ∙ sound-sum fs (sym c.before.before.before.is-sound.ensures ∙ not-false _ c.before.before.if2.false) ∙ sym c.before.number_at.ensures,
     )
 
@@ -62,7 +62,7 @@ returns-3 c =
     let cs = c.before.before.before.before.before.before.before.counts_of in
     told c.totalled3.result 0 c.before.span.result c.totalled3.ensures
     ∙ the-span a.figures.now a.from a.to c.before.span.result c.before.before.before.before.before.before.before.before.if1.false (sym c.before.before.before.before.before.is-sound.ensures ∙ not-false _ c.before.before.before.before.if2.false)
-    (c.before.span.ensures ∙ ap (spanTotal a.from a.to) cs.ensures)
+    (c.before.span.ensures ∙ ap (span_total a.from a.to) cs.ensures)
 
 pub rule-total-spec : {M : Type 1} → statement M
 rule-total-spec =

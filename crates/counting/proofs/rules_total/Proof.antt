@@ -9,9 +9,9 @@ use borrow.Author.Tests.{not-true, not-false}
 use Rattle.counting.proofs.Rules.{told, no-rules, unsound-rules, the-rules, sound-sum}
 use Rattle.counting.proofs.rules_total.Statement.{statement}
 use Rattle.counting.proofs.rules_total.Tie as tie
-use Rattle.figures.proofs.Form.{length-numbersAt}
+use Rattle.figures.proofs.Form.{length-numbers_at}
 use Rattle.figures.specs.Figures.{sum}
-use Rattle.figures.specs.Spans.{spanTotals, locationsAt, bounded}
+use Rattle.figures.specs.Spans.{span_totals, locations_at, bounded}
 use Rattle.machine.specs.Bytes.{words_of}
 
 totalled-requires : tie.Need-totalled-requires
@@ -50,7 +50,7 @@ together-requires : tie.Need-together-requires
 together-requires c κs =
     let fs = c.before.before.before.before.before.before.before.before.before.args.figures.now in
     let cs = c.before.before.before.before.before.counts_of in (
-      ap (λ (l : List ℕ). length l) cs.ensures ∙ length-numbersAt (words_of fs) 0 4096,
+      ap (λ (l : List ℕ). length l) cs.ensures ∙ length-numbers_at (words_of fs) 0 4096,
       (ap sum cs.ensures ∙ sound-sum fs (sym c.before.before.before.is-sound.ensures ∙ not-false _ c.before.before.if2.false) ∙ sym c.before.number_at.ensures, omega arith),
     )
 
@@ -59,7 +59,7 @@ returns-3 c =
     let a = c.before.before.before.before.before.before.before.before.before.before.args in
     let rows = a.rows.now in
     let cs = c.before.before.before.before.before.before.counts_of in
-    c.together.ensures ∙ ap (λ (l : List ℕ). bounded (sum (spanTotals (locationsAt (words_of rows) 0 (length rows / 24)) a.end l))) cs.ensures
+    c.together.ensures ∙ ap (λ (l : List ℕ). bounded (sum (span_totals (locations_at (words_of rows) 0 (length rows / 24)) a.end l))) cs.ensures
     ∙ the-rules a.figures.now rows a.end c.before.before.before.before.before.before.before.if1.false (sym c.before.before.before.before.is-sound.ensures ∙ not-false _ c.before.before.before.if2.false)
 
 pub rules-total-spec : {M : Type 1} → statement M

@@ -89,11 +89,11 @@ returns c =
     let st = l.before.before.before.before in
     let counts = st.args.counts.now in
     let n = st.requires.0 in
-    l.loop.invariant.2 ∙ at-end counts start end l.loop.k l.loop.invariant.0 l.loop.invariant.1 c.loop-test.false
+    l.loop.invariant.2 ∙ at_end counts start end l.loop.k l.loop.invariant.0 l.loop.invariant.1 c.loop-test.false
     ∙ span-within st.args.from st.args.to start end counts (rw n l.before.before.count_index.ensures) (rw n l.before.count-index2.ensures)
   where
-    at-end : (counts : List ℕ) (start end k : ℕ) → start ≤ k → k ≤ max start end → end ≤ k → sum (drop start (take k counts)) ≡ sum (drop start (take end counts))
-    at-end counts start end k a b d = elim (dec_le end start) [
+    at_end : (counts : List ℕ) (start end k : ℕ) → start ≤ k → k ≤ max start end → end ≤ k → sum (drop start (take k counts)) ≡ sum (drop start (take end counts))
+    at_end counts start end k a b d = elim (dec_le end start) [
       | yes h ↦ ap sum (none_left counts start k (omega arith) ∙ sym (none_left counts start end h))
       | no h ↦ (let e : k ≡ end = omega arith in ap (λ (i : ℕ). sum (drop start (take i counts))) e)
     ]

@@ -2,7 +2,7 @@
 use mathlib.Core.Path.{ap, ◌∙◌}
 use Prim.Native.Nat.{ℕ}
 use borrow.Author.Rules.{rules}
-use Rattle.counting.specs.Counting.{toldOf}
+use Rattle.counting.specs.Counting.{told_of}
 use Rattle.counting.proofs.stopped.Statement.{statement}
 use Rattle.counting.proofs.stopped.Tie as tie
 
@@ -21,7 +21,7 @@ same_length c = search rules
 returns : tie.Need-returns
 returns c =
     let a = c.before.before.before.before.before.before.before.args in
-    (c.ended.ensures ∙ ap (λ (m : ℕ). toldOf m a.events a.steps) c.before.number_of_lem.ensures, c.before.before.before.before.bump.ensures)
+    (c.ended.ensures ∙ ap (λ (m : ℕ). told_of m a.events a.steps) c.before.number_of_lem.ensures, c.before.before.before.before.bump.ensures)
 
 pub stopped-spec : {M : Type 1} → statement M
 stopped-spec = tie.close (tie.spec bump-requires number-of-requires ended-requires same_length returns)

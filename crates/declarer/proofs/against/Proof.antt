@@ -4,7 +4,7 @@ use mathlib.Core.Path.{◌≡◌}
 use Prim.Native.Nat.{ℕ, ◌-◌, ◌<◌, ◌≤◌}
 use native.Mathlib.Omega.{arith}
 use lib.ListN.{length}
-use Rattle.declarations.specs.Decls.{knownsIn}
+use Rattle.declarations.specs.Decls.{knowns_in}
 use Rattle.declarer.specs.Operators.{Left}
 use Rattle.grammar.specs.Derived.{OperatorsIn}
 use Rattle.maker.specs.Ranks.{EntryIs}
@@ -12,16 +12,16 @@ use Rattle.names.specs.Known.{find}
 use Rattle.symbols.specs.Rows.{held}
 use Rattle.symbols.specs.Search.{part, Tells}
 use Rattle.syntax.specs.Written.{Operator}
-use Rattle.words.specs.Words.{Word, wordsAt}
+use Rattle.words.specs.Words.{Word, words_at}
 use Rattle.declarer.proofs.OperatorLaws.{left-start, left-stops, left-goes, left-ends}
 use Rattle.declarer.proofs.against.Statement.{statement}
 use Rattle.declarer.proofs.against.Tie as tie
 
 abbrev invariant-loop : tie.invariant-loop
 invariant-loop text rows n at count e v i₀ k₀ i k =
-    (k ≤ count) × (i ≤ length text) × Tells v (find (part text e.token.start e.token.len) (knownsIn 1 (held text rows n)))
-    × ((es : List Operator) (ws' : List Word) → OperatorsIn (wordsAt text at) ws' es → count < length es → (from : ℕ) (o : Operator) (ws₁ : List Word) → EntryIs text from o ws₁ e
-    → Left (held text rows n) (find o.token.text (knownsIn 1 (held text rows n))) o text i (count - k) count ws' es)
+    (k ≤ count) × (i ≤ length text) × Tells v (find (part text e.token.start e.token.len) (knowns_in 1 (held text rows n)))
+    × ((es : List Operator) (ws' : List Word) → OperatorsIn (words_at text at) ws' es → count < length es → (from : ℕ) (o : Operator) (ws₁ : List Word) → EntryIs text from o ws₁ e
+    → Left (held text rows n) (find o.token.text (knowns_in 1 (held text rows n))) o text i (count - k) count ws' es)
 
 abbrev decreases-loop : tie.decreases-loop
 decreases-loop text rows n at count e v i₀ k₀ i k = count - k

@@ -3,8 +3,8 @@ use mathlib.Core.List.{List, []}
 use mathlib.Core.Path.{◌≡◌, ◌∙◌}
 use Prim.Native.Nat.{ℕ, ◌-◌, ◌≤◌}
 use native.Mathlib.Omega.{arith}
-use Rattle.declarations.specs.Decls.{declFaults, EntriesAt}
-use Rattle.symbols.specs.Rows.{held, heldFrom}
+use Rattle.declarations.specs.Decls.{decl_faults, EntriesAt}
+use Rattle.symbols.specs.Rows.{held, held_from}
 use Rattle.syntax.specs.Written.{Operator}
 use Rattle.declarer.proofs.FaultLaws.{moved, rows_start, rows-go, rows-stop, rows_end}
 use Rattle.declarer.proofs.check_declarations.Statement.{statement}
@@ -13,7 +13,7 @@ use Rattle.declarer.proofs.check_declarations.Tie as tie
 abbrev invariant-loop : tie.invariant-loop
 invariant-loop text rows n i₀ i =
     (i ≤ n) × ((entries : ℕ → List Operator) → EntriesAt text (held text rows n) entries
-    → declFaults (held text rows n) entries [] (held text rows n) ≡ declFaults (held text rows n) entries (held text rows i) (heldFrom text rows i (n - i)))
+    → decl_faults (held text rows n) entries [] (held text rows n) ≡ decl_faults (held text rows n) entries (held text rows i) (held_from text rows i (n - i)))
 
 abbrev decreases-loop : tie.decreases-loop
 decreases-loop text rows n i₀ i = n - i

@@ -9,7 +9,7 @@ use Rattle.declarer.specs.Operators.{Passed, AllMarked}
 use Rattle.grammar.specs.Derived.{OperatorsIn}
 use Rattle.symbols.specs.Rows.{held}
 use Rattle.syntax.specs.Written.{Operator}
-use Rattle.words.specs.Words.{Word, wordsAt}
+use Rattle.words.specs.Words.{Word, words_at}
 use Rattle.declarer.proofs.MarkLaws.{marked-none}
 use Rattle.declarer.proofs.OperatorLaws.{apart-entry, passed_start, passed-moves, passed-stops, passed-ends, passed-goes, passed-marks}
 use Rattle.declarer.proofs.entries_fault.Statement.{statement}
@@ -17,8 +17,8 @@ use Rattle.declarer.proofs.entries_fault.Tie as tie
 
 abbrev invariant-loop : tie.invariant-loop
 invariant-loop text rows n at marks₀ i₀ count₀ marks i count =
-    (count ≤ i) × (i ≤ length text) × ((es : List Operator) (ws' : List Word) → OperatorsIn (wordsAt text at) ws' es → Passed (held text rows n) text i count ws' es)
-    × ((es : List Operator) (ws' : List Word) → OperatorsIn (wordsAt text at) ws' es → AllMarked (held text rows n) rows n marks (take count es)) × (length marks ≡ 545)
+    (count ≤ i) × (i ≤ length text) × ((es : List Operator) (ws' : List Word) → OperatorsIn (words_at text at) ws' es → Passed (held text rows n) text i count ws' es)
+    × ((es : List Operator) (ws' : List Word) → OperatorsIn (words_at text at) ws' es → AllMarked (held text rows n) rows n marks (take count es)) × (length marks ≡ 545)
 
 abbrev decreases-loop : tie.decreases-loop
 decreases-loop text rows n at marks₀ i₀ count₀ marks i count = length text - i

@@ -1,6 +1,6 @@
 -- `declarer::given_fault` meets its contract.
 use borrow.Author.Rules.{rules}
-use Rattle.symbols.specs.Rows.{declAt}
+use Rattle.symbols.specs.Rows.{decl_at}
 use Rattle.declarer.proofs.given_fault.Statement.{statement}
 use Rattle.declarer.proofs.given_fault.Tie as tie
 
@@ -26,7 +26,7 @@ optional-fault-requires : tie.Need-optional-fault-requires
 optional-fault-requires c κs = search rules
 
 returns : tie.Need-returns
-unfolding declAt
+unfolding decl_at
 returns c = rw (c.before.before.number.ensures.0, c.before.number2.ensures.0) at (c.optional-fault.ensures 257)
 
 pub given-fault-spec : {M : Type 1} → statement M

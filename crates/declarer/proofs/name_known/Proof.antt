@@ -1,7 +1,7 @@
 -- `declarer::name_known` meets its contract.
 use borrow.Author.Rules.{rules}
 use mathlib.Core.Path.{refl}
-use Rattle.symbols.specs.Rows.{declAt}
+use Rattle.symbols.specs.Rows.{decl_at}
 use Rattle.declarer.proofs.name_known.Statement.{statement}
 use Rattle.declarer.proofs.name_known.Tie as tie
 
@@ -27,7 +27,7 @@ is-known-requires : tie.Need-is-known-requires
 is-known-requires c κs = search rules
 
 returns : tie.Need-returns
-unfolding declAt
+unfolding decl_at
 returns c = rw (c.is_Known.ensures, c.before.before.number.ensures.0, c.before.number2.ensures.0) refl
 
 pub name-known-spec : {M : Type 1} → statement M

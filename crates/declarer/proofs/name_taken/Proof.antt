@@ -1,7 +1,7 @@
 -- `declarer::name_taken` meets its contract.
 use borrow.Author.Rules.{rules}
 use mathlib.Core.Path.{refl}
-use Rattle.symbols.specs.Rows.{declAt}
+use Rattle.symbols.specs.Rows.{decl_at}
 use Rattle.declarer.proofs.name_taken.Statement.{statement}
 use Rattle.declarer.proofs.name_taken.Tie as tie
 
@@ -27,7 +27,7 @@ has-row-requires : tie.Need-has-row-requires
 has-row-requires c κs = search rules
 
 returns : tie.Need-returns
-unfolding declAt
+unfolding decl_at
 returns c = rw (c.has-row.ensures, c.before.before.number.ensures.0, c.before.number2.ensures.0) refl
 
 pub name-taken-spec : {M : Type 1} → statement M

@@ -1,8 +1,8 @@
 -- `declarer::repeats` meets its contract.
 use borrow.Author.Rules.{rules}
 use mathlib.Core.Path.{refl}
-use Rattle.declarations.specs.Decls.{repeatsIn}
-use Rattle.declarer.proofs.FaultLaws.{value-at}
+use Rattle.declarations.specs.Decls.{repeats_in}
+use Rattle.declarer.proofs.FaultLaws.{value_at}
 use Rattle.declarer.proofs.repeats.Statement.{statement}
 use Rattle.declarer.proofs.repeats.Tie as tie
 
@@ -10,14 +10,14 @@ name-known-requires : tie.Need-name-known-requires
 name-known-requires c κs = search rules
 
 returns : tie.Need-returns
-unfolding repeatsIn
+unfolding repeats_in
 returns c = rw (← c.before.name-known.ensures, c.if1.true) refl
 
 string-known-requires : tie.Need-string-known-requires
 string-known-requires c κs = search rules
 
 returns-2 : tie.Need-returns-2
-unfolding repeatsIn
+unfolding repeats_in
 returns-2 c = rw (← c.before.before.before.name-known.ensures, c.before.before.if1.false, ← c.before.string-known.ensures, c.if2.true) refl
 
 mul-number : tie.Need-overflow-mul-number
@@ -33,8 +33,8 @@ has-value-requires : tie.Need-has-value-requires
 has-value-requires c κs = search rules
 
 returns-3 : tie.Need-returns-3
-unfolding repeatsIn
-returns-3 c = rw (← c.before.before.before.before.before.name-known.ensures, c.before.before.before.before.if1.false, ← c.before.before.before.string-known.ensures, c.before.before.if2.false, value-at, ← c.before.number.ensures.0) (c.has_value.ensures c.before.before.before.before.before.before.before.before.args.text.now)
+unfolding repeats_in
+returns-3 c = rw (← c.before.before.before.before.before.name-known.ensures, c.before.before.before.before.if1.false, ← c.before.before.before.string-known.ensures, c.before.before.if2.false, value_at, ← c.before.number.ensures.0) (c.has_value.ensures c.before.before.before.before.before.before.before.before.args.text.now)
 
 pub repeats-spec : {M : Type 1} → statement M
 repeats-spec =

@@ -2,13 +2,13 @@
 use mathlib.Core.Path.{◌≡◌}
 use Prim.Native.Nat.{◌-◌, ◌≤◌}
 use native.Mathlib.Omega.{arith}
-use Rattle.declarer.specs.Operators.{slotFrom}
+use Rattle.declarer.specs.Operators.{slot_from}
 use Rattle.declarer.proofs.MarkLaws.{slot-start, slot-here, slot_next, slot-none}
 use Rattle.declarer.proofs.slot_of.Statement.{statement}
 use Rattle.declarer.proofs.slot_of.Tie as tie
 
 abbrev invariant-loop : tie.invariant-loop
-invariant-loop rows n v i₀ i = (i ≤ n) × (slotFrom rows v 0 n ≡ slotFrom rows v i (n - i))
+invariant-loop rows n v i₀ i = (i ≤ n) × (slot_from rows v 0 n ≡ slot_from rows v i (n - i))
 
 abbrev decreases-loop : tie.decreases-loop
 decreases-loop rows n v i₀ i = n - i

@@ -1,6 +1,6 @@
 -- `declarer::types_fault` meets its contract.
 use borrow.Author.Rules.{rules}
-use Rattle.symbols.specs.Rows.{held, declAt, secondKind}
+use Rattle.symbols.specs.Rows.{held, decl_at, second_kind}
 use lib.ListN.{get_or}
 use Prim.Native.Nat.{◌*◌}
 use Rattle.declarer.proofs.FaultLaws.{types-go, types-stop}
@@ -29,8 +29,8 @@ optional-fault-requires : tie.Need-optional-fault-requires
 optional-fault-requires c κs = search rules
 
 returns : tie.Need-returns
-unfolding declAt
-returns c = types-stop (held c.before.before.before.before.before.before.before.args.text.now c.before.before.before.before.before.before.before.args.rows.now c.before.before.before.before.before.before.before.args.n) (held c.before.before.before.before.before.before.before.args.text.now c.before.before.before.before.before.before.before.args.rows.now c.before.before.before.before.before.before.before.args.i) (declAt c.before.before.before.before.before.before.before.args.text.now c.before.before.before.before.before.before.before.args.rows.now c.before.before.before.before.before.before.before.args.i) (rw (c.before.before.before.before.number.ensures.0, c.before.before.before.number2.ensures.0) at (c.before.before.optional-fault.ensures (secondKind (get_or c.before.before.before.before.before.before.before.args.rows.now (8 * c.before.before.before.before.before.before.before.args.i) 0)))) c.if1.true
+unfolding decl_at
+returns c = types-stop (held c.before.before.before.before.before.before.before.args.text.now c.before.before.before.before.before.before.before.args.rows.now c.before.before.before.before.before.before.before.args.n) (held c.before.before.before.before.before.before.before.args.text.now c.before.before.before.before.before.before.before.args.rows.now c.before.before.before.before.before.before.before.args.i) (decl_at c.before.before.before.before.before.before.before.args.text.now c.before.before.before.before.before.before.before.args.rows.now c.before.before.before.before.before.before.before.args.i) (rw (c.before.before.before.before.number.ensures.0, c.before.before.before.number2.ensures.0) at (c.before.before.optional-fault.ensures (second_kind (get_or c.before.before.before.before.before.before.before.args.rows.now (8 * c.before.before.before.before.before.before.before.args.i) 0)))) c.if1.true
 
 mul-number-3 : tie.Need-overflow-mul-number-3
 mul-number-3 c = search rules
@@ -54,8 +54,8 @@ optional-fault-requires-2 : tie.Need-optional-fault-requires-2
 optional-fault-requires-2 c κs = search rules
 
 returns-2 : tie.Need-returns-2
-unfolding declAt
-returns-2 c = types-go (held c.before.before.before.before.before.before.before.before.before.before.args.text.now c.before.before.before.before.before.before.before.before.before.before.args.rows.now c.before.before.before.before.before.before.before.before.before.before.args.n) (held c.before.before.before.before.before.before.before.before.before.before.args.text.now c.before.before.before.before.before.before.before.before.before.before.args.rows.now c.before.before.before.before.before.before.before.before.before.before.args.i) (declAt c.before.before.before.before.before.before.before.before.before.before.args.text.now c.before.before.before.before.before.before.before.before.before.before.args.rows.now c.before.before.before.before.before.before.before.before.before.before.args.i) (rw (c.before.before.before.before.before.before.before.number.ensures.0, c.before.before.before.before.before.before.number2.ensures.0) at (c.before.before.before.before.before.optional-fault.ensures (secondKind (get_or c.before.before.before.before.before.before.before.before.before.before.args.rows.now (8 * c.before.before.before.before.before.before.before.before.before.before.args.i) 0)))) c.before.before.before.if1.false (rw (c.before.before.number3.ensures.0, c.before.number4.ensures.0) at (c.optional-fault2.ensures 257))
+unfolding decl_at
+returns-2 c = types-go (held c.before.before.before.before.before.before.before.before.before.before.args.text.now c.before.before.before.before.before.before.before.before.before.before.args.rows.now c.before.before.before.before.before.before.before.before.before.before.args.n) (held c.before.before.before.before.before.before.before.before.before.before.args.text.now c.before.before.before.before.before.before.before.before.before.before.args.rows.now c.before.before.before.before.before.before.before.before.before.before.args.i) (decl_at c.before.before.before.before.before.before.before.before.before.before.args.text.now c.before.before.before.before.before.before.before.before.before.before.args.rows.now c.before.before.before.before.before.before.before.before.before.before.args.i) (rw (c.before.before.before.before.before.before.before.number.ensures.0, c.before.before.before.before.before.before.number2.ensures.0) at (c.before.before.before.before.before.optional-fault.ensures (second_kind (get_or c.before.before.before.before.before.before.before.before.before.before.args.rows.now (8 * c.before.before.before.before.before.before.before.before.before.before.args.i) 0)))) c.before.before.before.if1.false (rw (c.before.before.number3.ensures.0, c.before.number4.ensures.0) at (c.optional-fault2.ensures 257))
 
 pub types-fault-spec : {M : Type 1} → statement M
 types-fault-spec =

@@ -5,7 +5,7 @@ use Prim.Native.Nat.{ℕ, ◌+◌, ◌*◌, ◌-◌, ◌≤◌, ◌<◌}
 use lib.ListN.{length, get_or}
 use mathlib.Core.List.{[], ◌∷◌}
 use Rattle.emitter.specs.Words.{puts}
-use Rattle.emitter.specs.Heads.{labelsAt, chooses, insOf}
+use Rattle.emitter.specs.Heads.{labels_at, chooses, ins_of}
 use Rattle.emitter.proofs.Laws.{cell-there}
 use Rattle.emitter.proofs.Emits.{exit-done, cycle-done, cycle-join, plain_done, Goes, goes_none, goes-more, goes_end}
 use Rattle.emitter.proofs.Choices.{AltsGo, alts-none, alts-more, alts-end, other-done, absent-done, choice-join}
@@ -220,7 +220,7 @@ emit-act-returns-4 t c = let a = c.before.before.before.before.before.before.bef
 )
 
 abbrev emit-alts-Inv-loop : emit-alts-lts.invariant-loop
-emit-alts-Inv-loop cells slots₀ p out₀ at x q₀ l₀ e₀ end₀ n₀ j₀ slots out q l e end n j = (j ≡ labelsAt cells q) × (j < 192) × (0 < j → q + 1 + j ≤ length cells) × (p ≤ q) × (q ≤ length cells) × (l + 2 * n + 400 * p ≤ at + 400 * q) × (length out ≡ length out₀) × (length slots ≡ length slots₀) × (e < 2000000000) × (end < 2000000000) × AltsGo cells p out₀ at x slots₀ q l e end n out slots
+emit-alts-Inv-loop cells slots₀ p out₀ at x q₀ l₀ e₀ end₀ n₀ j₀ slots out q l e end n j = (j ≡ labels_at cells q) × (j < 192) × (0 < j → q + 1 + j ≤ length cells) × (p ≤ q) × (q ≤ length cells) × (l + 2 * n + 400 * p ≤ at + 400 * q) × (length out ≡ length out₀) × (length slots ≡ length slots₀) × (e < 2000000000) × (end < 2000000000) × AltsGo cells p out₀ at x slots₀ q l e end n out slots
 
 abbrev emit-alts-μ-loop : emit-alts-lts.decreases-loop
 emit-alts-μ-loop cells slots₀ p out₀ at x q₀ l₀ e₀ end₀ n₀ j₀ slots out q l e end n j = length cells - q
@@ -386,7 +386,7 @@ emit-choice-same-length-2 t c = c.before.before.patch2.auto.0 ∙ (c.before.befo
 emit-choice-returns : (t : ℕ) → emit-choice-lts.Need-returns (emit-choice-claims t) (emit-choice-at t) emit-choice.Post
 emit-choice-returns t c = let P = c.before.before.before.before.before.before.before.before.before.before.before.before.before.before.before.before.before.before.before.before.before.before.before.before.before.before.before.before.before.before.before.before.before.before.before.before.before.before.before.before.before.before.before.before.before.before.before.before.requires.1.0 in let D = c.before.before.before.before.before.before.before.before.before.before.before.before.before.before.before.before.before.before.before.before.before.before.before.before.before.before.before.before.before.before.before.before.before.before.before.before.before.before.before.before.emit-sel.ensures.0 in let M = c.before.before.before.before.before.before.before.before.before.before.before.before.before.before.before.before.before.before.before.before.before.before.before.before.before.before.before.before.before.emit-alts.ensures.1.0 in let O = c.before.before.before.before.before.before.before.before.emit-other.ensures.1.0 in let a = c.before.before.before.before.before.before.before.before.before.before.before.before.before.before.before.before.before.before.before.before.before.before.before.before.before.before.before.before.before.before.before.before.before.before.before.before.before.before.before.before.before.before.before.before.before.before.before.before.args in (
   choice-join a.cells.now a.p a.out.now _ _ _ _ _ _ _ _ a.at a.x a.slots.now _ _ _ c.before.before.before.before.before.before.before.before.before.before.before.before.before.before.before.before.before.before.before.before.before.before.before.before.before.before.before.before.before.before.before.before.before.before.before.before.before.before.before.before.emit-sel.result.p c.before.before.before.before.before.before.before.before.before.before.before.before.before.before.before.before.before.before.before.before.before.before.before.before.before.before.before.before.before.before.before.before.before.before.before.before.before.before.before.before.emit-sel.result.at c.before.before.before.before.before.before.before.before.before.before.before.before.before.before.before.before.before.before.before.before.before.before.before.before.before.before.before.before.before.before.before.before.before.before.before.before.before.before.before.before.before.before.before.ins-of.result c.before.before.before.before.before.before.before.before.before.before.before.cell2.result c.before.before.before.before.before.before.before.before.before.before.before.before.before.before.before.before.before.before.before.before.before.before.before.before.before.before.before.before.before.emit-alts.result c.before.before.before.before.before.before.before.before.emit-other.result.p c.before.before.before.before.before.before.before.before.emit-other.result.at c.before.before.before.before.before.before.before.before.emit-other.result.exit c.before.before.before.before.before.before.before.before.before.before.before.before.before.before.before.before.before.before.before.before.before.before.before.before.before.before.before.before.before.before.before.before.before.before.before.before.before.before.before.before.before.before.before.before.before.before.before.before.requires.1.2 c.before.before.before.before.before.before.before.before.before.before.before.before.before.before.before.before.before.before.before.before.before.before.before.before.before.before.before.before.before.before.before.before.before.before.before.before.before.before.before.before.emit-sel.auto.1.0 (c.before.before.before.before.before.before.before.before.before.before.before.before.before.before.before.before.before.before.before.before.before.before.before.before.before.before.before.before.before.emit-alts.auto.1.0 ∙ c.before.before.before.before.before.before.before.before.before.before.before.before.before.before.before.before.before.before.before.before.before.before.before.before.before.before.before.before.before.before.before.before.before.before.before.before.before.before.before.before.emit-sel.auto.1.0)
-      c.before.before.before.before.before.before.before.before.before.before.before.before.before.before.before.before.before.before.before.before.before.before.before.before.before.before.before.before.before.before.before.before.before.before.before.before.before.before.before.before.emit-sel.ensures.0 c.before.before.before.before.before.before.before.before.before.before.before.before.before.before.before.before.before.before.before.before.before.before.before.before.before.before.before.before.before.before.before.before.before.before.before.before.before.before.before.before.emit-sel.ensures.1.0 (c.before.before.before.before.before.before.before.before.before.before.before.before.before.before.before.before.before.before.before.before.before.before.before.before.before.before.before.before.before.before.before.before.before.before.before.before.before.before.before.before.before.before.before.ins-of.ensures ∙ ap insOf c.before.before.before.before.before.before.before.before.before.before.before.before.before.before.before.before.before.before.before.before.before.before.before.before.before.before.before.before.before.before.before.before.before.before.before.before.before.before.before.before.before.before.before.before.cell.ensures) c.before.before.before.before.before.before.before.before.before.before.before.cell2.ensures c.before.before.before.before.before.before.before.before.before.before.before.before.before.before.before.before.before.before.before.before.before.before.before.before.before.before.before.before.before.before.before.before.before.before.put_two.ensures c.before.before.before.before.before.before.before.before.before.before.before.before.before.before.before.before.before.before.before.before.before.before.before.before.before.before.before.before.before.emit-alts.ensures.0 c.before.before.before.before.before.before.before.before.before.before.before.before.before.before.before.before.before.before.before.before.before.before.patch.ensures c.before.before.before.before.before.before.before.before.before.before.before.before.before.before.before.before.before.before.put_one.ensures c.before.before.before.before.before.before.before.before.before.before.before.before.before.before.emit-table.ensures c.before.before.before.before.before.before.before.before.emit-other.ensures.0 c.before.before.patch2.ensures,
+      c.before.before.before.before.before.before.before.before.before.before.before.before.before.before.before.before.before.before.before.before.before.before.before.before.before.before.before.before.before.before.before.before.before.before.before.before.before.before.before.before.emit-sel.ensures.0 c.before.before.before.before.before.before.before.before.before.before.before.before.before.before.before.before.before.before.before.before.before.before.before.before.before.before.before.before.before.before.before.before.before.before.before.before.before.before.before.before.emit-sel.ensures.1.0 (c.before.before.before.before.before.before.before.before.before.before.before.before.before.before.before.before.before.before.before.before.before.before.before.before.before.before.before.before.before.before.before.before.before.before.before.before.before.before.before.before.before.before.before.ins-of.ensures ∙ ap ins_of c.before.before.before.before.before.before.before.before.before.before.before.before.before.before.before.before.before.before.before.before.before.before.before.before.before.before.before.before.before.before.before.before.before.before.before.before.before.before.before.before.before.before.before.before.cell.ensures) c.before.before.before.before.before.before.before.before.before.before.before.cell2.ensures c.before.before.before.before.before.before.before.before.before.before.before.before.before.before.before.before.before.before.before.before.before.before.before.before.before.before.before.before.before.before.before.before.before.before.put_two.ensures c.before.before.before.before.before.before.before.before.before.before.before.before.before.before.before.before.before.before.before.before.before.before.before.before.before.before.before.before.before.emit-alts.ensures.0 c.before.before.before.before.before.before.before.before.before.before.before.before.before.before.before.before.before.before.before.before.before.before.patch.ensures c.before.before.before.before.before.before.before.before.before.before.before.before.before.before.before.before.before.before.put_one.ensures c.before.before.before.before.before.before.before.before.before.before.before.before.before.before.emit-table.ensures c.before.before.before.before.before.before.before.before.emit-other.ensures.0 c.before.before.patch2.ensures,
   (record { on = omega (arith, D.on, M.on, O.on); inside = O.inside; few = omega (arith, D.after, D.few, D.on, M.few, M.on, O.few, O.on) }, c.before.before.before.before.before.before.before.before.emit-other.ensures.1.1),
 )
 

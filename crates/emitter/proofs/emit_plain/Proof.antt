@@ -4,7 +4,7 @@ use Prim.Native.Nat.{ℕ, ◌+◌, ◌-◌, ◌<◌}
 use lib.ListN.{length, get_or}
 use Rattle.emitter.specs.Words.{puts}
 use Rattle.emitter.specs.declared.Item.{Item}
-use Rattle.emitter.specs.Heads.{plainAt, words_in, start_of, calledBy, calledAt}
+use Rattle.emitter.specs.Heads.{plain_at, words_in, start_of, called_by, called_at}
 use Rattle.emitter.proofs.Laws.{few}
 use borrow.Author.Rules.{rules}
 use Rattle.emitter.proofs.emit_plain.Statement.{statement}
@@ -48,8 +48,8 @@ call-at-requires c κs = search rules
 
 -- src/lib.rt:276:18
 add-least : tie.Need-overflow-add-least
-unfolding plainAt
-add-least c = let a = c.before.before.before.before.before.before.before.before.before.before.before.before.before.before.before.before.before.before.args in let h : c.before.before.before.before.before.before.before.before.before.plain-of.result ≡ plainAt a.cells.now a.slots.now a.p = cc in let f = few (get_or a.cells.now a.p 0) (get_or a.cells.now (a.p + 1) 0) (start_of a.slots.now (get_or a.cells.now (a.p + 1) 0)) in let P = c.before.before.before.before.before.before.before.before.before.before.before.before.before.before.before.before.before.before.requires.0 in omega (arith, ap (λ (w : Item). w.cells) h)
+unfolding plain_at
+add-least c = let a = c.before.before.before.before.before.before.before.before.before.before.before.before.before.before.before.before.before.before.args in let h : c.before.before.before.before.before.before.before.before.before.plain-of.result ≡ plain_at a.cells.now a.slots.now a.p = cc in let f = few (get_or a.cells.now a.p 0) (get_or a.cells.now (a.p + 1) 0) (start_of a.slots.now (get_or a.cells.now (a.p + 1) 0)) in let P = c.before.before.before.before.before.before.before.before.before.before.before.before.before.before.before.before.before.before.requires.0 in omega (arith, ap (λ (w : Item). w.cells) h)
 
 -- src/lib.rt:276:12
 least-requires : tie.Need-least-requires
@@ -57,8 +57,8 @@ least-requires c κs = search rules
 
 -- src/lib.rt:277:13
 add-t22 : tie.Need-overflow-add-t22
-unfolding plainAt
-add-t22 c = let a = c.before.before.before.before.before.before.before.before.before.before.before.before.before.before.before.before.before.before.before.before.args in let h : c.before.before.before.before.before.before.before.before.before.before.before.plain-of.result ≡ plainAt a.cells.now a.slots.now a.p = cc in let f = few (get_or a.cells.now a.p 0) (get_or a.cells.now (a.p + 1) 0) (start_of a.slots.now (get_or a.cells.now (a.p + 1) 0)) in let P = c.before.before.before.before.before.before.before.before.before.before.before.before.before.before.before.before.before.before.before.before.requires.0 in omega (arith, ap (λ (w : Item). w.count) h)
+unfolding plain_at
+add-t22 c = let a = c.before.before.before.before.before.before.before.before.before.before.before.before.before.before.before.before.before.before.before.before.args in let h : c.before.before.before.before.before.before.before.before.before.before.before.plain-of.result ≡ plain_at a.cells.now a.slots.now a.p = cc in let f = few (get_or a.cells.now a.p 0) (get_or a.cells.now (a.p + 1) 0) (start_of a.slots.now (get_or a.cells.now (a.p + 1) 0)) in let P = c.before.before.before.before.before.before.before.before.before.before.before.before.before.before.before.before.before.before.before.before.requires.0 in omega (arith, ap (λ (w : Item). w.count) h)
 
 -- src/lib.rt:257:1
 same_length : tie.Need-same-length
@@ -70,11 +70,11 @@ same-length-2 c = search rules
 
 -- src/lib.rt:257:1
 returns : tie.Need-returns
-unfolding plainAt calledAt
-returns c = let a = c.before.before.before.before.before.before.before.before.before.before.before.before.before.before.before.before.before.before.before.before.args in let h : c.before.before.before.before.before.before.before.before.before.before.before.plain-of.result ≡ plainAt a.cells.now a.slots.now a.p = cc in let f = few (get_or a.cells.now a.p 0) (get_or a.cells.now (a.p + 1) 0) (start_of a.slots.now (get_or a.cells.now (a.p + 1) 0)) in let P = c.before.before.before.before.before.before.before.before.before.before.before.before.before.before.before.before.before.before.before.before.requires.0 in let L = c.before.least.ensures in
-    let e : c.before.before.before.before.before.before.before.before.before.before.before.plain-of.result.cells ≡ (plainAt a.cells.now a.slots.now a.p).cells = ap (λ (w : Item). w.cells) h in (
+unfolding plain_at called_at
+returns c = let a = c.before.before.before.before.before.before.before.before.before.before.before.before.before.before.before.before.before.before.before.before.args in let h : c.before.before.before.before.before.before.before.before.before.before.before.plain-of.result ≡ plain_at a.cells.now a.slots.now a.p = cc in let f = few (get_or a.cells.now a.p 0) (get_or a.cells.now (a.p + 1) 0) (start_of a.slots.now (get_or a.cells.now (a.p + 1) 0)) in let P = c.before.before.before.before.before.before.before.before.before.before.before.before.before.before.before.before.before.before.before.before.requires.0 in let L = c.before.least.ensures in
+    let e : c.before.before.before.before.before.before.before.before.before.before.before.plain-of.result.cells ≡ (plain_at a.cells.now a.slots.now a.p).cells = ap (λ (w : Item). w.cells) h in (
       record { next = λ i. omega (arith, i, e, L); after = ap (λ (w : Item). a.at + w.count) h; wrote = c.before.before.before.before.before.before.before.before.before.put_some_lem.ensures ∙ ap (λ (w : Item). puts a.out.now a.at (words_in w)) h; on = omega (arith, e, L, f.some-cells, c.before.before.before.before.before.before.before.before.before.before.before.before.before.before.before.before.before.before.before.before.requires.1); inside = omega (arith, L); few = f.small },
-      (c.before.before.before.before.before.call_at.ensures ∙ (ap (λ (i : ℕ). calledBy i 8 a.slots.now c.before.before.before.before.before.before.before.before.before.before.before.before.before.before.wide.result (a.at + 1)) c.before.before.before.before.before.before.before.before.before.before.before.before.before.before.before.before.cell.ensures ∙ ap (λ (i : ℕ). calledBy (get_or a.cells.now a.p 0) 8 a.slots.now i (a.at + 1)) (c.before.before.before.before.before.before.before.before.before.before.before.before.before.before.wide.ensures.0 ∙ c.before.before.before.before.before.before.before.before.before.before.before.before.before.before.before.cell2.ensures)), refl),
+      (c.before.before.before.before.before.call_at.ensures ∙ (ap (λ (i : ℕ). called_by i 8 a.slots.now c.before.before.before.before.before.before.before.before.before.before.before.before.before.before.wide.result (a.at + 1)) c.before.before.before.before.before.before.before.before.before.before.before.before.before.before.before.before.cell.ensures ∙ ap (λ (i : ℕ). called_by (get_or a.cells.now a.p 0) 8 a.slots.now i (a.at + 1)) (c.before.before.before.before.before.before.before.before.before.before.before.before.before.before.wide.ensures.0 ∙ c.before.before.before.before.before.before.before.before.before.before.before.before.before.before.before.cell2.ensures)), refl),
     )
 
 pub emit-plain-spec : {M : Type 1} → statement M

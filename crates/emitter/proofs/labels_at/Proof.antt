@@ -2,7 +2,7 @@ use Prim.Native.Nat.{ℕ, ◌+◌, ◌<◌}
 use mathlib.Core.Path.{◌≡◌, sym, ap, ◌∙◌}
 use native.Mathlib.Omega.{arith}
 use lib.ListN.{length, get_or}
-use Rattle.emitter.specs.Heads.{labelsIn}
+use Rattle.emitter.specs.Heads.{labels_in}
 use Rattle.emitter.proofs.Laws.{at_in, at_out}
 use borrow.Author.Rules.{rules}
 use Rattle.emitter.proofs.labels_at.Statement.{statement}
@@ -22,12 +22,12 @@ add-if1 c = search rules
 
 -- src/lib.rt:264:1
 returns : tie.Need-returns
-returns c = let e : c.before.labels_in.result ≡ labelsIn (get_or c.before.before.before.before.args.cells.now c.before.before.before.before.args.p 0) = c.before.labels_in.ensures.0 ∙ ap labelsIn c.before.before.cell.ensures in
+returns c = let e : c.before.labels_in.result ≡ labels_in (get_or c.before.before.before.before.args.cells.now c.before.before.before.before.args.p 0) = c.before.labels_in.ensures.0 ∙ ap labels_in c.before.before.cell.ensures in
     (e ∙ sym (at_in c.before.before.before.before.args.cells.now c.before.before.before.before.args.p (omega arith)), omega arith, λ h. omega arith)
 
 -- src/lib.rt:264:1
 returns-2 : tie.Need-returns-2
-returns-2 c = let e : c.before.labels_in.result ≡ labelsIn (get_or c.before.before.before.before.args.cells.now c.before.before.before.before.args.p 0) = c.before.labels_in.ensures.0 ∙ ap labelsIn c.before.before.cell.ensures in
+returns-2 c = let e : c.before.labels_in.result ≡ labels_in (get_or c.before.before.before.before.args.cells.now c.before.before.before.before.args.p 0) = c.before.labels_in.ensures.0 ∙ ap labels_in c.before.before.cell.ensures in
     (sym (at_out c.before.before.before.before.args.cells.now c.before.before.before.before.args.p (omega arith)), omega arith, λ h. omega arith)
 
 pub labels-at-spec : {M : Type 1} → statement M

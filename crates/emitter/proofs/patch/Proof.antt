@@ -3,7 +3,7 @@ use mathlib.Core.Path.{◌≡◌, refl, ap, ◌∙◌}
 use native.Mathlib.Omega.{arith}
 use Prim.Native.Nat.{ℕ, ◌+◌, ◌-◌, ◌≤◌, ◌<◌}
 use lib.ListN.{length}
-use Rattle.emitter.specs.Words.{setWord, cut}
+use Rattle.emitter.specs.Words.{set_word, cut}
 use Rattle.emitter.proofs.Patches.{PatchGo, patch-none, patch-more, patch-end}
 use Rattle.emitter.specs.Heads.{anchor}
 use Rattle.emitter.proofs.patch.Statement.{statement}
@@ -42,7 +42,7 @@ loop-less c = let h = c.before.before.before.before.before.before.older-at.ensur
 -- src/lib.rt:152:5
 loop-again : tie.Need-loop-preserved invariant-loop decreases-loop
 loop-again c = let h = c.before.before.before.before.before.before.older-at.ensures.2 c.before.before.before.before.before.before.before.before.loop-test.true in
-    (c.before.before.put_word.auto.0 ∙ c.before.before.before.before.before.before.before.before.before.loop.invariant.0, omega arith, patch-more c.before.before.before.before.before.before.before.before.before.before.before.args.out.now c.before.before.before.before.before.before.before.before.before.before.before.args.newest c.before.before.before.before.before.before.before.before.before.before.before.args.to c.before.before.before.before.before.before.before.before.before.before.before.args.k c.before.before.before.before.before.before.before.before.before.loop.out c.before.before.before.before.before.before.before.before.before.loop.j c.before.before.before.before.before.before.older-at.result _ c.before.before.before.before.before.before.before.before.loop-test.true c.before.before.before.before.before.before.older-at.ensures.0 (c.before.before.put_word.ensures ∙ ap (λ (i : ℕ). setWord c.before.before.before.before.before.before.before.before.before.loop.out c.before.before.before.before.before.before.before.before.before.loop.j i) (c.before.before.before.span.ensures ∙ ap (λ (i : ℕ). cut (c.before.before.before.before.before.before.before.before.before.before.before.args.to - i)) c.before.before.before.before.anchor.ensures)) c.before.before.before.before.before.before.before.before.before.loop.invariant.2)
+    (c.before.before.put_word.auto.0 ∙ c.before.before.before.before.before.before.before.before.before.loop.invariant.0, omega arith, patch-more c.before.before.before.before.before.before.before.before.before.before.before.args.out.now c.before.before.before.before.before.before.before.before.before.before.before.args.newest c.before.before.before.before.before.before.before.before.before.before.before.args.to c.before.before.before.before.before.before.before.before.before.before.before.args.k c.before.before.before.before.before.before.before.before.before.loop.out c.before.before.before.before.before.before.before.before.before.loop.j c.before.before.before.before.before.before.older-at.result _ c.before.before.before.before.before.before.before.before.loop-test.true c.before.before.before.before.before.before.older-at.ensures.0 (c.before.before.put_word.ensures ∙ ap (λ (i : ℕ). set_word c.before.before.before.before.before.before.before.before.before.loop.out c.before.before.before.before.before.before.before.before.before.loop.j i) (c.before.before.before.span.ensures ∙ ap (λ (i : ℕ). cut (c.before.before.before.before.before.before.before.before.before.before.before.args.to - i)) c.before.before.before.before.anchor.ensures)) c.before.before.before.before.before.before.before.before.before.loop.invariant.2)
 
 -- src/lib.rt:148:1
 same_length : tie.Need-same-length invariant-loop decreases-loop

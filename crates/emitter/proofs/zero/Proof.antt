@@ -1,6 +1,6 @@
 use borrow.Author.Rules.{rules}
 use Rattle.emitter.proofs.Rules.{zeros}
-use Rattle.emitter.specs.Emitted.{zeroedBytes}
+use Rattle.emitter.specs.Emitted.{zeroed_bytes}
 use Rattle.machine.specs.Bytes.{count}
 use Rattle.emitter.proofs.zero.Statement.{statement}
 use Rattle.emitter.proofs.zero.Tie as tie
@@ -15,7 +15,7 @@ same_length c = search rules
 
 -- src/lib.rt:656:1
 returns : tie.Need-returns
-unfolding zeroedBytes count
+unfolding zeroed_bytes count
 returns c = zeros _ _ c.before.before.zero-from.ensures
 
 pub zero-spec : {M : Type 1} → statement M

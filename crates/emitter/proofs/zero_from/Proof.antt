@@ -4,7 +4,7 @@ use mathlib.Core.Path.{◌≡◌, refl, ap, sym, ◌∙◌}
 use mathlib.Core.List.{List}
 use native.Mathlib.Omega.{arith}
 use lib.ListN.{length, replicate}
-use Rattle.emitter.specs.Words.{words, puts, setWord}
+use Rattle.emitter.specs.Words.{words, puts, set_word}
 use Rattle.emitter.proofs.Bytes.{zeros-more, zeros-none}
 use Rattle.emitter.proofs.zero_from.Statement.{statement}
 use Rattle.emitter.proofs.zero_from.Tie as tie
@@ -34,7 +34,7 @@ loop-less c = omega arith
 -- src/lib.rt:513:5
 loop-again : tie.Need-loop-preserved invariant-loop decreases-loop
 loop-again c = let o = c.before.before.before.before.before.loop in
-    let h : c.before.before.put_word.new.0 ≡ setWord o.out o.i 0 = c.before.before.put_word.ensures in
+    let h : c.before.before.put_word.new.0 ≡ set_word o.out o.i 0 = c.before.before.put_word.ensures in
     (c.before.before.put_word.auto.0 ∙ o.invariant.0, ap (λ (s : List ℕ). puts s (o.i + 1) (replicate (words c.before.before.before.before.before.before.before.args.out.now - (o.i + 1)) 0)) h ∙ sym (zeros-more o.out o.i (words c.before.before.before.before.before.before.before.args.out.now) c.before.before.before.before.loop-test.true) ∙ o.invariant.1)
 
 -- src/lib.rt:508:1

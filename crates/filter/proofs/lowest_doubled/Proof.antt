@@ -6,7 +6,7 @@ use borrow.Author.Tests.{le-leb, lt-leb}
 use lib.Dec.{leb}
 use lib.ListN.{get_or}
 use Rattle.filtering.specs.Filter.{lowest}
-use Rattle.filter.specs.Working.{lowestDoubled}
+use Rattle.filter.specs.Working.{lowest_doubled}
 use Rattle.filter.proofs.Laws.{low-on, low-here, low_end}
 use Rattle.filter.proofs.lowest_doubled.Statement.{statement}
 use Rattle.filter.proofs.lowest_doubled.Tie as tie
@@ -24,7 +24,7 @@ shared-slice-read-if1 : tie.Need-shared-slice-read-if1 invariant-loop decreases-
 shared-slice-read-if1 c = omega (arith, c.before.loop-test.true, c.before.before.before.requires)
 
 returns : tie.Need-returns invariant-loop decreases-loop
-unfolding lowestDoubled
+unfolding lowest_doubled
 returns c = let held = c.before.before.before.before.args.held.now in low-here (λ (x : ℕ). leb 2 (get_or held x 0)) c.before.before.before.loop.b c.before.before.loop-test.true (le-leb 2 (get_or held c.before.before.before.loop.b 0) c.if1.true) c.before.before.before.loop.invariant.1
 
 add-b : tie.Need-overflow-add-b invariant-loop decreases-loop
@@ -37,7 +37,7 @@ loop-again : tie.Need-loop-preserved invariant-loop decreases-loop
 loop-again c = let held = c.before.before.before.before.args.held.now in (omega (arith, c.before.before.loop-test.true), low-on (λ (x : ℕ). leb 2 (get_or held x 0)) c.before.before.before.loop.b c.before.before.loop-test.true (lt-leb 2 (get_or held c.before.before.before.loop.b 0) c.if1.false) c.before.before.before.loop.invariant.1)
 
 returns-2 : tie.Need-returns-2 invariant-loop decreases-loop
-unfolding lowestDoubled
+unfolding lowest_doubled
 returns-2 c = let held = c.before.before.args.held.now in low_end (λ (x : ℕ). leb 2 (get_or held x 0)) c.before.loop.b c.loop-test.false c.before.loop.invariant.1
 
 pub lowest-doubled-spec : {M : Type 1} → statement M

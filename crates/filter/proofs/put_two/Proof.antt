@@ -1,6 +1,6 @@
 -- `filter::put_two` meets its contract.
 use mathlib.Core.Path.{refl}
-use Rattle.filter.specs.Working.{mapTokens}
+use Rattle.filter.specs.Working.{map_tokens}
 use Rattle.filter.proofs.Writes.{words-next}
 use borrow.Author.Rules.{rules}
 use Rattle.filter.proofs.put_two.Statement.{statement}
@@ -19,7 +19,7 @@ same_length : tie.Need-same-length
 same_length c = search rules
 
 returns : tie.Need-returns
-returns c = words-next (mapTokens c.before.before.before.before.before.before.before.before.before.before.before.args.map.now c.before.before.before.before.before.before.before.before.before.before.before.args.text.now) _ 1 1 c.before.before.before.before.before.before.before.before.before.before.before.args.k _ 2 c.before.before.put-token2.ensures c.before.before.before.before.before.before.put-token.ensures refl refl
+returns c = words-next (map_tokens c.before.before.before.before.before.before.before.before.before.before.before.args.map.now c.before.before.before.before.before.before.before.before.before.before.before.args.text.now) _ 1 1 c.before.before.before.before.before.before.before.before.before.before.before.args.k _ 2 c.before.before.put-token2.ensures c.before.before.before.before.before.before.put-token.ensures refl refl
 
 pub put-two-spec : {M : Type 1} → statement M
 put-two-spec =

@@ -29,10 +29,10 @@ loop-again : tie.Need-loop-preserved invariant-loop decreases-loop
 loop-again c = (omega (arith, c.before.before.before.before.before.before.before.loop-test.true), c.before.before.before.before.tally-entry.ensures)
 
 same_length : tie.Need-same-length invariant-loop decreases-loop
-same_length c = c.before.loop.invariant.1.held-size ∙ sym c.before.before.before.before.before.requires.2.held-size
+same_length c = c.before.loop.invariant.1.held_size ∙ sym c.before.before.before.before.before.requires.2.held_size
 
 same-length-2 : tie.Need-same-length-2 invariant-loop decreases-loop
-same-length-2 c = c.before.loop.invariant.1.map-size ∙ sym c.before.before.before.before.before.requires.2.map-size
+same-length-2 c = c.before.loop.invariant.1.map_size ∙ sym c.before.before.before.before.before.requires.2.map_size
 
 returns : tie.Need-returns invariant-loop decreases-loop
 returns c = tally-end c.before.before.before.before.before.args.s.now c.before.before.before.before.before.args.n c.before.loop.i _ _ c.before.loop.invariant.0 c.loop-test.false c.before.loop.invariant.1

@@ -41,7 +41,7 @@ loop-holds : tie.Need-loop-init invariant-loop decreases-loop
 loop-holds c = (omega (arith, c.byte2.ensures.0), omega (arith, c.byte2.ensures.1), partly-start c.before.before.before.before.before.before.before.before.args.s.now c.before.before.before.before.before.before.before.before.args.i c.before.before.before.before.before.before.before.before.requires.0 c.byte2.result _ _ c.byte2.ensures.0 c.before.before.before.before.before.before.before.before.requires.2)
 
 tally-byte-requires : tie.Need-tally-byte-requires invariant-loop decreases-loop
-tally-byte-requires c κs = (omega (arith, c.before.before.before.loop.invariant.2.held-size, c.before.before.loop-test.true, c.before.before.before.before.before.before.byte.ensures.1), omega (arith, c.before.before.before.loop.invariant.2.map-size, c.before.before.loop-test.true, c.before.before.before.before.before.before.byte.ensures.1), omega (arith, (c.before.before.before.loop.invariant.2.without c.before.before.before.loop.b (omega arith) (omega (arith, c.before.before.loop-test.true, c.before.before.before.before.before.before.byte.ensures.1))).few, c.before.before.before.before.before.before.before.before.before.before.before.before.requires.1))
+tally-byte-requires c κs = (omega (arith, c.before.before.before.loop.invariant.2.held_size, c.before.before.loop-test.true, c.before.before.before.before.before.before.byte.ensures.1), omega (arith, c.before.before.before.loop.invariant.2.map_size, c.before.before.loop-test.true, c.before.before.before.before.before.before.byte.ensures.1), omega (arith, (c.before.before.before.loop.invariant.2.without c.before.before.before.loop.b (omega arith) (omega (arith, c.before.before.loop-test.true, c.before.before.before.before.before.before.byte.ensures.1))).few, c.before.before.before.before.before.before.before.before.before.before.before.before.requires.1))
 
 add-b : tie.Need-overflow-add-b invariant-loop decreases-loop
 add-b c = omega (arith, c.before.before.before.before.before.before.before.loop-test.true, c.before.before.before.before.before.before.before.before.before.before.before.byte.ensures.1)
@@ -53,10 +53,10 @@ loop-again : tie.Need-loop-preserved invariant-loop decreases-loop
 loop-again c = (omega (arith, c.before.before.before.before.before.before.before.before.loop.invariant.0), omega (arith, c.before.before.before.before.before.before.before.loop-test.true, c.before.before.before.before.before.before.before.before.before.before.before.byte.ensures.1), partly-next c.before.before.before.before.before.before.before.before.before.before.before.before.before.before.before.before.before.args.s.now c.before.before.before.before.before.before.before.before.before.before.before.before.before.before.before.before.before.args.i c.before.before.before.before.before.before.before.before.before.before.before.before.before.before.before.before.before.requires.0 c.before.before.before.before.before.before.before.before.loop.b _ _ _ _ c.before.before.before.before.before.before.before.before.loop.invariant.0 (omega (arith, c.before.before.before.before.before.before.before.loop-test.true, c.before.before.before.before.before.before.before.before.before.before.before.byte.ensures.0)) (omega (arith, c.before.before.before.before.before.before.before.loop-test.true, c.before.before.before.before.before.before.before.before.before.before.before.byte.ensures.1)) c.before.before.before.before.before.before.before.before.before.before.before.before.before.turned-token.result c.before.before.before.before.before.before.before.before.before.before.before.before.before.turned-token.ensures c.before.before.before.before.before.before.before.before.loop.invariant.2 c.before.before.before.before.tally-byte.ensures)
 
 same_length : tie.Need-same-length invariant-loop decreases-loop
-same_length c = c.before.loop.invariant.2.held-size ∙ sym c.before.before.before.before.before.before.before.before.before.before.requires.2.held-size
+same_length c = c.before.loop.invariant.2.held_size ∙ sym c.before.before.before.before.before.before.before.before.before.before.requires.2.held_size
 
 same-length-2 : tie.Need-same-length-2 invariant-loop decreases-loop
-same-length-2 c = c.before.loop.invariant.2.map-size ∙ sym c.before.before.before.before.before.before.before.before.before.before.requires.2.map-size
+same-length-2 c = c.before.loop.invariant.2.map_size ∙ sym c.before.before.before.before.before.before.before.before.before.before.requires.2.map_size
 
 returns : tie.Need-returns invariant-loop decreases-loop
 returns c = partly-end c.before.before.before.before.before.before.before.before.before.before.args.s.now c.before.before.before.before.before.before.before.before.before.before.args.i c.before.before.before.before.before.before.before.before.before.before.requires.0 c.before.loop.b _ _ (omega (arith, c.loop-test.false, c.before.before.before.before.byte.ensures.0)) c.before.loop.invariant.2

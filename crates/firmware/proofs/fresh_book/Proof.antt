@@ -3,7 +3,7 @@ use mathlib.Core.Path.{sym, ap, ◌∙◌}
 use native.Mathlib.Omega.{arith}
 use lib.Seq.{length-take-le}
 use borrow.Author.Rules.{rules}
-use Rattle.machine.specs.Form.{walkBytes}
+use Rattle.machine.specs.Form.{walk_bytes}
 use Rattle.firmware.proofs.Screens.{book-put}
 use Rattle.firmware.proofs.fresh_book.Statement.{statement}
 use Rattle.firmware.proofs.fresh_book.Tie as tie
@@ -27,7 +27,7 @@ same_length : tie.Need-same-length
 same_length c = search rules
 
 returns : tie.Need-returns
-returns c = book-put c.before.before.before.before.before.before.before.before.before.before.args.allowance c.before.before.before.before.before.before.before.before.before.before.args.seat.now _ _ c.before.before.before.before.before.before.before.before.before.before.requires (c.before.before.before.before.before.before.put-walk.ensures ∙ ap walkBytes c.before.before.before.before.before.before.before.fresh-walk.ensures.0) c.before.before.put-64.ensures
+returns c = book-put c.before.before.before.before.before.before.before.before.before.before.args.allowance c.before.before.before.before.before.before.before.before.before.before.args.seat.now _ _ c.before.before.before.before.before.before.before.before.before.before.requires (c.before.before.before.before.before.before.put-walk.ensures ∙ ap walk_bytes c.before.before.before.before.before.before.before.fresh-walk.ensures.0) c.before.before.put-64.ensures
 
 pub fresh-book-spec : {M : Type 1} → statement M
 fresh-book-spec = tie.close (tie.spec slice-relend-prefix-put-walk slice-aggregate-put-walk fresh-walk-requires put-walk-requires put-64-requires same_length returns)

@@ -3,7 +3,7 @@ use mathlib.Core.Path.{sym, ap}
 use borrow.Author.Rules.{rules}
 use Rattle.walker.specs.View as view
 use Rattle.walker.specs.declared.Phase.{Phase}
-use Rattle.firmware.specs.Entries.{phaseIn}
+use Rattle.firmware.specs.Entries.{phase_in}
 use Rattle.firmware.proofs.phase_number.Statement.{statement}
 use Rattle.firmware.proofs.phase_number.Tie as tie
 
@@ -17,16 +17,16 @@ enum-told-3 : tie.Need-enum-told-3
 enum-told-3 c = search rules
 
 returns : tie.Need-returns
-unfolding phaseIn view.phaseOf
-returns c = sym (ap (λ (p : Phase). phaseIn (view.phaseOf p)) c.enum_told.given.1)
+unfolding phase_in view.phase_of
+returns c = sym (ap (λ (p : Phase). phase_in (view.phase_of p)) c.enum_told.given.1)
 
 returns-2 : tie.Need-returns-2
-unfolding phaseIn view.phaseOf
-returns-2 c = sym (ap (λ (p : Phase). phaseIn (view.phaseOf p)) c.enum-told2.given.1)
+unfolding phase_in view.phase_of
+returns-2 c = sym (ap (λ (p : Phase). phase_in (view.phase_of p)) c.enum-told2.given.1)
 
 returns-3 : tie.Need-returns-3
-unfolding phaseIn view.phaseOf
-returns-3 c = sym (ap (λ (p : Phase). phaseIn (view.phaseOf p)) c.enum-told3.given.1)
+unfolding phase_in view.phase_of
+returns-3 c = sym (ap (λ (p : Phase). phase_in (view.phase_of p)) c.enum-told3.given.1)
 
 pub phase-number-spec : {M : Type 1} → statement M
 phase-number-spec =

@@ -12,15 +12,15 @@ reason-of-requires : tie.Need-reason-of-requires
 reason-of-requires c κs = search rules
 
 returns : tie.Need-returns
-unfolding view.phaseOf form.phaseOf
+unfolding view.phase_of form.phase_of
 returns c = rw c.match.keys1
 
 returns-2 : tie.Need-returns-2
-unfolding view.phaseOf form.phaseOf
+unfolding view.phase_of form.phase_of
 returns-2 c = rw c.match.keys2
 
 returns-3 : tie.Need-returns-3
-unfolding view.phaseOf form.phaseOf
+unfolding view.phase_of form.phase_of
 returns-3 c =
     let p = c.before.before.args.p in
     let r = c.before.match.rest in

@@ -3,9 +3,9 @@ use mathlib.Core.List.{List}
 use mathlib.Core.Path.{sym, ap, ◌∙◌}
 use Prim.Native.Nat.{ℕ}
 use borrow.Author.Rules.{rules}
-use Rattle.machine.specs.Form.{phaseWords}
+use Rattle.machine.specs.Form.{phase_words}
 use Rattle.walker.proofs.Link.{number-reason}
-use Rattle.walker.specs.View.{phaseOf}
+use Rattle.walker.specs.View.{phase_of}
 use Rattle.walker.specs.declared.Phase.{Phase}
 use Rattle.firmware.specs.Writes.{puts}
 use Rattle.firmware.proofs.put_phase.Statement.{statement}
@@ -13,7 +13,7 @@ use Rattle.firmware.proofs.put_phase.Tie as tie
 
 -- the words of a phase, written
 abbrev written : List ℕ → Phase → List ℕ
-written s p = puts s 0 (phaseWords (phaseOf p))
+written s p = puts s 0 (phase_words (phase_of p))
 
 enum_told : tie.Need-enum-told
 enum_told c = search rules
@@ -40,21 +40,21 @@ same_length : tie.Need-same-length
 same_length c = search rules
 
 returns : tie.Need-returns
-unfolding phaseWords phaseOf
+unfolding phase_words phase_of
 returns c = c.before.before.put_two.ensures ∙ sym (ap (written c.before.before.before.before.before.before.before.args.out.now) c.before.before.before.before.enum_told.given.1)
 
 same-length-2 : tie.Need-same-length-2
 same-length-2 c = search rules
 
 returns-2 : tie.Need-returns-2
-unfolding phaseWords phaseOf
+unfolding phase_words phase_of
 returns-2 c = c.before.before.put-two2.ensures ∙ sym (ap (written c.before.before.before.before.before.before.before.args.out.now) c.before.before.before.before.enum-told2.given.1)
 
 same-length-3 : tie.Need-same-length-3
 same-length-3 c = search rules
 
 returns-3 : tie.Need-returns-3
-unfolding phaseWords phaseOf
+unfolding phase_words phase_of
 returns-3 c =
     let number = c.before.before.before.number_of_lem.ensures ∙ number-reason _ in
     c.before.before.put-two3.ensures ∙ rw number (sym (ap (written c.before.before.before.before.before.before.before.before.before.args.out.now) c.before.before.before.before.before.before.p.given.1))

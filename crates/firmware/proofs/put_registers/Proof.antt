@@ -4,7 +4,7 @@ use mathlib.Core.Path.{refl, ap, ◌∙◌}
 use Prim.Native.Nat.{◌%◌, min}
 use borrow.Author.Rules.{rules}
 use Rattle.machine.specs.Form as form
-use Rattle.firmware.specs.Writes.{puts, registerWords}
+use Rattle.firmware.specs.Writes.{puts, register_words}
 use Rattle.firmware.proofs.Laws.{puts_one, puts-64, puts_then}
 use Rattle.firmware.proofs.put_registers.Statement.{statement}
 use Rattle.firmware.proofs.put_registers.Tie as tie
@@ -40,7 +40,7 @@ same_length : tie.Need-same-length
 same_length c = search rules
 
 returns : tie.Need-returns
-unfolding registerWords form.words64
+unfolding register_words form.words64
 returns c =
     let a = c.before.before.before.before.before.before.before.before.before.before.before.before.before.before.before.before.before.before.before.before.before.before.args in
     let s = a.out.now in

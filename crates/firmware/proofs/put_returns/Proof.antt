@@ -16,7 +16,7 @@ use Rattle.firmware.proofs.put_returns.Tie as tie
 
 -- the words that are to be written
 abbrev words : ℕ → List ℕ → List ℕ
-words depth returns = form.returnWords (reverse (take depth returns))
+words depth returns = form.return_words (reverse (take depth returns))
 
 -- one word more
 one_more : (s : List ℕ) (d : ℕ) (rs : List ℕ) (i x : ℕ) → length rs ≡ 64 → i + 1 ≤ 64 → x ≡ get_or (words d rs) i 0

@@ -3,7 +3,7 @@ use mathlib.Core.Path.{sym, ◌∙◌}
 use borrow.Author.Rules.{rules}
 use Rattle.base.specs.Bools.{never}
 use Rattle.walker.specs.View as view
-use Rattle.firmware.proofs.Walks.{no_walk, is-walk, is-no-walk}
+use Rattle.firmware.proofs.Walks.{no_walk, is_walk, is-no-walk}
 use Rattle.firmware.proofs.read_walk.Statement.{statement}
 use Rattle.firmware.proofs.read_walk.Tie as tie
 
@@ -40,7 +40,7 @@ returns-2 c =
     let v = view.walk_of n.result in
     let e = rw c.before.before.before.put-walk.ensures at c.same.ensures in
     record {
-      some_walk = λ t. is-walk s v n.ensures.0 (sym e ∙ t);
+      some_walk = λ t. is_walk s v n.ensures.0 (sym e ∙ t);
       no_walk = λ t. is-no-walk s v n.ensures.0 (sym e ∙ t);
       location = n.ensures.1;
       returns = search rules;

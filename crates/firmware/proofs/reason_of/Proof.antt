@@ -6,31 +6,31 @@ use Rattle.firmware.proofs.reason_of.Statement.{statement}
 use Rattle.firmware.proofs.reason_of.Tie as tie
 
 returns : tie.Need-returns
-unfolding view.reasonOf form.reasonOf
+unfolding view.reason_of form.reason_of
 returns c = rw c.match.keys1
 
 returns-2 : tie.Need-returns-2
-unfolding view.reasonOf form.reasonOf
+unfolding view.reason_of form.reason_of
 returns-2 c = rw c.match.keys2
 
 returns-3 : tie.Need-returns-3
-unfolding view.reasonOf form.reasonOf
+unfolding view.reason_of form.reason_of
 returns-3 c = rw c.match.keys3
 
 returns-4 : tie.Need-returns-4
-unfolding view.reasonOf form.reasonOf
+unfolding view.reason_of form.reason_of
 returns-4 c = rw c.match.keys4
 
 returns-5 : tie.Need-returns-5
-unfolding view.reasonOf form.reasonOf
+unfolding view.reason_of form.reason_of
 returns-5 c = rw c.match.keys5
 
 returns-6 : tie.Need-returns-6
-unfolding view.reasonOf form.reasonOf
+unfolding view.reason_of form.reason_of
 returns-6 c = rw c.match.keys6
 
 returns-7 : tie.Need-returns-7
-unfolding view.reasonOf form.reasonOf
+unfolding view.reason_of form.reason_of
 returns-7 c =
     let n = c.before.args.n in
     let r = c.match.rest in

@@ -1,6 +1,6 @@
 -- `firmware::registers_of` meets its contract: field by field.
 use borrow.Author.Rules.{rules}
-use Rattle.firmware.specs.Writes.{registersIn}
+use Rattle.firmware.specs.Writes.{registers_in}
 use Rattle.firmware.proofs.registers_of.Statement.{statement}
 use Rattle.firmware.proofs.registers_of.Tie as tie
 
@@ -26,7 +26,7 @@ wide-word-requires-5 : tie.Need-wide-word-requires-5
 wide-word-requires-5 c κs = search rules
 
 returns : tie.Need-returns
-unfolding registersIn
+unfolding registers_in
 returns c =
     let location = c.before.before.before.before.before.before.wide_word.ensures in
     let depth = c.before.before.before.before.before.wide-word2.ensures in

@@ -6,7 +6,7 @@ use native.Mathlib.Omega.{arith}
 use lib.ListN.{length, take, drop, length-set, length-drop, set}
 use lib.Seq.{take-suc-set, take-suc, get_or-drop, take_all}
 use borrow.Author.Rules.{rules}
-use Rattle.machine.proofs.Bytes.{length-wordsOf}
+use Rattle.machine.proofs.Bytes.{length-words_of}
 use Rattle.machine.specs.Bytes.{count, words_of}
 use Rattle.firmware.proofs.returns_of.Statement.{statement}
 use Rattle.firmware.proofs.returns_of.Tie as tie
@@ -46,7 +46,7 @@ loop-again c =
     let ws = words_of s in
     let i = l.loop.i in
     let x = c.word.result in
-    let n = length-wordsOf s in
+    let n = length-words_of s in
     let m = length-drop 15 ws in
     let grows : take (i + 1) (set l.loop.returns i x) ≡ take (i + 1) (drop 15 ws) =
     rw (add-one, take-suc-set l.loop.returns i x (omega arith), take-suc (drop 15 ws) i 0 (omega arith), l.loop.invariant.1.1, c.word.ensures, get_or-drop) in

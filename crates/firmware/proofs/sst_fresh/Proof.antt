@@ -3,8 +3,8 @@ use mathlib.Core.Path.{ap, ◌∙◌}
 use lib.ListN.{length}
 use borrow.Author.Rules.{rules}
 use borrow.Author.Tests.{eq-eqb, ne_eqb}
-use Rattle.machine.specs.Form.{walkBytes}
-use Rattle.firmware.specs.Entries.{freshNumber, freshIn}
+use Rattle.machine.specs.Form.{walk_bytes}
+use Rattle.firmware.specs.Entries.{fresh_number, fresh_in}
 use Rattle.firmware.proofs.sst_fresh.Statement.{statement}
 use Rattle.firmware.proofs.sst_fresh.Tie as tie
 
@@ -18,13 +18,13 @@ same_length : tie.Need-same-length
 same_length c = search rules
 
 returns : tie.Need-returns
-unfolding freshNumber freshIn
+unfolding fresh_number fresh_in
 returns c =
     let e = eq-eqb (length c.before.before.before.before.before.before.before.args.walk.now) 158 c.before.before.before.before.before.if1.true in
-    (rw e, rw e (c.before.before.put-walk.ensures ∙ ap walkBytes c.before.before.before.fresh-walk.ensures.0))
+    (rw e, rw e (c.before.before.put-walk.ensures ∙ ap walk_bytes c.before.before.before.fresh-walk.ensures.0))
 
 returns-2 : tie.Need-returns-2
-unfolding freshNumber freshIn
+unfolding fresh_number fresh_in
 returns-2 c =
     let e = ne_eqb (length c.before.before.args.walk.now) 158 c.if1.false in
     (rw e, rw e)

@@ -1,7 +1,7 @@
 -- `firmware::sst_location` meets its contract: of the walk that the bytes are, or of none.
 use borrow.Author.Rules.{rules}
 use Rattle.walker.specs.View as view
-use Rattle.firmware.specs.Entries.{locationOr0}
+use Rattle.firmware.specs.Entries.{location_or0}
 use Rattle.firmware.proofs.sst_location.Statement.{statement}
 use Rattle.firmware.proofs.sst_location.Tie as tie
 
@@ -12,11 +12,11 @@ cast-result : tie.Need-overflow-cast-result
 cast-result c = search rules
 
 returns : tie.Need-returns
-unfolding locationOr0 view.walk_of view.walkIn
+unfolding location_or0 view.walk_of view.walk_in
 returns c = rw (c.before.before.before.before.read_Walk.ensures.some_walk c.before.before.before.if1.true)
 
 returns-2 : tie.Need-returns-2
-unfolding locationOr0
+unfolding location_or0
 returns-2 c = rw (c.before.read_Walk.ensures.no_walk c.if1.false)
 
 pub sst-location-spec : {M : Type 1} → statement M

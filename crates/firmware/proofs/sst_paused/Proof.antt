@@ -5,7 +5,7 @@ use mathlib.Core.Path.{◌≡◌}
 use lib.Dec.{eqb}
 use lib.ListN.{length}
 use borrow.Author.Rules.{rules}
-use Rattle.machine.proofs.Form.{walkOf-length}
+use Rattle.machine.proofs.Form.{walk_of-length}
 use Rattle.machine.specs.Form as form
 use Rattle.walker.specs.Shape as shape
 use Rattle.walker.specs.View as view
@@ -16,13 +16,13 @@ use Rattle.firmware.proofs.sst_paused.Statement.{statement}
 use Rattle.firmware.proofs.sst_paused.Tie as tie
 
 -- the walk that the bytes are
-is-walk : (c : tie.After-paused) → form.walk_of c.before.before.before.before.before.before.before.before.before.before.args.walk.now ≡ some (view.walk_of c.before.before.before.before.read_Walk.result.walk)
-is-walk c = c.before.before.before.before.read_Walk.ensures.some_walk c.before.before.before.if1.true
+is_walk : (c : tie.After-paused) → form.walk_of c.before.before.before.before.before.before.before.before.before.before.args.walk.now ≡ some (view.walk_of c.before.before.before.before.read_Walk.result.walk)
+is_walk c = c.before.before.before.before.read_Walk.ensures.some_walk c.before.before.before.if1.true
 
 -- the call is the one over bytes
 called : (c : tie.After-paused) → let a = c.before.before.before.before.before.before.before.before.before.before.args in let w = c.before.before.before.before.read_Walk.result.walk in
-    Done (shape.pausedOf a.table.now a.tokens.now (not (eqb a.given 0)) a.answer a.budget w a.events.now w.phase)
-    (form.callBytes a.table.now a.tokens.now (handing a.given a.answer) a.budget a.walk.now a.events.now)
+    Done (shape.paused_of a.table.now a.tokens.now (not (eqb a.given 0)) a.answer a.budget w a.events.now w.phase)
+    (form.call_bytes a.table.now a.tokens.now (handing a.given a.answer) a.budget a.walk.now a.events.now)
 called c =
     let entry = c.before.before.before.before.before.before.before.before.before.before in
     let a = entry.args in
@@ -31,10 +31,10 @@ called c =
     let tokens : Bytes a.tokens.now = λ i. (c.before.before.before.before.before.before.before.before.shared-slice-known2.given i).fits in
     let walk : Bytes a.walk.now = λ i. (c.before.before.before.before.before.before.before.slice-known.given i).fits in
     paused-done a.table.now a.tokens.now a.budget a.walk.now a.events.now r.result.walk table tokens walk
-    entry.well-formed.1.0.0 r.ensures.returns (is-walk c) a.given a.answer entry.ranges.answer.fits
+    entry.well-formed.1.0.0 r.ensures.returns (is_walk c) a.given a.answer entry.ranges.answer.fits
 
 sized : (c : tie.After-paused) → length c.before.before.before.before.before.before.before.before.before.before.args.walk.now ≡ 158
-sized c = walkOf-length _ _ (λ i. (c.before.before.before.before.before.before.before.slice-known.given i).fits) (is-walk c)
+sized c = walk_of-length _ _ (λ i. (c.before.before.before.before.before.before.before.slice-known.given i).fits) (is_walk c)
 
 read-walk-requires : tie.Need-read-walk-requires
 read-walk-requires c κs = search rules

@@ -5,7 +5,7 @@ use borrow.Author.Rules.{rules}
 use borrow.Author.Tests.{not-true, not-false}
 use Rattle.buffers.specs.Words.{put64}
 use Rattle.screen.proofs.Turns.{book-in}
-use Rattle.screen.specs.Screen.{refillNumber, refillBytes}
+use Rattle.screen.specs.Screen.{refill_number, refill_bytes}
 use Rattle.firmware.proofs.Screens.{left-put}
 use Rattle.firmware.proofs.sst_refill.Statement.{statement}
 use Rattle.firmware.proofs.sst_refill.Tie as tie
@@ -17,7 +17,7 @@ same_length : tie.Need-same-length
 same_length c = search rules
 
 returns : tie.Need-returns
-unfolding refillNumber refillBytes
+unfolding refill_number refill_bytes
 returns c = let e = sym c.before.is-book.ensures ∙ not-true _ c.if1.true in (rw e, rw e)
 
 left-word-requires : tie.Need-left-word-requires
@@ -32,7 +32,7 @@ same-length-2 : tie.Need-same-length-2
 same-length-2 c = search rules
 
 returns-2 : tie.Need-returns-2
-unfolding refillNumber refillBytes
+unfolding refill_number refill_bytes
 returns-2 c =
     let a = c.before.before.before.before.before.before.before.before.before.args in
     let e = sym c.before.before.before.before.before.before.is-book.ensures ∙ not-false _ c.before.before.before.before.before.if1.false in

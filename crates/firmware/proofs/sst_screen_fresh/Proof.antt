@@ -4,13 +4,13 @@ use native.Mathlib.Omega.{arith}
 use lib.Seq.{length-take-le}
 use borrow.Author.Rules.{rules}
 use Rattle.screen.proofs.Turns.{screen-is, screen-not}
-use Rattle.screen.specs.Screen.{screenNumber, freshBytes}
+use Rattle.screen.specs.Screen.{screen_number, fresh_bytes}
 use Rattle.firmware.proofs.Screens.{screen-put}
 use Rattle.firmware.proofs.sst_screen_fresh.Statement.{statement}
 use Rattle.firmware.proofs.sst_screen_fresh.Tie as tie
 
 returns : tie.Need-returns
-unfolding screenNumber freshBytes
+unfolding screen_number fresh_bytes
 returns c = let e = screen-not c.before.before.args.screen.now c.if1.true in (rw e, rw e)
 
 slice-relend-prefix-fresh-book : tie.Need-slice-relend-prefix-fresh-book
@@ -38,7 +38,7 @@ same_length : tie.Need-same-length
 same_length c = search rules
 
 returns-2 : tie.Need-returns-2
-unfolding screenNumber
+unfolding screen_number
 returns-2 c =
     let e = screen-is c.before.before.before.before.before.before.before.before.before.before.args.screen.now c.before.before.before.before.before.before.before.before.if1.false in
     (rw e, screen-put c.before.before.before.before.before.before.before.before.before.before.args.allowance-0 c.before.before.before.before.before.before.before.before.before.before.args.allowance-1 c.before.before.before.before.before.before.before.before.before.before.args.screen.now _ _ c.before.before.before.before.before.before.before.before.if1.false c.before.before.before.before.before.before.fresh-book.ensures c.before.before.fresh-book2.ensures)

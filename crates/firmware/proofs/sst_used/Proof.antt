@@ -1,7 +1,7 @@
 -- `firmware::sst_used` meets its contract: of the walk that the bytes are, or of none.
 use borrow.Author.Rules.{rules}
 use Rattle.walker.specs.View as view
-use Rattle.firmware.specs.Entries.{usedOr0}
+use Rattle.firmware.specs.Entries.{used_or0}
 use Rattle.firmware.proofs.sst_used.Statement.{statement}
 use Rattle.firmware.proofs.sst_used.Tie as tie
 
@@ -9,11 +9,11 @@ read-walk-requires : tie.Need-read-walk-requires
 read-walk-requires c κs = search rules
 
 returns : tie.Need-returns
-unfolding usedOr0 view.walk_of view.walkIn
+unfolding used_or0 view.walk_of view.walk_in
 returns c = rw (c.before.before.before.read_Walk.ensures.some_walk c.before.before.if1.true)
 
 returns-2 : tie.Need-returns-2
-unfolding usedOr0
+unfolding used_or0
 returns-2 c = rw (c.before.read_Walk.ensures.no_walk c.if1.false)
 
 pub sst-used-spec : {M : Type 1} → statement M

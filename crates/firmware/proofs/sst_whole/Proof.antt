@@ -3,7 +3,7 @@ use mathlib.Core.Option.{some}
 use mathlib.Core.Path.{◌≡◌}
 use lib.ListN.{length}
 use borrow.Author.Rules.{rules}
-use Rattle.machine.proofs.Form.{walkOf-length}
+use Rattle.machine.proofs.Form.{walk_of-length}
 use Rattle.machine.specs.Bytes.{words_of}
 use Rattle.machine.specs.Call as call
 use Rattle.machine.specs.Form as form
@@ -15,13 +15,13 @@ use Rattle.firmware.proofs.sst_whole.Statement.{statement}
 use Rattle.firmware.proofs.sst_whole.Tie as tie
 
 -- the walk that the bytes are
-is-walk : (c : tie.After-whole) → form.walk_of c.before.before.before.before.before.before.before.before.before.before.before.args.walk.now ≡ some (view.walk_of c.before.before.before.before.read_Walk.result.walk)
-is-walk c = c.before.before.before.before.read_Walk.ensures.some_walk c.before.before.before.if1.true
+is_walk : (c : tie.After-whole) → form.walk_of c.before.before.before.before.before.before.before.before.before.before.before.args.walk.now ≡ some (view.walk_of c.before.before.before.before.read_Walk.result.walk)
+is_walk c = c.before.before.before.before.read_Walk.ensures.some_walk c.before.before.before.if1.true
 
 -- the call is the one over bytes
 called : (c : tie.After-whole) → let a = c.before.before.before.before.before.before.before.before.before.before.before.args in let w = c.before.before.before.before.read_Walk.result.walk in
     Done (shape.whole_of a.table.now a.tokens.now a.answers.now a.budget w a.events.now w.phase)
-    (form.callBytes a.table.now a.tokens.now (call.whole (words_of a.answers.now)) a.budget a.walk.now a.events.now)
+    (form.call_bytes a.table.now a.tokens.now (call.whole (words_of a.answers.now)) a.budget a.walk.now a.events.now)
 called c =
     let entry = c.before.before.before.before.before.before.before.before.before.before.before in
     let a = entry.args in
@@ -30,10 +30,10 @@ called c =
     let tokens : Bytes a.tokens.now = λ i. (c.before.before.before.before.before.before.before.before.before.shared-slice-known2.given i).fits in
     let walk : Bytes a.walk.now = λ i. (c.before.before.before.before.before.before.before.slice-known.given i).fits in
     whole-done a.table.now a.tokens.now a.budget a.walk.now a.events.now r.result.walk table tokens walk
-    entry.well-formed.1.0.0 r.ensures.returns (is-walk c) a.answers.now (λ i. (c.before.before.before.before.before.before.before.before.shared-slice-known3.given i).fits)
+    entry.well-formed.1.0.0 r.ensures.returns (is_walk c) a.answers.now (λ i. (c.before.before.before.before.before.before.before.before.shared-slice-known3.given i).fits)
 
 sized : (c : tie.After-whole) → length c.before.before.before.before.before.before.before.before.before.before.before.args.walk.now ≡ 158
-sized c = walkOf-length _ _ (λ i. (c.before.before.before.before.before.before.before.slice-known.given i).fits) (is-walk c)
+sized c = walk_of-length _ _ (λ i. (c.before.before.before.before.before.before.before.slice-known.given i).fits) (is_walk c)
 
 read-walk-requires : tie.Need-read-walk-requires
 read-walk-requires c κs = search rules

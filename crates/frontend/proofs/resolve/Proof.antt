@@ -1,6 +1,6 @@
 use borrow.Author.Rules.{rules}
 use mathlib.Core.Path.{◌∙◌}
-use Rattle.frontend.proofs.Passes.{declared-wrong, declared-good}
+use Rattle.frontend.proofs.Passes.{declared_wrong, declared_good}
 use native.Mathlib.Omega.{arith}
 use Rattle.frontend.proofs.resolve.Statement.{statement}
 use Rattle.frontend.proofs.resolve.Tie as tie
@@ -27,7 +27,7 @@ same_length c = search rules
 
 -- src/lib.rt:129:9
 returns : tie.Need-returns
-returns c = λ p ws e. declared-wrong _ p ws e _ c.before.before.before.before.before.before.before.before.before.before.before.collect.ensures (omega (arith, c.before.before.before.before.before.before.before.before.before.before.before.before.before.before.before.before.before.before.requires)) c.before.before.before.before.before.before.before.index.ensures.1.1 c.before.before.before.check-declarations.ensures c.before.if1.true c.mistake.ensures.0 c.mistake.ensures.1 c.mistake.ensures.2
+returns c = λ p ws e. declared_wrong _ p ws e _ c.before.before.before.before.before.before.before.before.before.before.before.collect.ensures (omega (arith, c.before.before.before.before.before.before.before.before.before.before.before.before.before.before.before.before.before.before.requires)) c.before.before.before.before.before.before.before.index.ensures.1.1 c.before.before.before.check-declarations.ensures c.before.if1.true c.mistake.ensures.0 c.mistake.ensures.1 c.mistake.ensures.2
 
 -- src/lib.rt:131:5
 resolve-rules-requires : tie.Need-resolve-rules-requires
@@ -51,7 +51,7 @@ same-length-5 c = search rules
 
 -- src/lib.rt:115:1
 returns-2 : tie.Need-returns-2
-returns-2 c = λ p ws e. declared-good _ p ws e _ c.before.before.before.before.before.before.before.before.before.before.before.before.before.before.before.before.before.before.before.before.before.before.before.collect.ensures (omega (arith, c.before.before.before.before.before.before.before.before.before.before.before.before.before.before.before.before.before.before.before.before.before.before.before.before.before.before.before.before.before.before.requires)) c.before.before.before.before.before.before.before.before.before.before.before.before.before.before.before.before.before.before.before.index.ensures.1.1 c.before.before.before.before.before.before.before.before.before.before.before.before.before.before.before.check-declarations.ensures c.before.before.before.before.before.before.before.before.before.before.before.before.before.if1.false c.before.before.before.before.before.before.before.before.resolve-rules.ensures
+returns-2 c = λ p ws e. declared_good _ p ws e _ c.before.before.before.before.before.before.before.before.before.before.before.before.before.before.before.before.before.before.before.before.before.before.before.collect.ensures (omega (arith, c.before.before.before.before.before.before.before.before.before.before.before.before.before.before.before.before.before.before.before.before.before.before.before.before.before.before.before.before.before.before.requires)) c.before.before.before.before.before.before.before.before.before.before.before.before.before.before.before.before.before.before.before.index.ensures.1.1 c.before.before.before.before.before.before.before.before.before.before.before.before.before.before.before.check-declarations.ensures c.before.before.before.before.before.before.before.before.before.before.before.before.before.if1.false c.before.before.before.before.before.before.before.before.resolve-rules.ensures
 
 pub resolve-spec : {M : Type 1} → statement M
 resolve-spec =

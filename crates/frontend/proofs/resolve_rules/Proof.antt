@@ -1,6 +1,6 @@
 use borrow.Author.Rules.{rules}
 use Rattle.symbols.proofs.Indexing.{kept-behind}
-use Rattle.frontend.proofs.Rests.{rules-wrong, limit-passed, rules-made}
+use Rattle.frontend.proofs.Rests.{rules-wrong, limit-passed, rules_made}
 use native.Mathlib.Omega.{arith}
 use Rattle.frontend.proofs.resolve_rules.Statement.{statement}
 use Rattle.frontend.proofs.resolve_rules.Tie as tie
@@ -87,7 +87,7 @@ same-length-12 c = search rules
 
 -- src/lib.rt:80:1
 returns-3 : tie.Need-returns-3
-returns-3 c = record { size = c.before.before.before.before.before.before.before.before.before.before.before.before.before.before.before.before.before.before.before.before.before.before.before.before.before.before.before.before.before.pairs.ensures.index.size; rules = λ p names known. rules-made known c.before.before.before.before.before.before.before.before.before.before.before.before.before.before.before.before.before.before.before.before.before.before.before.before.before.before.before.before.before.pairs.ensures c.before.before.before.before.before.before.before.before.before.before.before.before.before.before.before.before.before.before.before.before.before.before.build.ensures c.before.before.before.before.before.before.make.ensures c.before.before.before.before.before.before.before.before.before.before.before.filled.ensures.1 (omega (arith, c.before.before.before.before.before.before.before.before.before.before.before.before.before.before.before.before.before.before.before.before.before.before.before.before.before.before.before.before.before.before.before.before.before.before.before.before.requires.5)) c.before.before.before.before.before.before.before.before.before.before.before.before.before.before.if1.false c.before.before.before.before.before.before.before.before.before.before.before.before.if2.false c.before.before.before.before.before.before.before.before.before.before.before.before.before.before.before.before.before.before.before.before.before.before.before.before.before.before.before.before.before.before.before.before.before.before.before.before.requires.4 c.before.before.before.before.before.before.before.before.before.before.before.before.before.before.before.before.before.before.before.before.before.before.before.before.before.before.before.before.before.before.before.before.before.before.before.before.requires.2 }
+returns-3 c = record { size = c.before.before.before.before.before.before.before.before.before.before.before.before.before.before.before.before.before.before.before.before.before.before.before.before.before.before.before.before.before.pairs.ensures.index.size; rules = λ p names known. rules_made known c.before.before.before.before.before.before.before.before.before.before.before.before.before.before.before.before.before.before.before.before.before.before.before.before.before.before.before.before.before.pairs.ensures c.before.before.before.before.before.before.before.before.before.before.before.before.before.before.before.before.before.before.before.before.before.before.build.ensures c.before.before.before.before.before.before.make.ensures c.before.before.before.before.before.before.before.before.before.before.before.filled.ensures.1 (omega (arith, c.before.before.before.before.before.before.before.before.before.before.before.before.before.before.before.before.before.before.before.before.before.before.before.before.before.before.before.before.before.before.before.before.before.before.before.before.requires.5)) c.before.before.before.before.before.before.before.before.before.before.before.before.before.before.if1.false c.before.before.before.before.before.before.before.before.before.before.before.before.if2.false c.before.before.before.before.before.before.before.before.before.before.before.before.before.before.before.before.before.before.before.before.before.before.before.before.before.before.before.before.before.before.before.before.before.before.before.before.requires.4 c.before.before.before.before.before.before.before.before.before.before.before.before.before.before.before.before.before.before.before.before.before.before.before.before.before.before.before.before.before.before.before.before.before.before.before.before.requires.2 }
 
 pub resolve-rules-spec : {M : Type 1} → statement M
 resolve-rules-spec =

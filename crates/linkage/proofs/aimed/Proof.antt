@@ -2,9 +2,9 @@
 use mathlib.Core.Path.{◌∙◌}
 use native.Mathlib.Omega.{arith}
 use Rattle.linker.proofs.Placing.{place-bound}
-use Rattle.linker.specs.Place.{textAt}
+use Rattle.linker.specs.Place.{text_at}
 use Rattle.machine.specs.Bytes.{words_of}
-use Rattle.linkage.proofs.Closing.{by-pair, by-none, by_name}
+use Rattle.linkage.proofs.Closing.{by_pair, by-none, by_name}
 use borrow.Author.Rules.{rules}
 use Rattle.linkage.proofs.aimed.Statement.{statement}
 use Rattle.linkage.proofs.aimed.Tie as tie
@@ -23,7 +23,7 @@ low-of-requires c κs = search rules
 
 -- src/lib.rt:84:9
 returns : tie.Need-returns
-returns c = λ low h. by-pair low _ _ _ _ _ _ c.before.before.if1.true c.before.wide.ensures.0 (c.low_of.ensures low h)
+returns c = λ low h. by_pair low _ _ _ _ _ _ c.before.before.if1.true c.before.wide.ensures.0 (c.low_of.ensures low h)
 
 -- src/lib.rt:87:9
 returns-2 : tie.Need-returns-2
@@ -35,7 +35,7 @@ place-of-requires c κs = search rules
 
 -- src/lib.rt:89:5
 cast-result : tie.Need-overflow-cast-result
-cast-result c = let a = c.before.before.before.before.before.before.before.before.args in omega (arith, c.place-of.ensures, place-bound (words_of a.objects.now) (textAt (words_of a.objects.now) a.calls.at) a.names.now, c.before.before.before.before.before.before.before.before.requires.4)
+cast-result c = let a = c.before.before.before.before.before.before.before.before.args in omega (arith, c.place-of.ensures, place-bound (words_of a.objects.now) (text_at (words_of a.objects.now) a.calls.at) a.names.now, c.before.before.before.before.before.before.before.before.requires.4)
 
 -- src/lib.rt:70:1
 returns-3 : tie.Need-returns-3

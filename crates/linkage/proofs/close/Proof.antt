@@ -6,9 +6,9 @@ use native.Mathlib.Omega.{arith}
 use borrow.Author.Rules.{rules}
 use lib.ListN.{length, take, drop}
 use Rattle.linker.proofs.Passing.{starts, appends-next, appends-nothing}
-use Rattle.linker.specs.Close.{closeCells}
-use Rattle.linker.specs.Place.{textsEnd}
-use Rattle.machine.proofs.Bytes.{length-wordsOf}
+use Rattle.linker.specs.Close.{close_cells}
+use Rattle.linker.specs.Place.{texts_end}
+use Rattle.machine.proofs.Bytes.{length-words_of}
 use Rattle.machine.specs.Bytes.{count, words_of}
 use Rattle.resolver.proofs.Appending.{appends-length, appends-bound, appends-then}
 use Rattle.resolver.specs.Resolved.{Appends}
@@ -19,10 +19,10 @@ use Rattle.linkage.proofs.close.Tie as tie
 
 abbrev invariant-loop : tie.invariant-loop
 invariant-loop objects names sites lowest body cells₀ from end p₀ n₀ spot₀ cells p n spot =
-    (end ≤ length (words_of objects)) × (textsEnd (words_of objects) spot.calls.at spot.calls.left ≡ textsEnd (words_of objects) body.calls.at body.calls.left)
+    (end ≤ length (words_of objects)) × (texts_end (words_of objects) spot.calls.at spot.calls.left ≡ texts_end (words_of objects) body.calls.at body.calls.left)
     × (n ≤ suc (length cells)) × (length cells ≡ length cells₀)
     × ((low : ℕ → ℕ) → Lows (words_of objects) sites lowest body.uses low → (cs : List ℕ) (c : ℕ) → Appends cells n (rest low (words_of objects) names end p spot) cs c
-    → Appends cells₀ from (closeCells low (places_of (words_of objects) names body.calls) (take (end - p₀) (drop p₀ (words_of objects)))) cs c)
+    → Appends cells₀ from (close_cells low (places_of (words_of objects) names body.calls) (take (end - p₀) (drop p₀ (words_of objects)))) cs c)
 
 abbrev decreases-loop : tie.decreases-loop
 decreases-loop objects names sites lowest body cells₀ from end p₀ n₀ spot₀ cells p n spot = end - p
@@ -30,7 +30,7 @@ decreases-loop objects names sites lowest body cells₀ from end p₀ n₀ spot�
 -- src/lib.rt:165:15
 add-end : tie.Need-overflow-add-end invariant-loop decreases-loop
 unfolding count
-add-end c = omega (arith, length-wordsOf c.before.before.before.before.before.before.args.objects.now, c.before.before.before.before.before.before.requires.0)
+add-end c = omega (arith, length-words_of c.before.before.before.before.before.before.args.objects.now, c.before.before.before.before.before.before.requires.0)
 
 -- src/lib.rt:167:29
 add-least : tie.Need-overflow-add-least invariant-loop decreases-loop
@@ -42,7 +42,7 @@ least-requires c κs = search rules
 
 -- src/lib.rt:175:5
 loop-holds : tie.Need-loop-init invariant-loop decreases-loop
-unfolding closeCells
+unfolding close_cells
 loop-holds c =
     let e = c.before.least.ensures in
     (search rules, refl, omega arith, refl, λ low h cs k g. appends-then (starts _ _ _ e) g)
@@ -64,7 +64,7 @@ put-requires c κs = search rules
 -- src/lib.rt:179:13
 add-p : tie.Need-overflow-add-p invariant-loop decreases-loop
 unfolding count
-add-p c = omega (arith, c.before.before.before.before.before.before.before.loop.invariant.0, c.before.before.before.before.before.before.loop-test.true, length-wordsOf c.before.before.before.before.before.before.before.before.before.before.before.before.before.before.before.before.args.objects.now)
+add-p c = omega (arith, c.before.before.before.before.before.before.before.loop.invariant.0, c.before.before.before.before.before.before.loop-test.true, length-words_of c.before.before.before.before.before.before.before.before.before.before.before.before.before.before.before.before.args.objects.now)
 
 -- src/lib.rt:175:5
 loop-less : tie.Need-loop-smaller invariant-loop decreases-loop

@@ -6,7 +6,7 @@ use native.Mathlib.Omega.{arith}
 use borrow.Author.Rules.{rules}
 use lib.ListN.{length}
 use Rattle.machine.specs.Bytes.{words_of}
-use Rattle.parts.specs.Link.{rulesOf}
+use Rattle.parts.specs.Link.{rules_of}
 use Rattle.parts.specs.Objects.{Object}
 use Rattle.linkage.proofs.Groups.{Ground, GoingAll, all_first, all-on, all_end}
 use Rattle.linkage.proofs.close_all.Statement.{statement}
@@ -34,7 +34,7 @@ group-at-requires c κs = omega (arith, c.loop-test.true, c.before.before.total.
 
 -- src/lib.rt:313:9
 close-object-requires : tie.Need-close-object-requires invariant-loop decreases-loop
-close-object-requires c κs = let g = c.before.before.before.before.before.before.before.before.before.before.requires in let y = c.before.group_at.ensures in (y.inside, omega (arith, y.collects, g.0), omega (arith, y.collects, g.1), y.pairs-inside, g.2)
+close-object-requires c κs = let g = c.before.before.before.before.before.before.before.before.before.before.requires in let y = c.before.group_at.ensures in (y.inside, omega (arith, y.collects, g.0), omega (arith, y.collects, g.1), y.pairs_inside, g.2)
 
 -- src/lib.rt:314:9
 next-object-requires : tie.Need-next-object-requires invariant-loop decreases-loop
@@ -68,7 +68,7 @@ returns c =
       (omega (arith, o.invariant.1, o.invariant.2), o.invariant.2),
       λ common k n h own after us held texts calls.
           let gr : Ground (words_of a.objects.now) a.names.now a.sites.now a.lowest.now a.collected =
-          record { common = common; heads = k.listed; known = n; own = own; after = after; pairs = us; rules = rulesOf h.objects; held = held; texts = texts } in
+          record { common = common; heads = k.listed; known = n; own = own; after = after; pairs = us; rules = rules_of h.objects; held = held; texts = texts } in
           all_end gr h.objects a.cells.now (o.invariant.3 gr h.objects (all_first gr h.objects a.cells.now h.lengths h.are h.as_many h.sound calls)) (omega (arith, c.loop-test.false, c.before.before.total.ensures.0)) o.invariant.1,
     )
 

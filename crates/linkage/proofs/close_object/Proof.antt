@@ -5,9 +5,9 @@ use Prim.Native.Nat.{ℕ, suc, ◌+◌, ◌-◌, ◌<◌, ◌≤◌}
 use native.Mathlib.Omega.{arith}
 use borrow.Author.Rules.{rules}
 use lib.ListN.{length, drop}
-use Rattle.machine.proofs.Bytes.{length-wordsOf}
+use Rattle.machine.proofs.Bytes.{length-words_of}
 use Rattle.machine.specs.Bytes.{count, words_of}
-use Rattle.objects.specs.View.{RuleView, all, ruleWords}
+use Rattle.objects.specs.View.{RuleView, all, rule_words}
 use Rattle.linkage.specs.Closing.{Lows}
 use Rattle.linkage.specs.declared.Uses.{Uses}
 use Rattle.linkage.proofs.Groups.{Going, going-first, going_on, going_end, lows-as}
@@ -17,7 +17,7 @@ use Rattle.linkage.proofs.close_object.Tie as tie
 abbrev invariant-loop : tie.invariant-loop
 invariant-loop objects names sites lowest group cells₀ from left at₀ n₀ i₀ cells at n i =
     (at ≤ length (words_of objects)) × (n ≤ suc (length cells)) × (length cells ≡ length cells₀)
-    × ((low : ℕ → ℕ) → Lows (words_of objects) sites lowest group.uses low → (vs : List RuleView) (k : List ℕ) → drop group.at (words_of objects) ≡ all ruleWords vs ++ k → length vs ≡ left
+    × ((low : ℕ → ℕ) → Lows (words_of objects) sites lowest group.uses low → (vs : List RuleView) (k : List ℕ) → drop group.at (words_of objects) ≡ all rule_words vs ++ k → length vs ≡ left
     → Going (words_of objects) names low vs k cells₀ from left cells at n i)
     × (length (words_of objects) < 9223372036854775808) × (left < 18446744073709551616)
 
@@ -35,7 +35,7 @@ least-requires c κs = search rules
 -- src/lib.rt:265:5
 loop-holds : tie.Need-loop-init invariant-loop decreases-loop
 unfolding count
-loop-holds c = let a = c.before.before.before.before.before.before.args in (c.before.before.before.before.before.before.requires.0, omega (arith, c.least.ensures), refl, λ low h vs k e l. going-first (words_of a.objects.now) a.names.now low vs k a.cells.now a.from a.group.left e l c.least.ensures refl, omega (arith, length-wordsOf a.objects.now), omega arith)
+loop-holds c = let a = c.before.before.before.before.before.before.args in (c.before.before.before.before.before.before.requires.0, omega (arith, c.least.ensures), refl, λ low h vs k e l. going-first (words_of a.objects.now) a.names.now low vs k a.cells.now a.from a.group.left e l c.least.ensures refl, omega (arith, length-words_of a.objects.now), omega arith)
 
 -- src/lib.rt:266:13
 body-at-requires : tie.Need-body-at-requires invariant-loop decreases-loop
@@ -44,7 +44,7 @@ body-at-requires c κs = c.before.loop.invariant.0
 -- src/lib.rt:267:9
 close-requires : tie.Need-close-requires invariant-loop decreases-loop
 unfolding count
-close-requires c κs = let a = c.before.before.before.before.before.before.before.before.before.before.args in let g = c.before.before.before.before.before.before.before.before.before.before.requires in let y = c.before.body_at.ensures in let u = y.pairs in (y.inside, omega (arith, ap (λ (x : Uses). x.collected) u, g.1), omega (arith, ap (λ (x : Uses). x.collected) u, g.2), omega (arith, ap (λ (x : Uses). x.at) u, g.3), omega (arith, y.names, length-wordsOf a.objects.now), g.4)
+close-requires c κs = let a = c.before.before.before.before.before.before.before.before.before.before.args in let g = c.before.before.before.before.before.before.before.before.before.before.requires in let y = c.before.body_at.ensures in let u = y.pairs in (y.inside, omega (arith, ap (λ (x : Uses). x.collected) u, g.1), omega (arith, ap (λ (x : Uses). x.collected) u, g.2), omega (arith, ap (λ (x : Uses). x.at) u, g.3), omega (arith, y.names, length-words_of a.objects.now), g.4)
 
 -- src/lib.rt:268:14
 add_at : tie.Need-overflow-add-at invariant-loop decreases-loop

@@ -65,7 +65,7 @@ returns c =
     let a = c.before.before.before.before.before.before.before.before.args in
     record {
       inside = omega (arith, c.before.least2.ensures, c.before.before.before.before.before.before.total.ensures.0);
-      pairs-inside = omega (arith, c.before.before.before.before.least.ensures, c.before.before.before.before.before.before.total.ensures.0);
+      pairs_inside = omega (arith, c.before.before.before.before.least.ensures, c.before.before.before.before.before.before.total.ensures.0);
       collects = refl;
       is = λ common v k e. is-group (words_of a.objects.now) a.at common v k e c.before.before.before.before.before.before.total.ensures.0 c.before.before.before.before.before.number.ensures.0 c.before.before.before.before.least.ensures c.before.before.before.number2.ensures.0 c.before.before.past_pairs.ensures c.before.least2.ensures c.number3.ensures.0;
     }

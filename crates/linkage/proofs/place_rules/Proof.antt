@@ -5,7 +5,7 @@ use Prim.Native.Nat.{ℕ, ◌-◌, ◌≤◌}
 use native.Mathlib.Omega.{arith}
 use borrow.Author.Rules.{rules}
 use lib.ListN.{length}
-use Rattle.linkchecks.specs.Row.{rowFrom}
+use Rattle.linkchecks.specs.Row.{row_from}
 use Rattle.linkchecks.specs.Walk.{Viewed}
 use Rattle.machine.specs.Bytes.{words_of}
 use Rattle.objects.specs.View.{View}
@@ -16,7 +16,7 @@ use Rattle.linkage.proofs.place_rules.Tie as tie
 abbrev invariant-loop : tie.invariant-loop
 invariant-loop objects common starts₀ sorts₀ end cursor₀ k₀ start₀ starts sorts cursor k start =
     (cursor.at ≤ length (words_of objects)) × (cursor.text ≤ cursor.at) × (k ≤ cursor.at) × (start ≤ 65535) × (length starts ≡ length starts₀) × (length sorts ≡ length sorts₀)
-    × ((vs : List View) → Viewed common (words_of objects) vs → Placing common (words_of objects) vs (rowFrom 1 vs) starts sorts cursor k start)
+    × ((vs : List View) → Viewed common (words_of objects) vs → Placing common (words_of objects) vs (row_from 1 vs) starts sorts cursor k start)
 
 abbrev decreases-loop : tie.decreases-loop
 decreases-loop objects common starts₀ sorts₀ end cursor₀ k₀ start₀ starts sorts cursor k start = length (words_of objects) - cursor.at
@@ -31,7 +31,7 @@ first-rule-requires c κs = search rules
 
 -- src/lib.rt:384:5
 loop-holds : tie.Need-loop-init invariant-loop decreases-loop
-loop-holds c = let a = c.before.before.before.before.before.before.args in let f = c.first-rule.ensures in (f.0, f.1, omega arith, omega arith, refl, refl, λ vs v. placing-first a.common.now (words_of a.objects.now) vs (rowFrom 1 vs) (f.2 vs v))
+loop-holds c = let a = c.before.before.before.before.before.before.args in let f = c.first-rule.ensures in (f.0, f.1, omega arith, omega arith, refl, refl, λ vs v. placing-first a.common.now (words_of a.objects.now) vs (row_from 1 vs) (f.2 vs v))
 
 -- src/lib.rt:385:13
 rule-sort-requires : tie.Need-rule-sort-requires invariant-loop decreases-loop
@@ -87,7 +87,7 @@ loop-again c =
       omega (arith, c.before.least.ensures),
       y.same ∙ o.invariant.4,
       z.same ∙ o.invariant.5,
-      λ vs v. placing-next a.common.now (words_of a.objects.now) vs (rowFrom 1 vs) (o.invariant.6 vs v) (omega (arith, c.before.before.before.before.before.before.before.before.before.before.before.before.if1.true, c.before.before.before.before.before.before.before.before.before.before.before.before.before.before.before.before.total.ensures.0)) o.invariant.3 c.before.before.rule-size.ensures.1 c.before.before.before.before.before.before.before.before.before.before.before.rule-sort.ensures y z c.before.least.ensures (x.3 vs),
+      λ vs v. placing-next a.common.now (words_of a.objects.now) vs (row_from 1 vs) (o.invariant.6 vs v) (omega (arith, c.before.before.before.before.before.before.before.before.before.before.before.before.if1.true, c.before.before.before.before.before.before.before.before.before.before.before.before.before.before.before.before.total.ensures.0)) o.invariant.3 c.before.before.rule-size.ensures.1 c.before.before.before.before.before.before.before.before.before.before.before.rule-sort.ensures y z c.before.least.ensures (x.3 vs),
     )
 
 -- src/lib.rt:376:1
@@ -103,7 +103,7 @@ returns : tie.Need-returns invariant-loop decreases-loop
 returns c =
     let a = c.before.before.before.before.before.before.before.before.before.args in
     let o = c.before.before.loop in
-    ((o.invariant.4, o.invariant.5), λ vs v. placing-end a.common.now (words_of a.objects.now) vs (rowFrom 1 vs) (o.invariant.6 vs v) (omega (arith, c.if1.false, c.before.before.before.before.total.ensures.0)))
+    ((o.invariant.4, o.invariant.5), λ vs v. placing-end a.common.now (words_of a.objects.now) vs (row_from 1 vs) (o.invariant.6 vs v) (omega (arith, c.if1.false, c.before.before.before.before.total.ensures.0)))
 
 pub place-rules-spec : {M : Type 1} → statement M
 place-rules-spec =

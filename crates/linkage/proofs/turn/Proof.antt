@@ -34,7 +34,7 @@ sub-t14 c = search rules
 
 -- src/lib.rt:134:9
 returns-2 : tie.Need-returns-2
-returns-2 c = (c.before.next-names.ensures.end, λ low h. turned-call low _ _ _ _ _ c.before.before.before.before.before.if1.false c.before.before.before.before.is-call.ensures c.before.before.before.if2.true (c.before.before.aimed.ensures low h) c.before.next-names.ensures)
+returns-2 c = (c.before.next-names.ensures.end, λ low h. turned-call low _ _ _ _ _ c.before.before.before.before.before.if1.false c.before.before.before.before.is_called.ensures c.before.before.before.if2.true (c.before.before.aimed.ensures low h) c.before.next-names.ensures)
 
 -- src/lib.rt:143:15
 sub-t15 : tie.Need-overflow-sub-t15
@@ -42,7 +42,7 @@ sub-t15 c = search rules
 
 -- src/lib.rt:107:1
 returns-3 : tie.Need-returns-3
-returns-3 c = (refl, λ low h. turned-copy low _ _ _ _ c.before.before.before.if1.false c.before.before.is-call.ensures c.before.if2.false)
+returns-3 c = (refl, λ low h. turned-copy low _ _ _ _ c.before.before.before.if1.false c.before.before.is_called.ensures c.before.if2.false)
 
 pub turn_spec : {M : Type 1} → statement M
 turn_spec =

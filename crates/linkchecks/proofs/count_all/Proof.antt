@@ -7,7 +7,7 @@ use lib.ListN.{length}
 use Rattle.machine.specs.Bytes.{words_of}
 use Rattle.objects.specs.View.{View}
 use Rattle.linkchecks.specs.Walk.{Viewed}
-use Rattle.linkchecks.specs.Row.{rowFrom}
+use Rattle.linkchecks.specs.Row.{row_from}
 use Rattle.linkchecks.proofs.Walking.{Still, heads, still-none, ended}
 use Rattle.linkchecks.proofs.count_all.Statement.{statement}
 use Rattle.linkchecks.proofs.count_all.Tie as tie
@@ -15,7 +15,7 @@ use Rattle.linkchecks.proofs.count_all.Tie as tie
 abbrev invariant-loop : tie.invariant-loop
 invariant-loop objects common end cursor₀ rules₀ cursor rules =
     (cursor.at ≤ length (words_of objects)) × (cursor.text ≤ cursor.at) × (rules ≤ cursor.at)
-    × ((vs : List View) → Viewed common (words_of objects) vs → Still common (words_of objects) vs (λ row. rules + length row) (length (rowFrom 1 vs)) cursor)
+    × ((vs : List View) → Viewed common (words_of objects) vs → Still common (words_of objects) vs (λ row. rules + length row) (length (row_from 1 vs)) cursor)
 
 abbrev decreases-loop : tie.decreases-loop
 decreases-loop objects common end cursor₀ rules₀ cursor rules = length (words_of objects) - cursor.at
@@ -27,7 +27,7 @@ first-rule-requires : tie.Need-first-rule-requires invariant-loop decreases-loop
 first-rule-requires c κs = search rules
 
 loop-holds : tie.Need-loop-init invariant-loop decreases-loop
-loop-holds c = (omega arith, omega arith, omega arith, λ vs v. record { row = rowFrom 1 vs; stands = c.first-rule.ensures.2 vs v; is = omega arith })
+loop-holds c = (omega arith, omega arith, omega arith, λ vs v. record { row = row_from 1 vs; stands = c.first-rule.ensures.2 vs v; is = omega arith })
 
 next-rule-requires : tie.Need-next-rule-requires invariant-loop decreases-loop
 next-rule-requires c κs = search rules

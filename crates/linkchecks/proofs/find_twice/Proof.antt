@@ -8,7 +8,7 @@ use lib.ListN.{length}
 use Rattle.machine.specs.Bytes.{words_of}
 use Rattle.objects.specs.View.{View}
 use Rattle.linkchecks.specs.Walk.{Viewed}
-use Rattle.linkchecks.specs.Row.{rowFrom, firstShown, twiceRule}
+use Rattle.linkchecks.specs.Row.{row_from, first_shown, twice_rule}
 use Rattle.linkchecks.proofs.Walking.{Still, heads}
 use Rattle.linkchecks.proofs.Finding.{stands-name, stands-named, stands-text, shown-some, shown-passed, shown-none, twice-some, twice-none}
 use Rattle.linkchecks.proofs.Rows.{viewed, finds-by, twice-row}
@@ -18,7 +18,7 @@ use Rattle.linkchecks.proofs.find_twice.Tie as tie
 abbrev invariant-loop : tie.invariant-loop
 invariant-loop objects common end cursor₀ cursor =
     (cursor.at ≤ length (words_of objects)) × (cursor.text ≤ cursor.at)
-    × ((vs : List View) → Viewed common (words_of objects) vs → Still common (words_of objects) vs (firstShown (twiceRule (rowFrom 1 vs))) (firstShown (twiceRule (rowFrom 1 vs)) (rowFrom 1 vs)) cursor)
+    × ((vs : List View) → Viewed common (words_of objects) vs → Still common (words_of objects) vs (first_shown (twice_rule (row_from 1 vs))) (first_shown (twice_rule (row_from 1 vs)) (row_from 1 vs)) cursor)
 
 abbrev decreases-loop : tie.decreases-loop
 decreases-loop objects common end cursor₀ cursor = length (words_of objects) - cursor.at
@@ -30,7 +30,7 @@ first-rule-requires : tie.Need-first-rule-requires invariant-loop decreases-loop
 first-rule-requires c κs = search rules
 
 loop-holds : tie.Need-loop-init invariant-loop decreases-loop
-loop-holds c = (omega arith, omega arith, λ vs v. record { row = rowFrom 1 vs; stands = c.first-rule.ensures.2 vs v; is = refl })
+loop-holds c = (omega arith, omega arith, λ vs v. record { row = row_from 1 vs; stands = c.first-rule.ensures.2 vs v; is = refl })
 
 is-named-requires : tie.Need-is-named-requires invariant-loop decreases-loop
 is-named-requires c κs = search rules

@@ -10,7 +10,7 @@ use Rattle.objects.specs.View.{View}
 use Rattle.linkchecks.specs.Walk.{Viewed}
 use Rattle.objects.specs.Places.{HeadsAt}
 use Rattle.syntax.specs.Texts.{Head}
-use Rattle.linkchecks.specs.Row.{rowFrom, firstShown, unlikeRule}
+use Rattle.linkchecks.specs.Row.{row_from, first_shown, unlike_rule}
 use Rattle.linkchecks.proofs.Walking.{Still, heads}
 use Rattle.linkchecks.proofs.Finding.{shown-here, shown-later, shown-none}
 use Rattle.linkchecks.proofs.Rows.{viewed, finds-by, few-objects, unlike-row}
@@ -20,7 +20,7 @@ use Rattle.linkchecks.proofs.find_unlike.Tie as tie
 abbrev invariant-loop : tie.invariant-loop
 invariant-loop objects common heads end cursor₀ cursor =
     (cursor.at ≤ length (words_of objects)) × (cursor.text ≤ cursor.at)
-    × ((hs : List Head) (vs : List View) → HeadsAt common heads hs → Viewed common (words_of objects) vs → Still common (words_of objects) vs (firstShown (unlikeRule (length (words_of objects) + 1) (rowFrom 1 vs) hs)) (firstShown (unlikeRule (length (words_of objects) + 1) (rowFrom 1 vs) hs) (rowFrom 1 vs)) cursor)
+    × ((hs : List Head) (vs : List View) → HeadsAt common heads hs → Viewed common (words_of objects) vs → Still common (words_of objects) vs (first_shown (unlike_rule (length (words_of objects) + 1) (row_from 1 vs) hs)) (first_shown (unlike_rule (length (words_of objects) + 1) (row_from 1 vs) hs) (row_from 1 vs)) cursor)
 
 abbrev decreases-loop : tie.decreases-loop
 decreases-loop objects common heads end cursor₀ cursor = length (words_of objects) - cursor.at
@@ -32,7 +32,7 @@ first-rule-requires : tie.Need-first-rule-requires invariant-loop decreases-loop
 first-rule-requires c κs = search rules
 
 loop-holds : tie.Need-loop-init invariant-loop decreases-loop
-loop-holds c = (omega arith, omega arith, λ hs vs u v. record { row = rowFrom 1 vs; stands = c.first-rule.ensures.2 vs v; is = refl })
+loop-holds c = (omega arith, omega arith, λ hs vs u v. record { row = row_from 1 vs; stands = c.first-rule.ensures.2 vs v; is = refl })
 
 unlike-rule-requires : tie.Need-unlike-rule-requires invariant-loop decreases-loop
 unlike-rule-requires c κs = search rules

@@ -9,7 +9,7 @@ use Rattle.machine.specs.Bytes.{words_of}
 use Rattle.objects.specs.View.{Name, View}
 use Rattle.linkchecks.specs.Walk.{Viewed}
 use Rattle.objects.specs.Places.{NameAt}
-use Rattle.linkchecks.specs.Row.{rowFrom, isNamedBelow}
+use Rattle.linkchecks.specs.Row.{row_from, is_named_below}
 use Rattle.linkchecks.proofs.Walking.{Still, heads}
 use Rattle.linkchecks.proofs.Finding.{stands-named, named_here, named-later, named_none}
 use Rattle.linkchecks.proofs.is_named.Statement.{statement}
@@ -18,7 +18,7 @@ use Rattle.linkchecks.proofs.is_named.Tie as tie
 abbrev invariant-loop : tie.invariant-loop
 invariant-loop objects common below p end cursor₀ cursor =
     (cursor.at ≤ length (words_of objects)) × (cursor.text ≤ cursor.at)
-    × ((vs : List View) (m : Name) → Viewed common (words_of objects) vs → NameAt (words_of objects) p m → Still common (words_of objects) vs (isNamedBelow below m.text) (isNamedBelow below m.text (rowFrom 1 vs)) cursor)
+    × ((vs : List View) (m : Name) → Viewed common (words_of objects) vs → NameAt (words_of objects) p m → Still common (words_of objects) vs (is_named_below below m.text) (is_named_below below m.text (row_from 1 vs)) cursor)
 
 abbrev decreases-loop : tie.decreases-loop
 decreases-loop objects common below p end cursor₀ cursor = length (words_of objects) - cursor.at
@@ -30,7 +30,7 @@ first-rule-requires : tie.Need-first-rule-requires invariant-loop decreases-loop
 first-rule-requires c κs = search rules
 
 loop-holds : tie.Need-loop-init invariant-loop decreases-loop
-loop-holds c = (omega arith, omega arith, λ vs m v x. record { row = rowFrom 1 vs; stands = c.first-rule.ensures.2 vs v; is = refl })
+loop-holds c = (omega arith, omega arith, λ vs m v x. record { row = row_from 1 vs; stands = c.first-rule.ensures.2 vs v; is = refl })
 
 has-name-requires : tie.Need-has-name-requires invariant-loop decreases-loop
 has-name-requires c κs = search rules

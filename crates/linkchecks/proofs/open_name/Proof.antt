@@ -11,8 +11,8 @@ use Rattle.linkchecks.specs.Walk.{Viewed}
 use borrow.Author.Tests.{not-true, not-false}
 use Rattle.objects.proofs.Looked.{name-at}
 use Rattle.objects.specs.Take.{took, times}
-use Rattle.objects.specs.View.{aName}
-use Rattle.linkchecks.specs.Row.{rowFrom, firstShown, openName}
+use Rattle.objects.specs.View.{a_name}
+use Rattle.linkchecks.specs.Row.{row_from, first_shown, open_name}
 use Rattle.linkchecks.proofs.Finding.{Asking, asking, asked-all, asks, asked_here, asked-passed, open-some, open_none}
 use Rattle.linkchecks.proofs.open_name.Statement.{statement}
 use Rattle.linkchecks.proofs.open_name.Tie as tie
@@ -20,8 +20,8 @@ use Rattle.linkchecks.proofs.open_name.Tie as tie
 abbrev invariant-loop : tie.invariant-loop
 invariant-loop objects common text at n end q₀ i₀ q i =
     (i ≤ n) × (q ≤ length (words_of objects))
-    × ((vs : List View) (ns : List Name) (rest : List ℕ) → Viewed common (words_of objects) vs → times n aName (drop at (words_of objects)) ≡ took ns rest
-    → Asking (words_of objects) (openName (length (words_of objects) + 1) (rowFrom 1 vs) text) (firstShown (openName (length (words_of objects) + 1) (rowFrom 1 vs) text) ns) rest (n - i) q)
+    × ((vs : List View) (ns : List Name) (rest : List ℕ) → Viewed common (words_of objects) vs → times n a_name (drop at (words_of objects)) ≡ took ns rest
+    → Asking (words_of objects) (open_name (length (words_of objects) + 1) (row_from 1 vs) text) (first_shown (open_name (length (words_of objects) + 1) (row_from 1 vs) text) ns) rest (n - i) q)
 
 abbrev decreases-loop : tie.decreases-loop
 decreases-loop objects common text at n end q₀ i₀ q i = n - i
@@ -42,7 +42,7 @@ found-at-requires : tie.Need-found-at-requires invariant-loop decreases-loop
 found-at-requires c κs = search rules
 
 returns : tie.Need-returns invariant-loop decreases-loop
-returns c = λ vs ns rest v e. let y = asks (c.before.before.before.before.before.before.before.before.args.n - (c.before.before.before.before.loop.i + 1)) (c.before.before.before.before.loop.invariant.2 vs ns rest v e) (omega arith) in asked_here y _ (record { text = c.before.before.before.before.before.before.before.before.args.text; name = y.first }) (open-some (length (words_of c.before.before.before.before.before.before.before.before.args.objects.now) + 1) (rowFrom 1 vs) c.before.before.before.before.before.before.before.before.args.text y.first _ _ (ap (λ i. i + 1) c.before.before.before.before.before.total.ensures.0) (c.before.before.is-named.ensures vs y.first v (name-at _ _ y.first y.tail y.here)) (not-true _ c.before.if1.true)) (c.found_at.ensures y.first y.tail y.here)
+returns c = λ vs ns rest v e. let y = asks (c.before.before.before.before.before.before.before.before.args.n - (c.before.before.before.before.loop.i + 1)) (c.before.before.before.before.loop.invariant.2 vs ns rest v e) (omega arith) in asked_here y _ (record { text = c.before.before.before.before.before.before.before.before.args.text; name = y.first }) (open-some (length (words_of c.before.before.before.before.before.before.before.before.args.objects.now) + 1) (row_from 1 vs) c.before.before.before.before.before.before.before.before.args.text y.first _ _ (ap (λ i. i + 1) c.before.before.before.before.before.total.ensures.0) (c.before.before.is-named.ensures vs y.first v (name-at _ _ y.first y.tail y.here)) (not-true _ c.before.if1.true)) (c.found_at.ensures y.first y.tail y.here)
 
 past-name-requires : tie.Need-past-name-requires invariant-loop decreases-loop
 past-name-requires c κs = search rules
@@ -60,7 +60,7 @@ loop-less : tie.Need-loop-smaller invariant-loop decreases-loop
 loop-less c = omega arith
 
 loop-again : tie.Need-loop-preserved invariant-loop decreases-loop
-loop-again c = (omega arith, omega arith, λ vs ns rest v e. let y = asks (c.before.before.before.before.before.before.before.before.before.args.n - (c.before.before.before.before.before.loop.i + 1)) (c.before.before.before.before.before.loop.invariant.2 vs ns rest v e) (omega arith) in asked-passed y (open_none (length (words_of c.before.before.before.before.before.before.before.before.before.args.objects.now) + 1) (rowFrom 1 vs) c.before.before.before.before.before.before.before.before.before.args.text y.first _ _ (ap (λ i. i + 1) c.before.before.before.before.before.before.total.ensures.0) (c.before.before.before.is-named.ensures vs y.first v (name-at _ _ y.first y.tail y.here)) (not-false _ c.before.before.if1.false)) _ c.before.past-name.ensures)
+loop-again c = (omega arith, omega arith, λ vs ns rest v e. let y = asks (c.before.before.before.before.before.before.before.before.before.args.n - (c.before.before.before.before.before.loop.i + 1)) (c.before.before.before.before.before.loop.invariant.2 vs ns rest v e) (omega arith) in asked-passed y (open_none (length (words_of c.before.before.before.before.before.before.before.before.before.args.objects.now) + 1) (row_from 1 vs) c.before.before.before.before.before.before.before.before.before.args.text y.first _ _ (ap (λ i. i + 1) c.before.before.before.before.before.before.total.ensures.0) (c.before.before.before.is-named.ensures vs y.first v (name-at _ _ y.first y.tail y.here)) (not-false _ c.before.before.if1.false)) _ c.before.past-name.ensures)
 
 nothing-requires-2 : tie.Need-nothing-requires-2 invariant-loop decreases-loop
 nothing-requires-2 c κs = search rules

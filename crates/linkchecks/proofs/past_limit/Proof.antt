@@ -8,7 +8,7 @@ use lib.ListN.{length}
 use Rattle.machine.specs.Bytes.{words_of}
 use Rattle.objects.specs.View.{View}
 use Rattle.linkchecks.specs.Walk.{Viewed}
-use Rattle.linkchecks.specs.Row.{rowFrom, pastRow}
+use Rattle.linkchecks.specs.Row.{row_from, past_row}
 use Rattle.linkchecks.proofs.Walking.{Still, heads}
 use Rattle.linkchecks.proofs.Finding.{stands-name, shows-none, limit-start, limit-here, limit-later, limit-none}
 use Rattle.linkchecks.proofs.Rows.{viewed, finds-by, past-rows}
@@ -18,7 +18,7 @@ use Rattle.linkchecks.proofs.past_limit.Tie as tie
 abbrev invariant-loop : tie.invariant-loop
 invariant-loop objects common left end cursor₀ i₀ cursor i =
     (cursor.at ≤ length (words_of objects)) × (cursor.text ≤ cursor.at) × (i ≤ left) × (i ≤ cursor.at)
-    × ((vs : List View) → Viewed common (words_of objects) vs → Still common (words_of objects) vs (pastRow (left - i)) (pastRow left (rowFrom 1 vs)) cursor)
+    × ((vs : List View) → Viewed common (words_of objects) vs → Still common (words_of objects) vs (past_row (left - i)) (past_row left (row_from 1 vs)) cursor)
 
 abbrev decreases-loop : tie.decreases-loop
 decreases-loop objects common left end cursor₀ i₀ cursor i = length (words_of objects) - cursor.at
@@ -30,7 +30,7 @@ first-rule-requires : tie.Need-first-rule-requires invariant-loop decreases-loop
 first-rule-requires c κs = search rules
 
 loop-holds : tie.Need-loop-init invariant-loop decreases-loop
-loop-holds c = (omega arith, omega arith, omega arith, omega arith, λ vs v. record { row = rowFrom 1 vs; stands = c.first-rule.ensures.2 vs v; is = limit-start _ _ })
+loop-holds c = (omega arith, omega arith, omega arith, omega arith, λ vs v. record { row = row_from 1 vs; stands = c.first-rule.ensures.2 vs v; is = limit-start _ _ })
 
 found-at-requires : tie.Need-found-at-requires invariant-loop decreases-loop
 found-at-requires c κs = search rules

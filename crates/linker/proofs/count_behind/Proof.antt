@@ -3,7 +3,7 @@ use Prim.Native.Nat.{ℕ}
 use mathlib.Core.Path.{ap, ◌∙◌}
 use lib.ListN.{get_or}
 use borrow.Author.Tests.{lt-ltb, le-ltb}
-use Rattle.linker.specs.Close.{behind, behindTable}
+use Rattle.linker.specs.Close.{behind, behind_table}
 use borrow.Author.Rules.{rules}
 use Rattle.linker.proofs.count_behind.Statement.{statement}
 use Rattle.linker.proofs.count_behind.Tie as tie
@@ -19,7 +19,7 @@ byte-requires c κs = search rules
 
 returns : tie.Need-returns
 unfolding behind
-returns c = simp (lt-ltb _ _ c.before.before.if1.true) (c.byte.ensures.0 ∙ ap (λ (i : ℕ). get_or behindTable i 0) c.before.wide.ensures.0)
+returns c = simp (lt-ltb _ _ c.before.before.if1.true) (c.byte.ensures.0 ∙ ap (λ (i : ℕ). get_or behind_table i 0) c.before.wide.ensures.0)
 
 returns-2 : tie.Need-returns-2
 unfolding behind

@@ -5,7 +5,7 @@ use native.Mathlib.Omega.{arith}
 use borrow.Author.Rules.{rules}
 use lib.ListN.{length, drop}
 use Rattle.machine.specs.Bytes.{words_of}
-use Rattle.linker.specs.Place.{textAt, textsAt, place_of}
+use Rattle.linker.specs.Place.{text_at, texts_at, place_of}
 use Rattle.linker.proofs.Placing.{compared, place_here, place-later, place_none}
 use Rattle.linker.proofs.place_of.Statement.{statement}
 use Rattle.linker.proofs.place_of.Tie as tie
@@ -13,7 +13,7 @@ use Rattle.linker.proofs.place_of.Tie as tie
 abbrev invariant-loop : tie.invariant-loop
 invariant-loop words names p i₀ i =
     (i ≤ length names)
-    × (place_of (textAt (words_of words) p) (textsAt (words_of words) names) ≡ i + place_of (textAt (words_of words) p) (textsAt (words_of words) (drop i names)))
+    × (place_of (text_at (words_of words) p) (texts_at (words_of words) names) ≡ i + place_of (text_at (words_of words) p) (texts_at (words_of words) (drop i names)))
 
 abbrev decreases-loop : tie.decreases-loop
 decreases-loop words names p i₀ i = length names - i
@@ -38,7 +38,7 @@ returns c =
     let a = c.before.before.before.before.before.before.before.before.args in
     let o = c.before.before.before.before.before.loop in
     let t = compared (words_of a.words.now) _ _ _ c.before.same_name.ensures c.before.before.within.ensures.0 c.if1.true in
-    sym (o.invariant.1 ∙ place_here (words_of a.words.now) (textAt (words_of a.words.now) a.p) a.names.now o.i c.before.before.before.before.loop-test.true t)
+    sym (o.invariant.1 ∙ place_here (words_of a.words.now) (text_at (words_of a.words.now) a.p) a.names.now o.i c.before.before.before.before.loop-test.true t)
 
 add-i : tie.Need-overflow-add-i invariant-loop decreases-loop
 add-i c = omega arith
@@ -51,13 +51,13 @@ loop-again c =
     let a = c.before.before.before.before.before.before.before.before.args in
     let o = c.before.before.before.before.before.loop in
     let t = compared (words_of a.words.now) _ _ _ c.before.same_name.ensures c.before.before.within.ensures.0 c.if1.false in
-    (omega arith, o.invariant.1 ∙ place-later (words_of a.words.now) (textAt (words_of a.words.now) a.p) a.names.now o.i c.before.before.before.before.loop-test.true t)
+    (omega arith, o.invariant.1 ∙ place-later (words_of a.words.now) (text_at (words_of a.words.now) a.p) a.names.now o.i c.before.before.before.before.loop-test.true t)
 
 returns-2 : tie.Need-returns-2 invariant-loop decreases-loop
 returns-2 c =
     let a = c.before.before.before.before.args in
     let o = c.before.loop in
-    let e = place_none (words_of a.words.now) (textAt (words_of a.words.now) a.p) a.names.now o.i c.loop-test.false in
+    let e = place_none (words_of a.words.now) (text_at (words_of a.words.now) a.p) a.names.now o.i c.loop-test.false in
     omega (arith, o.invariant.1, e)
 
 pub place-of-spec : {M : Type 1} → statement M

@@ -44,7 +44,7 @@ returns-2 : tie.Need-returns-2
 returns-2 c =
     let a = c.before.before.before.before.before.before.before.args in
     let y = c.before.if1.false ∙ c.before.before.wide2.ensures.0 ∙ c.before.before.before.word2.ensures in
-    like-names (words_of a.words.now) a.p a.q c.before.before.before.before.wide.ensures.0 c.before.before.before.before.before.word.ensures y c.same-words.ensures
+    like-names (words_of a.words.now) a.p a.q c.before.before.before.before.wide.ensures.0 c.before.before.before.before.before.word.ensures y c.same_words.ensures
 
 pub same-name-spec : {M : Type 1} → statement M
 same-name-spec =

@@ -27,7 +27,7 @@ slice-aggregate-make-2 c = search rules
 
 -- src/lib.rt:151:9
 make-requires : tie.Need-make-requires
-make-requires c κs = let x = c.before.before.before.before.before.before.before.before.before.before.before.before.before.before.before.requires.1.closed in (omega (arith, x.rowed.size), kept x, x.few-pairs, omega (arith, few-made x), omega (arith, x.size), omega (arith, x.filled, x.size), c.before.before.before.before.before.before.place-rules.ensures.0.0, c.before.before.before.before.before.before.place-rules.ensures.0.1)
+make-requires c κs = let x = c.before.before.before.before.before.before.before.before.before.before.before.before.before.before.before.requires.1.closed in (omega (arith, x.rowed.size), kept x, x.few_pairs, omega (arith, few-made x), omega (arith, x.size), omega (arith, x.filled, x.size), c.before.before.before.before.before.before.place-rules.ensures.0.0, c.before.before.before.before.before.before.place-rules.ensures.0.1)
 
 -- src/lib.rt:152:9
 last-size-requires : tie.Need-last-size-requires

@@ -1,6 +1,6 @@
 use mathlib.Core.Path.{refl, sym, ◌∙◌}
 use native.Mathlib.Omega.{arith}
-use Rattle.linking.proofs.Rules.{pair-past, as-behind, closed, few-rules}
+use Rattle.linking.proofs.Rules.{pair-past, as-behind, closed, few_rules}
 use borrow.Author.Rules.{rules}
 use Rattle.linking.proofs.link_names.Statement.{statement}
 use Rattle.linking.proofs.link_names.Tie as tie
@@ -19,7 +19,7 @@ slice-aggregate-collect-2 c = search rules
 
 -- src/lib.rt:177:9
 collect-requires : tie.Need-collect-requires
-collect-requires c κs = let x = c.before.before.before.before.before.before.before.before.before.before.before.before.requires.1 in (omega (arith, x.rowed.size), x.rowed.small, x.rowed.few, omega (arith, few-rules x.passes, (c.before.before.before.before.before.name-places.ensures x.common-is x.names x.are).0), search rules, search rules)
+collect-requires c κs = let x = c.before.before.before.before.before.before.before.before.before.before.before.before.requires.1 in (omega (arith, x.rowed.size), x.rowed.small, x.rowed.few, omega (arith, few_rules x.passes, (c.before.before.before.before.before.name-places.ensures x.common_is x.names x.are).0), search rules, search rules)
 
 -- src/lib.rt:179:9
 refuse-requires : tie.Need-refuse-requires
@@ -55,7 +55,7 @@ slice-aggregate-close-all-3 c = search rules
 
 -- src/lib.rt:182:9
 close-all-requires : tie.Need-close-all-requires
-close-all-requires c κs = let x = c.before.before.before.before.before.before.before.before.before.before.before.before.before.before.before.before.before.before.before.before.before.requires.1 in (omega (arith, c.before.before.before.before.before.before.before.before.collect.ensures.few, c.before.before.before.before.before.before.before.before.collect.auto.1.1.1.0), omega (arith, c.before.before.before.before.before.before.before.before.collect.ensures.few, c.before.before.before.before.before.before.before.before.collect.auto.1.1.1.1.0), omega (arith, few-rules x.passes, c.before.before.before.before.before.before.before.before.before.before.before.before.before.before.before.before.before.before.before.before.before.requires.2 x.common-is x.names x.are, c.before.before.before.before.before.before.before.before.before.before.before.before.before.before.name-places.auto.1.1.0))
+close-all-requires c κs = let x = c.before.before.before.before.before.before.before.before.before.before.before.before.before.before.before.before.before.before.before.before.before.requires.1 in (omega (arith, c.before.before.before.before.before.before.before.before.collect.ensures.few, c.before.before.before.before.before.before.before.before.collect.auto.1.1.1.0), omega (arith, c.before.before.before.before.before.before.before.before.collect.ensures.few, c.before.before.before.before.before.before.before.before.collect.auto.1.1.1.1.0), omega (arith, few_rules x.passes, c.before.before.before.before.before.before.before.before.before.before.before.before.before.before.before.before.before.before.before.before.before.requires.2 x.common_is x.names x.are, c.before.before.before.before.before.before.before.before.before.before.before.before.before.before.name-places.auto.1.1.0))
 
 -- src/lib.rt:185:57
 slice-aggregate-find-sites : tie.Need-slice-aggregate-find-sites
@@ -67,7 +67,7 @@ slice-aggregate-find-sites-2 c = search rules
 
 -- src/lib.rt:185:5
 find-sites-requires : tie.Need-find-sites-requires
-find-sites-requires c κs = let x = c.before.before.before.before.before.before.before.before.before.before.before.before.before.before.before.before.before.before.before.before.before.before.before.before.before.before.before.requires.1 in (omega (arith, x.rowed.size), x.rowed.small, omega (arith, c.before.before.before.before.before.before.before.before.before.before.before.before.before.before.collect.ensures.few, c.before.before.before.before.before.before.before.before.before.before.before.before.before.before.collect.auto.1.1.1.0), omega (arith, c.before.before.before.before.before.before.before.before.before.before.before.before.before.before.collect.ensures.few), omega (arith, few-rules x.passes, c.before.before.before.before.before.before.before.before.before.before.before.before.before.before.before.before.before.before.before.before.before.before.before.before.before.before.before.requires.2 x.common-is x.names x.are, c.before.before.before.before.before.before.before.before.before.before.before.before.before.before.before.before.before.before.before.before.name-places.auto.1.1.0))
+find-sites-requires c κs = let x = c.before.before.before.before.before.before.before.before.before.before.before.before.before.before.before.before.before.before.before.before.before.before.before.before.before.before.before.requires.1 in (omega (arith, x.rowed.size), x.rowed.small, omega (arith, c.before.before.before.before.before.before.before.before.before.before.before.before.before.before.collect.ensures.few, c.before.before.before.before.before.before.before.before.before.before.before.before.before.before.collect.auto.1.1.1.0), omega (arith, c.before.before.before.before.before.before.before.before.before.before.before.before.before.before.collect.ensures.few), omega (arith, few_rules x.passes, c.before.before.before.before.before.before.before.before.before.before.before.before.before.before.before.before.before.before.before.before.before.before.before.before.before.before.before.requires.2 x.common_is x.names x.are, c.before.before.before.before.before.before.before.before.before.before.before.before.before.before.before.before.before.before.before.before.name-places.auto.1.1.0))
 
 -- src/lib.rt:186:40
 slice-aggregate-link-closed : tie.Need-slice-aggregate-link-closed
@@ -79,7 +79,7 @@ slice-aggregate-link-closed-2 c = search rules
 
 -- src/lib.rt:186:5
 link-closed-requires : tie.Need-link-closed-requires
-link-closed-requires c κs = let x = c.before.before.before.before.before.before.before.before.before.before.before.before.before.before.before.before.before.before.before.before.before.before.before.before.before.before.before.before.before.before.before.before.before.requires.1 in (c.before.before.before.before.before.before.before.before.before.before.before.before.before.before.before.before.before.before.before.before.before.before.before.before.before.before.before.before.before.before.before.before.before.requires.0, record { common-is = x.common-is; names = x.names; are = x.are; closed = closed _ x.rowed x.are (c.before.before.before.before.before.before.before.before.before.before.before.before.before.before.before.before.before.before.before.before.before.before.before.before.before.before.name-places.ensures x.common-is x.names x.are).0 c.before.before.before.before.before.before.before.before.before.before.before.before.before.before.before.before.before.before.before.before.collect.ensures c.before.before.before.before.before.before.before.before.before.before.before.before.before.before.before.before.if1.false x.passes c.before.before.before.before.before.before.before.before.before.before.before.before.before.before.before.before.before.before.before.before.before.before.before.before.before.before.name-places.ensures (c.before.before.before.before.before.before.before.before.before.before.before.before.before.before.before.before.before.before.before.before.before.before.before.before.before.before.name-places.auto.1.1.0 ∙ c.before.before.before.before.before.before.before.before.before.before.before.before.before.before.before.before.before.before.before.before.before.before.before.before.before.before.before.before.before.before.before.before.before.requires.2 x.common-is x.names x.are) c.before.before.before.before.before.before.before.before.before.before.before.close-all.ensures.1 refl c.before.before.before.before.before.before.before.before.before.before.before.close-all.ensures.0.1 (omega (arith, c.before.before.before.before.before.before.before.before.before.before.before.close-all.ensures.0.0)) c.before.before.before.before.before.find-sites.ensures })
+link-closed-requires c κs = let x = c.before.before.before.before.before.before.before.before.before.before.before.before.before.before.before.before.before.before.before.before.before.before.before.before.before.before.before.before.before.before.before.before.before.requires.1 in (c.before.before.before.before.before.before.before.before.before.before.before.before.before.before.before.before.before.before.before.before.before.before.before.before.before.before.before.before.before.before.before.before.before.requires.0, record { common_is = x.common_is; names = x.names; are = x.are; closed = closed _ x.rowed x.are (c.before.before.before.before.before.before.before.before.before.before.before.before.before.before.before.before.before.before.before.before.before.before.before.before.before.before.name-places.ensures x.common_is x.names x.are).0 c.before.before.before.before.before.before.before.before.before.before.before.before.before.before.before.before.before.before.before.before.collect.ensures c.before.before.before.before.before.before.before.before.before.before.before.before.before.before.before.before.if1.false x.passes c.before.before.before.before.before.before.before.before.before.before.before.before.before.before.before.before.before.before.before.before.before.before.before.before.before.before.name-places.ensures (c.before.before.before.before.before.before.before.before.before.before.before.before.before.before.before.before.before.before.before.before.before.before.before.before.before.before.name-places.auto.1.1.0 ∙ c.before.before.before.before.before.before.before.before.before.before.before.before.before.before.before.before.before.before.before.before.before.before.before.before.before.before.before.before.before.before.before.before.before.requires.2 x.common_is x.names x.are) c.before.before.before.before.before.before.before.before.before.before.before.close-all.ensures.1 refl c.before.before.before.before.before.before.before.before.before.before.before.close-all.ensures.0.1 (omega (arith, c.before.before.before.before.before.before.before.before.before.before.before.close-all.ensures.0.0)) c.before.before.before.before.before.find-sites.ensures })
 
 -- src/lib.rt:162:1
 same-length-4 : tie.Need-same-length-4

@@ -48,10 +48,10 @@ past-limit-requires : tie.Need-past-limit-requires invariant-loop decreases-loop
 past-limit-requires c κs = tt
 
 same_length : tie.Need-same-length invariant-loop decreases-loop
-same_length c = c.before.before.before.before.before.before.before.take-pairs.ensures.kept.sites-same ∙ c.before.before.before.before.before.before.before.before.before.before.before.before.before.before.loop.invariant.2 ∙ sym c.before.before.before.before.before.before.before.before.before.before.before.before.before.before.before.before.before.before.before.before.before.requires.4
+same_length c = c.before.before.before.before.before.before.before.take-pairs.ensures.kept.sites_same ∙ c.before.before.before.before.before.before.before.before.before.before.before.before.before.before.loop.invariant.2 ∙ sym c.before.before.before.before.before.before.before.before.before.before.before.before.before.before.before.before.before.before.before.before.before.requires.4
 
 same-length-2 : tie.Need-same-length-2 invariant-loop decreases-loop
-same-length-2 c = c.before.before.before.before.before.before.before.take-pairs.ensures.kept.lowest-same ∙ c.before.before.before.before.before.before.before.before.before.before.before.before.before.before.loop.invariant.3 ∙ sym c.before.before.before.before.before.before.before.before.before.before.before.before.before.before.before.before.before.before.before.before.before.requires.5
+same-length-2 c = c.before.before.before.before.before.before.before.take-pairs.ensures.kept.lowest_same ∙ c.before.before.before.before.before.before.before.before.before.before.before.before.before.before.loop.invariant.3 ∙ sym c.before.before.before.before.before.before.before.before.before.before.before.before.before.before.before.before.before.before.before.before.before.requires.5
 
 returns : tie.Need-returns invariant-loop decreases-loop
 returns c = let a = c.before.before.before.before.before.before.before.before.before.before.before.before.before.before.before.before.before.before.before.before.before.args in let o = c.before.before.before.before.before.before.before.before.before.before.before.before.before.before.loop in let t = c.before.before.before.before.before.before.before.take-pairs.ensures.kept in record { few = omega (arith, c.past-limit.ensures.count, t.few, t.count); tells = λ p names sec common k h. going-over names a.scope.others a.scope.own (words_of a.objects.now) common h.objects p sec refl o.s (o.invariant.6 p names sec common k h) (omega (arith, c.before.before.before.before.before.before.before.before.before.before.before.before.before.loop-test.true, c.before.before.before.before.before.before.before.before.before.before.before.before.before.before.before.total.ensures.0)) c.before.before.before.before.before.before.before.before.before.before.before.before.first-pair.ensures c.before.before.before.before.before.before.before.before.before.before.before.number.ensures.0 (pairs-as c.before.before.before.before.before.before.before.before.before.before.moved_to.ensures c.before.before.before.before.before.before.before.take-pairs.ensures) c.past-limit.result c.before.if1.true c.past-limit.ensures }
@@ -66,7 +66,7 @@ loop-less : tie.Need-loop-smaller invariant-loop decreases-loop
 loop-less c = let e = c.next-object.ensures in omega (arith, e.past, e.inside)
 
 loop-again : tie.Need-loop-preserved invariant-loop decreases-loop
-loop-again c = let a = c.before.before.before.before.before.before.before.before.before.before.before.before.before.before.before.before.before.before.before.before.before.args in let o = c.before.before.before.before.before.before.before.before.before.before.before.before.before.before.loop in let t = c.before.before.before.before.before.before.before.take-pairs.ensures.kept in let e = c.next-object.ensures in (e.inside, omega (arith, e.past, o.invariant.1), t.sites-same ∙ o.invariant.2, t.lowest-same ∙ o.invariant.3, t.count, t.few, λ p names sec common k h. going_next names a.scope.others a.scope.own (words_of a.objects.now) common h.objects p sec refl o.s (o.invariant.6 p names sec common k h) (omega (arith, c.before.before.before.before.before.before.before.before.before.before.before.before.before.loop-test.true, c.before.before.before.before.before.before.before.before.before.before.before.before.before.before.before.total.ensures.0)) c.before.before.before.before.before.before.before.before.before.before.before.before.first-pair.ensures c.before.before.before.before.before.before.before.before.before.before.before.number.ensures.0 (pairs-as c.before.before.before.before.before.before.before.before.before.before.moved_to.ensures c.before.before.before.before.before.before.before.take-pairs.ensures) c.before.if1.false e refl)
+loop-again c = let a = c.before.before.before.before.before.before.before.before.before.before.before.before.before.before.before.before.before.before.before.before.before.args in let o = c.before.before.before.before.before.before.before.before.before.before.before.before.before.before.loop in let t = c.before.before.before.before.before.before.before.take-pairs.ensures.kept in let e = c.next-object.ensures in (e.inside, omega (arith, e.past, o.invariant.1), t.sites_same ∙ o.invariant.2, t.lowest_same ∙ o.invariant.3, t.count, t.few, λ p names sec common k h. going_next names a.scope.others a.scope.own (words_of a.objects.now) common h.objects p sec refl o.s (o.invariant.6 p names sec common k h) (omega (arith, c.before.before.before.before.before.before.before.before.before.before.before.before.before.loop-test.true, c.before.before.before.before.before.before.before.before.before.before.before.before.before.before.before.total.ensures.0)) c.before.before.before.before.before.before.before.before.before.before.before.before.first-pair.ensures c.before.before.before.before.before.before.before.before.before.before.before.number.ensures.0 (pairs-as c.before.before.before.before.before.before.before.before.before.before.moved_to.ensures c.before.before.before.before.before.before.before.take-pairs.ensures) c.before.if1.false e refl)
 
 same-length-3 : tie.Need-same-length-3 invariant-loop decreases-loop
 same-length-3 c = c.before.loop.invariant.2 ∙ sym c.before.before.before.before.before.before.before.before.requires.4

@@ -4,7 +4,7 @@ use native.Mathlib.Omega.{arith}
 use Prim.Native.Nat.{◌+◌, ◌*◌, ◌-◌, ◌≤◌}
 use lib.ListN.{length, set, length-set}
 use Rattle.linker.proofs.Placing.{place-bound}
-use Rattle.linker.specs.Place.{textAt}
+use Rattle.linker.specs.Place.{text_at}
 use Rattle.linkpairs.proofs.Making.{site-found, sites-more}
 use Rattle.linkpairs.specs.Places.{SitesFound}
 use Rattle.machine.specs.Bytes.{words_of}
@@ -48,7 +48,7 @@ slice-write-places : tie.Need-slice-write-places invariant-loop decreases-loop
 slice-write-places c = omega (arith, c.before.before.before.before.if1.true, c.before.before.before.before.before.before.before.before.before.before.before.before.before.requires.3, c.before.before.before.before.before.before.loop.invariant.0)
 
 cast-places-2 : tie.Need-overflow-cast-places-2 invariant-loop decreases-loop
-cast-places-2 c = let a = c.before.before.before.before.before.before.before.before.before.before.before.before.before.args in let w = words_of a.objects.now in omega (arith, c.place-of.ensures, place-bound w (textAt w c.before.operand_at.result) a.heads.now, c.before.before.before.before.before.before.before.before.before.before.before.before.before.requires.4)
+cast-places-2 c = let a = c.before.before.before.before.before.before.before.before.before.before.before.before.before.args in let w = words_of a.objects.now in omega (arith, c.place-of.ensures, place-bound w (text_at w c.before.operand_at.result) a.heads.now, c.before.before.before.before.before.before.before.before.before.before.before.before.before.requires.4)
 
 mul-places-3 : tie.Need-overflow-mul-places-3 invariant-loop decreases-loop
 mul-places-3 c = omega arith

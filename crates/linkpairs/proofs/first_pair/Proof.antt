@@ -2,7 +2,7 @@
 use mathlib.Core.Path.{refl}
 use native.Mathlib.Omega.{arith}
 use borrow.Author.Rules.{rules}
-use Rattle.linkpairs.proofs.Standing.{pairs-at, pairs-inside}
+use Rattle.linkpairs.proofs.Standing.{pairs-at, pairs_inside}
 use Rattle.machine.specs.Bytes.{words_of}
 use Rattle.linkpairs.proofs.first_pair.Statement.{statement}
 use Rattle.linkpairs.proofs.first_pair.Tie as tie
@@ -26,7 +26,7 @@ sub-if1 : tie.Need-overflow-sub-if1
 sub-if1 c = search rules
 
 returns : tie.Need-returns
-returns c = let a = c.before.before.before.before.args in let w = words_of a.objects.now in record { inside = omega arith; rest = λ common size o k e. let h = pairs-inside w a.at common size o k e c.before.number.ensures.0 (omega arith) in absurd (omega (arith, h)) }
+returns c = let a = c.before.before.before.before.args in let w = words_of a.objects.now in record { inside = omega arith; rest = λ common size o k e. let h = pairs_inside w a.at common size o k e c.before.number.ensures.0 (omega arith) in absurd (omega (arith, h)) }
 
 add-result : tie.Need-overflow-add-result
 add-result c = search rules

@@ -37,13 +37,13 @@ same-length-3 : tie.Need-same-length-3
 same-length-3 c = search rules
 
 returns-3 : tie.Need-returns-3
-returns-3 c = taken-over c.before.before.before.before.before.before.before.before.before.before.before.before.before.before.requires.5 c.before.before.before.before.before.before.before.before.before.before.before.before.before.before.requires.6 c.with-fault2.ensures c.before.before.before.before.before.before.before.look.ensures.1 (omega (arith, c.before.before.before.before.before.before.if1.false)) c.before.before.before.before.before.levels-of.ensures c.before.before.is-over.ensures c.before.if3.true
+returns-3 c = taken-over c.before.before.before.before.before.before.before.before.before.before.before.before.before.before.requires.5 c.before.before.before.before.before.before.before.before.before.before.before.before.before.before.requires.6 c.with-fault2.ensures c.before.before.before.before.before.before.before.look.ensures.1 (omega (arith, c.before.before.before.before.before.before.if1.false)) c.before.before.before.before.before.levels-of.ensures c.before.before.is_over_lem.ensures c.before.if3.true
 
 mul-sites : tie.Need-overflow-mul-sites
 mul-sites c = search rules
 
 slice-write-sites : tie.Need-slice-write-sites
-slice-write-sites c = let a = c.before.before.before.before.before.before.before.before.before.before.before.before.before.args in omega (arith, c.before.before.before.before.before.before.before.before.before.before.before.before.before.requires.3, c.before.before.before.before.before.before.before.before.before.before.before.before.before.requires.5, few-more a.scope a.s c.before.before.before.before.levels-of.result c.before.is-over.ensures c.if3.false, above_zero c.before.before.before.before.levels-of.result.count c.before.before.if2.false)
+slice-write-sites c = let a = c.before.before.before.before.before.before.before.before.before.before.before.before.before.args in omega (arith, c.before.before.before.before.before.before.before.before.before.before.before.before.before.requires.3, c.before.before.before.before.before.before.before.before.before.before.before.before.before.requires.5, few-more a.scope a.s c.before.before.before.before.levels-of.result c.before.is_over_lem.ensures c.if3.false, above_zero c.before.before.before.before.levels-of.result.count c.before.before.if2.false)
 
 cast-lowest : tie.Need-overflow-cast-lowest
 cast-lowest c = search rules
@@ -52,7 +52,7 @@ mul-lowest : tie.Need-overflow-mul-lowest
 mul-lowest c = search rules
 
 slice-write-lowest : tie.Need-slice-write-lowest
-slice-write-lowest c = let a = c.before.before.before.before.before.before.before.before.before.before.before.before.before.before.args in omega (arith, c.before.before.before.before.before.before.before.before.before.before.before.before.before.before.requires.4, c.before.before.before.before.before.before.before.before.before.before.before.before.before.before.requires.5, few-more a.scope a.s c.before.before.before.before.before.levels-of.result c.before.before.is-over.ensures c.before.if3.false, above_zero c.before.before.before.before.before.levels-of.result.count c.before.before.before.if2.false)
+slice-write-lowest c = let a = c.before.before.before.before.before.before.before.before.before.before.before.before.before.before.args in omega (arith, c.before.before.before.before.before.before.before.before.before.before.before.before.before.before.requires.4, c.before.before.before.before.before.before.before.before.before.before.before.before.before.before.requires.5, few-more a.scope a.s c.before.before.before.before.before.levels-of.result c.before.before.is_over_lem.ensures c.before.if3.false, above_zero c.before.before.before.before.before.levels-of.result.count c.before.before.before.if2.false)
 
 add-t10 : tie.Need-overflow-add-t10
 add-t10 c = search rules
@@ -67,7 +67,7 @@ same-length-5 : tie.Need-same-length-5
 same-length-5 c = search rules
 
 returns-4 : tie.Need-returns-4
-returns-4 c = taken-new c.before.before.before.before.before.before.before.before.before.before.before.before.before.before.before.before.requires.3 c.before.before.before.before.before.before.before.before.before.before.before.before.before.before.before.before.requires.4 c.before.before.before.before.before.before.before.before.before.before.before.before.before.before.before.before.requires.5 c.before.before.before.before.before.if2.false c.before.before.before.before.before.before.before.before.before.look.ensures.1 (omega (arith, c.before.before.before.before.before.before.before.before.if1.false)) c.before.before.before.before.before.before.before.levels-of.ensures c.before.before.before.before.is-over.ensures c.before.before.before.if3.false
+returns-4 c = taken-new c.before.before.before.before.before.before.before.before.before.before.before.before.before.before.before.before.requires.3 c.before.before.before.before.before.before.before.before.before.before.before.before.before.before.before.before.requires.4 c.before.before.before.before.before.before.before.before.before.before.before.before.before.before.before.before.requires.5 c.before.before.before.before.before.if2.false c.before.before.before.before.before.before.before.before.before.look.ensures.1 (omega (arith, c.before.before.before.before.before.before.before.before.if1.false)) c.before.before.before.before.before.before.before.levels-of.ensures c.before.before.before.before.is_over_lem.ensures c.before.before.before.if3.false
 
 pub take-pair-spec : {M : Type 1} → statement M
 take-pair-spec =

@@ -28,10 +28,10 @@ take-pair-requires : tie.Need-take-pair-requires invariant-loop decreases-loop
 take-pair-requires c κs = let p = c.before.before.before.before.before.before.before.before.before.before.before.requires in let i = c.before.before.before.before.loop.invariant in (p.0, p.1, p.2, i.1, i.2, i.3, i.4)
 
 same_length : tie.Need-same-length invariant-loop decreases-loop
-same_length c = let i = c.before.before.before.before.before.before.before.before.before.before.before.loop.invariant in c.before.before.before.before.before.before.take-pair.ensures.kept.sites-same ∙ i.1 ∙ sym c.before.before.before.before.before.before.before.before.before.before.before.before.before.before.before.before.before.before.requires.3
+same_length c = let i = c.before.before.before.before.before.before.before.before.before.before.before.loop.invariant in c.before.before.before.before.before.before.take-pair.ensures.kept.sites_same ∙ i.1 ∙ sym c.before.before.before.before.before.before.before.before.before.before.before.before.before.before.before.before.before.before.requires.3
 
 same-length-2 : tie.Need-same-length-2 invariant-loop decreases-loop
-same-length-2 c = let i = c.before.before.before.before.before.before.before.before.before.before.before.loop.invariant in c.before.before.before.before.before.before.take-pair.ensures.kept.lowest-same ∙ i.2 ∙ sym c.before.before.before.before.before.before.before.before.before.before.before.before.before.before.before.before.before.before.requires.4
+same-length-2 c = let i = c.before.before.before.before.before.before.before.before.before.before.before.loop.invariant in c.before.before.before.before.before.before.take-pair.ensures.kept.lowest_same ∙ i.2 ∙ sym c.before.before.before.before.before.before.before.before.before.before.before.before.before.before.before.before.before.before.requires.4
 
 returns : tie.Need-returns invariant-loop decreases-loop
 returns c = let i = c.before.before.before.before.before.before.before.before.before.before.before.loop.invariant in i.6 _ _ _ (pairs-over c.before.before.before.before.before.before.take-pair.ensures c.before.before.before.before.before.before.before.before.before.if1.true c.if2.true)
@@ -40,10 +40,10 @@ past-pair-requires : tie.Need-past-pair-requires invariant-loop decreases-loop
 past-pair-requires c κs = omega (arith, c.before.before.before.before.before.before.before.before.before.before.before.loop.invariant.0, c.before.before.before.before.before.before.take-pair.ensures.at)
 
 same-length-3 : tie.Need-same-length-3 invariant-loop decreases-loop
-same-length-3 c = let i = c.before.before.before.before.before.before.before.before.before.before.before.before.before.loop.invariant in c.before.before.before.before.before.before.before.before.take-pair.ensures.kept.sites-same ∙ i.1 ∙ sym c.before.before.before.before.before.before.before.before.before.before.before.before.before.before.before.before.before.before.before.before.requires.3
+same-length-3 c = let i = c.before.before.before.before.before.before.before.before.before.before.before.before.before.loop.invariant in c.before.before.before.before.before.before.before.before.take-pair.ensures.kept.sites_same ∙ i.1 ∙ sym c.before.before.before.before.before.before.before.before.before.before.before.before.before.before.before.before.before.before.before.before.requires.3
 
 same-length-4 : tie.Need-same-length-4 invariant-loop decreases-loop
-same-length-4 c = let i = c.before.before.before.before.before.before.before.before.before.before.before.before.before.loop.invariant in c.before.before.before.before.before.before.before.before.take-pair.ensures.kept.lowest-same ∙ i.2 ∙ sym c.before.before.before.before.before.before.before.before.before.before.before.before.before.before.before.before.before.before.before.before.requires.4
+same-length-4 c = let i = c.before.before.before.before.before.before.before.before.before.before.before.before.before.loop.invariant in c.before.before.before.before.before.before.before.before.take-pair.ensures.kept.lowest_same ∙ i.2 ∙ sym c.before.before.before.before.before.before.before.before.before.before.before.before.before.before.before.before.before.before.before.before.requires.4
 
 returns-2 : tie.Need-returns-2 invariant-loop decreases-loop
 returns-2 c = let i = c.before.before.before.before.before.before.before.before.before.before.before.before.before.loop.invariant in i.6 _ _ _ (pairs-off c.before.before.before.before.before.before.before.before.take-pair.ensures c.before.before.before.before.before.before.before.before.before.before.before.if1.true c.before.past-pair.ensures (omega arith))
@@ -58,7 +58,7 @@ loop-less : tie.Need-loop-smaller invariant-loop decreases-loop
 loop-less c = omega (arith, (moved c.moved_to.ensures).1, c.before.before.before.before.before.before.before.before.before.before.take-pair.ensures.left, c.before.before.before.before.before.before.before.before.before.before.before.before.before.if1.true)
 
 loop-again : tie.Need-loop-preserved invariant-loop decreases-loop
-loop-again c = let i = c.before.before.before.before.before.before.before.before.before.before.before.before.before.before.before.loop.invariant in let m = moved c.moved_to.ensures in let k = c.before.before.before.before.before.before.before.before.before.before.take-pair.ensures.kept in (omega (arith, m.0, c.before.before.before.before.before.before.before.before.before.before.before.before.before.before.before.before.total.ensures.0, c.before.before.if3.false), k.sites-same ∙ i.1, k.lowest-same ∙ i.2, omega (arith, m.2, m.3, k.count), omega (arith, m.3, k.few), m.4, λ sites' lowest' r d. i.6 sites' lowest' r (pairs-step c.before.before.before.before.before.before.before.before.before.before.take-pair.ensures c.before.before.before.before.before.before.before.before.before.before.before.before.before.if1.true c.before.before.before.before.if2.false c.before.before.before.past-pair.ensures refl (pairs-as c.moved_to.ensures d)))
+loop-again c = let i = c.before.before.before.before.before.before.before.before.before.before.before.before.before.before.before.loop.invariant in let m = moved c.moved_to.ensures in let k = c.before.before.before.before.before.before.before.before.before.before.take-pair.ensures.kept in (omega (arith, m.0, c.before.before.before.before.before.before.before.before.before.before.before.before.before.before.before.before.total.ensures.0, c.before.before.if3.false), k.sites_same ∙ i.1, k.lowest_same ∙ i.2, omega (arith, m.2, m.3, k.count), omega (arith, m.3, k.few), m.4, λ sites' lowest' r d. i.6 sites' lowest' r (pairs-step c.before.before.before.before.before.before.before.before.before.before.take-pair.ensures c.before.before.before.before.before.before.before.before.before.before.before.before.before.if1.true c.before.before.before.before.if2.false c.before.before.before.past-pair.ensures refl (pairs-as c.moved_to.ensures d)))
 
 same-length-5 : tie.Need-same-length-5 invariant-loop decreases-loop
 same-length-5 c = let i = c.before.before.loop.invariant in i.1 ∙ sym c.before.before.before.before.before.before.before.before.before.requires.3

@@ -5,13 +5,13 @@ use Prim.Native.Nat.{ℕ, ◌+◌, ◌-◌, ◌≤◌}
 use native.Mathlib.Omega.{arith}
 use lib.ListN.{length, take}
 use lib.Seq.{take-length}
-use Rattle.listing.specs.Listing.{lineFeeds}
+use Rattle.listing.specs.Listing.{line_feeds}
 use Rattle.listing.proofs.Lines.{feeds-none, feed-more, feed-same}
 use Rattle.listing.proofs.line_feeds.Statement.{statement}
 use Rattle.listing.proofs.line_feeds.Tie as tie
 
 abbrev invariant-loop : tie.invariant-loop
-invariant-loop text feeds₀ i₀ feeds i = (i ≤ length text) × (feeds ≤ i) × (feeds ≡ lineFeeds (take i text))
+invariant-loop text feeds₀ i₀ feeds i = (i ≤ length text) × (feeds ≤ i) × (feeds ≡ line_feeds (take i text))
 
 abbrev decreases-loop : tie.decreases-loop
 decreases-loop text feeds₀ i₀ feeds i = length text - i
@@ -45,7 +45,7 @@ returns c =
     let text = c.before.before.args.text.now in
     let l = c.before.loop in
     let e : l.i ≡ length text = omega arith in
-    (l.invariant.2 ∙ ap (λ (n : ℕ). lineFeeds (take n text)) e ∙ ap lineFeeds (take-length text), omega arith)
+    (l.invariant.2 ∙ ap (λ (n : ℕ). line_feeds (take n text)) e ∙ ap line_feeds (take-length text), omega arith)
 
 pub line-feeds-spec : {M : Type 1} → statement M
 line-feeds-spec =

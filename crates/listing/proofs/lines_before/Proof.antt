@@ -5,7 +5,7 @@ use native.Mathlib.Omega.{arith}
 use borrow.Author.Rules.{rules}
 use lib.ListN.{length, take}
 use lib.Seq.{length-take-le}
-use Rattle.listing.specs.Listing.{lineFeeds}
+use Rattle.listing.specs.Listing.{line_feeds}
 use Rattle.listing.proofs.Lines.{line-end}
 use Rattle.listing.proofs.lines_before.Statement.{statement}
 use Rattle.listing.proofs.lines_before.Tie as tie
@@ -28,7 +28,7 @@ add-result c =
 returns : tie.Need-returns
 returns c =
     let a = c.before.before.before.before.args in
-    line-end a.text.now a.start (c.line-feeds.ensures.0 ∙ ap (λ (n : ℕ). lineFeeds (take n a.text.now)) c.before.before.least.ensures)
+    line-end a.text.now a.start (c.line-feeds.ensures.0 ∙ ap (λ (n : ℕ). line_feeds (take n a.text.now)) c.before.before.least.ensures)
 
 pub lines-before-spec : {M : Type 1} → statement M
 lines-before-spec =

@@ -1,7 +1,7 @@
 -- `listing::list_refusal` meets its contract: five runs of bytes, one behind the other.
 use borrow.Author.Rules.{rules}
 use native.Mathlib.Omega.{arith}
-use Rattle.listing.specs.Listing.{refusalListing}
+use Rattle.listing.specs.Listing.{refusal_listing}
 use Rattle.listing.proofs.Laws.{puts_then, listed}
 use Rattle.listing.proofs.list_refusal.Statement.{statement}
 use Rattle.listing.proofs.list_refusal.Tie as tie
@@ -34,7 +34,7 @@ same_length : tie.Need-same-length
 same_length c = search rules
 
 returns : tie.Need-returns
-unfolding refusalListing
+unfolding refusal_listing
 returns c =
     let a = c.before.before.before.before.before.before.before.before.before.before.before.before.before.before.before.before.before.before.before.before.put-bytes.ensures in
     let b = c.before.before.before.before.before.before.before.before.before.before.before.before.before.before.before.put-decimal.ensures in

@@ -1,7 +1,7 @@
 -- `listing::list_table` meets its contract: the heading, the figure, then the lines.
 use borrow.Author.Rules.{rules}
 use native.Mathlib.Omega.{arith}
-use Rattle.listing.specs.Listing.{tableListing}
+use Rattle.listing.specs.Listing.{table_listing}
 use Rattle.listing.proofs.Laws.{puts_then, listed}
 use Rattle.listing.proofs.Lines.{listed-words, first-words}
 use Rattle.listing.proofs.list_table.Statement.{statement}
@@ -33,7 +33,7 @@ same_length c = search rules
 
 -- src/lib.rt:163:1
 returns : tie.Need-returns
-unfolding tableListing
+unfolding table_listing
 returns c =
     let a = c.before.before.before.before.before.before.before.before.before.before.before.before.before.before.before.before.args in
     let n = c.before.before.before.before.before.before.before.before.before.before.before.before.least2.result in

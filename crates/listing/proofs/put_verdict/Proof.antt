@@ -1,7 +1,7 @@
 -- `listing::put_verdict` meets its contract, by the verdict.
 use borrow.Author.Rules.{rules}
 use native.Mathlib.Omega.{arith}
-use Rattle.listing.specs.Listing.{verdictEnd}
+use Rattle.listing.specs.Listing.{verdict_end}
 use Rattle.listing.proofs.put_verdict.Statement.{statement}
 use Rattle.listing.proofs.put_verdict.Tie as tie
 
@@ -15,7 +15,7 @@ same_length : tie.Need-same-length
 same_length c = search rules
 
 returns : tie.Need-returns
-unfolding verdictEnd
+unfolding verdict_end
 returns c =
     let p = c.before.before.put-bytes.ensures in
     (rw c.before.before.before.before.before.if1.true p, omega (arith, p.next))
@@ -30,7 +30,7 @@ same-length-2 : tie.Need-same-length-2
 same-length-2 c = search rules
 
 returns-2 : tie.Need-returns-2
-unfolding verdictEnd
+unfolding verdict_end
 returns-2 c =
     let p = c.before.before.put-bytes2.ensures in
     (rw c.before.before.before.before.before.if1.false p, omega (arith, p.next))

@@ -4,14 +4,14 @@ use Prim.Native.Nat.{◌+◌, ◌*◌, ◌-◌, ◌≤◌}
 use native.Mathlib.Omega.{arith}
 use lib.ListN.{length, take, drop}
 use Rattle.machine.specs.Bytes.{words_of}
-use Rattle.listing.specs.Listing.{wordLines}
+use Rattle.listing.specs.Listing.{word_lines}
 use Rattle.listing.proofs.Laws.{Left, puts-length, left-all}
 use Rattle.listing.proofs.Lines.{line-short, left-line, left-lines}
 use Rattle.listing.proofs.put_words.Statement.{statement}
 use Rattle.listing.proofs.put_words.Tie as tie
 
 abbrev invariant-loop : tie.invariant-loop
-invariant-loop table words out₀ at i₀ next₀ out i next = (i ≤ words) × (next ≤ at + 11 * i) × (length out ≡ length out₀) × Left (wordLines 1 (take words (words_of table))) out₀ at (wordLines (i + 1) (drop i (take words (words_of table)))) out next
+invariant-loop table words out₀ at i₀ next₀ out i next = (i ≤ words) × (next ≤ at + 11 * i) × (length out ≡ length out₀) × Left (word_lines 1 (take words (words_of table))) out₀ at (word_lines (i + 1) (drop i (take words (words_of table)))) out next
 
 abbrev decreases-loop : tie.decreases-loop
 decreases-loop table words out₀ at i₀ next₀ out i next = words - i

@@ -49,7 +49,7 @@ add-i : tie.Need-overflow-add-i invariant-loop decreases-loop
 add-i c = omega (arith, c.before.before.before.before.before.before.before.before.before.before.before.before.piece.ensures.low, c.before.before.before.before.before.before.before.before.before.before.before.before.before.before.loop-test.true, c.before.before.before.before.before.before.before.before.before.before.before.before.before.before.before.before.before.before.before.before.requires.1.last, c.before.before.before.before.before.before.before.before.before.before.before.before.before.before.before.before.before.before.before.before.requires.0.small, c.before.before.before.before.before.before.before.before.before.before.before.before.before.before.before.loop.invariant.2)
 
 loop-less : tie.Need-loop-smaller invariant-loop decreases-loop
-loop-less c = omega (arith, c.before.before.before.before.before.before.before.before.before.before.before.before.piece.ensures.some-entries, c.before.before.before.before.before.before.before.before.before.before.before.before.piece.ensures.low, c.before.before.before.before.before.before.before.before.before.before.before.before.before.before.loop-test.true)
+loop-less c = omega (arith, c.before.before.before.before.before.before.before.before.before.before.before.before.piece.ensures.some_entries, c.before.before.before.before.before.before.before.before.before.before.before.before.piece.ensures.low, c.before.before.before.before.before.before.before.before.before.before.before.before.before.before.loop-test.true)
 
 loop-again : tie.Need-loop-preserved invariant-loop decreases-loop
 loop-again c = (along-by c.before.before.before.before.before.before.before.before.before.before.before.before.before.before.before.loop.invariant.0 c.before.before.before.before.before.before.before.before.before.before.before.before.piece.result (omega (arith, c.before.before.before.before.before.before.before.before.before.before.before.before.piece.ensures.low, c.before.before.before.before.before.before.before.before.before.before.before.before.before.before.loop-test.true, c.before.before.before.before.before.before.before.before.before.before.before.before.before.before.before.loop.invariant.2)) c.before.before.before.before.before.before.before.before.mark-piece.ensures.marked (not-false _ c.if1.false), c.before.before.before.before.before.before.before.before.mark-piece.ensures.passes, c.before.before.before.before.before.before.before.before.before.before.before.before.before.before.before.loop.invariant.2)

@@ -3,7 +3,7 @@ use Prim.Native.Nat.{◌-◌}
 use native.Mathlib.Omega.{arith}
 use borrow.Author.Tests.{not-true, not-false}
 use Rattle.machine.specs.Bytes.{table_of}
-use Rattle.machine.proofs.Bytes.{length-tableOf}
+use Rattle.machine.proofs.Bytes.{length-table_of}
 use Rattle.loader.specs.Passing.{Passed}
 use Rattle.loader.proofs.Reaches.{Loop, loop-kept, loop-start, loop-none, loop-low, loop-row, loop-flags, loop-end, loop-ready, loop-fails, loop-next}
 use Rattle.loader.proofs.Passing.{none_passed, passed-room}
@@ -23,7 +23,7 @@ size-of-requires : tie.Need-size-of-requires invariant-loop decreases-loop
 size-of-requires c κs = tt
 
 mark-requires : tie.Need-mark-requires invariant-loop decreases-loop
-mark-requires c κs = loop-kept (table_of c.before.before.before.before.before.before.before.before.before.before.before.args.table.now) _ _ _ c.before.before.size_of.ensures (length-tableOf c.before.before.before.before.before.before.before.before.before.before.before.args.table.now) c.before.before.before.before.before.before.before.before.before.before.before.requires.1 c.before.before.before.before.before.clear.ensures
+mark-requires c κs = loop-kept (table_of c.before.before.before.before.before.before.before.before.before.before.before.args.table.now) _ _ _ c.before.before.size_of.ensures (length-table_of c.before.before.before.before.before.before.before.before.before.before.before.args.table.now) c.before.before.before.before.before.before.before.before.before.before.before.requires.1 c.before.before.before.before.before.clear.ensures
 
 same_length : tie.Need-same-length invariant-loop decreases-loop
 same_length c = c.before.before.before.before.before.before.mark.ensures.kept.flags ∙ sym c.before.before.before.before.before.before.before.before.before.before.before.before.before.before.before.before.before.before.requires.0
@@ -32,10 +32,10 @@ same-length-2 : tie.Need-same-length-2 invariant-loop decreases-loop
 same-length-2 c = c.before.before.before.before.before.before.mark.ensures.kept.row ∙ sym c.before.before.before.before.before.before.before.before.before.before.before.before.before.before.before.before.before.before.requires.1
 
 returns : tie.Need-returns invariant-loop decreases-loop
-returns c = loop-none (table_of c.before.before.before.before.before.before.before.before.before.before.before.before.before.before.before.before.before.before.args.table.now) _ _ _ c.before.before.before.before.before.before.before.before.before.size_of.ensures (length-tableOf c.before.before.before.before.before.before.before.before.before.before.before.before.before.before.before.before.before.before.args.table.now) c.before.before.before.before.before.before.before.before.before.before.before.before.before.before.before.before.before.before.requires.1 c.before.before.before.before.before.before.before.before.before.before.before.before.clear.ensures c.before.before.before.before.before.before.mark.ensures (not-true _ c.if1.true)
+returns c = loop-none (table_of c.before.before.before.before.before.before.before.before.before.before.before.before.before.before.before.before.before.before.args.table.now) _ _ _ c.before.before.before.before.before.before.before.before.before.size_of.ensures (length-table_of c.before.before.before.before.before.before.before.before.before.before.before.before.before.before.before.before.before.before.args.table.now) c.before.before.before.before.before.before.before.before.before.before.before.before.before.before.before.before.before.before.requires.1 c.before.before.before.before.before.before.before.before.before.before.before.before.clear.ensures c.before.before.before.before.before.before.mark.ensures (not-true _ c.if1.true)
 
 loop-holds : tie.Need-loop-init invariant-loop decreases-loop
-loop-holds c = (loop-start (table_of c.before.before.before.before.before.before.before.before.before.before.before.before.before.before.before.before.before.before.args.table.now) _ _ _ c.before.before.before.before.before.before.before.before.before.size_of.ensures (length-tableOf c.before.before.before.before.before.before.before.before.before.before.before.before.before.before.before.before.before.before.args.table.now) c.before.before.before.before.before.before.before.before.before.before.before.before.before.before.before.before.before.before.requires.1 c.before.before.before.before.before.before.before.before.before.before.before.before.clear.ensures c.before.before.before.before.before.before.mark.ensures (not-false _ c.if1.false), none_passed _ _ _ _ c.before.before.before.before.before.before.before.before.before.before.before.before.before.before.before.before.before.before.requires.2)
+loop-holds c = (loop-start (table_of c.before.before.before.before.before.before.before.before.before.before.before.before.before.before.before.before.before.before.args.table.now) _ _ _ c.before.before.before.before.before.before.before.before.before.size_of.ensures (length-table_of c.before.before.before.before.before.before.before.before.before.before.before.before.before.before.before.before.before.before.args.table.now) c.before.before.before.before.before.before.before.before.before.before.before.before.before.before.before.before.before.before.requires.1 c.before.before.before.before.before.before.before.before.before.before.before.before.clear.ensures c.before.before.before.before.before.before.mark.ensures (not-false _ c.if1.false), none_passed _ _ _ _ c.before.before.before.before.before.before.before.before.before.before.before.before.before.before.before.before.before.before.requires.2)
 
 mul_wide : tie.Need-overflow-mul-wide invariant-loop decreases-loop
 mul_wide c = omega (arith, c.loop-test.true, loop-low c.before.loop.invariant.0)

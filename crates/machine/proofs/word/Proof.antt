@@ -1,7 +1,7 @@
 -- `machine::word` meets its contract: within the whole words by the law of `words_of`, past them by the default.
 use mathlib.Core.Path.{sym}
 use lib.ListN.{get_or-eq_default}
-use Rattle.machine.proofs.Bytes.{length-wordsOf, getD-wordsOf}
+use Rattle.machine.proofs.Bytes.{length-words_of, get_d-words_of}
 use Rattle.machine.specs.Bytes.{count, words_of, word_at}
 use native.Mathlib.Omega.{arith}
 use borrow.Author.Rules.{rules}
@@ -47,13 +47,13 @@ returns : tie.Need-returns
 unfolding word_at count
 returns c =
     let a = c.before.before.before.before.before.before.before.args in
-    omega (arith, getD-wordsOf a.s.now a.i (omega arith))
+    omega (arith, get_d-words_of a.s.now a.i (omega arith))
 
 returns-2 : tie.Need-returns-2
 unfolding count
 returns-2 c =
     let a = c.before.before.before.args in
-    let l = length-wordsOf a.s.now in
+    let l = length-words_of a.s.now in
     sym (get_or-eq_default (words_of a.s.now) 0 (omega arith))
 
 pub word-spec : {M : Type 1} → statement M

@@ -2,13 +2,13 @@
 use native.Mathlib.Omega.{arith}
 use mathlib.Core.Path.{◌≡◌}
 use Prim.Native.Nat.{◌-◌, ◌<◌, ◌≤◌}
-use Rattle.maker.specs.Pairs.{pairsFrom, pairsHeld, lookPair}
+use Rattle.maker.specs.Pairs.{pairs_from, pairs_held, look_pair}
 use Rattle.maker.proofs.Holding.{look-first, look_hit, look-on, look-end}
 use Rattle.maker.proofs.look_pair.Statement.{statement}
 use Rattle.maker.proofs.look_pair.Tie as tie
 
 abbrev invariant-loop : tie.invariant-loop
-invariant-loop rows section operand n j₀ j = (j ≤ n) × (n < 65536) × (lookPair section operand (pairsHeld rows) ≡ lookPair section operand (pairsFrom rows j (n - j)))
+invariant-loop rows section operand n j₀ j = (j ≤ n) × (n < 65536) × (look_pair section operand (pairs_held rows) ≡ look_pair section operand (pairs_from rows j (n - j)))
 
 abbrev decreases-loop : tie.decreases-loop
 decreases-loop rows section operand n j₀ j = n - j

@@ -3,7 +3,7 @@ use native.Mathlib.Omega.{arith}
 use mathlib.Core.Path.{◌≡◌}
 use Prim.Native.Nat.{ℕ, ◌-◌, ◌≤◌}
 use lib.ListN.{length}
-use Rattle.maker.specs.Ranks.{noRank, RankBound, RankDone}
+use Rattle.maker.specs.Ranks.{no_rank, RankBound, RankDone}
 use Rattle.maker.specs.declared.Rank.{Rank}
 use Rattle.maker.proofs.Entering.{rank-last, rank-more, rank-stuck}
 use Rattle.maker.proofs.Ranking.{bound-step, count-step}
@@ -11,14 +11,14 @@ use Rattle.maker.proofs.next_level.Statement.{statement}
 use Rattle.maker.proofs.next_level.Tie as tie
 
 abbrev invariant-loop : tie.invariant-loop
-invariant-loop text at above i₀ s₀ i s = (i ≤ length text) × (s.count ≤ i) × RankBound above s × ((r : Rank) → RankDone text i above s r → RankDone text at above noRank r)
+invariant-loop text at above i₀ s₀ i s = (i ≤ length text) × (s.count ≤ i) × RankBound above s × ((r : Rank) → RankDone text i above s r → RankDone text at above no_rank r)
 
 abbrev decreases-loop : tie.decreases-loop
 decreases-loop text at above i₀ s₀ i s = length text - i
 
 -- src/lib.rt:143:5
 loop-holds : tie.Need-loop-init invariant-loop decreases-loop
-unfolding noRank
+unfolding no_rank
 loop-holds c = (c.before.requires.0, omega arith, record { higher = omega (arith, c.before.requires.2); most = omega arith }, λ r d. d)
 
 -- src/lib.rt:144:13

@@ -56,7 +56,7 @@ same-length-4 c = search rules
 
 -- src/lib.rt:296:9
 returns-4 : tie.Need-returns-4
-returns-4 c = use-over c.before.before.before.before.before.before.before.before.before.before.before.before.before.before.before.before.requires.4 c.before.before.before.before.before.before.before.before.before.before.before.before.before.before.before.before.requires.5 c.before.before.before.before.before.before.before.before.before.before.before.before.read-use.ensures (not-false _ c.before.before.before.before.before.before.before.before.before.before.if1.false) c.before.before.before.before.before.before.before.before.look-pair.ensures c.before.before.before.before.before.before.before.if2.false c.before.before.before.before.before.entries_at.ensures c.before.before.before.before.section-levels.ensures c.before.is-over.ensures c.if4.true
+returns-4 c = use-over c.before.before.before.before.before.before.before.before.before.before.before.before.before.before.before.before.requires.4 c.before.before.before.before.before.before.before.before.before.before.before.before.before.before.before.before.requires.5 c.before.before.before.before.before.before.before.before.before.before.before.before.read-use.ensures (not-false _ c.before.before.before.before.before.before.before.before.before.before.if1.false) c.before.before.before.before.before.before.before.before.look-pair.ensures c.before.before.before.before.before.before.before.if2.false c.before.before.before.before.before.entries_at.ensures c.before.before.before.before.section-levels.ensures c.before.is_over_lem.ensures c.if4.true
 
 -- src/lib.rt:298:9
 number-requires : tie.Need-number-requires
@@ -64,7 +64,7 @@ number-requires c κs = search rules
 
 -- src/lib.rt:299:5
 add-pair-requires : tie.Need-add-pair-requires
-add-pair-requires c κs = (omega (arith, c.before.before.before.before.before.before.before.before.before.before.before.before.before.before.before.before.before.before.before.requires.1, c.before.number.ensures.0, c.before.before.before.before.before.before.before.before.before.before.before.before.before.before.before.before.before.before.before.requires.5, not-over c.before.before.before.before.before.before.before.before.before.before.before.before.before.before.before.before.before.before.before.args.others c.before.before.before.before.before.before.before.before.before.before.before.before.before.before.before.before.before.before.before.args.own c.before.before.before.before.before.before.before.section-levels.result c.before.before.before.before.is-over.ensures c.before.before.before.if4.false, c.before.before.before.before.before.if3.false), omega (arith, c.before.number.ensures.0, c.before.before.before.before.before.before.before.before.before.before.before.before.before.before.before.before.before.before.before.requires.5, not-over c.before.before.before.before.before.before.before.before.before.before.before.before.before.before.before.before.before.before.before.args.others c.before.before.before.before.before.before.before.before.before.before.before.before.before.before.before.before.before.before.before.args.own c.before.before.before.before.before.before.before.section-levels.result c.before.before.before.before.is-over.ensures c.before.before.before.if4.false, c.before.before.before.before.before.if3.false), omega (arith, c.before.before.before.before.before.before.before.before.before.before.before.before.before.before.before.read-use.ensures.section (not-false _ c.before.before.before.before.before.before.before.before.before.before.before.before.before.if1.false), c.before.before.before.before.before.before.before.before.before.before.before.before.before.before.before.before.before.before.before.requires.2.few), omega (arith, c.before.before.before.before.before.before.before.before.before.before.before.before.before.before.before.read-use.ensures.operand (not-false _ c.before.before.before.before.before.before.before.before.before.before.before.before.before.if1.false), c.before.before.before.before.before.before.before.before.before.before.before.before.before.before.before.before.before.before.before.requires.2.few), omega (arith, c.before.before.before.before.before.before.before.before.before.before.before.before.before.before.before.before.before.before.before.requires.4))
+add-pair-requires c κs = (omega (arith, c.before.before.before.before.before.before.before.before.before.before.before.before.before.before.before.before.before.before.before.requires.1, c.before.number.ensures.0, c.before.before.before.before.before.before.before.before.before.before.before.before.before.before.before.before.before.before.before.requires.5, not-over c.before.before.before.before.before.before.before.before.before.before.before.before.before.before.before.before.before.before.before.args.others c.before.before.before.before.before.before.before.before.before.before.before.before.before.before.before.before.before.before.before.args.own c.before.before.before.before.before.before.before.section-levels.result c.before.before.before.before.is_over_lem.ensures c.before.before.before.if4.false, c.before.before.before.before.before.if3.false), omega (arith, c.before.number.ensures.0, c.before.before.before.before.before.before.before.before.before.before.before.before.before.before.before.before.before.before.before.requires.5, not-over c.before.before.before.before.before.before.before.before.before.before.before.before.before.before.before.before.before.before.before.args.others c.before.before.before.before.before.before.before.before.before.before.before.before.before.before.before.before.before.before.before.args.own c.before.before.before.before.before.before.before.section-levels.result c.before.before.before.before.is_over_lem.ensures c.before.before.before.if4.false, c.before.before.before.before.before.if3.false), omega (arith, c.before.before.before.before.before.before.before.before.before.before.before.before.before.before.before.read-use.ensures.section (not-false _ c.before.before.before.before.before.before.before.before.before.before.before.before.before.if1.false), c.before.before.before.before.before.before.before.before.before.before.before.before.before.before.before.before.before.before.before.requires.2.few), omega (arith, c.before.before.before.before.before.before.before.before.before.before.before.before.before.before.before.read-use.ensures.operand (not-false _ c.before.before.before.before.before.before.before.before.before.before.before.before.before.if1.false), c.before.before.before.before.before.before.before.before.before.before.before.before.before.before.before.before.before.before.before.requires.2.few), omega (arith, c.before.before.before.before.before.before.before.before.before.before.before.before.before.before.before.before.before.before.before.requires.4))
 
 -- src/lib.rt:302:14
 add-t25 : tie.Need-overflow-add-t25
@@ -76,7 +76,7 @@ same-length-5 c = search rules
 
 -- src/lib.rt:271:1
 returns-5 : tie.Need-returns-5
-returns-5 c = use-added c.before.before.before.before.before.before.before.before.before.before.before.before.before.before.before.before.before.before.before.before.before.before.before.requires.5 c.before.before.before.before.before.before.before.before.before.before.before.before.before.before.before.before.before.before.before.read-use.ensures (not-false _ c.before.before.before.before.before.before.before.before.before.before.before.before.before.before.before.before.before.if1.false) c.before.before.before.before.before.before.before.before.before.before.before.before.before.before.before.look-pair.ensures c.before.before.before.before.before.before.before.before.before.before.before.before.before.before.if2.false c.before.before.before.before.before.before.before.before.before.before.before.before.entries_at.ensures c.before.before.before.before.before.before.before.before.before.before.before.section-levels.ensures c.before.before.before.before.before.before.before.before.before.if3.false c.before.before.before.before.before.before.before.before.is-over.ensures c.before.before.before.before.before.before.before.if4.false c.before.before.before.before.before.number.ensures.0 c.before.before.before.add-pair.ensures
+returns-5 c = use-added c.before.before.before.before.before.before.before.before.before.before.before.before.before.before.before.before.before.before.before.before.before.before.before.requires.5 c.before.before.before.before.before.before.before.before.before.before.before.before.before.before.before.before.before.before.before.read-use.ensures (not-false _ c.before.before.before.before.before.before.before.before.before.before.before.before.before.before.before.before.before.if1.false) c.before.before.before.before.before.before.before.before.before.before.before.before.before.before.before.look-pair.ensures c.before.before.before.before.before.before.before.before.before.before.before.before.before.before.if2.false c.before.before.before.before.before.before.before.before.before.before.before.before.entries_at.ensures c.before.before.before.before.before.before.before.before.before.before.before.section-levels.ensures c.before.before.before.before.before.before.before.before.before.if3.false c.before.before.before.before.before.before.before.before.is_over_lem.ensures c.before.before.before.before.before.before.before.if4.false c.before.before.before.before.before.number.ensures.0 c.before.before.before.add-pair.ensures
 
 pub take-use-spec : {M : Type 1} → statement M
 take-use-spec =

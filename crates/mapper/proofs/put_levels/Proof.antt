@@ -1,6 +1,6 @@
 use borrow.Author.Rules.{rules}
-use Rattle.mapping.specs.Mapping.{rowsWords}
-use Rattle.mapper.specs.Mapped.{Puts, levelsHeld}
+use Rattle.mapping.specs.Mapping.{rows_words}
+use Rattle.mapper.specs.Mapped.{Puts, levels_held}
 use Rattle.mapper.proofs.Made.{levels-start, levels-step, levels-end}
 use lib.ListN.{length}
 use native.Mathlib.Omega.{arith}
@@ -11,7 +11,7 @@ use Rattle.mapper.proofs.put_levels.Tie as tie
 
 abbrev invariant-loop : tie.invariant-loop
 invariant-loop out₀ name places k end i₀ out i =
-    (k ≤ i) × (i ≤ end) × (length out ≡ length out₀) × Puts out₀ out (12 * k) (rowsWords (levelsHeld name.start name.len places k (i - k)))
+    (k ≤ i) × (i ≤ end) × (length out ≡ length out₀) × Puts out₀ out (12 * k) (rows_words (levels_held name.start name.len places k (i - k)))
 
 abbrev decreases-loop : tie.decreases-loop
 decreases-loop out₀ name places k end i₀ out i = end - i

@@ -2,7 +2,7 @@ use borrow.Author.Rules.{rules}
 use mathlib.Core.Path.{refl}
 use native.Mathlib.Omega.{arith}
 use Rattle.machine.specs.Form.{words64}
-use Rattle.mapping.specs.Mapping.{rowWords}
+use Rattle.mapping.specs.Mapping.{row_words}
 use Rattle.mapper.proofs.Laws.{puts-number, puts-more}
 use Rattle.mapper.proofs.put_row.Statement.{statement}
 use Rattle.mapper.proofs.put_row.Tie as tie
@@ -37,7 +37,7 @@ same_length c = search rules
 
 -- src/lib.rt:34:1
 returns : tie.Need-returns
-unfolding rowWords words64
+unfolding row_words words64
 returns c = puts-more (puts-number _ _ (omega arith) c.before.before.before.before.before.before.before.before.before.before.put-number.ensures) (puts-more (puts-number _ _ refl c.before.before.before.before.before.before.put-number2.ensures) (puts-number _ _ refl c.before.before.put-number3.ensures) (omega arith)) (omega arith)
 
 pub put-row-spec : {M : Type 1} → statement M

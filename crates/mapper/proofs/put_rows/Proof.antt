@@ -5,12 +5,12 @@ use native.Mathlib.Omega.{arith}
 use Rattle.machine.specs.Bytes.{bytes_of, over}
 use Rattle.mapper.proofs.Laws.{row-held, rows_start, rows-put, rows-size, rows_end}
 use Rattle.mapper.specs.Mapped.{held_rows}
-use Rattle.mapping.specs.Mapping.{rowsWords}
+use Rattle.mapping.specs.Mapping.{rows_words}
 use Rattle.mapper.proofs.put_rows.Statement.{statement}
 use Rattle.mapper.proofs.put_rows.Tie as tie
 
 abbrev invariant-loop : tie.invariant-loop
-invariant-loop text rows first places rules out₀ k₀ out k = (k ≤ rules) × (out ≡ over (bytes_of (rowsWords (held_rows text rows places first 0 k))) out₀)
+invariant-loop text rows first places rules out₀ k₀ out k = (k ≤ rules) × (out ≡ over (bytes_of (rows_words (held_rows text rows places first 0 k))) out₀)
 
 abbrev decreases-loop : tie.decreases-loop
 decreases-loop text rows first places rules out₀ k₀ out k = rules - k

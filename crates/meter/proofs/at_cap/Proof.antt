@@ -1,6 +1,6 @@
 use mathlib.Core.Path.{refl}
 use Rattle.verdict.specs.Told.{bit}
-use Rattle.meter.specs.Store.{atCap}
+use Rattle.meter.specs.Store.{at_cap}
 use borrow.Author.Rules.{rules}
 use Rattle.meter.proofs.at_cap.Statement.{statement}
 use Rattle.meter.proofs.at_cap.Tie as tie
@@ -27,7 +27,7 @@ shr-result c = search rules
 
 -- src/lib.rt:58:1
 returns : tie.Need-returns
-unfolding atCap bit
+unfolding at_cap bit
 returns c = refl
 
 pub at-cap-spec : {M : Type 1} → statement M

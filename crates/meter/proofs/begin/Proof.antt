@@ -1,4 +1,4 @@
-use Rattle.meter.specs.Store.{numbersOf, calledNumbers}
+use Rattle.meter.specs.Store.{numbers_of, called_numbers}
 use mathlib.Core.Path.{◌≡◌}
 use Rattle.meter.proofs.Finds.{BegunUpto, begun_first, begun-next, begun_all}
 use Rattle.machine.specs.Bytes.{table_of}
@@ -9,7 +9,7 @@ use Rattle.meter.proofs.begin.Statement.{statement}
 use Rattle.meter.proofs.begin.Tie as tie
 
 abbrev invariant-loop : tie.invariant-loop
-invariant-loop table starts called rows₀ r₀ rows r = (BegunUpto (table_of table) starts (calledNumbers called) r (numbersOf rows)) × (length rows ≡ 4490)
+invariant-loop table starts called rows₀ r₀ rows r = (BegunUpto (table_of table) starts (called_numbers called) r (numbers_of rows)) × (length rows ≡ 4490)
 
 abbrev decreases-loop : tie.decreases-loop
 decreases-loop table starts called rows₀ r₀ rows r = length starts - r

@@ -1,4 +1,4 @@
-use Rattle.meter.specs.Store.{numbersOf}
+use Rattle.meter.specs.Store.{numbers_of}
 use Rattle.meter.proofs.Store.{length-numbers}
 use mathlib.Core.Logic.{⊎_elim}
 use Rattle.meter.proofs.Figures.{GreatestUpto, greatest-first, greatest-same, greatest-more, greatest-all}
@@ -9,7 +9,7 @@ use Rattle.meter.proofs.greatest.Statement.{statement}
 use Rattle.meter.proofs.greatest.Tie as tie
 
 abbrev invariant-loop : tie.invariant-loop
-invariant-loop rows from most₀ i₀ most i = GreatestUpto (numbersOf rows) from i most
+invariant-loop rows from most₀ i₀ most i = GreatestUpto (numbers_of rows) from i most
 
 abbrev decreases-loop : tie.decreases-loop
 decreases-loop rows from most₀ i₀ most i = 4353 - i

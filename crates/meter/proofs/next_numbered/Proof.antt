@@ -3,19 +3,19 @@ use Prim.Native.Nat.{◌≤◌, ◌-◌}
 use native.Mathlib.Omega.{arith}
 use borrow.Author.Rules.{rules}
 use Rattle.meter.specs.Steps.{ZeroIn}
-use Rattle.meter.specs.Store.{numbersOf}
+use Rattle.meter.specs.Store.{numbers_of}
 use Rattle.meter.proofs.Store.{zero-none, zero_more}
 use Rattle.meter.proofs.next_numbered.Statement.{statement}
 use Rattle.meter.proofs.next_numbered.Tie as tie
 
 abbrev invariant-loop : tie.invariant-loop
-invariant-loop rows i to at₀ at = (i ≤ at) × (at ≤ to) × ZeroIn (numbersOf rows) i at
+invariant-loop rows i to at₀ at = (i ≤ at) × (at ≤ to) × ZeroIn (numbers_of rows) i at
 
 abbrev decreases-loop : tie.decreases-loop
 decreases-loop rows i to at₀ at = to - at
 
 loop-holds : tie.Need-loop-init invariant-loop decreases-loop
-loop-holds c = (omega arith, omega arith, zero-none (numbersOf c.before.args.rows.now) c.before.args.i)
+loop-holds c = (omega arith, omega arith, zero-none (numbers_of c.before.args.rows.now) c.before.args.i)
 
 past-zeros-requires : tie.Need-past-zeros-requires invariant-loop decreases-loop
 past-zeros-requires c κs = search rules

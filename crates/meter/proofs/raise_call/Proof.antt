@@ -16,7 +16,7 @@ called-number-requires : tie.Need-called-number-requires
 called-number-requires c κs = search rules
 
 add-o : tie.Need-overflow-add-o
-add-o c = omega (arith, c.before.called-number.ensures, c.before.before.before.before.before.before.before.before.requires.0.called-small (4097 + c.before.before.before.rule-at.result), c.before.before.before.before.before.before.before.before.requires.1.small)
+add-o c = omega (arith, c.before.called-number.ensures, c.before.before.before.before.before.before.before.before.requires.0.called_small (4097 + c.before.before.before.rule-at.result), c.before.before.before.before.before.before.before.before.requires.1.small)
 
 add-raise-two : tie.Need-overflow-add-raise-two
 add-raise-two c = omega (arith, rule-small c.before.before.before.before.before.before.before.before.before.before.requires.0 c.before.before.before.before.before.before.before.before.before.before.requires.1)

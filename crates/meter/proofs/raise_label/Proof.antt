@@ -1,29 +1,29 @@
 use borrow.Author.Rules.{rules}
 use native.Mathlib.Omega.{arith}
-use Rattle.machine.proofs.Bytes.{length-tableOf}
+use Rattle.machine.proofs.Bytes.{length-table_of}
 use Rattle.meter.proofs.Visits.{label-raised, label-enough}
 use Rattle.meter.proofs.raise_label.Statement.{statement}
 use Rattle.meter.proofs.raise_label.Tie as tie
 
 -- src/lib.rt:227:13
 add-l : tie.Need-overflow-add-l
-add-l c = omega (arith, length-tableOf c.before.before.args.table.now)
+add-l c = omega (arith, length-table_of c.before.before.args.table.now)
 
 -- src/lib.rt:227:21
 mul-l : tie.Need-overflow-mul-l
-mul-l c = omega (arith, length-tableOf c.before.before.args.table.now)
+mul-l c = omega (arith, length-table_of c.before.before.args.table.now)
 
 -- src/lib.rt:227:13
 add-l-2 : tie.Need-overflow-add-l-2
-add-l-2 c = omega (arith, length-tableOf c.before.before.args.table.now)
+add-l-2 c = omega (arith, length-table_of c.before.before.args.table.now)
 
 -- src/lib.rt:228:23
 add_back : tie.Need-overflow-add-back
-add_back c = omega (arith, length-tableOf c.before.before.args.table.now)
+add_back c = omega (arith, length-table_of c.before.before.args.table.now)
 
 -- src/lib.rt:228:53
 add-word-at : tie.Need-overflow-add-word-at
-add-word-at c = omega (arith, length-tableOf c.before.before.args.table.now)
+add-word-at c = omega (arith, length-table_of c.before.before.args.table.now)
 
 -- src/lib.rt:228:30
 word-at-requires : tie.Need-word-at-requires

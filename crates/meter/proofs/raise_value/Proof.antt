@@ -7,7 +7,7 @@ use Rattle.meter.proofs.raise_value.Statement.{statement}
 use Rattle.meter.proofs.raise_value.Tie as tie
 
 word-at-requires : tie.Need-word-at-requires
-word-at-requires c κs = rule-inside c.before.before.before.before.requires.0 c.before.before.before.before.requires.1.here.found c.before.before.before.before.requires.1.in-rule
+word-at-requires c κs = rule-inside c.before.before.before.before.requires.0 c.before.before.before.before.requires.1.here.found c.before.before.before.before.requires.1.in_rule
 
 returns : tie.Need-returns
 returns c = value-other c.before.before.before.before.before.before.requires.0 c.before.word-at.ensures.0 c.if1.true
@@ -37,10 +37,10 @@ way-out-requires : tie.Need-way-out-requires
 way-out-requires c κs = choice-fits c.before.before.before.before.before.before.before.before.before.before.before.before.requires.0 c.before.before.before.before.before.before.before.before.before.before.before.before.requires.1
 
 add-raise : tie.Need-overflow-add-raise
-add-raise c = omega (arith, c.before.before.before.before.before.called-number.ensures, c.before.before.before.before.before.before.before.before.before.before.before.before.before.before.before.requires.0.called-small c.before.before.before.before.before.before.before.before.before.before.before.before.before.before.before.args.p, c.before.before.before.before.before.before.before.before.before.before.before.before.before.before.before.requires.1.here.here.small)
+add-raise c = omega (arith, c.before.before.before.before.before.called-number.ensures, c.before.before.before.before.before.before.before.before.before.before.before.before.before.before.before.requires.0.called_small c.before.before.before.before.before.before.before.before.before.before.before.before.before.before.before.args.p, c.before.before.before.before.before.before.before.before.before.before.before.before.before.before.before.requires.1.here.here.small)
 
 add-raise-2 : tie.Need-overflow-add-raise-2
-add-raise-2 c = omega (arith, c.before.before.before.before.before.called-number.ensures, c.before.before.before.before.before.before.before.before.before.before.before.before.before.before.before.requires.0.called-small c.before.before.before.before.before.before.before.before.before.before.before.before.before.before.before.args.p, c.before.before.before.before.before.before.before.before.before.before.before.before.before.before.before.requires.1.here.here.small)
+add-raise-2 c = omega (arith, c.before.before.before.before.before.called-number.ensures, c.before.before.before.before.before.before.before.before.before.before.before.before.before.before.before.requires.0.called_small c.before.before.before.before.before.before.before.before.before.before.before.before.before.before.before.args.p, c.before.before.before.before.before.before.before.before.before.before.before.before.before.before.before.requires.1.here.here.small)
 
 raise-requires : tie.Need-raise-requires
 raise-requires c κs = c.before.before.before.before.before.before.before.before.before.before.before.before.before.before.before.requires.2

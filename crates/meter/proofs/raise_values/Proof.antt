@@ -1,4 +1,4 @@
-use Rattle.meter.specs.Store.{numbersOf, calledNumbers}
+use Rattle.meter.specs.Store.{numbers_of, called_numbers}
 use lib.ListN.{length}
 use Rattle.meter.proofs.Sweeps.{ValuesUpto, values-first, values-next, values-past, values-all}
 use Rattle.meter.proofs.Laws.{start-end, is-end}
@@ -11,7 +11,7 @@ use Rattle.meter.proofs.raise_values.Statement.{statement}
 use Rattle.meter.proofs.raise_values.Tie as tie
 
 abbrev invariant-loop : tie.invariant-loop
-invariant-loop table starts q c called here rows₀ to changed₀ p₀ rows changed p = (ValuesUpto (table_of table) starts (calledNumbers called) c here.number q to p (numbersOf rows₀) (numbersOf rows) changed) × (length rows ≡ 4490)
+invariant-loop table starts q c called here rows₀ to changed₀ p₀ rows changed p = (ValuesUpto (table_of table) starts (called_numbers called) c here.number q to p (numbers_of rows₀) (numbers_of rows) changed) × (length rows ≡ 4490)
 
 abbrev decreases-loop : tie.decreases-loop
 decreases-loop table starts q c called here rows₀ to changed₀ p₀ rows changed p = to - p
@@ -38,7 +38,7 @@ loop-holds c = (values-first c.before.before.before.before.before.before.before.
 
 -- src/lib.rt:285:13
 raise-value-requires : tie.Need-raise-value-requires invariant-loop decreases-loop
-raise-value-requires c κs = (c.before.before.loop.invariant.0.steps.kept, record { rule = c.before.before.before.before.before.before.before.before.before.before.args.q; here = c.before.before.before.before.before.before.before.before.before.before.requires.1; chooses = c.before.before.before.before.before.before.before.before.before.before.requires.2; in-rule = record { from = c.before.before.loop.invariant.0.from; to = omega (arith, c.before.loop-test.true, c.before.before.loop.invariant.0.is-end) } }, c.before.before.loop.invariant.1)
+raise-value-requires c κs = (c.before.before.loop.invariant.0.steps.kept, record { rule = c.before.before.before.before.before.before.before.before.before.before.args.q; here = c.before.before.before.before.before.before.before.before.before.before.requires.1; chooses = c.before.before.before.before.before.before.before.before.before.before.requires.2; in_rule = record { from = c.before.before.loop.invariant.0.from; to = omega (arith, c.before.loop-test.true, c.before.before.loop.invariant.0.is-end) } }, c.before.before.loop.invariant.1)
 
 -- src/lib.rt:286:9
 either-requires : tie.Need-either-requires invariant-loop decreases-loop

@@ -1,9 +1,9 @@
-use Rattle.meter.specs.Store.{numbersOf}
+use Rattle.meter.specs.Store.{numbers_of}
 use mathlib.Core.Path.{◌≡◌}
 use lib.ListN.{length}
 use Rattle.meter.proofs.Visits.{WaysUpto, ways-first, ways_next, ways-none, ways-all}
 use Rattle.machine.specs.Bytes.{table_of}
-use Rattle.machine.proofs.Bytes.{length-tableOf}
+use Rattle.machine.proofs.Bytes.{length-table_of}
 use borrow.Author.Rules.{rules}
 use Prim.Native.Nat.{◌-◌}
 use native.Mathlib.Omega.{arith}
@@ -11,7 +11,7 @@ use Rattle.meter.proofs.raise_ways.Statement.{statement}
 use Rattle.meter.proofs.raise_ways.Tie as tie
 
 abbrev invariant-loop : tie.invariant-loop
-invariant-loop table c v rows₀ n changed₀ i₀ rows changed i = (WaysUpto (table_of table) c v n i (numbersOf rows₀) (numbersOf rows) changed) × (length rows ≡ 4490)
+invariant-loop table c v rows₀ n changed₀ i₀ rows changed i = (WaysUpto (table_of table) c v n i (numbers_of rows₀) (numbers_of rows) changed) × (length rows ≡ 4490)
 
 abbrev decreases-loop : tie.decreases-loop
 decreases-loop table c v rows₀ n changed₀ i₀ rows changed i = n - i
@@ -26,7 +26,7 @@ word-at-requires c κs = (c.before.before.before.requires.0.low, omega (arith, c
 
 -- src/lib.rt:247:5
 loop-holds : tie.Need-loop-init invariant-loop decreases-loop
-loop-holds c = (ways-first (length-tableOf c.before.before.before.before.args.table.now) c.before.before.before.before.requires.0 c.word-at.ensures.0, search rules)
+loop-holds c = (ways-first (length-table_of c.before.before.before.before.args.table.now) c.before.before.before.before.requires.0 c.word-at.ensures.0, search rules)
 
 -- src/lib.rt:248:13
 raise-label-requires : tie.Need-raise-label-requires invariant-loop decreases-loop

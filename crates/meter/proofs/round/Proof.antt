@@ -6,13 +6,13 @@ use borrow.Author.Rules.{rules}
 use native.Mathlib.Omega.{arith}
 use Rattle.machine.specs.Bytes.{table_of}
 use Rattle.meter.specs.Steps.{Steps, AskedFrom}
-use Rattle.meter.specs.Store.{numbersOf, calledNumbers}
+use Rattle.meter.specs.Store.{numbers_of, called_numbers}
 use Rattle.meter.proofs.Sweeps.{none-asked, then-swept}
 use Rattle.meter.proofs.round.Statement.{statement}
 use Rattle.meter.proofs.round.Tie as tie
 
 abbrev invariant-loop : tie.invariant-loop
-invariant-loop table starts called raised rows₀ first changed₀ now₀ r₀ rows changed now r = (r ≤ length starts) × (length rows ≡ 4490) × Steps (table_of table) starts (AskedFrom (table_of table) starts (calledNumbers called) (length starts)) (calledNumbers called) (numbersOf rows₀) (numbersOf rows) changed
+invariant-loop table starts called raised rows₀ first changed₀ now₀ r₀ rows changed now r = (r ≤ length starts) × (length rows ≡ 4490) × Steps (table_of table) starts (AskedFrom (table_of table) starts (called_numbers called) (length starts)) (called_numbers called) (numbers_of rows₀) (numbers_of rows) changed
 
 abbrev decreases-loop : tie.decreases-loop
 decreases-loop table starts called raised rows₀ first changed₀ now₀ r₀ rows changed now r = r

@@ -1,4 +1,4 @@
-use Rattle.meter.specs.Store.{numbersOf, calledNumbers}
+use Rattle.meter.specs.Store.{numbers_of, called_numbers}
 use mathlib.Core.Path.{◌≡◌}
 use lib.ListN.{length}
 use Rattle.meter.proofs.Sweeps.{Settling, todo, settling-first, settling-rounds, settling-next, todo-less, settled}
@@ -8,10 +8,10 @@ use Rattle.meter.proofs.settle.Statement.{statement}
 use Rattle.meter.proofs.settle.Tie as tie
 
 abbrev invariant-loop : tie.invariant-loop
-invariant-loop table starts called rows₀ changed₀ up₀ early₀ rows changed up early = (Settling (table_of table) starts (calledNumbers called) (numbersOf rows₀) (numbersOf rows) changed) × (length rows ≡ 4490)
+invariant-loop table starts called rows₀ changed₀ up₀ early₀ rows changed up early = (Settling (table_of table) starts (called_numbers called) (numbers_of rows₀) (numbers_of rows) changed) × (length rows ≡ 4490)
 
 abbrev decreases-loop : tie.decreases-loop
-decreases-loop table starts called rows₀ changed₀ up₀ early₀ rows changed up early = todo (numbersOf rows) changed
+decreases-loop table starts called rows₀ changed₀ up₀ early₀ rows changed up early = todo (numbers_of rows) changed
 
 -- src/lib.rt:429:5
 loop-holds : tie.Need-loop-init invariant-loop decreases-loop

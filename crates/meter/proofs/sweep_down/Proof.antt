@@ -1,4 +1,4 @@
-use Rattle.meter.specs.Store.{numbersOf, calledNumbers}
+use Rattle.meter.specs.Store.{numbers_of, called_numbers}
 use mathlib.Core.Path.{◌≡◌}
 use lib.ListN.{length}
 use Rattle.meter.proofs.Sweeps.{RulesFrom, rules-first, rules-next, rules-all}
@@ -9,7 +9,7 @@ use Rattle.meter.proofs.sweep_down.Statement.{statement}
 use Rattle.meter.proofs.sweep_down.Tie as tie
 
 abbrev invariant-loop : tie.invariant-loop
-invariant-loop table starts called rows₀ changed₀ r₀ rows changed r = (RulesFrom (table_of table) starts (calledNumbers called) r (numbersOf rows₀) (numbersOf rows) changed) × (length rows ≡ 4490)
+invariant-loop table starts called rows₀ changed₀ r₀ rows changed r = (RulesFrom (table_of table) starts (called_numbers called) r (numbers_of rows₀) (numbers_of rows) changed) × (length rows ≡ 4490)
 
 abbrev decreases-loop : tie.decreases-loop
 decreases-loop table starts called rows₀ changed₀ r₀ rows changed r = r

@@ -1,4 +1,4 @@
-use Rattle.meter.specs.Store.{numbersOf, calledNumbers}
+use Rattle.meter.specs.Store.{numbers_of, called_numbers}
 use mathlib.Core.Path.{◌≡◌}
 use lib.ListN.{length}
 use Rattle.meter.proofs.Sweeps.{SweptUpto, swept-first, swept-next, swept_all}
@@ -11,7 +11,7 @@ use Rattle.meter.proofs.sweep_rule.Statement.{statement}
 use Rattle.meter.proofs.sweep_rule.Tie as tie
 
 abbrev invariant-loop : tie.invariant-loop
-invariant-loop table starts r called rows₀ to changed₀ l₀ rows changed l = (SweptUpto (table_of table) starts (calledNumbers called) r to l (numbersOf rows₀) (numbersOf rows) changed) × (length rows ≡ 4490)
+invariant-loop table starts r called rows₀ to changed₀ l₀ rows changed l = (SweptUpto (table_of table) starts (called_numbers called) r to l (numbers_of rows₀) (numbers_of rows) changed) × (length rows ≡ 4490)
 
 abbrev decreases-loop : tie.decreases-loop
 decreases-loop table starts r called rows₀ to changed₀ l₀ rows changed l = to - l

@@ -1,4 +1,4 @@
-use Rattle.meter.specs.Store.{numbersOf, calledNumbers}
+use Rattle.meter.specs.Store.{numbers_of, called_numbers}
 use mathlib.Core.Path.{◌≡◌}
 use lib.ListN.{length}
 use Prim.Native.Nat.{◌-◌}
@@ -10,7 +10,7 @@ use Rattle.meter.proofs.sweep_up.Statement.{statement}
 use Rattle.meter.proofs.sweep_up.Tie as tie
 
 abbrev invariant-loop : tie.invariant-loop
-invariant-loop table starts called rows₀ changed₀ r₀ rows changed r = (RulesBefore (table_of table) starts (calledNumbers called) r (numbersOf rows₀) (numbersOf rows) changed) × (length rows ≡ 4490)
+invariant-loop table starts called rows₀ changed₀ r₀ rows changed r = (RulesBefore (table_of table) starts (called_numbers called) r (numbers_of rows₀) (numbers_of rows) changed) × (length rows ≡ 4490)
 
 abbrev decreases-loop : tie.decreases-loop
 decreases-loop table starts called rows₀ changed₀ r₀ rows changed r = length starts - r

@@ -1,6 +1,6 @@
 use Rattle.meter.proofs.Seen.{outside_low, outside_high, here-word, visit-invalid, visit-unreached, visit-made, visit-here}
 use Rattle.meter.proofs.Laws.{rule-small, not-nothing}
-use Rattle.machine.specs.Decode.{decode_one, decodeTwo}
+use Rattle.machine.specs.Decode.{decode_one, decode_two}
 use Rattle.loader.proofs.Visits.{decode-none, decode-one, decode-both, decode-short, two-words}
 use mathlib.Core.Path.{sym, ap, ◌∙◌}
 use native.Mathlib.Omega.{arith}
@@ -72,13 +72,13 @@ word-at-requires : tie.Need-word-at-requires
 word-at-requires c κs = (omega arith, omega (arith, c.before.before.before.before.before.before.before.before.before.before.size_of.ensures, c.before.if6.false))
 
 visit-two-requires : tie.Need-visit-two-requires
-visit-two-requires c κs = (c.before.before.before.before.before.before.before.before.before.before.before.before.before.before.before.before.before.before.requires.0, (visit-here c.before.before.before.before.before.before.before.before.before.before.before.before.before.before.before.before.before.before.requires.0 c.before.before.before.before.before.before.before.before.before.before.before.before.before.before.before.before.before.before.requires.1 c.before.before.before.before.before.before.before.before.before.before.before.before.before.before.before.before.before.before.requires.2 (omega (arith, c.before.before.before.before.before.before.before.before.before.before.before.before.size_of.ensures, c.before.before.before.before.before.before.before.before.before.before.before.if2.false)) c.before.before.before.before.before.before.before.before.before.number.ensures c.before.before.before.before.before.before.before.before.if3.false), decode-both _ _ _ _ (here-word c.before.before.before.before.before.before.before.before.before.before.before.before.before.before.before.before.before.before.args.table.now c.before.before.before.before.before.before.before.before.before.before.before.before.before.before.before.before.before.before.args.at c.before.before.before.before.before.before.before.before.before.before.before.before.before.if1.false (omega (arith, c.before.before.before.before.before.before.before.before.before.before.before.before.size_of.ensures, c.before.before.before.before.before.before.before.before.before.before.before.if2.false)) c.before.before.before.before.before.before.before.word.ensures) (two-words _ _ c.before.before.before.before.before.before.instruction-length.ensures c.before.before.before.before.before.if4.false c.before.before.before.before.if5.false) c.before.word-at.ensures.0 ∙ ap (λ n. decodeTwo c.before.before.before.before.before.before.before.before.before.before.before.before.before.before.before.before.before.before.args.at n c.before.word-at.result) (sym c.before.before.wide2.ensures.0), c.before.word-at.ensures.1, c.before.before.before.before.before.before.before.before.before.before.before.before.before.before.before.before.before.before.requires.3)
+visit-two-requires c κs = (c.before.before.before.before.before.before.before.before.before.before.before.before.before.before.before.before.before.before.requires.0, (visit-here c.before.before.before.before.before.before.before.before.before.before.before.before.before.before.before.before.before.before.requires.0 c.before.before.before.before.before.before.before.before.before.before.before.before.before.before.before.before.before.before.requires.1 c.before.before.before.before.before.before.before.before.before.before.before.before.before.before.before.before.before.before.requires.2 (omega (arith, c.before.before.before.before.before.before.before.before.before.before.before.before.size_of.ensures, c.before.before.before.before.before.before.before.before.before.before.before.if2.false)) c.before.before.before.before.before.before.before.before.before.number.ensures c.before.before.before.before.before.before.before.before.if3.false), decode-both _ _ _ _ (here-word c.before.before.before.before.before.before.before.before.before.before.before.before.before.before.before.before.before.before.args.table.now c.before.before.before.before.before.before.before.before.before.before.before.before.before.before.before.before.before.before.args.at c.before.before.before.before.before.before.before.before.before.before.before.before.before.if1.false (omega (arith, c.before.before.before.before.before.before.before.before.before.before.before.before.size_of.ensures, c.before.before.before.before.before.before.before.before.before.before.before.if2.false)) c.before.before.before.before.before.before.before.word.ensures) (two-words _ _ c.before.before.before.before.before.before.instruction-length.ensures c.before.before.before.before.before.if4.false c.before.before.before.before.if5.false) c.before.word-at.ensures.0 ∙ ap (λ n. decode_two c.before.before.before.before.before.before.before.before.before.before.before.before.before.before.before.before.before.before.args.at n c.before.word-at.result) (sym c.before.before.wide2.ensures.0), c.before.word-at.ensures.1, c.before.before.before.before.before.before.before.before.before.before.before.before.before.before.before.before.before.before.requires.3)
 
 same-length-5 : tie.Need-same-length-5
 same-length-5 c = search rules
 
 returns-7 : tie.Need-returns-7
-returns-7 c = visit-made c.before.before.before.before.before.before.before.before.before.before.before.before.before.before.before.before.before.before.before.before.before.requires.0 (decode-both _ _ _ _ (here-word c.before.before.before.before.before.before.before.before.before.before.before.before.before.before.before.before.before.before.before.before.before.args.table.now c.before.before.before.before.before.before.before.before.before.before.before.before.before.before.before.before.before.before.before.before.before.args.at c.before.before.before.before.before.before.before.before.before.before.before.before.before.before.before.before.if1.false (omega (arith, c.before.before.before.before.before.before.before.before.before.before.before.before.before.before.before.size_of.ensures, c.before.before.before.before.before.before.before.before.before.before.before.before.before.before.if2.false)) c.before.before.before.before.before.before.before.before.before.before.word.ensures) (two-words _ _ c.before.before.before.before.before.before.before.before.before.instruction-length.ensures c.before.before.before.before.before.before.before.before.if4.false c.before.before.before.before.before.before.before.if5.false) c.before.before.before.before.word-at.ensures.0 ∙ ap (λ n. decodeTwo c.before.before.before.before.before.before.before.before.before.before.before.before.before.before.before.before.before.before.before.before.before.args.at n c.before.before.before.before.word-at.result) (sym c.before.before.before.before.before.wide2.ensures.0)) c.before.before.before.before.before.before.before.before.before.before.before.before.number.ensures c.before.before.visit-two.ensures
+returns-7 c = visit-made c.before.before.before.before.before.before.before.before.before.before.before.before.before.before.before.before.before.before.before.before.before.requires.0 (decode-both _ _ _ _ (here-word c.before.before.before.before.before.before.before.before.before.before.before.before.before.before.before.before.before.before.before.before.before.args.table.now c.before.before.before.before.before.before.before.before.before.before.before.before.before.before.before.before.before.before.before.before.before.args.at c.before.before.before.before.before.before.before.before.before.before.before.before.before.before.before.before.if1.false (omega (arith, c.before.before.before.before.before.before.before.before.before.before.before.before.before.before.before.size_of.ensures, c.before.before.before.before.before.before.before.before.before.before.before.before.before.before.if2.false)) c.before.before.before.before.before.before.before.before.before.before.word.ensures) (two-words _ _ c.before.before.before.before.before.before.before.before.before.instruction-length.ensures c.before.before.before.before.before.before.before.before.if4.false c.before.before.before.before.before.before.before.if5.false) c.before.before.before.before.word-at.ensures.0 ∙ ap (λ n. decode_two c.before.before.before.before.before.before.before.before.before.before.before.before.before.before.before.before.before.before.before.before.before.args.at n c.before.before.before.before.word-at.result) (sym c.before.before.before.before.before.wide2.ensures.0)) c.before.before.before.before.before.before.before.before.before.before.before.before.number.ensures c.before.before.visit-two.ensures
 
 pub visit-spec : {M : Type 1} → statement M
 visit-spec = tie.close (tie.spec returns size-of-requires returns-2 number-requires same_length returns-3 sub_word word-requires instruction-length-requires same-length-2 returns-4 wide-requires visit-one-requires same-length-3 returns-5 add-if6 same-length-4 returns-6 wide-requires-2 add-word-at word-at-requires visit-two-requires same-length-5 returns-7)

@@ -1,5 +1,5 @@
 use Rattle.meter.proofs.Calls.{token-visited}
-use Rattle.machine.proofs.Bytes.{length-tableOf}
+use Rattle.machine.proofs.Bytes.{length-table_of}
 use native.Mathlib.Omega.{arith}
 use borrow.Author.Rules.{rules}
 use Rattle.meter.proofs.visit_token.Statement.{statement}
@@ -12,7 +12,7 @@ raise-ways-requires : tie.Need-raise-ways-requires
 raise-ways-requires c κs = (c.before.before.before.before.before.requires.0, c.before.before.before.before.before.requires.1)
 
 add-default : tie.Need-overflow-add-default
-add-default c = omega (arith, c.before.before.before.before.before.before.before.before.requires.0.fits, length-tableOf c.before.before.before.before.before.before.before.before.args.table.now)
+add-default c = omega (arith, c.before.before.before.before.before.before.before.before.requires.0.fits, length-table_of c.before.before.before.before.before.before.before.before.args.table.now)
 
 word-at-requires : tie.Need-word-at-requires
 word-at-requires c κs = (c.before.before.before.before.before.before.before.before.requires.0.low, omega (arith, c.before.before.before.before.before.before.before.before.requires.0.fits))
@@ -21,7 +21,7 @@ mul-default : tie.Need-overflow-mul-default
 mul-default c = omega (arith, c.word-at.ensures.1)
 
 add-default-2 : tie.Need-overflow-add-default-2
-add-default-2 c = omega (arith, c.word-at.ensures.1, c.before.before.before.before.before.before.before.before.before.requires.0.fits, length-tableOf c.before.before.before.before.before.before.before.before.before.args.table.now)
+add-default-2 c = omega (arith, c.word-at.ensures.1, c.before.before.before.before.before.before.before.before.before.requires.0.fits, length-table_of c.before.before.before.before.before.before.before.before.before.args.table.now)
 
 add-raise-two : tie.Need-overflow-add-raise-two
 add-raise-two c = omega (arith, c.before.before.before.before.before.before.before.before.before.before.before.requires.2)

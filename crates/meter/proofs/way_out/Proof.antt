@@ -1,7 +1,7 @@
 use native.Mathlib.Omega.{arith}
 use Prim.Native.Nat.{◌-◌}
 use borrow.Author.Rules.{rules}
-use Rattle.machine.proofs.Bytes.{length-tableOf}
+use Rattle.machine.proofs.Bytes.{length-table_of}
 use Rattle.machine.specs.Bytes.{table_of}
 use Rattle.meter.proofs.Words.{Seeking, seek-first, seek_found, seek-next, seek-none}
 use Rattle.meter.proofs.way_out.Statement.{statement}
@@ -19,7 +19,7 @@ word-at-requires c κs = (c.before.requires.low, omega (arith, c.before.requires
 
 -- src/lib.rt:111:5
 loop-holds : tie.Need-loop-init invariant-loop decreases-loop
-loop-holds c = seek-first _ (length-tableOf c.before.before.args.table.now) c.before.before.requires c.word-at.ensures.0
+loop-holds c = seek-first _ (length-table_of c.before.before.args.table.now) c.before.before.requires c.word-at.ensures.0
 
 -- src/lib.rt:112:17
 add-l : tie.Need-overflow-add-l invariant-loop decreases-loop

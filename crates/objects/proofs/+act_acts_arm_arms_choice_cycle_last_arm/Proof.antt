@@ -92,8 +92,8 @@ arms_at t = and 3 arms-kinds.ps (is 3 arms-kinds.ps μ-arms t) arms.Pre
 abbrev arms-below : ℕ → In 3 arms-kinds.ps
 arms-below t = and 3 arms-kinds.ps (falls 3 arms-kinds.ps ◌<◌ μ-arms t) arms.Pre
 
-abbrev choice-at : ℕ → In 3 choice-kinds.ps
-choice-at t = and 3 choice-kinds.ps (is 3 choice-kinds.ps μ-choice t) choice.Pre
+abbrev choice_at : ℕ → In 3 choice-kinds.ps
+choice_at t = and 3 choice-kinds.ps (is 3 choice-kinds.ps μ-choice t) choice.Pre
 
 abbrev choice-below : ℕ → In 3 choice-kinds.ps
 choice-below t = and 3 choice-kinds.ps (falls 3 choice-kinds.ps ◌<◌ μ-choice t) choice.Pre
@@ -295,25 +295,25 @@ arms-refused-requires t c κs = search rules
 arms-returns-3 : (t : ℕ) → arms-lts.Need-returns-3 (arms-claims t) (arms_at t) arms.Post arms-Inv-loop arms-μ-loop
 arms-returns-3 t c = arms-over c.before.before.before.loop.invariant.3 (omega arith) c.refused.ensures.0 c.refused.ensures.1
 
-choice-refused-requires : (t : ℕ) → choice-lts.Need-refused-requires (choice-claims t) (choice-at t) choice.Post
+choice-refused-requires : (t : ℕ) → choice-lts.Need-refused-requires (choice-claims t) (choice_at t) choice.Post
 choice-refused-requires t c κs = search rules
 
-choice-returns : (t : ℕ) → choice-lts.Need-returns (choice-claims t) (choice-at t) choice.Post
+choice-returns : (t : ℕ) → choice-lts.Need-returns (choice-claims t) (choice_at t) choice.Post
 choice-returns t c = choice-off (not-true _ c.before.if1.true) c.refused.ensures.0 c.refused.ensures.1
 
-choice-refused-requires-2 : (t : ℕ) → choice-lts.Need-refused-requires-2 (choice-claims t) (choice-at t) choice.Post
+choice-refused-requires-2 : (t : ℕ) → choice-lts.Need-refused-requires-2 (choice-claims t) (choice_at t) choice.Post
 choice-refused-requires-2 t c κs = search rules
 
-choice-returns-2 : (t : ℕ) → choice-lts.Need-returns-2 (choice-claims t) (choice-at t) choice.Post
+choice-returns-2 : (t : ℕ) → choice-lts.Need-returns-2 (choice-claims t) (choice_at t) choice.Post
 choice-returns-2 t c = choice-deep c.before.if2.true c.refused2.ensures.0 c.refused2.ensures.1
 
-choice-sub-t11 : (t : ℕ) → choice-lts.Need-overflow-sub-t11 (choice-claims t) (choice-at t) choice.Post
+choice-sub-t11 : (t : ℕ) → choice-lts.Need-overflow-sub-t11 (choice-claims t) (choice_at t) choice.Post
 choice-sub-t11 t c = omega arith
 
-choice-arms-requires : (t : ℕ) → choice-lts.Need-arms-requires (choice-claims t) (choice-at t) choice.Post
+choice-arms-requires : (t : ℕ) → choice-lts.Need-arms-requires (choice-claims t) (choice_at t) choice.Post
 choice-arms-requires t c κs = (omega arith, omega arith)
 
-choice-returns-3 : (t : ℕ) → choice-lts.Need-returns-3 (choice-claims t) (choice-at t) choice.Post
+choice-returns-3 : (t : ℕ) → choice-lts.Need-returns-3 (choice-claims t) (choice_at t) choice.Post
 choice-returns-3 t c = choice-some (not-false _ c.before.before.before.before.if1.false) c.before.before.if2.false refl refl c.arms.ensures
 
 cycle-refused-requires : (t : ℕ) → cycle-lts.Need-refused-requires (cycle-claims t) (cycle-at t) cycle.Post
@@ -401,7 +401,7 @@ pub +act-acts-arm-arms-choice-cycle-last-arm-spec : {M : Type 1} → statement M
     (arms-loop-again t)
     (arms-refused-requires t)
     (arms-returns-3 t))
-    (λ t. choice-lts.spec (choice-claims t) (choice-at t) choice.Post
+    (λ t. choice-lts.spec (choice-claims t) (choice_at t) choice.Post
     (choice-refused-requires t)
     (choice-returns t)
     (choice-refused-requires-2 t)

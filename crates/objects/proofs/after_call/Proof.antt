@@ -17,7 +17,7 @@ refused-requires-2 : tie.Need-refused-requires-2
 refused-requires-2 c κs = search rules
 
 returns-2 : tie.Need-returns-2
-returns-2 c = name-none c.refused2.ensures.0 c.refused2.ensures.1 (λ m n cells names x. let k = x.names-count in absurd (omega (arith, k)))
+returns-2 c = name-none c.refused2.ensures.0 c.refused2.ensures.1 (λ m n cells names x. let k = x.names_count in absurd (omega (arith, k)))
 
 past-name-requires : tie.Need-past-name-requires
 past-name-requires c κs = search rules

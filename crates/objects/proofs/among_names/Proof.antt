@@ -9,13 +9,13 @@ use Rattle.machine.specs.Bytes.{words_of}
 use Rattle.objects.proofs.Among.{Seeking, seeking, none_left, leads-by, found_first, not_first}
 use Rattle.objects.specs.Places.{NameAt}
 use Rattle.objects.specs.Take.{took, times}
-use Rattle.objects.specs.View.{Name, aName}
+use Rattle.objects.specs.View.{Name, a_name}
 use Rattle.objects.proofs.among_names.Statement.{statement}
 use Rattle.objects.proofs.among_names.Tie as tie
 
 abbrev invariant-loop : tie.invariant-loop
 invariant-loop objects at n p end q₀ i₀ q i = (i ≤ n) × (q ≤ length (words_of objects))
-    × ((ns : List Name) (m : Name) (rest : List ℕ) → times n aName (drop at (words_of objects)) ≡ took ns rest → NameAt (words_of objects) p m → Seeking (words_of objects) ns rest m (n - i) q)
+    × ((ns : List Name) (m : Name) (rest : List ℕ) → times n a_name (drop at (words_of objects)) ≡ took ns rest → NameAt (words_of objects) p m → Seeking (words_of objects) ns rest m (n - i) q)
 
 abbrev decreases-loop : tie.decreases-loop
 decreases-loop objects at n p end q₀ i₀ q i = n - i

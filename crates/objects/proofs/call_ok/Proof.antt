@@ -23,7 +23,7 @@ stands-at-requires : tie.Need-stands-at-requires
 stands-at-requires c κs = search rules
 
 returns-2 : tie.Need-returns-2
-returns-2 c = record { tells = λ hs ps kn m n cells names x. c.stands_at.ensures ps n kn.rest kn.pairs-here (leads x).here ∙ sym (call-paired hs ps m _ n (let e = sym (first_cell x) ∙ sym c.before.before.number.ensures.0 in omega (arith, e))) }
+returns-2 c = record { tells = λ hs ps kn m n cells names x. c.stands_at.ensures ps n kn.rest kn.pairs_here (leads x).here ∙ sym (call-paired hs ps m _ n (let e = sym (first_cell x) ∙ sym c.before.before.number.ensures.0 in omega (arith, e))) }
 
 pub call-ok-spec : {M : Type 1} → statement M
 call-ok-spec =

@@ -7,7 +7,7 @@ use Rattle.machine.specs.Bytes.{words_of}
 use Rattle.symbols.proofs.Searches.{told-number}
 use Rattle.symbols.specs.Rows.{held}
 use Rattle.symbols.specs.Search.{Tells}
-use Rattle.objects.proofs.Sections.{Seeks, seeks-all, found-section, other-section, no-section}
+use Rattle.objects.proofs.Sections.{Seeks, seeks-all, found-section, other-section, no_section}
 use Rattle.objects.specs.Places.{NameAt}
 use Rattle.objects.specs.View.{Name}
 use Rattle.objects.proofs.find_section.Statement.{statement}
@@ -50,7 +50,7 @@ returns-2 c =
     let a = c.before.before.before.before.before.args in
     let o = c.before.loop in
     let t : (m : Name) → NameAt (words_of a.objects.now) a.p m → Tells 65536 (index_of 600 m.text 0 (held a.text.now a.rows.now a.n)) =
-    λ m x. no-section a.text.now a.rows.now m.text a.n o.i (o.invariant.1 m x) c.loop-test.false in
+    λ m x. no_section a.text.now a.rows.now m.text a.n o.i (o.invariant.1 m x) c.loop-test.false in
     (λ m x. told-number (t m x), (t, λ l. absurd (omega (arith, l))))
 
 pub find-section-spec : {M : Type 1} → statement M

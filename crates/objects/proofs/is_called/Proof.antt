@@ -9,13 +9,13 @@ use Rattle.machine.specs.Bytes.{words_of}
 use Rattle.objects.proofs.Called.{SeekingRules, seeking-rules, no-rule-left, rules-by, found-rule, not-rule}
 use Rattle.objects.specs.Places.{NameAt}
 use Rattle.objects.specs.Take.{took, times}
-use Rattle.objects.specs.View.{Name, RuleView, aRule}
+use Rattle.objects.specs.View.{Name, RuleView, a_rule}
 use Rattle.objects.proofs.is_called.Statement.{statement}
 use Rattle.objects.proofs.is_called.Tie as tie
 
 abbrev invariant-loop : tie.invariant-loop
 invariant-loop objects at n p end q₀ i₀ q i = (i ≤ n) × (q ≤ length (words_of objects))
-    × ((vs : List RuleView) (m : Name) (rest : List ℕ) → times n aRule (drop at (words_of objects)) ≡ took vs rest → NameAt (words_of objects) p m → SeekingRules (words_of objects) vs rest m (n - i) q)
+    × ((vs : List RuleView) (m : Name) (rest : List ℕ) → times n a_rule (drop at (words_of objects)) ≡ took vs rest → NameAt (words_of objects) p m → SeekingRules (words_of objects) vs rest m (n - i) q)
 
 abbrev decreases-loop : tie.decreases-loop
 decreases-loop objects at n p end q₀ i₀ q i = n - i

@@ -8,14 +8,14 @@ use borrow.Author.Rules.{rules}
 use Rattle.machine.specs.Bytes.{words_of}
 use Rattle.syntax.specs.Texts.{Head}
 use Rattle.objects.proofs.Looked.{listed-none, listed_found, listed-later, line-is}
-use Rattle.objects.specs.Order.{isListed}
+use Rattle.objects.specs.Order.{is_listed}
 use Rattle.objects.specs.Places.{NameAt, HeadsAt}
 use Rattle.objects.specs.View.{Name}
 use Rattle.objects.proofs.is_listed.Statement.{statement}
 use Rattle.objects.proofs.is_listed.Tie as tie
 
 abbrev invariant-loop : tie.invariant-loop
-invariant-loop objects p common heads count i₀ i = (i ≤ length heads / 4) × ((hs : List Head) (n : Name) → HeadsAt common heads hs → NameAt (words_of objects) p n → isListed hs n ≡ isListed (drop i hs) n)
+invariant-loop objects p common heads count i₀ i = (i ≤ length heads / 4) × ((hs : List Head) (n : Name) → HeadsAt common heads hs → NameAt (words_of objects) p n → is_listed hs n ≡ is_listed (drop i hs) n)
 
 abbrev decreases-loop : tie.decreases-loop
 decreases-loop objects p common heads count i₀ i = length heads / 4 - i

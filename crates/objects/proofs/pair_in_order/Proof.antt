@@ -1,6 +1,6 @@
 -- `objects::pair_in_order` meets its contract: the section is found, and its operand rule is looked up behind it.
 use Rattle.machine.specs.Bytes.{words_of}
-use Rattle.objects.proofs.PairAt.{pair-at, no-section, operand-listed, operand-called}
+use Rattle.objects.proofs.PairAt.{pair-at, no_section, operand-listed, operand-called}
 use Rattle.objects.proofs.Sections.{section-there, section-nowhere}
 use borrow.Author.Rules.{rules}
 use native.Mathlib.Omega.{arith}
@@ -30,7 +30,7 @@ returns-2 : tie.Need-returns-2
 returns-2 c = λ hs n vs p k rest h s t e.
     let a = c.before.before.before.before.before.before.before.before.before.args in
     let y = pair-at (words_of a.objects.now) a.q p k e in
-    no-section hs n vs p (section-nowhere s p.section.text (c.before.find-section.ensures.1.0 p.section y.section) c.if2.true)
+    no_section hs n vs p (section-nowhere s p.section.text (c.before.find-section.ensures.1.0 p.section y.section) c.if2.true)
 
 add-past-name : tie.Need-overflow-add-past-name
 add-past-name c = search rules

@@ -1,6 +1,6 @@
 -- `objects::past_words` meets its contract: n words on are within the words, or one past the end stands for them.
 use native.Mathlib.Omega.{arith}
-use Rattle.objects.proofs.Ends.{some_words, no_words}
+use Rattle.objects.proofs.Ends.{some_words_lem, no_words}
 use borrow.Author.Rules.{rules}
 use Rattle.objects.proofs.past_words.Statement.{statement}
 use Rattle.objects.proofs.past_words.Tie as tie
@@ -15,7 +15,7 @@ add-result : tie.Need-overflow-add-result
 add-result c = search rules
 
 returns : tie.Need-returns
-returns c = some_words _ (omega arith) (omega arith)
+returns c = some_words_lem _ (omega arith) (omega arith)
 
 add-result-2 : tie.Need-overflow-add-result-2
 add-result-2 c = search rules

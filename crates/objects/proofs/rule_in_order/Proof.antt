@@ -21,7 +21,7 @@ used-up-requires : tie.Need-used-up-requires
 used-up-requires c κs = search rules
 
 returns-2 : tie.Need-returns-2
-returns-2 c = λ hs ps v k rest x y e. rule-tested hs ps v (record { listed = x; rest = rest; pairs-here = y }) refl refl refl (c.before.before.before.before.before.body_at.ensures.tells v k e) c.before.acts.ensures c.used-up.ensures
+returns-2 c = λ hs ps v k rest x y e. rule-tested hs ps v (record { listed = x; rest = rest; pairs_here = y }) refl refl refl (c.before.before.before.before.before.body_at.ensures.tells v k e) c.before.acts.ensures c.used_up.ensures
 
 pub rule-in-order-spec : {M : Type 1} → statement M
 rule-in-order-spec =

@@ -3,7 +3,7 @@ use native.Mathlib.Omega.{arith}
 use mathlib.Core.Path.{refl}
 use Prim.Native.Nat.{◌-◌, ◌≤◌}
 use Rattle.partnames.specs.Heads.{CopiesHeads}
-use Rattle.partnames.proofs.HeadLaws.{no-heads, more-heads, all-heads}
+use Rattle.partnames.proofs.HeadLaws.{no-heads, more_heads, all-heads}
 use Rattle.partnames.proofs.copy_heads.Statement.{statement}
 use Rattle.partnames.proofs.copy_heads.Tie as tie
 
@@ -50,7 +50,7 @@ loop-less : tie.Need-loop-smaller invariant-loop decreases-loop
 loop-less c = omega arith
 
 loop-again : tie.Need-loop-preserved invariant-loop decreases-loop
-loop-again c = (omega arith, more-heads c.before.before.before.before.before.before.before.before.before.loop.invariant.1 c.before.before.before.before.before.before.copy-part.ensures c.before.before.copy-part2.ensures refl refl refl refl refl)
+loop-again c = (omega arith, more_heads c.before.before.before.before.before.before.before.before.before.loop.invariant.1 c.before.before.before.before.before.before.copy-part.ensures c.before.before.copy-part2.ensures refl refl refl refl refl)
 
 same_length : tie.Need-same-length invariant-loop decreases-loop
 same_length c = c.before.loop.invariant.1.size

@@ -3,20 +3,20 @@ use mathlib.Core.Path.{refl, ap, ◌∙◌}
 use Prim.Native.Nat.{◌+◌}
 use native.Mathlib.Omega.{arith}
 use borrow.Author.Rules.{rules}
-use Rattle.partnames.specs.Buffer.{partPlace}
+use Rattle.partnames.specs.Buffer.{part_place}
 use Rattle.partnames.proofs.Copied.{both-copied}
 use Rattle.partnames.proofs.join.Statement.{statement}
 use Rattle.partnames.proofs.join.Tie as tie
 
 copy-bytes-requires : tie.Need-copy-bytes-requires
-unfolding partPlace
+unfolding part_place
 copy-bytes-requires c κs = (omega arith, omega arith)
 
 part-place-requires : tie.Need-part-place-requires
 part-place-requires c κs = search rules
 
 fill-feeds-requires : tie.Need-fill-feeds-requires
-unfolding partPlace
+unfolding part_place
 fill-feeds-requires c κs = (omega (arith, c.before.part-place.ensures), omega (arith, c.before.part-place.ensures, c.before.before.before.before.copy-bytes.ensures.size))
 
 sub-n : tie.Need-overflow-sub-n

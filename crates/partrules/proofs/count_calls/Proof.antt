@@ -3,15 +3,15 @@ use mathlib.Core.Path.{◌≡◌, refl, sym, ◌∙◌}
 use Prim.Native.Nat.{◌+◌, ◌-◌, ◌≤◌}
 use native.Mathlib.Omega.{arith}
 use lib.ListN.{length}
-use Rattle.words.specs.Words.{wordsAt}
-use Rattle.partrules.specs.Calls.{callsFrom, signs}
+use Rattle.words.specs.Words.{words_at}
+use Rattle.partrules.specs.Calls.{calls_from, signs}
 use Rattle.partrules.proofs.Calling.{is_word, count-on, count-off, signs-few}
 use borrow.Author.Rules.{rules}
 use Rattle.partrules.proofs.count_calls.Statement.{statement}
 use Rattle.partrules.proofs.count_calls.Tie as tie
 
 abbrev invariant-loop : tie.invariant-loop
-invariant-loop text at p₀ n₀ p n = (p ≤ length text) × (n + at ≤ p) × (n + length (callsFrom (wordsAt text p)) ≡ length (callsFrom (wordsAt text at)))
+invariant-loop text at p₀ n₀ p n = (p ≤ length text) × (n + at ≤ p) × (n + length (calls_from (words_at text p)) ≡ length (calls_from (words_at text at)))
 
 abbrev decreases-loop : tie.decreases-loop
 decreases-loop text at p₀ n₀ p n = length text - p

@@ -8,8 +8,8 @@ use borrow.Author.Rules.{rules}
 use Rattle.machine.specs.Bytes.{count}
 use Rattle.partwriter.proofs.Putting.{puts-bound, puts_then, puts-same, puts-nothing}
 use Rattle.partwriter.specs.Put.{Puts}
-use Rattle.words.specs.Words.{wordsAt}
-use Rattle.partrules.specs.Calls.{callsFrom, called}
+use Rattle.words.specs.Words.{words_at}
+use Rattle.partrules.specs.Calls.{calls_from, called}
 use Rattle.partrules.proofs.Calling.{is_word, called_on, called-off}
 use Rattle.partrules.proofs.put_calls.Statement.{statement}
 use Rattle.partrules.proofs.put_calls.Tie as tie
@@ -17,7 +17,7 @@ use Rattle.partrules.proofs.put_calls.Tie as tie
 abbrev invariant-loop : tie.invariant-loop
 invariant-loop text at moved object₀ c p₀ n₀ object p n =
     (p ≤ length text) × (n ≤ suc (count object)) × (length object ≡ length object₀)
-    × ((o : List ℕ) (e : ℕ) → Puts object n (called moved (callsFrom (wordsAt text p))) o e → Puts object₀ c (called moved (callsFrom (wordsAt text at))) o e)
+    × ((o : List ℕ) (e : ℕ) → Puts object n (called moved (calls_from (words_at text p))) o e → Puts object₀ c (called moved (calls_from (words_at text at))) o e)
 
 abbrev decreases-loop : tie.decreases-loop
 decreases-loop text at moved object₀ c p₀ n₀ object p n = length text - p

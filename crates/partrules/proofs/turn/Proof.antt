@@ -20,10 +20,10 @@ mark-of-requires : tie.Need-mark-of-requires
 mark-of-requires c κs = search rules
 
 returns-2 : tie.Need-returns-2
-returns-2 c = turned-call _ _ _ _ _ c.before.before.before.before.if1.false c.before.before.is-call.ensures c.before.if2.true c.mark_of.ensures
+returns-2 c = turned-call _ _ _ _ _ c.before.before.before.before.if1.false c.before.before.is_called.ensures c.before.if2.true c.mark_of.ensures
 
 returns-3 : tie.Need-returns-3
-returns-3 c = turned-copy _ _ _ _ c.before.before.before.if1.false c.before.is-call.ensures c.if2.false
+returns-3 c = turned-copy _ _ _ _ c.before.before.before.if1.false c.before.is_called.ensures c.if2.false
 
 pub turn_spec : {M : Type 1} → statement M
 turn_spec =

@@ -6,8 +6,8 @@ use lib.ListN.{length}
 use borrow.Author.Rules.{rules}
 use Rattle.reader.proofs.Laws.{above, alternative-goes, alternative-stops, any_value, ends, ends_with, faulty, fueled, goes, goes_with, no, overs, passes, row_ends, row_goes, row-stops, stops, under, yes}
 use Rattle.reader.specs.Answers.{Reads}
-use Rattle.reader.specs.Parts.{aLabelled}
-use Rattle.syntax.specs.Actions.{aChoice, aCycle, actions, alternatives, anAction, anOtherwise}
+use Rattle.reader.specs.Parts.{a_labelled}
+use Rattle.syntax.specs.Actions.{a_choice, a_cycle, actions, alternatives, an_action, an_otherwise}
 use Rattle.reader.specs.declared.Out.{Out}
 use borrow.Fn.Kinds.{In}
 use borrow.Fn.PlainCycle.{Measures, is, falls, and}
@@ -168,7 +168,7 @@ read-action-over-requires : (t : ℕ) → read-action-lts.Need-over-requires (re
 read-action-over-requires t c κs = search rules
 
 read-action-returns : (t : ℕ) → read-action-lts.Need-returns (read-action-claims t) (read-action-at t) read-action.Post
-unfolding anAction
+unfolding an_action
 read-action-returns t c = record { reads = record { low = omega arith; high = omega arith; tells = λ k h. yes _ _ _ c.before.before.before.before.before.requires.1 c.before.before.if1.true (above _ _ _ c.before.if2.true (overs c.before.before.before.before.before.requires.1 c.over.ensures)) }; past = λ e. absurd (omega arith) }
 
 read-action-sub-read-cycle : (t : ℕ) → read-action-lts.Need-overflow-sub-read-cycle (read-action-claims t) (read-action-at t) read-action.Post
@@ -178,14 +178,14 @@ read-action-read-cycle-requires : (t : ℕ) → read-action-lts.Need-read-cycle-
 read-action-read-cycle-requires t c κs = omega arith
 
 read-action-returns-2 : (t : ℕ) → read-action-lts.Need-returns-2 (read-action-claims t) (read-action-at t) read-action.Post
-unfolding anAction
+unfolding an_action
 read-action-returns-2 t c = record { reads = record { low = omega arith; high = omega arith; tells = λ k h. yes _ _ _ c.before.before.before.before.before.requires.1 c.before.before.if1.true (under _ _ _ c.before.if2.false (passes _ c.before.before.before.before.before.requires.1 (omega arith) (c.read-cycle.ensures.tells k (omega (arith, c.before.before.before.before.before.requires.1.moves (omega arith)))))) }; past = λ e. omega (arith, c.before.before.before.before.before.requires.1.moves (omega arith)) }
 
 read-action-over-requires-2 : (t : ℕ) → read-action-lts.Need-over-requires-2 (read-action-claims t) (read-action-at t) read-action.Post
 read-action-over-requires-2 t c κs = search rules
 
 read-action-returns-3 : (t : ℕ) → read-action-lts.Need-returns-3 (read-action-claims t) (read-action-at t) read-action.Post
-unfolding anAction
+unfolding an_action
 read-action-returns-3 t c = record { reads = record { low = omega arith; high = omega arith; tells = λ k h. no _ _ _ c.before.before.before.before.before.before.before.requires.1 c.before.before.before.before.if1.false (yes _ _ _ c.before.before.before.before.before.before.before.requires.1 c.before.before.if3.true (above _ _ _ c.before.if4.true (overs c.before.before.before.before.before.before.before.requires.1 c.over2.ensures))) }; past = λ e. absurd (omega arith) }
 
 read-action-sub-read-choice : (t : ℕ) → read-action-lts.Need-overflow-sub-read-choice (read-action-claims t) (read-action-at t) read-action.Post
@@ -195,14 +195,14 @@ read-action-read-choice-requires : (t : ℕ) → read-action-lts.Need-read-choic
 read-action-read-choice-requires t c κs = omega arith
 
 read-action-returns-4 : (t : ℕ) → read-action-lts.Need-returns-4 (read-action-claims t) (read-action-at t) read-action.Post
-unfolding anAction
+unfolding an_action
 read-action-returns-4 t c = record { reads = record { low = omega arith; high = omega arith; tells = λ k h. no _ _ _ c.before.before.before.before.before.before.before.requires.1 c.before.before.before.before.if1.false (yes _ _ _ c.before.before.before.before.before.before.before.requires.1 c.before.before.if3.true (under _ _ _ c.before.if4.false (passes _ c.before.before.before.before.before.before.before.requires.1 (omega arith) (c.read-choice.ensures.tells k (omega (arith, c.before.before.before.before.before.before.before.requires.1.moves (omega arith))))))) }; past = λ e. omega (arith, c.before.before.before.before.before.before.before.requires.1.moves (omega arith)) }
 
 read-action-read-plain-requires : (t : ℕ) → read-action-lts.Need-read-plain-requires (read-action-claims t) (read-action-at t) read-action.Post
 read-action-read-plain-requires t c κs = c.before.before.before.before.before.requires.1
 
 read-action-returns-5 : (t : ℕ) → read-action-lts.Need-returns-5 (read-action-claims t) (read-action-at t) read-action.Post
-unfolding anAction
+unfolding an_action
 read-action-returns-5 t c = record { reads = record { low = omega arith; high = omega arith; tells = λ k h. no _ _ _ c.before.before.before.before.before.before.requires.1 c.before.before.before.if1.false (no _ _ _ c.before.before.before.before.before.before.requires.1 c.before.if3.false (ends _ (c.read_plain.ensures.reads.tells (suc k) (omega arith)))) }; past = λ e. c.read_plain.ensures.past e }
 
 abbrev read-actions-Inv-loop : read-actions-lts.invariant-loop
@@ -282,77 +282,77 @@ read-choice-read-selector-requires : (t : ℕ) → read-choice-lts.Need-read-sel
 read-choice-read-selector-requires t c κs = omega arith
 
 read-choice-returns : (t : ℕ) → read-choice-lts.Need-returns (read-choice-claims t) (read-choice-at t) read-choice.Post
-unfolding aChoice
+unfolding a_choice
 read-choice-returns t c = record { low = omega arith; high = omega arith; tells = λ k h. stops _ (c.before.before.read-selector.ensures.tells k h) c.if1.true }
 
 read-choice-expect-word-requires : (t : ℕ) → read-choice-lts.Need-expect-word-requires (read-choice-claims t) (read-choice-at t) read-choice.Post
 read-choice-expect-word-requires t c κs = omega arith
 
 read-choice-returns-2 : (t : ℕ) → read-choice-lts.Need-returns-2 (read-choice-claims t) (read-choice-at t) read-choice.Post
-unfolding aChoice
+unfolding a_choice
 read-choice-returns-2 t c = record { low = omega arith; high = omega arith; tells = λ k h. goes _ (c.before.before.before.before.before.read-selector.ensures.tells k h) c.before.before.before.if1.false (λ a. stops _ (c.before.before.expect-word.ensures.tells k (omega arith)) c.if2.true) }
 
 read-choice-read-alternatives-requires : (t : ℕ) → read-choice-lts.Need-read-alternatives-requires (read-choice-claims t) (read-choice-at t) read-choice.Post
 read-choice-read-alternatives-requires t c κs = omega arith
 
 read-choice-returns-3 : (t : ℕ) → read-choice-lts.Need-returns-3 (read-choice-claims t) (read-choice-at t) read-choice.Post
-unfolding aChoice
+unfolding a_choice
 read-choice-returns-3 t c = record { low = omega arith; high = omega arith; tells = λ k h. goes _ (c.before.before.before.before.before.before.read-selector.ensures.tells k h) c.before.before.before.before.if1.false (λ a. goes _ (c.before.before.before.expect-word.ensures.tells k (omega arith)) c.before.if2.false (λ b. ends _ (c.read-alternatives.ensures.tells k (omega arith)))) }
 
 read-cycle-read-actions-requires : (t : ℕ) → read-cycle-lts.Need-read-actions-requires (read-cycle-claims t) (read-cycle-at t) read-cycle.Post
 read-cycle-read-actions-requires t c κs = omega arith
 
 read-cycle-returns : (t : ℕ) → read-cycle-lts.Need-returns (read-cycle-claims t) (read-cycle-at t) read-cycle.Post
-unfolding aCycle
+unfolding a_cycle
 read-cycle-returns t c = record { low = omega arith; high = omega arith; tells = λ k h. stops _ (c.before.before.read-actions.ensures.tells k h) c.if1.true }
 
 read-cycle-expect-word-requires : (t : ℕ) → read-cycle-lts.Need-expect-word-requires (read-cycle-claims t) (read-cycle-at t) read-cycle.Post
 read-cycle-expect-word-requires t c κs = omega arith
 
 read-cycle-returns-2 : (t : ℕ) → read-cycle-lts.Need-returns-2 (read-cycle-claims t) (read-cycle-at t) read-cycle.Post
-unfolding aCycle
+unfolding a_cycle
 read-cycle-returns-2 t c = record { low = omega arith; high = omega arith; tells = λ k h. goes _ (c.before.before.before.read-actions.ensures.tells k h) c.before.if1.false (λ a. ends _ (c.expect-word.ensures.tells k (omega arith))) }
 
 read-labelled-read-labels-requires : (t : ℕ) → read-labelled-lts.Need-read-labels-requires (read-labelled-claims t) (read-labelled-at t) read-labelled.Post
 read-labelled-read-labels-requires t c κs = omega arith
 
 read-labelled-returns : (t : ℕ) → read-labelled-lts.Need-returns (read-labelled-claims t) (read-labelled-at t) read-labelled.Post
-unfolding aLabelled
+unfolding a_labelled
 read-labelled-returns t c = record { low = omega arith; high = omega arith; past = λ e. absurd (c.if1.true e); brings = λ k h. faulty (stops _ (c.before.before.before.read-labels.ensures.brings k h).tells c.if1.true) c.if1.true }
 
 read-labelled-expect-word-requires : (t : ℕ) → read-labelled-lts.Need-expect-word-requires (read-labelled-claims t) (read-labelled-at t) read-labelled.Post
 read-labelled-expect-word-requires t c κs = omega arith
 
 read-labelled-returns-2 : (t : ℕ) → read-labelled-lts.Need-returns-2 (read-labelled-claims t) (read-labelled-at t) read-labelled.Post
-unfolding aLabelled
+unfolding a_labelled
 read-labelled-returns-2 t c = record { low = omega arith; high = omega arith; past = λ e. absurd (c.if2.true e); brings = λ k h. faulty (goes _ (c.before.before.before.before.before.before.read-labels.ensures.brings k h).tells c.before.before.before.if1.false (λ a. stops _ (c.before.before.expect-word.ensures.tells (suc k) (omega arith)) c.if2.true)) c.if2.true }
 
 read-labelled-read-actions-requires : (t : ℕ) → read-labelled-lts.Need-read-actions-requires (read-labelled-claims t) (read-labelled-at t) read-labelled.Post
 read-labelled-read-actions-requires t c κs = omega arith
 
 read-labelled-returns-3 : (t : ℕ) → read-labelled-lts.Need-returns-3 (read-labelled-claims t) (read-labelled-at t) read-labelled.Post
-unfolding aLabelled
+unfolding a_labelled
 read-labelled-returns-3 t c = record { low = omega arith; high = omega arith; past = λ e. omega (arith, c.before.before.before.before.before.before.before.read-labels.ensures.past c.before.before.before.before.if1.false); brings = λ k h. goes_with _ (c.before.before.before.before.before.before.before.read-labels.ensures.brings k h) c.before.before.before.before.if1.false (λ a e. goes_with _ (any_value (c.before.before.before.expect-word.ensures.tells (suc k) (omega arith))) c.before.if2.false (λ b _. ends_with _ (any_value (c.read-actions.ensures.tells k (omega (arith, c.before.before.before.before.before.before.before.read-labels.ensures.past c.before.before.before.before.if1.false)))) (λ d _. e))) }
 
 read-otherwise-expect-word-requires : (t : ℕ) → read-otherwise-lts.Need-expect-word-requires (read-otherwise-claims t) (read-otherwise-at t) read-otherwise.Post
 read-otherwise-expect-word-requires t c κs = omega arith
 
 read-otherwise-returns : (t : ℕ) → read-otherwise-lts.Need-returns (read-otherwise-claims t) (read-otherwise-at t) read-otherwise.Post
-unfolding anOtherwise
+unfolding an_otherwise
 read-otherwise-returns t c = record { low = omega arith; high = omega arith; tells = λ k h. stops _ (c.before.before.expect-word.ensures.tells k h) c.if1.true }
 
 read-otherwise-read-actions-requires : (t : ℕ) → read-otherwise-lts.Need-read-actions-requires (read-otherwise-claims t) (read-otherwise-at t) read-otherwise.Post
 read-otherwise-read-actions-requires t c κs = omega arith
 
 read-otherwise-returns-2 : (t : ℕ) → read-otherwise-lts.Need-returns-2 (read-otherwise-claims t) (read-otherwise-at t) read-otherwise.Post
-unfolding anOtherwise
+unfolding an_otherwise
 read-otherwise-returns-2 t c = record { low = omega arith; high = omega arith; tells = λ k h. goes _ (c.before.before.before.before.before.expect-word.ensures.tells k h) c.before.before.before.if1.false (λ a. stops _ (c.before.before.read-actions.ensures.tells k (omega arith)) c.if2.true) }
 
 read-otherwise-expect-word-requires-2 : (t : ℕ) → read-otherwise-lts.Need-expect-word-requires-2 (read-otherwise-claims t) (read-otherwise-at t) read-otherwise.Post
 read-otherwise-expect-word-requires-2 t c κs = omega arith
 
 read-otherwise-returns-3 : (t : ℕ) → read-otherwise-lts.Need-returns-3 (read-otherwise-claims t) (read-otherwise-at t) read-otherwise.Post
-unfolding anOtherwise
+unfolding an_otherwise
 read-otherwise-returns-3 t c = record { low = omega arith; high = omega arith; tells = λ k h. goes _ (c.before.before.before.before.before.before.expect-word.ensures.tells k h) c.before.before.before.before.if1.false (λ a. goes _ (c.before.before.before.read-actions.ensures.tells k (omega arith)) c.before.if2.false (λ b. ends _ (c.expect-word2.ensures.tells k (omega arith)))) }
 
 pub +read-action-read-actions-read-alternatives-read-choice-read-cycle-read-labelled-read-otherwise-spec :

@@ -8,7 +8,7 @@ over-long-requires : tie.Need-over-long-requires
 over-long-requires c κs = search rules
 
 returns : tie.Need-returns
-returns c = long-text _ c.before.before.before.args.text.now c.before.if1.true c.over-long.ensures.0 c.over-long.ensures.1 c.over-long.ensures.2
+returns c = long-text _ c.before.before.before.args.text.now c.before.if1.true c.over_long.ensures.0 c.over_long.ensures.1 c.over_long.ensures.2
 
 read-part-requires : tie.Need-read-part-requires
 read-part-requires c κs = search rules

@@ -8,7 +8,7 @@ over-long-requires : tie.Need-over-long-requires
 over-long-requires c κs = search rules
 
 returns : tie.Need-returns
-returns c = too_long c.before.before.before.args.text.now c.before.if1.true c.over-long.ensures.0 c.over-long.ensures.1 c.over-long.ensures.2
+returns c = too_long c.before.before.before.args.text.now c.before.if1.true c.over_long.ensures.0 c.over_long.ensures.1 c.over_long.ensures.2
 
 read-program-requires : tie.Need-read-program-requires
 read-program-requires c κs = search rules

@@ -3,7 +3,7 @@ use mathlib.Core.Path.{refl}
 use native.Mathlib.Omega.{arith}
 use borrow.Author.Rules.{rules}
 use Rattle.reader.proofs.Laws.{gives, no, passes, yes}
-use Rattle.syntax.specs.Sections.{aSpelling}
+use Rattle.syntax.specs.Sections.{a_spelling}
 use Rattle.reader.proofs.read_spelling.Statement.{statement}
 use Rattle.reader.proofs.read_spelling.Tie as tie
 
@@ -11,15 +11,15 @@ look-requires : tie.Need-look-requires
 look-requires c κs = search rules
 
 returns : tie.Need-returns
-unfolding aSpelling
+unfolding a_spelling
 returns c = record { reads = record { low = omega arith; high = omega arith; tells = λ k h. rw c.before.before.before.if1.true (yes _ _ _ c.before.before.look.ensures c.if2.true (passes _ c.before.before.look.ensures (omega arith) (gives refl))) }; sure = refl }
 
 returns-2 : tie.Need-returns-2
-unfolding aSpelling
+unfolding a_spelling
 returns-2 c = record { reads = record { low = omega arith; high = omega arith; tells = λ k h. rw c.before.before.before.if1.true (no _ _ _ c.before.before.look.ensures c.if2.false (gives refl)) }; sure = refl }
 
 returns-3 : tie.Need-returns-3
-unfolding aSpelling
+unfolding a_spelling
 returns-3 c = record { reads = record { low = omega arith; high = omega arith; tells = λ k h. rw c.if1.false (gives refl) }; sure = refl }
 
 pub read-spelling-spec : {M : Type 1} → statement M

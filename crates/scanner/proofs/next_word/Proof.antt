@@ -1,7 +1,7 @@
 -- `scanner::next_word` meets its contract.
 use native.Mathlib.Omega.{arith}
 use borrow.Author.Rules.{rules}
-use Rattle.scanner.proofs.WordLaws.{ended, at-word, earlier}
+use Rattle.scanner.proofs.WordLaws.{ended, at_word, earlier}
 use Rattle.scanner.proofs.next_word.Statement.{statement}
 use Rattle.scanner.proofs.next_word.Tie as tie
 
@@ -18,7 +18,7 @@ word-here-requires : tie.Need-word-here-requires
 word-here-requires c κs = search rules
 
 returns-2 : tie.Need-returns-2
-returns-2 c = earlier c.before.before.before.before.before.args.text.now c.before.before.before.before.before.args.at c.before.before.skip.result _ c.before.before.skip.ensures.low c.before.before.skip.ensures.high c.before.before.skip.ensures.same (at-word c.before.before.before.before.before.args.text.now c.before.before.skip.result _ c.before.if2.true (c.before.before.skip.ensures.solid c.before.if2.true) (c.before.before.skip.ensures.plain c.before.if2.true) c.word-here.ensures)
+returns-2 c = earlier c.before.before.before.before.before.args.text.now c.before.before.before.before.before.args.at c.before.before.skip.result _ c.before.before.skip.ensures.low c.before.before.skip.ensures.high c.before.before.skip.ensures.same (at_word c.before.before.before.before.before.args.text.now c.before.before.skip.result _ c.before.if2.true (c.before.before.skip.ensures.solid c.before.if2.true) (c.before.before.skip.ensures.plain c.before.if2.true) c.word-here.ensures)
 
 found-requires-2 : tie.Need-found-requires-2
 found-requires-2 c κs = search rules

@@ -4,13 +4,13 @@ use Prim.Native.Nat.{◌-◌, ◌≤◌}
 use native.Mathlib.Omega.{arith}
 use lib.ListN.{length}
 use borrow.Author.Rules.{rules}
-use Rattle.words.specs.Words.{wordsAt}
+use Rattle.words.specs.Words.{words_at}
 use Rattle.scanner.proofs.WordLaws.{blank_step, comment-step}
 use Rattle.scanner.proofs.skip.Statement.{statement}
 use Rattle.scanner.proofs.skip.Tie as tie
 
 abbrev invariant-loop : tie.invariant-loop
-invariant-loop text at i₀ i = (at ≤ i) × (i ≤ length text) × (wordsAt text at ≡ wordsAt text i)
+invariant-loop text at i₀ i = (at ≤ i) × (i ≤ length text) × (words_at text at ≡ words_at text i)
 
 abbrev decreases-loop : tie.decreases-loop
 decreases-loop text at i₀ i = length text - i

@@ -22,7 +22,7 @@ same_length : tie.Need-same-length
 same_length c = search rules
 
 returns : tie.Need-returns
-returns c = finds_past c.before.before.before.before.before.before.before.before.before.before.before.before.before.before.requires.1 c.before.before.before.before.before.before.before.before.before.before.declare.ensures c.before.before.before.before.before.before.add-others.ensures c.before.before.before.before.before.rows2.given c.before.before.if1.true (record { number_is = c.unnamed.ensures.0; text-is = c.unnamed.ensures.1; start_is = c.unnamed.ensures.2 ∙ c.before.back.ensures; len_is = c.unnamed.ensures.3 }) c.unnamed.ensures.4 c.unnamed.ensures.5
+returns c = finds_past c.before.before.before.before.before.before.before.before.before.before.before.before.before.before.requires.1 c.before.before.before.before.before.before.before.before.before.before.declare.ensures c.before.before.before.before.before.before.add-others.ensures c.before.before.before.before.before.rows2.given c.before.before.if1.true (record { number_is = c.unnamed.ensures.0; text_is = c.unnamed.ensures.1; start_is = c.unnamed.ensures.2 ∙ c.before.back.ensures; len_is = c.unnamed.ensures.3 }) c.unnamed.ensures.4 c.unnamed.ensures.5
 
 sub-lines : tie.Need-overflow-sub-lines
 sub-lines c = search rules
@@ -37,7 +37,7 @@ same-length-2 : tie.Need-same-length-2
 same-length-2 c = search rules
 
 returns-2 : tie.Need-returns-2
-returns-2 c = finds-fault c.before.before.before.before.before.before.before.before.before.before.before.before.before.before.before.before.before.before.before.before.requires.1 c.before.before.before.before.before.before.before.before.before.before.before.before.before.before.before.before.declare.ensures c.before.before.before.before.before.before.before.before.before.before.before.before.add-others.ensures c.before.before.before.before.before.before.before.before.before.before.before.rows2.given c.before.before.before.before.before.before.before.before.if1.false c.before.before.before.before.before.settle.ensures refl c.before.if2.true (record { number_is = c.unnamed2.ensures.0; text-is = c.unnamed2.ensures.1; start_is = c.unnamed2.ensures.2; len_is = c.unnamed2.ensures.3 }) c.unnamed2.ensures.4 c.unnamed2.ensures.5
+returns-2 c = finds-fault c.before.before.before.before.before.before.before.before.before.before.before.before.before.before.before.before.before.before.before.before.requires.1 c.before.before.before.before.before.before.before.before.before.before.before.before.before.before.before.before.declare.ensures c.before.before.before.before.before.before.before.before.before.before.before.before.add-others.ensures c.before.before.before.before.before.before.before.before.before.before.before.rows2.given c.before.before.before.before.before.before.before.before.if1.false c.before.before.before.before.before.settle.ensures refl c.before.if2.true (record { number_is = c.unnamed2.ensures.0; text_is = c.unnamed2.ensures.1; start_is = c.unnamed2.ensures.2; len_is = c.unnamed2.ensures.3 }) c.unnamed2.ensures.4 c.unnamed2.ensures.5
 
 same-length-3 : tie.Need-same-length-3
 same-length-3 c = search rules

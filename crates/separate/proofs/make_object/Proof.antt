@@ -52,7 +52,7 @@ slice-aggregate-translate-2 : tie.Need-slice-aggregate-translate-2
 slice-aggregate-translate-2 c = sym (length-take-le _ _ (even-inside _ c.before.before.room.ensures.0))
 
 translate-requires : tie.Need-translate-requires
-translate-requires c κs = ((c.before.before.before.before.before.before.before.before.before.before.before.before.read-texts.ensures.read c.before.before.before.before.before.before.before.before.before.if1.false).short-common, (c.before.before.before.before.before.before.before.before.before.before.before.before.read-texts.ensures.read c.before.before.before.before.before.before.before.before.before.if1.false).short-part, (stands_at (c.before.before.before.before.before.before.before.before.before.before.before.before.read-texts.ensures.read c.before.before.before.before.before.before.before.before.before.if1.false) c.before.before.before.before.before.before.before.join.ensures.1 c.before.before.before.before.before.part-place.ensures).in-text)
+translate-requires c κs = ((c.before.before.before.before.before.before.before.before.before.before.before.before.read-texts.ensures.read c.before.before.before.before.before.before.before.before.before.if1.false).short_common, (c.before.before.before.before.before.before.before.before.before.before.before.before.read-texts.ensures.read c.before.before.before.before.before.before.before.before.before.if1.false).short_part, (stands_at (c.before.before.before.before.before.before.before.before.before.before.before.before.read-texts.ensures.read c.before.before.before.before.before.before.before.before.before.if1.false) c.before.before.before.before.before.before.before.join.ensures.1 c.before.before.before.before.before.part-place.ensures).in-text)
 
 conclude-requires : tie.Need-conclude-requires
 conclude-requires c κs = search rules

@@ -2,7 +2,7 @@
 use mathlib.Core.Path.{refl, sym}
 use native.Mathlib.Omega.{arith}
 use borrow.Author.Rules.{rules}
-use Rattle.separate.proofs.Translating.{front_long, front_of, kept_of, rows_of, some-rule, translates-fault, translates}
+use Rattle.separate.proofs.Translating.{front_long, front_of, kept_of, rows_of, some_rule, translates-fault, translates}
 use Rattle.symbols.proofs.Indexing.{kept-behind}
 use Rattle.separate.proofs.translate.Statement.{statement}
 use Rattle.separate.proofs.translate.Tie as tie
@@ -29,7 +29,7 @@ slice-aggregate-pairs-2 : tie.Need-slice-aggregate-pairs-2
 slice-aggregate-pairs-2 c = search rules
 
 pairs-requires : tie.Need-pairs-requires
-pairs-requires c κs = (c.before.before.before.before.before.before.before.before.before.before.before.before.requires.2.inside, c.before.before.before.before.before.before.before.before.before.before.before.before.requires.2.short, c.before.before.before.before.before.before.before.before.before.before.before.before.requires.2.short-part, rows_of c.before.before.before.before.before.before.before.find-names.ensures (front_long refl), search rules, kept_of c.before.before.before.before.before.before.before.find-names.ensures (front_long refl) c.before.before.before.if1.false, omega (arith, c.before.before.before.before.before.before.before.find-names.ensures.small))
+pairs-requires c κs = (c.before.before.before.before.before.before.before.before.before.before.before.before.requires.2.inside, c.before.before.before.before.before.before.before.before.before.before.before.before.requires.2.short, c.before.before.before.before.before.before.before.before.before.before.before.before.requires.2.short_part, rows_of c.before.before.before.before.before.before.before.find-names.ensures (front_long refl), search rules, kept_of c.before.before.before.before.before.before.before.find-names.ensures (front_long refl) c.before.before.before.if1.false, omega (arith, c.before.before.before.before.before.before.before.find-names.ensures.small))
 
 slice-aggregate-write-object : tie.Need-slice-aggregate-write-object
 slice-aggregate-write-object c = search rules
@@ -38,7 +38,7 @@ slice-aggregate-write-object-2 : tie.Need-slice-aggregate-write-object-2
 slice-aggregate-write-object-2 c = search rules
 
 write-object-requires : tie.Need-write-object-requires
-write-object-requires c κs = (c.before.before.before.before.before.before.before.before.before.before.before.before.before.before.before.before.before.before.requires.0, omega (arith, c.before.before.before.before.before.before.before.before.before.before.before.before.before.before.before.before.before.before.requires.1), c.before.before.before.before.before.before.before.before.before.before.before.before.before.before.before.before.before.before.requires.2.inside, omega (arith, c.before.before.before.before.before.before.before.before.before.before.before.before.before.before.before.before.before.before.requires.2.short), kept-behind c.before.before.before.before.before.pairs.ensures.index (kept_of c.before.before.before.before.before.before.before.before.before.before.before.before.before.find-names.ensures (front_long refl) c.before.before.before.before.before.before.before.before.before.if1.false), some-rule c.before.before.before.before.before.before.before.before.before.before.before.before.before.find-names.ensures c.before.before.before.before.before.before.before.before.before.if1.false c.before.before.before.before.before.before.before.before.before.before.before.before.before.before.before.before.before.before.requires.2, omega (arith, c.before.before.before.before.before.pairs.ensures.few, c.before.before.before.before.before.pairs.ensures.size), c.before.before.before.before.before.pairs.ensures.few)
+write-object-requires c κs = (c.before.before.before.before.before.before.before.before.before.before.before.before.before.before.before.before.before.before.requires.0, omega (arith, c.before.before.before.before.before.before.before.before.before.before.before.before.before.before.before.before.before.before.requires.1), c.before.before.before.before.before.before.before.before.before.before.before.before.before.before.before.before.before.before.requires.2.inside, omega (arith, c.before.before.before.before.before.before.before.before.before.before.before.before.before.before.before.before.before.before.requires.2.short), kept-behind c.before.before.before.before.before.pairs.ensures.index (kept_of c.before.before.before.before.before.before.before.before.before.before.before.before.before.find-names.ensures (front_long refl) c.before.before.before.before.before.before.before.before.before.if1.false), some_rule c.before.before.before.before.before.before.before.before.before.before.before.before.before.find-names.ensures c.before.before.before.before.before.before.before.before.before.if1.false c.before.before.before.before.before.before.before.before.before.before.before.before.before.before.before.before.before.before.requires.2, omega (arith, c.before.before.before.before.before.pairs.ensures.few, c.before.before.before.before.before.pairs.ensures.size), c.before.before.before.before.before.pairs.ensures.few)
 
 same_length : tie.Need-same-length
 same_length c = search rules

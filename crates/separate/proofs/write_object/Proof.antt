@@ -31,7 +31,7 @@ same_length : tie.Need-same-length
 same_length c = search rules
 
 returns : tie.Need-returns
-returns c = record { writes = λ s o names m i k q. fault-of c.before.before.before.before.before.before.before.before.before.before.before.before.before.before.before.before.before.before.before.before.before.before.before.args.p s k c.before.before.before.before.before.before.write-rules.ensures c.before.before.if1.true (record { number_is = c.unwritten.ensures.0; text-is = c.unwritten.ensures.1; start_is = c.unwritten.ensures.2 ∙ c.before.back.ensures; len_is = c.unwritten.ensures.3 }) }
+returns c = record { writes = λ s o names m i k q. fault-of c.before.before.before.before.before.before.before.before.before.before.before.before.before.before.before.before.before.before.before.before.before.before.before.args.p s k c.before.before.before.before.before.before.write-rules.ensures c.before.before.if1.true (record { number_is = c.unwritten.ensures.0; text_is = c.unwritten.ensures.1; start_is = c.unwritten.ensures.2 ∙ c.before.back.ensures; len_is = c.unwritten.ensures.3 }) }
 
 set-sizes-requires : tie.Need-set-sizes-requires
 set-sizes-requires c κs = search rules

@@ -2,7 +2,7 @@ use Prim.Native.Nat.{ℕ, ◌-◌}
 use mathlib.Core.Path.{◌≡◌, ap, ◌∙◌}
 use lib.ListN.{get_or}
 use borrow.Author.Tests.{lt-ltb, le-ltb}
-use Rattle.sizes.specs.Heads.{cells_of, cellsTable}
+use Rattle.sizes.specs.Heads.{cells_of, cells_table}
 use borrow.Author.Rules.{rules}
 use Rattle.sizes.proofs.cells_of.Statement.{statement}
 use Rattle.sizes.proofs.cells_of.Tie as tie
@@ -22,7 +22,7 @@ byte-requires c κs = search rules
 -- src/lib.rt:179:9
 returns : tie.Need-returns
 unfolding cells_of
-returns c = simp (lt-ltb _ _ c.before.before.if1.true) (c.byte.ensures.0 ∙ ap (λ (i : ℕ). get_or cellsTable i 0) c.before.wide.ensures.0)
+returns c = simp (lt-ltb _ _ c.before.before.if1.true) (c.byte.ensures.0 ∙ ap (λ (i : ℕ). get_or cells_table i 0) c.before.wide.ensures.0)
 
 -- src/lib.rt:182:9
 returns-2 : tie.Need-returns-2

@@ -3,7 +3,7 @@ use Prim.Native.Nat.{ℕ, ◌+◌, ◌*◌, ◌-◌, ◌≤◌, ◌<◌}
 use mathlib.Core.Path.{◌≡◌, ap, ◌∙◌}
 use native.Mathlib.Omega.{arith}
 use lib.ListN.{length, get_or}
-use Rattle.sizes.specs.Heads.{cells_of, words_of, openAfter}
+use Rattle.sizes.specs.Heads.{cells_of, words_of, open_after}
 use Rattle.sizes.specs.Located.{Scanned}
 use Rattle.emitter.proofs.Leave.{all_in}
 use Rattle.sizes.proofs.Leave.{Runs, runs_none, runs-more, runs-end, turn, head-cells, head-words}
@@ -57,7 +57,7 @@ loop-again c = let P = c.before.before.before.before.before.before.before.requir
     let x0 = c.Cells-of.ensures in let y0 = c.before.words-of.ensures in let z0 = c.before.before.Open-after.ensures in
     let x : c.Cells-of.result ≡ cells_of (get_or a.cells.now o.q 0) = x0 ∙ ap cells_of e in
     let y : c.before.words-of.result ≡ words_of (get_or a.cells.now o.q 0) = y0 ∙ ap words_of e in
-    let z : c.before.before.Open-after.result ≡ openAfter (get_or a.cells.now o.q 0) o.d = z0 ∙ ap (λ (k : ℕ). openAfter k o.d) e in
+    let z : c.before.before.Open-after.result ≡ open_after (get_or a.cells.now o.q 0) o.d = z0 ∙ ap (λ (k : ℕ). open_after k o.d) e in
     let r = runs-more a.cells.now a.p o.q o.w o.d c.before.before.before.before.loop-test.true o.invariant.4 in
     (omega (arith, t.on), omega (arith, t.deep), omega (arith, t.near), omega (arith, t.few), rw (x, y, z) r)
 

@@ -2,7 +2,7 @@ use Prim.Native.Nat.{ℕ, ◌*◌, ◌-◌}
 use mathlib.Core.Path.{◌≡◌, ap, ◌∙◌}
 use lib.ListN.{get_or}
 use borrow.Author.Tests.{lt-ltb, le-ltb}
-use Rattle.sizes.specs.Heads.{words_of, wordsTable}
+use Rattle.sizes.specs.Heads.{words_of, words_table}
 use borrow.Author.Rules.{rules}
 use Rattle.sizes.proofs.words_of.Statement.{statement}
 use Rattle.sizes.proofs.words_of.Tie as tie
@@ -22,7 +22,7 @@ byte-requires c κs = search rules
 -- src/lib.rt:200:9
 returns : tie.Need-returns
 unfolding words_of
-returns c = simp (lt-ltb _ _ c.before.before.if1.true) (c.byte.ensures.0 ∙ ap (λ (i : ℕ). get_or wordsTable i 0) c.before.wide.ensures.0)
+returns c = simp (lt-ltb _ _ c.before.before.if1.true) (c.byte.ensures.0 ∙ ap (λ (i : ℕ). get_or words_table i 0) c.before.wide.ensures.0)
 
 -- src/lib.rt:203:9
 returns-2 : tie.Need-returns-2

@@ -3,14 +3,14 @@ use mathlib.Core.Path.{◌≡◌, sym, ap, ◌∙◌}
 use Prim.Native.Nat.{ℕ, ◌-◌, ◌≤◌, ◌<◌}
 use native.Mathlib.Omega.{arith}
 use lib.ListN.{drop}
-use Rattle.symbols.specs.Index.{hashFrom, seedOf}
+use Rattle.symbols.specs.Index.{hash_from, seed_of}
 use Rattle.symbols.specs.Search.{part}
 use Rattle.symbols.proofs.Parts.{part-fits, part-byte, hash-more, bucket-end, product-low}
 use Rattle.symbols.proofs.bucket.Statement.{statement}
 use Rattle.symbols.proofs.bucket.Tie as tie
 
 abbrev invariant-loop : tie.invariant-loop
-invariant-loop text key class start len n h₀ i₀ h i = (i ≤ n) × (h < 281474976710656) × (hashFrom key h (drop i (part text start len)) ≡ hashFrom key (seedOf class) (part text start len))
+invariant-loop text key class start len n h₀ i₀ h i = (i ≤ n) × (h < 281474976710656) × (hash_from key h (drop i (part text start len)) ≡ hash_from key (seed_of class) (part text start len))
 
 abbrev decreases-loop : tie.decreases-loop
 decreases-loop text key class start len n h₀ i₀ h i = n - i
@@ -22,7 +22,7 @@ seed-requires : tie.Need-seed-requires invariant-loop decreases-loop
 seed-requires c κs = tt
 
 loop-holds : tie.Need-loop-init invariant-loop decreases-loop
-loop-holds c = (omega arith, c.seed.ensures.1, ap (λ (h : ℕ). hashFrom c.before.before.before.args.key h (part c.before.before.before.args.text.now c.before.before.before.args.start c.before.before.before.args.len)) c.seed.ensures.0)
+loop-holds c = (omega arith, c.seed.ensures.1, ap (λ (h : ℕ). hash_from c.before.before.before.args.key h (part c.before.before.before.args.text.now c.before.before.before.args.start c.before.before.before.args.len)) c.seed.ensures.0)
 
 mul-h : tie.Need-overflow-mul-h invariant-loop decreases-loop
 mul-h c = omega (arith, product-low c.before.loop.h c.before.before.before.before.before.args.key c.before.loop.invariant.1 c.before.before.before.before.before.requires)

@@ -2,7 +2,7 @@
 use mathlib.Core.Path.{◌≡◌, refl, sym, ◌∙◌}
 use Prim.Native.Nat.{◌-◌, ◌%◌, ◌<◌}
 use native.Mathlib.Omega.{arith}
-use Rattle.symbols.specs.Index.{bucketOf, key_of}
+use Rattle.symbols.specs.Index.{bucket_of, key_of}
 use Rattle.symbols.specs.Search.{part}
 use Rattle.symbols.proofs.Along.{Along, along-start, along-end, along-past, along-hit, along-miss, nodes-left, named-among}
 use Rattle.symbols.proofs.Parts.{bucket-low}
@@ -20,7 +20,7 @@ first-node-requires : tie.Need-first-node-requires invariant-loop decreases-loop
 first-node-requires c κs = tt
 
 loop-holds : tie.Need-loop-init invariant-loop decreases-loop
-loop-holds c = (c.first-node.ensures.1, along-start (by_name c.before.before.before.args.class (part c.before.before.before.args.text.now c.before.before.before.args.start c.before.before.before.args.len)) c.before.before.before.args.text.now c.before.before.before.args.rows.now c.before.before.before.args.n (bucketOf (key_of c.before.before.before.args.rows.now) c.before.before.before.args.class (part c.before.before.before.args.text.now c.before.before.before.args.start c.before.before.before.args.len)) _ c.before.before.before.requires.1 (bucket-low (key_of c.before.before.before.args.rows.now) c.before.before.before.args.class (part c.before.before.before.args.text.now c.before.before.before.args.start c.before.before.before.args.len)) c.first-node.ensures.0 (λ j l e. named-among c.before.before.before.requires.1 (part c.before.before.before.args.text.now c.before.before.before.args.start c.before.before.before.args.len) j l c.before.before.before.args.class e))
+loop-holds c = (c.first-node.ensures.1, along-start (by_name c.before.before.before.args.class (part c.before.before.before.args.text.now c.before.before.before.args.start c.before.before.before.args.len)) c.before.before.before.args.text.now c.before.before.before.args.rows.now c.before.before.before.args.n (bucket_of (key_of c.before.before.before.args.rows.now) c.before.before.before.args.class (part c.before.before.before.args.text.now c.before.before.before.args.start c.before.before.before.args.len)) _ c.before.before.before.requires.1 (bucket-low (key_of c.before.before.before.args.rows.now) c.before.before.before.args.class (part c.before.before.before.args.text.now c.before.before.before.args.start c.before.before.before.args.len)) c.first-node.ensures.0 (λ j l e. named-among c.before.before.before.requires.1 (part c.before.before.before.args.text.now c.before.before.before.args.start c.before.before.before.args.len) j l c.before.before.before.args.class e))
 
 sub-i : tie.Need-overflow-sub-i invariant-loop decreases-loop
 sub-i c = let d : (c.before.loop.p ≡ 0 → ⊥) = c.loop-test.true in omega arith

@@ -3,13 +3,13 @@ use mathlib.Core.Path.{◌≡◌, ◌∙◌}
 use Prim.Native.Nat.{ℕ, ◌+◌, ◌-◌, ◌≤◌, ◌<◌}
 use native.Mathlib.Omega.{arith}
 use lib.ListN.{length, length-set}
-use Rattle.symbols.specs.Index.{headAt, RowsKept}
+use Rattle.symbols.specs.Index.{head_at, RowsKept}
 use Rattle.symbols.proofs.Indexing.{rows_same, rows-after, rows-set, clear-more, clear-keyed, key_set}
 use Rattle.symbols.proofs.clear_heads.Statement.{statement}
 use Rattle.symbols.proofs.clear_heads.Tie as tie
 
 abbrev invariant-loop : tie.invariant-loop
-invariant-loop rows₀ key b₀ rows b = (b ≤ 511) × RowsKept rows₀ rows × ((c : ℕ) → c < b → headAt rows c ≡ 0)
+invariant-loop rows₀ key b₀ rows b = (b ≤ 511) × RowsKept rows₀ rows × ((c : ℕ) → c < b → head_at rows c ≡ 0)
 
 abbrev decreases-loop : tie.decreases-loop
 decreases-loop rows₀ key b₀ rows b = 511 - b

@@ -5,14 +5,14 @@ use Prim.Native.Nat.{ℕ, ◌-◌, ◌≤◌}
 use native.Mathlib.Omega.{arith}
 use Rattle.base.specs.Common.{member}
 use Rattle.names.specs.Declare.{values_of}
-use Rattle.declarations.specs.Decls.{knownsIn}
-use Rattle.symbols.specs.Rows.{held, heldFrom, declAt}
+use Rattle.declarations.specs.Decls.{knowns_in}
+use Rattle.symbols.specs.Rows.{held, held_from, decl_at}
 use Rattle.symbols.proofs.Searches.{by_number, start, hit, miss, end}
 use Rattle.symbols.proofs.has_value.Statement.{statement}
 use Rattle.symbols.proofs.has_value.Tie as tie
 
 abbrev invariant-loop : tie.invariant-loop
-invariant-loop rows n class v i₀ i = (i ≤ n) × ((text : List ℕ) → member v (values_of (knownsIn class (held text rows n))) ≡ member v (values_of (knownsIn class (heldFrom text rows i (n - i)))))
+invariant-loop rows n class v i₀ i = (i ≤ n) × ((text : List ℕ) → member v (values_of (knowns_in class (held text rows n))) ≡ member v (values_of (knowns_in class (held_from text rows i (n - i)))))
 
 abbrev decreases-loop : tie.decreases-loop
 decreases-loop rows n class v i₀ i = n - i
@@ -24,7 +24,7 @@ counts-requires : tie.Need-counts-requires invariant-loop decreases-loop
 counts-requires c κs = omega arith
 
 returns : tie.Need-returns invariant-loop decreases-loop
-unfolding declAt
+unfolding decl_at
 returns c = λ text. sym (c.before.before.before.loop.invariant.1 text ∙ hit (by_number c.before.before.before.before.before.args.class c.before.before.before.before.before.args.v) text c.before.before.before.before.before.args.rows.now c.before.before.before.loop.i c.before.before.before.before.before.args.n c.before.before.loop-test.true (sym c.before.counts.ensures ∙ c.if1.true))
 
 add-i : tie.Need-overflow-add-i invariant-loop decreases-loop
@@ -34,7 +34,7 @@ loop-less : tie.Need-loop-smaller invariant-loop decreases-loop
 loop-less c = omega arith
 
 loop-again : tie.Need-loop-preserved invariant-loop decreases-loop
-unfolding declAt
+unfolding decl_at
 loop-again c = (omega arith, λ text. c.before.before.before.loop.invariant.1 text ∙ miss (by_number c.before.before.before.before.before.args.class c.before.before.before.before.before.args.v) text c.before.before.before.before.before.args.rows.now c.before.before.before.loop.i c.before.before.before.before.before.args.n c.before.before.loop-test.true (sym c.before.counts.ensures ∙ c.if1.false))
 
 returns-2 : tie.Need-returns-2 invariant-loop decreases-loop

@@ -2,7 +2,7 @@
 use mathlib.Core.Path.{refl, ap, ◌∙◌}
 use native.Mathlib.Omega.{arith}
 use lib.ListN.{length-set}
-use Rattle.symbols.specs.Index.{seedOf}
+use Rattle.symbols.specs.Index.{seed_of}
 use Rattle.symbols.proofs.Sorting.{bound-own, inserted}
 use Rattle.symbols.proofs.insert.Statement.{statement}
 use Rattle.symbols.proofs.insert.Tie as tie
@@ -68,7 +68,7 @@ same_length : tie.Need-same-length
 same_length c = simp (length-set) c.before.before.before.open-gap.ensures.size
 
 returns : tie.Need-returns
-returns c = inserted c.before.before.before.before.before.before.before.before.before.before.before.before.before.before.args.k _ _ c.before.before.before.before.before.before.before.before.before.before.before.before.before.before.requires.0 c.before.before.before.before.before.before.before.before.before.before.before.before.before.before.requires.2 (bound-own c.before.before.before.before.before.before.before.before.before.before.before.before.before.before.args.text.now c.before.before.before.before.before.before.before.before.before.before.before.before.before.before.args.rows.now c.before.before.before.before.before.before.before.before.before.before.before.before.before.before.args.k _ _ _ _ (c.before.before.before.before.before.before.before.before.before.seed.ensures.0 ∙ ap seedOf c.before.before.before.before.before.before.before.before.before.before.number.ensures.0) c.before.before.before.before.before.before.before.number2.ensures.0 c.before.before.before.before.before.before.number3.ensures.0 c.before.before.before.before.before.lower-bound.ensures) c.before.before.before.open-gap.ensures refl refl
+returns c = inserted c.before.before.before.before.before.before.before.before.before.before.before.before.before.before.args.k _ _ c.before.before.before.before.before.before.before.before.before.before.before.before.before.before.requires.0 c.before.before.before.before.before.before.before.before.before.before.before.before.before.before.requires.2 (bound-own c.before.before.before.before.before.before.before.before.before.before.before.before.before.before.args.text.now c.before.before.before.before.before.before.before.before.before.before.before.before.before.before.args.rows.now c.before.before.before.before.before.before.before.before.before.before.before.before.before.before.args.k _ _ _ _ (c.before.before.before.before.before.before.before.before.before.seed.ensures.0 ∙ ap seed_of c.before.before.before.before.before.before.before.before.before.before.number.ensures.0) c.before.before.before.before.before.before.before.number2.ensures.0 c.before.before.before.before.before.before.number3.ensures.0 c.before.before.before.before.before.lower-bound.ensures) c.before.before.before.open-gap.ensures refl refl
 
 pub insert-spec : {M : Type 1} → statement M
 insert-spec =

@@ -1,7 +1,7 @@
 -- `symbols::insert_second` meets its contract.
 use mathlib.Core.Path.{refl, sym, ◌∙◌}
 use native.Mathlib.Omega.{arith}
-use Rattle.symbols.specs.Index.{none-second, put_second}
+use Rattle.symbols.specs.Index.{none_second, put_second}
 use Rattle.symbols.proofs.insert_second.Statement.{statement}
 use Rattle.symbols.proofs.insert_second.Tie as tie
 
@@ -18,7 +18,7 @@ same_length : tie.Need-same-length
 same_length c = refl
 
 returns : tie.Need-returns
-returns c = none-second (sym c.before.number.ensures.0 ∙ c.if1.true) refl
+returns c = none_second (sym c.before.number.ensures.0 ∙ c.if1.true) refl
 
 mul-insert : tie.Need-overflow-mul-insert
 mul-insert c = omega (arith, c.before.before.before.before.before.before.requires.1)

@@ -2,15 +2,15 @@
 use mathlib.Core.Path.{◌≡◌, sym, ◌∙◌}
 use Prim.Native.Nat.{◌-◌, ◌≤◌}
 use native.Mathlib.Omega.{arith}
-use Rattle.declarations.specs.Decls.{declaredIn}
-use Rattle.symbols.specs.Rows.{held, heldFrom}
+use Rattle.declarations.specs.Decls.{declared_in}
+use Rattle.symbols.specs.Rows.{held, held_from}
 use Rattle.symbols.specs.Search.{part}
 use Rattle.symbols.proofs.Searches.{by_word, start, hit, miss, end}
 use Rattle.symbols.proofs.is_declared.Statement.{statement}
 use Rattle.symbols.proofs.is_declared.Tie as tie
 
 abbrev invariant-loop : tie.invariant-loop
-invariant-loop text rows n start len i₀ i = (i ≤ n) × (declaredIn (part text start len) (held text rows n) ≡ declaredIn (part text start len) (heldFrom text rows i (n - i)))
+invariant-loop text rows n start len i₀ i = (i ≤ n) × (declared_in (part text start len) (held text rows n) ≡ declared_in (part text start len) (held_from text rows i (n - i)))
 
 abbrev decreases-loop : tie.decreases-loop
 decreases-loop text rows n start len i₀ i = n - i

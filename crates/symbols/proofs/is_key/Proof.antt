@@ -1,7 +1,7 @@
 -- `symbols::is_key` meets its contract.
 use borrow.Author.Rules.{rules}
 use mathlib.Core.Path.{ap, ◌∙◌}
-use Rattle.symbols.specs.Index.{seedOf}
+use Rattle.symbols.specs.Index.{seed_of}
 use Rattle.symbols.specs.Search.{part}
 use Rattle.symbols.proofs.Bounds.{other-seed, same_word}
 use Rattle.symbols.proofs.is_key.Statement.{statement}
@@ -17,7 +17,7 @@ seed-requires : tie.Need-seed-requires
 seed-requires c κs = search rules
 
 returns : tie.Need-returns
-returns c = other-seed c.before.before.before.before.before.args.text.now c.before.before.before.before.before.args.rows.now c.before.before.before.before.before.args.k c.before.before.before.before.before.args.f _ (part c.before.before.before.before.before.args.text.now c.before.before.before.before.before.args.start c.before.before.before.before.before.args.len) (c.before.seed.ensures.0 ∙ ap seedOf c.before.before.number.ensures.0) c.if1.true
+returns c = other-seed c.before.before.before.before.before.args.text.now c.before.before.before.before.before.args.rows.now c.before.before.before.before.before.args.k c.before.before.before.before.before.args.f _ (part c.before.before.before.before.before.args.text.now c.before.before.before.before.before.args.start c.before.before.before.before.before.args.len) (c.before.seed.ensures.0 ∙ ap seed_of c.before.before.number.ensures.0) c.if1.true
 
 mul_at : tie.Need-overflow-mul-at
 mul_at c = search rules
@@ -44,7 +44,7 @@ same-part-requires : tie.Need-same-part-requires
 same-part-requires c κs = search rules
 
 returns-2 : tie.Need-returns-2
-returns-2 c = same_word c.before.before.before.before.before.before.before.before.args.text.now c.before.before.before.before.before.before.before.before.args.rows.now c.before.before.before.before.before.before.before.before.args.k c.before.before.before.before.before.before.before.before.args.f _ (part c.before.before.before.before.before.before.before.before.args.text.now c.before.before.before.before.before.before.before.before.args.start c.before.before.before.before.before.before.before.before.args.len) (c.before.before.before.before.seed.ensures.0 ∙ ap seedOf c.before.before.before.before.before.number.ensures.0) c.before.before.before.if1.false _ _ c.before.before.number2.ensures.0 c.before.number3.ensures.0 _ c.same-part.ensures
+returns-2 c = same_word c.before.before.before.before.before.before.before.before.args.text.now c.before.before.before.before.before.before.before.before.args.rows.now c.before.before.before.before.before.before.before.before.args.k c.before.before.before.before.before.before.before.before.args.f _ (part c.before.before.before.before.before.before.before.before.args.text.now c.before.before.before.before.before.before.before.before.args.start c.before.before.before.before.before.before.before.before.args.len) (c.before.before.before.before.seed.ensures.0 ∙ ap seed_of c.before.before.before.before.before.number.ensures.0) c.before.before.before.if1.false _ _ c.before.before.number2.ensures.0 c.before.number3.ensures.0 _ c.same-part.ensures
 
 pub is-key-spec : {M : Type 1} → statement M
 is-key-spec =

@@ -1,7 +1,7 @@
 -- `symbols::is_name` meets its contract.
 use borrow.Author.Rules.{rules}
 use mathlib.Core.Path.{refl}
-use Rattle.symbols.specs.Rows.{declAt}
+use Rattle.symbols.specs.Rows.{decl_at}
 use Rattle.symbols.proofs.is_name.Statement.{statement}
 use Rattle.symbols.proofs.is_name.Tie as tie
 
@@ -27,7 +27,7 @@ same-part-requires : tie.Need-same-part-requires
 same-part-requires c κs = search rules
 
 returns : tie.Need-returns
-unfolding declAt
+unfolding decl_at
 returns c = rw (c.same-part.ensures, c.before.before.number.ensures.0, c.before.number2.ensures.0) refl
 
 pub is-name-spec : {M : Type 1} → statement M

@@ -2,8 +2,8 @@
 use borrow.Author.Rules.{rules}
 use mathlib.Core.Path.{refl, sym, ◌∙◌}
 use borrow.Author.Tests.{ne_eqb, eq-eqb}
-use Rattle.names.specs.Known.{isWord}
-use Rattle.symbols.specs.Rows.{declAt, optionOf}
+use Rattle.names.specs.Known.{is_word}
+use Rattle.symbols.specs.Rows.{decl_at, option_of}
 use Rattle.symbols.proofs.is_second.Statement.{statement}
 use Rattle.symbols.proofs.is_second.Tie as tie
 
@@ -17,7 +17,7 @@ number-requires : tie.Need-number-requires
 number-requires c κs = search rules
 
 returns : tie.Need-returns
-unfolding declAt optionOf isWord
+unfolding decl_at option_of is_word
 returns c = rw (eq-eqb _ 0 (sym c.before.number.ensures.0 ∙ c.if1.true)) refl
 
 mul-number-2 : tie.Need-overflow-mul-number-2
@@ -33,7 +33,7 @@ same-part-requires : tie.Need-same-part-requires
 same-part-requires c κs = search rules
 
 returns-2 : tie.Need-returns-2
-unfolding declAt optionOf isWord
+unfolding decl_at option_of is_word
 returns-2 c = rw (← c.before.before.before.number.ensures.0, ne_eqb _ 0 c.before.before.if1.false, ← c.before.number2.ensures.0) c.same-part.ensures
 
 pub is-second-spec : {M : Type 1} → statement M

@@ -1,5 +1,5 @@
 use borrow.Author.Rules.{rules}
-use Rattle.translator.specs.Answered.{faultWord}
+use Rattle.translator.specs.Answered.{fault_word}
 use Rattle.translator.proofs.fault_word.Statement.{statement}
 use Rattle.translator.proofs.fault_word.Tie as tie
 
@@ -9,7 +9,7 @@ part-requires c κs = search rules
 
 -- src/lib.rt:48:1
 returns : tie.Need-returns
-unfolding faultWord
+unfolding fault_word
 returns c = c.part.ensures
 
 pub fault-word-spec : {M : Type 1} → statement M

@@ -1,5 +1,5 @@
 use borrow.Author.Rules.{rules}
-use Rattle.translator.proofs.Measured.{figure-past, figure-is}
+use Rattle.translator.proofs.Measured.{figure-past, figure_is}
 use native.Mathlib.Omega.{arith}
 use Rattle.translator.proofs.figure_of.Statement.{statement}
 use Rattle.translator.proofs.figure_of.Tie as tie
@@ -14,7 +14,7 @@ returns c = λ prog t. figure-past c.before.measure.ensures prog t (omega (arith
 
 -- src/lib.rt:101:1
 returns-2 : tie.Need-returns-2
-returns-2 c = λ prog t. figure-is c.before.measure.ensures prog t (omega (arith, c.if1.false))
+returns-2 c = λ prog t. figure_is c.before.measure.ensures prog t (omega (arith, c.if1.false))
 
 pub figure-of-spec : {M : Type 1} → statement M
 figure-of-spec = tie.close (tie.spec measure-requires returns returns-2)

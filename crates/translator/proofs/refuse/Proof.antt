@@ -1,6 +1,6 @@
 use borrow.Author.Rules.{rules}
-use Rattle.emitter.specs.Emitted.{zeroedBytes}
-use Rattle.processor.specs.Process.{lentBytes, lentWords}
+use Rattle.emitter.specs.Emitted.{zeroed_bytes}
+use Rattle.processor.specs.Process.{lent_bytes, lent_words}
 use Rattle.translator.proofs.refuse.Statement.{statement}
 use Rattle.translator.proofs.refuse.Tie as tie
 
@@ -18,7 +18,7 @@ same_length c = search rules
 
 -- src/lib.rt:55:1
 returns : tie.Need-returns
-unfolding lentBytes lentWords zeroedBytes
+unfolding lent_bytes lent_words zeroed_bytes
 returns c = record { answer = c.refusal.ensures; lent = c.before.before.before.zero.ensures }
 
 pub refuse-spec : {M : Type 1} → statement M

@@ -7,7 +7,7 @@ use lib.ListN.{length, take, drop, get_or}
 use Rattle.base.specs.Common.{member as listed}
 use Rattle.program.specs.Program.{Acts, Alts, Other}
 use Rattle.verdict.specs.Lies.{labelled, LiesAll, LiesRest}
-use Rattle.verdict.specs.Told.{someIn, known_in}
+use Rattle.verdict.specs.Told.{some_in, known_in}
 use Rattle.verdict.proofs.Scan.{cycle-told, rule_told, choice-told, heads-some, leaf-act, Left, left-start, left_step, left-done, Rest, rest-start, rest-step, rest-closed, rest-other, RestBy, by-start, by-step, by-closed, by-other, unnamed-same, nonzero-lt}
 use Prim.Native.Nat.{ℕ, ◌<◌, ◌≤◌, ◌-◌, ◌*◌, ◌+◌}
 use borrow.Fn.Kinds.{In}
@@ -362,7 +362,7 @@ valued-loop-again t c =
     let s = c.before.before.before.before.acts.ensures in
     let z : 64 ≤ get_or c.before.before.before.before.before.before.before.before.before.before.before.before.before.before.before.before.before.args.cells.now c.before.before.before.before.before.before.before.before.before.before.before.loop.i 0 = omega (arith, I.2) in
     let e : length c.before.before.before.before.before.before.collected.new.1.1.1.0 ≡ 64 = search rules in
-    (omega (arith, A.0.0, B.0.0, s.after), s.within, c.number2.ensures.0, omega (arith, c.before.before.before.before.before.before.collected.ensures.0, e), e, λ q o k g l. by-step c.before.before.before.before.before.before.before.before.before.before.before.before.before.before.before.before.before.args.wanted.now c.before.before.before.before.before.before.before.before.before.before.before.before.before.before.before.before.before.args.cells.now c.before.before.before.before.before.before.before.before.before.before.before.loop.i (known_in c.before.before.before.before.before.before.before.before.before.before.before.before.before.before.before.before.before.args.known.passed c.before.before.before.before.before.before.before.before.before.before.before.before.before.before.before.before.before.args.facts.now c.before.before.before.before.before.before.before.before.before.before.before.before.before.before.before.before.before.args.known.count) c.before.before.before.before.before.before.before.before.before.before.before.before.before.before.before.before.before.args.r (someIn c.before.before.before.before.before.before.before.before.before.before.before.before.before.before.before.before.before.args.facts.now c.before.before.before.before.before.before.before.before.before.before.before.before.before.before.before.before.before.args.known.count c.before.before.before.before.before.before.before.before.before.before.before.before.before.before.before.before.before.args.r (λ v. listed v (take (c.before.before.before.before.before.before.before.before.ahead2.result - c.before.before.before.before.before.before.before.before.before.ahead.result) (drop c.before.before.before.before.before.before.before.before.before.ahead.result c.before.before.before.before.before.before.before.before.before.before.before.before.before.before.before.before.before.args.cells.now)))) c.before.before.before.before.before.before.before.before.before.before.before.loop.w c.before.before.before.before.acts.result c.before.either.result c.before.before.before.before.before.before.before.before.before.ahead.result c.before.before.before.before.before.before.before.before.ahead2.result (take c.before.before.before.before.before.before.before.before.before.before.before.loop.n c.before.before.before.before.before.before.before.before.before.before.before.loop.labels) _ c.before.before.before.before.before.before.before.before.before.before.before.loop.n c.before.before.before.before.before.before.collected.result q o k z A.1.1 (rw I.2 at B.1.1) B.0.0 B.0.1 refl (λ h. c.before.before.before.before.before.before.collected.ensures.1.all (rw I.4 h)) s (either-worth c.before.before.before.before.before.before.before.before.before.before.before.before.before.before.before.before.before.args.r c.before.before.before.before.before.before.before.before.before.before.before.before.before.before.before.before.before.args.facts.now (λ v. listed v (take (c.before.before.before.before.before.before.before.before.ahead2.result - c.before.before.before.before.before.before.before.before.before.ahead.result) (drop c.before.before.before.before.before.before.before.before.before.ahead.result c.before.before.before.before.before.before.before.before.before.before.before.before.before.before.before.before.before.args.cells.now))) c.before.before.before.worth.ensures c.before.before.opened.ensures c.before.either.ensures) (I.5 q o k g l))
+    (omega (arith, A.0.0, B.0.0, s.after), s.within, c.number2.ensures.0, omega (arith, c.before.before.before.before.before.before.collected.ensures.0, e), e, λ q o k g l. by-step c.before.before.before.before.before.before.before.before.before.before.before.before.before.before.before.before.before.args.wanted.now c.before.before.before.before.before.before.before.before.before.before.before.before.before.before.before.before.before.args.cells.now c.before.before.before.before.before.before.before.before.before.before.before.loop.i (known_in c.before.before.before.before.before.before.before.before.before.before.before.before.before.before.before.before.before.args.known.passed c.before.before.before.before.before.before.before.before.before.before.before.before.before.before.before.before.before.args.facts.now c.before.before.before.before.before.before.before.before.before.before.before.before.before.before.before.before.before.args.known.count) c.before.before.before.before.before.before.before.before.before.before.before.before.before.before.before.before.before.args.r (some_in c.before.before.before.before.before.before.before.before.before.before.before.before.before.before.before.before.before.args.facts.now c.before.before.before.before.before.before.before.before.before.before.before.before.before.before.before.before.before.args.known.count c.before.before.before.before.before.before.before.before.before.before.before.before.before.before.before.before.before.args.r (λ v. listed v (take (c.before.before.before.before.before.before.before.before.ahead2.result - c.before.before.before.before.before.before.before.before.before.ahead.result) (drop c.before.before.before.before.before.before.before.before.before.ahead.result c.before.before.before.before.before.before.before.before.before.before.before.before.before.before.before.before.before.args.cells.now)))) c.before.before.before.before.before.before.before.before.before.before.before.loop.w c.before.before.before.before.acts.result c.before.either.result c.before.before.before.before.before.before.before.before.before.ahead.result c.before.before.before.before.before.before.before.before.ahead2.result (take c.before.before.before.before.before.before.before.before.before.before.before.loop.n c.before.before.before.before.before.before.before.before.before.before.before.loop.labels) _ c.before.before.before.before.before.before.before.before.before.before.before.loop.n c.before.before.before.before.before.before.collected.result q o k z A.1.1 (rw I.2 at B.1.1) B.0.0 B.0.1 refl (λ h. c.before.before.before.before.before.before.collected.ensures.1.all (rw I.4 h)) s (either-worth c.before.before.before.before.before.before.before.before.before.before.before.before.before.before.before.before.before.args.r c.before.before.before.before.before.before.before.before.before.before.before.before.before.before.before.before.before.args.facts.now (λ v. listed v (take (c.before.before.before.before.before.before.before.before.ahead2.result - c.before.before.before.before.before.before.before.before.before.ahead.result) (drop c.before.before.before.before.before.before.before.before.before.ahead.result c.before.before.before.before.before.before.before.before.before.before.before.before.before.before.before.before.before.args.cells.now))) c.before.before.before.worth.ensures c.before.before.opened.ensures c.before.either.ensures) (I.5 q o k g l))
 
 valued-slice-aggregate-unnamed : (t : ℕ) → valued-lts.Need-slice-aggregate-unnamed (valued-claims t) (valued-at t) valued.Post valued-Inv-loop valued-μ-loop
 valued-slice-aggregate-unnamed t c = search rules

@@ -1,6 +1,6 @@
 -- `verdict::either` meets its contract: by cases of the test.
 use mathlib.Core.Path.{refl, ◌∙◌}
-use Rattle.base.specs.Bools.{on-true, on-false}
+use Rattle.base.specs.Bools.{on_true, on_false}
 use Rattle.verdict.specs.Told.{member}
 use Rattle.verdict.proofs.either.Statement.{statement}
 use Rattle.verdict.proofs.either.Tie as tie
@@ -13,22 +13,22 @@ union-requires-2 c κs = tt
 
 returns : tie.Need-returns
 returns c = record {
-  end = on-true c.before.before.before.before.before.before.before.before.before.before.before.before.before.before.before.args.on c.before.before.before.before.before.before.before.before.before.before.before.before.before.before.before.args.w.end c.before.before.before.before.before.before.before.before.before.before.before.before.before.before.before.args.a.end c.before.before.before.before.before.before.before.before.before.before.if1.true;
-  exit = on-true c.before.before.before.before.before.before.before.before.before.before.before.before.before.before.before.args.on c.before.before.before.before.before.before.before.before.before.before.before.before.before.before.before.args.w.exit c.before.before.before.before.before.before.before.before.before.before.before.before.before.before.before.args.a.exit c.before.before.before.before.before.before.before.before.before.before.if1.true;
-  ret = on-true c.before.before.before.before.before.before.before.before.before.before.before.before.before.before.before.args.on c.before.before.before.before.before.before.before.before.before.before.before.before.before.before.before.args.w.ret c.before.before.before.before.before.before.before.before.before.before.before.before.before.before.before.args.a.ret c.before.before.before.before.before.before.before.before.before.before.if1.true;
-  calls = λ k. c.before.union.ensures k ∙ on-true c.before.before.before.before.before.before.before.before.before.before.before.before.before.before.before.args.on (member c.before.before.before.before.before.before.before.before.before.before.before.before.before.before.before.args.w.calls k) (member c.before.before.before.before.before.before.before.before.before.before.before.before.before.before.before.args.a.calls k) c.before.before.before.before.before.before.before.before.before.before.if1.true;
-  given = λ k. c.union2.ensures k ∙ on-true c.before.before.before.before.before.before.before.before.before.before.before.before.before.before.before.args.on (member c.before.before.before.before.before.before.before.before.before.before.before.before.before.before.before.args.w.given k) (member c.before.before.before.before.before.before.before.before.before.before.before.before.before.before.before.args.a.given k) c.before.before.before.before.before.before.before.before.before.before.if1.true;
+  end = on_true c.before.before.before.before.before.before.before.before.before.before.before.before.before.before.before.args.on c.before.before.before.before.before.before.before.before.before.before.before.before.before.before.before.args.w.end c.before.before.before.before.before.before.before.before.before.before.before.before.before.before.before.args.a.end c.before.before.before.before.before.before.before.before.before.before.if1.true;
+  exit = on_true c.before.before.before.before.before.before.before.before.before.before.before.before.before.before.before.args.on c.before.before.before.before.before.before.before.before.before.before.before.before.before.before.before.args.w.exit c.before.before.before.before.before.before.before.before.before.before.before.before.before.before.before.args.a.exit c.before.before.before.before.before.before.before.before.before.before.if1.true;
+  ret = on_true c.before.before.before.before.before.before.before.before.before.before.before.before.before.before.before.args.on c.before.before.before.before.before.before.before.before.before.before.before.before.before.before.before.args.w.ret c.before.before.before.before.before.before.before.before.before.before.before.before.before.before.before.args.a.ret c.before.before.before.before.before.before.before.before.before.before.if1.true;
+  calls = λ k. c.before.union.ensures k ∙ on_true c.before.before.before.before.before.before.before.before.before.before.before.before.before.before.before.args.on (member c.before.before.before.before.before.before.before.before.before.before.before.before.before.before.before.args.w.calls k) (member c.before.before.before.before.before.before.before.before.before.before.before.before.before.before.before.args.a.calls k) c.before.before.before.before.before.before.before.before.before.before.if1.true;
+  given = λ k. c.union2.ensures k ∙ on_true c.before.before.before.before.before.before.before.before.before.before.before.before.before.before.before.args.on (member c.before.before.before.before.before.before.before.before.before.before.before.before.before.before.before.args.w.given k) (member c.before.before.before.before.before.before.before.before.before.before.before.before.before.before.before.args.a.given k) c.before.before.before.before.before.before.before.before.before.before.if1.true;
   loops = refl;
   next = refl;
 }
 
 returns-2 : tie.Need-returns-2
 returns-2 c = record {
-  end = on-false c.before.before.before.before.before.before.before.args.on c.before.before.before.before.before.before.before.args.w.end c.before.before.before.before.before.before.before.args.a.end c.before.before.if1.false;
-  exit = on-false c.before.before.before.before.before.before.before.args.on c.before.before.before.before.before.before.before.args.w.exit c.before.before.before.before.before.before.before.args.a.exit c.before.before.if1.false;
-  ret = on-false c.before.before.before.before.before.before.before.args.on c.before.before.before.before.before.before.before.args.w.ret c.before.before.before.before.before.before.before.args.a.ret c.before.before.if1.false;
-  calls = λ k. on-false c.before.before.before.before.before.before.before.args.on (member c.before.before.before.before.before.before.before.args.w.calls k) (member c.before.before.before.before.before.before.before.args.a.calls k) c.before.before.if1.false;
-  given = λ k. on-false c.before.before.before.before.before.before.before.args.on (member c.before.before.before.before.before.before.before.args.w.given k) (member c.before.before.before.before.before.before.before.args.a.given k) c.before.before.if1.false;
+  end = on_false c.before.before.before.before.before.before.before.args.on c.before.before.before.before.before.before.before.args.w.end c.before.before.before.before.before.before.before.args.a.end c.before.before.if1.false;
+  exit = on_false c.before.before.before.before.before.before.before.args.on c.before.before.before.before.before.before.before.args.w.exit c.before.before.before.before.before.before.before.args.a.exit c.before.before.if1.false;
+  ret = on_false c.before.before.before.before.before.before.before.args.on c.before.before.before.before.before.before.before.args.w.ret c.before.before.before.before.before.before.before.args.a.ret c.before.before.if1.false;
+  calls = λ k. on_false c.before.before.before.before.before.before.before.args.on (member c.before.before.before.before.before.before.before.args.w.calls k) (member c.before.before.before.before.before.before.before.args.a.calls k) c.before.before.if1.false;
+  given = λ k. on_false c.before.before.before.before.before.before.before.args.on (member c.before.before.before.before.before.before.before.args.w.given k) (member c.before.before.before.before.before.before.before.args.a.given k) c.before.before.if1.false;
   loops = refl;
   next = refl;
 }

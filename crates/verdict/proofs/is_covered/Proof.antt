@@ -2,7 +2,7 @@
 use mathlib.Core.Path.{sym, ◌∙◌}
 use borrow.Author.Tests.{eqb-true}
 use Rattle.base.specs.Bools.{never}
-use Rattle.verdict.proofs.Worthy.{implied, same-words}
+use Rattle.verdict.proofs.Worthy.{implied, same_words}
 use borrow.Author.Rules.{rules}
 use Rattle.verdict.proofs.is_covered.Statement.{statement}
 use Rattle.verdict.proofs.is_covered.Tie as tie
@@ -36,8 +36,8 @@ returns-7 c = λ e. record {
   end = implied c.before.before.before.before.before.before.before.before.before.before.before.before.before.before.before.before.before.before.before.before.before.before.before.before.before.before.args.w.end c.before.before.before.before.before.before.before.before.before.before.before.before.before.before.before.before.before.before.before.before.before.before.before.before.before.before.args.a.end c.before.before.before.before.before.before.before.before.before.before.before.before.before.before.before.before.before.if1.false;
   exit = implied c.before.before.before.before.before.before.before.before.before.before.before.before.before.before.before.before.before.before.before.before.before.before.before.before.before.before.args.w.exit c.before.before.before.before.before.before.before.before.before.before.before.before.before.before.before.before.before.before.before.before.before.before.before.before.before.before.args.a.exit c.before.before.before.before.before.before.before.before.before.before.before.before.before.before.if2.false;
   ret = implied c.before.before.before.before.before.before.before.before.before.before.before.before.before.before.before.before.before.before.before.before.before.before.before.before.before.before.args.w.ret c.before.before.before.before.before.before.before.before.before.before.before.before.before.before.before.before.before.before.before.before.before.before.before.before.before.before.args.a.ret c.before.before.before.before.before.before.before.before.before.before.before.if3.false;
-  calls = λ k. sym (c.before.before.before.before.before.before.before.before.before.before.before.before.before.before.before.before.before.before.before.before.before.union.ensures k) ∙ same-words c.before.before.before.before.before.before.before.before.before.before.before.before.before.before.before.before.before.before.before.before.before.before.before.before.before.before.args.w.calls c.before.before.before.before.before.before.before.before.before.before.before.before.before.before.before.before.before.before.before.before.before.union.result c.before.before.before.before.before.before.before.before.if4.false c.before.before.before.before.before.if5.false k;
-  given = λ k. sym (c.before.before.before.before.before.before.before.before.before.before.before.before.before.before.before.before.before.before.before.before.union2.ensures k) ∙ same-words c.before.before.before.before.before.before.before.before.before.before.before.before.before.before.before.before.before.before.before.before.before.before.before.before.before.before.args.w.given c.before.before.before.before.before.before.before.before.before.before.before.before.before.before.before.before.before.before.before.before.union2.result c.before.before.if6.false (eqb-true c.before.before.before.before.before.before.before.before.before.before.before.before.before.before.before.before.before.before.before.before.union2.result.hi c.before.before.before.before.before.before.before.before.before.before.before.before.before.before.before.before.before.before.before.before.before.before.before.before.before.before.args.w.given.hi e) k;
+  calls = λ k. sym (c.before.before.before.before.before.before.before.before.before.before.before.before.before.before.before.before.before.before.before.before.before.union.ensures k) ∙ same_words c.before.before.before.before.before.before.before.before.before.before.before.before.before.before.before.before.before.before.before.before.before.before.before.before.before.before.args.w.calls c.before.before.before.before.before.before.before.before.before.before.before.before.before.before.before.before.before.before.before.before.before.union.result c.before.before.before.before.before.before.before.before.if4.false c.before.before.before.before.before.if5.false k;
+  given = λ k. sym (c.before.before.before.before.before.before.before.before.before.before.before.before.before.before.before.before.before.before.before.before.union2.ensures k) ∙ same_words c.before.before.before.before.before.before.before.before.before.before.before.before.before.before.before.before.before.before.before.before.before.before.before.before.before.before.args.w.given c.before.before.before.before.before.before.before.before.before.before.before.before.before.before.before.before.before.before.before.before.union2.result c.before.before.if6.false (eqb-true c.before.before.before.before.before.before.before.before.before.before.before.before.before.before.before.before.before.before.before.before.union2.result.hi c.before.before.before.before.before.before.before.before.before.before.before.before.before.before.before.before.before.before.before.before.before.before.before.before.before.before.args.w.given.hi e) k;
 }
 
 pub is-covered-spec : {M : Type 1} → statement M

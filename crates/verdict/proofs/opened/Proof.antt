@@ -5,13 +5,13 @@ use native.Mathlib.Omega.{arith}
 use borrow.Author.Rules.{rules}
 use lib.ListN.{take, drop}
 use Rattle.base.specs.Common.{member as listed}
-use Rattle.verdict.specs.Told.{someIn}
+use Rattle.verdict.specs.Told.{some_in}
 use Rattle.verdict.proofs.Listed.{open-split, open-end}
 use Rattle.verdict.proofs.opened.Statement.{statement}
 use Rattle.verdict.proofs.opened.Tie as tie
 
 abbrev invariant-loop : tie.invariant-loop
-invariant-loop cells from to facts m r i₀ i = (i ≤ to) × (someIn facts m r (λ v. listed v (take (to - from) (drop from cells))) ≡ someIn facts m r (λ v. listed v (take (to - i) (drop i cells))))
+invariant-loop cells from to facts m r i₀ i = (i ≤ to) × (some_in facts m r (λ v. listed v (take (to - from) (drop from cells))) ≡ some_in facts m r (λ v. listed v (take (to - i) (drop i cells))))
 
 abbrev decreases-loop : tie.decreases-loop
 decreases-loop cells from to facts m r i₀ i = to - i

@@ -7,14 +7,14 @@ use borrow.Author.Rules.{rules}
 use lib.Dec.{eqb}
 use lib.ListN.{get_or}
 use Rattle.finishing.specs.Test.{some_below}
-use Rattle.verdict.specs.Told.{someIn}
+use Rattle.verdict.specs.Told.{some_in}
 use Rattle.verdict.proofs.Table.{below_next}
 use Rattle.verdict.proofs.Listed.{packed-same}
 use Rattle.verdict.proofs.told.Statement.{statement}
 use Rattle.verdict.proofs.told.Tie as tie
 
 abbrev invariant-loop : tie.invariant-loop
-invariant-loop facts m r v fact some₀ i₀ some i = (i ≤ m) × (some ≡ someIn facts i r (λ u. eqb u v))
+invariant-loop facts m r v fact some₀ i₀ some i = (i ≤ m) × (some ≡ some_in facts i r (λ u. eqb u v))
 
 abbrev decreases-loop : tie.decreases-loop
 decreases-loop facts m r v fact some₀ i₀ some i = m - i
@@ -23,7 +23,7 @@ packed-requires : tie.Need-packed-requires invariant-loop decreases-loop
 packed-requires c κs = tt
 
 loop-holds : tie.Need-loop-init invariant-loop decreases-loop
-unfolding someIn some_below
+unfolding some_in some_below
 loop-holds c = (omega arith, refl)
 
 mul-packed : tie.Need-overflow-mul-packed invariant-loop decreases-loop
@@ -57,7 +57,7 @@ loop-less : tie.Need-loop-smaller invariant-loop decreases-loop
 loop-less c = omega arith
 
 loop-again : tie.Need-loop-preserved invariant-loop decreases-loop
-unfolding someIn
+unfolding some_in
 loop-again c =
     let a = c.before.before.before.before.before.before.before.args in
     let l = c.before.before.before.before.loop in

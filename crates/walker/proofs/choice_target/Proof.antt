@@ -5,7 +5,7 @@ use Prim.Native.Nat.{ℕ, ◌+◌, ◌*◌, ◌-◌, ◌≤◌, ◌<◌}
 use borrow.Author.Tests.{le-leb, lt-leb}
 use Rattle.machine.specs.Bytes.{word_at}
 use Rattle.walker.specs.Shape.{size}
-use Rattle.walker.specs.Shape.{insideTable, table_at, labelsAt}
+use Rattle.walker.specs.Shape.{inside_table, table_at, labels_at}
 use borrow.Author.Rules.{rules}
 use Rattle.walker.proofs.choice_target.Statement.{statement}
 use Rattle.walker.proofs.choice_target.Tie as tie
@@ -23,7 +23,7 @@ add-b-2 : tie.Need-overflow-add-b-2
 add-b-2 c = search rules
 
 returns : tie.Need-returns
-unfolding insideTable
+unfolding inside_table
 returns c =
     let a = c.before.before.before.args in
     let h : size a.t.now < table_at a.t.now a.loc = omega (arith, c.before.word.ensures, c.before.before.before.requires.0) in
@@ -45,24 +45,24 @@ add-if2 : tie.Need-overflow-add-if2
 add-if2 c = search rules
 
 returns-2 : tie.Need-returns-2
-unfolding insideTable
+unfolding inside_table
 returns-2 c =
     let a = c.before.before.before.before.before.args in
     let h : table_at a.t.now a.loc ≤ size a.t.now = omega (arith, c.before.before.before.word.ensures, c.before.before.before.before.before.requires.0) in
-    let e : c.before.word2.result ≡ labelsAt a.t.now a.loc = c.before.word2.ensures ∙ ap (λ (x : ℕ). word_at a.t.now (a.loc + 1 + x - 1)) c.before.before.before.word.ensures in
-    let g : size a.t.now < table_at a.t.now a.loc + 2 * labelsAt a.t.now a.loc = omega (arith, c.before.before.before.word.ensures, c.before.before.before.before.before.requires.0) in
+    let e : c.before.word2.result ≡ labels_at a.t.now a.loc = c.before.word2.ensures ∙ ap (λ (x : ℕ). word_at a.t.now (a.loc + 1 + x - 1)) c.before.before.before.word.ensures in
+    let g : size a.t.now < table_at a.t.now a.loc + 2 * labels_at a.t.now a.loc = omega (arith, c.before.before.before.word.ensures, c.before.before.before.before.before.requires.0) in
     simp (le-leb _ _ h, lt-leb _ _ g)
 
 labelled-requires : tie.Need-labelled-requires
 labelled-requires c κs = search rules
 
 returns-3 : tie.Need-returns-3
-unfolding insideTable
+unfolding inside_table
 returns-3 c =
     let a = c.before.before.before.before.before.before.args in
     let h : table_at a.t.now a.loc ≤ size a.t.now = omega (arith, c.before.before.before.before.word.ensures, c.before.before.before.before.before.before.requires.0) in
-    let e : c.before.before.word2.result ≡ labelsAt a.t.now a.loc = c.before.before.word2.ensures ∙ ap (λ (x : ℕ). word_at a.t.now (a.loc + 1 + x - 1)) c.before.before.before.before.word.ensures in
-    let g : table_at a.t.now a.loc + 2 * labelsAt a.t.now a.loc ≤ size a.t.now = omega (arith, c.before.before.before.before.word.ensures, c.before.before.before.before.before.before.requires.0) in
+    let e : c.before.before.word2.result ≡ labels_at a.t.now a.loc = c.before.before.word2.ensures ∙ ap (λ (x : ℕ). word_at a.t.now (a.loc + 1 + x - 1)) c.before.before.before.before.word.ensures in
+    let g : table_at a.t.now a.loc + 2 * labels_at a.t.now a.loc ≤ size a.t.now = omega (arith, c.before.before.before.before.word.ensures, c.before.before.before.before.before.before.requires.0) in
     simp (le-leb _ _ h, le-leb _ _ g, c.labelled.ensures, e, c.before.before.before.before.word.ensures)
 
 pub choice-target-spec : {M : Type 1} → statement M

@@ -2,7 +2,7 @@
 use mathlib.Core.Path.{sym, ap, ◌∙◌}
 use Prim.Native.Nat.{ℕ, ◌+◌, ◌*◌, ◌-◌}
 use native.Mathlib.Omega.{arith}
-use Rattle.walker.specs.Shape.{swapped, findFrom, otherwiseOf}
+use Rattle.walker.specs.Shape.{swapped, find_from, otherwise_of}
 use Rattle.walker.proofs.Laws.{Sought, swapped_same, sought-hit, sought-next, sought-none}
 use Rattle.walker.proofs.LinkWords.{word_below}
 use borrow.Author.Rules.{rules}
@@ -27,7 +27,7 @@ add-end c = omega arith
 loop-holds : tie.Need-loop-init invariant-loop decreases-loop
 loop-holds c =
     let a = c.before.before.args in
-    record { i = 0; place = omega arith; within = omega arith; same = ap (λ (k : ℕ). findFrom a.t.now a.b a.x k 0) (omega arith) }
+    record { i = 0; place = omega arith; within = omega arith; same = ap (λ (k : ℕ). find_from a.t.now a.b a.x k 0) (omega arith) }
 
 swapped-word-requires : tie.Need-swapped-word-requires invariant-loop decreases-loop
 swapped-word-requires c κs = omega (arith, c.loop-test.true)
@@ -62,7 +62,7 @@ returns-2 : tie.Need-returns-2 invariant-loop decreases-loop
 returns-2 c =
     let l = c.before.before in
     let a = l.before.before.before.args in
-    c.otherwise.ensures ∙ ap (λ (k : ℕ). otherwiseOf k (a.b + 2 * a.labels)) l.before.before.before.requires.0
+    c.otherwise.ensures ∙ ap (λ (k : ℕ). otherwise_of k (a.b + 2 * a.labels)) l.before.before.before.requires.0
     ∙ sought-none a.t.now a.b a.labels a.x l.loop.at l.loop.invariant (omega (arith, c.before.loop-test.false))
 
 pub labelled-spec : {M : Type 1} → statement M

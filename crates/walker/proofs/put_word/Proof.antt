@@ -2,7 +2,7 @@
 use native.Mathlib.Omega.{arith}
 use lib.ListN.{length-set}
 use Rattle.machine.specs.Bytes.{count}
-use Rattle.walker.specs.Shape.{setWord}
+use Rattle.walker.specs.Shape.{set_word}
 use borrow.Author.Rules.{rules}
 use Rattle.walker.proofs.put_word.Statement.{statement}
 use Rattle.walker.proofs.put_word.Tie as tie
@@ -37,7 +37,7 @@ same_length : tie.Need-same-length
 same_length c = search rules
 
 returns : tie.Need-returns
-unfolding setWord
+unfolding set_word
 returns c = search rules
 
 pub put-word-spec : {M : Type 1} → statement M

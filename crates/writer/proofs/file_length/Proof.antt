@@ -1,5 +1,5 @@
 -- `writer::file_length` meets its contract.
-use Rattle.writer.specs.Storing.{fileLength}
+use Rattle.writer.specs.Storing.{file_length}
 use borrow.Author.Rules.{rules}
 use Rattle.writer.proofs.file_length.Statement.{statement}
 use Rattle.writer.proofs.file_length.Tie as tie
@@ -20,7 +20,7 @@ add-result-2 : tie.Need-overflow-add-result-2
 add-result-2 c = search rules
 
 returns : tie.Need-returns
-unfolding fileLength
+unfolding file_length
 returns c = search rules
 
 pub file-length-spec : {M : Type 1} → statement M

@@ -2,7 +2,7 @@
 use mathlib.Core.Path.{◌∙◌}
 use native.Mathlib.Omega.{arith}
 use Rattle.machine.specs.Lengths.{lengths, length_of}
-use Rattle.walker.specs.Shape.{actOf, fetchedOf}
+use Rattle.walker.specs.Shape.{act_of, fetched_of}
 use Rattle.walker.proofs.Laws.{here, nothing, above, less, zero_of}
 use borrow.Author.Rules.{rules}
 use Rattle.walker.proofs.Registers.act.Statement.{statement}
@@ -103,55 +103,55 @@ operate-requires : tie.Need-operate-requires
 operate-requires c κs = search rules
 
 returns : tie.Need-returns
-unfolding fetchedOf actOf lengths length_of
+unfolding fetched_of act_of lengths length_of
 returns c = rw c.before.before.match.keys1 c.forward.ensures
 
 returns-2 : tie.Need-returns-2
-unfolding fetchedOf actOf lengths length_of
+unfolding fetched_of act_of lengths length_of
 returns-2 c = rw c.before.before.match.keys2 c.back.ensures
 
 returns-3 : tie.Need-returns-3
-unfolding fetchedOf actOf lengths length_of
+unfolding fetched_of act_of lengths length_of
 returns-3 c = rw c.before.before.match.keys3 c.input.ensures
 
 returns-4 : tie.Need-returns-4
-unfolding fetchedOf actOf lengths length_of
+unfolding fetched_of act_of lengths length_of
 returns-4 c = rw (c.before.before.match.keys4, here c.before.before.before.before.before.before.requires.2 c.before.before.before.before.before.before.requires.1) c.any.ensures
 
 returns-5 : tie.Need-returns-5
-unfolding fetchedOf actOf lengths length_of
+unfolding fetched_of act_of lengths length_of
 returns-5 c = rw c.before.before.match.keys5 c.output.ensures
 
 returns-6 : tie.Need-returns-6
-unfolding fetchedOf actOf lengths length_of
+unfolding fetched_of act_of lengths length_of
 returns-6 c = rw c.before.before.match.keys6 c.error.ensures
 
 returns-7 : tie.Need-returns-7
-unfolding fetchedOf actOf lengths length_of
+unfolding fetched_of act_of lengths length_of
 returns-7 c = rw c.before.before.match.keys7 c.input-choice.ensures
 
 returns-8 : tie.Need-returns-8
-unfolding fetchedOf actOf lengths length_of
+unfolding fetched_of act_of lengths length_of
 returns-8 c = rw c.before.before.match.keys8 c.call.ensures
 
 returns-9 : tie.Need-returns-9
-unfolding fetchedOf actOf lengths length_of
+unfolding fetched_of act_of lengths length_of
 returns-9 c = rw (c.before.before.match.keys9, here c.before.before.before.before.before.before.requires.2 c.before.before.before.before.before.before.requires.1) c.ret.ensures
 
 returns-10 : tie.Need-returns-10
-unfolding fetchedOf actOf lengths length_of
+unfolding fetched_of act_of lengths length_of
 returns-10 c = rw c.before.before.match.keys10 c.set-result.ensures
 
 returns-11 : tie.Need-returns-11
-unfolding fetchedOf actOf lengths length_of
+unfolding fetched_of act_of lengths length_of
 returns-11 c = rw c.before.before.match.keys11 c.choice.ensures
 
 returns-12 : tie.Need-returns-12
-unfolding fetchedOf actOf lengths length_of
+unfolding fetched_of act_of lengths length_of
 returns-12 c = rw (c.before.before.match.keys12, here c.before.before.before.before.before.before.requires.2 c.before.before.before.before.before.before.requires.1) c.end-choice.ensures
 
 returns-13 : tie.Need-returns-13
-unfolding fetchedOf actOf lengths length_of
+unfolding fetched_of act_of lengths length_of
 returns-13 c = rw c.before.before.match.keys13 c.set-parameter.ensures
 
 returns-14 : tie.Need-returns-14

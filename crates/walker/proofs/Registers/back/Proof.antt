@@ -3,7 +3,7 @@ use native.Mathlib.Omega.{arith}
 use Prim.Native.Nat.{◌≤◌, ◌<◌}
 use borrow.Author.Tests.{le-leb, lt-leb}
 use Rattle.machine.specs.Bytes.{word_at}
-use Rattle.walker.specs.Shape.{backOf}
+use Rattle.walker.specs.Shape.{back_of}
 use Rattle.walker.proofs.Laws.{inside, behind}
 use borrow.Author.Rules.{rules}
 use Rattle.walker.proofs.Registers.back.Statement.{statement}
@@ -34,7 +34,7 @@ moved-requires : tie.Need-moved-requires
 moved-requires c κs = search rules
 
 returns-2 : tie.Need-returns-2
-unfolding backOf
+unfolding back_of
 returns-2 c =
     let a = c.before.before.before.before.before.args in
     let l = a.self.location in
@@ -42,7 +42,7 @@ returns-2 c =
     simp (inside c.before.before.before.before.before.args.self.location c.before.before.before.if1.false c.before.before.before.before.before.requires.0 c.before.before.before.before.before.requires.2, le-leb _ _ h, c.moved.ensures, c.before.before.word.ensures)
 
 returns-3 : tie.Need-returns-3
-unfolding backOf
+unfolding back_of
 returns-3 c =
     let a = c.before.before.before.before.args in
     let l = a.self.location in

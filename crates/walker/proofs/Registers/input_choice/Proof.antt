@@ -4,7 +4,7 @@ use native.Mathlib.Omega.{arith}
 use Prim.Native.Nat.{◌≤◌, ◌<◌}
 use borrow.Author.Tests.{lt-ltb, le-ltb}
 use Rattle.machine.specs.Bytes.{count, word_at}
-use Rattle.walker.specs.Shape.{inputChoiceOf, takeInput, choice_of, moved}
+use Rattle.walker.specs.Shape.{input_choice_of, take_input, choice_of, moved}
 use Rattle.walker.proofs.Laws.{inside, behind}
 use borrow.Author.Rules.{rules}
 use Rattle.walker.proofs.Registers.input_choice.Statement.{statement}
@@ -61,7 +61,7 @@ take-other-requires : tie.Need-take-other-requires
 take-other-requires c κs = search rules
 
 returns-2 : tie.Need-returns-2
-unfolding inputChoiceOf takeInput
+unfolding input_choice_of take_input
 returns-2 c =
     let a = c.before.before.before.before.before.before.before.before.before.before.before.before.before.args in
     let h : a.self.read < count a.tokens.now = omega (arith, c.before.before.before.before.before.before.before.before.before.count-words.ensures, c.before.before.before.before.before.before.before.before.if2.true) in
@@ -69,7 +69,7 @@ returns-2 c =
     simp (inside c.before.before.before.before.before.before.before.before.before.before.before.before.before.args.self.location c.before.before.before.before.before.before.before.before.before.before.if1.false c.before.before.before.before.before.before.before.before.before.before.before.before.before.requires.0 c.before.before.before.before.before.before.before.before.before.before.before.before.before.requires.2, lt-ltb _ _ h, g, c.read-token.ensures, c.before.moved.ensures, c.before.before.with-result.ensures, c.before.before.before.before.before.before.before.word.ensures)
 
 returns-3 : tie.Need-returns-3
-unfolding inputChoiceOf takeInput
+unfolding input_choice_of take_input
 returns-3 c =
     let a = c.before.before.before.before.before.before.before.before.before.before.before.before.args in
     let h : a.self.read < count a.tokens.now = omega (arith, c.before.before.before.before.before.before.before.before.count-words.ensures, c.before.before.before.before.before.before.before.if2.true) in
@@ -77,7 +77,7 @@ returns-3 c =
     simp (inside c.before.before.before.before.before.before.before.before.before.before.before.before.args.self.location c.before.before.before.before.before.before.before.before.before.if1.false c.before.before.before.before.before.before.before.before.before.before.before.before.requires.0 c.before.before.before.before.before.before.before.before.before.before.before.before.requires.2, lt-ltb _ _ h, g, c.moved2.ensures, c.before.with-result2.ensures, c.before.before.before.before.before.before.word.ensures)
 
 returns-4 : tie.Need-returns-4
-unfolding inputChoiceOf takeInput
+unfolding input_choice_of take_input
 returns-4 c =
     let a = c.before.before.before.before.before.before.before.before.before.args in
     let h : a.self.read < count a.tokens.now = omega (arith, c.before.before.before.before.before.count-words.ensures, c.before.before.before.before.if2.true) in
@@ -85,7 +85,7 @@ returns-4 c =
     simp (inside c.before.before.before.before.before.before.before.before.before.args.self.location c.before.before.before.before.before.before.if1.false c.before.before.before.before.before.before.before.before.before.requires.0 c.before.before.before.before.before.before.before.before.before.requires.2, lt-ltb _ _ h, g)
 
 returns-5 : tie.Need-returns-5
-unfolding inputChoiceOf
+unfolding input_choice_of
 returns-5 c =
     let a = c.before.before.before.before.before.before.before.args in
     let h : count a.tokens.now ≤ a.self.read = omega (arith, c.before.before.before.count-words.ensures, c.before.before.if2.false) in

@@ -1,7 +1,7 @@
 -- `Registers::ret` meets its contract.
 use native.Mathlib.Omega.{arith}
 use borrow.Author.Tests.{eq-eqb, ne_eqb}
-use Rattle.walker.specs.Shape.{returnOf}
+use Rattle.walker.specs.Shape.{return_of}
 use borrow.Author.Rules.{rules}
 use Rattle.walker.proofs.Registers.ret.Statement.{statement}
 use Rattle.walker.proofs.Registers.ret.Tie as tie
@@ -16,7 +16,7 @@ returns : tie.Need-returns
 returns c = absurd (omega (arith, c.if1.true, c.before.before.before.requires.1, c.before.before.before.requires.2))
 
 returns-2 : tie.Need-returns-2
-unfolding returnOf
+unfolding return_of
 returns-2 c = simp (eq-eqb _ _ c.if2.true)
 
 sub_wide : tie.Need-overflow-sub-wide
@@ -35,7 +35,7 @@ back-to-requires : tie.Need-back-to-requires
 back-to-requires c κs = search rules
 
 returns-3 : tie.Need-returns-3
-unfolding returnOf
+unfolding return_of
 returns-3 c = simp (ne_eqb c.before.before.before.before.before.before.before.args.self.depth 0 c.before.before.before.if2.false, c.back_to.ensures, c.before.wide.ensures.0)
 
 pub ret-spec : {M : Type 1} → statement M

@@ -1,7 +1,7 @@
 -- `Registers::take_other` meets its contract.
 use Rattle.walker.specs.declared.Next.{Next}
 use mathlib.Core.Path.{sym, ap, ◌∙◌}
-use Rattle.walker.specs.Shape.{takeOther}
+use Rattle.walker.specs.Shape.{take_other}
 use borrow.Author.Rules.{rules}
 use Rattle.walker.proofs.Registers.take_other.Statement.{statement}
 use Rattle.walker.proofs.Registers.take_other.Tie as tie
@@ -22,15 +22,15 @@ enum_told : tie.Need-enum-told
 enum_told c = search rules
 
 returns : tie.Need-returns
-unfolding takeOther
-returns c = ap Next.On c.moved.ensures ∙ sym (ap (takeOther c.before.before.before.before.args.self) c.before.before.g.given.1)
+unfolding take_other
+returns c = ap Next.On c.moved.ensures ∙ sym (ap (take_other c.before.before.before.before.args.self) c.before.before.g.given.1)
 
 returns-2 : tie.Need-returns-2
-unfolding takeOther
-returns-2 c = ap Next.On c.moved2.ensures ∙ sym (ap (takeOther c.before.before.before.before.args.self) c.before.before.g2.given.1)
+unfolding take_other
+returns-2 c = ap Next.On c.moved2.ensures ∙ sym (ap (take_other c.before.before.before.before.args.self) c.before.before.g2.given.1)
 
 returns-3 : tie.Need-returns-3
-unfolding takeOther
+unfolding take_other
 returns-3 c = search rules
 
 pub take-other-spec : {M : Type 1} → statement M

@@ -1,4 +1,4 @@
--- `Walk::go` meets its contract: the invariant carries `goOf` with what is left of the budget, and each step that goes on keeps it.
+-- `Walk::go` meets its contract: the invariant carries `go_of` with what is left of the budget, and each step that goes on keeps it.
 use mathlib.Core.Logic.{◌⊎◌, ⊎_elim}
 use mathlib.Core.Path.{◌≡◌, refl, sym, ap, ◌∙◌}
 use native.Mathlib.Omega.{arith}
@@ -6,7 +6,7 @@ use Prim.Native.Nat.{ℕ, ◌+◌, ◌-◌, ◌<◌, ◌≤◌}
 use borrow.Author.Rules.{rules}
 use Rattle.machine.specs.Bytes.{count}
 use Rattle.machine.specs.Lengths.{lengths}
-use Rattle.walker.specs.Shape.{goOf, step_of}
+use Rattle.walker.specs.Shape.{go_of, step_of}
 use Rattle.walker.proofs.Go.{Inv, inv-as, kept, again-on, again-tells, again-pushes, others, ends, parts, spent}
 use Rattle.walker.proofs.Walk.go.Statement.{statement}
 use Rattle.walker.proofs.Walk.go.Tie as tie
@@ -34,7 +34,7 @@ count-words-requires c κs = search rules
 loop-holds : tie.Need-loop-init invariant-loop decreases-loop
 loop-holds c =
     let a = c.before.before.before.before.before.before.before.before.args in
-    record { deep = c.before.before.before.before.before.before.before.before.requires; left = omega (arith, c.count-words.ensures); as_long = refl; within = omega arith; same = ap (λ (n : ℕ). goOf a.t.now a.tokens.now a.answers.now a.pause n a.self.at a.self.returns a.out.now 0 0) (omega arith) }
+    record { deep = c.before.before.before.before.before.before.before.before.requires; left = omega (arith, c.count-words.ensures); as_long = refl; within = omega arith; same = ap (λ (n : ℕ). go_of a.t.now a.tokens.now a.answers.now a.pause n a.self.at a.self.returns a.out.now 0 0) (omega arith) }
 
 next-requires : tie.Need-next-requires invariant-loop decreases-loop
 unfolding lengths

@@ -4,7 +4,7 @@ use Prim.Native.Nat.{◌+◌, ◌*◌, ◌-◌, ◌≤◌}
 use native.Mathlib.Omega.{arith}
 use Rattle.machine.specs.Bytes.{count}
 use Rattle.walker.specs.Shape.{number_of}
-use Rattle.walker.specs.Steps.{Ends, turn_of, tookOf}
+use Rattle.walker.specs.Steps.{Ends, turn_of, took_of}
 use Rattle.walker.proofs.Steps.{only-full, last_as}
 use borrow.Author.Rules.{rules}
 use Rattle.walker.proofs.Walk.last.Statement.{statement}
@@ -59,22 +59,22 @@ ended-requires-2 : tie.Need-ended-requires-2
 ended-requires-2 c κs = search rules
 
 returns : tie.Need-returns
-unfolding turn_of tookOf number_of
+unfolding turn_of took_of number_of
 returns c = rw c.stopped.ensures (last_as _ _ _ _ c.before.enum_told.given.1)
 
 returns-2 : tie.Need-returns-2
-unfolding turn_of tookOf
+unfolding turn_of took_of
 returns-2 c = rw c.stopped2.ensures (last_as _ _ _ _ c.before.before.x.given.1)
 
 same_length : tie.Need-same-length
 same_length c = search rules
 
 returns-3 : tie.Need-returns-3
-unfolding turn_of tookOf
+unfolding turn_of took_of
 returns-3 c = rw (c.ended.ensures, c.before.before.before.before.before.put-event.ensures, c.before.in-phase.ensures, c.before.before.with-registers.ensures) (last_as _ _ _ _ c.before.before.before.before.before.before.before.before.x2.given.1)
 
 returns-4 : tie.Need-returns-4
-unfolding turn_of tookOf
+unfolding turn_of took_of
 returns-4 c = let a = c.before.before.before in rw c.ended2.ensures (last_as _ _ _ _ (only-full (count a.args.out.now - 3 * a.args.events) a.args.x a.requires.0 c.before.match.keys4))
 
 pub last-spec : {M : Type 1} → statement M

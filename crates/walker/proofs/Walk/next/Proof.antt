@@ -2,7 +2,7 @@
 use mathlib.Core.Path.{refl, sym, ap, ◌∙◌}
 use native.Mathlib.Omega.{arith}
 use Rattle.machine.specs.Lengths.{lengths, length_of}
-use Rattle.walker.specs.Steps.{tookOf}
+use Rattle.walker.specs.Steps.{took_of}
 use Rattle.walker.proofs.Steps.{inside-at, step-any, step-return, step-holds}
 use borrow.Author.Rules.{rules}
 use Rattle.walker.proofs.Walk.next.Statement.{statement}
@@ -42,15 +42,15 @@ took-requires c κs =
 returns : tie.Need-returns
 returns c =
     let a = c.before.before.before.before.before.before.before.before.before.before.before.args in
-    c.step-any.ensures ∙ ap (tookOf a.self) (sym (step-any a.t.now a.self.returns a.tokens.now a.answers.now a.room a.pause a.self.at (sym c.before.before.before.before.fetched.ensures ∙ c.before.before.before.match.keys1)))
+    c.step-any.ensures ∙ ap (took_of a.self) (sym (step-any a.t.now a.self.returns a.tokens.now a.answers.now a.room a.pause a.self.at (sym c.before.before.before.before.fetched.ensures ∙ c.before.before.before.match.keys1)))
 
 returns-2 : tie.Need-returns-2
 returns-2 c =
     let a = c.before.before.before.before.before.before.before.before.before.before.before.args in
-    c.step-return.ensures ∙ ap (tookOf a.self) (sym (step-return a.t.now a.self.returns a.tokens.now a.answers.now a.room a.pause a.self.at (sym c.before.before.before.before.fetched.ensures ∙ c.before.before.before.match.keys2)))
+    c.step-return.ensures ∙ ap (took_of a.self) (sym (step-return a.t.now a.self.returns a.tokens.now a.answers.now a.room a.pause a.self.at (sym c.before.before.before.before.fetched.ensures ∙ c.before.before.before.match.keys2)))
 
 returns-3 : tie.Need-returns-3
-returns-3 c = c.took.ensures ∙ ap (tookOf c.before.before.before.before.before.before.before.before.before.before.before.before.args.self) c.before.next.ensures
+returns-3 c = c.took.ensures ∙ ap (took_of c.before.before.before.before.before.before.before.before.before.before.before.before.args.self) c.before.next.ensures
 
 pub next-spec : {M : Type 1} → statement M
 next-spec =

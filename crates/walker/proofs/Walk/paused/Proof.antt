@@ -1,7 +1,7 @@
 -- `Walk::paused` meets its contract, by phase and by whether an answer is given.
 use mathlib.Core.Path.{ap, ◌∙◌}
 use native.Mathlib.Omega.{arith}
-use Rattle.walker.specs.Shape.{answeredOne}
+use Rattle.walker.specs.Shape.{answered_one}
 use Rattle.walker.specs.declared.Registers.{Registers}
 use Rattle.walker.specs.declared.Walk.{Walk}
 use Rattle.walker.proofs.Go.{parts}
@@ -47,7 +47,7 @@ returns-2 c =
     let a = c.before.before.before.before.before.before.before.before.before.before.before.before.args in
     let e = c.before.before.before.before.before.clipped2.ensures in
     let f = c.before.before.before.before.give-answer.ensures in
-    retold (paused-answers a.table.now a.tokens.now a.budget a.self a.events.now a.given a.answer a.tokens.now c.before.before.before.before.give-answer.result (ap (λ (w : Walk). w.at) f ∙ ap (λ (r : Registers). answeredOne r a.answer) e.1) (ap (λ (w : Walk). w.returns) f ∙ e.2) c.before.before.before.before.before.before.before.enum-told2.given.1 c.before.before.before.before.before.before.if2.true) c.before.before.go2.ensures
+    retold (paused-answers a.table.now a.tokens.now a.budget a.self a.events.now a.given a.answer a.tokens.now c.before.before.before.before.give-answer.result (ap (λ (w : Walk). w.at) f ∙ ap (λ (r : Registers). answered_one r a.answer) e.1) (ap (λ (w : Walk). w.returns) f ∙ e.2) c.before.before.before.before.before.before.before.enum-told2.given.1 c.before.before.before.before.before.before.if2.true) c.before.before.go2.ensures
 
 undone-requires-2 : tie.Need-undone-requires-2
 undone-requires-2 c κs = search rules

@@ -4,7 +4,7 @@ use Prim.Native.Nat.{◌≤◌, ◌<◌}
 use borrow.Author.Tests.{lt-ltb, le-ltb}
 use Rattle.machine.specs.Bytes.{count}
 use Rattle.walker.specs.Shape.{any_of}
-use Rattle.walker.specs.Steps.{tookOf}
+use Rattle.walker.specs.Steps.{took_of}
 use borrow.Author.Rules.{rules}
 use Rattle.walker.proofs.Walk.step_any.Statement.{statement}
 use Rattle.walker.proofs.Walk.step_any.Tie as tie
@@ -44,7 +44,7 @@ took-requires-2 : tie.Need-took-requires-2
 took-requires-2 c κs = search rules
 
 returns-2 : tie.Need-returns-2
-unfolding any_of tookOf
+unfolding any_of took_of
 returns-2 c =
     let a = c.before.before.before.before.before.before.before.before.before.args in
     let h : a.self.at.read < count a.tokens.now = omega (arith, c.before.before.before.before.before.count-words.ensures, c.before.before.before.before.if2.true) in

@@ -4,8 +4,8 @@ use native.Mathlib.Omega.{arith}
 use Prim.Native.Nat.{◌-◌, ◌≤◌, ◌<◌}
 use lib.ListN.{get_or}
 use borrow.Author.Tests.{eq-eqb, ne_eqb, le-leb, lt-leb}
-use Rattle.walker.specs.Shape.{size, backTo, returnOf}
-use Rattle.walker.specs.Steps.{tookOf}
+use Rattle.walker.specs.Shape.{size, back_to, return_of}
+use Rattle.walker.specs.Steps.{took_of}
 use Rattle.walker.specs.declared.Walk.{Walk}
 use borrow.Author.Rules.{rules}
 use Rattle.walker.proofs.Walk.step_return.Statement.{statement}
@@ -27,7 +27,7 @@ took-requires-2 : tie.Need-took-requires-2
 took-requires-2 c κs = search rules
 
 returns-2 : tie.Need-returns-2
-unfolding returnOf
+unfolding return_of
 returns-2 c = simp (eq-eqb _ _ c.before.if2.true) c.took2.ensures
 
 ret-requires : tie.Need-ret-requires
@@ -37,7 +37,7 @@ took-requires-3 : tie.Need-took-requires-3
 took-requires-3 c κs = search rules
 
 returns-3 : tie.Need-returns-3
-unfolding returnOf backTo
+unfolding return_of back_to
 returns-3 c =
     let a = c.before.before.before.before.before.before.before.before.before.args in
     let l = get_or a.self.returns (a.self.at.depth - 1) 0 in
@@ -51,7 +51,7 @@ took-requires-4 : tie.Need-took-requires-4
 took-requires-4 c κs = search rules
 
 returns-4 : tie.Need-returns-4
-unfolding returnOf backTo tookOf
+unfolding return_of back_to took_of
 returns-4 c =
     let a = c.before.before.before.before.before.before.before.before.before.before.args in
     let l = get_or a.self.returns (a.self.at.depth - 1) 0 in
@@ -60,7 +60,7 @@ returns-4 c =
     simp (ne_eqb a.self.at.depth 0 c.before.before.before.before.if2.false, ne_eqb l 0 (λ z. c.before.before.if3.false (e ∙ z)), le-leb _ _ h, c.says.ensures, c.before.before.before.ret.ensures)
 
 returns-5 : tie.Need-returns-5
-unfolding returnOf backTo
+unfolding return_of back_to
 returns-5 c =
     let a = c.before.before.before.before.before.before.before.before.before.before.args in
     let l = get_or a.self.returns (a.self.at.depth - 1) 0 in

@@ -1,6 +1,6 @@
 -- `Walk::took` meets its contract, by what the instruction did.
 use mathlib.Core.Path.{subst}
-use Rattle.walker.specs.Steps.{Holds, tookOf}
+use Rattle.walker.specs.Steps.{Holds, took_of}
 use borrow.Author.Rules.{rules}
 use Rattle.walker.proofs.Walk.took.Statement.{statement}
 use Rattle.walker.proofs.Walk.took.Tie as tie
@@ -75,31 +75,31 @@ says-requires-7 : tie.Need-says-requires-7
 says-requires-7 c κs = search rules
 
 returns : tie.Need-returns
-unfolding tookOf
+unfolding took_of
 returns c = simp (c.before.enum_told.given.1, c.says.ensures)
 
 returns-2 : tie.Need-returns-2
-unfolding tookOf
+unfolding took_of
 returns-2 c = simp (c.before.before.enum-told2.given.1, c.says2.ensures, c.before.in-phase.ensures)
 
 returns-3 : tie.Need-returns-3
-unfolding tookOf
+unfolding took_of
 returns-3 c = simp (c.before.before.before.before.x.given.1, c.says3.ensures, c.before.number_of_lem.ensures, c.before.before.in-phase2.ensures)
 
 returns-4 : tie.Need-returns-4
-unfolding tookOf
+unfolding took_of
 returns-4 c = simp (c.before.before.before.x2.given.1, c.says4.ensures, c.before.with-registers.ensures)
 
 returns-5 : tie.Need-returns-5
-unfolding tookOf
+unfolding took_of
 returns-5 c = simp (c.before.before.before.x3.given.1, c.says5.ensures, c.before.with-registers2.ensures)
 
 returns-6 : tie.Need-returns-6
-unfolding tookOf
+unfolding took_of
 returns-6 c = simp (c.before.before.before.before.x4.given.1, c.says6.ensures, c.before.push.ensures, c.before.before.with-registers3.ensures)
 
 returns-7 : tie.Need-returns-7
-unfolding tookOf
+unfolding took_of
 returns-7 c = simp (c.before.before.before.before.x5.given.1, c.says7.ensures, c.before.in-phase3.ensures, c.before.before.with-registers4.ensures)
 
 pub took-spec : {M : Type 1} → statement M
