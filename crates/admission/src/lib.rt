@@ -1,4 +1,6 @@
 // Rights over the operations: whether a table is admitted for the publisher who holds a granted set.
+#![tactic(auto)]
+
 ghost use Rattle.std.specs.Prelude.{◌≡◌, ◌-◌, ◌^◌, ◌<◌, ◌≤◌};
 ghost use Rattle.loading.specs.File.{load, lent_bytes};
 ghost use Rattle.machine.specs.Bytes.{count, table_of};

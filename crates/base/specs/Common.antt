@@ -4,7 +4,6 @@ use Rattle.std.proofs.Math.Option.{Option, none, some}
 use Prim.Native.Char.{code}
 use Prim.Native.String.{String}
 
-
 -- the bytes of a quoted text (ASCII)
 abbrev pub bytes : String → List ℕ
 bytes String.[] = []

@@ -1,4 +1,6 @@
 // What every other crate shares: definitions, the numbers of the answers, the limits, and small functions on numbers.
+#![tactic(auto)]
+
 ghost use Rattle.std.specs.Prelude.{◌≡◌, ◌%◌, ◌<◌, min, get_or};
 
 // What the processor says of a text: docs/FAULTS.md.

@@ -1,4 +1,6 @@
 // Words and numbers of 64 bits in a lent buffer, read and written high byte first.
+#![tactic(auto)]
+
 ghost use Rattle.std.specs.Prelude.{◌≡◌, ◌+◌, ◌*◌, ◌<◌, ◌≤◌, length, drop, get_or};
 ghost use Rattle.machine.specs.Bytes.{words_of};
 ghost use Rattle.machine.specs.Form.{number64};

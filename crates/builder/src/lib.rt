@@ -1,4 +1,6 @@
 // The rules' actions, resolved and appended as cells: lists of actions, cycles and choices, rule by rule.
+#![tactic(auto)]
+
 ghost use Rattle.std.specs.Prelude.{true, false, ◌&&◌, ◌||◌, [], ◌∷◌, ◌≡◌, ℕ, ◌+◌, ◌-◌, ◌%◌, ◌≤◌, ◌<◌, length, take, drop, set};
 ghost use Rattle.scanner.specs.Next.{Next};
 ghost use Rattle.resolver.specs.Resolved.{Appends};

@@ -1,1 +1,2 @@
 // Demand 3 at the C entries: definitions and theorems only.
+#![tactic(auto)]

@@ -1,4 +1,6 @@
 // Carrying a walk to new rules: where a location stands, which rules have one name, and whether two rules have the same words.
+#![tactic(auto)]
+
 ghost use Rattle.std.specs.Prelude.{◌≡◌, ◌+◌, ◌*◌, ◌<◌, ◌≤◌, ◌-◌, eqb, length, ◌||◌, []};
 ghost use Rattle.base.specs.Common.{same};
 ghost use Rattle.carry.specs.Carry.{same_name};

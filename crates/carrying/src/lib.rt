@@ -1,4 +1,6 @@
 // Carrying a walk to new rules from C (include/sst-carry.h): two texts, and the walk as its 158 bytes.
+#![tactic(auto)]
+
 ghost use Rattle.std.specs.Prelude.{◌≡◌, length, take, drop};
 ghost use Rattle.carry.specs.Carry.{carry as carrying, source_of};
 ghost use Rattle.carry.specs.Texts.{answer_of, carry_texts, carry_bytes};

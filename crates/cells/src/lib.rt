@@ -1,4 +1,6 @@
 // The program as a row of 16-bit cells: definitions, and the first cells of what stands in a row.
+#![tactic(auto)]
+
 ghost use Rattle.std.specs.Prelude.{◌≡◌, get_or};
 
 // The end of a list of actions, an exit, and a cycle.

@@ -1,5 +1,7 @@
 // The second pass over a text that the syntax pass has accepted: its declarations into rows of numbers. Nothing is checked here; on any other text
 // each function ends and keeps inside its buffers.
+#![tactic(auto)]
+
 ghost use Rattle.std.specs.Prelude.{◌≡◌, ◌+◌, ◌-◌, ◌≤◌, ◌<◌, length};
 ghost use Rattle.grammar.specs.Derived.{SpellingIn, GivesIn, TakesIn, EntriesIn, ListedIn, SectionIn};
 ghost use Rattle.reader.specs.Counting.{count_of, one_more};

@@ -1,5 +1,7 @@
 // Figures over a shelf of books (include/sst.h): a book's steps counted at their locations, over the walker's step, and the figures as bytes.
 // Nothing of this is in the walker's own loop.
+#![tactic(auto)]
+
 ghost use Rattle.std.specs.Prelude.{true, ◌≡◌, ◌+◌, ◌*◌, ◌-◌, ◌/◌, ◌%◌, ◌<◌, ◌≤◌, ◌^◌, min, eqb, ltb, length, take, drop, get_or, if◌then◌else◌};
 ghost use Rattle.std.proofs.Math.Option.{none};
 ghost use Rattle.base.specs.Common.{same};

@@ -1,1 +1,2 @@
 // A program's declarations in one row, as definitions and laws; this crate has no code.
+#![tactic(auto)]

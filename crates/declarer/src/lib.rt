@@ -1,4 +1,6 @@
 // The faults of the declarations, over their row; a section of operators has its entries in the text.
+#![tactic(auto)]
+
 ghost use Rattle.std.specs.Prelude.{◌≡◌, true, false, ◌&&◌, ◌||◌, List, [], ℕ, ◌+◌, ◌-◌, ◌*◌, ◌<◌, ◌≤◌, eqb, length, take};
 ghost use Rattle.std.proofs.Math.Option.{Option};
 ghost use Rattle.base.specs.Common.{given};

@@ -1,5 +1,7 @@
 // The C entries of the release desk (include/sst-desk.h): figures over a shelf of books, and where a text's rules stand. They are no part of the
 // firmware's library: a second caller of the walker's step would make its own loop slower.
+#![tactic(auto)]
+
 ghost use Rattle.std.specs.Prelude.{◌≡◌};
 ghost use Rattle.mapping.specs.Mapping as mapping;
 ghost use Rattle.figures.specs.Form as figuring;

@@ -1,5 +1,7 @@
 // The emitter: from a program's cells to the words of its table, in one pass.
 // Nothing is asked of the cells: on any cells each function ends and keeps to its bounds.
+#![tactic(auto)]
+
 ghost use Rattle.std.specs.Prelude.{◌≡◌, [], ◌∷◌, ℕ, ◌+◌, ◌*◌, ◌-◌, ◌<◌, ◌≤◌, length, get_or, replicate, set};
 ghost use Rattle.emitter.specs.Words.{words, set_word, puts, cut};
 ghost use Rattle.emitter.specs.Heads.{firsts, one, two, three, plain_of, plain_at, chooses, ins_of, sel_of, sel_at, labels_in, labels_at, start_of, called_by, called_at, link_at, anchor, behind};

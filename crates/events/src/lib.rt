@@ -1,1 +1,2 @@
 // What both kinds of walk read and write, as definitions; this crate has no code.
+#![tactic(auto)]

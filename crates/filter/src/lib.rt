@@ -1,4 +1,6 @@
 // The character filter: entries of four bytes, first byte, last byte and token, that name a token for each byte value.
+#![tactic(auto)]
+
 ghost use Rattle.std.specs.Prelude.{◌≡◌, ◌+◌, ◌*◌, ◌-◌, ◌<◌, ◌≤◌, ◌/◌, length, get_or};
 ghost use Rattle.buffers.specs.Words.{put_word};
 ghost use Rattle.machine.specs.Bytes.{count, bytes_of, over};

@@ -1,1 +1,2 @@
 // When a program is finishing, as definitions with a theorem; this crate has no code.
+#![tactic(auto)]

@@ -1,4 +1,6 @@
 // The C entries (include/sst.h): numbers and byte slices, the walk as its 158 bytes (docs/LAYOUT.md).
+#![tactic(auto)]
+
 ghost use Rattle.std.specs.Prelude.{[], ◌∷◌, reverse, false, ◌≡◌, ◌+◌, ◌*◌, ◌<◌, ◌≤◌, min, length, take, drop, get_or};
 ghost use Rattle.base.specs.Common.{same as same_bytes};
 ghost use Rattle.machine.specs.Bytes.{words_of, table_of, count};

@@ -1,4 +1,6 @@
 // The passes over a text that was read, up to the cells of its rules: for the processor and for the map of the rules.
+#![tactic(auto)]
+
 ghost use Rattle.std.specs.Prelude.{◌≡◌, ◌≤◌, length};
 ghost use Rattle.frontend.specs.Resolving.{ResolvesRules, ResolvesRead};
 ghost use Rattle.symbols.specs.Index.{Kept};

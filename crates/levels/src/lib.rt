@@ -1,4 +1,6 @@
 // The rules made for operators, one for each level of each pair, as cells behind those of the rules written.
+#![tactic(auto)]
+
 ghost use Rattle.std.specs.Prelude.{◌≡◌, [], ◌∷◌, ℕ, ◌+◌, ◌<◌, ◌≤◌, ◌%◌, length, set};
 ghost use Rattle.declarations.specs.Decls.{value_in};
 ghost use Rattle.levels.specs.LevelCells.{open_cells, close_cells, called_by};

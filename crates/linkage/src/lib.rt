@@ -1,4 +1,6 @@
 // Linking as a whole.
+#![tactic(auto)]
+
 ghost use Rattle.std.specs.Prelude.{List, ◌++◌, ◌≡◌, ℕ, ◌+◌, ◌<◌, ◌≤◌, length, take, drop};
 ghost use Rattle.base.specs.Common.{given};
 ghost use Rattle.cells.specs.Cells.{sort_of};

@@ -1,4 +1,6 @@
 // The checks of linking over the words of objects: the count of objects, then 5, 49, 50 and 9. Words handed in are objects already (`objects` tells 40).
+#![tactic(auto)]
+
 ghost use Rattle.std.specs.Prelude.{false, ◌&&◌, List, [], ◌∷◌, ◌++◌, ◌≡◌, ℕ, suc, ◌/◌, ◌+◌, ◌<◌, ◌≤◌, ltb, length, get_or, drop};
 ghost use Rattle.std.proofs.Math.Option.{some};
 ghost use Rattle.base.specs.Common.{same};

@@ -1,4 +1,6 @@
 // Objects linked: what the cells of a rule tell, and where a name's rule stands among all rules.
+#![tactic(auto)]
+
 ghost use Rattle.std.specs.Prelude.{◌≡◌, ◌+◌, ◌<◌};
 ghost use Rattle.base.specs.Common.{same};
 ghost use Rattle.linker.specs.Close as close;

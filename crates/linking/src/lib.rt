@@ -1,4 +1,6 @@
 // Linking: objects of one common part to the table of all their rules.
+#![tactic(auto)]
+
 ghost use Rattle.std.specs.Prelude.{◌||◌, ◌≡◌, ◌+◌, ◌<◌, ◌≤◌, eqb, ltb, length};
 ghost use Rattle.linking.specs.Answered.{Leaves, Links};
 ghost use Rattle.linking.specs.Linking.{IsRead, Named, Declared, Finds, Sound, SoMany, LinksSound, IsClosed, LinksClosed};

@@ -1,4 +1,6 @@
 // The pairs of section and operand rule over all objects that are linked, each once, and the rules made for them.
+#![tactic(auto)]
+
 ghost use Rattle.std.specs.Prelude.{List, ◌≡◌, ℕ, ◌+◌, ◌*◌, ◌<◌, ◌≤◌, length};
 ghost use Rattle.linkpairs.specs.Gather.{index_of};
 ghost use Rattle.linkpairs.specs.Places.{SitesFound, SiteIs, RulesMade};

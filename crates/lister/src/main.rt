@@ -1,4 +1,6 @@
 // The lister: reads a program on standard input and prints its table, verdict and figure, or the number and line of its fault, and then shows the word at fault.
+#![tactic(auto)]
+
 ghost use Rattle.std.specs.Prelude.{◌≤◌, length};
 ghost use Rattle.io.specs.Counts.{IsPrefixLen};
 ghost use Rattle.listing.specs.Written.{longest};

@@ -1,4 +1,6 @@
 // The listing of the processor's answer, written into a lent buffer.
+#![tactic(auto)]
+
 ghost use Rattle.std.specs.Prelude.{◌≡◌, [], ◌∷◌, ◌+◌, ◌*◌, ◌%◌, ◌<◌, ◌≤◌, length, take};
 ghost use Rattle.machine.specs.Bytes.{words_of, table_of};
 ghost use Rattle.listing.specs.Listing.{decimal, line_feeds, line_at, word_line, word_lines, verdict_end, heading, figure_line, table_listing, refusal_listing};

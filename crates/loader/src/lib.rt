@@ -1,4 +1,6 @@
 // The loader: which locations of a table can be reached, whether one of them gives 37, and table files.
+#![tactic(auto)]
+
 ghost use Rattle.std.specs.Prelude.{◌≡◌, true, [], ◌∷◌, ◌+◌, ◌*◌, ◌-◌, ◌<◌, ◌≤◌, length, drop, replicate};
 ghost use Rattle.std.proofs.Math.Option.{some};
 ghost use Rattle.machine.specs.Bytes.{count, words_of, table_of, bytes_of, over};

@@ -1,1 +1,2 @@
 // Definitions only: table files and the check on loading.
+#![tactic(auto)]

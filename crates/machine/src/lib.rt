@@ -1,4 +1,6 @@
 // The table machine: its definitions, the constant table of instruction lengths, and words of a byte buffer.
+#![tactic(auto)]
+
 ghost use Rattle.std.specs.Prelude.{◌≡◌, ◌<◌, get_or};
 ghost use Rattle.machine.specs.Bytes.{count, words_of};
 ghost use Rattle.machine.specs.Lengths.{length_of};

@@ -1,5 +1,7 @@
 // The uses of operators in a text that the syntax pass has accepted: each pair of section and operand rule, in the order of first use, and the
 // place of the lowest rule that is made for it. They stand in the rows behind the index.
+#![tactic(auto)]
+
 ghost use Rattle.std.specs.Prelude.{◌≡◌, ℕ, ◌+◌, ◌-◌, ◌*◌, ◌<◌, ◌≤◌, eqb, ltb, length, get_or, true, ◌&&◌, ◌||◌};
 ghost use Rattle.maker.specs.Pairs.{pairs_held, look_pair, lowest_in};
 ghost use Rattle.maker.specs.Pairing.{NoSection, set_three, Adds, UseRead, PlaceOf, UseDone, WordDone, PairsFrom, PairsDone};

@@ -1,4 +1,6 @@
 // The map of a text's rules, in a lent buffer: a row for each, in text order, and behind them those made for operators.
+#![tactic(auto)]
+
 ghost use Rattle.std.specs.Prelude.{◌≡◌, ◌+◌, ◌*◌, ◌-◌, ◌<◌, ◌≤◌, length};
 ghost use Rattle.machine.specs.Bytes.{bytes_of, over};
 ghost use Rattle.mapping.specs.Mapping.{row_words, rows_words, room_in, map_rules};

@@ -1,6 +1,8 @@
 // The figure Q of a table: numbers by location, raised until none can be raised. The number of a location is one more than the most instructions before it on
 // a quiet path, 0 where none comes; behind the locations stand, for each rule, the most instructions of a path that is over, and of one that is back.
 // There are two halves of them: the first begins at the rules' starts and says what a call adds; the second begins at every instruction that can be reached.
+#![tactic(auto)]
+
 ghost use Rattle.std.specs.Prelude.{◌≡◌, true, ◌||◌, ◌+◌, ◌*◌, ◌-◌, ◌<◌, ◌≤◌, min, length, get_or, set, replicate};
 ghost use Rattle.std.proofs.Math.Option.{none, some};
 ghost use Rattle.machine.specs.Bytes.{table_of};

@@ -1,4 +1,6 @@
 // The names that a part is resolved by: the common part and a further part in one text, and rows for what both declare.
+#![tactic(auto)]
+
 ghost use Rattle.std.specs.Prelude.{true, ◌≡◌, ◌+◌, ◌*◌, ◌-◌, ◌≤◌, ◌<◌, length, take};
 ghost use Rattle.names.specs.Understand.{is_one};
 ghost use Rattle.partnames.specs.Buffer.{Copies, Fills, part_place, both_texts};

@@ -1,5 +1,7 @@
 // The pairs of section and operand rule that a part uses, in the order of first use, one number each. They stand in the rows behind the index, as
 // those of a text do (crate maker), and the place of each first use stands in a slice of its own.
+#![tactic(auto)]
+
 ghost use Rattle.std.specs.Prelude.{◌≡◌, ◌+◌, ◌*◌, ◌≤◌, length, get_or};
 ghost use Rattle.partpairs.specs.Pairing.{UseRead, UseDone, WordDone, PairsFrom, PairsDone};
 ghost use Rattle.symbols.specs.Index.{Kept};

@@ -1,4 +1,6 @@
 // The rules of a part: each resolved by itself, and its words written as an object has them.
+#![tactic(auto)]
+
 ghost use Rattle.std.specs.Prelude.{List, [], ◌∷◌, ◌++◌, ◌≡◌, ℕ, ◌+◌, ◌*◌, ◌-◌, ◌<◌, ◌≤◌, length, take, drop, set, get_or, ◌&&◌, not, eqb, ltb};
 ghost use Rattle.declarations.specs.Decls.{index_of};
 ghost use Rattle.machine.specs.Bytes.{count};

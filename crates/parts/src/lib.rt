@@ -1,1 +1,2 @@
 // Parts translated separately and linked: definitions and theorems; this crate has no code.
+#![tactic(auto)]

@@ -1,4 +1,6 @@
 // An object's words, appended to lent bytes.
+#![tactic(auto)]
+
 ghost use Rattle.std.specs.Prelude.{List, [], ◌∷◌, ◌++◌, ◌≡◌, ◌+◌, ◌*◌, ◌-◌, ◌<◌, ◌≤◌, length, take, drop, set, get_or, replicate};
 ghost use Rattle.machine.specs.Bytes.{count, words_of};
 ghost use Rattle.parts.specs.Form.{packed};

@@ -1,1 +1,2 @@
 // The program as numbers and its table, as definitions; this crate has no code.
+#![tactic(auto)]

@@ -1,4 +1,6 @@
 // The syntax pass: faults 1, 2 and 9, by reading the text word by word. Nothing is kept but places and counts.
+#![tactic(auto)]
+
 ghost use Rattle.std.specs.Prelude.{List, ◌≡◌, ℕ, ◌+◌, ◌-◌, ◌≤◌, ◌<◌, max, min, length, take, drop, eqb, ◌&&◌};
 ghost use Rattle.syntax.specs.Actions.{a_constant, a_value, a_plain, a_selector, some_labels, closes, a_cycle, a_choice, an_otherwise, actions, alternatives};
 ghost use Rattle.syntax.specs.Reading.{expect, a_name, name_or_string, optional};

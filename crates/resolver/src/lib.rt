@@ -1,4 +1,6 @@
 // The parts of a rule that hold no actions: plain actions, selectors and labels, resolved and appended as cells.
+#![tactic(auto)]
+
 ghost use Rattle.std.specs.Prelude.{◌≡◌, List, [], ◌∷◌, ℕ, ◌+◌, ◌*◌, ◌<◌, ◌≤◌, length, get_or, take};
 ghost use Rattle.base.specs.Common.{member};
 ghost use Rattle.declarations.specs.Decls.{class_named};

@@ -1,4 +1,6 @@
 // The rows of a text's rules, in a lent sheet: a row for each, in text order, and behind them those made for operators.
+#![tactic(auto)]
+
 ghost use Rattle.std.specs.Prelude.{◌≡◌, ◌+◌, ◌*◌, ◌<◌, ◌≤◌, length};
 ghost use Rattle.mapper.specs.Mapped.{Holds, Placed};
 ghost use Rattle.rulerows.specs.Filled.{set_row, WrittenPut, PairOf, LevelsPut, MadePut, Filled};

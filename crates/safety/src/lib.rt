@@ -1,1 +1,2 @@
 // What the check on loading promises of walks and of the processor: theorems only.
+#![tactic(auto)]

@@ -1,4 +1,6 @@
 // From bytes to words: the first word from a place of a text on.
+#![tactic(auto)]
+
 ghost use Rattle.std.specs.Prelude.{◌≡◌, ◌+◌, ◌^◌, ◌≤◌, ◌<◌, length, take, drop, get_or};
 ghost use Rattle.base.specs.Common.{same};
 ghost use Rattle.words.specs.Words.{blank, symbol, digit, letter, name_byte, string_byte, kind_of, reserved, string_here, word_here};

@@ -1,1 +1,2 @@
 // The screen of two books: definitions and laws only.
+#![tactic(auto)]

@@ -1,4 +1,6 @@
 // A part translated by itself: the words of its object in the lent bytes, or the first fault of its two texts.
+#![tactic(auto)]
+
 ghost use Rattle.std.specs.Prelude.{List, ◌≡◌, ◌-◌, ◌<◌, ◌≤◌, length, replicate};
 ghost use Rattle.partrules.specs.Opened.{RulesDone};
 ghost use Rattle.symbols.specs.Index.{Kept};

@@ -1,5 +1,7 @@
 // Where each rule of a program stands in its table, from the program's cells, without the table.
 // Nothing is asked of the cells: on any cells each function ends and keeps to its bounds.
+#![tactic(auto)]
+
 ghost use Rattle.std.specs.Prelude.{◌≡◌, ℕ, ◌+◌, ◌-◌, ◌<◌, ◌≤◌, length, set};
 ghost use Rattle.sizes.specs.Heads.{cells_of, words_of, open_after};
 ghost use Rattle.sizes.specs.Located.{Room, Moved, Scanned, Locates};

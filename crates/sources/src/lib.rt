@@ -1,4 +1,6 @@
 // A text made ready for carrying a walk: its table, and a row for each of its rules with its location and its name.
+#![tactic(auto)]
+
 ghost use Rattle.std.specs.Prelude.{◌≡◌, ◌≤◌, length, set};
 ghost use Rattle.frontend.specs.Resolving.{IsRead};
 ghost use Rattle.processor.specs.Process.{process};

@@ -1,5 +1,7 @@
 // Lookups in the row of declarations, by an index of its words. Nothing is asked of the text or of the row's numbers: one past its end is
 // read as 0, and a part of the text that reaches past the text's end is cut there.
+#![tactic(auto)]
+
 ghost use Rattle.std.specs.Prelude.{◌≡◌, List, ◌∷◌, ℕ, ◌+◌, ◌*◌, ◌-◌, ◌<◌, ◌≤◌, length, get_or};
 ghost use Rattle.base.specs.Common.{same, member, given};
 ghost use Rattle.names.specs.Known.{find, is_word};

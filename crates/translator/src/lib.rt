@@ -1,4 +1,6 @@
 // The processor: any text and a lent buffer to a table, a verdict and a figure, or to a number and a part of the text.
+#![tactic(auto)]
+
 ghost use Rattle.std.specs.Prelude.{◌≡◌, ℕ, ◌+◌, ◌≤◌, length, take, drop};
 ghost use Rattle.figure.specs.Told.{untold, figure_of};
 ghost use Rattle.frontend.specs.Resolving.{IsRead};

@@ -1,4 +1,6 @@
 // Whether a program is finishing, computed over its cells.
+#![tactic(auto)]
+
 ghost use Rattle.std.specs.Prelude.{◌≡◌, ℕ, ◌+◌, ◌-◌, ◌<◌, ◌≤◌, true, false, ◌||◌, ◌&&◌, eqb, length, get_or, take, drop, ◌*◌, not};
 ghost use Rattle.base.specs.Common.{member as listed};
 ghost use Rattle.finishing.specs.Test.{some_below};

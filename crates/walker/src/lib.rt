@@ -1,4 +1,6 @@
 // The walker: whole and paused walks over a table of 16-bit words.
+#![tactic(auto)]
+
 ghost use Rattle.std.specs.Prelude.{◌≡◌, ◌+◌, ◌*◌, ◌-◌, ◌%◌, ◌<◌, ◌≤◌, ◌^◌, set};
 ghost use Rattle.machine.specs.Bytes.{count, word_at};
 ghost use Rattle.machine.specs.Lengths.{lengths, length_of};

@@ -1,4 +1,5 @@
 // From bytes to words: definitions, and the kinds of words. A symbol's kind is its byte.
+#![tactic(auto)]
 
 // A byte or quote that makes no word, and the end of the text.
 pub const BAD: u16 = 0;

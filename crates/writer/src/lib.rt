@@ -1,4 +1,6 @@
 // The writer of table files: the one file of a table and a verdict, in a lent buffer.
+#![tactic(auto)]
+
 ghost use Rattle.std.specs.Prelude.{◌≡◌, [], ◌∷◌, ◌-◌, ◌<◌, ◌≤◌, min, length, get_or};
 ghost use Rattle.machine.specs.Bytes.{count, words_of, bytes_of, over};
 ghost use Rattle.loading.specs.File.{records, file_words, allowed, store};
