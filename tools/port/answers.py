@@ -1,0 +1,272 @@
+#!/usr/bin/env python3
+"""answers.py NAMES CRATE [FUNCTION..]: turns crates/CRATE/proofs/F/Proof.antt, a proof of the older form, to Invariants.antt and Answers.antt.
+
+NAMES is the folder of `rt check --generated NAMES --old-names`, run in the crate. A goal that the older file left to the search is left out.
+What cannot be turned by itself is said, a line each.
+"""
+import json
+import os
+import re
+import subprocess
+import sys
+
+LANDED = "4794e6d5058cf21d03302210a9e2693f85a79b73"
+TOP = ["args", "requires", "ranges", "type_inv", "utf8"]
+STEP = re.compile(r"\bc((?:\.before)*)\.([A-Za-z0-9_'-]+)")
+HEAD = re.compile(r"^((?:pub |abbrev |unfoldable |data |record )*)([^\s:(){},]+)((?:\s+(?:\{[^}]*\}|\([^)]*\)))*)\s+:\s")
+KINDS = {"array-read": "element_copy_out", "array-write": "element_copy_in"}
+
+
+def norm(name):
+    return name.replace("-", "_").lower()
+
+
+def blocks(text):
+    """The declarations of a file: (name, lines), comments with the declaration below them; and the head of the file."""
+    lines = text.split("\n")
+    head, decls, waiting = [], [], []
+    name = None
+    for line in lines:
+        if re.match(r"(use|infix)", line):
+            head.append(line)
+            continue
+        m = HEAD.match(line) if line[:1] not in (" ", "\t", "") and not line.startswith("--") else None
+        opens = re.match(r"^(mutual|module|section|data|record|open)\b", line)
+        if line.startswith("--"):
+            waiting.append(line)
+            name = None if not decls else name
+            continue
+        if m or opens:
+            name = m[2] if m else line.split()[1] if len(line.split()) > 1 else line
+            decls.append([name, waiting + [line]])
+            waiting = []
+        elif decls:
+            decls[-1][1] += waiting + [line]
+            waiting = []
+        elif line.strip():
+            head.append(line)
+    return head, [(n, "\n".join(ls).strip("\n")) for n, ls in decls]
+
+
+def old_text(top, crate, inside):
+    r = subprocess.run(["git", "show", f"{LANDED}:crates/{crate}/proofs/{inside}/Proof.antt"], cwd=top, capture_output=True, text=True)
+    if r.returncode:
+        r = subprocess.run(["git", "show", f"HEAD:crates/{crate}/proofs/{inside}/Proof.antt"], cwd=top, capture_output=True, text=True)
+    return r.stdout if not r.returncode else ""
+
+
+class Turn:
+    def __init__(self, names, crate, inside):
+        self.crate, self.inside, self.said = crate, inside, []
+        self.path = f"Rattle.{crate}.proofs.{inside.replace('/', '.')}"
+        self.data = names
+        self.up = {p[0]: p[1] for p in names["places"]}
+        self.labels = {p[0]: p[2] for p in names["places"]}
+        self.kind = {p[0]: p for p in names["places"]}
+        self.typed = {p[0]: dict((b, a) for a, b in t) for p, t in zip(names["places"], names["typed"])}
+
+    def say(self, text):
+        self.said.append(f"{self.crate}::{self.inside}: {text}")
+
+    def chain(self, place):
+        seen = []
+        while place is not None and place not in seen:
+            seen.append(place)
+            place = self.up.get(place)
+        return seen
+
+    def label(self, place, label, befores):
+        """The step of today for a step of the older proof at a goal of this place."""
+        if label in TOP:
+            return label
+        chain = self.chain(place)
+        for p in chain:
+            old, new = self.labels[p]
+            if old and norm(old) == norm(label):
+                return new
+        for p in chain:
+            for known, name in self.typed.get(p, {}).items():
+                if norm(known) == norm(label):
+                    return "\0" + known
+        found = {new for old, new in self.labels.values() if old and norm(old) == norm(label)}
+        if len(found) == 1:
+            return found.pop()
+        short = re.sub(r"\d+$", "", label)
+        found = [self.labels[p][1] for p in chain if self.labels[p][0] and norm(re.sub(r"\d+$", "", self.labels[p][0])) == norm(short)]
+        if len(found) == 1:
+            return found[0]
+        self.say(f"no step {label} at {place}: {found}")
+        return label
+
+    def known(self, place, known):
+        for p in self.chain(place):
+            for k, name in self.typed.get(p, {}).items():
+                if norm(k) == norm(known):
+                    return name
+        return None
+
+    def body(self, place, text):
+        """A term with the paths of today."""
+        aliases = set()
+        for m in re.finditer(r"\blet ([A-Za-z0-9_']+) = c((?:\.before)*) in\b", text):
+            aliases.add(m[1])
+        for a in aliases:
+            text = re.sub(rf"\n?[ \t]*\blet {a} = c(?:\.before)* in\b", "", text)
+            text = re.sub(rf"(?<![\w'.-]){re.escape(a)}\.(?=[A-Za-z])", "c.", text)
+            if re.search(rf"(?<![\w'.-]){re.escape(a)}(?![\w'.-])", text):
+                self.say(f"a place is handed on: {a}")
+                text = re.sub(rf"(?<![\w'.-]){re.escape(a)}(?![\w'.-])", "c", text)
+
+        def step(m):
+            label = m[2]
+            if label == "before":
+                self.say("a place is handed on: " + m[0])
+                return m[0]
+            new = self.label(place, label, m[1].count("before"))
+            if new.startswith("\0"):
+                return f"c.type_inv.{self.known(place, label)}"
+            return f"c.{new}"
+
+        text = STEP.sub(step, text)
+        text = re.sub(r"(c\.type_inv\.[\w-]+)\.given\b", r"\1", text)
+        if re.search(r"\bc\.before\b", text):
+            self.say("a path by places is left")
+        return text
+
+
+def turn(top, names, crate, inside):
+    at = os.path.join(top, "crates", crate, "proofs", inside)
+    with open(os.path.join(at, "Proof.antt"), encoding="utf-8") as file:
+        text = file.read()
+    key = f"Rattle-{crate}-proofs.{inside.replace('/', '.')}.Lts"
+    if key not in names:
+        return [f"{crate}::{inside}: no names for it: {key}"]
+    it = Turn(names[key], crate, inside)
+    _, old = blocks(old_text(top, crate, inside))
+    head, decls = blocks(text)
+    old_need = {}
+    olds = [(n, re.search(r":\s*tie\.Need-([^\s]+)", t)) for n, t in old]
+    olds = [m[1] for n, m in olds if m]
+    ours = [n for n, t in decls if re.search(r":\s*tie\.Need-", t)]
+    if len(olds) != len(ours):
+        it.say(f"{len(ours)} goals, {len(olds)} in the older file")
+    for n, need in zip(ours, olds):
+        old_need[n] = need
+    data = names[key]
+    needs = [(o, n, place) for (o, n), (place, _) in zip(data["needs"], data["asked_at"])]
+    taken, goal_of = set(), {}
+    for n in ours:
+        want = norm(old_need.get(n, n))
+        for a, b in KINDS.items():
+            want = re.sub("^" + norm(a) + "_", norm(b) + "_", want)
+        for i, (o, new, place) in enumerate(needs):
+            if i not in taken and norm(o) == want:
+                taken.add(i)
+                goal_of[n] = (new, place)
+                break
+    # what is left, by its place in the order
+    rest = [n for n in ours if n not in goal_of]
+    for n in rest:
+        k = ours.index(n)
+        before = [i for i, (o, new, place) in enumerate(needs) if k and ours[k - 1] in goal_of and new == goal_of[ours[k - 1]][0]]
+        nxt = before[0] + 1 if before else 0
+        if nxt < len(needs) and nxt not in taken and norm(needs[nxt][0]).rsplit("_", 1)[-1] == norm(old_need.get(n, n)).rsplit("_", 1)[-1]:
+            taken.add(nxt)
+            goal_of[n] = needs[nxt][1:]
+    loops = {norm(l[0]): l for l in data.get("loops", [])} if data.get("loops") else {}
+    answers, invariants, helpers = [], [], []
+    for n, t in decls:
+        if re.search(r":\s*tie\.Need-", t):
+            if n not in goal_of:
+                if not re.search(r"= *search rules\s*$", t):
+                    it.say(f"no goal for {n} ({old_need.get(n)})")
+                continue
+            new, place = goal_of[n]
+            lines = t.split("\n")
+            comments = [l for l in lines if l.startswith("--")]
+            code = "\n".join(l for l in lines if not l.startswith("--"))
+            m = re.match(rf"(?s){re.escape(n)} : tie\.Need-[^\n]*\n((?:unfolding [^\n]*\n)?)(.*)$", code)
+            if not m:
+                it.say(f"a form of its own: {n}")
+                continue
+            eq = m[2]
+            e = re.match(rf"(?s){re.escape(n)} ([^=\n]*?)\s*=(.*)$", eq)
+            if not e:
+                it.say(f"a form of its own: {n}")
+                continue
+            args = e[1].split()
+            if args not in (["c"], ["c", "κs"], ["κs", "c"], ["_"], ["c", "_"]):
+                it.say(f"arguments of {n}: {args}")
+            rhs = it.body(place, e[2])
+            if re.fullmatch(r"\s*search rules\s*", rhs) and not m[1]:
+                continue
+            if re.search(r"\bκs\b", rhs):
+                it.say(f"κs in {n}")
+            answers.append("\n".join(comments + [f"pub {new} : goal.{new}"] + ([m[1].rstrip()] if m[1] else []) + [f"{new} c ={rhs}"]))
+        elif re.search(r":\s*tie\.(invariant|decreases)-", t):
+            m = re.search(r"(?s)^(.*?)abbrev ((?:invariant|decreases)-(\S*)) : tie\.\S+\n\S+ ?([^=]*?)=(.*)$", t)
+            if not m:
+                it.say(f"a form of its own: {n}")
+                continue
+            loop = loops.get(norm(m[3])) or loops.get(norm(m[3].replace("-", "")))
+            if not loop:
+                it.say(f"no loop {m[3]}: {list(loops)}")
+                continue
+            invariants.append(loop_text(it, m, loop))
+        elif re.search(r":\s*.*\bstatement\b", t) and "tie.close" in t or n.endswith("-spec") and "tie.spec" in t:
+            continue
+        else:
+            helpers.append((n, t))
+    uses = [l for l in head if l.startswith("use ") and not re.search(r"\.(Statement\.\{statement\}|Tie as tie)$", l)]
+    # helpers that invariants need
+    inv = "\n".join(invariants)
+    below, more = [], True
+    while more:
+        more = False
+        for n, t in helpers:
+            if (n, t) not in below and re.search(rf"(?<![\w'.-]){re.escape(n)}(?![\w'-])", inv + "\n".join(x for _, x in below)):
+                below.append((n, t))
+                more = True
+    first = re.match(r"((?:--[^\n]*\n)+)", text)
+    comment = first[1] if first else ""
+    os.makedirs(at, exist_ok=True)
+    os.remove(os.path.join(at, "Proof.antt"))
+    written = []
+    if invariants:
+        with open(os.path.join(at, "Invariants.antt"), "w", encoding="utf-8") as file:
+            pubs = [re.sub(rf"(?m)^((?:abbrev |unfoldable )*)(?={re.escape(n)}\b)", r"\1pub ", t, count=1) if not re.search(rf"(?m)^(?:abbrev |unfoldable )*pub ", t) else t for n, t in helpers if (n, t) in below]
+            file.write(comment + "\n".join(uses) + f"\nuse {it.path}.Given as goal\n\n" + "\n\n".join(pubs + invariants) + "\n")
+        written.append("Invariants")
+    rest = [(n, t) for n, t in helpers if (n, t) not in below]
+    if answers or rest:
+        own = f"use {it.path}.Invariants.{{{', '.join(n for n, _ in helpers if (n, _) in below)}}}\n" if below else ""
+        with open(os.path.join(at, "Answers.antt"), "w", encoding="utf-8") as file:
+            file.write(comment + "\n".join(uses) + "\n" + own + f"use {it.path}.Goals as goal\n\n" + "\n\n".join([t for _, t in rest] + answers) + "\n")
+        written.append("Answers")
+    if not written:
+        os.rmdir(at)
+    return it.said
+
+
+def loop_text(it, m, loop):
+    name, args, body = m[2].split("-")[0], m[4].split(), m[5]
+    old, new = loop[0], loop[1]
+    it.say(f"loop {loop}")
+    return f"abbrev pub {name}-{new} : goal.{name}-{new}\n{name}-{new} l ={body}"
+
+
+def main(argv):
+    folder, crate, *only = argv
+    top = subprocess.run(["git", "rev-parse", "--show-toplevel"], capture_output=True, text=True).stdout.strip()
+    with open(os.path.join(folder, "names.json"), encoding="utf-8") as file:
+        names = json.load(file)
+    proofs = os.path.join(top, "crates", crate, "proofs")
+    for at, _, files in sorted(os.walk(proofs)):
+        inside = os.path.relpath(at, proofs)
+        if "Proof.antt" in files and (not only or inside in only):
+            for line in turn(top, names, crate, inside):
+                print(line)
+
+
+if __name__ == "__main__":
+    main(sys.argv[1:])
