@@ -15,6 +15,7 @@ TOP = ["args", "requires", "ranges", "type_inv", "utf8"]
 STEP = re.compile(r"\bc((?:\.before)*)\.([A-Za-z0-9_'-]+)")
 HEAD = re.compile(r"^((?:pub |abbrev |unfoldable |data |record )*)([^\s:(){},]+)((?:\s+(?:\{[^}]*\}|\([^)]*\)))*)\s+:\s")
 KINDS = {"array-read": "element_copy_out", "array-write": "element_copy_in"}
+ENDS = {"holds": "init", "less": "smaller", "again": "preserved"}
 
 
 def norm(name):
@@ -159,6 +160,7 @@ def turn(top, names, crate, inside):
         want = norm(old_need.get(n, n))
         for a, b in KINDS.items():
             want = re.sub("^" + norm(a) + "_", norm(b) + "_", want)
+        want = re.sub("_(holds|less|again)$", lambda m: "_" + ENDS[m[1]], want)
         for i, (o, new, place) in enumerate(needs):
             if i not in taken and norm(o) == want:
                 taken.add(i)
@@ -173,7 +175,7 @@ def turn(top, names, crate, inside):
         if nxt < len(needs) and nxt not in taken and norm(needs[nxt][0]).rsplit("_", 1)[-1] == norm(old_need.get(n, n)).rsplit("_", 1)[-1]:
             taken.add(nxt)
             goal_of[n] = needs[nxt][1:]
-    loops = {norm(l[0]): l for l in data.get("loops", [])} if data.get("loops") else {}
+    loops = {norm(l[0][0]): (l, c) for l, c in zip(data["loops"], data["changed"])}
     answers, invariants, helpers = [], [], []
     for n, t in decls:
         if re.search(r":\s*tie\.Need-", t):
@@ -212,7 +214,7 @@ def turn(top, names, crate, inside):
             if not loop:
                 it.say(f"no loop {m[3]}: {list(loops)}")
                 continue
-            invariants.append(loop_text(it, m, loop))
+            invariants.append(loop_text(it, m, *loop))
         elif re.search(r":\s*.*\bstatement\b", t) and "tie.close" in t or n.endswith("-spec") and "tie.spec" in t:
             continue
         else:
@@ -248,11 +250,21 @@ def turn(top, names, crate, inside):
     return it.said
 
 
-def loop_text(it, m, loop):
+def loop_text(it, m, loop, changed):
+    """An invariant or a measure over the record of the variables, from one over the variables in a row."""
     name, args, body = m[2].split("-")[0], m[4].split(), m[5]
-    old, new = loop[0], loop[1]
-    it.say(f"loop {loop}")
-    return f"abbrev pub {name}-{new} : goal.{name}-{new}\n{name}-{new} l ={body}"
+    (old, new), names = loop
+    now = [n for n, c in zip(names, changed) if c]
+    if len(args) != len(names) + len(now):
+        it.say(f"loop {new}: {args} for {names}, of which {now} change")
+        return f"abbrev pub {name}-{new} : goal.{name}-{new}\n{name}-{new} l ={body}"
+    to = {a: f"l.initial.{n}" if c else f"l.{n}" for a, n, c in zip(args, names, changed)}
+    to |= {a: f"l.{n}" for a, n in zip(args[len(names) :], now)}
+    for a in to:
+        if a != "_" and re.search(rf"λ (?:[^.]* )?\(?{re.escape(a)}[ .:)]|\({re.escape(a)} :|let {re.escape(a)} ", body):
+            it.say(f"loop {new}: {a} is bound again")
+    text = re.sub(r"(?<![\w'₀-₉.-])([A-Za-z_][\w'₀-₉-]*)", lambda w: to.get(w[1], w[1]), body)
+    return f"abbrev pub {name}-{new} : goal.{name}-{new}\n{name}-{new} l ={text}"
 
 
 def main(argv):

@@ -14,14 +14,14 @@ use machine::FIRST_OPERATION;
 const BYTE_BITS: usize = 8;
 
 // What an admission answers: 0, 41 or 48, and the location that 48 names.
-#[derive(Drop)]
+#[derive(Clone, Copy)]
 pub struct Admission {
     pub number: u16,
     pub location: usize,
 }
 
 // What loading and admitting answers: 0, 40, 20, 41 or 48; the words of the table; the sender's verdict word; the location that 48 names.
-#[derive(Drop)]
+#[derive(Clone, Copy)]
 pub struct Outcome {
     pub number: u16,
     pub words: usize,

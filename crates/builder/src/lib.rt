@@ -19,7 +19,7 @@ use scanner::WordAt;
 const ALTERNATIVE: usize = cells::ALTERNATIVE as usize;
 
 // fault 0: there are `count` cells of `rules` rules. Else the fault's number and its word.
-#[derive(Drop)]
+#[derive(Clone, Copy)]
 pub struct Rules {
     pub fault: u16,
     pub at: usize,
@@ -29,14 +29,14 @@ pub struct Rules {
 }
 
 // What the rows hold: n declarations, the first rule's being `first`.
-#[derive(Drop)]
+#[derive(Clone, Copy)]
 pub struct Listed {
     pub n: usize,
     pub first: usize,
 }
 
 // A place in the text, how many cells there are, and how many labels the choice has.
-#[derive(Drop)]
+#[derive(Clone, Copy)]
 pub struct Spot {
     pub at: usize,
     pub count: usize,
@@ -44,21 +44,21 @@ pub struct Spot {
 }
 
 // A choice: the class of its labels, and the cell that stands for no otherwise.
-#[derive(Drop)]
+#[derive(Clone, Copy)]
 pub struct Choice {
     pub labels: usize,
     pub absent: u16,
 }
 
 // An alternative, and how many labels its choice has now.
-#[derive(Drop)]
+#[derive(Clone, Copy)]
 pub struct Labelled {
     pub built: Built,
     pub used: usize,
 }
 
 // A rule's head: its values' class (0: a procedure rule), and the place behind its colon.
-#[derive(Drop)]
+#[derive(Clone, Copy)]
 pub struct Head {
     pub fault: u16,
     pub at: usize,
@@ -67,7 +67,7 @@ pub struct Head {
 }
 
 // A rule, and whether it is a choice rule.
-#[derive(Drop)]
+#[derive(Clone, Copy)]
 pub struct Ruled {
     pub done: Done,
     pub valued: bool,

@@ -174,7 +174,7 @@ fn calls_meet(old: &[u8], sheet: &[u16], new: &[u8], other: &[u16], x: usize, y:
 // Words
 
 // What the next word is: an instruction, or the count of a choice table where one stands; an operand, of the instruction `left`; a word of a choice table, with so many behind it.
-#[derive(Drop)]
+#[derive(Clone, Copy)]
 pub struct Next {
     pub kind: usize,
     pub left: usize,
@@ -279,7 +279,7 @@ fn words_meet(old: &[u8], sheet: &[u16], new: &[u8], other: &[u16], n: Next, w: 
 }
 
 // Where the words of two rules begin, counted from 0, and how many there are.
-#[derive(Drop)]
+#[derive(Clone, Copy)]
 pub struct Span {
     pub i: usize,
     pub j: usize,
@@ -323,7 +323,7 @@ pub fn same_words(
 }
 
 // A rule of one program and a rule of the other, by their numbers.
-#[derive(Drop)]
+#[derive(Clone, Copy)]
 pub struct Pair {
     pub i: usize,
     pub j: usize,
@@ -389,7 +389,7 @@ pub fn carry_place(
 }
 
 // What a walk becomes: whether each of its places becomes one, and then the walk at those.
-#[derive(Drop)]
+#[derive(Clone, Copy)]
 pub struct Placed {
     pub ok: bool,
     pub walk: Walk,

@@ -25,7 +25,7 @@ const OLD_TEXT: u64 = 1;
 const NEW_TEXT: u64 = 2;
 
 // What carrying tells: a number, the text at fault and the part of it, and the carried walk where the number is 0.
-#[derive(Drop)]
+#[derive(Clone, Copy)]
 pub struct Carried {
     pub number: u16,
     pub text: u64,

@@ -25,7 +25,7 @@ const ASK_WITH: usize = base::ASK_WITH as usize;
 const LAST_OF_KIND: usize = base::OPERATIONS - 1;
 
 // How many rows there are, the row of the first rule, the place of the first rule's name.
-#[derive(Drop)]
+#[derive(Clone, Copy)]
 pub struct Collected {
     pub count: usize,
     pub rules: usize,
@@ -33,13 +33,13 @@ pub struct Collected {
 }
 
 // A word of the text. Length 0: no word.
-#[derive(Drop)]
+#[derive(Clone, Copy)]
 pub struct Part {
     pub start: usize,
     pub len: usize,
 }
 
-#[derive(Drop)]
+#[derive(Clone, Copy)]
 pub struct Row {
     pub class: usize,
     pub value: usize,
@@ -49,21 +49,21 @@ pub struct Row {
 }
 
 // A word that may be there, and the place behind it.
-#[derive(Drop)]
+#[derive(Clone, Copy)]
 pub struct Optional {
     pub part: Part,
     pub at: usize,
 }
 
 // A value, and the place behind it.
-#[derive(Drop)]
+#[derive(Clone, Copy)]
 pub struct Valued {
     pub value: usize,
     pub at: usize,
 }
 
 // An operation's name, its types, and the place behind it.
-#[derive(Drop)]
+#[derive(Clone, Copy)]
 pub struct Head {
     pub name: Part,
     pub second: Part,
@@ -72,14 +72,14 @@ pub struct Head {
 }
 
 // The place behind what was read, and the rows in use.
-#[derive(Drop)]
+#[derive(Clone, Copy)]
 pub struct Spot {
     pub at: usize,
     pub count: usize,
 }
 
 // An entry: and its value.
-#[derive(Drop)]
+#[derive(Clone, Copy)]
 pub struct Entered {
     pub at: usize,
     pub count: usize,
@@ -87,7 +87,7 @@ pub struct Entered {
 }
 
 // Entries: and one above the greatest value.
-#[derive(Drop)]
+#[derive(Clone, Copy)]
 pub struct Entries {
     pub at: usize,
     pub count: usize,
@@ -95,7 +95,7 @@ pub struct Entries {
 }
 
 // Operations: and the counts of each kind.
-#[derive(Drop)]
+#[derive(Clone, Copy)]
 pub struct Operated {
     pub at: usize,
     pub count: usize,
@@ -103,7 +103,7 @@ pub struct Operated {
 }
 
 // One above the greatest value of each class so far, and the counts of each kind of operation.
-#[derive(Drop)]
+#[derive(Clone, Copy)]
 pub struct State {
     pub input: usize,
     pub output: usize,
@@ -112,7 +112,7 @@ pub struct State {
 }
 
 // A section: and the state after it.
-#[derive(Drop)]
+#[derive(Clone, Copy)]
 pub struct Sectioned {
     pub at: usize,
     pub count: usize,

@@ -40,7 +40,7 @@ const ROW_BYTES: usize = 24;
 const GREATEST: u64 = 18446744073709551615;
 
 // What adding a book tells: the call's number, the events written, the steps done.
-#[derive(Drop)]
+#[derive(Clone, Copy)]
 pub struct Told {
     pub number: u16,
     pub events: u64,
@@ -48,7 +48,7 @@ pub struct Told {
 }
 
 // What figures say of the whole shelf.
-#[derive(Drop)]
+#[derive(Clone, Copy)]
 pub struct Report {
     pub number: u16,
     pub books: u64,
@@ -59,7 +59,7 @@ pub struct Report {
 }
 
 // A book's call: its limits, and whether it writes events and counts or only measures.
-#[derive(Drop)]
+#[derive(Clone, Copy)]
 struct Book {
     budget: u64,
     allowance: u16,
@@ -420,7 +420,7 @@ pub fn shelf_report(figures: &[u8]) -> Report
 // Rule by rule
 
 // A number, and a total of executions.
-#[derive(Drop)]
+#[derive(Clone, Copy)]
 pub struct Total {
     pub number: u16,
     pub total: u64,

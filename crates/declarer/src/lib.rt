@@ -32,7 +32,7 @@ const MARKS: usize = 545;
 const SIDES: usize = 513;
 
 // A fault with the place and the length of its word, or 0.
-#[derive(Drop)]
+#[derive(Clone, Copy)]
 pub struct Fault {
     pub fault: u16,
     pub at: usize,

@@ -76,7 +76,7 @@ fn put_span(out: &mut [u8], at: usize, a: u16, to: usize, from: usize)
 }
 
 // A place in the cells, a place in the table, and the newest open exit of the cycle around it, 0: none.
-#[derive(Drop)]
+#[derive(Clone, Copy)]
 pub struct Spot {
     pub p: usize,
     pub at: usize,
@@ -151,7 +151,7 @@ fn patch(out: &mut [u8], newest: usize, to: usize, k: usize)
 }
 
 // A plain action or a selector: how many cells it takes, and its words, at most three.
-#[derive(Drop)]
+#[derive(Clone, Copy)]
 pub struct Item {
     pub cells: usize,
     pub count: usize,
@@ -406,7 +406,7 @@ fn ins_of(k: u16) -> u16
 }
 
 // Where alternatives begin: their first label, and their place in the table.
-#[derive(Drop)]
+#[derive(Clone, Copy)]
 pub struct Opening {
     pub label: u16,
     pub from: usize,
@@ -525,7 +525,7 @@ fn emit_cycle(
 }
 
 // Alternatives: where they end, the newest open exit and end, their labels.
-#[derive(Drop)]
+#[derive(Clone, Copy)]
 pub struct Row {
     pub p: usize,
     pub at: usize,
@@ -708,7 +708,7 @@ fn emit_rules(
 }
 
 // 0, or 20 where the table does not fit; and the table's words.
-#[derive(Drop)]
+#[derive(Clone, Copy)]
 pub struct Answer {
     pub fault: usize,
     pub size: usize,

@@ -27,7 +27,7 @@ const AT_A_TIME: usize = 4;
 const NONE: usize = 65536;
 
 // What filtering answers: its number, the entry or the byte that it names, the tokens written.
-#[derive(Drop)]
+#[derive(Clone, Copy)]
 pub struct Filtered {
     pub number: u16,
     pub at: usize,

@@ -72,7 +72,7 @@ const BOOK_WORDS: usize = 83;
 const LEFT_WORD: usize = 79;
 
 // Whether some bytes are a walk, and which.
-#[derive(Drop)]
+#[derive(Clone, Copy)]
 pub struct Held {
     pub ok: bool,
     pub walk: Walk,

@@ -11,7 +11,7 @@ use levels::Made;
 
 // A text whose rules are resolved: 0, or the number and the part of its first fault; the cells that its rules take, also those past the
 // room for them; its rules, and how many of them are written; its declarations, the row of the first rule's, and where the rules are read again.
-#[derive(Drop)]
+#[derive(Clone, Copy)]
 pub struct Resolved {
     pub fault: u16,
     pub at: usize,

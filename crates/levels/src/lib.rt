@@ -28,7 +28,7 @@ const EXIT: usize = cells::EXIT as usize;
 const END: usize = cells::END as usize;
 
 // A pair: where its section's entries stand, the place of its operand rule, that of its lowest rule, how many cells there are before it.
-#[derive(Drop)]
+#[derive(Clone, Copy)]
 pub struct Site {
     pub at: usize,
     pub operand: usize,
@@ -37,7 +37,7 @@ pub struct Site {
 }
 
 // A rule to be made: where its section's entries stand, its level and side, its place, the rule that it calls first.
-#[derive(Drop)]
+#[derive(Clone, Copy)]
 pub struct Nested {
     pub at: usize,
     pub level: usize,
@@ -47,28 +47,28 @@ pub struct Nested {
 }
 
 // The alternatives of a rule: the level of their entries, the rule that each calls.
-#[derive(Drop)]
+#[derive(Clone, Copy)]
 pub struct Aim {
     pub level: usize,
     pub called: usize,
 }
 
 // A part of the text.
-#[derive(Drop)]
+#[derive(Clone, Copy)]
 pub struct Part {
     pub start: usize,
     pub len: usize,
 }
 
 // A use of operators that was found: its name, and the place behind its `^`, where the uses behind it begin.
-#[derive(Drop)]
+#[derive(Clone, Copy)]
 pub struct FirstUse {
     pub name: Part,
     pub next: usize,
 }
 
 // How many cells and rules there are.
-#[derive(Drop)]
+#[derive(Clone, Copy)]
 pub struct Made {
     pub count: usize,
     pub rules: usize,

@@ -37,14 +37,14 @@ const PAIRS: usize = 6;
 const LAST_START: usize = 65535;
 
 // Names that stand one behind the other in the words: `left` of them, from the word `at` on.
-#[derive(Drop)]
+#[derive(Clone, Copy)]
 pub struct Names {
     pub at: usize,
     pub left: usize,
 }
 
 // The pairs of an object, `count` from the word `at` on; how many pairs of all objects are collected.
-#[derive(Drop)]
+#[derive(Clone, Copy)]
 pub struct Uses {
     pub at: usize,
     pub count: usize,
@@ -52,7 +52,7 @@ pub struct Uses {
 }
 
 // A rule in the words of an object: its cells, `count` from the word `at` on; the names of its calls; the pairs of its object.
-#[derive(Drop)]
+#[derive(Clone, Copy)]
 pub struct Body {
     pub at: usize,
     pub count: usize,
@@ -61,7 +61,7 @@ pub struct Body {
 }
 
 // The rules of an object: `left` of them, from the word `at` on; its pairs.
-#[derive(Drop)]
+#[derive(Clone, Copy)]
 pub struct Group {
     pub at: usize,
     pub left: usize,
@@ -69,7 +69,7 @@ pub struct Group {
 }
 
 // Where a pass over the cells stands: the last first cell, how many cells are left behind it, the names of the calls that are left, and what the last cell became.
-#[derive(Drop)]
+#[derive(Clone, Copy)]
 pub struct Spot {
     pub first: u16,
     pub left: usize,

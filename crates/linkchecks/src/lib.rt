@@ -42,7 +42,7 @@ const HEAD_TYPE_SIZE: usize = 3;
 
 // A place between the rules of objects, `at`: the object's number from 1 on, the size of its part, how many of its rules are left. At the end of the words
 // no rule is left.
-#[derive(Drop)]
+#[derive(Clone, Copy)]
 pub struct Cursor {
     pub text: usize,
     pub size: usize,
@@ -51,7 +51,7 @@ pub struct Cursor {
 }
 
 // What a check shows: a part of a text, or nothing.
-#[derive(Drop)]
+#[derive(Clone, Copy)]
 pub struct Found {
     pub there: bool,
     pub text: usize,
@@ -142,7 +142,7 @@ pub fn next_rule(objects: &[u8], common: &[u8], cursor: Cursor) -> Cursor
 }
 
 // How many objects there are and how many rules in all, and the size of the last object's part.
-#[derive(Drop)]
+#[derive(Clone, Copy)]
 struct Totals {
     objects: usize,
     rules: usize,

@@ -31,7 +31,7 @@ const HEADS: usize = partnames::HEAD * base::RULES;
 const PLACES: usize = 2 * base::RULES;
 
 // As the processor's answer; `text` is the text at fault, 0 the common part, 1 the first part.
-#[derive(Drop)]
+#[derive(Clone, Copy)]
 pub struct Linked {
     pub number: u16,
     pub text: usize,
@@ -44,7 +44,7 @@ pub struct Linked {
 }
 
 // What a common part declares: how many rows, how many of them are its sections', and how many names these leave for rules.
-#[derive(Drop)]
+#[derive(Clone, Copy)]
 pub struct Shared {
     pub n: usize,
     pub others: usize,
@@ -52,7 +52,7 @@ pub struct Shared {
 }
 
 // A number and the part of a text that shows it; number 0 is no fault.
-#[derive(Drop)]
+#[derive(Clone, Copy)]
 pub struct Fault {
     pub number: u16,
     pub text: usize,

@@ -36,7 +36,7 @@ const SECTION: usize = 2;
 const PLACES: usize = 2;
 
 // How many declarations the rows hold, how many names there are beside the rules', how many rules the objects have.
-#[derive(Drop)]
+#[derive(Clone, Copy)]
 pub struct Scope {
     pub n: usize,
     pub others: usize,
@@ -45,7 +45,7 @@ pub struct Scope {
 
 // Where collecting stands: the next pair, how many pairs of its object are left, how many are collected, how many rules there are with those made for
 // them; 0, or 9 where the rules of the next pair pass a limit.
-#[derive(Drop)]
+#[derive(Clone, Copy)]
 pub struct Spot {
     pub at: usize,
     pub left: usize,
@@ -55,7 +55,7 @@ pub struct Spot {
 }
 
 // 0 and how many pairs there are; or 9, the text with the `^` whose rules pass a limit (1 for the first object's), where it stands there, its length.
-#[derive(Drop)]
+#[derive(Clone, Copy)]
 pub struct Pairs {
     pub fault: u16,
     pub text: usize,
@@ -65,7 +65,7 @@ pub struct Pairs {
 }
 
 // How many declarations the rows hold, how many pairs are collected, how many cells and rules there are before those made.
-#[derive(Drop)]
+#[derive(Clone, Copy)]
 pub struct Work {
     pub n: usize,
     pub count: usize,

@@ -18,7 +18,7 @@ const TABLE_BYTES: usize = 2 * base::TABLE_WORDS;
 const PIECES: u64 = 1 << 40;
 
 // The length of a listing, and the answer that it is of.
-#[derive(Drop)]
+#[derive(Clone, Copy)]
 struct Printed {
     len: usize,
     answer: translator::Answer,
@@ -42,7 +42,7 @@ fn list(kept: &[u8], feeds: usize, out: &mut [u8]) -> Printed
 }
 
 // A piece of the input: its length, 0 at the input's end, and the line feeds up to its end.
-#[derive(Drop)]
+#[derive(Clone, Copy)]
 struct Piece {
     len: usize,
     feeds: usize,

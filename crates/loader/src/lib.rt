@@ -64,14 +64,14 @@ pub const RECORD_HEAD: usize = 2;
 const WORDS_AT: usize = RECORDS_AT + RECORD_HEAD;
 
 // Whether every location was inside the table, and how many are marked.
-#[derive(Drop)]
+#[derive(Clone, Copy)]
 pub struct Marks {
     pub ok: bool,
     pub tail: usize,
 }
 
 // An instruction of two words: its location, its number and its operand.
-#[derive(Drop)]
+#[derive(Clone, Copy)]
 struct Instruction {
     at: usize,
     number: usize,
@@ -79,7 +79,7 @@ struct Instruction {
 }
 
 // Entries of a choice table: where the first label stands, and how many there are.
-#[derive(Drop)]
+#[derive(Clone, Copy)]
 struct Entries {
     first: usize,
     count: usize,
@@ -537,7 +537,7 @@ fn file_words(file: &[u8]) -> usize
 }
 
 // What loading answers: 0, 40, 20 or 41; the words of the table; the sender's verdict word.
-#[derive(Drop)]
+#[derive(Clone, Copy)]
 pub struct Loaded {
     pub number: u16,
     pub words: usize,

@@ -21,7 +21,7 @@ pub const NO_LEVEL: usize = base::GREATEST_LEVEL + 1;
 const NOT_IN_ORDER: u16 = 1;
 
 // An entry of a section: input token, level, side, output token.
-#[derive(Drop)]
+#[derive(Clone, Copy)]
 pub struct Entry {
     pub token: WordAt,
     pub level: usize,
@@ -30,7 +30,7 @@ pub struct Entry {
 }
 
 // A level in use: its number, how many operators it has, its side.
-#[derive(Drop)]
+#[derive(Clone, Copy)]
 pub struct Rank {
     pub level: usize,
     pub count: usize,
@@ -38,14 +38,14 @@ pub struct Rank {
 }
 
 // How many levels a section has, and whether one of them has too many operators.
-#[derive(Drop)]
+#[derive(Clone, Copy)]
 pub struct Levels {
     pub count: usize,
     pub crowded: bool,
 }
 
 // The declarations of a use's section and of its operand rule, where both are there.
-#[derive(Drop)]
+#[derive(Clone, Copy)]
 pub struct Used {
     pub there: bool,
     pub section: usize,
@@ -53,14 +53,14 @@ pub struct Used {
 }
 
 // A use that was looked at: 0, or 1 where it is not in order and 9 where its rules pass a limit; the rules then.
-#[derive(Drop)]
+#[derive(Clone, Copy)]
 pub struct Taken {
     pub fault: u16,
     pub own: usize,
 }
 
 // The pairs of a text: 0, or 9 and the `^` whose rules pass a limit.
-#[derive(Drop)]
+#[derive(Clone, Copy)]
 pub struct Paired {
     pub fault: u16,
     pub at: usize,

@@ -17,7 +17,7 @@ const ROW_BYTES: usize = 24;
 const ROW_NUMBERS: usize = 3;
 
 // What the map's call answers: 0 and the rules, or a number.
-#[derive(Drop)]
+#[derive(Clone, Copy)]
 pub struct Mapped {
     pub number: u16,
     pub rules: usize,

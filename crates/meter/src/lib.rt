@@ -249,7 +249,7 @@ fn raise_ways(table: &[u8], c: usize, v: u64, rows: &mut [u32]) -> bool
 }
 
 // A place in a rule: the rule, the location and its number.
-#[derive(Drop)]
+#[derive(Clone, Copy)]
 struct Spot {
     rule: usize,
     at: usize,
@@ -600,7 +600,7 @@ fn sweep(table: &[u8], starts: &[usize], called: &[u32], up: bool, rows: &mut [u
 }
 
 // A set of rules, a bit for each.
-#[derive(Drop)]
+#[derive(Clone, Copy)]
 struct Due {
     lo: u64,
     hi: u64,
@@ -637,7 +637,7 @@ fn with_due(d: Due, r: usize, on: bool) -> Due {
 }
 
 // The rules that rounds have raised: in the round before, and in this one so far.
-#[derive(Drop)]
+#[derive(Clone, Copy)]
 struct Raisings {
     before: Due,
     now: Due,
@@ -742,7 +742,7 @@ fn sweep_if(
 }
 
 // What a round over the rules brought: whether a number was raised, and in which rules.
-#[derive(Drop)]
+#[derive(Clone, Copy)]
 struct Brought {
     changed: bool,
     raised: Due,

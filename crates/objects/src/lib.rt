@@ -483,7 +483,7 @@ const ASK_WITH: usize = cells::ASK_WITH as usize;
 const PAST_OPERATIONS: usize = machine::PAST_OPERATIONS as usize;
 
 // Where the object's pairs stand and how many there are, and whether the rule is a choice rule.
-#[derive(Drop)]
+#[derive(Clone, Copy)]
 pub struct Ground {
     pub pairs: usize,
     pub count: usize,
@@ -491,14 +491,14 @@ pub struct Ground {
 }
 
 // How many cycles and choices may still be entered, and whether a cycle was.
-#[derive(Drop)]
+#[derive(Clone, Copy)]
 pub struct Depth {
     pub left: usize,
     pub inside: bool,
 }
 
 // The place of the next cell and the place behind the last, the place of the next name and how many names are left.
-#[derive(Drop)]
+#[derive(Clone, Copy)]
 pub struct Spot {
     pub cell: usize,
     pub end: usize,
@@ -507,7 +507,7 @@ pub struct Spot {
 }
 
 // Whether cells are in order; and if so the place behind them, whether they go past themselves, and whether a `>` in them belongs to the cycle around.
-#[derive(Drop)]
+#[derive(Clone, Copy)]
 pub struct Outcome {
     pub ok: bool,
     pub spot: Spot,
@@ -516,7 +516,7 @@ pub struct Outcome {
 }
 
 // The first cell of the alternative that ends a choice, whether the choice is by token, and whether a label stands before.
-#[derive(Drop)]
+#[derive(Clone, Copy)]
 pub struct Last {
     pub x: usize,
     pub token: bool,
@@ -524,7 +524,7 @@ pub struct Last {
 }
 
 // A rule's cells and the names of its calls, where they are there, and whether it is a choice rule.
-#[derive(Drop)]
+#[derive(Clone, Copy)]
 pub struct Body {
     pub ok: bool,
     pub valued: bool,
@@ -1082,14 +1082,14 @@ fn rule_in_order(
 // Whole objects
 
 // Things one behind the other: where the first stands, and how many there are.
-#[derive(Drop)]
+#[derive(Clone, Copy)]
 struct Span {
     at: usize,
     count: usize,
 }
 
 // Where an object's names are looked up: its pairs, its rules, and how many declarations the rows have.
-#[derive(Drop)]
+#[derive(Clone, Copy)]
 struct Scope {
     pairs: Span,
     rules: Span,
@@ -1267,7 +1267,7 @@ fn view_in_order(
 }
 
 // Whether the bytes are objects of the common part, one behind the other, and how many stand in order before the first that does not.
-#[derive(Drop)]
+#[derive(Clone, Copy)]
 pub struct Checked {
     pub ok: bool,
     pub good: usize,

@@ -21,7 +21,7 @@ use scanner::WordAt;
 const LINE_FEED: u8 = 10;
 
 // How many rows there are, the row of the list's first line, the place behind the list.
-#[derive(Drop)]
+#[derive(Clone, Copy)]
 pub struct Declared {
     pub count: usize,
     pub first: usize,
@@ -29,7 +29,7 @@ pub struct Declared {
 }
 
 // How many rows there are; 0, or 9 and the first word for which there was no room.
-#[derive(Drop)]
+#[derive(Clone, Copy)]
 pub struct Added {
     pub count: usize,
     pub fault: u16,

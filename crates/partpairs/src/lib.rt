@@ -16,7 +16,7 @@ pub const PART_PAIRS: usize = 8192;
 pub const PART_ROWS: usize = symbols::PAIR_SECTION + symbols::PAIR * PART_PAIRS;
 
 // The words of a use: `^`, the section's name, the operand rule's name.
-#[derive(Drop)]
+#[derive(Clone, Copy)]
 pub struct UseWords {
     pub sign: WordAt,
     pub section: WordAt,

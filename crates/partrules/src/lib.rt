@@ -19,7 +19,7 @@ use resolver::{Done, Scope};
 use scanner::WordAt;
 
 // Where a pass over cells stands: the last first cell, how many cells are left behind it, and what the last cell became.
-#[derive(Drop)]
+#[derive(Clone, Copy)]
 pub struct Pass {
     pub first: u16,
     pub left: usize,
@@ -27,14 +27,14 @@ pub struct Pass {
 }
 
 // A head that is written: the place behind its colon, and how many words there are.
-#[derive(Drop)]
+#[derive(Clone, Copy)]
 pub struct Headed {
     pub at: usize,
     pub count: usize,
 }
 
 // A part in the text at hand: how many declarations the rows hold, the number of its first pair, and how much further on it stands.
-#[derive(Drop)]
+#[derive(Clone, Copy)]
 pub struct Part {
     pub n: usize,
     pub first: usize,
@@ -42,7 +42,7 @@ pub struct Part {
 }
 
 // fault 0: there are `rules` rules, and `count` words. Else the fault's number and its word.
-#[derive(Drop)]
+#[derive(Clone, Copy)]
 pub struct Rules {
     pub fault: u16,
     pub at: usize,
@@ -52,7 +52,7 @@ pub struct Rules {
 }
 
 // A place in the text, and how many words there are.
-#[derive(Drop)]
+#[derive(Clone, Copy)]
 pub struct Spot {
     pub at: usize,
     pub count: usize,

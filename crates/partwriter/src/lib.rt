@@ -12,7 +12,7 @@ use base::{byte_word, least};
 const MARK: u16 = 20559;
 
 // What the front of an object tells: the bytes of its part, its rules and its pairs.
-#[derive(Drop)]
+#[derive(Clone, Copy)]
 pub struct Sizes {
     pub part: u16,
     pub rules: u16,

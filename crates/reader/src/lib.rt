@@ -17,7 +17,7 @@ ghost use Rattle.words.specs.Words.{words, words_at};
 use scanner::WordAt;
 
 // fault 0: read up to the place `at`. Else the fault's number and its word.
-#[derive(Drop)]
+#[derive(Clone, Copy)]
 pub struct Out {
     pub fault: u16,
     pub at: usize,
@@ -25,21 +25,21 @@ pub struct Out {
 }
 
 // Counted that were read, and how many more may stand in their choice.
-#[derive(Drop)]
+#[derive(Clone, Copy)]
 pub struct Counted {
     pub out: Out,
     pub room: usize,
 }
 
 // What was read, and its value.
-#[derive(Drop)]
+#[derive(Clone, Copy)]
 pub struct Valued {
     pub out: Out,
     pub value: usize,
 }
 
 // Entries: how many names may still be declared, and one above the greatest value.
-#[derive(Drop)]
+#[derive(Clone, Copy)]
 pub struct Entries {
     pub out: Out,
     pub left: usize,
@@ -47,7 +47,7 @@ pub struct Entries {
 }
 
 // How many operations there are of each kind: updates, updates with a parameter, choices, choices with a parameter.
-#[derive(Drop)]
+#[derive(Clone, Copy)]
 pub struct Seen {
     pub plain: usize,
     pub taking: usize,
@@ -56,7 +56,7 @@ pub struct Seen {
 }
 
 // What the words after an operation's name tell of its kind: whether they do, and if it takes a parameter and gives a value.
-#[derive(Drop)]
+#[derive(Clone, Copy)]
 pub struct Ahead {
     pub known: bool,
     pub takes: bool,
@@ -64,14 +64,14 @@ pub struct Ahead {
 }
 
 // An operation, and the counts after it.
-#[derive(Drop)]
+#[derive(Clone, Copy)]
 pub struct Added {
     pub out: Out,
     pub seen: Seen,
 }
 
 // Operations: how many names may still be declared, and the counts.
-#[derive(Drop)]
+#[derive(Clone, Copy)]
 pub struct Operations {
     pub out: Out,
     pub left: usize,
@@ -79,7 +79,7 @@ pub struct Operations {
 }
 
 // What the sections so far leave: names that may still be declared, one above the greatest value of each class, the counts.
-#[derive(Drop)]
+#[derive(Clone, Copy)]
 pub struct State {
     pub left: usize,
     pub input: usize,
@@ -89,7 +89,7 @@ pub struct State {
 }
 
 // A section, and the state after it.
-#[derive(Drop)]
+#[derive(Clone, Copy)]
 pub struct Sectioned {
     pub out: Out,
     pub state: State,

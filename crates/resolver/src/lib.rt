@@ -16,7 +16,7 @@ ghost use Rattle.symbols.specs.Search.{part};
 use scanner::WordAt;
 
 // Where an action stands: among n declarations, in a cycle or not, in a rule that gives values of the class (0: in a procedure rule).
-#[derive(Drop)]
+#[derive(Clone, Copy)]
 pub struct Scope {
     pub n: usize,
     pub inside: bool,
@@ -24,7 +24,7 @@ pub struct Scope {
 }
 
 // An action with a value: the value's class, the action's first cell, and whether it goes past itself.
-#[derive(Drop)]
+#[derive(Clone, Copy)]
 pub struct Sent {
     pub class: usize,
     pub first: u16,
@@ -32,14 +32,14 @@ pub struct Sent {
 }
 
 // A choice operation: its declaration, and the class of its answers.
-#[derive(Drop)]
+#[derive(Clone, Copy)]
 pub struct Asked {
     pub row: usize,
     pub class: usize,
 }
 
 // fault 0: read up to the place `at`, and there are `count` cells. Else the fault's number and its word.
-#[derive(Drop)]
+#[derive(Clone, Copy)]
 pub struct Done {
     pub fault: u16,
     pub at: usize,
@@ -48,7 +48,7 @@ pub struct Done {
 }
 
 // Actions: whether they go past themselves, and whether an exit in them leaves the cycle around them.
-#[derive(Drop)]
+#[derive(Clone, Copy)]
 pub struct Built {
     pub done: Done,
     pub past: bool,
@@ -56,7 +56,7 @@ pub struct Built {
 }
 
 // A selector: the class of the labels, and the cell that stands for no otherwise.
-#[derive(Drop)]
+#[derive(Clone, Copy)]
 pub struct Selected {
     pub done: Done,
     pub class: usize,
@@ -64,7 +64,7 @@ pub struct Selected {
 }
 
 // Labels: how many the choice has now.
-#[derive(Drop)]
+#[derive(Clone, Copy)]
 pub struct Labels {
     pub fault: u16,
     pub at: usize,
@@ -73,7 +73,7 @@ pub struct Labels {
 }
 
 // A label's value.
-#[derive(Drop)]
+#[derive(Clone, Copy)]
 pub struct Label {
     pub fault: u16,
     pub at: usize,
@@ -82,7 +82,7 @@ pub struct Label {
 }
 
 // An operation's parameter, if it is there.
-#[derive(Drop)]
+#[derive(Clone, Copy)]
 pub struct Parameter {
     pub fault: u16,
     pub at: usize,

@@ -11,7 +11,7 @@ use maker::NO_LEVEL;
 use symbols::{NAME_LEN, NAME_START, PAIR, PAIR_OPERAND, PAIR_SECTION, PAIRS};
 
 // The numbers of a row; a name is a part of the text, the operand rule's begins at `operand` and has `size` bytes.
-#[derive(Drop)]
+#[derive(Clone, Copy)]
 pub struct Row {
     pub location: u16,
     pub start: u16,
@@ -22,7 +22,7 @@ pub struct Row {
 }
 
 // A pair of section and operand rule: where the section's entries stand, and the two names.
-#[derive(Drop)]
+#[derive(Clone, Copy)]
 pub struct Pair {
     pub at: usize,
     pub start: u16,

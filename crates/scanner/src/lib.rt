@@ -10,7 +10,7 @@ ghost use Rattle.scanner.specs.Scanning.{in_class, Ran, brackets, heads, others,
 use base::byte_word;
 
 // A word of a text: its kind (crates/words has the numbers), the place and the number of its bytes, the place past it.
-#[derive(Drop)]
+#[derive(Clone, Copy)]
 pub struct WordAt {
     pub kind: u16,
     pub start: usize,
@@ -19,7 +19,7 @@ pub struct WordAt {
 }
 
 // Bytes that run on: of a name, of a number, inside a string, in a comment.
-#[derive(Drop)]
+#[derive(Clone, Copy)]
 pub enum Class {
     Name,
     Digit,

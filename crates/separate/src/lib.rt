@@ -29,7 +29,7 @@ const BUFFER: usize = 65536;
 const ROWS: usize = symbols::PAIR_SECTION + symbols::PAIR * base::RULES;
 
 // A fault's number, 0 for none; the text that shows it, and the part of that text.
-#[derive(Drop)]
+#[derive(Clone, Copy)]
 pub struct Fault {
     pub number: u16,
     pub text: usize,
@@ -38,7 +38,7 @@ pub struct Fault {
 }
 
 // Both texts read: where the common part's `end` begins, and the place right behind the part's word `rules`.
-#[derive(Drop)]
+#[derive(Clone, Copy)]
 pub struct Texts {
     pub fault: Fault,
     pub at: usize,
@@ -46,7 +46,7 @@ pub struct Texts {
 }
 
 // The names of both texts: how many rows there are, and the first rule's.
-#[derive(Drop)]
+#[derive(Clone, Copy)]
 pub struct Named {
     pub fault: Fault,
     pub count: usize,
@@ -54,14 +54,14 @@ pub struct Named {
 }
 
 // Words written, also those past the room for them.
-#[derive(Drop)]
+#[derive(Clone, Copy)]
 pub struct Written {
     pub fault: Fault,
     pub words: usize,
 }
 
 // The answer: the number of the fault, 0 for none; the text that shows it, and the part of that text; the words of the object.
-#[derive(Drop)]
+#[derive(Clone, Copy)]
 pub struct Made {
     pub number: u16,
     pub text: usize,
@@ -217,7 +217,7 @@ pub fn put_uses(
 
 // A common part and a part in one text: the bytes of the part, how much further on its words stand here, the place of its rules; how many rows there
 // are, how many of them are rules', and how many pairs the part has.
-#[derive(Drop)]
+#[derive(Clone, Copy)]
 pub struct Plan {
     pub size: usize,
     pub moved: usize,

@@ -10,7 +10,7 @@ use base::{byte, cell, least, wide};
 use cells::sort_at;
 
 // A place in the cells and a count of words.
-#[derive(Drop)]
+#[derive(Clone, Copy)]
 pub struct Spot {
     pub p: usize,
     pub at: usize,

@@ -10,7 +10,7 @@ use carrier::{COUNT, SIZE};
 use frontend::Resolved;
 
 // number 0: the table and the rows are there. Else the number of the text's first fault, and the part of the text at fault.
-#[derive(Drop)]
+#[derive(Clone, Copy)]
 pub struct Prepared {
     pub number: u16,
     pub start: usize,

@@ -722,7 +722,7 @@ pub fn has_value(rows: &[u16], n: usize, class: usize, v: usize) -> bool
 // Words looked up
 
 // A fault, or 0 and a value.
-#[derive(Drop)]
+#[derive(Clone, Copy)]
 pub struct Looked {
     pub fault: u16,
     pub value: usize,

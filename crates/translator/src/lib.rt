@@ -15,7 +15,7 @@ const MOST_FIGURE: u64 = 4294967295;
 
 // number 0: the table has `words` words, and the verdict is `finishing`. Else the number of the fault, and the part of the text at fault.
 // Where the verdict is "finishing" `figure` is Q and `check` 0, or `check` is 47.
-#[derive(Drop)]
+#[derive(Clone, Copy)]
 pub struct Answer {
     pub number: u16,
     pub start: usize,
@@ -27,7 +27,7 @@ pub struct Answer {
 }
 
 // Q and 0, or 0 and 47; both 0 where there is neither.
-#[derive(Drop)]
+#[derive(Clone, Copy)]
 pub struct Figure {
     pub figure: u64,
     pub number: u16,
@@ -137,7 +137,7 @@ pub fn finish(
 }
 
 // An answer but for its figure, and how many rules were placed.
-#[derive(Drop)]
+#[derive(Clone, Copy)]
 struct Translated {
     answer: Answer,
     rules: usize,

@@ -57,7 +57,7 @@ const MOST_WANTED: usize = SET_BITS;
 const CALL_WORDS: usize = 2 * base::RULES;
 
 // A set of rules, a bit for each: rules 0 to 63 in lo, 64 to 127 in hi.
-#[derive(Drop)]
+#[derive(Clone, Copy)]
 pub struct Rules {
     pub lo: u64,
     pub hi: u64,
@@ -65,7 +65,7 @@ pub struct Rules {
 
 // The ways of quiet paths through some actions: to their end, to an exit, to a return, to calls, to returns of the values asked for (a bit for
 // each); whether a cycle in them has a quiet path from its start to its end; and the cell behind them.
-#[derive(Drop)]
+#[derive(Clone, Copy)]
 pub struct Ways {
     pub end: bool,
     pub exit: bool,
@@ -77,7 +77,7 @@ pub struct Ways {
 }
 
 // What is known of the rules: those that are passed quietly, and how many facts, of a rule and a value that it can quietly return.
-#[derive(Drop)]
+#[derive(Clone, Copy)]
 pub struct Learnt {
     pub passed: Rules,
     pub count: usize,
@@ -627,7 +627,7 @@ fn rule(
 }
 
 // Values to ask for: how many, and the cell behind the last one looked at.
-#[derive(Drop)]
+#[derive(Clone, Copy)]
 pub struct Query {
     pub count: usize,
     pub next: usize,
@@ -706,7 +706,7 @@ fn grown(facts: &mut [u16], m: usize, r: u16, wanted: &[u16], n: usize, given: R
 
 // What looks at a rule brought: what is known then, the values of the last look's that it returns (a bit for each), the cell up to which its values were tried,
 // and the rule's end.
-#[derive(Drop)]
+#[derive(Clone, Copy)]
 pub struct Look {
     pub known: Learnt,
     pub given: Rules,
@@ -917,7 +917,7 @@ fn looked_if(
 }
 
 // What a round over the rules that were due brought, and the rules that are due in the next.
-#[derive(Drop)]
+#[derive(Clone, Copy)]
 struct Brought {
     known: Learnt,
     next: Rules,

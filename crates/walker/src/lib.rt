@@ -23,7 +23,7 @@ use machine::{
 const MOST_USED: u64 = 18446744073709551615;
 
 // Why a walk has stopped for good.
-#[derive(Drop)]
+#[derive(Clone, Copy)]
 pub enum Reason {
     Finished,
     Differs,
@@ -35,7 +35,7 @@ pub enum Reason {
 }
 
 // A walk is going on, waits for an operation's answer, or has stopped.
-#[derive(Drop)]
+#[derive(Clone, Copy)]
 pub enum Phase {
     Going,
     Waiting,
@@ -43,7 +43,7 @@ pub enum Phase {
 }
 
 // An event before its three words are written: an output token, an error, a repaired token, an operation, an operation with its parameter.
-#[derive(Drop)]
+#[derive(Clone, Copy)]
 pub enum Event {
     Output(u16),
     Error(u16),
@@ -53,7 +53,7 @@ pub enum Event {
 }
 
 // The walk but for its phase and its return locations: what most instructions change. Kept apart so that a step does not copy the stack.
-#[derive(Drop)]
+#[derive(Clone, Copy)]
 pub struct Registers {
     pub location: usize,
     // return locations held; more than 64 are read as the first 64
@@ -68,7 +68,7 @@ pub struct Registers {
     pub allowance: u64,
 }
 
-#[derive(Drop)]
+#[derive(Clone, Copy)]
 pub struct Walk {
     pub phase: Phase,
     pub at: Registers,
@@ -77,7 +77,7 @@ pub struct Walk {
 }
 
 // What one instruction does.
-#[derive(Drop)]
+#[derive(Clone, Copy)]
 pub enum Next {
     // 35: no room for an event
     Full,
@@ -94,7 +94,7 @@ pub enum Next {
 }
 
 // What a step tells its call.
-#[derive(Drop)]
+#[derive(Clone, Copy)]
 pub enum Said {
     // the walk goes on
     On,
@@ -109,14 +109,14 @@ pub enum Said {
 }
 
 // What a step gives: the walk back, and what its call is told.
-#[derive(Drop)]
+#[derive(Clone, Copy)]
 pub struct Stepped {
     pub walk: Walk,
     pub said: Said,
 }
 
 // Where a choice goes.
-#[derive(Drop)]
+#[derive(Clone, Copy)]
 pub enum Target {
     Label(usize),
     Otherwise(usize),
@@ -124,7 +124,7 @@ pub enum Target {
 }
 
 // What a call gives: the walk, the events written, the steps done, the call's number.
-#[derive(Drop)]
+#[derive(Clone, Copy)]
 pub struct Called {
     pub walk: Walk,
     pub events: u64,
@@ -702,14 +702,14 @@ impl Registers {
 // Steps
 
 // What a step may do: write so many words of events, and wait for an answer.
-#[derive(Drop)]
+#[derive(Clone, Copy)]
 pub struct Terms {
     pub room: usize,
     pub pause: bool,
 }
 
 // The same, with the instruction that was fetched and the words of the table.
-#[derive(Drop)]
+#[derive(Clone, Copy)]
 struct Due {
     n: usize,
     room: usize,

@@ -9,7 +9,7 @@ ghost use Rattle.writer.specs.Storing.{Sized, Fits, file_length, Stores};
 use loader::{RECORD, RECORD_HEAD, RECORD_WORDS, RECORDS_AT};
 
 // What writing answers: 0, 40, 20 or 41; the words of the file.
-#[derive(Drop)]
+#[derive(Clone, Copy)]
 pub struct Stored {
     pub number: u16,
     pub words: usize,
