@@ -10,16 +10,17 @@ import re
 import subprocess
 import sys
 
-LANDED = "4794e6d5058cf21d03302210a9e2693f85a79b73"
-TOP = ["args", "requires", "ranges", "type_inv", "utf8"]
-STEP = re.compile(r"\bc((?:\.before)*)\.([A-Za-z0-9_'-]+)")
+OLDER = "6cac6c75339a9f547821c2c6f8b8af2d3f2b974e"
+TOP = ["args", "requires", "ranges", "type_inv", "utf8", "well_formed", "well-formed", "lifetimes"]
+STEP = re.compile(r"\bc((?:\.before)*)\.([A-Za-z0-9_'-]+)((?:\.[A-Za-z0-9_'-]+)*)")
+NEGATED = re.compile(r"\((?:not-true|not-false|not_so|yet-so|not_yet) _ (c\.if-not-[\w-]+\.(?:true|false))\)|\b(?:not-true|not-false|not_so|yet-so|not_yet) _ (c\.if-not-[\w-]+\.(?:true|false))")
 HEAD = re.compile(r"^((?:pub |abbrev |unfoldable |data |record )*)([^\s:(){},]+)((?:\s+(?:\{[^}]*\}|\([^)]*\)))*)\s+:\s")
 KINDS = {"array-read": "element_copy_out", "array-write": "element_copy_in"}
 ENDS = {"holds": "init", "less": "smaller", "again": "preserved"}
 
 
 def norm(name):
-    return name.replace("-", "_").lower()
+    return name.removesuffix("_lem").replace("-", "_").lower()
 
 
 def blocks(text):
@@ -50,7 +51,7 @@ def blocks(text):
 
 
 def old_text(top, crate, inside):
-    r = subprocess.run(["git", "show", f"{LANDED}:crates/{crate}/proofs/{inside}/Proof.antt"], cwd=top, capture_output=True, text=True)
+    r = subprocess.run(["git", "show", f"{OLDER}:crates/{crate}/proofs/{inside}/Proof.antt"], cwd=top, capture_output=True, text=True)
     if r.returncode:
         r = subprocess.run(["git", "show", f"HEAD:crates/{crate}/proofs/{inside}/Proof.antt"], cwd=top, capture_output=True, text=True)
     return r.stdout if not r.returncode else ""
@@ -64,6 +65,8 @@ class Turn:
         self.up = {p[0]: p[1] for p in names["places"]}
         self.labels = {p[0]: p[2] for p in names["places"]}
         self.kind = {p[0]: p for p in names["places"]}
+        self.clauses = {p[0]: c["fields"] for p, c in zip(names["places"], names["clauses"]) if c and c.get("fields")}
+        self.arms = {p[0]: a for p, a in zip(names["places"], names["arms"]) if a}
         self.typed = {p[0]: dict((b, a) for a, b in t) for p, t in zip(names["places"], names["typed"])}
 
     def say(self, text):
@@ -79,7 +82,7 @@ class Turn:
     def label(self, place, label, befores):
         """The step of today for a step of the older proof at a goal of this place."""
         if label in TOP:
-            return label
+            return norm(label)
         chain = self.chain(place)
         for p in chain:
             old, new = self.labels[p]
@@ -119,16 +122,37 @@ class Turn:
                 text = re.sub(rf"(?<![\w'.-]){re.escape(a)}(?![\w'.-])", "c", text)
 
         def step(m):
-            label = m[2]
+            label, after = m[2], m[3].split(".")[1:]
+            if label not in TOP:
+                for p in self.chain(place):
+                    if p not in self.arms:
+                        continue
+                    name, _, fields = self.arms[p]
+                    fits = [(len(path), field) for field, of, path in fields if norm(of) == norm(label) and [norm(x) for x in after[: len(path)]] == [norm(x) for x in path]]
+                    if fits:
+                        n, field = max(fits)
+                        return ".".join([f"c.{name}.{field}", *after[n:]])
             if label == "before":
                 self.say("a place is handed on: " + m[0])
                 return m[0]
+            if label == "requires" and self.data["pre"] and after:
+                after[0] = self.data["pre"]["fields"][int(after[0])] if isinstance(self.data["pre"], dict) and after[0].isdigit() else after[0]
+                return ".".join(["c.requires", *after])
             new = self.label(place, label, m[1].count("before"))
+            of = [p for p in self.chain(place) if self.labels[p][0] and norm(self.labels[p][0]) == norm(label)]
+            fields = self.clauses.get(of[0]) if of else None
+            if fields and after[:1] == ["ensures"]:
+                if len(after) == 1:
+                    return "(" + ", ".join(f"c.{new}.ensures.{it}" for it in fields) + ")"
+                if after[1].isdigit():
+                    after[1] = fields[min(int(after[1]), len(fields) - 1)]
+                    return ".".join([f"c.{new}", *after])
             if new.startswith("\0"):
-                return f"c.type_inv.{self.known(place, label)}"
-            return f"c.{new}"
+                return f"c.type_inv.{self.known(place, label)}{m[3]}"
+            return f"c.{new}{m[3]}"
 
         text = STEP.sub(step, text)
+        text = NEGATED.sub(lambda m: m[1] or m[2], text)
         text = re.sub(r"(c\.type_inv\.[\w-]+)\.given\b", r"\1", text)
         if re.search(r"\bc\.before\b", text):
             self.say("a path by places is left")
@@ -202,6 +226,9 @@ def turn(top, names, crate, inside):
             rhs = it.body(place, e[2])
             if re.fullmatch(r"\s*search rules\s*", rhs) and not m[1]:
                 continue
+            fields = data["asked"].get(needs[[x[1] for x in needs].index(new)][0])
+            if fields:
+                rhs = as_record(rhs, fields)
             if re.search(r"\bκs\b", rhs):
                 it.say(f"κs in {n}")
             answers.append("\n".join(comments + [f"pub {new} : goal.{new}"] + ([m[1].rstrip()] if m[1] else []) + [f"{new} c ={rhs}"]))
@@ -248,6 +275,50 @@ def turn(top, names, crate, inside):
     if not written:
         os.rmdir(at)
     return it.said
+
+
+def top_parts(text, mark):
+    """Where `mark` stands outside all brackets."""
+    depth, found, i = 0, [], 0
+    while i < len(text):
+        depth += {"(": 1, "[": 1, "{": 1, ")": -1, "]": -1, "}": -1}.get(text[i], 0)
+        if not depth and text.startswith(mark, i):
+            found.append(i)
+        i += 1
+    return found
+
+
+def as_record(body, fields):
+    """A product of facts as a record with the clauses' names."""
+    cut = 0
+    for m in re.finditer(r"\bin\b(?=\s)", body):
+        before = body[: m.start()]
+        if not sum({"(": 1, "[": 1, "{": 1, ")": -1, "]": -1, "}": -1}.get(x, 0) for x in before):
+            cut = m.end()
+    lead, last = body[:cut], body[cut:].strip()
+    if last.startswith(("elim", "search", "record", "omega", "grind", "absurd")):
+        return body
+    parts = None
+    if last.startswith("(") and last.endswith(")"):
+        inner, depth, whole = last[1:-1], 0, True
+        for x in inner:
+            depth += {"(": 1, "[": 1, "{": 1, ")": -1, "]": -1, "}": -1}.get(x, 0)
+            whole = whole and depth >= 0
+        if whole:
+            at = top_parts(inner, ",")
+            if len(at) >= len(fields) - 1 and at:
+                at = at[: len(fields) - 1]
+                parts = [inner[a:b].strip() for a, b in zip([0, *[x + 1 for x in at]], [*at, len(inner)])]
+                if inner[at[-1] + 1 :].count(",") and len(top_parts(inner, ",")) > len(fields) - 1:
+                    parts[-1] = f"({parts[-1]})"
+            elif len(at) == 1 and len(fields) > 2:
+                rest = as_record(inner[at[0] + 1 :], fields[1:])
+                m = re.fullmatch(r"\s*record \{ (.*) \}", rest, re.S)
+                if m:
+                    return f"{lead} record {{ {fields[0]} = {inner[: at[0]].strip()}; {m[1]} }}"
+    if not parts:
+        parts = [f"({last}).{i}" for i in range(len(fields))]
+    return f"{lead} record {{ " + "; ".join(f"{f} = {x}" for f, x in zip(fields, parts)) + " }"
 
 
 def loop_text(it, m, loop, changed):

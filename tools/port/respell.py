@@ -15,7 +15,27 @@ DEFINED = re.compile(r"(?m)^\s*(?:(?:pub|abbrev|unfoldable|opaque|data|record|mu
 # Names that the check makes of Rust names, as steps of a proof: a file that cites them is written anew.
 MADE = {"is_Known", "is_Block", "read_Walk"}
 # Where the new spelling is taken by a definition: another name.
-TAKEN = {"is-call": "is_called", "is-over": "is_over_lem", "a-number": "a_numeral"}
+TAKEN = {
+    "is-call": "is_called",
+    "is-over": "is_over_lem",
+    "a-number": "a_numeral",
+    "a-constant": "one_constant",
+    "a-rule": "one_rule",
+    "a-spelling": "one_spelling",
+    "a-value": "one_value",
+    "an-entry": "one_entry",
+    "an-operation": "one_operation",
+    "an-operator": "one_operator",
+    "in-cycle": "inside_cycle",
+    "in-otherwise": "inside_otherwise",
+    "is-choice": "is_a_choice",
+    "is-file": "is_a_file",
+    "operation-in": "operation_inside",
+    "rule-in": "rule_inside",
+    "past-names": "past_names_lem",
+    "some-operators": "some_operators_lem",
+    "walk-bytes": "walk_bytes_lem",
+}
 # Where it is taken by a lemma: the lemma gets `_lem`. Each name with the folders or files in which it is that lemma.
 LEMMAS = {
     "all_give": ["crates/cases/"],
@@ -156,6 +176,8 @@ def main(argv):
         if len(olds) > 1 or to in words:
             places = {it: len(at) for it, at in olds.items()}
             both = set().union(*olds.values()) & words.get(to, set())
+            at = list(olds.values())
+            both |= {it for i, a in enumerate(at) for b in at[i + 1 :] for it in a & b}
             print(f"falls together: {to}: {places}, before in {len(words.get(to, set()))} files, both in {len(both)}: {sorted(both)[:3]}")
 
 

@@ -101,8 +101,8 @@ unfolding Each find_operation
 find-operation-in w [] o h e = none-some e
 find-operation-in w (k ∷ ks) o h e = picked OperationOk (same w k.named) k o (find_operation w ks) h.0 (find-operation-in w ks o h.1) e
 
-pub operation_in : (w : List ℕ) (n : Names) (o : KnownOperation) → NamesOk n → find_operation w n.operations ≡ some o → OperationOk o
-operation_in w n o h e = find-operation-in w n.operations o h.operations e
+pub operation_inside : (w : List ℕ) (n : Names) (o : KnownOperation) → NamesOk n → find_operation w n.operations ≡ some o → OperationOk o
+operation_inside w n o h e = find-operation-in w n.operations o h.operations e
 
 -- the members found are in range, and there is a type exactly if one was written
 pub record Typed (x : Option Word) (t : Option (List Known)) : Type 0 where

@@ -351,15 +351,15 @@ module _ (text : List ℕ) where
       go false true e f = alike {m = ◌>>◌ pass (pure true)} (rw (e, f) refl) (one true (spells-name (bytes "right") r f))
       go false false e f = alike {m = refuse} (rw (e, f) refl) (refuses r)
 
-  an_operator : {ws : List Word} → Rest ws → Gives ws an_operator OperatorShown
+  one_operator : {ws : List Word} → Rest ws → Gives ws an_operator OperatorShown
   unfolding an_operator
-  an_operator r = bind (names-strings r) (λ ws₁ t q. bind (levels q.0) (λ ws₂ l u. bind (sides u.0) (λ ws₃ s x. bind (names-strings x.0) (λ ws₄ o y. gives (y.0, (q.1, y.1))))))
+  one_operator r = bind (names-strings r) (λ ws₁ t q. bind (levels q.0) (λ ws₂ l u. bind (sides u.0) (λ ws₃ s x. bind (names-strings x.0) (λ ws₄ o y. gives (y.0, (q.1, y.1))))))
 
   all-operators : {ws : List Word} (k : ℕ) → Rest ws → Gives ws (some_operators k) (Each OperatorShown)
   unfolding some_operators Each
   all-operators zero r = refuses r
   all-operators (suc k) r =
-      bind (an_operator r) (λ ws₁ o q.
+      bind (one_operator r) (λ ws₁ o q.
       bind (on-kind (code ";") refl refl q.0 (λ s. bind (passes q.0 s) (λ ws₂ w u. gives (u.0, tt))) (all-operators k q.0))
       (λ ws₃ os x. gives (x.0, (q.1, x.1))))
 
@@ -500,9 +500,9 @@ module _ (text : List ℕ) where
 
   -- Rules
 
-  a_rule : {ws : List Word} (k left : ℕ) → Rest ws → Gives ws (a_rule k left) RuleShown
+  one_rule : {ws : List Word} (k left : ℕ) → Rest ws → Gives ws (a_rule k left) RuleShown
   unfolding a_rule
-  a_rule k left r =
+  one_rule k left r =
       bind (one_name_lem left r) (λ ws₁ w q. bind (typed q.0) (λ ws₂ g u. bind (expects (code ":") refl refl u.0) (λ ws₃ c x.
       bind (all-actions k 32 ws₃ x.0) (λ ws₄ b y. bind (expects (code ";") refl refl y.0) (λ ws₅ e z.
       gives (z.0, record { rule = q.1; gives = u.1; body = y.1; closing = z.1 }))))))
@@ -511,7 +511,7 @@ module _ (text : List ℕ) where
   unfolding some_rules Each
   all-rules zero left r = refuses r
   all-rules (suc k) left r =
-      bind (a_rule k left r) (λ ws₁ x q. bind (on-kind name refl refl q.0 (λ _. all-rules k (left - 1) q.0) (gives (q.0, tt))) (λ ws₂ xs u. gives (u.0, (q.1, u.1))))
+      bind (one_rule k left r) (λ ws₁ x q. bind (on-kind name refl refl q.0 (λ _. all-rules k (left - 1) q.0) (gives (q.0, tt))) (λ ws₂ xs u. gives (u.0, (q.1, u.1))))
 
   -- the end of the text, behind which nothing is read
   ended : {A : Type 0} {ws : List Word} (a : A) {P : List Word → A → Type 0} → Rest ws → ((rest : List Word) → P rest a) → Reads ws (◌>>◌ (expect last) (pure a)) P

@@ -7,7 +7,7 @@ use Prim.Native.Nat.{ℕ, ◌+◌, ◌<◌}
 use lib.ListN.{length}
 use native.Mathlib.Omega.{arith}
 use Rattle.acceptance.proofs.CheckLaws.{Yields, no-good, yields, never, next, passed}
-use Rattle.acceptance.proofs.NamesOk.{KnownOk, MembersOk, OperationOk, NamesOk, find-in, lookup-in, find-type-in, operation_in}
+use Rattle.acceptance.proofs.NamesOk.{KnownOk, MembersOk, OperationOk, NamesOk, find-in, lookup-in, find-type-in, operation_inside}
 use Rattle.acceptance.proofs.Shape.{Each, Defaulted, Shaped, ShapedAll, ShapedAlts, ShapedOther}
 use Rattle.std.specs.Prelude.{if◌then◌else◌}
 use Rattle.base.specs.Common.{member, given}
@@ -110,7 +110,7 @@ module _ (p : Program) (n : Names) (rules : List KnownRule) (prog : List Rule) (
     where
       go : (x : Option KnownOperation) → find_operation w.text n.operations ≡ x → elim x as (λ _. Checked KnownOperation) [ some y ↦ good y | none ↦ elsewhere p w ] ≡ good o → OperationOk o
       go none d e₁ = no-good e₁
-      go (some y) d e₁ = let z : y ≡ o = cc in rw z at (operation_in w.text n y ok d)
+      go (some y) d e₁ = let z : y ≡ o = cc in rw z at (operation_inside w.text n y ok d)
 
   abbrev RuleOk : KnownRule → Type 0
   RuleOk r = Calls prog r.place (given r.gives)

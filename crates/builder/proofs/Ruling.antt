@@ -20,7 +20,7 @@ use Rattle.builder.specs.declared.Ruled.{Ruled}
 use Rattle.cells.specs.Cells.{acts_cells}
 use Rattle.declarations.proofs.Rows.{given-mapped}
 use Rattle.declarations.specs.Decls.{Agrees, Decl, index_of, declared_in, elsewhere_in, type_in, optional_in, mapped, knowns_in}
-use Rattle.grammar.specs.Derived.{Took, ActsIn, RuleIn, a_rule}
+use Rattle.grammar.specs.Derived.{Took, ActsIn, RuleIn, one_rule}
 use Rattle.maker.specs.Pairs.{PairsAre}
 use Rattle.names.specs.Known.{Checked, good, wrong, ◌>>=◌, fault_if, Known, KnownRule, Names, find_operation, declared, is_type, elsewhere, lookup_type, optional_type}
 use Rattle.names.specs.Resolve.{acts_of}
@@ -74,7 +74,7 @@ rule-headless {text} {rows} {n} {first} {k} {at} {cs} {c} {h} {r} H z e₁ e₂ 
   where
     go : (p : Program) (names : Names) (rs : List KnownRule) → Agrees p names rs (held text rows n) → (x : written.Rule) (ws : List Word) → RuleIn (words_at text at) ws x
         → Ends (PairsAre text rows n p names) text ws cs c cs (λ b. acts_cells b.body []) (λ b. r.valued ≡ b.valued) r.done (rule_by p names rs (held text rows n) first k x)
-    go p names rs g x ws (a_rule {colon = colon} {ws₁ = ws₁} {ws₂ = ws₂} {ws₃ = ws₃} t d u _ _) =
+    go p names rs g x ws (one_rule {colon = colon} {ws₁ = ws₁} {ws₂ = ws₂} {ws₃ = ws₃} t d u _ _) =
         head-fails (head_of (held text rows n) first k x) _ (H.done x colon ws₁ ws₂ ws₃ t d u) z e₁ e₂ e₃
 
 pub rule-fail : {text rows : List ℕ} {n first k at : ℕ} {cs : List ℕ} {c : ℕ} {cs' : List ℕ} {h : Head} {b : Built} {r : Ruled}
@@ -86,7 +86,7 @@ rule-fail {text} {rows} {n} {first} {k} {at} {cs} {c} {cs'} {h} {b} {r} H z B z�
   where
     go : (p : Program) (names : Names) (rs : List KnownRule) → Agrees p names rs (held text rows n) → (x : written.Rule) (ws : List Word) → RuleIn (words_at text at) ws x
         → Ends (PairsAre text rows n p names) text ws cs c cs' (λ b. acts_cells b.body []) (λ b. r.valued ≡ b.valued) r.done (rule_by p names rs (held text rows n) first k x)
-    go p names rs g x ws (a_rule {colon = colon} {ws₁ = ws₁} {ws₂ = ws₂} {ws₃ = ws₃} {ws₄ = ws₄} t d u q _) =
+    go p names rs g x ws (one_rule {colon = colon} {ws₁ = ws₁} {ws₂ = ws₂} {ws₃ = ws₃} {ws₄ = ws₄} t d u q _) =
         subst (λ (y : Done). Ends (PairsAre text rows n p names) text ws cs c cs' (λ b. acts_cells b.body []) (λ b. r.valued ≡ b.valued) y (rule_by p names rs (held text rows n) first k x)) (sym e)
         (head-then (head_of (held text rows n) first k x) _ (H.done x colon ws₁ ws₂ ws₃ t d u) z
         (λ here. ends-fails (acts_of p names rs x.body (place_of (held text rows n) false h.class)) _ (B.done p names rs g x.body ws₄ (subst (λ l. ActsIn l ws₄ x.body) here q)) z₂))
@@ -115,7 +115,7 @@ rule-closed {text} {rows} {n} {first} {k} {at} {cs} {c} {cs'} {h} {b} {r} {w} {t
   where
     go : (p : Program) (names : Names) (rs : List KnownRule) → Agrees p names rs (held text rows n) → (x : written.Rule) (ws : List Word) → RuleIn (words_at text at) ws x
         → Ends (PairsAre text rows n p names) text ws cs c cs' (λ b. acts_cells b.body []) (λ b. r.valued ≡ b.valued) r.done (rule_by p names rs (held text rows n) first k x)
-    go p names rs g x ws (a_rule {colon = colon} {ws₁ = ws₁} {ws₂ = ws₂} {ws₃ = ws₃} {ws₄ = ws₄} q d u a s) =
+    go p names rs g x ws (one_rule {colon = colon} {ws₁ = ws₁} {ws₂ = ws₂} {ws₃ = ws₃} {ws₄ = ws₄} q d u a s) =
         head-then (head_of (held text rows n) first k x) _ (H.done x colon ws₁ ws₂ ws₃ q d u) z
         (λ here. ends-bind (acts_of p names rs x.body (place_of (held text rows n) false h.class)) _
         (B.done p names rs g x.body ws₄ (subst (λ l. ActsIn l ws₄ x.body) here a)) z₂

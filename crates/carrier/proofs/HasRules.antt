@@ -7,7 +7,7 @@ use mathlib.Core.Path.{◌≡◌, refl}
 use Prim.Native.Nat.{ℕ}
 use native.Mathlib.Omega.{arith}
 use Rattle.grammar.proofs.ProgramIn.{parse-in}
-use Rattle.grammar.specs.Derived.{Took, Reference, by_name, by_string, SpellingIn, no_strings, no_spelling, a_spelling, CountIn, a_numeral, counted, EntryIn, an_entry, EntriesIn, last_entry, more_entries, GivesIn, gives_none, gives_some, TakesIn, takes_none, takes_some, OperationIn, an_operation, OperationsIn, last_operation, more_operations, SideIn, left_in, right_in, OperatorIn, an_operator, OperatorsIn, last_operator, more_operators, ListedIn, listed_in, SectionIn, inputs_in, both_in, outputs_in, errors_in, values_in, operations_in, operators_in, SectionsIn, no_section, more_sections, ProgramIn, a_program}
+use Rattle.grammar.specs.Derived.{Took, Reference, by_name, by_string, SpellingIn, no_strings, no_spelling, one_spelling, CountIn, a_numeral, counted, EntryIn, one_entry, EntriesIn, last_entry, more_entries, GivesIn, gives_none, gives_some, TakesIn, takes_none, takes_some, OperationIn, one_operation, OperationsIn, last_operation, more_operations, SideIn, left_in, right_in, OperatorIn, one_operator, OperatorsIn, last_operator, more_operators, ListedIn, listed_in, SectionIn, inputs_in, both_in, outputs_in, errors_in, values_in, operations_in, operators_in, SectionsIn, no_section, more_sections, ProgramIn, a_program}
 use Rattle.processor.specs.Process.{meaning, read_in, understood}
 use Rattle.program.specs.Program.{Rule}
 use Rattle.syntax.specs.Parse.{parse}
@@ -31,14 +31,14 @@ reference (by_string t) h = took t h
 spelling : {strings : Bool} {ws ws' : List Word} {o : Option Word} → SpellingIn strings ws ws' o → HasRules ws' → HasRules ws
 spelling (no_strings e d) h = stayed d h
 spelling (no_spelling e n d) h = stayed d h
-spelling (a_spelling e t) h = took t h
+spelling (one_spelling e t) h = took t h
 
 valued : {v n : ℕ} {ws ws' : List Word} → CountIn v ws ws' n → HasRules ws' → HasRules ws
 valued (a_numeral s d e l) h = took s (took d h)
 valued (counted n d e l) h = stayed d h
 
 entry : {strings : Bool} {v : ℕ} {ws ws' : List Word} {e : Entry} → EntryIn strings v ws ws' e → HasRules ws' → HasRules ws
-entry (an_entry t s c) h = took t (spelling s (valued c h))
+entry (one_entry t s c) h = took t (spelling s (valued c h))
 
 entries : {strings : Bool} {v : ℕ} {ws ws' : List Word} {es : List Entry} → EntriesIn strings v ws ws' es → HasRules ws' → HasRules ws
 entries (last_entry e t) h = entry e (took t h)
@@ -53,7 +53,7 @@ takes (takes_none n d) h = stayed d h
 takes (takes_some s t u) h = took s (took t (took u h))
 
 operation : {seen : List ℕ} {ws ws' : List Word} {o : Operation} → OperationIn seen ws ws' o → HasRules ws' → HasRules ws
-operation (an_operation t k g e l) h = took t (takes k (gives g h))
+operation (one_operation t k g e l) h = took t (takes k (gives g h))
 
 operations-back : {seen : List ℕ} {ws ws' : List Word} {os : List Operation} → OperationsIn seen ws ws' os → HasRules ws' → HasRules ws
 operations-back (last_operation o t) h = operation o (took t h)
@@ -64,7 +64,7 @@ side (left_in t e) h = took t h
 side (right_in t e) h = took t h
 
 operator : {ws ws' : List Word} {o : Operator} → OperatorIn ws ws' o → HasRules ws' → HasRules ws
-operator (an_operator r d e l m s u) h = reference r (took d (side s (reference u h)))
+operator (one_operator r d e l m s u) h = reference r (took d (side s (reference u h)))
 
 operators-back : {ws ws' : List Word} {os : List Operator} → OperatorsIn ws ws' os → HasRules ws' → HasRules ws
 operators-back (last_operator o t) h = operator o (took t h)

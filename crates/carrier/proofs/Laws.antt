@@ -59,9 +59,9 @@ pub rule-past : (sheet : List ℕ) (size l : ℕ) → size ≡ size_held sheet �
 unfolding rule_held
 rule-past sheet size l e h = (rw (le-leb 1 l (omega arith), lt-leb l (size_held sheet) (omega (arith, e, h))) refl, omega arith)
 
-rule_in : (sheet : List ℕ) (l : ℕ) → (l ≡ 0 → ⊥) → l ≤ size_held sheet → last_held sheet (count_held sheet) l ≡ rule_held sheet l
+rule_inside : (sheet : List ℕ) (l : ℕ) → (l ≡ 0 → ⊥) → l ≤ size_held sheet → last_held sheet (count_held sheet) l ≡ rule_held sheet l
 unfolding rule_held
-rule_in sheet l n h = rw (le-leb 1 l (above_zero l n), le-leb l (size_held sheet) h) refl
+rule_inside sheet l n h = rw (le-leb 1 l (above_zero l n), le-leb l (size_held sheet) h) refl
 
 -- the rules from k on begin behind it
 pub record Upto (sheet : List ℕ) (l k₀ k : ℕ) : Type 0 where
@@ -93,7 +93,7 @@ pub upto-found : {sheet : List ℕ} {l k₀ k : ℕ} (n : ℕ) → Upto sheet l 
     → (k - 1 ≡ rule_held sheet l) × (k - 1 ≤ 128)
 upto-found {sheet} {l} {k₀} {k} n u h e few nz le d t =
     let x : get_or sheet (6 * (k - 1)) 0 ≤ l = rw d at t in
-    (last_found sheet k l h x ∙ u.last ∙ ap (λ (i : ℕ). last_held sheet i l) e ∙ rule_in sheet l nz le, omega (arith, u.low, e, few))
+    (last_found sheet k l h x ∙ u.last ∙ ap (λ (i : ℕ). last_held sheet i l) e ∙ rule_inside sheet l nz le, omega (arith, u.low, e, few))
 
 pub upto_next : {sheet : List ℕ} {l k₀ k : ℕ} (n : ℕ) → Upto sheet l k₀ k → 0 < k → n ≡ get_or sheet (6 * (k - 1)) 0 → l < n → Upto sheet l k₀ (k - 1)
 upto_next {sheet} {l} {k₀} {k} n u h d t =
@@ -105,7 +105,7 @@ unfolding last_held
 upto-none {sheet} {l} {k₀} {k} u h e nz le =
     let z : k ≡ 0 = omega arith in
     let x : last_held sheet 0 l ≡ last_held sheet k₀ l = rw z at u.last in
-    (x ∙ ap (λ (i : ℕ). last_held sheet i l) e ∙ rule_in sheet l nz le, omega arith)
+    (x ∙ ap (λ (i : ℕ). last_held sheet i l) e ∙ rule_inside sheet l nz le, omega arith)
 
 -- Names
 

@@ -18,7 +18,7 @@ use Rattle.base.specs.Tree.{cycle, choice, ◌▸◌, alternative, otherwise}
 use Rattle.carry.proofs.After.{Steps, within-steps, runs-add}
 use Rattle.carry.proofs.Found.{Spot}
 use Rattle.carry.proofs.Tokens.{Reads, Goes, Tells, Leaves, step-leaves, runs-reads}
-use Rattle.carry.specs.Places.{OneOf, this_one, that_one, Inside, in_start, in_rest, in_cycle, in_labelled, in_otherwise, PendingAt, no_pending, pending_at, choice_at, StandsAt, stands_on, stands_choosing, Within, at_start, behind_value, behind_parameter, at_default, behind_repair}
+use Rattle.carry.specs.Places.{OneOf, this_one, that_one, Inside, in_start, in_rest, inside_cycle, in_labelled, inside_otherwise, PendingAt, no_pending, pending_at, choice_at, StandsAt, stands_on, stands_choosing, Within, at_start, behind_value, behind_parameter, at_default, behind_repair}
 use Rattle.events.specs.Events as events
 use Rattle.events.specs.Events.{Event, Reason, repair, Io}
 use Rattle.finishing.specs.Finishing.{Finishing}
@@ -50,12 +50,12 @@ module _ (prog : List Rule) (ok : Accepted prog) (fin : Finishing prog) where
       let l : weighs (call_cost prog) (body_of prog r) + 1 ≤ total (call_cost prog) prog + 1 = omega (arith, total-le (call_cost prog) prog r) in
       fits-rule (tame-rule prog ok fin r h) l
   inside-fits r h (in_rest i e) = fits-rest prog (inside-fits r h i)
-  inside-fits r h (in_cycle i) = let f = inside-fits r h i in fits-cycle (fits-tame prog f).0.1 (le_refl _) f
+  inside-fits r h (inside_cycle i) = let f = inside-fits r h i in fits-cycle (fits-tame prog f).0.1 (le_refl _) f
   inside-fits r h (in_labelled {s = s} {al = al} {ot = ot} {b = b} i m e) =
       let f = inside-fits r h i in
       let l : weighs (call_cost prog) b + 1 ≤ weigh (call_cost prog) (choice s al ot) = omega (arith, one-weighs (call_cost prog) m) in
       fits-alternative (choice s al ot) (one-tame m (fits-tame prog f).0.1) l f
-  inside-fits r h (in_otherwise {s = s} {al = al} {b = b} i e) =
+  inside-fits r h (inside_otherwise {s = s} {al = al} {b = b} i e) =
       let f = inside-fits r h i in
       let l : weighs (call_cost prog) b + 1 ≤ weigh (call_cost prog) (choice s al (otherwise b)) = omega arith in
       fits-otherwise (choice s al (otherwise b)) (fits-tame prog f).0.2 l f

@@ -25,7 +25,7 @@ use Rattle.program.specs.Table.{size_plain, size_selector, size_absent, count_la
 use Rattle.agreement.proofs.Lay.{Entry, lookup, entries, Table}
 use Rattle.agreement.proofs.Sim.{good, at-good, at-choice-good}
 use Rattle.agreement.proofs.Laid.{Seg, seg-nil, seg-cons, seg-at, seg-left, seg-right, seg-after, seg_two, seg-one, seg-operation, seg-return, seg-jump, seg-jump_back, is_update, is_update_with, is-choose, is-choose_with, pairs, pairs-length, laid_table, laids, laid-alts, laid-other, laid-result, Parts, parts, other_at, is_token}
-use Rattle.carry.specs.Places.{OneOf, this_one, that_one, Inside, in_start, in_rest, in_cycle, in_labelled, in_otherwise}
+use Rattle.carry.specs.Places.{OneOf, this_one, that_one, Inside, in_start, in_rest, inside_cycle, in_labelled, inside_otherwise}
 use Rattle.carry.proofs.Placed.{rest_of, choice_words, by_tokens, later, Here, here, Then, then_rule, then-cycle, then-alternative, then-otherwise, Exit, exit-cycle, exit-alternative, exit-otherwise, Before, before, Place, Choice, to_at, to-choice}
 
 pairs-later : (base l : ℕ) (al : Alts) → pairs (base + l) al ≡ later base (pairs l al)
@@ -215,7 +215,7 @@ module _ (prog : List Rule) (T W : List ℕ) (start mk : ℕ → ℕ) (base : �
       let t₃ = seg-after (size_alts al) at₁ (count_labels al ∷ (table_words 1 al ++ ot₁)) (length-alts start al out rest) t₂ in
       let w₄ = seg-after (1 + 2 * count_labels al) (count_labels al ∷ table_words 1 al) ow (omega (arith, length-table_words 1 al)) w₃ in
       let t₄ = seg-at (seg-after (1 + 2 * count_labels al) (count_labels al ∷ table_words 1 al) ot₁ (omega (arith, length-table_words 1 al)) t₃) (four base o (size_alts al) (1 + 2 * count_labels al)) in
-      let df = default-of ot s al m (λ b₁ z₁. in_otherwise (subst (λ (t : Other). In (choice s al t ▸ r) k o₀) z₁ iw) (omega (arith, oe))) c out x (o + 2) d (omega arith) oo nl (λ z. omega (arith, hx z)) w₄ t₄
+      let df = default-of ot s al m (λ b₁ z₁. inside_otherwise (subst (λ (t : Other). In (choice s al t ▸ r) k o₀) z₁ iw) (omega (arith, oe))) c out x (o + 2) d (omega arith) oo nl (λ z. omega (arith, hx z)) w₄ t₄
       (λ g. here-to (hg (or₂ (past_some al) (past_other ot) g)) (omega arith)) (λ g. hh (or₂ (exits_some al) (exits_other ot) g)) in
       let gl = laid_table T al (base + (o + 2)) ot₁ t₃ in
       let z : base + (o + 2) + size_alts al ≡ base + (o + 2 + size_alts al) = omega arith in
@@ -367,10 +367,10 @@ module _ (prog : List Rule) (T W : List ℕ) (start mk : ℕ → ℕ) (base : �
         let w₁ : Seg W o cw = seg-left cw (codes mk q out) sw in
         let t₁ : Seg T (base + o) ct = seg-left ct (codes start q out) st in
         let away : exits_all b ≡ true → X (in_cycle b q ∷ k) (o + sizes b + 2) = λ g. exit-cycle (here-to (rest-here (cycle b) c out iw ok hx sw st hg hh g) (past-it o (sizes b))) in
-        let ends : E (in_cycle b q ∷ k) (o + sizes b) = then-cycle (in_cycle iw) ak refl w₁ t₁ away in
-        let own : H b (in_cycle b q ∷ k) o = here {x = o + sizes b + 2} {o = o} true 2 (in_cycle iw) ak (λ _. refl) (seg-left (codes mk b 2) (2 ∷ (sizes b + 1) ∷ []) w₁)
+        let ends : E (in_cycle b q ∷ k) (o + sizes b) = then-cycle (inside_cycle iw) ak refl w₁ t₁ away in
+        let own : H b (in_cycle b q ∷ k) o = here {x = o + sizes b + 2} {o = o} true 2 (inside_cycle iw) ak (λ _. refl) (seg-left (codes mk b 2) (2 ∷ (sizes b + 1) ∷ []) w₁)
         (seg-left (codes start b 2) (2 ∷ (sizes b + 1) ∷ []) t₁) (λ _. ends) away in
-        acts-ready b (in_cycle b q ∷ k) (o + sizes b + 2) o true 2 (in_cycle iw) ak (λ _. refl) (seg-left (codes mk b 2) (2 ∷ (sizes b + 1) ∷ []) w₁)
+        acts-ready b (in_cycle b q ∷ k) (o + sizes b + 2) o true 2 (inside_cycle iw) ak (λ _. refl) (seg-left (codes mk b 2) (2 ∷ (sizes b + 1) ∷ []) w₁)
         (seg-left (codes start b 2) (2 ∷ (sizes b + 1) ∷ []) t₁) (λ _. ends) away
         (λ _. r-jump {y = o} (seg-jump_back o (omega arith) (seg-after (sizes b) (codes mk b 2) (2 ∷ (sizes b + 1) ∷ []) (length-codes mk b 2) w₁))
         (seg-jump_back (base + o) (omega arith) (seg-at (seg-after (sizes b) (codes start b 2) (2 ∷ (sizes b + 1) ∷ []) (length-codes start b 2) t₁) (near base o (sizes b))))

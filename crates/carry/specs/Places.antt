@@ -22,10 +22,10 @@ pub data OneOf : Alts → Acts → ℕ → Type 0 where
 pub data Inside (body : Acts) : Acts → List Context → ℕ → Type 0 where
   in_start : Inside body body [] 1
   in_rest : {a : Act} {q : Acts} {k : List Context} {o e : ℕ} → Inside body (a ▸ q) k o → o + size a ≡ e → Inside body q k e
-  in_cycle : {b q : Acts} {k : List Context} {o : ℕ} → Inside body (cycle b ▸ q) k o → Inside body b (in_cycle b q ∷ k) o
+  inside_cycle : {b q : Acts} {k : List Context} {o : ℕ} → Inside body (cycle b ▸ q) k o → Inside body b (in_cycle b q ∷ k) o
   in_labelled : {s : Selector} {al : Alts} {ot : Other} {b q : Acts} {k : List Context} {o d e : ℕ} → Inside body (choice s al ot ▸ q) k o → OneOf al b d
       → o + size_selector s + 2 + d ≡ e → Inside body b (in_alternative q ∷ k) e
-  in_otherwise : {s : Selector} {al : Alts} {b q : Acts} {k : List Context} {o e : ℕ} → Inside body (choice s al (otherwise b) ▸ q) k o
+  inside_otherwise : {s : Selector} {al : Alts} {b q : Acts} {k : List Context} {o e : ℕ} → Inside body (choice s al (otherwise b) ▸ q) k o
       → o + size_selector s + 2 + size_alts al + (1 + 2 * count_labels al) ≡ e → Inside body b (in_otherwise q ∷ k) e
 
 -- pending calls at return locations: behind a call, or at the choice that the call's value is for

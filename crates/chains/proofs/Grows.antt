@@ -92,6 +92,7 @@ two-second ws a n = get_or-append-add ws (a ∷ n ∷ []) 1 0
 two-words : {slots : List ℕ} {u : Target} {a n i w : ℕ} {m : Mark} (ws : List ℕ) → ((v : ℕ) → Fixed slots (waiting u) v → n ≡ v) → At (known a ∷ waiting u ∷ []) i m → Fixed slots m w → get_or (ws ++ (a ∷ n ∷ [])) (length ws + i) 0 ≡ w
 two-words {a = a} {n = n} ws f at_here x = get_or-append-add ws (a ∷ n ∷ []) 0 0 ∙ known_is x
 two-words {a = a} {n = n} {i = i} {w = w} ws f (at_there e at_here) x = let z : i ≡ 1 = omega arith in ap (λ (k : ℕ). get_or (ws ++ (a ∷ n ∷ [])) (length ws + k) 0) z ∙ (two-second ws a n ∙ f w x)
+two-words {slots = slots} {u = u} {a = a} {n = n} {i = i} {w = w} {m = m} ws f (at_there e (at_there _ x28)) x = elim x28 [ ]
 
 target-of : {t u : Target} → waiting t ≡ waiting u → u ≡ t
 target-of h = cc
@@ -128,6 +129,7 @@ loose-not h (fixed_call e i) = omega arith
 
 loose-word : {i v : ℕ} {m : Mark} {slots : List ℕ} {u : Target} → number u < 4 → At (waiting u ∷ []) i m → Fixed slots m v → ⊥
 loose-word h at_here x = loose-not h x
+loose-word {i = i} {v = v} {m = m} {slots = slots} {u = u} h (at_there _ x17) x = elim x17 [ ]
 
 loose-ne : (slots : List ℕ) (t u : Target) → 0 < number u → number u < 4 → Waiting slots t → t ≡ u → ⊥
 unfolding Waiting number

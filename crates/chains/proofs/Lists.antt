@@ -237,6 +237,7 @@ module _ (f : ℕ → ℕ) (t : Target) where
       let W = patched ws f (places t (l + 1) ms) in
       subst (λ (k : ℕ). get_or (patched ws f (places t (l + 1) ms ++ cond (waits t m) (l ∷ []) [])) k 0 ≡ f k) z
       (ap (λ (s : List ℕ). get_or s (l + 1 + i) 0) (patched-append ws f (places t (l + 1) ms) (cond (waits t m) (l ∷ []) [])) ∙ (last-other W f l (l + 1 + i) (waits t m) (λ y. omega arith) ∙ patched-at ws (l + 1) a (omega arith)))
+  patched-at ws l {ms = []} x8 h = elim x8 [ ]
 
   pub patched-kept : (ws : List ℕ) (l : ℕ) {ms : List Mark} {i : ℕ} {n : Mark} → At ms i n → waits t n ≡ false → get_or (patched ws f (places t l ms)) (l + i) 0 ≡ get_or ws (l + i) 0
   unfolding places
@@ -250,6 +251,7 @@ module _ (f : ℕ → ℕ) (t : Target) where
       let W = patched ws f (places t (l + 1) ms) in
       subst (λ (k : ℕ). get_or (patched ws f (places t (l + 1) ms ++ cond (waits t m) (l ∷ []) [])) k 0 ≡ get_or ws k 0) z
       (ap (λ (s : List ℕ). get_or s (l + 1 + i) 0) (patched-append ws f (places t (l + 1) ms) (cond (waits t m) (l ∷ []) [])) ∙ (last-other W f l (l + 1 + i) (waits t m) (λ y. omega arith) ∙ patched-kept ws (l + 1) a h))
+  patched-kept ws l {ms = []} x7 h = elim x7 [ ]
 
 -- filling
 pub length-filled : (t : Target) (g : ℕ → ℕ) (ms : List Mark) → length (filled t g ms) ≡ length ms
@@ -275,6 +277,7 @@ pub at-filled : (t : Target) (g : ℕ → ℕ) (ms : List Mark) {i : ℕ} {m : M
 unfolding filled
 at-filled t g (n ∷ ms) at_here = filled-here t g n ms (waits t n) refl
 at-filled t g (n ∷ ms) (at_there e a) = filled-there e (at-filled t g ms a)
+at-filled t g [] {i = i} {m = m} x' = elim x' [ ]
 
 cond-waits : (t : Target) (g : ℕ) (m : Mark) (b : Bool) → waits t m ≡ b → waits t (cond b (known g) m) ≡ false
 unfolding waits
@@ -318,3 +321,4 @@ pub at-knowns : (ws : List ℕ) {i : ℕ} {m : Mark} → At (knowns ws) i m → 
 unfolding knowns
 at-knowns (w ∷ ws) at_here = refl
 at-knowns (w ∷ ws) {i = j} (at_there {i = i} e a) = at-knowns ws a ∙ ap known (let z : j ≡ suc i = omega arith in sym (ap (λ (k : ℕ). get_or (w ∷ ws) k 0) z))
+at-knowns [] {i = j} {m = m} x' = elim x' [ ]

@@ -23,7 +23,7 @@ use Rattle.collector.specs.declared.Row.{Row}
 use Rattle.collector.specs.declared.Spot.{Spot}
 use Rattle.collector.specs.declared.Valued.{Valued}
 use Rattle.declarations.specs.Decls.{Decl, entry_decls, of_entry, of_operation, of_rule, operation_decls, rule_decls}
-use Rattle.grammar.specs.Derived.{Took, Not, kind_of, SpellingIn, no_strings, no_spelling, a_spelling, CountIn, a_numeral, counted, EntryIn, an_entry, EntriesIn, last_entry, more_entries, GivesIn, gives_none, gives_some, TakesIn, takes_none, takes_some, OperationIn, an_operation, OperationsIn, last_operation, more_operations, ListedIn, listed_in}
+use Rattle.grammar.specs.Derived.{Took, Not, kind_of, SpellingIn, no_strings, no_spelling, one_spelling, CountIn, a_numeral, counted, EntryIn, one_entry, EntriesIn, last_entry, more_entries, GivesIn, gives_none, gives_some, TakesIn, takes_none, takes_some, OperationIn, one_operation, OperationsIn, last_operation, more_operations, ListedIn, listed_in}
 use Rattle.reader.proofs.SectionLaws.{adds_one, adds_then, count-is, kinds-then}
 use Rattle.reader.specs.Answers.{Here}
 use Rattle.reader.specs.Counting.{Adds, Kinds, NumberOf, count_of, one_more}
@@ -58,7 +58,7 @@ spelling-there {text} {at} strings {w} {r} s n k e =
       go : (ws' : List Word) (o : Option Word) → SpellingIn strings (words_at text at) ws' o → Is text 259 r ws' o
       go ws' none (no_strings f g) = let z : ◌≡◌ {A = ℕ} 0 1 = cc in absurd (omega arith)
       go ws' none (no_spelling f m g) = absurd (not-kind 259 n m k)
-      go ws' (some v) (a_spelling f t) = is_word (omega arith) n e t
+      go ws' (some v) (one_spelling f t) = is_word (omega arith) n e t
 
 pub spelling-none : {text : List ℕ} {at : ℕ} (strings : Bool) {w : WordAt} {r : Optional} → at ≤ length text → Here text at w → (w.kind ≡ 259 → ⊥) → IsNone at r
     → Reads (SpellingIn strings (words_at text at)) text at 259 r
@@ -67,7 +67,7 @@ spelling-none {text} {at} strings {w} {r} l n k e =
       go : (ws' : List Word) (o : Option Word) → SpellingIn strings (words_at text at) ws' o → Is text 259 r ws' o
       go ws' none (no_strings f g) = is_none text 259 e g
       go ws' none (no_spelling f m g) = is_none text 259 e g
-      go ws' (some v) (a_spelling f t) = absurd (k (took-kind n t))
+      go ws' (some v) (one_spelling f t) = absurd (k (took-kind n t))
 
 pub spelling-never : {text : List ℕ} {at : ℕ} (strings : Bool) {r : Optional} → at ≤ length text → strings ≡ false → IsNone at r
     → Reads (SpellingIn strings (words_at text at)) text at 259 r
@@ -75,7 +75,7 @@ spelling-never {text} {at} strings {r} l s e = reads-by (omega (arith, e.next)) 
   go : (ws' : List Word) (o : Option Word) → SpellingIn strings (words_at text at) ws' o → Is text 259 r ws' o
   go ws' none (no_strings f g) = is_none text 259 e g
   go ws' none (no_spelling f m g) = let z : ◌≡◌ {A = ℕ} 0 1 = cc in absurd (omega arith)
-  go ws' (some v) (a_spelling f t) = let z : ◌≡◌ {A = ℕ} 0 1 = cc in absurd (omega arith)
+  go ws' (some v) (one_spelling f t) = let z : ◌≡◌ {A = ℕ} 0 1 = cc in absurd (omega arith)
 
 pub gives-there : {text : List ℕ} {at : ℕ} {w t : WordAt} {r : Optional} → Here text at w → w.kind ≡ 256 → Here text w.next t → IsWord t r
     → Reads (GivesIn (words_at text at)) text at 257 r
@@ -191,13 +191,13 @@ entry_read {text} {rows} {rows'} {at} {count} {class} {v} {c} {strings} {w} {s} 
   spelt-here {ws₁} {ws₂} {o = o} t u = f.word ws₂ o (rw (took-rest h (omega arith) t) at u)
 
   values : (ws' : List Word) (e : Entry) → EntryIn strings v (words_at text at) ws' e → e.value ≡ n.value
-  values ws' e (an_entry t u q) = g.value ws' e.value (count-here t u q)
+  values ws' e (one_entry t u q) = g.value ws' e.value (count-here t u q)
 
   going : (ws' : List Word) (e : Entry) → EntryIn strings v (words_at text at) ws' e → Goes text at n.at ws'
-  going ws' e (an_entry t u q) = record { past = omega (arith, took-past h (omega arith) t, f.low, g.low); rest = g.rest ws' e.value (count-here t u q) }
+  going ws' e (one_entry t u q) = record { past = omega (arith, took-past h (omega arith) t, f.low, g.low); rest = g.rest ws' e.value (count-here t u q) }
 
   added : (ws' : List Word) (e : Entry) → EntryIn strings v (words_at text at) ws' e → Room rows count 1 → Appends text rows rows' count c (of_entry class e ∷ [])
-  added ws' e (an_entry t u q) r =
+  added ws' e (one_entry t u q) r =
       appended text (of_entry class e) p
       (decl-is text (entry_row class n.value w s.part) (of_entry class e) refl (g.value ws' e.value (count-here t u q)) (took-word h t)
       (spelt-here t u ∙ ap (λ (k : ℕ). option_in text k s.part) (sym (second-string class z))) (option-none text 257 (record { start = 0; len = 0 }) refl)) r
@@ -307,7 +307,7 @@ head_read {text} {at} {w} {p} {g} h f u = record {
 } where
   reading : {is : List ℕ} (ws' : List Word) (o : Operation) → OperationIn is (words_at text at) ws' o
       → HeadRead text at ws' o (record { name = record { start = w.start; len = w.len }; second = p.part; third = g.part; at = g.at })
-  reading ws' o (an_operation {ws₁} {ws₂} t a b i k) =
+  reading ws' o (one_operation {ws₁} {ws₂} t a b i k) =
       let a' : TakesIn (words_at text w.next) ws₂ o.takes = rw (took-rest h (omega arith) t) at a in
       let b' : GivesIn (words_at text p.at) ws' o.gives = rw (f.rest ws₂ o.takes a') at b in
       record {
@@ -319,10 +319,10 @@ head_read {text} {at} {w} {p} {g} h f u = record {
       }
 
 limit : {is : List ℕ} {ws ws' : List Word} {o : Operation} → OperationIn is ws ws' o → of_kind (kind_of o) is ≤ 255
-limit (an_operation t a b i k) = k
+limit (one_operation t a b i k) = k
 
 numbered : {is : List ℕ} {ws ws' : List Word} {o : Operation} → OperationIn is ws ws' o → o.instruction ≡ kind_of o + of_kind (kind_of o) is
-numbered (an_operation t a b i k) = i
+numbered (one_operation t a b i k) = i
 
 -- a word is there if its length is not 0
 given-part : (text : List ℕ) (k : ℕ) (p : Part) (o : Option Word) → o ≡ option_in text k p → given o ≡ not (eqb p.len 0)

@@ -4,13 +4,13 @@ use mathlib.Core.Path.{◌≡◌, ap, ◌∙◌}
 use Prim.Native.Nat.{ℕ}
 use Rattle.collector.proofs.Skips.{body, stays}
 use Rattle.collector.specs.Collecting.{LineIn, a_line, LinesIn, last_line, more_lines, ListIn, no_head, more_heads, to_semicolon}
-use Rattle.grammar.specs.Derived.{Took, gives_some, RuleIn, a_rule, RulesIn, last_rule, more_rules}
+use Rattle.grammar.specs.Derived.{Took, gives_some, RuleIn, one_rule, RulesIn, last_rule, more_rules}
 use Rattle.syntax.specs.Reading.{peek}
 use Rattle.syntax.specs.Written.{Rule}
 use Rattle.words.specs.Words.{Word}
 
 rule-line : {ws ws' : List Word} {r : Rule} → RuleIn ws ws' r → LineIn ws ws' r
-rule-line (a_rule t u d b e) = a_line t u (body d b e)
+rule-line (one_rule t u d b e) = a_line t u (body d b e)
 
 pub rules-lines : {ws ws' : List Word} {rs : List Rule} → RulesIn ws ws' rs → LinesIn ws ws' rs
 rules-lines (last_rule q m) = last_line (rule-line q) m

@@ -12,7 +12,7 @@ use Rattle.collector.proofs.Lines.{rules-lines}
 use Rattle.collector.proofs.Rows.{appends-none, appends-then}
 use Rattle.collector.proofs.Skips.{entries-behind}
 use Rattle.collector.proofs.Words.{next-kind, not-kind, option-none, reference-start, start-again, took-at, took-kind, took-past, took-rest, took-word}
-use Rattle.collector.specs.Collecting.{ASection, AllStand, all_more, all_none, Appends, BothIn, CollectedFor, Collects, ErrorsIn, Goes, InputsIn, Keeps, LinedIn, lined, LinesIn, MechanismIn, OperatorsSectionIn, OutputsIn, Puts, Room, RowsFor, Skips, SomeEntries, SomeOperations, SomeRules, SomeSections, Stands, TokensIn, TypeIn, a_mechanism, a_type, alone, doubled, some_both, some_errors, some_inputs, some_operators, some_outputs}
+use Rattle.collector.specs.Collecting.{ASection, AllStand, all_more, all_none, Appends, BothIn, CollectedFor, Collects, ErrorsIn, Goes, InputsIn, Keeps, LinedIn, lined, LinesIn, MechanismIn, OperatorsSectionIn, OutputsIn, Puts, Room, RowsFor, Skips, SomeEntries, SomeOperations, SomeRules, SomeSections, Stands, TokensIn, TypeIn, a_mechanism, a_type, alone, doubled, some_both, some_errors, some_inputs, some_operators_lem, some_outputs}
 use Rattle.collector.specs.declared.Entries.{Entries}
 use Rattle.collector.specs.declared.Operated.{Operated}
 use Rattle.collector.specs.declared.Row.{Row}
@@ -21,7 +21,7 @@ use Rattle.collector.specs.declared.Spot.{Spot}
 use Rattle.collector.specs.declared.State.{State}
 use Rattle.declarations.proofs.Whole.{length-section, length-sections}
 use Rattle.declarations.specs.Decls.{Decl, decls_of, entries_of, of_operators, of_type, place_of, rule_decls, section_decls, sections_decls}
-use Rattle.grammar.specs.Derived.{Took, ListedIn, OperationsIn, OperatorsIn, an_operator, last_operator, more_operators, SectionIn, inputs_in, both_in, outputs_in, errors_in, values_in, operations_in, operators_in, SectionsIn, no_section, more_sections, RulesIn, ProgramIn, a_program, names_in, names_in_all}
+use Rattle.grammar.specs.Derived.{Took, ListedIn, OperationsIn, OperatorsIn, one_operator, last_operator, more_operators, SectionIn, inputs_in, both_in, outputs_in, errors_in, values_in, operations_in, operators_in, SectionsIn, no_section, more_sections, RulesIn, ProgramIn, a_program, names_in, names_in_all}
 use Rattle.reader.proofs.Laws.{apart}
 use Rattle.reader.proofs.SectionLaws.{kinds-then, next-max}
 use Rattle.reader.specs.Answers.{Here}
@@ -243,8 +243,8 @@ abbrev operators_row : WordAt → ℕ → Row
 operators_row w v = record { class = 600; value = v; name = record { start = w.start; len = w.len }; second = record { start = 0; len = 0 }; third = record { start = 0; len = 0 } }
 
 first-place : {text : List ℕ} {at : ℕ} {w : WordAt} {ws' : List Word} {os : List Operator} → Here text at w → OperatorsIn (words_at text at) ws' os → place_of os ≡ w.start
-first-place h (last_operator (an_operator r d e low high s t) q) = reference-start h r
-first-place h (more_operators (an_operator r d e low high s t) m q) = reference-start h r
+first-place h (last_operator (one_operator r d e low high s t) q) = reference-start h r
+first-place h (more_operators (one_operator r d e low high s t) m q) = reference-start h r
 
 pub operators-read : {text rows rows' : List ℕ} {at n c to : ℕ} {t : State} {w colon first : WordAt} → Here text at w → Here text w.next colon → Here text colon.next first
     → Puts rows rows' n c (operators_row w first.start) → Skips text colon.next to → ASection OperatorsSectionIn text rows rows' at n t (record { at = to; count = c; state = t })
@@ -261,20 +261,20 @@ operators-read {text} {rows} {rows'} {at} {n} {c} {to} {t} {w} {colon} {first} h
   inner a b q = rw (took-rest m (omega arith) (took-at (took-rest h (omega arith) a) b)) at q
 
   keeping : (s : Sofar) (ws' : List Word) (x : Section) → OperatorsSectionIn s (words_at text at) ws' x → Keeps s t → Keeps (after s x) t
-  keeping s ws' (operators v os) (some_operators a b q) z = record { input = z.input; output = z.output; error = z.error; kinds = z.kinds }
+  keeping s ws' (operators v os) (some_operators_lem a b q) z = record { input = z.input; output = z.output; error = z.error; kinds = z.kinds }
 
   going : (s : Sofar) (ws' : List Word) (x : Section) → OperatorsSectionIn s (words_at text at) ws' x → Keeps s t → Goes text at to ws'
-  going s ws' (operators v os) (some_operators a b q) z = record { past = omega (arith, took-past h (omega arith) a, m.onto, k.low); rest = entries-behind k refl (inner a b q) }
+  going s ws' (operators v os) (some_operators_lem a b q) z = record { past = omega (arith, took-past h (omega arith) a, m.onto, k.low); rest = entries-behind k refl (inner a b q) }
 
   added : (s : Sofar) (ws' : List Word) (x : Section) → OperatorsSectionIn s (words_at text at) ws' x → Keeps s t → Room rows n (names_in x)
       → Appends text rows rows' n c (section_decls n x)
-  added s ws' (operators v os) (some_operators a b q) z r =
+  added s ws' (operators v os) (some_operators_lem a b q) z r =
       appended text (of_operators v os) p
       (decl-is text (operators_row w first.start) (of_operators v os) refl (first-place f (inner a b q)) (took-word h a) (option-none text (second_kind 600) (record { start = 0; len = 0 }) refl) (option-none text 257 (record { start = 0; len = 0 }) refl))
       r
 
   standing : (s : Sofar) (ws' : List Word) (x : Section) → OperatorsSectionIn s (words_at text at) ws' x → Stands text x
-  standing s ws' (operators v os) (some_operators a b q) =
+  standing s ws' (operators v os) (some_operators_lem a b q) =
       record { left = ws'; again = subst (λ (ws : List Word). OperatorsIn ws ws' os) (sym (ap (λ (i : ℕ). words_at text i) (first-place f (inner a b q)) ∙ start-again f)) (inner a b q) }
 
 -- Which section
@@ -341,7 +341,7 @@ section-operators {text} {at = at} {w = w} h e u = behind h inner u where
   inner s ws' (errors es) (errors_in a q) = absurd (differ 257 262 h e a tt)
   inner s ws' (values v es) (values_in a b q) = absurd (differ 257 263 h e a tt)
   inner s ws' (operations os) (operations_in a b d q) = absurd (differ 257 264 h e a tt)
-  inner s ws' (operators v os) (operators_in a l b d q) = some_operators (took-at (took-rest h (omega arith) a) b) d q
+  inner s ws' (operators v os) (operators_in a l b d q) = some_operators_lem (took-at (took-rest h (omega arith) a) b) d q
 
 pub section-mechanism : {text rows rows' : List ℕ} {at n : ℕ} {t : State} {w : WordAt} {r : Sectioned} → Here text at w
     → (w.kind ≡ 260 → ⊥) → (w.kind ≡ 261 → ⊥) → (w.kind ≡ 262 → ⊥) → (w.kind ≡ 263 → ⊥) → (w.kind ≡ 257 → ⊥)

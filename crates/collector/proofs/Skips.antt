@@ -9,7 +9,7 @@ use lib.Dec.{eqb}
 use lib.ListN.{length}
 use borrow.Author.Tests.{ne_eqb, eq-eqb}
 use Rattle.collector.specs.Collecting.{to_semicolon, Skips}
-use Rattle.grammar.specs.Derived.{Took, Reference, by_name, by_string, ConstantIn, no_constant, a_constant, ValueIn, no_value, a_value, PlainIn, named_in, any_in, emit_in, error_in, exit_in, call_in, give_in, ranked_in, SideIn, left_in, right_in, OperatorIn, an_operator, OperatorsIn, last_operator, more_operators, SelectorIn, token_in, rule_in, operation_in, LabelsIn, last_label, more_labels, ActIn, plain_in, cycle_in, choice_in, ActsIn, none_in, more_in, AltsIn, other_in, last_in, next_in}
+use Rattle.grammar.specs.Derived.{Took, Reference, by_name, by_string, ConstantIn, no_constant, one_constant, ValueIn, no_value, one_value, PlainIn, named_in, any_in, emit_in, error_in, exit_in, call_in, give_in, ranked_in, SideIn, left_in, right_in, OperatorIn, one_operator, OperatorsIn, last_operator, more_operators, SelectorIn, token_in, rule_inside, operation_inside, LabelsIn, last_label, more_labels, ActIn, plain_in, cycle_in, choice_in, ActsIn, none_in, more_in, AltsIn, other_in, last_in, next_in}
 use Rattle.reader.specs.Answers.{Here}
 use Rattle.scanner.specs.Next.{as_word}
 use Rattle.scanner.specs.declared.WordAt.{WordAt}
@@ -38,11 +38,11 @@ reference (by_string t) = passed 259 refl t
 
 constant : {ws ws' : List Word} {c : Option Constant} → ConstantIn ws ws' c → Same ws ws'
 constant (no_constant n e) = none_read e
-constant (a_constant p r q) = passed 40 refl p ∙ reference r ∙ passed 41 refl q
+constant (one_constant p r q) = passed 40 refl p ∙ reference r ∙ passed 41 refl q
 
 given-value : {ws ws' : List Word} {v : Option Word} → ValueIn ws ws' v → Same ws ws'
 given-value (no_value m n e) = none_read e
-given-value (a_value r) = reference r
+given-value (one_value r) = reference r
 
 plain-action : {ws ws' : List Word} {a : Plain} → PlainIn ws ws' a → Same ws ws'
 plain-action (named_in r c) = reference r ∙ constant c
@@ -56,8 +56,8 @@ plain-action (ranked_in s w t o) = passed 94 refl s ∙ passed 257 refl w ∙ pa
 
 selector : {ws ws' : List Word} {s : Selector} → SelectorIn ws ws' s → Same ws ws'
 selector (token_in m n e) = none_read e
-selector (rule_in t r) = passed 64 refl t ∙ passed 257 refl r
-selector (operation_in t c) = passed 257 refl t ∙ constant c
+selector (rule_inside t r) = passed 64 refl t ∙ passed 257 refl r
+selector (operation_inside t c) = passed 257 refl t ∙ constant c
 
 labels : {ws ws' ls : List Word} → LabelsIn ws ws' ls → Same ws ws'
 labels (last_label r n) = reference r
@@ -88,7 +88,7 @@ side (left_in t e) = passed 257 refl t
 side (right_in t e) = passed 257 refl t
 
 operator : {ws ws' : List Word} {o : Operator} → OperatorIn ws ws' o → Same ws ws'
-operator (an_operator r d e low high s t) = reference r ∙ passed 258 refl d ∙ side s ∙ reference t
+operator (one_operator r d e low high s t) = reference r ∙ passed 258 refl d ∙ side s ∙ reference t
 
 pub entries-behind : {text : List ℕ} {at r : ℕ} {ws ws' : List Word} {os : List Operator} → Skips text at r → Same (words_at text at) ws → OperatorsIn ws ws' os → ws' ≡ words_at text r
 entries-behind {ws' = ws'} k e (last_operator {semi = semi} a t) = k.rest semi ws' (rw (e, operator a, stays t) t)

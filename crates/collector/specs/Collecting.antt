@@ -214,7 +214,7 @@ pub data MechanismIn (s : Sofar) (ws ws' : List Word) : Section → Type 0 where
       → MechanismIn s ws ws' (operations os)
 
 pub data OperatorsSectionIn (s : Sofar) (ws ws' : List Word) : Section → Type 0 where
-  some_operators : {w colon : Word} {ws₁ ws₂ : List Word} {os : List Operator} → Took 257 ws w ws₁ → Took 58 ws₁ colon ws₂ → OperatorsIn ws₂ ws' os
+  some_operators_lem : {w colon : Word} {ws₁ ws₂ : List Word} {os : List Operator} → Took 257 ws w ws₁ → Took 58 ws₁ colon ws₂ → OperatorsIn ws₂ ws' os
       → OperatorsSectionIn s ws ws' (operators w os)
 
 -- entries of operators stand at their place in the text

@@ -20,7 +20,7 @@ use Rattle.chains.proofs.Lists.{at_in, places-append, places-none, places-knowns
 use Rattle.chains.proofs.Grows.{grown-none, grown-join, grown-known, grown-loose, grown-fill, chain-fill, chain-grown, chain-append}
 use Rattle.chains.proofs.Solves.{length-selector_marks, length-marks_alts}
 use Rattle.emitter.specs.Words.{words, puts, cut}
-use Rattle.emitter.specs.Stands.{IsSel, sel_token, sel_rule, sel_op, sel_op_with, Labels, lab_none, lab_more, IsPlain, is_match, is_any, is_emit, is_error, is_exit, is_called, is_back, is_give, is_update, is_update_with, Is, is_plain, is_cycle, is_choice, IsAlts, is_nil, is_alt, IsOther, is_stop, is_other, IsAll}
+use Rattle.emitter.specs.Stands.{IsSel, sel_token, sel_rule, sel_op, sel_op_with, Labels, lab_none, lab_more, IsPlain, is_match, is_any, is_emit, is_error, is_exit, is_called, is_back, is_give, is_update, is_update_with, Is, is_plain, is_cycle, is_a_choice, IsAlts, is_nil, is_alt, IsOther, is_stop, is_other, IsAll}
 use Rattle.emitter.specs.Heads.{labels_at, chooses, ins_of, sel_of, firsts, words_in, start_of, sel_at, called_at, anchor, behind}
 use Rattle.emitter.specs.Ends.{Entry, entries, Ends, heads, ends, row_length, row_words}
 use Rattle.emitter.specs.Work.{ItemDone, PatchDone, Extended, Emitted, Done, ListDone, ActDone, TableDone, AltsExtended, AltsEmitted, AltsDone, OtherDone, AbsentDone}
@@ -259,7 +259,7 @@ pub choice-of : {cs : List ℕ} {n p e : ℕ} {a : Act} → Is cs n p e a → ch
 unfolding chooses
 choice-of (is_plain a) z = let i = plain-not a in absurd (omega arith)
 choice-of (is_cycle h t b) z = let i = ap chooses t in absurd (omega arith)
-choice-of (is_choice {f = f} {g = g} {s = s} {q = q} {o = o} a b c d) z = record { s = s; q = q; o = o; f = f; g = g; sel = a; alts = b; ends = c; need = d; eq = refl }
+choice-of (is_a_choice {f = f} {g = g} {s = s} {q = q} {o = o} a b c d) z = record { s = s; q = q; o = o; f = f; g = g; sel = a; alts = b; ends = c; need = d; eq = refl }
 
 -- the selector's words and cells
 pub record Selects (w : Item) (k p f : ℕ) (s : Selector) (ws : List ℕ) : Type 0 where

@@ -18,7 +18,7 @@ use Rattle.chains.proofs.Lists.{length-knowns, length-filled, at_in}
 use Rattle.chains.proofs.Grows.{chain-low, grown-none, grown-join, grown-known, grown-open, grown-placed, grown-close}
 use Rattle.chains.proofs.Solves.{length-marks_all, length-plain_marks}
 use Rattle.emitter.specs.Words.{words, puts, cut}
-use Rattle.emitter.specs.Stands.{IsSel, sel_token, sel_rule, sel_op, sel_op_with, IsPlain, is_match, is_any, is_emit, is_error, is_exit, is_called, is_back, is_give, is_update, is_update_with, Is, is_plain, is_cycle, is_choice, IsAll, is_done, is_cons}
+use Rattle.emitter.specs.Stands.{IsSel, sel_token, sel_rule, sel_op, sel_op_with, IsPlain, is_match, is_any, is_emit, is_error, is_exit, is_called, is_back, is_give, is_update, is_update_with, Is, is_plain, is_cycle, is_a_choice, IsAll, is_done, is_cons}
 use Rattle.emitter.specs.Heads.{chooses, plain_of, firsts, words_in, start_of, plain_at, called, called_at, anchor}
 use Rattle.emitter.specs.Work.{ItemDone, PatchDone, Emitted, Done, ListDone, ActDone, CycleDone}
 use Rattle.emitter.specs.declared.Item.{Item}
@@ -60,7 +60,7 @@ plain-tag (is_update_with h l t v f u) = (omega arith, λ z. omega arith)
 pub tag_of : {cs : List ℕ} {n p e : ℕ} {a : Act} → Is cs n p e a → 0 < get_or cs p 0
 tag_of (is_plain a) = (plain-tag a).0
 tag_of (is_cycle h t b) = omega arith
-tag_of (is_choice s q o w) = let t = sel-tag s in omega arith
+tag_of (is_a_choice s q o w) = let t = sel-tag s in omega arith
 
 pub record Cons (cs : List ℕ) (n p e : ℕ) (q : Acts) : Type 0 where
   pub a : Act
@@ -93,7 +93,7 @@ plain-exit (is_update_with h l t v f u) z = absurd (omega arith)
 pub exit-of : {cs : List ℕ} {n p e : ℕ} {a : Act} → Is cs n p e a → get_or cs p 0 ≡ 1 → (a ≡ plain exit) × (e ≡ p + 1)
 exit-of (is_plain a) z = let x = plain-exit a z in (ap (λ (p : Plain). plain p) x.0, x.1)
 exit-of (is_cycle h t q) z = absurd (omega arith)
-exit-of (is_choice s q o w) z = let t = sel-tag s in absurd (omega arith)
+exit-of (is_a_choice s q o w) z = let t = sel-tag s in absurd (omega arith)
 
 pub record Body (cs : List ℕ) (n p e : ℕ) (a : Act) : Type 0 where
   pub b : Acts
@@ -103,7 +103,7 @@ pub record Body (cs : List ℕ) (n p e : ℕ) (a : Act) : Type 0 where
 pub cycle-of : {cs : List ℕ} {n p e : ℕ} {a : Act} → Is cs n p e a → get_or cs p 0 ≡ 2 → Body cs n p e a
 cycle-of (is_plain a) z = absurd ((plain-tag a).1 z)
 cycle-of (is_cycle {b = b} h t q) z = record { b = b; acts = q; eq = refl }
-cycle-of (is_choice s q o w) z = let t = sel-tag s in absurd (omega arith)
+cycle-of (is_a_choice s q o w) z = let t = sel-tag s in absurd (omega arith)
 
 -- a plain action's words and cells are those that its cells tell
 pub record Plainly (w : Item) (p e : ℕ) (ws : List ℕ) : Type 0 where
@@ -335,7 +335,7 @@ module _ (cs : List ℕ) (n p e : ℕ) (old new : List ℕ) (at x : ℕ) (slots 
         emitted = plain-emits cs n p e old new at x slots more most m i f (d.wrote ∙ ap (λ (t : List ℕ). puts old at t) v.words);
       }
   plain-is-done (is_cycle h t b) f g k = absurd (g t)
-  plain-is-done (is_choice s q o w) f g k = absurd (k (sel-chooses s))
+  plain-is-done (is_a_choice s q o w) f g k = absurd (k (sel-chooses s))
 
 pub plain_done : (cs : List ℕ) (p : ℕ) (old new : List ℕ) (at x : ℕ) (slots more : List ℕ) (p' at' x' : ℕ) → (get_or cs p 0 ≡ 1 → ⊥) → (get_or cs p 0 ≡ 2 → ⊥) → (chooses (get_or cs p 0) ≡ 1 → ⊥) → ItemDone cs (plain_at cs slots p) p at old new p' at'
     → more ≡ called_at cs p 8 slots (at + 1) → x' ≡ x → ActDone cs p old new at x slots more p' at' x'

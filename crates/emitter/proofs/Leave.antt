@@ -12,7 +12,7 @@ use Rattle.base.specs.Tree.{choice, nil, alternative, otherwise}
 use Rattle.program.specs.Program.{Plain, emit, exit, call, Selector, by_token, by_rule, by_operation, by_operation_with, Act, Acts, Alts, Other}
 use Rattle.program.specs.Table.{table}
 use Rattle.cells.specs.Cells.{absent_cell}
-use Rattle.emitter.specs.Stands.{IsSel, sel_token, sel_rule, sel_op, sel_op_with, Labels, IsPlain, is_match, is_any, is_emit, is_error, is_exit, is_called, is_back, is_give, is_update, is_update_with, Is, is_plain, is_cycle, is_choice, IsAlts, is_nil, is_alt, IsOther, is_stop, is_other, IsAll, is_done, is_cons}
+use Rattle.emitter.specs.Stands.{IsSel, sel_token, sel_rule, sel_op, sel_op_with, Labels, IsPlain, is_match, is_any, is_emit, is_error, is_exit, is_called, is_back, is_give, is_update, is_update_with, Is, is_plain, is_cycle, is_a_choice, IsAlts, is_nil, is_alt, IsOther, is_stop, is_other, IsAll, is_done, is_cons}
 use Rattle.emitter.specs.Heads.{labels_in, labels_at}
 use Rattle.emitter.proofs.Laws.{at_in}
 
@@ -38,7 +38,7 @@ mutual
   pub is-in : {cs : List ℕ} {n p e : ℕ} {a : Act} → Is cs n p e a → (p < e) × (e ≤ length cs)
   is-in (is_plain a) = plain_in a
   is-in (is_cycle h t b) = let i = all_in b in omega arith
-  is-in (is_choice s q o w) = let i = sel-in s in let j = alts-in q in let k = other_in o in omega arith
+  is-in (is_a_choice s q o w) = let i = sel-in s in let j = alts-in q in let k = other_in o in omega arith
 
   pub alts-in : {cs : List ℕ} {n p e : ℕ} {q : Alts} → IsAlts cs n p e q → p ≤ e
   alts-in (is_nil h) = omega arith

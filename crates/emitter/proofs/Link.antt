@@ -9,7 +9,7 @@ use Rattle.base.specs.Tree.{plain, cycle, choice, done, ◌▸◌, nil, alternat
 use Rattle.program.specs.Program.{Plain, match, any, emit, error, exit, call, back, give, update, update_with, Selector, by_token, by_rule, by_operation, by_operation_with, Act, Acts, Alts, Other, Rule, rule_of, body_of}
 use Rattle.program.specs.Accepted.{OkPlain, OkSelector, Ok, Oks, OkAlts, OkOther}
 use Rattle.cells.specs.Cells.{plain_cells, selector_cells, absent_cell, act_cells, acts_cells, alts_cells, other_cells, rules_cells}
-use Rattle.emitter.specs.Stands.{IsSel, sel_token, sel_rule, sel_op, sel_op_with, Labels, lab_none, lab_more, IsPlain, is_match, is_any, is_emit, is_error, is_exit, is_called, is_back, is_give, is_update, is_update_with, Is, is_plain, is_cycle, is_choice, IsAlts, is_nil, is_alt, IsOther, is_stop, is_other, IsAll, is_done, is_cons}
+use Rattle.emitter.specs.Stands.{IsSel, sel_token, sel_rule, sel_op, sel_op_with, Labels, lab_none, lab_more, IsPlain, is_match, is_any, is_emit, is_error, is_exit, is_called, is_back, is_give, is_update, is_update_with, Is, is_plain, is_cycle, is_a_choice, IsAlts, is_nil, is_alt, IsOther, is_stop, is_other, IsAll, is_done, is_cons}
 use Rattle.emitter.specs.Emitted.{FewLabels, FewLabelsAll, FewLabelsAlts, FewLabelsOther, CellsOf, sort_of, IsRules, rules_none, rules_more}
 
 -- the cells from p on, taken one or two at a time
@@ -117,7 +117,7 @@ module _ (prog : List Rule) (cs tail : List ℕ) where
         let x = sel-stands s p (alts_cells q (other_cells o (absent_cell s) k)) e h.0 in
         let y = alts-stand q x.e (other_cells o (absent_cell s) k) v c x.rest h.1 l.0 in
         let z = other-stands o s y.e k v c y.rest h.2 l.1 in
-        record { e = z.e; stands = is_choice x.stands y.stands z.stands h.3; rest = z.rest }
+        record { e = z.e; stands = is_a_choice x.stands y.stands z.stands h.3; rest = z.rest }
 
     acts-stand : (q : Acts) (p : ℕ) (k : List ℕ) (v c : Bool) → drop p cs ≡ acts_cells q k ++ tail → Oks prog q v c → FewLabelsAll q → ActsStood cs (length prog) p q (k ++ tail)
     acts-stand done p k v c e h l = let o = one cs p 0 (k ++ tail) e in record { e = p + 1; stands = is_done refl o.there o.cell; rest = o.rest }

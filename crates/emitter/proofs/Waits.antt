@@ -13,7 +13,7 @@ use Rattle.program.specs.Table.{size_alts, count_labels, table_words, absent_wor
 use Rattle.chains.specs.Marks.{Target, outside, end, head, table, rule, Mark, known, waiting, waits, number, knowns, filled, close, shut, plain_marks, selector_marks, marks, marks_all, marks_alts, marks_other, marks_rule, marks_rules}
 use Rattle.chains.specs.Chain.{At, at_here, at_there, places}
 use Rattle.chains.proofs.Lists.{at_in, at_split, Behind, at-filled, FilledAt, as-was, now-known, at-knowns, places-none, ne-waits}
-use Rattle.emitter.specs.Stands.{IsSel, sel_token, sel_rule, sel_op, sel_op_with, IsPlain, is_match, is_any, is_emit, is_error, is_exit, is_called, is_back, is_give, is_update, is_update_with, Is, is_plain, is_cycle, is_choice, IsAlts, is_nil, is_alt, IsOther, is_stop, is_other, IsAll, is_done, is_cons}
+use Rattle.emitter.specs.Stands.{IsSel, sel_token, sel_rule, sel_op, sel_op_with, IsPlain, is_match, is_any, is_emit, is_error, is_exit, is_called, is_back, is_give, is_update, is_update_with, Is, is_plain, is_cycle, is_a_choice, IsAlts, is_nil, is_alt, IsOther, is_stop, is_other, IsAll, is_done, is_cons}
 use Rattle.emitter.specs.Emitted.{IsRules, rules_none, rules_more}
 use Rattle.emitter.proofs.Tables.{Closed}
 
@@ -114,7 +114,7 @@ module _ {cs : List ℕ} {n : ℕ} where
     pub act-only : {p e : ℕ} {a : Act} → Is cs n p e a → Only (Allowed n) (marks a)
     act-only (is_plain h) = plain-only h
     act-only (is_cycle h t q) = only-filled outside (λ k. k + 1) (λ t h a. a) (only-append (all-only q) (only-known (only-known only_none)))
-    act-only (is_choice {s = s} {q = q} h x y w) = only-append (sel-only h) (only-known (only-known (choice-only (count_labels q) (table_words 1 q) (alts-only x) (other-only (absent_words s (first_label q) (size_alts q + (1 + 2 * count_labels q + 3))) y))))
+    act-only (is_a_choice {s = s} {q = q} h x y w) = only-append (sel-only h) (only-known (only-known (choice-only (count_labels q) (table_words 1 q) (alts-only x) (other-only (absent_words s (first_label q) (size_alts q + (1 + 2 * count_labels q + 3))) y))))
 
     pub other-only : {g e : ℕ} {s : Selector} {o : Other} (vs : List ℕ) → IsOther cs n s g e o → Only (Allowed n) (marks_other o vs)
     other-only vs (is_stop h l t) = only-knowns vs

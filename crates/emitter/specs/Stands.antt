@@ -32,7 +32,7 @@ mutual
   pub data Is (cs : List ℕ) (n : ℕ) : ℕ → ℕ → Act → Type 0 where
     is_plain : {p e : ℕ} {a : Plain} → IsPlain cs n p e a → Is cs n p e (plain a)
     is_cycle : {p e : ℕ} {b : Acts} → p < length cs → get_or cs p 0 ≡ 2 → IsAll cs n (p + 1) e b → Is cs n p e (cycle b)
-    is_choice : {p e f g : ℕ} {s : Selector} {q : Alts} {o : Other} → IsSel cs n p f s → IsAlts cs n f g q → IsOther cs n s g e o → NeedsLabel s o q → Is cs n p e (choice s q o)
+    is_a_choice : {p e f g : ℕ} {s : Selector} {q : Alts} {o : Other} → IsSel cs n p f s → IsAlts cs n f g q → IsOther cs n s g e o → NeedsLabel s o q → Is cs n p e (choice s q o)
 
   pub data IsAlts (cs : List ℕ) (n : ℕ) : ℕ → ℕ → Alts → Type 0 where
     is_nil : {p e : ℕ} → e ≡ p → IsAlts cs n p e nil

@@ -57,13 +57,13 @@ give_meets v u e = rw (← e) meets-give
 call-meets : (r s : ℕ) → r ≡ s → Meets (to_call r) (calls s)
 call-meets r s e = rw (← e) meets_call
 
-is_give : (P : Way → Type 0) (v : ℕ) (g : Goal) → is_give v g ≡ true → P (to_give v) → Found P g
+is_give_lem : (P : Way → Type 0) (v : ℕ) (g : Goal) → is_give v g ≡ true → P (to_give v) → Found P g
 unfolding is_give
-is_give P v end e p = never e
-is_give P v leave e p = never e
-is_give P v return e p = found (to_give v) meets_any p
-is_give P v (gives u) e p = found (to_give v) (give_meets v u (eqb-true v u e)) p
-is_give P v (calls r) e p = never e
+is_give_lem P v end e p = never e
+is_give_lem P v leave e p = never e
+is_give_lem P v return e p = found (to_give v) meets_any p
+is_give_lem P v (gives u) e p = found (to_give v) (give_meets v u (eqb-true v u e)) p
+is_give_lem P v (calls r) e p = never e
 
 is_called : (P : Way → Type 0) (r : ℕ) (g : Goal) → is_call r g ≡ true → P (to_call r) → Found P g
 unfolding is_call
@@ -93,15 +93,31 @@ is-far meets_call e = far_call
 
 pub to_end_lem : (P : Way → Type 0) → Found P end → P to_end
 to_end_lem P (found to_end meets-end p) = p
+to_end_lem P (found to_exit x'' p) = elim x'' [ ]
+to_end_lem P (found to_back x3 p) = elim x3 [ ]
+to_end_lem P (found (to_give _) x5 p) = elim x5 [ ]
+to_end_lem P (found (to_call _) x6 p) = elim x6 [ ]
 
 pub to-exit : (P : Way → Type 0) → Found P leave → P to_exit
 to-exit P (found to_exit meets-exit p) = p
+to-exit P (found to_end x'' p) = elim x'' [ ]
+to-exit P (found to_back x3 p) = elim x3 [ ]
+to-exit P (found (to_give _) x5 p) = elim x5 [ ]
+to-exit P (found (to_call _) x6 p) = elim x6 [ ]
 
 to-give : (P : Way → Type 0) (v : ℕ) → Found P (gives v) → P (to_give v)
 to-give P v (found (to_give u) meets-give p) = p
+to-give P v (found to_end x'' p) = elim x'' [ ]
+to-give P v (found to_exit x3 p) = elim x3 [ ]
+to-give P v (found to_back x4 p) = elim x4 [ ]
+to-give P v (found (to_call _) x6 p) = elim x6 [ ]
 
 pub to-call : (P : Way → Type 0) (r : ℕ) → Found P (calls r) → P (to_call r)
 to-call P r (found (to_call s) meets_call p) = p
+to-call P r (found to_end x'' p) = elim x'' [ ]
+to-call P r (found to_exit x3 p) = elim x3 [ ]
+to-call P r (found to_back x4 p) = elim x4 [ ]
+to-call P r (found (to_give _) x6 p) = elim x6 [ ]
 
 -- the same goal, by another kind of path
 onto : {P Q : Way → Type 0} {g : Goal} → ((w : Way) → Meets w g → P w → Q w) → Found P g → Found Q g
@@ -146,7 +162,7 @@ module _ (prog : List Rule) (k : Known) (h : Sound prog k) where
     | inr q ↦ let x = and (is_end g) (k.passed r) q in is-end _ g x.0 (path_call (h.of-passed r x.1))
   ]
   plain-sound back g e = is-return _ g e path_back
-  plain-sound (give v) g e = is_give _ v g e path_give
+  plain-sound (give v) g e = is_give_lem _ v g e path_give
   plain-sound (update op) g e = is-end _ g e path_update
   plain-sound (update_with op v) g e = is-end _ g e path_update_with
 
@@ -253,6 +269,9 @@ module _ (prog : List Rule) (k : Known) (h : Sound prog k) where
       returned : Found (λ w. Paths prog w (body_of prog r)) return → Passed prog r
       returned (found to_back meets-back p) = passed l by_back p
       returned (found (to_give v) meets_any p) = passed l by_give p
+      returned (found to_end x'' p) = elim x'' [ ]
+      returned (found to_exit x3 p) = elim x3 [ ]
+      returned (found (to_call _) x5 p) = elim x5 [ ]
 
   pub gives-sound : (r v : ℕ) → r < length prog → quiets k (body_of prog r) (gives v) ≡ true → Gives prog r v
   gives-sound r v l e = paths.gives l (to-give _ v (sounds (body_of prog r) (gives v) e))

@@ -46,6 +46,7 @@ none-missing (g ∷ fs) es e (mathlib.Core.List.Memᴰ.tail i) =
     split (within es g)
     (λ d. let z : 0 + missing fs es ≡ 0 = rw d at e in none-missing fs es (omega arith) i)
     (λ d. let z : 1 + missing fs es ≡ 0 = rw d at e in absurd (omega arith))
+none-missing [] es e {f = f} x'' = elim x'' [ ]
 
 pub one_more : (a b : Bool) → cond (a || b) 0 1 ≤ cond b 0 1
 one_more true true = omega arith
@@ -66,6 +67,7 @@ cons-missing (f ∷ fs) es {e} (mathlib.Core.List.Memᴰ.head p) h =
     let y : within es f ≡ false = rw p at h in
     rw (x, y) (omega (arith, fewer-missing fs es e))
 cons-missing (f ∷ fs) es {e} (mathlib.Core.List.Memᴰ.tail i) h = omega (arith, one_more (same e f) (within es f), cons-missing fs es i h)
+cons-missing [] es {e = e} x'' h = elim x'' [ ]
 
 pub missing-le : (fs es : List Fact) → missing fs es ≤ length fs
 unfolding missing
@@ -83,6 +85,7 @@ find_none t (g ∷ fs) e (mathlib.Core.List.Memᴰ.tail i) h =
     split (t g)
     (λ d. let z : some g ≡ none = rw d at e in let y : ◌≡◌ {A = Bool} false true = cc in never y)
     (λ d. find_none t fs (rw d at e) i h)
+find_none t [] e {f = f} x3 h = elim x3 [ ]
 
 find-some : (t : Fact → Bool) (fs : List Fact) (f : Fact) → find t fs ≡ some f → Memᴰ f fs × (t f ≡ true)
 unfolding find
@@ -171,9 +174,9 @@ module _ (prog : List Rule) where
 
 -- A value that is returned stands after a `>>`
 
-is_give : (v u : ℕ) → is_give v (gives u) ≡ true → Memᴰ u (v ∷ [])
+is_give_lem : (v u : ℕ) → is_give v (gives u) ≡ true → Memᴰ u (v ∷ [])
 unfolding is_give
-is_give v u e = mathlib.Core.List.Memᴰ.head (sym (eqb-true v u e))
+is_give_lem v u e = mathlib.Core.List.Memᴰ.head (sym (eqb-true v u e))
 
 module _ (k : Known) (u : ℕ) where
   plain_value : (p : Plain) → quiet_plain k p (gives u) ≡ true → Memᴰ u (values_plain p)
@@ -185,7 +188,7 @@ module _ (k : Known) (u : ℕ) where
   plain_value exit e = never e
   plain_value (call r) e = never e
   plain_value back e = never e
-  plain_value (give v) e = is_give v u e
+  plain_value (give v) e = is_give_lem v u e
   plain_value (update op) e = never e
   plain_value (update_with op v) e = never e
 
@@ -243,6 +246,7 @@ givings-of : (prog : List Rule) (r : ℕ) (vs : List ℕ) → r < length prog �
 unfolding givings of_rule
 givings-of prog r (v ∷ vs) l (mathlib.Core.List.Memᴰ.head p) = rw p l
 givings-of prog r (v ∷ vs) l (mathlib.Core.List.Memᴰ.tail i) = givings-of prog r vs l i
+givings-of prog r [] l {f = f} x'' = elim x'' [ ]
 
 module _ (prog : List Rule) where
   facts-of : (n : ℕ) → n ≤ length prog → (f : Fact) → Memᴰ f (facts prog n) → of_rule prog f

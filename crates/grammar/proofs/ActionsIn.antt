@@ -7,7 +7,7 @@ use Prim.Native.Nat.{ℕ, zero, suc, ◌-◌, ◌<◌, ◌≤◌}
 use lib.ListN.{length}
 use native.Mathlib.Omega.{arith}
 use Rattle.base.specs.Tree.{plain, cycle, choice, done, ◌▸◌, nil, alternative, absent, otherwise}
-use Rattle.grammar.specs.Derived.{Took, Not, Reference, by_name, by_string, ConstantIn, no_constant, a_constant, ValueIn, no_value, a_value, PlainIn, named_in, any_in, emit_in, error_in, exit_in, call_in, give_in, ranked_in, SelectorIn, token_in, rule_in, operation_in, LabelsIn, last_label, more_labels, ActIn, plain_in, cycle_in, choice_in, ActsIn, none_in, more_in, AltsIn, other_in, last_in, next_in}
+use Rattle.grammar.specs.Derived.{Took, Not, Reference, by_name, by_string, ConstantIn, no_constant, one_constant, ValueIn, no_value, one_value, PlainIn, named_in, any_in, emit_in, error_in, exit_in, call_in, give_in, ranked_in, SelectorIn, token_in, rule_inside, operation_inside, LabelsIn, last_label, more_labels, ActIn, plain_in, cycle_in, choice_in, ActsIn, none_in, more_in, AltsIn, other_in, last_in, next_in}
 use Rattle.grammar.proofs.Laws.{From, bind, next, gives, refuses, either, on-kind, limited, weaken, passes, expects, shorts, a-name, name-or-string}
 use Rattle.syntax.specs.Actions.{a_constant, a_value, a_ranked, a_plain, a_selector, a_label, some_labels, closes, a_cycle, a_choice, an_action, an_otherwise, an_alternative, actions, alternatives}
 use Rattle.syntax.specs.Reading.{Reader, ◌>>◌, pure, peek, pass, on◌then◌else◌, expect, short, a_name, name_or_string}
@@ -23,14 +23,14 @@ constant-in =
     (λ d. bind pass _ (passes 40 refl d) (λ ws₁ paren t.
     bind name_or_string _ name-or-string (λ ws₂ c r.
     next (expect (code ")")) _ (expects 41 refl) (λ ws₃ close u.
-    gives (some (record { paren = paren; constant = c })) (a_constant t r u)))))
+    gives (some (record { paren = paren; constant = c })) (one_constant t r u)))))
     (λ d. gives none (no_constant d refl))
 
 pub value_in : {ws : List Word} → From ws a_value (λ rest v. ValueIn ws rest v)
 unfolding a_value
 value_in =
-    on-kind name _ _ (λ d. bind a_name _ a-name (λ ws₁ v t. gives (some v) (a_value (by_name t))))
-    (λ n. on-kind string _ _ (λ d. bind pass _ (passes 259 refl d) (λ ws₁ v t. gives (some v) (a_value (by_string t))))
+    on-kind name _ _ (λ d. bind a_name _ a-name (λ ws₁ v t. gives (some v) (one_value (by_name t))))
+    (λ n. on-kind string _ _ (λ d. bind pass _ (passes 259 refl d) (λ ws₁ v t. gives (some v) (one_value (by_string t))))
     (λ m. gives none (no_value n m refl)))
 
 pub some-plain-in : {ws : List Word} → From ws a_plain (λ rest a. PlainIn ws rest a)
@@ -53,8 +53,8 @@ some-plain-in =
 pub selector-in : {ws : List Word} → From ws a_selector (λ rest s. SelectorIn ws rest s)
 unfolding a_selector
 selector-in =
-    on-kind (code "@") _ _ (λ d. next pass _ (passes 64 refl d) (λ ws₁ at t. bind a_name _ a-name (λ ws₂ w u. gives (by_rule w) (rule_in t u))))
-    (λ n. on-kind name _ _ (λ d. bind a_name _ a-name (λ ws₁ w t. bind a_constant _ constant-in (λ ws₂ c u. gives (by_operation w c) (operation_in t u))))
+    on-kind (code "@") _ _ (λ d. next pass _ (passes 64 refl d) (λ ws₁ at t. bind a_name _ a-name (λ ws₂ w u. gives (by_rule w) (rule_inside t u))))
+    (λ n. on-kind name _ _ (λ d. bind a_name _ a-name (λ ws₁ w t. bind a_constant _ constant-in (λ ws₂ c u. gives (by_operation w c) (operation_inside t u))))
     (λ m. gives by_token (token_in n m refl)))
 
 -- Labels

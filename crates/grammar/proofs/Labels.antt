@@ -3,7 +3,7 @@ use mathlib.Core.List.{List}
 use Prim.Native.Nat.{ℕ, ◌+◌, ◌<◌, ◌≤◌}
 use lib.ListN.{length}
 use native.Mathlib.Omega.{arith}
-use Rattle.grammar.specs.Derived.{LabelsIn, last_label, more_labels, ActIn, plain_in, cycle_in, choice_in, ActsIn, none_in, more_in, AltsIn, other_in, last_in, next_in, RuleIn, a_rule, RulesIn, last_rule, more_rules, ProgramIn, a_program}
+use Rattle.grammar.specs.Derived.{LabelsIn, last_label, more_labels, ActIn, plain_in, cycle_in, choice_in, ActsIn, none_in, more_in, AltsIn, other_in, last_in, next_in, RuleIn, one_rule, RulesIn, last_rule, more_rules, ProgramIn, a_program}
 use Rattle.grammar.specs.Labels.{labelled, Labelled, LabelledAll, LabelledAlts, LabelledOther, LabelledRules}
 use Rattle.syntax.specs.Written.{Act, Acts, Alts, Other, Rule, Program}
 use Rattle.words.specs.Words.{Word}
@@ -32,7 +32,7 @@ mutual
   alts-labelled (next_in l few t x u m) = let r = alts-labelled m in (omega (arith, r.0), (some-label l, acts-labelled x, r.1), r.2)
 
 rule-labelled : {ws ws' : List Word} {r : Rule} → RuleIn ws ws' r → LabelledAll r.body
-rule-labelled (a_rule t g u b v) = acts-labelled b
+rule-labelled (one_rule t g u b v) = acts-labelled b
 
 pub rules-labelled : {ws ws' : List Word} {rs : List Rule} → RulesIn ws ws' rs → LabelledRules rs
 unfolding LabelledRules

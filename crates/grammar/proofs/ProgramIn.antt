@@ -9,7 +9,7 @@ use lib.ListN.{length}
 use borrow.Author.Tests.{ltb-false}
 use native.Mathlib.Omega.{arith}
 use Rattle.std.specs.Prelude.{if◌then◌else◌}
-use Rattle.grammar.specs.Derived.{Not, RuleIn, a_rule, RulesIn, last_rule, more_rules, names_in_all, ProgramIn, a_program}
+use Rattle.grammar.specs.Derived.{Not, RuleIn, one_rule, RulesIn, last_rule, more_rules, names_in_all, ProgramIn, a_program}
 use Rattle.grammar.proofs.ActionsIn.{actions-in}
 use Rattle.grammar.proofs.Laws.{From, no-got, bind, next, gives, refuses, on-kind, weaken, expects, expects-kind, one_name_lem}
 use Rattle.grammar.proofs.SectionsIn.{gives-in, AllSections, some-sections-in}
@@ -24,7 +24,7 @@ use Rattle.words.specs.Words.{Word, words, last, twice, name, rules, end}
 
 -- a rule, where `left` more may be declared
 record OneRule (left : ℕ) (ws rest : List Word) (r : Rule) : Type 0 where
-  pub rule_in : RuleIn ws rest r
+  pub rule_inside : RuleIn ws rest r
   pub some_left : 0 < left
 
 rule-from : {ws : List Word} (k left : ℕ) → From ws (a_rule k left) (λ rest r. OneRule left ws rest r)
@@ -35,7 +35,7 @@ rule-from k left =
     next (expect (code ":")) _ (expects 58 refl) (λ ws₃ colon v.
     bind (actions k 32) _ (actions-in k 32 ws₃) (λ ws₄ b q.
     bind (expect (code ";")) _ (expects 59 refl) (λ ws₅ e x.
-    gives (record { rule = w; gives = g; body = b; closing = e }) (record { rule_in = a_rule t.word u v q x; some_left = t.some_left }))))))
+    gives (record { rule = w; gives = g; body = b; closing = e }) (record { rule_inside = one_rule t.word u v q x; some_left = t.some_left }))))))
 
 -- rules and how many
 pub record SomeRules (left : ℕ) (ws rest : List Word) (rs : List Rule) : Type 0 where
@@ -48,8 +48,8 @@ data Behind (left : ℕ) (ws rest : List Word) : List Rule → Type 0 where
   more : {rs : List Rule} → (peek ws).kind ≡ 257 → SomeRules left ws rest rs → Behind left ws rest rs
 
 behind : {left : ℕ} {ws ws₁ rest : List Word} {r : Rule} {rs : List Rule} → OneRule left ws ws₁ r → Behind (left - 1) ws₁ rest rs → SomeRules left ws rest (r ∷ rs)
-behind x (no_name n d) = record { rules_in = last_rule (rw (← d) at x.rule_in) (rw (← d) at n); few = let h = x.some_left in omega arith }
-behind x (more d m) = record { rules_in = more_rules x.rule_in d m.rules_in; few = let h = x.some_left in let g = m.few in omega arith }
+behind x (no_name n d) = record { rules_in = last_rule (rw (← d) at x.rule_inside) (rw (← d) at n); few = let h = x.some_left in omega arith }
+behind x (more d m) = record { rules_in = more_rules x.rule_inside d m.rules_in; few = let h = x.some_left in let g = m.few in omega arith }
 
 pub rules-from : {ws : List Word} (k left : ℕ) → From ws (some_rules k left) (λ rest rs. SomeRules left ws rest rs)
 unfolding some_rules

@@ -12,7 +12,7 @@ use native.Mathlib.Omega.{arith}
 use Rattle.base.proofs.Laws.{neither, above_zero, same-eq}
 use Rattle.std.specs.Prelude.{if◌then◌else◌}
 use Rattle.base.specs.Common.{given, bytes, same}
-use Rattle.grammar.specs.Derived.{Took, Not, SpellingIn, no_strings, no_spelling, a_spelling, CountIn, a_numeral, counted, EntryIn, an_entry, EntriesIn, last_entry, more_entries, GivesIn, gives_none, gives_some, TakesIn, takes_none, takes_some, OperationIn, an_operation, OperationsIn, last_operation, more_operations, ListedIn, listed_in, SectionIn, inputs_in, both_in, outputs_in, errors_in, values_in, operations_in, SectionsIn, no_section, more_sections, names_in, names_in_all, SideIn, left_in, right_in, OperatorIn, an_operator, OperatorsIn, last_operator, more_operators, operators_in}
+use Rattle.grammar.specs.Derived.{Took, Not, SpellingIn, no_strings, no_spelling, one_spelling, CountIn, a_numeral, counted, EntryIn, one_entry, EntriesIn, last_entry, more_entries, GivesIn, gives_none, gives_some, TakesIn, takes_none, takes_some, OperationIn, one_operation, OperationsIn, last_operation, more_operations, ListedIn, listed_in, SectionIn, inputs_in, both_in, outputs_in, errors_in, values_in, operations_in, SectionsIn, no_section, more_sections, names_in, names_in_all, SideIn, left_in, right_in, OperatorIn, one_operator, OperatorsIn, last_operator, more_operators, operators_in}
 use Rattle.grammar.proofs.Laws.{From, no-got, bind, next, gives, refuses, either, on-kind, weaken, passes, expects, a-name, Named, one_name_lem, name-or-string}
 use Rattle.syntax.proofs.Ahead.{kind-read, room-left}
 use Rattle.syntax.specs.Reading.{got, fault, onward, ◌>>=◌, ◌>>◌, pure, peek, pass, refuse, over, on◌then◌else◌, expect, a_name, one_name, small, a_number, optional, name_or_string}
@@ -27,7 +27,7 @@ spelling-in : {ws : List Word} (strings : Bool) → From ws (a_spelling strings)
 unfolding a_spelling
 spelling-in false = gives none (no_strings refl refl)
 spelling-in true =
-    on-kind string _ _ (λ d. bind pass _ (passes 259 refl d) (λ ws₁ w t. gives (some w) (a_spelling refl t)))
+    on-kind string _ _ (λ d. bind pass _ (passes 259 refl d) (λ ws₁ w t. gives (some w) (one_spelling refl t)))
     (λ n. gives none (no_spelling refl n refl))
 
 -- a number and its value
@@ -84,7 +84,7 @@ entry_in left strings v =
     bind (one_name left) _ (one_name_lem left) (λ ws₁ w t.
     bind (a_spelling strings) _ (spelling-in strings) (λ ws₂ s u.
     bind (a_count w v) _ (count-in w v) (λ ws₃ n m.
-    gives (record { entry = w; spelt = s; value = n }) (record { entry = an_entry t.word u m; some_left = t.some_left }))))
+    gives (record { entry = w; spelt = s; value = n }) (record { entry = one_entry t.word u m; some_left = t.some_left }))))
 
 -- entries and how many
 record SomeEntries (strings : Bool) (v left : ℕ) (ws rest : List Word) (es : List Entry) : Type 0 where
@@ -150,11 +150,11 @@ numbered-in {ws} {ws₁} {w} seen x u =
     bind a_parameter _ kind-in (λ ws₂ t y.
     bind (optional twice a_name) _ gives-in (λ ws₃ g z.
     let d = room-left seen (kind_ahead ws₁) (first_of (given t) (given g)) (y.1 ∙ ap (λ c. some (first_of (given t) c)) (sym (given-in z))) u in
-    gives _ (record { operation = an_operation x.word y.0 z refl (omega arith); some_left = x.some_left })))
+    gives _ (record { operation = one_operation x.word y.0 z refl (omega arith); some_left = x.some_left })))
 
-operation_in : {ws : List Word} (left : ℕ) (seen : List ℕ) → From ws (an_operation left seen) (λ rest o. OneOperation seen left ws rest o)
+operation_inside : {ws : List Word} (left : ℕ) (seen : List ℕ) → From ws (an_operation left seen) (λ rest o. OneOperation seen left ws rest o)
 unfolding an_operation
-operation_in left seen =
+operation_inside left seen =
     bind (one_name left) _ (one_name_lem left) (λ ws₁ w x.
     record { holds = (either (is_full (kind_ahead ws₁) seen) (λ _. fault 9 w) (numbered w seen) (λ _. record { holds = λ rest o e. no-got e }) (λ u. numbered-in seen x u)).holds })
 
@@ -177,7 +177,7 @@ some-operations-in : {ws : List Word} (k left : ℕ) (seen : List ℕ) → From 
 unfolding some_operations
 some-operations-in zero left seen = refuses
 some-operations-in (suc k) left seen =
-    bind (an_operation left seen) _ (operation_in left seen) (λ ws₁ o x.
+    bind (an_operation left seen) _ (operation_inside left seen) (λ ws₁ o x.
     bind (on code ";" then (◌>>◌ pass (pure [])) else some_operations k (left - 1) (o.instruction ∷ seen)) _
     (on-kind (code ";") _ _ (λ d. next pass _ (passes 59 refl d) (λ ws₂ w t. gives [] (operation-last t)))
     (λ n. weaken (some-operations-in k (left - 1) (o.instruction ∷ seen)) (λ rest os m. operation-more n m)))
@@ -240,7 +240,7 @@ operator-in =
     bind a_level _ level_in (λ ws₂ l y.
     bind a_side _ side-in (λ ws₃ s z.
     bind name_or_string _ name-or-string (λ ws₄ o u.
-    gives (record { token = t; level = l; right = s; emits = o }) (an_operator x y.word y.same y.low y.high z u)))))
+    gives (record { token = t; level = l; right = s; emits = o }) (one_operator x y.word y.same y.low y.high z u)))))
 
 -- what stands behind an operator
 data BehindOperator (ws rest : List Word) : List Operator → Type 0 where

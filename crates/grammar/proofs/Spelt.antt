@@ -6,8 +6,8 @@ use mathlib.Core.Path.{◌≡◌, refl, ◌∙◌, ap}
 use Prim.Native.Nat.{ℕ, min}
 use lib.Dec.{eqb}
 use Rattle.grammar.specs.Derived
-use Rattle.grammar.specs.Derived.{Took, Reference, by_name, by_string, ConstantIn, no_constant, a_constant, ValueIn, no_value, a_value, PlainIn, named_in, any_in, emit_in, error_in, exit_in, call_in, give_in, ranked_in, SelectorIn, token_in, rule_in, operation_in, LabelsIn, last_label, more_labels, ActIn, plain_in, cycle_in, choice_in, ActsIn, none_in, more_in, AltsIn, other_in, last_in, next_in}
-use Rattle.grammar.specs.Derived.{SpellingIn, no_strings, no_spelling, a_spelling, CountIn, a_numeral, counted, EntryIn, an_entry, EntriesIn, last_entry, more_entries, GivesIn, gives_none, gives_some, TakesIn, takes_none, takes_some, OperationIn, an_operation, OperationsIn, last_operation, more_operations, SideIn, left_in, right_in, OperatorIn, an_operator, OperatorsIn, last_operator, more_operators, ListedIn, listed_in, SectionIn, inputs_in, both_in, outputs_in, errors_in, values_in, operations_in, operators_in, SectionsIn, no_section, more_sections, RuleIn, a_rule, RulesIn, last_rule, more_rules}
+use Rattle.grammar.specs.Derived.{Took, Reference, by_name, by_string, ConstantIn, no_constant, one_constant, ValueIn, no_value, one_value, PlainIn, named_in, any_in, emit_in, error_in, exit_in, call_in, give_in, ranked_in, SelectorIn, token_in, rule_inside, operation_inside, LabelsIn, last_label, more_labels, ActIn, plain_in, cycle_in, choice_in, ActsIn, none_in, more_in, AltsIn, other_in, last_in, next_in}
+use Rattle.grammar.specs.Derived.{SpellingIn, no_strings, no_spelling, one_spelling, CountIn, a_numeral, counted, EntryIn, one_entry, EntriesIn, last_entry, more_entries, GivesIn, gives_none, gives_some, TakesIn, takes_none, takes_some, OperationIn, one_operation, OperationsIn, last_operation, more_operations, SideIn, left_in, right_in, OperatorIn, one_operator, OperatorsIn, last_operator, more_operators, ListedIn, listed_in, SectionIn, inputs_in, both_in, outputs_in, errors_in, values_in, operations_in, operators_in, SectionsIn, no_section, more_sections, RuleIn, one_rule, RulesIn, last_rule, more_rules}
 use Rattle.grammar.proofs.Laws.{From, bind, next, gives, expects, expects-kind}
 use Rattle.grammar.proofs.ProgramIn.{rules-from}
 use Rattle.grammar.proofs.SectionsIn.{some-sections-in}
@@ -39,11 +39,11 @@ reference (by_string t) h = one refl t h
 
 constant : {ws rest : List Word} {c : Option Constant} → ConstantIn ws rest c → Spelt ws rest
 constant (no_constant n d) h = not-read d h
-constant (a_constant t r u) h = one refl t (reference r (one refl u h))
+constant (one_constant t r u) h = one refl t (reference r (one refl u h))
 
 value : {ws rest : List Word} {v : Option Word} → ValueIn ws rest v → Spelt ws rest
 value (no_value n m d) h = not-read d h
-value (a_value r) h = reference r h
+value (one_value r) h = reference r h
 
 plain-spelt : {ws rest : List Word} {a : Plain} → PlainIn ws rest a → Spelt ws rest
 plain-spelt (named_in r c) h = reference r (constant c h)
@@ -57,8 +57,8 @@ plain-spelt (ranked_in t u v x) h = one refl t (one refl u (one refl v (one refl
 
 selector : {ws rest : List Word} {s : Selector} → SelectorIn ws rest s → Spelt ws rest
 selector (token_in n m d) h = not-read d h
-selector (rule_in t u) h = one refl t (one refl u h)
-selector (operation_in t c) h = one refl t (constant c h)
+selector (rule_inside t u) h = one refl t (one refl u h)
+selector (operation_inside t c) h = one refl t (constant c h)
 
 labels : {ws rest ls : List Word} → LabelsIn ws rest ls → Spelt ws rest
 labels (last_label r n) h = reference r h
@@ -82,14 +82,14 @@ mutual
 spelling : {strings : Bool} {ws rest : List Word} {s : Option Word} → SpellingIn strings ws rest s → Spelt ws rest
 spelling (no_strings e d) h = not-read d h
 spelling (no_spelling e n d) h = not-read d h
-spelling (a_spelling e t) h = one refl t h
+spelling (one_spelling e t) h = one refl t h
 
 count : {v n : ℕ} {ws rest : List Word} → CountIn v ws rest n → Spelt ws rest
 count (a_numeral t u e few) h = one refl t (one refl u h)
 count (counted n d e few) h = not-read d h
 
 entry : {strings : Bool} {v : ℕ} {ws rest : List Word} {e : Entry} → EntryIn strings v ws rest e → Spelt ws rest
-entry (an_entry t s c) h = one refl t (spelling s (count c h))
+entry (one_entry t s c) h = one refl t (spelling s (count c h))
 
 entries : {strings : Bool} {v : ℕ} {ws rest : List Word} {es : List Entry} → EntriesIn strings v ws rest es → Spelt ws rest
 entries (last_entry e t) h = entry e (one refl t h)
@@ -104,7 +104,7 @@ takes (takes_none n d) h = not-read d h
 takes (takes_some t u v) h = one refl t (one refl u (one refl v h))
 
 operation : {seen : List ℕ} {ws rest : List Word} {o : Operation} → OperationIn seen ws rest o → Spelt ws rest
-operation (an_operation t a g e few) h = one refl t (takes a (gives-spelt g h))
+operation (one_operation t a g e few) h = one refl t (takes a (gives-spelt g h))
 
 operations : {seen : List ℕ} {ws rest : List Word} {os : List Operation} → OperationsIn seen ws rest os → Spelt ws rest
 operations (last_operation o t) h = operation o (one refl t h)
@@ -115,7 +115,7 @@ side (left_in t e) h = one refl t h
 side (right_in t e) h = one refl t h
 
 operator : {ws rest : List Word} {o : Operator} → OperatorIn ws rest o → Spelt ws rest
-operator (an_operator r t e low high s q) h = reference r (one refl t (side s (reference q h)))
+operator (one_operator r t e low high s q) h = reference r (one refl t (side s (reference q h)))
 
 operators : {ws rest : List Word} {os : List Operator} → OperatorsIn ws rest os → Spelt ws rest
 operators (last_operator o t) h = operator o (one refl t h)
@@ -138,7 +138,7 @@ sections (no_section e d) h = not-read d h
 sections (more_sections n x xs) h = section x (sections xs h)
 
 rule : {ws rest : List Word} {r : Rule} → RuleIn ws rest r → Spelt ws rest
-rule (a_rule t g u b v) h = one refl t (gives-spelt g (one refl u (acts b (one refl v h))))
+rule (one_rule t g u b v) h = one refl t (gives-spelt g (one refl u (acts b (one refl v h))))
 
 some-rules : {ws rest : List Word} {rs : List Rule} → RulesIn ws rest rs → Spelt ws rest
 some-rules (last_rule r n) h = rule r h

@@ -32,12 +32,12 @@ pub data Reference (ws : List Word) (w : Word) (ws' : List Word) : Type 0 where
 
 pub data ConstantIn (ws ws' : List Word) : Option Constant → Type 0 where
   no_constant : Not (code "(") ws → ws' ≡ ws → ConstantIn ws ws' none
-  a_constant : {paren c close : Word} {ws₁ ws₂ : List Word} → Took (code "(") ws paren ws₁ → Reference ws₁ c ws₂ → Took (code ")") ws₂ close ws'
+  one_constant : {paren c close : Word} {ws₁ ws₂ : List Word} → Took (code "(") ws paren ws₁ → Reference ws₁ c ws₂ → Took (code ")") ws₂ close ws'
       → ConstantIn ws ws' (some (record { paren = paren; constant = c }))
 
 pub data ValueIn (ws ws' : List Word) : Option Word → Type 0 where
   no_value : Not K.name ws → Not K.string ws → ws' ≡ ws → ValueIn ws ws' none
-  a_value : {w : Word} → Reference ws w ws' → ValueIn ws ws' (some w)
+  one_value : {w : Word} → Reference ws w ws' → ValueIn ws ws' (some w)
 
 pub data PlainIn (ws ws' : List Word) : Plain → Type 0 where
   named_in : {w : Word} {c : Option Constant} {ws₁ : List Word} → Reference ws w ws₁ → ConstantIn ws₁ ws' c → PlainIn ws ws' (named w c)
@@ -51,8 +51,8 @@ pub data PlainIn (ws ws' : List Word) : Plain → Type 0 where
 
 pub data SelectorIn (ws ws' : List Word) : Selector → Type 0 where
   token_in : Not (code "@") ws → Not K.name ws → ws' ≡ ws → SelectorIn ws ws' by_token
-  rule_in : {at w : Word} {ws₁ : List Word} → Took (code "@") ws at ws₁ → Took K.name ws₁ w ws' → SelectorIn ws ws' (by_rule w)
-  operation_in : {w : Word} {c : Option Constant} {ws₁ : List Word} → Took K.name ws w ws₁ → ConstantIn ws₁ ws' c → SelectorIn ws ws' (by_operation w c)
+  rule_inside : {at w : Word} {ws₁ : List Word} → Took (code "@") ws at ws₁ → Took K.name ws₁ w ws' → SelectorIn ws ws' (by_rule w)
+  operation_inside : {w : Word} {c : Option Constant} {ws₁ : List Word} → Took K.name ws w ws₁ → ConstantIn ws₁ ws' c → SelectorIn ws ws' (by_operation w c)
 
 -- labels: a label that no comma follows is the last
 pub data LabelsIn : List Word → List Word → List Word → Type 0 where
@@ -88,7 +88,7 @@ mutual
 pub data SpellingIn (strings : Bool) (ws ws' : List Word) : Option Word → Type 0 where
   no_strings : strings ≡ false → ws' ≡ ws → SpellingIn strings ws ws' none
   no_spelling : strings ≡ true → Not K.string ws → ws' ≡ ws → SpellingIn strings ws ws' none
-  a_spelling : {w : Word} → strings ≡ true → Took K.string ws w ws' → SpellingIn strings ws ws' (some w)
+  one_spelling : {w : Word} → strings ≡ true → Took K.string ws w ws' → SpellingIn strings ws ws' (some w)
 
 -- the value: set by a number, or counted
 pub data CountIn (v : ℕ) (ws ws' : List Word) : ℕ → Type 0 where
@@ -96,7 +96,7 @@ pub data CountIn (v : ℕ) (ws ws' : List Word) : ℕ → Type 0 where
   counted : {n : ℕ} → Not (code "=") ws → ws' ≡ ws → n ≡ v → n ≤ 65535 → CountIn v ws ws' n
 
 pub data EntryIn (strings : Bool) (v : ℕ) (ws ws' : List Word) (e : Entry) : Type 0 where
-  an_entry : {ws₁ ws₂ : List Word} → Took K.name ws e.entry ws₁ → SpellingIn strings ws₁ ws₂ e.spelt → CountIn v ws₂ ws' e.value → EntryIn strings v ws ws' e
+  one_entry : {ws₁ ws₂ : List Word} → Took K.name ws e.entry ws₁ → SpellingIn strings ws₁ ws₂ e.spelt → CountIn v ws₂ ws' e.value → EntryIn strings v ws ws' e
 
 pub data EntriesIn (strings : Bool) : ℕ → List Word → List Word → List Entry → Type 0 where
   last_entry : {v : ℕ} {ws ws' ws₁ : List Word} {e : Entry} {semi : Word} → EntryIn strings v ws ws₁ e → Took (code ";") ws₁ semi ws' → EntriesIn strings v ws ws' (e ∷ [])
@@ -118,7 +118,7 @@ abbrev pub kind_of : Operation → ℕ
 kind_of o = first_of (given o.takes) (given o.gives)
 
 pub data OperationIn (seen : List ℕ) (ws ws' : List Word) (o : Operation) : Type 0 where
-  an_operation : {ws₁ ws₂ : List Word} → Took K.name ws o.operation ws₁ → TakesIn ws₁ ws₂ o.takes → GivesIn ws₂ ws' o.gives
+  one_operation : {ws₁ ws₂ : List Word} → Took K.name ws o.operation ws₁ → TakesIn ws₁ ws₂ o.takes → GivesIn ws₂ ws' o.gives
       → o.instruction ≡ kind_of o + of_kind (kind_of o) seen → of_kind (kind_of o) seen ≤ 255 → OperationIn seen ws ws' o
 
 pub data OperationsIn : List ℕ → List Word → List Word → List Operation → Type 0 where
@@ -132,7 +132,7 @@ pub data SideIn (ws ws' : List Word) : Bool → Type 0 where
   right_in : {w : Word} → Took K.name ws w ws' → w.text ≡ bytes "right" → SideIn ws ws' true
 
 pub data OperatorIn (ws ws' : List Word) (o : Operator) : Type 0 where
-  an_operator : {digits : Word} {ws₁ ws₂ ws₃ : List Word} → Reference ws o.token ws₁ → Took K.number ws₁ digits ws₂ → o.level ≡ value 0 digits.text → 1 ≤ o.level → o.level ≤ 15
+  one_operator : {digits : Word} {ws₁ ws₂ ws₃ : List Word} → Reference ws o.token ws₁ → Took K.number ws₁ digits ws₂ → o.level ≡ value 0 digits.text → 1 ≤ o.level → o.level ≤ 15
       → SideIn ws₂ ws₃ o.right → Reference ws₃ o.emits ws' → OperatorIn ws ws' o
 
 pub data OperatorsIn : List Word → List Word → List Operator → Type 0 where
@@ -163,7 +163,7 @@ pub data SectionsIn : Sofar → List Word → List Word → List Section → Typ
 -- Rules
 
 pub data RuleIn (ws ws' : List Word) (r : Rule) : Type 0 where
-  a_rule : {colon : Word} {ws₁ ws₂ ws₃ ws₄ : List Word}
+  one_rule : {colon : Word} {ws₁ ws₂ ws₃ ws₄ : List Word}
       → Took K.name ws r.rule ws₁ → GivesIn ws₁ ws₂ r.gives → Took (code ":") ws₂ colon ws₃ → ActsIn ws₃ ws₄ r.body → Took (code ";") ws₄ r.closing ws' → RuleIn ws ws' r
 
 pub data RulesIn : List Word → List Word → List Rule → Type 0 where

@@ -62,9 +62,9 @@ unfolding is_file
 file_is ws v a = let l = length-allowed (length ws) v a in rw (table_file ws v l, verdict_file ws v, a) (same_refl (file_bytes ws v))
 
 -- bytes that are a file are that of the table and the verdict that they name: no second file has the same
-pub is_file : (s : List ℕ) → is_file s ≡ true → file_bytes (table_named s) (verdict_named s) ≡ s
+pub is_a_file : (s : List ℕ) → is_file s ≡ true → file_bytes (table_named s) (verdict_named s) ≡ s
 unfolding is_file
-is_file s e =
+is_a_file s e =
     let r = and (allowed (length (table_named s)) (verdict_named s)) (same (file_bytes (table_named s) (verdict_named s)) s) e in
     same-eq (file_bytes (table_named s) (verdict_named s)) s r.1
 
@@ -89,7 +89,7 @@ loads-exactly file room ws v = record {
     loadable : is_file file ≡ true → leb (length (table_named file)) room ≡ true → taken (table_named file) ≡ true
         → Loadable file room (table_named file) (verdict_named file)
     loadable i r t = record {
-      one_file = sym (is_file file i);
+      one_file = sym (is_a_file file i);
       limits = (and (allowed (length (table_named file)) (verdict_named file)) (same (file_bytes (table_named file) (verdict_named file)) file) i).0;
       long_enough = leb-true (length (table_named file)) room r;
       takes = taken-Taken (table_named file) t;

@@ -14,7 +14,7 @@ use Rattle.machine.specs.Bytes.{bytes_of}
 use Rattle.loading.specs.File.{file_words, file_bytes, table_named, verdict_named, allowed, is_file, done, refused, load, store}
 use Rattle.loading.specs.Inverse.{OneFile}
 use Rattle.loading.specs.Taking.{taken}
-use Rattle.loading.proofs.Files.{table_file, verdict_file, length-allowed, file_is, is_file, written_loads}
+use Rattle.loading.proofs.Files.{table_file, verdict_file, length-allowed, file_is, is_a_file, written_loads}
 
 -- what a file that is loaded has passed
 record Passed (s ws : List ℕ) (v : ℕ) : Type 0 where
@@ -44,14 +44,14 @@ loaded_writes s room room' ws v e h =
     let c = p.claim in
     let a : allowed (length ws) v ≡ true = rw (w, c) at (and (allowed (length (table_named s)) (verdict_named s)) (same (file_bytes (table_named s) (verdict_named s)) s) p.form).0 in
     let t : taken ws ≡ true = rw w at p.sound in
-    (rw (a, le-leb (length (file_words ws v)) room' h, t), rw (w, c) at (is_file s p.form))
+    (rw (a, le-leb (length (file_words ws v)) room' h, t), rw (w, c) at (is_a_file s p.form))
 
 pub one_file : OneFile
 one_file = record {
   file_is = file_is;
   table_file = λ ws v a. table_file ws v (length-allowed (length ws) v a);
   verdict_file = λ ws v a. verdict_file ws v;
-  is_file = is_file;
+  is_a_file = is_a_file;
   written_loads = written_loads;
   loaded_writes = loaded_writes;
 }

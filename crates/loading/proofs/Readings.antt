@@ -17,7 +17,7 @@ use Rattle.machine.specs.Bytes.{words_of}
 use Rattle.machine.proofs.Bytes.{words_of-bytes_of, bytes_of-words_of, length-bytes_of}
 use Rattle.loading.specs.File.{hd, tw, records, file_words, file_bytes, blocks, table_named, verdict_named, allowed, is_file}
 use Rattle.loading.specs.Reading.{formed, headed}
-use Rattle.loading.proofs.Files.{blocks-nil, is_file, length-allowed}
+use Rattle.loading.proofs.Files.{blocks-nil, is_a_file, length-allowed}
 
 -- what records that are formed hold
 pub record Forms (k left : ℕ) (ws : List ℕ) : Type 0 where
@@ -168,7 +168,7 @@ file-headed s e =
     let ws = table_named s in
     let v = verdict_named s in
     let a = (and (allowed (length ws) v) (common.same (file_bytes ws v) s) e).0 in
-    let q = is_file s e in
+    let q = is_a_file s e in
     (rw (← q) (own ws v a), rw (← q) (even ws v))
   where
     one-at-least : (n v : ℕ) → allowed n v ≡ true → 1 ≤ n

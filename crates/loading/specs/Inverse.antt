@@ -9,7 +9,7 @@ pub record OneFile : Type 0 where
   pub table_file : (ws : List ℕ) (v : ℕ) → allowed (length ws) v ≡ true → table_named (file_bytes ws v) ≡ ws
   pub verdict_file : (ws : List ℕ) (v : ℕ) → allowed (length ws) v ≡ true → verdict_named (file_bytes ws v) ≡ v
   -- bytes that are a file are that of the table and the verdict that they name: no others have the same
-  pub is_file : (s : List ℕ) → is_file s ≡ true → file_bytes (table_named s) (verdict_named s) ≡ s
+  pub is_a_file : (s : List ℕ) → is_file s ≡ true → file_bytes (table_named s) (verdict_named s) ≡ s
   -- what is written is loaded, wherever the table has room
   pub written_loads : (ws : List ℕ) (v room room' : ℕ) (file : List ℕ) (claim : ℕ) → store ws v room ≡ done file claim → length ws ≤ room'
       → load (bytes_of file) room' ≡ done ws v

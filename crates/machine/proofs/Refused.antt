@@ -99,7 +99,7 @@ nothing b = refl
 same_bytes : (walk buffer : List ℕ) (w : Walk) (f : Walk → Called) → walk_of walk ≡ some w → Same w (f w) → Unchanged walk buffer (outcome (some w) walk buffer f)
 unfolding outcome
 same_bytes walk buffer w f is s = record {
-  walk_bytes = ap walk_bytes s.walk ∙ walk_bytes-walk_of walk w is;
+  walk_bytes_lem = ap walk_bytes s.walk ∙ walk_bytes-walk_of walk w is;
   buffer_bytes = ap (λ (es : List Event). over (bytes_of (events_words es)) buffer) s.events ∙ nothing buffer;
   no_event = ap (λ (es : List Event). lib.ListN.length es) s.events;
   no_step = s.steps;
@@ -114,7 +114,7 @@ refused-unchanged table tokens m budget walk buffer e = go (walk_of walk) refl e
     f = call_walk (table_of table) (words_of tokens) m budget (count buffer)
 
     go : (x : Option Walk) → walk_of walk ≡ x → (outcome x walk buffer f).number ≡ 21 → Unchanged walk buffer (outcome x walk buffer f)
-    go none d h = record { walk_bytes = refl; buffer_bytes = refl; no_event = refl; no_step = refl }
+    go none d h = record { walk_bytes_lem = refl; buffer_bytes = refl; no_event = refl; no_step = refl }
     go (some w) d h = same_bytes walk buffer w f d (refused-walk (table_of table) (words_of tokens) m budget (count buffer) w h)
 
 -- A walk that has stopped

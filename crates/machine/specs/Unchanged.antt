@@ -12,7 +12,7 @@ pub record Same (w : Walk) (c : Called) : Type 0 where
 
 -- the same over bytes: nothing that is lent changes
 pub record Unchanged (walk buffer : List ℕ) (o : Outcome) : Type 0 where
-  pub walk_bytes : o.walk ≡ walk
+  pub walk_bytes_lem : o.walk ≡ walk
   pub buffer_bytes : o.buffer ≡ buffer
   pub no_event : o.events ≡ 0
   pub no_step : o.steps ≡ 0

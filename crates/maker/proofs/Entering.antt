@@ -10,7 +10,7 @@ use lib.Dec.{leb}
 use lib.ListN.{length, get_or, take, drop}
 use Rattle.base.specs.Common.{bytes, same}
 use Rattle.declarations.specs.Decls.{Decl, operators_from}
-use Rattle.grammar.specs.Derived.{Took, Reference, by_name, by_string, SideIn, left_in, right_in, OperatorIn, an_operator, OperatorsIn, last_operator, more_operators}
+use Rattle.grammar.specs.Derived.{Took, Reference, by_name, by_string, SideIn, left_in, right_in, OperatorIn, one_operator, OperatorsIn, last_operator, more_operators}
 use Rattle.maker.specs.Pairing.{PlaceOf}
 use Rattle.maker.specs.Ranks.{EntryIs, AnEntry, rank_step, rank_of, RankDone}
 use Rattle.maker.specs.declared.Entry.{Entry}
@@ -69,7 +69,7 @@ entry_read text at {t} {d} {s} {o} l b h nt nd ns nq num side = record {
 }
   where
     go : (e : Operator) (ws' : List Word) → OperatorIn (words_at text at) ws' e → EntryIs text at e ws' (record { token = t; level = l; right = b; emits = o })
-    go e ws' (an_operator {digits = v} {ws₁} {ws₂} {ws₃} r k q one most z y) =
+    go e ws' (one_operator {digits = v} {ws₁} {ws₂} {ws₃} r k q one most z y) =
         let a = reference-here text at t e.token ws₁ nt r in
         let k' = took-at a.behind k in
         let c = took-here text t.next 258 d v ws₂ (omega arith) nd k' in
@@ -111,7 +111,7 @@ pub place-past : (text rows : List ℕ) (row : ℕ) (r : ℕ) {x : ℕ} → x �
 place-past text rows row r {x} e h i = record { inside = i; entries = λ os ws' y. absurd (go os ws' y) }
   where
     one : (o : Operator) (ws' : List Word) → OperatorIn (words_at text (get_or rows (8 * row + 1) 0)) ws' o → ⊥
-    one o ws' (an_operator r₁ k q a b z y) = no-reference text (get_or rows (8 * row + 1) 0) (rw (← e) h) r₁
+    one o ws' (one_operator r₁ k q a b z y) = no-reference text (get_or rows (8 * row + 1) 0) (rw (← e) h) r₁
 
     go : (os : List Operator) (ws' : List Word) → OperatorsIn (words_at text (get_or rows (8 * row + 1) 0)) ws' os → ⊥
     go _ ws' (last_operator {o = o} a t) = one o _ a

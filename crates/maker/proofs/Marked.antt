@@ -8,7 +8,7 @@ use lib.Dec.{eqb}
 use Rattle.std.specs.Prelude.{if◌then◌else◌}
 use Rattle.base.specs.Tree.{choice, otherwise}
 use Rattle.grammar.proofs.SectionsIn.{peek-took}
-use Rattle.grammar.specs.Derived.{Took, Reference, by_name, by_string, ConstantIn, no_constant, a_constant, ValueIn, no_value, a_value, PlainIn, named_in, any_in, emit_in, error_in, exit_in, call_in, give_in, ranked_in, SelectorIn, token_in, rule_in, operation_in, LabelsIn, last_label, more_labels, ActIn, plain_in, cycle_in, choice_in, ActsIn, none_in, more_in, AltsIn, other_in, last_in, next_in, GivesIn, gives_none, gives_some, RuleIn, a_rule, RulesIn, last_rule, more_rules}
+use Rattle.grammar.specs.Derived.{Took, Reference, by_name, by_string, ConstantIn, no_constant, one_constant, ValueIn, no_value, one_value, PlainIn, named_in, any_in, emit_in, error_in, exit_in, call_in, give_in, ranked_in, SelectorIn, token_in, rule_inside, operation_inside, LabelsIn, last_label, more_labels, ActIn, plain_in, cycle_in, choice_in, ActsIn, none_in, more_in, AltsIn, other_in, last_in, next_in, GivesIn, gives_none, gives_some, RuleIn, one_rule, RulesIn, last_rule, more_rules}
 use Rattle.maker.specs.Marks.{behind, use_of, marks}
 use Rattle.names.specs.Uses.{Use, plain_uses, act_uses, acts_uses, alts_uses, other_uses, rules_uses}
 use Rattle.syntax.specs.Reading.{peek}
@@ -29,11 +29,11 @@ reference (by_string t) = skip t refl refl
 
 constant : {ws ws' : List Word} {c : Option Constant} → ConstantIn ws ws' c → marks ws ≡ marks ws'
 constant (no_constant n e) = ap marks (sym e)
-constant (a_constant p r q) = skip p refl refl ∙ reference r ∙ skip q refl refl
+constant (one_constant p r q) = skip p refl refl ∙ reference r ∙ skip q refl refl
 
 value : {ws ws' : List Word} {v : Option Word} → ValueIn ws ws' v → marks ws ≡ marks ws'
 value (no_value n m e) = ap marks (sym e)
-value (a_value r) = reference r
+value (one_value r) = reference r
 
 behind-took : {k : ℕ} {ws ws' : List Word} {w : Word} → Took k ws w ws' → behind ws ≡ ws'
 unfolding behind
@@ -67,8 +67,8 @@ some-plain (ranked_in a b c d) = mark a b c d
 
 selector : {ws ws' : List Word} {s : Selector} → SelectorIn ws ws' s → marks ws ≡ marks ws'
 selector (token_in n m e) = ap marks (sym e)
-selector (rule_in t u) = skip t refl refl ∙ skip u refl refl
-selector (operation_in t c) = skip t refl refl ∙ constant c
+selector (rule_inside t u) = skip t refl refl ∙ skip u refl refl
+selector (operation_inside t c) = skip t refl refl ∙ constant c
 
 labels : {ws ws' ls : List Word} → LabelsIn ws ws' ls → marks ws ≡ marks ws'
 labels (last_label r n) = reference r
@@ -96,7 +96,7 @@ gives (gives_none n e) = ap marks (sym e)
 gives (gives_some t u) = skip t refl refl ∙ skip u refl refl
 
 rule : {ws ws' : List Word} {r : Rule} → RuleIn ws ws' r → marks ws ≡ acts_uses r.body (marks ws')
-rule {r = r} (a_rule t g c x u) = skip t refl refl ∙ gives g ∙ skip c refl refl ∙ acts x ∙ ap (acts_uses r.body) (skip u refl refl)
+rule {r = r} (one_rule t g c x u) = skip t refl refl ∙ gives g ∙ skip c refl refl ∙ acts x ∙ ap (acts_uses r.body) (skip u refl refl)
 
 -- from a rule's name to the word behind the last rule, which is `end`
 rules-with : {ws ws' : List Word} {rs : List Rule} → RulesIn ws ws' rs → marks ws' ≡ [] → marks ws ≡ rules_uses rs

@@ -3,7 +3,7 @@ use mathlib.Core.List.{List, [], ◌∷◌}
 use mathlib.Core.Path.{◌≡◌}
 use Prim.Native.Nat.{ℕ}
 use Rattle.base.specs.Tree.{choice, otherwise}
-use Rattle.grammar.specs.Derived.{PlainIn, named_in, any_in, emit_in, error_in, exit_in, call_in, give_in, ranked_in, ActIn, plain_in, cycle_in, choice_in, ActsIn, none_in, more_in, AltsIn, other_in, last_in, next_in, RuleIn, a_rule, RulesIn, last_rule, more_rules}
+use Rattle.grammar.specs.Derived.{PlainIn, named_in, any_in, emit_in, error_in, exit_in, call_in, give_in, ranked_in, ActIn, plain_in, cycle_in, choice_in, ActsIn, none_in, more_in, AltsIn, other_in, last_in, next_in, RuleIn, one_rule, RulesIn, last_rule, more_rules}
 use Rattle.maker.specs.Pairing.{AllNamed}
 use Rattle.names.specs.Uses.{Use, plain_uses, act_uses, acts_uses, alts_uses, other_uses, rules_uses}
 use Rattle.syntax.specs.Written.{Plain, Act, Acts, Alts, Other, Rule}
@@ -38,7 +38,7 @@ mutual
   alts k (next_in {q = q} {o} l n c x u m) h = acts (alts_uses q (other_uses o k)) x (alts k m h)
 
 rule : {ws ws' : List Word} {r : Rule} (k : List Use) → RuleIn ws ws' r → AllNamed k → AllNamed (acts_uses r.body k)
-rule k (a_rule t g c x u) h = acts k x h
+rule k (one_rule t g c x u) h = acts k x h
 
 pub rules-named : {ws ws' : List Word} {rs : List Rule} → RulesIn ws ws' rs → AllNamed (rules_uses rs)
 unfolding rules_uses AllNamed

@@ -12,7 +12,7 @@ use lib.ListN.{length, length-append}
 use Rattle.base.proofs.Laws.{lt-or-le}
 use Rattle.std.specs.Prelude.{if◌then◌else◌}
 use Rattle.declarations.specs.Decls.{Decl, operators_from}
-use Rattle.grammar.specs.Derived.{an_operator, OperatorsIn, last_operator, more_operators}
+use Rattle.grammar.specs.Derived.{one_operator, OperatorsIn, last_operator, more_operators}
 use Rattle.maker.specs.Ranks.{no_rank, rank_step, rank_of, RankDone, RankBound, LevelsDone}
 use Rattle.maker.specs.declared.Rank.{Rank}
 use Rattle.program.specs.Made.{Operator, Level, at_level, level_and, levels_from, levels_of, crowded}
@@ -247,8 +247,8 @@ some_level o os low high = go (lt-or-le (rank_of 0 no_rank (o ∷ os)).level 16)
 
 pub levels-some : {ws ws' : List Word} (ds : List Decl) (os : List written.Operator) → OperatorsIn ws ws' os → 1 ≤ length (levels_of (operators_from ds os))
 unfolding operators_from
-levels-some ds _ (last_operator (an_operator r k q a b z y) t) = some_level _ _ a b
-levels-some ds _ (more_operators (an_operator r k q a b z y) n m) = some_level _ _ a b
+levels-some ds _ (last_operator (one_operator r k q a b z y) t) = some_level _ _ a b
+levels-some ds _ (more_operators (one_operator r k q a b z y) n m) = some_level _ _ a b
 
 -- Bounds
 

@@ -32,24 +32,24 @@ record Chosen (T : List ℕ) (c v n : ℕ) (e : End) : Type 0 where
   one_more : n ≡ suc rest
   path : Quiet T (way_out T c (some v)) none rest e
 
-is_choice : (i : Instruction) → is_choice i ≡ true → (c : ℕ) × (i ≡ choice c)
+is_a_choice : (i : Instruction) → is_choice i ≡ true → (c : ℕ) × (i ≡ choice c)
 unfolding is_choice
-is_choice (choice c) h = (c, refl)
-is_choice invalid h = never h
-is_choice (jump m) h = never h
-is_choice (input t) h = never h
-is_choice input_any h = never h
-is_choice (write ev) h = never h
-is_choice (input_choice c) h = never h
-is_choice (call_rule s) h = never h
-is_choice return h = never h
-is_choice (set_result v) h = never h
-is_choice end_choice h = never h
-is_choice (set_parameter v) h = never h
-is_choice (update op) h = never h
-is_choice (update_with op) h = never h
-is_choice (choose op) h = never h
-is_choice (choose_with op) h = never h
+is_a_choice (choice c) h = (c, refl)
+is_a_choice invalid h = never h
+is_a_choice (jump m) h = never h
+is_a_choice (input t) h = never h
+is_a_choice input_any h = never h
+is_a_choice (write ev) h = never h
+is_a_choice (input_choice c) h = never h
+is_a_choice (call_rule s) h = never h
+is_a_choice return h = never h
+is_a_choice (set_result v) h = never h
+is_a_choice end_choice h = never h
+is_a_choice (set_parameter v) h = never h
+is_a_choice (update op) h = never h
+is_a_choice (update_with op) h = never h
+is_a_choice (choose op) h = never h
+is_a_choice (choose_with op) h = never h
 
 module _ {T : List ℕ} where
   unquiet : {l n : ℕ} {x : Option ℕ} {e : End} → Quiet T l x n e → Does T l x (decode T l) n e
@@ -162,7 +162,7 @@ module _ (T S : List ℕ) where
     called-within o f {r} {l} {s} {m} {k} {e = e} hr h w d q given_some p (upto-given u g₂) t z b =
         let g = next-to d h leads_call in
         let j = some-instruction p in
-        let c₁ = is_choice (decode T (l + 2)) b in
+        let c₁ = is_a_choice (decode T (l + 2)) b in
         let a = choice-path c₁.1 t in
         let g₁ = next-to c₁.1 g (leads_choice (some _)) in
         let v = raised hr h w d (makes_call_value q c₁.1 g₂.in_rule g₂.sets g₂.comes) (place-in hr h w g₁) in

@@ -67,7 +67,7 @@ module _ {T S called rows : List ℕ} (kp : Kept T S called rows) where
 
   pub behind-values : {c l k q : ℕ} {after : List ℕ} {b : Bool} → ChoiceAt T (l + 2) c → 0 < c → Steps T S (Values T S called c k q (end_of (length T) S q)) called rows after b → Steps T S (Behind T S called l k q) called rows after b
   unfolding is_choice
-  behind-values {c} {l} {k} {q} a h x = covers (λ i v m. ask (a.is_choice h) m) x
+  behind-values {c} {l} {k} {q} a h x = covers (λ i v m. ask (a.is_a_choice h) m) x
     where
       ask : decode T (l + 2) ≡ choice c → {i v : ℕ} → Behind T S called l k q rows i v → Values T S called c k q (end_of (length T) S q) rows i v
       ask d (behind_back e z) = let y : ◌≡◌ {A = Bool} true false = rw d at e in never (sym y)

@@ -107,7 +107,7 @@ no-choice-at : (T : List ℕ) (l : ℕ) → ((i x : ℕ) → fetch T l ≡ some 
 unfolding is_choice
 no-choice-at T l f = record {
   no_choice = λ e. of-decode (λ j. is_choice j ≡ false) T l refl (λ i _. one-no-choice i) (λ i x a b. two-no-choice l i x (f i x a b));
-  is_choice = λ h. absurd (omega arith);
+  is_a_choice = λ h. absurd (omega arith);
 }
 
 pub choice-other : (T : List ℕ) (l : ℕ) {i : ℕ} → fetch T l ≡ some i → (i ≡ 11 → ⊥) → ChoiceAt T l 0
@@ -122,4 +122,4 @@ choice-here T l {i} {x} f e g z =
     let f₁ : fetch T l ≡ some 11 = f ∙ ap some e in
     let g₁ : fetch T (suc l) ≡ some x = rw (add-one l) at g in
     let d : decode T l ≡ choice (l + 1 + x) = rw (f₁, g₁) refl in
-    record { no_choice = λ y. absurd (omega arith); is_choice = λ h. rw z d }
+    record { no_choice = λ y. absurd (omega arith); is_a_choice = λ h. rw z d }

@@ -138,7 +138,7 @@ pub data Behind (T S called : List ℕ) (l k q : ℕ) (rows : List ℕ) : ℕ �
 -- a choice stands at l, with its table at c; 0 where none does
 pub record ChoiceAt (T : List ℕ) (l c : ℕ) : Type 0 where
   pub no_choice : c ≡ 0 → is_choice (decode T l) ≡ false
-  pub is_choice : 0 < c → decode T l ≡ choice c
+  pub is_a_choice : 0 < c → decode T l ≡ choice c
 
 -- what a location of a rule asks for
 pub data AskedAt (T S called : List ℕ) (r l : ℕ) (rows : List ℕ) (i v : ℕ) : Type 0 where

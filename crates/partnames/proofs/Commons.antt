@@ -8,7 +8,7 @@ use lib.ListN.{length, take, drop, replicate}
 use Rattle.collector.specs.Collecting.{ListIn, no_head, more_heads}
 use Rattle.grammar.proofs.Laws.{From, bind, next, gives, refuses, on-kind, expects, one_name_lem, a-name}
 use Rattle.grammar.proofs.SectionsIn.{some-sections-in}
-use Rattle.grammar.specs.Derived.{Took, Not, GivesIn, gives_none, gives_some, RuleIn, a_rule, RulesIn, last_rule, more_rules}
+use Rattle.grammar.specs.Derived.{Took, Not, GivesIn, gives_none, gives_some, RuleIn, one_rule, RulesIn, last_rule, more_rules}
 use Rattle.parts.specs.Moved.{move_word, move_words}
 use Rattle.parts.specs.Objects.{as_rules}
 use Rattle.partnames.proofs.Swaps.{common-front}
@@ -138,7 +138,7 @@ typed-no-line t (gives_none n f) c = no_type t n
 typed-no-line t (gives_some u g) c = no_semicolon t u g (colon-there c)
 
 rule-no-line : {ws ws' : List Word} {r : Rule} → RuleIn ws ws' r → NoLine ws
-rule-no-line (a_rule t g c b e) = typed-no-line t g c
+rule-no-line (one_rule t g c b e) = typed-no-line t g c
 
 pub rules-no-line : {ws ws' : List Word} {rs : List Rule} → RulesIn ws ws' rs → NoLine ws
 rules-no-line (last_rule q m) = rule-no-line q

@@ -5,7 +5,7 @@ use mathlib.Core.Option.{Option}
 use mathlib.Core.Path.{◌≡◌, refl, sym, ap, ◌∙◌}
 use Prim.Native.Nat.{ℕ}
 use lib.Dec.{eqb, leb}
-use Rattle.grammar.specs.Derived.{Took, Reference, by_name, by_string, ConstantIn, no_constant, a_constant, ValueIn, no_value, a_value, PlainIn, named_in, any_in, emit_in, error_in, exit_in, call_in, give_in, ranked_in, SelectorIn, token_in, rule_in, operation_in, LabelsIn, last_label, more_labels, ActIn, plain_in, cycle_in, choice_in, ActsIn, none_in, more_in, AltsIn, other_in, last_in, next_in, GivesIn, gives_none, gives_some, RuleIn, a_rule, RulesIn, last_rule, more_rules}
+use Rattle.grammar.specs.Derived.{Took, Reference, by_name, by_string, ConstantIn, no_constant, one_constant, ValueIn, no_value, one_value, PlainIn, named_in, any_in, emit_in, error_in, exit_in, call_in, give_in, ranked_in, SelectorIn, token_in, rule_inside, operation_inside, LabelsIn, last_label, more_labels, ActIn, plain_in, cycle_in, choice_in, ActsIn, none_in, more_in, AltsIn, other_in, last_in, next_in, GivesIn, gives_none, gives_some, RuleIn, one_rule, RulesIn, last_rule, more_rules}
 use Rattle.parts.specs.Objects.{call_of, selects, calls, calls_all, calls_some, calls_other, mentions}
 use Rattle.partnames.specs.Mentioning.{leads, names, names_from, stops}
 use Rattle.syntax.specs.Reading.{peek}
@@ -42,11 +42,11 @@ reference (by_string t) = passed 259 refl refl t
 
 constant : {ws ws' : List Word} {c : Option Constant} → ConstantIn ws ws' c → Same ws ws'
 constant (no_constant n e) = none_read e
-constant (a_constant p r q) = passed 40 refl refl p ∙ reference r ∙ passed 41 refl refl q
+constant (one_constant p r q) = passed 40 refl refl p ∙ reference r ∙ passed 41 refl refl q
 
 given-value : {ws ws' : List Word} {v : Option Word} → ValueIn ws ws' v → Same ws ws'
 given-value (no_value m n e) = none_read e
-given-value (a_value r) = reference r
+given-value (one_value r) = reference r
 
 called : {ws ws₁ ws' : List Word} {at w : Word} → Took 64 ws at ws₁ → Took 257 ws₁ w ws' → Has (w ∷ []) ws ws'
 called t u = led 64 refl refl t ∙ a-name u
@@ -65,8 +65,8 @@ plain-names (ranked_in s w t o) = passed 94 refl refl s ∙ passed 257 refl refl
 selector-names : {ws ws' : List Word} {s : Selector} → SelectorIn ws ws' s → Has (selects s) ws ws'
 unfolding selects
 selector-names (token_in m n e) = none_read e
-selector-names (rule_in t r) = called t r
-selector-names (operation_in t c) = passed 257 refl refl t ∙ constant c
+selector-names (rule_inside t r) = called t r
+selector-names (operation_inside t c) = passed 257 refl refl t ∙ constant c
 
 labels : {ws ws' ls : List Word} → LabelsIn ws ws' ls → Same ws ws'
 labels (last_label r n) = reference r
@@ -111,7 +111,7 @@ gives-names (gives_none n e) = none_read e
 gives-names (gives_some t u) = passed 256 refl refl t ∙ passed 257 refl refl u
 
 rule-names : {ws ws' : List Word} {r : Rule} → RuleIn ws ws' r → names_from true ws ≡ r.rule ∷ (calls_all r.body ++ names_from true ws')
-rule-names {r = r} (a_rule t g c b e) =
+rule-names {r = r} (one_rule t g c b e) =
     a-name t ∙ ap (λ (l : List Word). r.rule ∷ l) (gives-names g ∙ passed 58 refl refl c ∙ then-none (calls_all r.body) (acts-names b) (led 59 refl refl e))
 
 -- `end` is next

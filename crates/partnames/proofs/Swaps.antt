@@ -5,7 +5,7 @@ use mathlib.Core.Option.{Option}
 use mathlib.Core.Path.{◌≡◌, refl, sym, ap, ◌∙◌}
 use Prim.Native.Nat.{ℕ}
 use Rattle.collector.specs.Collecting.{ListIn, no_head, more_heads}
-use Rattle.grammar.specs.Derived.{Took, Reference, by_name, by_string, SpellingIn, no_strings, no_spelling, a_spelling, CountIn, a_numeral, counted, EntryIn, an_entry, EntriesIn, last_entry, more_entries, GivesIn, gives_none, gives_some, TakesIn, takes_none, takes_some, OperationIn, an_operation, OperationsIn, last_operation, more_operations, SideIn, left_in, right_in, OperatorIn, an_operator, OperatorsIn, last_operator, more_operators, ListedIn, listed_in, SectionIn, inputs_in, both_in, outputs_in, errors_in, values_in, operations_in, operators_in, SectionsIn, no_section, more_sections}
+use Rattle.grammar.specs.Derived.{Took, Reference, by_name, by_string, SpellingIn, no_strings, no_spelling, one_spelling, CountIn, a_numeral, counted, EntryIn, one_entry, EntriesIn, last_entry, more_entries, GivesIn, gives_none, gives_some, TakesIn, takes_none, takes_some, OperationIn, one_operation, OperationsIn, last_operation, more_operations, SideIn, left_in, right_in, OperatorIn, one_operator, OperatorsIn, last_operator, more_operators, ListedIn, listed_in, SectionIn, inputs_in, both_in, outputs_in, errors_in, values_in, operations_in, operators_in, SectionsIn, no_section, more_sections}
 use Rattle.partnames.specs.Declaring.{CommonIn}
 use Rattle.syntax.specs.Reading.{peek}
 use Rattle.syntax.specs.Sections.{Sofar}
@@ -61,18 +61,18 @@ reference-again new (by_string t) = let a = took-again new t in record { words =
 spelling-again : {strings : Bool} {ws old : List Word} {o : Option Word} (new : List Word) → Alike old new → SpellingIn strings ws old o → Again old new ws (λ u. SpellingIn strings u new o)
 spelling-again new a (no_strings e f) = none-again a f (λ _. no_strings e refl)
 spelling-again new a (no_spelling e n f) = none-again a f (λ b. no_spelling e (λ k. n (b.kind ∙ k)) refl)
-spelling-again new a (a_spelling e t) = let x = took-again new t in record { words = x.words; swap = x.swap; alike = x.alike; read = a_spelling e x.read }
+spelling-again new a (one_spelling e t) = let x = took-again new t in record { words = x.words; swap = x.swap; alike = x.alike; read = one_spelling e x.read }
 
 count-again : {v n : ℕ} {ws old : List Word} (new : List Word) → Alike old new → CountIn v ws old n → Again old new ws (λ u. CountIn v u new n)
 count-again new a (a_numeral t u e l) = let y = took-again new u in let x = took-again y.words t in after y x (a_numeral x.read y.read e l)
 count-again new a (counted n f e l) = none-again a f (λ b. counted (λ k. n (b.kind ∙ k)) refl e l)
 
 entry-again : {strings : Bool} {v : ℕ} {ws old : List Word} {e : Entry} (new : List Word) → Alike old new → EntryIn strings v ws old e → Again old new ws (λ u. EntryIn strings v u new e)
-entry-again new a (an_entry t s n) =
+entry-again new a (one_entry t s n) =
     let z = count-again new a n in
     let y = spelling-again z.words z.alike s in
     let x = took-again y.words t in
-    after_two z y x (an_entry x.read y.read z.read)
+    after_two z y x (one_entry x.read y.read z.read)
 
 entries-again : {strings : Bool} {v : ℕ} {ws old : List Word} {es : List Entry} (new : List Word) → EntriesIn strings v ws old es → Again old new ws (λ u. EntriesIn strings v u new es)
 entries-again new (last_entry q s) = let y = took-again new s in let x = entry-again y.words y.alike q in after y x (last_entry x.read y.read)
@@ -99,11 +99,11 @@ takes-again new a (takes_some t u c) =
     after_two z y x (takes_some x.read y.read z.read)
 
 operation-again : {seen : List ℕ} {ws old : List Word} {o : Operation} (new : List Word) → Alike old new → OperationIn seen ws old o → Again old new ws (λ u. OperationIn seen u new o)
-operation-again new a (an_operation t p g e l) =
+operation-again new a (one_operation t p g e l) =
     let z = gives-again new a g in
     let y = takes-again z.words z.alike p in
     let x = took-again y.words t in
-    after_two z y x (an_operation x.read y.read z.read e l)
+    after_two z y x (one_operation x.read y.read z.read e l)
 
 operations-again : {seen : List ℕ} {ws old : List Word} {os : List Operation} (new : List Word) → OperationsIn seen ws old os → Again old new ws (λ u. OperationsIn seen u new os)
 operations-again new (last_operation q s) = let y = took-again new s in let x = operation-again y.words y.alike q in after y x (last_operation x.read y.read)
@@ -119,12 +119,12 @@ side-again new (left_in t e) = let x = took-again new t in record { words = x.wo
 side-again new (right_in t e) = let x = took-again new t in record { words = x.words; swap = x.swap; alike = x.alike; read = right_in x.read e }
 
 operator-again : {ws old : List Word} {o : Operator} (new : List Word) → OperatorIn ws old o → Again old new ws (λ u. OperatorIn u new o)
-operator-again new (an_operator r t e l h s m) =
+operator-again new (one_operator r t e l h s m) =
     let z = reference-again new m in
     let y = side-again z.words s in
     let x = took-again y.words t in
     let w = reference-again x.words r in
-    after-three z y x w (an_operator w.read x.read e l h y.read z.read)
+    after-three z y x w (one_operator w.read x.read e l h y.read z.read)
 
 operators-again : {ws old : List Word} {os : List Operator} (new : List Word) → OperatorsIn ws old os → Again old new ws (λ u. OperatorsIn u new os)
 operators-again new (last_operator q s) = let y = took-again new s in let x = operator-again y.words q in after y x (last_operator x.read y.read)

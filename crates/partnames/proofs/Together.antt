@@ -22,7 +22,7 @@ use Rattle.partnames.proofs.Mentioned.{held-from}
 use Rattle.partnames.proofs.Named.{rules-names}
 use Rattle.partnames.specs.Declaring.{CommonIn, CommonRows}
 use Rattle.partnames.specs.Mentioning.{Adds, added, past, AddsFrom, Seen, texts_of}
-use Rattle.partnames.specs.Settling.{Rowed, in_rows, past_names, RowsOf}
+use Rattle.partnames.specs.Settling.{Rowed, in_rows, past_names_lem, RowsOf}
 use Rattle.partnames.specs.declared.Added.{Added}
 use Rattle.partnames.specs.declared.Declared.{Declared}
 use Rattle.symbols.specs.Rows.{held, held_from}
@@ -105,7 +105,7 @@ all-rowed {text} {rows} {rows'} {d} {ws'} {c} rs {a} r (added z b) =
     (b.filled ∙ ap (λ (ds : List Decl). ds ++ rule_decls (d.count - d.first) (called_rules (others c.listed rs))) r.rows
     ∙ ap (λ (i : ℕ). (sections_decls 0 c.sections ++ rule_decls 0 (as_rules c.listed)) ++ rule_decls i (called_rules (others c.listed rs))) e ∙ sym (whole-rows c rs))
     (omega (arith, b.counted, r.count, n, rules-length c rs))
-all-rowed rs r (past z i l) = past_names z i l
+all-rowed rs r (past z i l) = past_names_lem z i l
 
 pub others-rowed : {text rows rows' : List ℕ} {d : Declared} {ws ws' left : List Word} {c : Common} {rs : List Rule} {a : Added} → CommonIn ws ws' c → CommonRows text rows d ws' c
     → AddsFrom text rows rows' d.first d.count d.at true a → length rows ≡ 6017 → RulesIn (words_at text d.at) left rs → (peek left).kind ≡ 266

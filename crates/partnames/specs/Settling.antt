@@ -18,7 +18,7 @@ use Rattle.words.specs.Words.{Word}
 -- the rows are those of the sections, the list and the other rules that rs name; or one of these names is past the 512
 pub data Rowed (text rows : List ℕ) (first : ℕ) (r : Added) (c : Common) (rs : List Rule) : Option Word → Type 0 where
   in_rows : r.fault ≡ 0 → held text rows r.count ≡ decls_of (together c rs) → r.count ≡ first + length (together c rs).rules → Rowed text rows first r c rs none
-  past_names : {w : Word} → r.fault ≡ 9 → r.at ≡ w.start → r.len ≡ length w.text → Rowed text rows first r c rs (some w)
+  past_names_lem : {w : Word} → r.fault ≡ 9 → r.at ≡ w.start → r.len ≡ length w.text → Rowed text rows first r c rs (some w)
 
 -- what the first n rows are before they are settled: the first of them that is a rule's, and how many lines the list has
 pub record RowsOf (text rows : List ℕ) (n first lines : ℕ) (c : Common) (rs : List Rule) : Type 0 where

@@ -9,7 +9,7 @@ use native.Mathlib.Omega.{arith}
 use lib.Dec.{eqb}
 use lib.ListN.{length, take, drop, length-drop}
 use Rattle.std.specs.Prelude.{if◌then◌else◌}
-use Rattle.grammar.specs.Derived.{Took, Reference, by_name, by_string, ConstantIn, no_constant, a_constant, ValueIn, no_value, a_value, PlainIn, named_in, any_in, emit_in, error_in, exit_in, call_in, give_in, ranked_in, SelectorIn, token_in, rule_in, operation_in, LabelsIn, last_label, more_labels, ActIn, plain_in, cycle_in, choice_in, ActsIn, none_in, more_in, AltsIn, other_in, last_in, next_in, GivesIn, gives_none, gives_some, RuleIn, a_rule, RulesIn, last_rule, more_rules}
+use Rattle.grammar.specs.Derived.{Took, Reference, by_name, by_string, ConstantIn, no_constant, one_constant, ValueIn, no_value, one_value, PlainIn, named_in, any_in, emit_in, error_in, exit_in, call_in, give_in, ranked_in, SelectorIn, token_in, rule_inside, operation_inside, LabelsIn, last_label, more_labels, ActIn, plain_in, cycle_in, choice_in, ActsIn, none_in, more_in, AltsIn, other_in, last_in, next_in, GivesIn, gives_none, gives_some, RuleIn, one_rule, RulesIn, last_rule, more_rules}
 use Rattle.names.specs.Uses.{Use, plain_uses, act_uses, acts_uses, alts_uses, other_uses, rules_uses, is_used, firsts, pairs_of}
 use Rattle.syntax.specs.Written.{Constant, Plain, Selector, Act, Acts, Alts, Other, Rule}
 use Rattle.words.specs.Words.{Word, blank, bad, run, word_here, words_from, words_at}
@@ -51,11 +51,11 @@ reference (by_string t) = took t
 
 constant : {ws ws' : List Word} {c : Option Constant} → ConstantIn ws ws' c → length ws' ≤ length ws
 constant (no_constant n e) = omega (arith, ap length e)
-constant (a_constant p r q) = omega (arith, took p, reference r, took q)
+constant (one_constant p r q) = omega (arith, took p, reference r, took q)
 
 value : {ws ws' : List Word} {v : Option Word} → ValueIn ws ws' v → length ws' ≤ length ws
 value (no_value n m e) = omega (arith, ap length e)
-value (a_value r) = omega (arith, reference r)
+value (one_value r) = omega (arith, reference r)
 
 some-plain : {ws ws' : List Word} {a : Plain} (k : List Use) → PlainIn ws ws' a → 4 * length (plain_uses a k) + length ws' ≤ 4 * length k + length ws
 unfolding plain_uses
@@ -70,8 +70,8 @@ some-plain k (ranked_in a b c d) = omega (arith, took a, took b, took c, took d)
 
 selector : {ws ws' : List Word} {s : Selector} → SelectorIn ws ws' s → length ws' ≤ length ws
 selector (token_in n m e) = omega (arith, ap length e)
-selector (rule_in t u) = omega (arith, took t, took u)
-selector (operation_in t c) = omega (arith, took t, constant c)
+selector (rule_inside t u) = omega (arith, took t, took u)
+selector (operation_inside t c) = omega (arith, took t, constant c)
 
 labels : {ws ws' ls : List Word} → LabelsIn ws ws' ls → length ws' ≤ length ws
 labels (last_label r n) = omega (arith, reference r)
@@ -99,7 +99,7 @@ gives (gives_none n e) = omega (arith, ap length e)
 gives (gives_some t u) = omega (arith, took t, took u)
 
 rule : {ws ws' : List Word} {r : Rule} (k : List Use) → RuleIn ws ws' r → 4 * length (acts_uses r.body k) + length ws' ≤ 4 * length k + length ws
-rule k (a_rule t g c x u) = omega (arith, took t, gives g, took c, acts k x, took u)
+rule k (one_rule t g c x u) = omega (arith, took t, gives g, took c, acts k x, took u)
 
 rules-few : {ws ws' : List Word} {rs : List Rule} → RulesIn ws ws' rs → 4 * length (rules_uses rs) + length ws' ≤ length ws
 unfolding rules_uses

@@ -14,7 +14,7 @@ use Rattle.std.specs.Prelude.{if◌then◌else◌}
 use Rattle.base.specs.Common.{same}
 use Rattle.declarations.proofs.Declaring.{entry-means, value_found}
 use Rattle.declarations.specs.Decls.{Agrees, Decl, EntriesAt, entries_or, entries_from, entries_of, index_of, mapped, operator_from, operators_from, operator_in, operators_in, section_decls}
-use Rattle.grammar.specs.Derived.{an_operator, OperatorsIn, last_operator, more_operators}
+use Rattle.grammar.specs.Derived.{one_operator, OperatorsIn, last_operator, more_operators}
 use Rattle.maker.proofs.Taking.{row_at}
 use Rattle.names.specs.Known.{Checked, good, wrong, ◌>>=◌, KnownOperators, KnownRule, Names, find_operators, in_section, in_sections, declared, is_type}
 use Rattle.parts.proofs.Alike.{OneEach, nowhere, there, one_each_lem}
@@ -129,8 +129,8 @@ module _ (o : made.Operator) where
 
 pub first-level : {ws ws' : List Word} (ds : List Decl) (es : List Operator) → OperatorsIn ws ws' es → length (levels_of (operators_from ds (first_of es))) ≡ 1
 unfolding operators_from first_of
-first-level ds _ (last_operator (an_operator r k q a b z y) t) = one-level _ a b
-first-level ds _ (more_operators (an_operator r k q a b z y) n m) = one-level _ a b
+first-level ds _ (last_operator (one_operator r k q a b z y) t) = one-level _ a b
+first-level ds _ (more_operators (one_operator r k q a b z y) n m) = one-level _ a b
 
 -- the first entry has no fault
 first_good : (ds : List Decl) (es : List Operator) (os : List made.Operator) → operators_in ds es [] ≡ good os → operators_in ds (first_of es) [] ≡ good (operators_from ds (first_of es))

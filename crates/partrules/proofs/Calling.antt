@@ -12,7 +12,7 @@ use lib.ListN.{length, take, drop, length-append}
 use Rattle.base.proofs.Laws.{neither, lt-or-le}
 use Rattle.std.specs.Prelude.{if◌then◌else◌}
 use Rattle.base.specs.Tree.{plain, cycle, choice, done, ◌▸◌, nil, alternative, absent, otherwise}
-use Rattle.grammar.specs.Derived.{Took, Reference, by_name, by_string, ConstantIn, no_constant, a_constant, ValueIn, no_value, a_value, PlainIn, named_in, any_in, emit_in, error_in, exit_in, call_in, give_in, ranked_in, SelectorIn, token_in, rule_in, operation_in, LabelsIn, last_label, more_labels, ActIn, plain_in, cycle_in, choice_in, ActsIn, none_in, more_in, AltsIn, other_in, last_in, next_in}
+use Rattle.grammar.specs.Derived.{Took, Reference, by_name, by_string, ConstantIn, no_constant, one_constant, ValueIn, no_value, one_value, PlainIn, named_in, any_in, emit_in, error_in, exit_in, call_in, give_in, ranked_in, SelectorIn, token_in, rule_inside, operation_inside, LabelsIn, last_label, more_labels, ActIn, plain_in, cycle_in, choice_in, ActsIn, none_in, more_in, AltsIn, other_in, last_in, next_in}
 use Rattle.parts.specs.Form.{name_words, names_words}
 use Rattle.parts.specs.Moved.{move_word, move_words}
 use Rattle.parts.specs.Objects.{call_of, selects, calls, calls_all, calls_some, calls_other}
@@ -74,11 +74,11 @@ reference-passes (by_string t) = passes t (λ e. omega (arith, e)) (λ e. omega 
 
 constant-passes : {ws ws' : List Word} (c : Option Constant) → ConstantIn ws ws' c → calls_from ws ≡ calls_from ws'
 constant-passes c (no_constant n e) = ap calls_from (sym e)
-constant-passes c (a_constant t u v) = passes t (λ e. omega (arith, e)) (λ e. omega (arith, e)) ∙ reference-passes u ∙ passes v (λ e. omega (arith, e)) (λ e. omega (arith, e))
+constant-passes c (one_constant t u v) = passes t (λ e. omega (arith, e)) (λ e. omega (arith, e)) ∙ reference-passes u ∙ passes v (λ e. omega (arith, e)) (λ e. omega (arith, e))
 
 value_passes : {ws ws' : List Word} (v : Option Word) → ValueIn ws ws' v → calls_from ws ≡ calls_from ws'
 value_passes v (no_value n m e) = ap calls_from (sym e)
-value_passes v (a_value u) = reference-passes u
+value_passes v (one_value u) = reference-passes u
 
 labels-pass : {ws ws' : List Word} (ls : List Word) → LabelsIn ws ws' ls → calls_from ws ≡ calls_from ws'
 labels-pass ls (last_label u n) = reference-passes u
@@ -100,8 +100,8 @@ plain-calls a (ranked_in t u v x) = passes t (λ e. omega (arith, e)) (λ e. ome
 selector-calls : {ws ws' : List Word} (s : written.Selector) → SelectorIn ws ws' s → calls_from ws ≡ selects s ++ calls_from ws'
 unfolding selects
 selector-calls s (token_in n m e) = ap calls_from (sym e)
-selector-calls s (rule_in t u) = one-call t u
-selector-calls s (operation_in {c = c} t d) = passes t (λ e. omega (arith, e)) (λ e. omega (arith, e)) ∙ constant-passes c d
+selector-calls s (rule_inside t u) = one-call t u
+selector-calls s (operation_inside {c = c} t d) = passes t (λ e. omega (arith, e)) (λ e. omega (arith, e)) ∙ constant-passes c d
 
 mutual
   unfolding calls

@@ -17,7 +17,7 @@ use Rattle.builder.specs.declared.Head.{Head}
 use Rattle.cells.specs.Cells.{acts_cells}
 use Rattle.declarations.proofs.Rows.{given-mapped}
 use Rattle.declarations.specs.Decls.{Agrees, Decl, index_of, optional_in}
-use Rattle.grammar.specs.Derived.{Took, GivesIn, ActsIn, RuleIn, a_rule}
+use Rattle.grammar.specs.Derived.{Took, GivesIn, ActsIn, RuleIn, one_rule}
 use Rattle.names.specs.Known.{Checked, good, wrong, ◌>>=◌, fault_if, Known, find_operation, optional_type}
 use Rattle.names.specs.Resolve.{acts_of}
 use Rattle.names.specs.Understand.{is_one, taken}
@@ -78,7 +78,7 @@ open-taken {text} {rows} {seen} {cs} {n} {at} {t} {d} {w} inn N e q e₁ e₂ e�
   where
     go : (first : ℕ) (x : Context) → Holds text rows n first x → (r : written.Rule) (ws : List Word) → RuleIn (words_at text at) ws r
         → Ends (x.sure ≡ true) text ws cs 0 cs (λ o. acts_cells o.means.body []) (OpensAs r) d (open_by x (held text rows n) seen r)
-    go first x H r ws (a_rule {ws₁ = ws₁} y g u a z) =
+    go first x H r ws (one_rule {ws₁ = ws₁} y g u a z) =
         let s : Same text w r.rule ws₁ = took-here text at 257 w r.rule ws₁ (omega arith) N y in
         found (taken_by (held text rows n) seen r.rule.text) 4 r.rule _ (named-so (held text rows n) seen t s e ∙ q) e₁ (λ z. omega (arith, z))
         (e₂ ∙ ap (λ (v : Word). v.start) (sym s.word)) (e₃ ∙ sym (word-length N inn) ∙ ap (λ (v : Word). length v.text) (sym s.word))
@@ -91,7 +91,7 @@ open-typed {text} {rows} {seen} {cs} {n} {at} {t} {d} {w} {h} N e q T nz e₁ e�
   where
     go : (first : ℕ) (x : Context) → Holds text rows n first x → (r : written.Rule) (ws : List Word) → RuleIn (words_at text at) ws r
         → Ends (x.sure ≡ true) text ws cs 0 cs (λ o. acts_cells o.means.body []) (OpensAs r) d (open_by x (held text rows n) seen r)
-    go first x H r ws (a_rule {colon = colon} {ws₁ = ws₁} {ws₂ = ws₂} {ws₃ = ws₃} y g u a z) =
+    go first x H r ws (one_rule {colon = colon} {ws₁ = ws₁} {ws₂ = ws₂} {ws₃ = ws₃} y g u a z) =
         let s : Same text w r.rule ws₁ = took-here text at 257 w r.rule ws₁ (omega arith) N y in
         passed (taken_by (held text rows n) seen r.rule.text) 4 r.rule _ (named-so (held text rows n) seen t s e ∙ q)
         (head-fails (optional_in (held text rows n) (held text rows n) r.gives) _ (T.done r.gives colon ws₂ ws₃ (subst (λ l. GivesIn l ws₂ r.gives) s.behind g) u) nz e₁ e₂ e₃)
@@ -104,7 +104,7 @@ open-fail {text} {rows} {seen} {cs} {cs'} {n} {at} {t} {w} {h} {b} N e q T z₁ 
   where
     go : (first : ℕ) (x : Context) → Holds text rows n first x → (r : written.Rule) (ws : List Word) → RuleIn (words_at text at) ws r
         → Ends (x.sure ≡ true) text ws cs 0 cs' (λ o. acts_cells o.means.body []) (OpensAs r) b.done (open_by x (held text rows n) seen r)
-    go first x H r ws (a_rule {colon = colon} {ws₁ = ws₁} {ws₂ = ws₂} {ws₃ = ws₃} {ws₄ = ws₄} y g u a z) =
+    go first x H r ws (one_rule {colon = colon} {ws₁ = ws₁} {ws₂ = ws₂} {ws₃ = ws₃} {ws₄ = ws₄} y g u a z) =
         let s : Same text w r.rule ws₁ = took-here text at 257 w r.rule ws₁ (omega arith) N y in
         passed (taken_by (held text rows n) seen r.rule.text) 4 r.rule _ (named-so (held text rows n) seen t s e ∙ q)
         (head-then (optional_in (held text rows n) (held text rows n) r.gives) _ (T.done r.gives colon ws₂ ws₃ (subst (λ l. GivesIn l ws₂ r.gives) s.behind g) u) z₁
@@ -152,7 +152,7 @@ open-closed {text} {rows} {seen} {cs} {cs'} {n} {at} {t} {u} {d} {w} {v} {h} {b}
 
     go : (first : ℕ) (x : Context) → Holds text rows n first x → (r : written.Rule) (ws : List Word) → RuleIn (words_at text at) ws r
         → Ends (x.sure ≡ true) text ws cs 0 cs' (λ o. acts_cells o.means.body []) (OpensAs r) d (open_by x (held text rows n) seen r)
-    go first x H r ws (a_rule {colon = colon} {ws₁ = ws₁} {ws₂ = ws₂} {ws₃ = ws₃} {ws₄ = ws₄} y g c a z) =
+    go first x H r ws (one_rule {colon = colon} {ws₁ = ws₁} {ws₂ = ws₂} {ws₃ = ws₃} {ws₄ = ws₄} y g c a z) =
         let s : Same text w r.rule ws₁ = took-here text at 257 w r.rule ws₁ (omega arith) N y in
         passed (taken_by (held text rows n) seen r.rule.text) 4 r.rule _ (named-so (held text rows n) seen t s e ∙ q)
         (head-then (optional_in (held text rows n) (held text rows n) r.gives) _ (T.done r.gives colon ws₂ ws₃ (subst (λ l. GivesIn l ws₂ r.gives) s.behind g) c) z₁

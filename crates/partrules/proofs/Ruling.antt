@@ -11,7 +11,7 @@ use Rattle.acceptance.proofs.Shape.{Each}
 use Rattle.base.specs.Common.{given}
 use Rattle.cells.specs.Cells.{acts_cells}
 use Rattle.declarations.specs.Decls.{index_of}
-use Rattle.grammar.specs.Derived.{Took, Not, RuleIn, a_rule, RulesIn, last_rule, more_rules}
+use Rattle.grammar.specs.Derived.{Took, Not, RuleIn, one_rule, RulesIn, last_rule, more_rules}
 use Rattle.maker.proofs.Taking.{row-less}
 use Rattle.names.specs.Known.{Checked, good, wrong, ◌>>=◌}
 use Rattle.parts.specs.Form.{mark_of, body_cells, rule_words, rules_words}
@@ -107,9 +107,9 @@ rule-writes {text} {rows} {seen} {seen'} {cs} {object} {object'} cs' {n} {first}
     go : (x : Context) → Holds text rows n first x → (before : List (List ℕ)) → SeenAre (held text rows n) before seen → (r : written.Rule) (ws : List Word) → RuleIn (words_at text at) ws r
         → Able (held text rows n) (length cs) x r
         → RuleEnd text ws moved first x object c object' (SeenAre (held text rows n) (r.rule.text ∷ before) seen') d₂ (open_rule x.program x.names x.known before r)
-    go x H before S r ws (a_rule {colon = colon} {ws₁ = ws₁} {ws₂ = ws₂} {ws₃ = ws₃} {ws₄ = ws₄} y i u a b) A =
+    go x H before S r ws (one_rule {colon = colon} {ws₁ = ws₁} {ws₂ = ws₂} {ws₃ = ws₃} {ws₄ = ws₄} y i u a b) A =
         let k = open-means x (held text rows n) before seen r H.agrees S in
-        let j : RuleIn (words_at text at) ws r = a_rule y i u a b in
+        let j : RuleIn (words_at text at) ws r = one_rule y i u a b in
         subst (λ m. RuleEnd text ws moved first x object c object' (SeenAre (held text rows n) (r.rule.text ∷ before) seen') d₂ m) (sym k)
         (pick x (open_by x (held text rows n) seen r) H.pairs (λ h o q. A.sound h before o (k ∙ q)) (λ h o q. A.fits h before o (k ∙ q)) (P.done r ws j)
         (marks before r ws₁ S (took-here text at 257 w r.rule ws₁ (omega arith) N y) A.row) (R.done first x H r ws j))

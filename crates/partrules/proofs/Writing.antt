@@ -7,7 +7,7 @@ use Prim.Native.Nat.{ℕ, zero, suc, ◌+◌, ◌-◌, ◌<◌, ◌≤◌}
 use lib.ListN.{length, take}
 use lib.Seq.{length-take-le}
 use Rattle.cells.specs.Cells.{acts_cells}
-use Rattle.grammar.specs.Derived.{Took, ActsIn, GivesIn, gives_none, gives_some, RuleIn, a_rule}
+use Rattle.grammar.specs.Derived.{Took, ActsIn, GivesIn, gives_none, gives_some, RuleIn, one_rule}
 use Rattle.parts.specs.Form.{name_words, type_words, names_words, body_cells, rule_words}
 use Rattle.parts.specs.Moved.{move_word, move_words, move_if, move_open}
 use Rattle.parts.specs.Objects.{Aim, OpenRule, calls_all}
@@ -81,7 +81,7 @@ unfolding rule_here
 rule-put {text} {object} {o₁} {o₂} {o₃} {o₄} {o₅} {at} {moved} {first} {c} {m} cells n {h} {c₂} {c₃} {c₄} {c₅} H e p q r l s = record { done = go }
   where
     go : (x : Rule) (ws : List Word) → RuleIn (words_at text at) ws x → Puts object c (rule_here moved first (take n cells) x) o₅ c₅
-    go x ws (a_rule {colon = colon} {ws₁ = ws₁} {ws₂ = ws₂} {ws₃ = ws₃} {ws₄ = ws₄} t g u a z) =
+    go x ws (one_rule {colon = colon} {ws₁ = ws₁} {ws₂ = ws₂} {ws₃ = ws₃} {ws₄ = ws₄} t g u a z) =
         let y = H.done x colon ws₁ ws₂ ws₃ t g u in
         let b : calls_from (words_at text h.at) ≡ calls_all x.body = body-calls (subst (λ k. ActsIn k ws₄ x.body) y.0 a) z in
         let many : m ≡ length (calls_all x.body) = e ∙ ap length b in

@@ -14,7 +14,7 @@ use Rattle.base.specs.Common.{member, given}
 use Rattle.base.specs.Tree.{plain, cycle, choice, done, ◌▸◌, nil, alternative, absent, otherwise}
 use Rattle.calls.specs.Renumber.{renumber_plain, renumber_selector, renumber, renumbers, renumber_alts, renumber_other}
 use Rattle.cells.specs.Cells.{plain_cells, selector_cells, absent_cell, act_cells, acts_cells, alts_cells, other_cells}
-use Rattle.grammar.specs.Derived.{Took, Reference, by_name, by_string, ConstantIn, no_constant, a_constant, ValueIn, no_value, a_value, PlainIn, named_in, any_in, emit_in, error_in, exit_in, call_in, give_in, ranked_in, SelectorIn, token_in, rule_in, operation_in, LabelsIn, last_label, more_labels, ActIn, plain_in, cycle_in, choice_in, ActsIn, none_in, more_in, AltsIn, other_in, last_in, next_in, GivesIn, gives_none, gives_some, RuleIn, a_rule, RulesIn, last_rule, more_rules}
+use Rattle.grammar.specs.Derived.{Took, Reference, by_name, by_string, ConstantIn, no_constant, one_constant, ValueIn, no_value, one_value, PlainIn, named_in, any_in, emit_in, error_in, exit_in, call_in, give_in, ranked_in, SelectorIn, token_in, rule_inside, operation_inside, LabelsIn, last_label, more_labels, ActIn, plain_in, cycle_in, choice_in, ActsIn, none_in, more_in, AltsIn, other_in, last_in, next_in, GivesIn, gives_none, gives_some, RuleIn, one_rule, RulesIn, last_rule, more_rules}
 use Rattle.names.specs.Known.{Known, KnownRule, Names, good, lookup, optional_type}
 use Rattle.names.specs.Resolve.{Place, within, plain_of, selector_of, labels_of, act_of, acts_of, alts_of, other_of}
 use Rattle.names.specs.Understand.{taken}
@@ -41,11 +41,11 @@ same-less {ws} {ws'} e = let d : length ws' ≡ length ws = ap length e in omega
 
 pub constant-less : {ws ws' : List Word} {c : Option written.Constant} → ConstantIn ws ws' c → length ws' ≤ length ws
 constant-less (no_constant n e) = same-less e
-constant-less (a_constant t r u) = omega (arith, took-less t, reference-less r, took-less u)
+constant-less (one_constant t r u) = omega (arith, took-less t, reference-less r, took-less u)
 
 pub value-less : {ws ws' : List Word} {v : Option Word} → ValueIn ws ws' v → length ws' ≤ length ws
 value-less (no_value n m e) = same-less e
-value-less (a_value r) = omega (arith, reference-less r)
+value-less (one_value r) = omega (arith, reference-less r)
 
 pub plain-less : {ws ws' : List Word} {a : written.Plain} → PlainIn ws ws' a → 1 + length ws' ≤ length ws
 plain-less (named_in r c) = omega (arith, reference-less r, constant-less c)
@@ -59,8 +59,8 @@ plain-less (ranked_in s w t o) = omega (arith, took-less s, took-less w, took-le
 
 pub selector-less : {ws ws' : List Word} {s : written.Selector} → SelectorIn ws ws' s → length ws' ≤ length ws
 selector-less (token_in n m e) = same-less e
-selector-less (rule_in t u) = omega (arith, took-less t, took-less u)
-selector-less (operation_in t c) = omega (arith, took-less t, constant-less c)
+selector-less (rule_inside t u) = omega (arith, took-less t, took-less u)
+selector-less (operation_inside t c) = omega (arith, took-less t, constant-less c)
 
 pub labels-less : {ws ws' ls : List Word} → LabelsIn ws ws' ls → length ls + length ws' ≤ length ws
 labels-less (last_label r n) = omega (arith, reference-less r)
@@ -171,7 +171,7 @@ InRule ws ws' o = 5 + (length (acts_cells o.means.body []) + 2 * length ws') ≤
 module _ (p : Program) (n : Names) (ks : List KnownRule) where
   rule-bound : {ws ws' : List Word} {r : written.Rule} → RuleIn ws ws' r → (seen : List (List ℕ)) → Yields (InRule ws ws') (open_rule p n ks seen r)
   unfolding open_rule
-  rule-bound {ws} {ws'} {r} (a_rule {ws₃ = ws₃} {ws₄ = ws₄} t g u q v) seen =
+  rule-bound {ws} {ws'} {r} (one_rule {ws₃ = ws₃} {ws₄ = ws₄} t g u q v) seen =
       let P = InRule ws ws' in
       passed P (taken r.rule n seen) 4 r.rule _ (λ _.
       next P Any (optional_type p n.types r.gives) _ (any (optional_type p n.types r.gives)) (λ x _.
@@ -203,7 +203,7 @@ mutual
   alts-less (next_in l few t q u r) = omega (arith, labels-less l, took-less t, acts-less q, took-less u, alts-less r)
 
 rule-less : {ws ws' : List Word} {r : written.Rule} → RuleIn ws ws' r → 3 + length ws' ≤ length ws
-rule-less (a_rule t g u q v) = omega (arith, took-less t, gives_less g, took-less u, acts-less q, took-less v)
+rule-less (one_rule t g u q v) = omega (arith, took-less t, gives_less g, took-less u, acts-less q, took-less v)
 
 -- each has a word for its name, its colon and its semicolon
 pub rules-less : {ws ws' : List Word} {rs : List written.Rule} → RulesIn ws ws' rs → 3 * length rs + length ws' ≤ length ws

@@ -5,7 +5,7 @@ use Prim.Native.Nat.{ℕ, suc, ◌+◌, ◌*◌, ◌≤◌}
 use lib.ListN.{length, length-append}
 use native.Mathlib.Omega.{arith}
 use Rattle.std.specs.Prelude.{if◌then◌else◌}
-use Rattle.grammar.specs.Derived.{PlainIn, named_in, any_in, emit_in, error_in, exit_in, call_in, give_in, ranked_in, SelectorIn, token_in, rule_in, operation_in, ActIn, plain_in, cycle_in, choice_in, ActsIn, none_in, more_in, AltsIn, other_in, last_in, next_in, RuleIn, a_rule, RulesIn, last_rule, more_rules}
+use Rattle.grammar.specs.Derived.{PlainIn, named_in, any_in, emit_in, error_in, exit_in, call_in, give_in, ranked_in, SelectorIn, token_in, rule_inside, operation_inside, ActIn, plain_in, cycle_in, choice_in, ActsIn, none_in, more_in, AltsIn, other_in, last_in, next_in, RuleIn, one_rule, RulesIn, last_rule, more_rules}
 use Rattle.names.specs.Uses.{Use, plain_uses, act_uses, acts_uses, alts_uses, other_uses, rules_uses, is_used, firsts, pairs_of}
 use Rattle.parts.proofs.Bound.{took-less, reference-less, same-less, constant-less, value-less, selector-less, labels-less, gives_less}
 use Rattle.parts.specs.Objects.{call_of, selects, calls, calls_all, calls_some, calls_other}
@@ -28,8 +28,8 @@ call-few (ranked_in s w t o) = omega (arith, took-less s, took-less w, took-less
 selects-few : {ws ws' : List Word} {s : written.Selector} → SelectorIn ws ws' s → 2 * length (selects s) + length ws' ≤ length ws
 unfolding selects
 selects-few (token_in n m e) = omega (arith, same-less e)
-selects-few (rule_in t u) = omega (arith, took-less t, took-less u)
-selects-few (operation_in t c) = omega (arith, took-less t, constant-less c)
+selects-few (rule_inside t u) = omega (arith, took-less t, took-less u)
+selects-few (operation_inside t c) = omega (arith, took-less t, constant-less c)
 
 mutual
   unfolding calls
@@ -81,7 +81,7 @@ mutual
   alts-uses (next_in {q = q} {o = o} l few t r u m) k = omega (arith, labels-less l, took-less t, acts-uses r (alts_uses q (other_uses o k)), took-less u, alts-uses m k)
 
 rule-uses : {ws ws' : List Word} {r : written.Rule} → RuleIn ws ws' r → (k : List Use) → 3 + 4 * length (acts_uses r.body k) + length ws' ≤ 4 * length k + length ws
-rule-uses (a_rule t g u q v) k = omega (arith, took-less t, gives_less g, took-less u, acts-uses q k, took-less v)
+rule-uses (one_rule t g u q v) k = omega (arith, took-less t, gives_less g, took-less u, acts-uses q k, took-less v)
 
 pub rules-uses : {ws ws' : List Word} {rs : List written.Rule} → RulesIn ws ws' rs → 3 + 4 * length (rules_uses rs) + length ws' ≤ length ws
 unfolding rules_uses

@@ -12,7 +12,7 @@ use Rattle.base.specs.Common.{bytes}
 use Rattle.grammar.proofs.Laws.{From, bind, next, gives, expects, expects-kind}
 use Rattle.grammar.proofs.ProgramIn.{rules-from}
 use Rattle.grammar.proofs.SectionsIn.{peek-took}
-use Rattle.grammar.specs.Derived.{Took, a_rule, RulesIn, last_rule, more_rules}
+use Rattle.grammar.specs.Derived.{Took, one_rule, RulesIn, last_rule, more_rules}
 use Rattle.parts.proofs.JoinedRules.{further, chained}
 use Rattle.parts.proofs.JoinedWords.{scan, late, behind-first}
 use Rattle.parts.proofs.Moved.{inner, Ahead, at_rest, a_word, Again}
@@ -139,8 +139,8 @@ last-place a [] = a
 last-place a (t ∷ ts) = last-place (a + length (between t) + 1) ts
 
 name-first : {ws rest : List Word} {rs : List Rule} → RulesIn ws rest rs → (peek ws).kind ≡ 257
-name-first (last_rule (a_rule t g u b v) n) = ap (λ (w : Word). w.kind) (peek-took t) ∙ t.kind
-name-first (more_rules (a_rule t g u b v) n m) = ap (λ (w : Word). w.kind) (peek-took t) ∙ t.kind
+name-first (last_rule (one_rule t g u b v) n) = ap (λ (w : Word). w.kind) (peek-took t) ∙ t.kind
+name-first (more_rules (one_rule t g u b v) n m) = ap (λ (w : Word). w.kind) (peek-took t) ∙ t.kind
 
 further-again : (k l : ℕ) {ws final : List Word} {rs : List Rule} → Again blank_rules (some_rules k l) ws rs final → Again blank_rules (further k l) ws rs final
 unfolding on◌then◌else◌

@@ -234,11 +234,11 @@ operators-step k j h ws =
           (λ ws₂ m m' q. gives-a (λ i. p i ∷ q i)))).carries;
     }
 
-some_operators : (k j : ℕ) (ws : List Word) → Carries j does blank_operators ws (some_operators k) (some_operators j)
+some_operators_lem : (k j : ℕ) (ws : List Word) → Carries j does blank_operators ws (some_operators k) (some_operators j)
 unfolding some_operators
-some_operators zero j ws = record { carries = refuses.carries }
-some_operators (suc k) zero ws = dry (operators-step k 0 (λ vs. some_operators k 0 vs) ws)
-some_operators (suc k) (suc j) ws = operators-step k j (λ vs. some_operators k j vs) ws
+some_operators_lem zero j ws = record { carries = refuses.carries }
+some_operators_lem (suc k) zero ws = dry (operators-step k 0 (λ vs. some_operators_lem k 0 vs) ws)
+some_operators_lem (suc k) (suc j) ws = operators-step k j (λ vs. some_operators_lem k j vs) ws
 
 -- Sections
 
@@ -258,7 +258,7 @@ operator-sections : {b : ℕ} {ws : List Word} (k : ℕ) (s : Sofar) → Carries
 unfolding operator_section blank_section inner
 operator-sections {b} k s =
     bind (one_name_lem s.left s.left (λ e. e)) (λ ws₁ w w' p.
-    next (expects 58 refl) (λ ws₂. bind (some_operators k b ws₂) (λ ws₃ os os' q. gives-a (λ i. operators (p i) (q i)))))
+    next (expects 58 refl) (λ ws₂. bind (some_operators_lem k b ws₂) (λ ws₃ os os' q. gives-a (λ i. operators (p i) (q i)))))
 
 mechanisms : {b : ℕ} {ws : List Word} (k : ℕ) (s : Sofar) → Carries (suc b) does blank_section ws (mechanism_section k s) (mechanism_section b s)
 unfolding mechanism_section blank_section inner

@@ -3,7 +3,7 @@ use mathlib.Core.List.{List, ◌∷◌}
 use mathlib.Core.Option.{Option, some}
 use mathlib.Core.Path.{◌≡◌, refl, ap}
 use Prim.Native.Nat.{ℕ}
-use Rattle.grammar.specs.Derived.{Took, Reference, by_name, by_string, ConstantIn, no_constant, a_constant, ValueIn, no_value, a_value, PlainIn, named_in, any_in, emit_in, error_in, exit_in, call_in, give_in, ranked_in, SelectorIn, token_in, rule_in, operation_in, LabelsIn, last_label, more_labels, ActIn, plain_in, cycle_in, choice_in, ActsIn, none_in, more_in, AltsIn, other_in, last_in, next_in, GivesIn, gives_none, gives_some, RuleIn, a_rule, RulesIn, last_rule, more_rules}
+use Rattle.grammar.specs.Derived.{Took, Reference, by_name, by_string, ConstantIn, no_constant, one_constant, ValueIn, no_value, one_value, PlainIn, named_in, any_in, emit_in, error_in, exit_in, call_in, give_in, ranked_in, SelectorIn, token_in, rule_inside, operation_inside, LabelsIn, last_label, more_labels, ActIn, plain_in, cycle_in, choice_in, ActsIn, none_in, more_in, AltsIn, other_in, last_in, next_in, GivesIn, gives_none, gives_some, RuleIn, one_rule, RulesIn, last_rule, more_rules}
 use Rattle.parts.specs.Moved.{move_word, move_words, move_if, move_constant, move_plain, move_selector, move_act, move_acts, move_alts, move_other, move_rule, move_rules}
 use Rattle.syntax.specs.Written.{Constant, Plain, Selector, Act, Acts, Alts, Other, Rule}
 use Rattle.words.specs.Words.{Word}
@@ -32,7 +32,7 @@ module _ (back to : ℕ → ℕ) where
   constant-back : {ws ws' : List Word} {c : Option Constant} → ConstantIn ws ws' c → Back ws → (move_constant back (move_constant to c) ≡ c) × Back ws'
   unfolding move_constant
   constant-back (no_constant n e) h = (refl, back-if e h)
-  constant-back (a_constant t r u) h =
+  constant-back (one_constant t r u) h =
       let a = took-back t h in
       let b = reference-back r a.1 in
       (rw (a.0, b.0) refl, (took-back u b.1).1)
@@ -40,7 +40,7 @@ module _ (back to : ℕ → ℕ) where
   value-back : {ws ws' : List Word} {v : Option Word} → ValueIn ws ws' v → Back ws → (move_if back (move_if to v) ≡ v) × Back ws'
   unfolding move_if
   value-back (no_value n m e) h = (refl, back-if e h)
-  value-back (a_value r) h = let a = reference-back r h in (ap some a.0, a.1)
+  value-back (one_value r) h = let a = reference-back r h in (ap some a.0, a.1)
 
   plain_back : {ws ws' : List Word} {a : Plain} → PlainIn ws ws' a → Back ws → (move_plain back (move_plain to a) ≡ a) × Back ws'
   unfolding move_plain
@@ -66,8 +66,8 @@ module _ (back to : ℕ → ℕ) where
   selector-back : {ws ws' : List Word} {s : Selector} → SelectorIn ws ws' s → Back ws → (move_selector back (move_selector to s) ≡ s) × Back ws'
   unfolding move_selector
   selector-back (token_in n m e) h = (refl, back-if e h)
-  selector-back (rule_in t u) h = let a = took-back u (took-back t h).1 in (rw a.0 refl, a.1)
-  selector-back (operation_in t c) h =
+  selector-back (rule_inside t u) h = let a = took-back u (took-back t h).1 in (rw a.0 refl, a.1)
+  selector-back (operation_inside t c) h =
       let a = took-back t h in
       let b = constant-back c a.1 in
       (rw (a.0, b.0) refl, b.1)
@@ -122,7 +122,7 @@ module _ (back to : ℕ → ℕ) where
 
   rule-back : {ws ws' : List Word} {r : Rule} → RuleIn ws ws' r → Back ws → (move_rule back (move_rule to r) ≡ r) × Back ws'
   unfolding move_rule
-  rule-back (a_rule t g u q v) h =
+  rule-back (one_rule t g u q v) h =
       let a = took-back t h in
       let b = gives_back g a.1 in
       let d = acts-back q (took-back u b.1).1 in

@@ -4,7 +4,7 @@ use mathlib.Core.Option.{Option}
 use mathlib.Core.Path.{◌≡◌, refl, sym, ap, ◌∙◌}
 use Prim.Native.Nat.{ℕ, suc, ◌-◌, ◌≤◌}
 use lib.ListN.{length}
-use Rattle.grammar.specs.Derived.{Took, Not, Reference, by_name, by_string, ConstantIn, no_constant, a_constant, ValueIn, no_value, a_value, PlainIn, named_in, any_in, emit_in, error_in, exit_in, call_in, give_in, ranked_in, SelectorIn, token_in, rule_in, operation_in, LabelsIn, last_label, more_labels, ActIn, plain_in, cycle_in, choice_in, ActsIn, none_in, more_in, AltsIn, other_in, last_in, next_in, GivesIn, gives_none, gives_some, RuleIn, a_rule, RulesIn, last_rule, more_rules}
+use Rattle.grammar.specs.Derived.{Took, Not, Reference, by_name, by_string, ConstantIn, no_constant, one_constant, ValueIn, no_value, one_value, PlainIn, named_in, any_in, emit_in, error_in, exit_in, call_in, give_in, ranked_in, SelectorIn, token_in, rule_inside, operation_inside, LabelsIn, last_label, more_labels, ActIn, plain_in, cycle_in, choice_in, ActsIn, none_in, more_in, AltsIn, other_in, last_in, next_in, GivesIn, gives_none, gives_some, RuleIn, one_rule, RulesIn, last_rule, more_rules}
 use Rattle.parts.specs.Moved.{move_word, move_words, move_if, move_constant, move_plain, move_selector, move_act, move_acts, move_alts, move_other, move_rule, move_rules}
 use Rattle.syntax.specs.Actions.{closes}
 use Rattle.syntax.specs.Reading.{peek}
@@ -43,12 +43,12 @@ module _ (to : ℕ → ℕ) where
   constant-moved : {ws ws' : List Word} {c : Option Constant} → ConstantIn ws ws' c → ConstantIn (move_words to ws) (move_words to ws') (move_constant to c)
   unfolding move_constant
   constant-moved {ws} (no_constant n e) = no_constant (not-moved ws n) (same-moved e)
-  constant-moved (a_constant t r u) = a_constant (took-moved t) (reference-moved r) (took-moved u)
+  constant-moved (one_constant t r u) = one_constant (took-moved t) (reference-moved r) (took-moved u)
 
   value-moved : {ws ws' : List Word} {v : Option Word} → ValueIn ws ws' v → ValueIn (move_words to ws) (move_words to ws') (move_if to v)
   unfolding move_if
   value-moved {ws} (no_value n m e) = no_value (not-moved ws n) (not-moved ws m) (same-moved e)
-  value-moved (a_value r) = a_value (reference-moved r)
+  value-moved (one_value r) = one_value (reference-moved r)
 
   plain_moved : {ws ws' : List Word} {a : Plain} → PlainIn ws ws' a → PlainIn (move_words to ws) (move_words to ws') (move_plain to a)
   unfolding move_plain
@@ -64,8 +64,8 @@ module _ (to : ℕ → ℕ) where
   selector-moved : {ws ws' : List Word} {s : Selector} → SelectorIn ws ws' s → SelectorIn (move_words to ws) (move_words to ws') (move_selector to s)
   unfolding move_selector
   selector-moved {ws} (token_in n m e) = token_in (not-moved ws n) (not-moved ws m) (same-moved e)
-  selector-moved (rule_in t u) = rule_in (took-moved t) (took-moved u)
-  selector-moved (operation_in t c) = operation_in (took-moved t) (constant-moved c)
+  selector-moved (rule_inside t u) = rule_inside (took-moved t) (took-moved u)
+  selector-moved (operation_inside t c) = operation_inside (took-moved t) (constant-moved c)
 
   labels-moved : {ws ws' ls : List Word} → LabelsIn ws ws' ls → LabelsIn (move_words to ws) (move_words to ws') (move_words to ls)
   unfolding move_words
@@ -107,7 +107,7 @@ module _ (to : ℕ → ℕ) where
 
   pub rule_moved : {ws ws' : List Word} {r : Rule} → RuleIn ws ws' r → RuleIn (move_words to ws) (move_words to ws') (move_rule to r)
   unfolding move_rule
-  rule_moved (a_rule t g u q v) = a_rule (took-moved t) (gives_moved g) (took-moved u) (acts-moved q) (took-moved v)
+  rule_moved (one_rule t g u q v) = one_rule (took-moved t) (gives_moved g) (took-moved u) (acts-moved q) (took-moved v)
 
   pub rules-moved : {ws ws' : List Word} {rs : List Rule} → RulesIn ws ws' rs → RulesIn (move_words to ws) (move_words to ws') (move_rules to rs)
   unfolding move_rules

@@ -8,7 +8,7 @@ use native.Mathlib.Omega.{arith}
 use lib.ListN.{length, get_or}
 use Rattle.cells.specs.Cells.{selector_cells, absent_cell}
 use Rattle.declarations.specs.Decls.{Agrees, knowns_in, class_named, members_of}
-use Rattle.grammar.specs.Derived.{Took, ConstantIn, SelectorIn, token_in, rule_in, operation_in}
+use Rattle.grammar.specs.Derived.{Took, ConstantIn, SelectorIn, token_in, rule_inside, operation_inside}
 use Rattle.maker.specs.Pairs.{PairsAre}
 use Rattle.names.specs.Known.{Checked, good, KnownRule, Names}
 use Rattle.names.specs.Resolve.{Chooses, choosing, selector_of}
@@ -149,10 +149,10 @@ module _ {text rows : List ℕ} {n at : ℕ} {cs cs' : List ℕ} {c : ℕ} {r : 
       go : (p : Program) (names : Names) (rs : List KnownRule) → Agrees p names rs (held text rows n) → (s : written.Selector) (ws : List Word) → SelectorIn (words_at text at) ws s
           → SelectorEnds (PairsAre text rows n p names) text rows n ws cs c cs' r (selector_of p names rs s)
       go p names rs ag written.by_token ws (token_in a b e) = absurd (not-here text at 64 w h a z)
-      go p names rs ag (written.by_rule v) ws (rule_in {at = d'} {ws₁ = ws₁} t u) =
+      go p names rs ag (written.by_rule v) ws (rule_inside {at = d'} {ws₁ = ws₁} t u) =
           let u' : Took 257 (words_at text w.next) v ws = rw (took-here text at 64 w d' ws₁ (omega arith) h t).behind at u in
           d.done p names rs ag v ws u'
-      go p names rs ag (written.by_operation v o) ws (operation_in {ws₁ = ws₁} t u) = absurd (omega (arith, took-kind text at 257 w v ws₁ h t))
+      go p names rs ag (written.by_operation v o) ws (operation_inside {ws₁ = ws₁} t u) = absurd (omega (arith, took-kind text at 257 w v ws₁ h t))
 
   pub selector-operation : w.kind ≡ 257 → ChoiceDone ConstantIn (λ p names rs. by_operation_of p names rs (as_word text w)) text rows n w.next cs c cs' r → SelectorDone text rows n at cs c cs' r
   selector-operation z d = record { same = d.same; low = λ f. omega (arith, d.low f, h.onto); high = d.high; done = λ p names rs ag s ws t. go p names rs ag s ws t }
@@ -160,8 +160,8 @@ module _ {text rows : List ℕ} {n at : ℕ} {cs cs' : List ℕ} {c : ℕ} {r : 
       go : (p : Program) (names : Names) (rs : List KnownRule) → Agrees p names rs (held text rows n) → (s : written.Selector) (ws : List Word) → SelectorIn (words_at text at) ws s
           → SelectorEnds (PairsAre text rows n p names) text rows n ws cs c cs' r (selector_of p names rs s)
       go p names rs ag written.by_token ws (token_in a b e) = absurd (not-here text at 257 w h b z)
-      go p names rs ag (written.by_rule v) ws (rule_in {at = d'} {ws₁ = ws₁} t u) = absurd (omega (arith, took-kind text at 64 w d' ws₁ h t))
-      go p names rs ag (written.by_operation v o) ws (operation_in {ws₁ = ws₁} t u) =
+      go p names rs ag (written.by_rule v) ws (rule_inside {at = d'} {ws₁ = ws₁} t u) = absurd (omega (arith, took-kind text at 64 w d' ws₁ h t))
+      go p names rs ag (written.by_operation v o) ws (operation_inside {ws₁ = ws₁} t u) =
           let s : Same text w v ws₁ = took-here text at 257 w v ws₁ (omega arith) h t in
           let u' : ConstantIn (words_at text w.next) ws o = rw s.behind at u in
           ends_by (ap (λ v. by_operation_of p names rs v o) s.word) (d.done p names rs ag o ws u')
@@ -179,5 +179,5 @@ module _ {text rows : List ℕ} {n at : ℕ} {cs cs' : List ℕ} {c : ℕ} {r : 
           → SelectorEnds (PairsAre text rows n p names) text rows n ws cs c cs' r (selector_of p names rs s)
       go p names rs ag written.by_token ws (token_in x b e) =
           pick_ends g (record { value = by_token; is = ap (λ ks. good (record { by = by_token; labels = ks })) ag.inputs; words = e; cells = a; absent = refl })
-      go p names rs ag (written.by_rule v) ws (rule_in {at = d'} {ws₁ = ws₁} t u) = absurd (y (took-kind text at 64 w d' ws₁ h t))
-      go p names rs ag (written.by_operation v o) ws (operation_in {ws₁ = ws₁} t u) = absurd (z (took-kind text at 257 w v ws₁ h t))
+      go p names rs ag (written.by_rule v) ws (rule_inside {at = d'} {ws₁ = ws₁} t u) = absurd (y (took-kind text at 64 w d' ws₁ h t))
+      go p names rs ag (written.by_operation v o) ws (operation_inside {ws₁ = ws₁} t u) = absurd (z (took-kind text at 257 w v ws₁ h t))

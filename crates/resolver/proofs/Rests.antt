@@ -11,7 +11,7 @@ use lib.Seq.{length-take-le}
 use Rattle.std.specs.Prelude.{if◌then◌else◌}
 use Rattle.cells.specs.Cells.{plain_cells}
 use Rattle.declarations.specs.Decls.{Agrees, knowns_in, class_named, members_of, lookup_in}
-use Rattle.grammar.specs.Derived.{Took, Not, Reference, ConstantIn, no_constant, a_constant, ValueIn, no_value, a_value}
+use Rattle.grammar.specs.Derived.{Took, Not, Reference, ConstantIn, no_constant, one_constant, ValueIn, no_value, one_value}
 use Rattle.maker.specs.Pairs.{PairsAre}
 use Rattle.names.specs.Known.{Checked, good, wrong, ◌>>=◌, KnownRule, Names, find}
 use Rattle.names.specs.Resolve.{updating, parameter_of, update_of, match_of, give_of}
@@ -197,7 +197,7 @@ module _ {text rows : List ℕ} {n : ℕ} {r : Parameter} (row : ℕ) (w k : Wor
       go p names rs ag none ws (no_constant q e) =
           refuse m.fault (λ e. omega arith) (rw (m.at, m.len) (fails-here text w lies.inside
           (ap (λ t. parameter_of p names rs (as_word text w) t none) (second-some text rows n ag row _ y refl))))
-      go p names rs ag (some d) ws (a_constant {ws₁ = ws₁} t u v) = absurd (z (took-kind text w.next 40 k d.paren ws₁ h t))
+      go p names rs ag (some d) ws (one_constant {ws₁ = ws₁} t u v) = absurd (z (took-kind text w.next 40 k d.paren ws₁ h t))
 
   pub parameter-none : (k.kind ≡ 40 → ⊥) → get_or rows (8 * row + 5) 0 ≡ 0 → r.fault ≡ 0 → r.at ≡ w.next → r.there ≡ false → r.value ≡ 0
       → ParameterDone text rows n w.next (as_word text w) (members_of (held text rows n) (decl_at text rows row).second) r
@@ -214,7 +214,7 @@ module _ {text rows : List ℕ} {n : ℕ} {r : Parameter} (row : ℕ) (w k : Wor
       go p names rs ag none ws (no_constant q e) =
           let o : none ≡ if_there r.there r.value = rw b in
           supply (ap (λ t. parameter_of p names rs (as_word text w) t none) (second_none text rows n ag row y)) f o (e ∙ ap (words_at text) (sym a))
-      go p names rs ag (some d) ws (a_constant {ws₁ = ws₁} t u v) = absurd (z (took-kind text w.next 40 k d.paren ws₁ h t))
+      go p names rs ag (some d) ws (one_constant {ws₁ = ws₁} t u v) = absurd (z (took-kind text w.next 40 k d.paren ws₁ h t))
 
   pub parameter-extra : k.kind ≡ 40 → get_or rows (8 * row + 5) 0 ≡ 0 → Misfit k.start k.len r
       → ParameterDone text rows n w.next (as_word text w) (members_of (held text rows n) (decl_at text rows row).second) r
@@ -229,7 +229,7 @@ module _ {text rows : List ℕ} {n : ℕ} {r : Parameter} (row : ℕ) (w k : Wor
       go : (p : Program) (names : Names) (rs : List KnownRule) → Agrees p names rs (held text rows n) → (c : Option Constant) (ws : List Word) → ConstantIn (words_at text w.next) ws c
           → ParameterEnds text ws r (parameter_of p names rs (as_word text w) (members_of (held text rows n) (decl_at text rows row).second) c)
       go p names rs ag none ws (no_constant q e) = absurd (not-here text w.next 40 k h q z)
-      go p names rs ag (some d) ws (a_constant {ws₁ = ws₁} t u v) =
+      go p names rs ag (some d) ws (one_constant {ws₁ = ws₁} t u v) =
           refuse m.fault (λ e. omega arith) (rw (m.at, m.len) (fails-here text k (h.inside lies.high)
           (ap (λ t. parameter_of p names rs (as_word text w) t (some d)) (second_none text rows n ag row y) ∙ ap (λ u. wrong 5 u) (took-here text w.next 40 k d.paren ws₁ (omega arith) h t).word)))
 
@@ -250,7 +250,7 @@ module _ {text rows : List ℕ} {n : ℕ} {r : Parameter} (row : ℕ) (w k : Wor
       go : (p : Program) (names : Names) (rs : List KnownRule) → Agrees p names rs (held text rows n) → (c : Option Constant) (ws : List Word) → ConstantIn (words_at text w.next) ws c
           → ParameterEnds text ws r (parameter_of p names rs (as_word text w) (members_of (held text rows n) (decl_at text rows row).second) c)
       go p names rs ag none ws (no_constant q e) = absurd (not-here text w.next 40 k h q z)
-      go p names rs ag (some b) ws (a_constant {close = close} {ws₁ = ws₁} {ws₂ = ws₂} t u v) =
+      go p names rs ag (some b) ws (one_constant {close = close} {ws₁ = ws₁} {ws₂ = ws₂} t u v) =
           let s : Same text k b.paren ws₁ = took-here text w.next 40 k b.paren ws₁ (omega arith) h t in
           let u' : Reference (words_at text k.next) b.constant ws₂ = rw s.behind at u in
           moved (ap (λ t. parameter_of p names rs (as_word text w) t (some b)) (second-some text rows n ag row class y q) ∙ parameter-is text rows n ag class (as_word text w) b)
@@ -266,7 +266,7 @@ module _ {text : List ℕ} {at : ℕ} {cs : List ℕ} {c : ℕ} {r : Built} (row
       go : (p : Program) (names : Names) (rs : List KnownRule) → Agrees p names rs (held text rows n) → (d : Option Constant) (ws : List Word) → ConstantIn (words_at text at) ws d
           → Fails 5 k.start k.len (match_of p names rs v d)
       go p names rs ag none ws (no_constant q e) = absurd (not-here text at 40 k h q z)
-      go p names rs ag (some d) ws (a_constant {ws₁ = ws₁} t u w) =
+      go p names rs ag (some d) ws (one_constant {ws₁ = ws₁} t u w) =
           fails-here text k (h.inside inside) (ap (λ u. wrong 5 u) (took-here text at 40 k d.paren ws₁ (omega arith) h t).word)
 
   pub match-goes : {cs' : List ℕ} {l : ℕ} → (k.kind ≡ 40 → ⊥) → Appends cs c (3 ∷ v ∷ []) cs' l → Went at l true r
@@ -277,7 +277,7 @@ module _ {text : List ℕ} {at : ℕ} {cs : List ℕ} {c : ℕ} {r : Built} (row
       go : (p : Program) (names : Names) (rs : List KnownRule) → Agrees p names rs (held text rows n) → (d : Option Constant) (ws : List Word) → ConstantIn (words_at text at) ws d
           → Goes text ws cs c cs' at l true (match_of p names rs v d)
       go p names rs ag none ws (no_constant q e) = record { value = match v; is = refl; words = e; cells = a; past = refl; exits = refl }
-      go p names rs ag (some d) ws (a_constant {ws₁ = ws₁} t u w) = absurd (z (took-kind text at 40 k d.paren ws₁ h t))
+      go p names rs ag (some d) ws (one_constant {ws₁ = ws₁} t u w) = absurd (z (took-kind text at 40 k d.paren ws₁ h t))
 
 -- An update operation
 
@@ -401,7 +401,7 @@ module _ {text rows : List ℕ} {n : ℕ} {cs : List ℕ} {c : ℕ} {r : Built} 
       go : (p : Program) (names : Names) (rs : List KnownRule) → Agrees p names rs (held text rows n) → (o : Option Word) (ws : List Word) → ValueIn (words_at text w.next) ws o
           → PlainEnds (PairsAre text rows n p names) text ws cs c cs' r (give_of p names rs (gives_of (held text rows n) class) (as_word text w) o)
       go p names rs ag none ws (no_value a b e) = absurd (none_of k a b)
-      go p names rs ag (some u) ws (a_value t) = d.done p names rs ag u ws t
+      go p names rs ag (some u) ws (one_value t) = d.done p names rs ag u ws t
 
   pub give-missing : (v.kind ≡ 257 → ⊥) → (v.kind ≡ 259 → ⊥) → (class ≡ 0 → ⊥) → Stopped 8 w.start w.len r
       → RestDone ValueIn (λ p names rs. give_of p names rs (gives_of (held text rows n) class) (as_word text w)) text rows n w.next cs c cs r
@@ -411,7 +411,7 @@ module _ {text rows : List ℕ} {n : ℕ} {cs : List ℕ} {c : ℕ} {r : Built} 
       go : (p : Program) (names : Names) (rs : List KnownRule) → Agrees p names rs (held text rows n) → (o : Option Word) (ws : List Word) → ValueIn (words_at text w.next) ws o
           → Fails 8 w.start w.len (give_of p names rs (gives_of (held text rows n) class) (as_word text w) o)
       go p names rs ag none ws (no_value x y e) = fails-here text w lies.inside (ap (λ g. give_of p names rs g (as_word text w) none) (gives_some (held text rows n) class z))
-      go p names rs ag (some u) ws (a_value t) = absurd (no-reference h a b t)
+      go p names rs ag (some u) ws (one_value t) = absurd (no-reference h a b t)
 
   pub give-back : {cs' : List ℕ} {k : ℕ} → (v.kind ≡ 257 → ⊥) → (v.kind ≡ 259 → ⊥) → class ≡ 0 → Appends cs c (9 ∷ []) cs' k → Went w.next k false r
       → RestDone ValueIn (λ p names rs. give_of p names rs (gives_of (held text rows n) class) (as_word text w)) text rows n w.next cs c cs' r
@@ -428,7 +428,7 @@ module _ {text rows : List ℕ} {n : ℕ} {cs : List ℕ} {c : ℕ} {r : Built} 
         past = refl;
         exits = refl;
       }
-      go p names rs ag (some u) ws (a_value t) = absurd (no-reference h a b t)
+      go p names rs ag (some u) ws (one_value t) = absurd (no-reference h a b t)
 
 pub give-goes : {text rows : List ℕ} {n class : ℕ} {cs cs' : List ℕ} {c : ℕ} {r : Built} (w : WordAt) → (class ≡ 0 → ⊥)
     → RestDone ReferenceIn (λ p names rs u. valued give (lookup_in (held text rows n) class u)) text rows n w.next cs c cs' r

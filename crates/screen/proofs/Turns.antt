@@ -155,7 +155,7 @@ module _ (table tokens : List ℕ) (m : Mode) (b : ℕ) (r buffer : List ℕ) (h
   unchanged : ((i : ℕ) → get_or r i 0 < 256) → call.number ≡ 21 → with_left b rest put ≡ r
   unchanged y e =
       let u = refused-unchanged table tokens m (left_in b r) (walk_in b r) buffer e in
-      let p : put ≡ r = ap (λ (w : List ℕ). patch (b * book_size) w r) u.walk_bytes ∙ unfold walk_in in patch-same (b * book_size) 158 r (omega arith) in
+      let p : put ≡ r = ap (λ (w : List ℕ). patch (b * book_size) w r) u.walk_bytes_lem ∙ unfold walk_in in patch-same (b * book_size) 158 r (omega arith) in
       let n : rest ≡ left_in b r = omega (arith, u.no_step) in
       ap₂ (with_left b) n p ∙ left-same b r h y k
 

@@ -12,7 +12,7 @@ use Rattle.base.specs.Bools.{never}
 use Rattle.base.specs.Common.{given}
 use Rattle.cells.specs.Cells.{acts_cells}
 use Rattle.declarations.specs.Decls.{Decl, index_of}
-use Rattle.grammar.specs.Derived.{RuleIn, a_rule, RulesIn, last_rule, more_rules}
+use Rattle.grammar.specs.Derived.{RuleIn, one_rule, RulesIn, last_rule, more_rules}
 use Rattle.names.specs.Known.{Checked, good, wrong, ◌>>=◌, fault_if, KnownRule, Names}
 use Rattle.names.specs.Understand.{is_one, taken}
 use Rattle.names.specs.Uses.{Use}
@@ -85,7 +85,7 @@ each-rule P p n ks seen (r ∷ rs) os e h = go (open_rule p n ks seen r) refl e 
 -- cells
 
 rule-less : {ws ws' : List Word} {r : Rule} → RuleIn ws ws' r → 3 + length ws' ≤ length ws
-rule-less (a_rule t g u q v) = omega (arith, took-less t, gives_less g, took-less u, acts-calls q, took-less v)
+rule-less (one_rule t g u q v) = omega (arith, took-less t, gives_less g, took-less u, acts-calls q, took-less v)
 
 abbrev Fits : Context → Rule → Type 0
 Fits x r = (before : List (List ℕ)) (o : OpenRule) → open_rule x.program x.names x.known before r ≡ good o → length (acts_cells o.means.body []) ≤ 65535

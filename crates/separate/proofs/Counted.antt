@@ -15,7 +15,7 @@ use Rattle.base.specs.Common.{given}
 use Rattle.cells.specs.Cells.{acts_cells}
 use Rattle.grammar.proofs.Laws.{From, bind, next, gives, expects, expects-kind}
 use Rattle.grammar.proofs.ProgramIn.{rules-from}
-use Rattle.grammar.specs.Derived.{Took, Reference, by_name, by_string, ConstantIn, no_constant, a_constant, ValueIn, no_value, a_value, PlainIn, named_in, any_in, emit_in, error_in, exit_in, call_in, give_in, ranked_in, SelectorIn, token_in, rule_in, operation_in, LabelsIn, last_label, more_labels, ActIn, plain_in, cycle_in, choice_in, ActsIn, none_in, more_in, AltsIn, other_in, last_in, next_in, GivesIn, gives_none, gives_some, RuleIn, a_rule, RulesIn, last_rule, more_rules}
+use Rattle.grammar.specs.Derived.{Took, Reference, by_name, by_string, ConstantIn, no_constant, one_constant, ValueIn, no_value, one_value, PlainIn, named_in, any_in, emit_in, error_in, exit_in, call_in, give_in, ranked_in, SelectorIn, token_in, rule_inside, operation_inside, LabelsIn, last_label, more_labels, ActIn, plain_in, cycle_in, choice_in, ActsIn, none_in, more_in, AltsIn, other_in, last_in, next_in, GivesIn, gives_none, gives_some, RuleIn, one_rule, RulesIn, last_rule, more_rules}
 use Rattle.names.specs.Known.{KnownRule, Names, optional_type}
 use Rattle.names.specs.Resolve.{Place, acts_of}
 use Rattle.names.specs.Understand.{taken}
@@ -77,11 +77,11 @@ same e = ap weight e
 
 constant : {ws ws' : List Word} {c : Option written.Constant} → ConstantIn ws ws' c → weight ws' ≤ weight ws
 constant (no_constant n e) = omega (arith, same e)
-constant (a_constant t r u) = omega (arith, took t, reference r, took u)
+constant (one_constant t r u) = omega (arith, took t, reference r, took u)
 
 value : {ws ws' : List Word} {v : Option Word} → ValueIn ws ws' v → weight ws' ≤ weight ws
 value (no_value n m e) = omega (arith, same e)
-value (a_value r) = omega (arith, reference r)
+value (one_value r) = omega (arith, reference r)
 
 labels : {ws ws' ls : List Word} → LabelsIn ws ws' ls → weight ws' ≤ weight ws
 labels (last_label r n) = omega (arith, reference r)
@@ -112,8 +112,8 @@ call-names (ranked_in {o = o} s w t u) = omega (arith, took s, took w, took t, t
 select-names : {ws ws' : List Word} {s : written.Selector} → SelectorIn ws ws' s → length (names_words (selects s)) + weight ws' ≤ weight ws
 unfolding selects names_words
 select-names (token_in n m e) = omega (arith, same e)
-select-names (rule_in {w = w} t u) = omega (arith, took t, took u, one_name_lem w)
-select-names (operation_in t c) = omega (arith, took t, constant c)
+select-names (rule_inside {w = w} t u) = omega (arith, took t, took u, one_name_lem w)
+select-names (operation_inside t c) = omega (arith, took t, constant c)
 
 mutual
   unfolding calls names_words
@@ -179,7 +179,7 @@ type-words (gives_none n e) = omega (arith, same e)
 type-words (gives_some t u) = omega (arith, took t, took u)
 
 rule-uses : {ws ws' : List Word} {r : written.Rule} → RuleIn ws ws' r → (k : List Use) → length (uses_words (acts_uses r.body k)) + weight ws' ≤ length (uses_words k) + weight ws
-rule-uses (a_rule t g u q v) k = omega (arith, took t, type-words g, took u, acts-uses q k, took v)
+rule-uses (one_rule t g u q v) k = omega (arith, took t, type-words g, took u, acts-uses q k, took v)
 
 rules-uses : {ws ws' : List Word} {rs : List written.Rule} → RulesIn ws ws' rs → length (uses_words (rules_uses rs)) + weight ws' ≤ weight ws
 unfolding rules_uses uses_words
@@ -227,7 +227,7 @@ module _ (aims : List Aim) (first : ℕ) where
   module _ (p : Program) (n : Names) (ks : List KnownRule) where
     rule-bound : {ws ws' : List Word} {r : written.Rule} → RuleIn ws ws' r → (seen : List (List ℕ)) → Yields (InRule ws ws') (open_rule p n ks seen r)
     unfolding open_rule
-    rule-bound {ws} {ws'} {r} (a_rule {ws₃ = ws₃} {ws₄ = ws₄} t g u q v) seen =
+    rule-bound {ws} {ws'} {r} (one_rule {ws₃ = ws₃} {ws₄ = ws₄} t g u q v) seen =
         let P = InRule ws ws' in
         passed P (taken r.rule n seen) 4 r.rule _ (λ _.
         check.next P Any (optional_type p n.types r.gives) _ (any (optional_type p n.types r.gives)) (λ x _.

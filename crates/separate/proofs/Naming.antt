@@ -13,7 +13,7 @@ use Rattle.partnames.proofs.Commons.{rules-no-line}
 use Rattle.partnames.proofs.Together.{others-rowed, rows-together, rules-known}
 use Rattle.partnames.specs.Declaring.{CommonIn, CommonRows, Declares}
 use Rattle.partnames.specs.Mentioning.{AddsFrom}
-use Rattle.partnames.specs.Settling.{Rowed, in_rows, past_names, Settled, in_order, faulty, Settles}
+use Rattle.partnames.specs.Settling.{Rowed, in_rows, past_names_lem, Settled, in_order, faulty, Settles}
 use Rattle.partnames.specs.declared.Added.{Added}
 use Rattle.partnames.specs.declared.Declared.{Declared}
 use Rattle.parts.specs.Moved.{move_part, move_translated}
@@ -48,7 +48,7 @@ past-fault : {text rows : List ℕ} {first : ℕ} (moved : ℕ) {a : Added} {f :
     → IsFault f a.fault 1 (a.at - moved) a.len → Refuses f (move_translated (back moved) (unless_past o (meaning c rs)))
 unfolding unless_past move_translated move_part part_of
 past-fault moved none (in_rows z e k) n f = absurd (n z)
-past-fault moved (some w) (past_names z i l) n f = refuses_part (f.number_is ∙ z) f.text_is (f.start_is ∙ ap (λ k. k - moved) i) (f.len_is ∙ l)
+past-fault moved (some w) (past_names_lem z i l) n f = refuses_part (f.number_is ∙ z) f.text_is (f.start_is ∙ ap (λ k. k - moved) i) (f.len_is ∙ l)
 
 pub finds_past : {text rows rows₁ rows₂ : List ℕ} {d : Declared} {a : Added} {moved : ℕ} {r : Named} → length rows ≡ 6017 → Declares text rows rows₁ d
     → AddsFrom text rows₁ rows₂ d.first d.count d.at true a → length rows₂ ≡ length rows₁ → (a.fault ≡ 0 → ⊥) → IsFault r.fault a.fault 1 (a.at - moved) a.len → r.first ≡ 0 → r.count ≡ 0
@@ -73,7 +73,7 @@ in-them {text} {rows} {first} {a} {c} {rs} z r = go (past c rs) refl r
   where
     go : (o : Option Word) → past c rs ≡ o → Rowed text rows first a c rs o → InRows text rows first a.count c rs
     go none q (in_rows y e k) = record { within = q; held_are = e; count = k }
-    go (some w) q (past_names y i l) = absurd (omega (arith, z, y))
+    go (some w) q (past_names_lem y i l) = absurd (omega (arith, z, y))
 
 -- so that the common part's names decide
 means : {text : List ℕ} {at : ℕ} (moved : ℕ) (s : StandsIn text at) → past s.shared s.rules ≡ none → translated_in moved s ≡ move_translated (back moved) (meaning s.shared s.rules)

@@ -15,7 +15,7 @@ use Rattle.program.specs.Program.{Selector, by_token, by_rule, by_operation, by_
 use Rattle.program.specs.Table.{size_plain, size_selector, size_absent, count_labels, sizes, size_alts, size_other}
 use Rattle.cells.specs.Cells.{absent_cell}
 use Rattle.emitter.specs.Words.{words}
-use Rattle.emitter.specs.Stands.{sel_token, sel_rule, sel_op, sel_op_with, is_match, is_any, is_emit, is_error, is_exit, is_called, is_back, is_give, is_update, is_update_with, is_plain, is_cycle, is_choice, IsAlts, is_nil, is_alt, IsOther, is_stop, is_other, IsAll, is_done, is_cons}
+use Rattle.emitter.specs.Stands.{sel_token, sel_rule, sel_op, sel_op_with, is_match, is_any, is_emit, is_error, is_exit, is_called, is_back, is_give, is_update, is_update_with, is_plain, is_cycle, is_a_choice, IsAlts, is_nil, is_alt, IsOther, is_stop, is_other, IsAll, is_done, is_cons}
 use Rattle.sizes.specs.Heads.{cells_table, words_table, cells_of, words_of, open_after}
 use Rattle.emitter.proofs.Leave.{all_in, alts-in, other_in}
 
@@ -147,16 +147,16 @@ step {d = d} (left-all {m' = m'} (is_cons {q = q} (is_plain (is_back h l t)) b) 
 step {d = d} (left-all {m' = m'} (is_cons {q = q} (is_plain (is_give h l t v)) b) r k s) o = stepped 10 2 3 d (sizes q + m') t (record { cells = refl; words = refl; opens = refl }) (left-all b r k refl) h (omega arith) (omega arith) (omega arith) (omega arith) (omega arith)
 step {d = d} (left-all {m' = m'} (is_cons {q = q} (is_plain (is_update {op = op} h l t f u)) b) r k s) o = stepped op 1 1 d (sizes q + m') t (op-kind op d f u) (left-all b r k refl) h (omega arith) (omega arith) (omega arith) (omega arith) (omega arith)
 step {d = d} (left-all {m' = m'} (is_cons {q = q} (is_plain (is_update_with {op = op} h l t v f u)) b) r k s) o = stepped op 2 3 d (sizes q + m') t (op_with-kind op d f u) (left-all b r k refl) h (omega arith) (omega arith) (omega arith) (omega arith) (omega arith)
-step {d = d} (left-all {m' = m'} (is_cons {q = z} (is_choice {s = s} {q = q} {o = x} (sel_token h l t) a y g) b) r k j) u =
+step {d = d} (left-all {m' = m'} (is_cons {q = z} (is_a_choice {s = s} {q = q} {o = x} (sel_token h l t) a y g) b) r k j) u =
     let i = alts-in a in let i2 = other_in y in
     stepped 7 1 3 d (size_alts q + (2 * count_labels q + (size_other x (size_absent s) + (sizes z + m')))) t record { cells = refl; words = refl; opens = refl } (left-rest {s = s} a y (left-all b r k refl) u refl) h (omega arith) (omega arith) (omega arith) (omega arith) (omega arith)
-step {d = d} (left-all {m' = m'} (is_cons {q = z} (is_choice {s = s} {q = q} {o = x} (sel_rule h l t v n) a y g) b) r k j) u =
+step {d = d} (left-all {m' = m'} (is_cons {q = z} (is_a_choice {s = s} {q = q} {o = x} (sel_rule h l t v n) a y g) b) r k j) u =
     let i = alts-in a in let i2 = other_in y in
     stepped 11 2 5 d (size_alts q + (2 * count_labels q + (size_other x (size_absent s) + (sizes z + m')))) t record { cells = refl; words = refl; opens = refl } (left-rest {s = s} a y (left-all b r k refl) u refl) h (omega arith) (omega arith) (omega arith) (omega arith) (omega arith)
-step {d = d} (left-all {m' = m'} (is_cons {q = z} (is_choice {s = s} {q = q} {o = x} (sel_op {op = op} h l t f v) a y g) b) r k j) u =
+step {d = d} (left-all {m' = m'} (is_cons {q = z} (is_a_choice {s = s} {q = q} {o = x} (sel_op {op = op} h l t f v) a y g) b) r k j) u =
     let i = alts-in a in let i2 = other_in y in
     stepped op 1 4 d (size_alts q + (2 * count_labels q + (size_other x (size_absent s) + (sizes z + m')))) t (choose-kind op d f v) (left-rest {s = s} a y (left-all b r k refl) u refl) h (omega arith) (omega arith) (omega arith) (omega arith) (omega arith)
-step {d = d} (left-all {m' = m'} (is_cons {q = z} (is_choice {s = s} {q = q} {o = x} (sel_op_with {op = op} h l t w f v) a y g) b) r k j) u =
+step {d = d} (left-all {m' = m'} (is_cons {q = z} (is_a_choice {s = s} {q = q} {o = x} (sel_op_with {op = op} h l t w f v) a y g) b) r k j) u =
     let i = alts-in a in let i2 = other_in y in
     stepped op 2 6 d (size_alts q + (2 * count_labels q + (size_other x (size_absent s) + (sizes z + m')))) t (choose_with-kind op d f v) (left-rest {s = s} a y (left-all b r k refl) u refl) h (omega arith) (omega arith) (omega arith) (omega arith) (omega arith)
 step {cs} {d = d} (left-rest {m' = m'} {s = s} (is_nil c) (is_stop h l t) r g j) u = stepped (absent_cell s) 1 (size_absent s) d m' (ap (λ (i : ℕ). get_or cs i 0) (sym c) ∙ t) (stop-kind s d) r (omega arith) (omega arith) (omega arith) (omega arith) (stop-few s) (omega arith)

@@ -51,7 +51,7 @@ no-body-requires-3 c κs = search rules
 
 -- src/lib.rt:211:9
 returns-3 : tie.Need-returns-3
-returns-3 c = nobody c.no-body3.ensures.0 c.no-body3.ensures.1 c.no-body3.ensures.2 c.no-body3.ensures.3 c.no-body3.ensures.4 (no_cells c.before.before.before.before.before.before.before.past-name.ensures c.before.before.before.before.before.before.before.before.total.ensures.0 c.before.before.before.before.before.past-option.ensures c.before.before.before.number.ensures.0 c.before.before.past_names.ensures refl c.before.if3.true)
+returns-3 c = nobody c.no-body3.ensures.0 c.no-body3.ensures.1 c.no-body3.ensures.2 c.no-body3.ensures.3 c.no-body3.ensures.4 (no_cells c.before.before.before.before.before.before.before.past-name.ensures c.before.before.before.before.before.before.before.before.total.ensures.0 c.before.before.before.before.before.past-option.ensures c.before.before.before.number.ensures.0 c.before.before.past_names_lem.ensures refl c.before.if3.true)
 
 -- src/lib.rt:213:9
 number-requires-2 : tie.Need-number-requires-2
@@ -71,7 +71,7 @@ no-body-requires-4 c κs = search rules
 
 -- src/lib.rt:215:9
 returns-4 : tie.Need-returns-4
-returns-4 c = nobody c.no-body4.ensures.0 c.no-body4.ensures.1 c.no-body4.ensures.2 c.no-body4.ensures.3 c.no-body4.ensures.4 (few-cells c.before.before.before.before.before.before.before.before.before.past-name.ensures c.before.before.before.before.before.before.before.before.before.before.total.ensures.0 c.before.before.before.before.before.before.before.past-option.ensures c.before.before.before.before.before.number.ensures.0 c.before.before.before.before.past_names.ensures c.before.before.number2.ensures.0 c.before.if4.true)
+returns-4 c = nobody c.no-body4.ensures.0 c.no-body4.ensures.1 c.no-body4.ensures.2 c.no-body4.ensures.3 c.no-body4.ensures.4 (few-cells c.before.before.before.before.before.before.before.before.before.past-name.ensures c.before.before.before.before.before.before.before.before.before.before.total.ensures.0 c.before.before.before.before.before.before.before.past-option.ensures c.before.before.before.before.before.number.ensures.0 c.before.before.before.before.past_names_lem.ensures c.before.before.number2.ensures.0 c.before.if4.true)
 
 -- src/lib.rt:218:13
 add-t11 : tie.Need-overflow-add-t11
@@ -83,7 +83,7 @@ add-t12 c = search rules
 
 -- src/lib.rt:195:1
 returns-5 : tie.Need-returns-5
-returns-5 c = a_body c.before.before.before.before.before.before.before.before.past-name.ensures c.before.before.before.before.before.before.before.before.before.total.ensures.0 c.before.before.before.before.before.before.past-option.ensures c.before.before.before.before.number.ensures.0 c.before.before.before.past_names.ensures c.before.number2.ensures.0 c.before.before.before.before.before.if2.false c.before.before.if3.false c.if4.false
+returns-5 c = a_body c.before.before.before.before.before.before.before.before.past-name.ensures c.before.before.before.before.before.before.before.before.before.total.ensures.0 c.before.before.before.before.before.before.past-option.ensures c.before.before.before.before.number.ensures.0 c.before.before.before.past_names_lem.ensures c.before.number2.ensures.0 c.before.before.before.before.before.if2.false c.before.before.if3.false c.if4.false
 
 pub body-at-spec : {M : Type 1} → statement M
 body-at-spec =

@@ -13,7 +13,7 @@ choice-at-requires : tie.Need-choice-at-requires
 choice-at-requires c κs = (omega arith, omega (arith, (here-inside c.before.before.before.before.before.requires.0 c.before.before.before.before.before.requires.1.here).1))
 
 raise-values-requires : tie.Need-raise-values-requires
-raise-values-requires c κs = (c.before.before.before.before.before.before.before.before.requires.0, c.before.before.before.before.before.before.before.before.requires.1, c.before.before.choice_at.ensures.is_choice c.before.if1.true, c.before.before.before.before.before.before.before.before.requires.2)
+raise-values-requires c κs = (c.before.before.before.before.before.before.before.before.requires.0, c.before.before.before.before.before.before.before.before.requires.1, c.before.before.choice_at.ensures.is_a_choice c.before.if1.true, c.before.before.before.before.before.before.before.before.requires.2)
 
 same_length : tie.Need-same-length
 same_length c = search rules

@@ -43,7 +43,7 @@ no-body-requires-3 : tie.Need-no-body-requires-3
 no-body-requires-3 c κs = search rules
 
 returns-3 : tie.Need-returns-3
-returns-3 c = no-body-there c.no-body3.ensures (λ v k e. let h = cells-inside (words_of c.before.before.before.before.before.before.before.before.before.before.args.objects.now) c.before.before.before.before.before.before.before.before.before.before.args.q v k e c.before.before.before.before.before.before.before.past-name.ensures c.before.before.before.before.before.past-option.ensures c.before.before.before.number.ensures.0 c.before.before.past_names.ensures in omega (arith, h))
+returns-3 c = no-body-there c.no-body3.ensures (λ v k e. let h = cells-inside (words_of c.before.before.before.before.before.before.before.before.before.before.args.objects.now) c.before.before.before.before.before.before.before.before.before.before.args.q v k e c.before.before.before.before.before.before.before.past-name.ensures c.before.before.before.before.before.past-option.ensures c.before.before.before.number.ensures.0 c.before.before.past_names_lem.ensures in omega (arith, h))
 
 number-requires-2 : tie.Need-number-requires-2
 number-requires-2 c κs = search rules
@@ -55,7 +55,7 @@ no-body-requires-4 : tie.Need-no-body-requires-4
 no-body-requires-4 c κs = search rules
 
 returns-4 : tie.Need-returns-4
-returns-4 c = no-body-there c.no-body4.ensures (λ v k e. let h = all-inside (words_of c.before.before.before.before.before.before.before.before.before.before.before.before.args.objects.now) c.before.before.before.before.before.before.before.before.before.before.before.before.args.q v k e c.before.before.before.before.before.before.before.before.before.past-name.ensures c.before.before.before.before.before.before.before.past-option.ensures c.before.before.before.before.before.number.ensures.0 c.before.before.before.before.past_names.ensures in omega (arith, h))
+returns-4 c = no-body-there c.no-body4.ensures (λ v k e. let h = all-inside (words_of c.before.before.before.before.before.before.before.before.before.before.before.before.args.objects.now) c.before.before.before.before.before.before.before.before.before.before.before.before.args.q v k e c.before.before.before.before.before.before.before.before.before.past-name.ensures c.before.before.before.before.before.before.before.past-option.ensures c.before.before.before.before.before.number.ensures.0 c.before.before.before.before.past_names_lem.ensures in omega (arith, h))
 
 add-t11 : tie.Need-overflow-add-t11
 add-t11 c = search rules
@@ -73,7 +73,7 @@ number-requires-3 : tie.Need-number-requires-3
 number-requires-3 c κs = search rules
 
 returns-5 : tie.Need-returns-5
-returns-5 c = record { low = λ t. omega arith; high = λ t. omega arith; named = λ t. omega arith; tells = λ v k e. (refl, ap (λ (n : ℕ). eqb n 1) c.number3.ensures.0 ∙ gives-is (words_of c.before.before.before.before.before.before.before.before.before.before.before.before.args.objects.now) c.before.before.before.before.before.before.before.before.before.before.before.before.args.q v k e c.before.before.before.before.before.before.before.before.before.past-name.ensures, body-stands (words_of c.before.before.before.before.before.before.before.before.before.before.before.before.args.objects.now) c.before.before.before.before.before.before.before.before.before.before.before.before.args.q v k e c.before.before.before.before.before.before.before.before.before.past-name.ensures c.before.before.before.before.before.before.before.past-option.ensures c.before.before.before.before.before.number.ensures.0 c.before.before.before.before.past_names.ensures _ refl (omega arith) refl refl) }
+returns-5 c = record { low = λ t. omega arith; high = λ t. omega arith; named = λ t. omega arith; tells = λ v k e. (refl, ap (λ (n : ℕ). eqb n 1) c.number3.ensures.0 ∙ gives-is (words_of c.before.before.before.before.before.before.before.before.before.before.before.before.args.objects.now) c.before.before.before.before.before.before.before.before.before.before.before.before.args.q v k e c.before.before.before.before.before.before.before.before.before.past-name.ensures, body-stands (words_of c.before.before.before.before.before.before.before.before.before.before.before.before.args.objects.now) c.before.before.before.before.before.before.before.before.before.before.before.before.args.q v k e c.before.before.before.before.before.before.before.before.before.past-name.ensures c.before.before.before.before.before.before.before.past-option.ensures c.before.before.before.before.before.number.ensures.0 c.before.before.before.before.past_names_lem.ensures _ refl (omega arith) refl refl) }
 
 pub body-at-spec : {M : Type 1} → statement M
 body-at-spec =

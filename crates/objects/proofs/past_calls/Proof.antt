@@ -24,7 +24,7 @@ past-names-requires : tie.Need-past-names-requires
 past-names-requires c κs = search rules
 
 returns-2 : tie.Need-returns-2
-returns-2 c = calls-end (omega arith) (rw c.before.number.ensures.0 at c.past_names.ensures)
+returns-2 c = calls-end (omega arith) (rw c.before.number.ensures.0 at c.past_names_lem.ensures)
 
 pub past-calls-spec : {M : Type 1} → statement M
 past-calls-spec =

@@ -1,0 +1,60 @@
+use borrow.Author.Rules.{rules}
+use mathlib.Core.Path.{◌≡◌, refl, ◌∙◌}
+use native.Mathlib.Omega.{arith}
+use Prim.Native.Nat.{ℕ, ◌+◌, ◌-◌, ◌≤◌, ◌<◌}
+use lib.ListN.{length}
+use Rattle.emitter.proofs.Tables.{TableGo, table_none, table_more, table-end}
+use Rattle.emitter.proofs.emit_table.Goals as goal
+
+-- src/lib.rt:405:5
+pub loop-j-init : goal.loop-j-init
+loop-j-init c = (refl, omega arith, omega arith, table_none c.args.cells.now c.args.out.now c.args.newest c.args.from c.args.end)
+
+-- src/lib.rt:406:44
+pub overflow_sub-j : goal.overflow_sub-j
+overflow_sub-j c = omega arith
+
+-- src/lib.rt:407:13
+pub labels_at-n-requires : goal.labels_at-n-requires
+labels_at-n-requires c = omega arith
+
+-- src/lib.rt:409:21
+pub overflow_mul-n : goal.overflow_mul-n
+overflow_mul-n c = omega arith
+
+-- src/lib.rt:410:28
+pub overflow_add-head : goal.overflow_add-head
+overflow_add-head c = omega arith
+
+-- src/lib.rt:410:49
+pub behind-requires : goal.behind-requires
+behind-requires c = let P = c.requires in let o = c.loop-j in omega arith
+
+-- src/lib.rt:410:9
+pub emit_labels-requires : goal.emit_labels-requires
+emit_labels-requires c = let P = c.requires in let o = c.loop-j in let w = c.wide-head.ensures in let n = c.labels_at-n.ensures in let e = c.less-l.ensures in omega arith
+
+-- src/lib.rt:411:23
+pub overflow_sub-j-in-loop-j : goal.overflow_sub-j-in-loop-j
+overflow_sub-j-in-loop-j c = omega arith
+
+-- src/lib.rt:405:5
+pub loop-j-smaller : goal.loop-j-smaller
+loop-j-smaller c = let h = c.older_at-older.ensures.2 c.loop-j-test.true in omega arith
+
+-- src/lib.rt:405:5
+pub loop-j-preserved : goal.loop-j-preserved
+loop-j-preserved c = let h = c.older_at-older.ensures.2 c.loop-j-test.true in let o = c.loop-j in let e = c.less-l.ensures in (
+  c.put_word.auto.0 ∙ (c.emit_labels.auto.1.1.1.0 ∙ c.loop-j.invariant.0),
+  omega arith,
+  omega arith,
+  table_more c.args.cells.now c.args.out.now c.args.newest c.args.from c.args.end c.loop-j.out _ _ c.loop-j.j c.loop-j.l c.wide-head.result c.labels_at-n.result c.older_at-older.result c.less-l.result c.loop-j-test.true (c.wide-head.ensures.0 ∙ c.word.ensures) c.labels_at-n.ensures.0 c.older_at-older.ensures.0 c.less-l.ensures _ c.behind.ensures c.emit_labels.ensures c.put_word.ensures c.loop-j.invariant.3,
+)
+
+-- src/lib.rt:399:1
+pub shape_of-out : goal.shape_of-out
+shape_of-out c = c.loop-j.invariant.0
+
+-- src/lib.rt:399:1
+pub returns : goal.returns
+returns c = table-end c.args.cells.now c.args.out.now c.args.newest c.args.from c.args.end c.loop-j.out c.loop-j.j c.loop-j.l (omega (arith, c.loop-j-test.false)) c.loop-j.invariant.3

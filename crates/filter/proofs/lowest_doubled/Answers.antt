@@ -1,0 +1,34 @@
+-- `filter::lowest_doubled` meets its contract: the bytes below b do not pass the test.
+use mathlib.Core.Path.{◌≡◌, refl}
+use Prim.Native.Nat.{ℕ, ◌-◌, ◌≤◌, ◌+◌}
+use native.Mathlib.Omega.{arith}
+use borrow.Author.Tests.{le-leb, lt-leb}
+use lib.Dec.{leb}
+use lib.ListN.{get_or}
+use Rattle.filtering.specs.Filter.{lowest}
+use Rattle.filter.specs.Working.{lowest_doubled}
+use Rattle.filter.proofs.Laws.{low-on, low-here, low_end}
+use Rattle.filter.proofs.lowest_doubled.Goals as goal
+
+pub loop-b-init : goal.loop-b-init
+loop-b-init c = (omega arith, refl)
+
+pub bounds-held-b : goal.bounds-held-b
+bounds-held-b c = omega (arith, c.loop-b-test.true, c.requires)
+
+pub returns-then-held-b-ge2 : goal.returns-then-held-b-ge2
+unfolding lowest_doubled
+returns-then-held-b-ge2 c = let held = c.args.held.now in low-here (λ (x : ℕ). leb 2 (get_or held x 0)) c.loop-b.b c.loop-b-test.true (le-leb 2 (get_or held c.loop-b.b 0) c.if-held-b-ge2.true) c.loop-b.invariant.1
+
+pub overflow_add-b : goal.overflow_add-b
+overflow_add-b c = omega (arith, c.loop-b-test.true)
+
+pub loop-b-smaller : goal.loop-b-smaller
+loop-b-smaller c = omega (arith, c.loop-b-test.true)
+
+pub loop-b-preserved : goal.loop-b-preserved
+loop-b-preserved c = let held = c.args.held.now in (omega (arith, c.loop-b-test.true), low-on (λ (x : ℕ). leb 2 (get_or held x 0)) c.loop-b.b c.loop-b-test.true (lt-leb 2 (get_or held c.loop-b.b 0) c.if-held-b-ge2.false) c.loop-b.invariant.1)
+
+pub returns : goal.returns
+unfolding lowest_doubled
+returns c = let held = c.args.held.now in low_end (λ (x : ℕ). leb 2 (get_or held x 0)) c.loop-b.b c.loop-b-test.false c.loop-b.invariant.1

@@ -1,0 +1,17 @@
+-- `filter::lowest_doubled` meets its contract: the bytes below b do not pass the test.
+use mathlib.Core.Path.{◌≡◌, refl}
+use Prim.Native.Nat.{ℕ, ◌-◌, ◌≤◌, ◌+◌}
+use native.Mathlib.Omega.{arith}
+use borrow.Author.Tests.{le-leb, lt-leb}
+use lib.Dec.{leb}
+use lib.ListN.{get_or}
+use Rattle.filtering.specs.Filter.{lowest}
+use Rattle.filter.specs.Working.{lowest_doubled}
+use Rattle.filter.proofs.Laws.{low-on, low-here, low_end}
+use Rattle.filter.proofs.lowest_doubled.Given as goal
+
+abbrev pub invariant-loop-b : goal.invariant-loop-b
+invariant-loop-b l = (l.b ≤ 256) × (lowest (λ (x : ℕ). leb 2 (get_or l.held x 0)) (256 - l.b) l.b ≡ lowest (λ (x : ℕ). leb 2 (get_or l.held x 0)) 256 0)
+
+abbrev pub decreases-loop-b : goal.decreases-loop-b
+decreases-loop-b l = 256 - l.b

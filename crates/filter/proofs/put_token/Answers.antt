@@ -1,0 +1,7 @@
+-- `filter::put_token` meets its contract.
+use Rattle.filter.proofs.Writes.{words-one}
+use borrow.Author.Rules.{rules}
+use Rattle.filter.proofs.put_token.Goals as goal
+
+pub returns : goal.returns
+returns c = words-one c.args.map.now c.args.text.now c.args.out.now c.args.k c.byte-b.result _ c.requires.1 c.byte-b.ensures.0 c.put_turned.ensures

@@ -1,0 +1,6 @@
+-- `Walk::ret` meets its contract.
+use borrow.Author.Rules.{rules}
+use Rattle.walker.proofs.Walk.ret.Goals as goal
+
+pub returns : goal.returns
+returns c = simp (c.with_registers.ensures, c.popped_to.ensures, c.wide.ensures.0)

@@ -1,0 +1,7 @@
+-- `Walk::stopped` meets its contract.
+use mathlib.Core.Path.{refl}
+use borrow.Author.Rules.{rules}
+use Rattle.walker.proofs.Walk.stopped.Goals as goal
+
+pub returns : goal.returns
+returns c = rw (c.ended.ensures, c.number_of.ensures, c.in_phase.ensures) refl
