@@ -293,6 +293,8 @@ module _ (p : Program) (n : Names) (rules : List KnownRule) (prog : List Rule) (
   unfolding Defaulted Labelled
   first-label [] [] b q d r no-labels h = h
   first-label (w ∷ ws) (v ∷ vs) b q d r more_labels h = tt
+  first-label [] (v ∷ vs) b q d r x4 h = elim x4 [ ]
+  first-label (w ∷ ws) [] b q d r x4 h = elim x4 [ ]
 
   no_default : Defaulted absent nil → Labelled nil
   unfolding Defaulted

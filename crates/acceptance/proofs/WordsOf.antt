@@ -118,6 +118,7 @@ module _ (text : List ℕ) where
   among {ws = w ∷ []} f (breaks g e n) = breaks (record { one = f w (Memᴰ.head refl); inside = g.inside; spelt = g.spelt }) e n
   among {ws = w ∷ ws} f (more g b l n r) =
       more (record { one = f w (Memᴰ.head refl); inside = g.inside; spelt = g.spelt }) b l n (among (λ v m. f v (Memᴰ.tail m)) r)
+  among {ws = []} f x5 = elim x5 [ ]
 
   pub row : Row text (WordOf text) (words text)
   unfolding words

@@ -228,6 +228,7 @@ module _ (prog : List Rule) (tokens answers : List ℕ) where
     goal-more n m q k ps to_back a h e = λ io. ends_more m h (e io)
     goal-more n m q k ps (to_give v) a h e = λ io. ends_more m h (e io)
     goal-more n m q k ps (to_call r) a h e = e
+    goal-more n m q k ps to_end a h e = elim a [ ]
 
     -- from inside a cycle, an alternative, otherwise
     pub cycle-goal : (b q : Acts) (k : List Context) (ps : List Pending) (n : ℕ) → ¬ (Paths prog to_end b) → ((w : Way) → Path prog w (cycle b) → Goal c q k ps n w)

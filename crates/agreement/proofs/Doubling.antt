@@ -95,10 +95,12 @@ module _ (prog : List Rule) where
   calls-next : {r s : ℕ} → Paths prog (to_call s) (twice r) → s ≡ r
   calls-next (paths_here a path_calls) = refl
   calls-next (paths_later p (paths_here a path_calls)) = refl
+  calls-next {r = r} {s = s} (paths_later p (paths_later _ x12)) = elim x12 [ ]
 
   no_loop : {r : ℕ} → Loops prog (twice r) → ⊥
   no_loop (loops_here l) = elim l [ ]
   no_loop (loops_later (loops_here l)) = elim l [ ]
+  no_loop {r = r} (loops_later (loops_later x6)) = elim x6 [ ]
 
   up : {d r s : ℕ} {m : Rule} → Is d r m → Paths prog (to_call s) m.body → r < s
   up (is_last e) p = elim p [ ]

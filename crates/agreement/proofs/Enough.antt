@@ -68,6 +68,7 @@ module _ (T tokens : List ℕ) where
       go (over d) (over d') over-both ih e = refl
       go (further left v) (further more v') (on_both p) ih e = ih left more v p e
       go (over d) u (over-35 q) ih e = absurd (e.0 q)
+      go (further left v) (over d') x7 ih e = elim x7 [ ]
 
   call-more : (p : Phase) (m : Mode) (b c r s : ℕ) (w : Walk) → b ≤ c → r ≤ s → Enough (call_in T tokens p m b r w) → call_in T tokens p m c s w ≡ call_in T tokens p m b r w
   unfolding call_in

@@ -3,7 +3,7 @@ use mathlib.Core.Bool.{Bool, true, false, ◌&&◌, not}
 use mathlib.Core.List.{List, [], ◌∷◌}
 use mathlib.Core.Logic.{inl, inr}
 use mathlib.Core.Option.{Option, none, some}
-use mathlib.Core.Path.{◌≡◌, refl, sym, ap, ◌∙◌}
+use mathlib.Core.Path.{◌≡◌, refl, sym, ap, ◌∙◌, subst}
 use Prim.Native.Nat.{ℕ, zero, suc, ◌+◌, ◌<◌, ◌≤◌}
 use native.Mathlib.Decide.{dec_le}
 use native.Mathlib.Omega.{arith}
@@ -83,7 +83,7 @@ module _ (T : List ℕ) where
 
       go : (a b : Bool) → given (fetch T x) ≡ a → member x seen ≡ b → (if a && not b then some x else unseen T seen ms) ≡ some m
           → (unseen T seen ms ≡ some m → Found seen m × (member m ms ≡ true)) → Found seen m × (member m (x ∷ ms) ≡ true)
-      go true false f g d i = let q : x ≡ m = cc in rw (← q) (record { there = f; new = g }, member-head x ms)
+      go true false f g d i = let q : x ≡ m = cc in subst (λ (p : ℕ). Found seen p × (member p (x ∷ ms) ≡ true)) q (record { there = f; new = g }, member-head x ms)
       go true true f g d i = later (i d)
       go false b f g d i = later (i d)
 

@@ -17,6 +17,9 @@ use Rattle.machine.specs.Decode.{fetch, invalid, decode, decode_at}
 pub member-head : (m : ℕ) (ms : List ℕ) → member m (m ∷ ms) ≡ true
 member-head m ms = rw (eq-eqb m m refl)
 
+pub member-here : (m x : ℕ) (ms : List ℕ) → m ≡ x → member m (x ∷ ms) ≡ true
+member-here m x ms e = rw (eq-eqb m x e)
+
 pub member-tail : (m x : ℕ) (ms : List ℕ) → member m ms ≡ true → member m (x ∷ ms) ≡ true
 member-tail m x ms h = go (eqb m x)
   where
@@ -33,7 +36,7 @@ member-cons m x ms h = go (eqb m x) refl h
 
 pub member-left : (m : ℕ) (a b : List ℕ) → member m a ≡ true → member m (a ++ b) ≡ true
 member-left m [] b h = never h
-member-left m (x ∷ a) b h = elim (member-cons m x a h) [ inl e ↦ rw e (member-head x (a ++ b)) | inr t ↦ member-tail m x (a ++ b) (member-left m a b t) ]
+member-left m (x ∷ a) b h = elim (member-cons m x a h) [ inl e ↦ member-here m x (a ++ b) e | inr t ↦ member-tail m x (a ++ b) (member-left m a b t) ]
 
 pub member_right : (m : ℕ) (a b : List ℕ) → member m b ≡ true → member m (a ++ b) ≡ true
 member_right m [] b h = h
@@ -42,7 +45,7 @@ member_right m (x ∷ a) b h = member-tail m x (a ++ b) (member_right m a b h)
 pub member-either : (m : ℕ) (a b : List ℕ) → member m (a ++ b) ≡ true → (member m a ≡ true) ⊎ (member m b ≡ true)
 member-either m [] b h = inr h
 member-either m (x ∷ a) b h = elim (member-cons m x (a ++ b) h) [
-  | inl e ↦ inl (rw e (member-head x a))
+  | inl e ↦ inl (member-here m x a e)
   | inr t ↦ elim (member-either m a b t) [ inl u ↦ inl (member-tail m x a u) | inr u ↦ inr u ]
 ]
 

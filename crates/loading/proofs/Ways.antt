@@ -15,7 +15,7 @@ use Rattle.base.specs.Common.{member, given}
 use Rattle.machine.specs.Decode.{fetch, Instruction, invalid, jump, input, input_any, write, input_choice, call_rule, return, set_result, choice, end_choice, set_parameter, update, update_with, choose, choose_with, decode}
 use Rattle.loading.specs.Reach.{Chooses, by_token, by_result, behind, Reachable, at_start, at_target, at_label, at_default, at_call, after_call, at_next}
 use Rattle.loading.specs.Taking.{back_from, labelled, chosen, onward, ways}
-use Rattle.loading.proofs.Members.{member-head, member-tail, member-cons, member-left, member_right, member-either, inside-fetch}
+use Rattle.loading.proofs.Members.{member-head, member-here, member-tail, member-cons, member-left, member_right, member-either, inside-fetch}
 
 -- reachable by the ways of the test: what the proofs go by
 pub data ByWays (T : List ℕ) : ℕ → Type 0 where
@@ -53,10 +53,11 @@ module _ (T : List ℕ) where
   label-in zero from i h = absurd (omega arith)
   label-in (suc n) from zero h =
       let e : from + 2 * 0 + 1 ≡ from + 1 = omega arith in
-      rw e (member-head (back_from T (from + 1)) (labelled T n (from + 2)))
+      member-here (back_from T (from + 2 * 0 + 1)) (back_from T (from + 1)) (labelled T n (from + 2)) (ap (back_from T) e)
   label-in (suc n) from (suc i) h =
       let e : from + 2 * suc i + 1 ≡ from + 2 + 2 * i + 1 = omega arith in
-      rw e (member-tail (back_from T (from + 2 + 2 * i + 1)) (back_from T (from + 1)) (labelled T n (from + 2)) (label-in n (from + 2) i (omega arith)))
+      let r = subst (λ (p : ℕ). member (back_from T p) (labelled T n (from + 2)) ≡ true) (sym e) (label-in n (from + 2) i (omega arith)) in
+      member-tail (back_from T (from + 2 * suc i + 1)) (back_from T (from + 1)) (labelled T n (from + 2)) r
 
   -- From ways to `Reachable`
 

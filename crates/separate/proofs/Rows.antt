@@ -1,6 +1,6 @@
 -- Rows that stand in front of longer ones.
 use mathlib.Core.List.{List, [], ◌∷◌, ◌++◌}
-use mathlib.Core.Path.{◌≡◌, refl, ◌∙◌}
+use mathlib.Core.Path.{◌≡◌, refl, sym, ap, ◌∙◌}
 use Prim.Native.Nat.{ℕ, zero, suc, ◌+◌, ◌*◌, ◌<◌, ◌≤◌}
 use native.Mathlib.Omega.{arith}
 use lib.ListN.{length, get_or}
@@ -8,8 +8,7 @@ use Rattle.declarations.specs.Decls.{Decl, EntriesAt, decls_of, entries_of, Agre
 use Rattle.names.specs.Known.{Names}
 use Rattle.parts.specs.Objects.{together, open_rules}
 use Rattle.separate.specs.Steps.{Known}
-use Rattle.symbols.proofs.Indexing.{kept-alike}
-use Rattle.symbols.specs.Index.{Kept}
+use Rattle.symbols.specs.Index.{key_of, link_at, Chain, chain_end, chain_node, Kept}
 use Rattle.symbols.specs.Rows.{decl_at, held_from, held}
 use Rattle.syntax.specs.Texts.{Common}
 use Rattle.syntax.specs.Written.{Rule}
@@ -49,8 +48,29 @@ pub held-front : {old new : List ℕ} (text : List ℕ) (n : ℕ) → Front old 
 unfolding held
 held-front text n f l = held-from-front text 0 n f (omega (arith, l))
 
+chain-front : {old new : List ℕ} {p : ℕ} {is : List ℕ} → Front old new → Chain old p is → Chain new p is
+chain-front f (chain_end e) = chain_end e
+chain-front {old} {new} f (chain_node {k = k} {is = is} e u q c) = chain_node {k = k} {is = is} e u (rw d q) (rw d (chain-front f c))
+  where
+    d : link_at new k ≡ link_at old k
+    d = f.same (4608 + k) (omega (arith, u))
+
 pub kept-front : {text old new : List ℕ} {n : ℕ} → Front old new → Kept text old n → Kept text new n
-kept-front f k = kept-alike f.same k
+kept-front {text} {old} {new} {n} f k = record {
+  few = k.few;
+  indexed = record {
+    chain = k.indexed.chain;
+    follows = λ b l. rw (f.same (4096 + b) (omega (arith, l))) (chain-front f (k.indexed.follows b l));
+    names = λ i l. rw (same-decl i l, same_key) (k.indexed.names i l);
+    seconds = λ i w l e. rw (same-decl i l, same_key) (k.indexed.seconds i w l (ap (λ (d : Decl). d.second) (sym (same-decl i l)) ∙ e));
+  };
+}
+  where
+    same_key : key_of new ≡ key_of old
+    same_key = f.same 4607 (omega arith)
+
+    same-decl : (i : ℕ) → i < n → decl_at text new i ≡ decl_at text old i
+    same-decl i l = decl-front text i f (omega (arith, l, k.few))
 
 pub known-front : {text old new : List ℕ} {n own : ℕ} {c : Common} {rs : List Rule} {names : Names} → Front old new → Known text old n own c rs names → Known text new n own c rs names
 known-front {text} {old} {new} {n} {own} {c} {rs} {names} f k =

@@ -125,7 +125,7 @@ module _ {X : Type 0} {F : ℕ → List Decl → X} {t : Decl → Bool} {h : ℕ
 -- a row that passes a test is in the chain of the word
 
 -- a declaration and the class that it feeds begin with one number
-pub same-seed : (c d : ℕ) → serves c d ≡ true → seed_of c ≡ seed_of d
+same-seed : (c d : ℕ) → serves c d ≡ true → seed_of c ≡ seed_of d
 unfolding serves seed_of
 same-seed c d e = go (eqb d c) refl (eqb d 3) refl (eqb c 1) refl (eqb c 2) refl e
   where

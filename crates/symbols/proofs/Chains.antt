@@ -19,6 +19,7 @@ pub data AtLeast (lo : ℕ) : List ℕ → Type 0 where
 at_least : {lo i : ℕ} {is : List ℕ} → AtLeast lo is → Among i is → lo ≤ i
 at_least (least_more h t) (here e) = omega (arith, h, e)
 at_least (least_more h t) (later a) = at_least t a
+at_least {lo = lo} {i = i} least-none x3 = elim x3 [ ]
 
 weaker : {lo hi : ℕ} {is : List ℕ} → lo ≤ hi → AtLeast hi is → AtLeast lo is
 weaker h least-none = least-none

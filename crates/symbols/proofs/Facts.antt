@@ -1,5 +1,4 @@
 -- A text and its row of declarations, by computing: what the row holds, and what words mean by it.
-use mathlib.Core.Bool.{true, false}
 use mathlib.Core.List.{List, [], ◌∷◌, ◌++◌}
 use mathlib.Core.Option.{Option, none, some}
 use mathlib.Core.Path.{◌≡◌, refl}
@@ -10,7 +9,7 @@ use Rattle.declarations.specs.Decls.{Decl, lookup_in, type_in}
 use Rattle.names.specs.Known
 use Rattle.names.specs.Known.{good, wrong}
 use Rattle.symbols.specs.Index
-use Rattle.symbols.specs.Index.{bucket_of, seed_of, lower}
+use Rattle.symbols.specs.Index.{bucket_of}
 use Rattle.symbols.specs.Rows
 use Rattle.symbols.specs.Rows.{word_of, held, operation_in, rule_in}
 use Rattle.words.specs.Words.{Word}
@@ -77,9 +76,3 @@ hashed = refl
 pub hashed-tokens : (bucket_of 33 1 (bytes "ab") ∷ bucket_of 33 2 (bytes "ab") ∷ bucket_of 33 3 (bytes "ab") ∷ bucket_of 33 4 (bytes "ab") ∷ []) ≡ (300 ∷ 300 ∷ 300 ∷ 501 ∷ [])
 unfolding Index.opened
 hashed-tokens = refl
-
--- by class and then byte by byte; a word's beginning stands before it
-pub ordered : (lower (seed_of 2 ∷ bytes "b") (seed_of 4 ∷ bytes "a") ∷ lower (bytes "ab") (bytes "b") ∷ lower (bytes "a") (bytes "ab") ∷ lower (bytes "ab") (bytes "a") ∷ lower (bytes "a") (bytes "a") ∷ [])
-    ≡ (true ∷ true ∷ true ∷ false ∷ false ∷ [])
-unfolding Index.opened
-ordered = refl

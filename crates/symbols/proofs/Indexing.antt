@@ -4,7 +4,7 @@ use mathlib.Core.List.{List, [], ◌∷◌}
 use mathlib.Core.Logic.{◌⊎◌, inl, inr}
 use mathlib.Core.Option.{Option, none, some}
 use mathlib.Core.Path.{◌≡◌, refl, sym, ap, ◌∙◌, subst}
-use Prim.Native.Nat.{ℕ, zero, suc, ◌+◌, ◌-◌, ◌*◌, ◌/◌, ◌%◌, ◌≤◌, ◌<◌}
+use Prim.Native.Nat.{ℕ, zero, suc, ◌+◌, ◌-◌, ◌*◌, ◌/◌, ◌≤◌, ◌<◌}
 use lib.Dec.{eqb}
 use lib.ListN.{length, get_or, set, length-set}
 use lib.Seq.{get_or-set_same, get_or-set_other}
@@ -12,9 +12,8 @@ use borrow.Author.Tests.{eqb-true, eqb-false, eq-eqb, ne_eqb}
 use native.Mathlib.Omega.{arith}
 use Rattle.std.specs.Prelude.{if◌then◌else◌}
 use Rattle.declarations.specs.Decls.{Decl}
-use Rattle.symbols.proofs.Orders.{key-alike}
 use Rattle.symbols.proofs.Parts.{bucket-low}
-use Rattle.symbols.specs.Index.{Chain, chain_end, chain_node, Among, here, later, head_at, link_at, key_of, push_rows, push_second, push_name, bucket_of, RowsKept, IndexKept, count_of, node_at, key_at, node_key, Indexed, Stands, Sorted, Kept}
+use Rattle.symbols.specs.Index.{Chain, chain_end, chain_node, Among, here, later, head_at, link_at, key_of, push_rows, push_second, push_name, bucket_of, RowsKept, IndexKept, Kept}
 use Rattle.symbols.specs.Rows.{decl_at, option_of, second_kind, word_of, held_from, held}
 use Rattle.symbols.specs.Search.{part}
 use Rattle.words.specs.Words.{Word}
@@ -116,20 +115,16 @@ key_set rows key size = get_or-set_same rows 4607 key 0 (omega (arith, size))
 pub clear-keyed : (rows : List ℕ) (key : ℕ) → ((b : ℕ) → b < 511 → head_at rows b ≡ 0) → (b : ℕ) → b < 511 → head_at (set rows 4607 key) b ≡ 0
 clear-keyed rows key z b l = get_or-set_other rows 4607 (4096 + b) key 0 (λ e. omega (arith, e, l)) ∙ z b l
 
--- a declaration's numbers are the same
-decl-same : (text old new : List ℕ) (j : ℕ) → ((i : ℕ) → i < 4096 → get_or new i 0 ≡ get_or old i 0) → j < 512 → decl_at text new j ≡ decl_at text old j
+pub decl-kept : {old new : List ℕ} (text : List ℕ) (j : ℕ) → RowsKept old new → j < 512 → decl_at text new j ≡ decl_at text old j
 unfolding decl_at
-decl-same text old new j f l = go (f (8 * j) (omega (arith, l))) (f (8 * j + 1) (omega (arith, l))) (f (8 * j + 2) (omega (arith, l))) (f (8 * j + 3) (omega (arith, l)))
-    (f (8 * j + 4) (omega (arith, l))) (f (8 * j + 5) (omega (arith, l))) (f (8 * j + 6) (omega (arith, l))) (f (8 * j + 7) (omega (arith, l)))
+decl-kept {old} {new} text j r l = go (r.kept (8 * j) (omega (arith, l))) (r.kept (8 * j + 1) (omega (arith, l))) (r.kept (8 * j + 2) (omega (arith, l))) (r.kept (8 * j + 3) (omega (arith, l)))
+    (r.kept (8 * j + 4) (omega (arith, l))) (r.kept (8 * j + 5) (omega (arith, l))) (r.kept (8 * j + 6) (omega (arith, l))) (r.kept (8 * j + 7) (omega (arith, l)))
   where
     decl : ℕ → ℕ → ℕ → ℕ → ℕ → ℕ → ℕ → ℕ → Decl
     decl a b c d e f g h = record { class = a; value = b; name = word_of text 257 c d; second = option_of text (second_kind a) e f; third = option_of text 257 g h }
 
     go : {a b c d e f g h a₁ b₁ c₁ d₁ e₁ f₁ g₁ h₁ : ℕ} → a ≡ a₁ → b ≡ b₁ → c ≡ c₁ → d ≡ d₁ → e ≡ e₁ → f ≡ f₁ → g ≡ g₁ → h ≡ h₁ → decl a b c d e f g h ≡ decl a₁ b₁ c₁ d₁ e₁ f₁ g₁ h₁
     go p q r s t u v w = cc
-
-pub decl-kept : {old new : List ℕ} (text : List ℕ) (j : ℕ) → RowsKept old new → j < 512 → decl_at text new j ≡ decl_at text old j
-decl-kept {old} {new} text j r l = decl-same text old new j r.kept l
 
 held-from-kept : {old new : List ℕ} (text : List ℕ) (i n : ℕ) → RowsKept old new → i + n ≤ 512 → held_from text new i n ≡ held_from text old i n
 unfolding held_from
@@ -162,40 +157,30 @@ index-none text rows n d z = record {
   seconds = λ j w h l e. absurd (omega (arith, h, l));
 }
 
-pub index-all : {key : ℕ} {text rows : List ℕ} {n : ℕ} → n ≤ 512 → 0 < key → IndexedFrom key text rows 0 n → Kept text rows n
-index-all few up f = record {
+pub index-all : {key : ℕ} {text rows : List ℕ} {n : ℕ} → n ≤ 512 → IndexedFrom key text rows 0 n → Kept text rows n
+index-all few f = record {
   few = few;
-  chained = λ d. record {
+  indexed = record {
     chain = f.chain;
     follows = λ b l. f.nodes.follows b l;
     names = λ j l. rw f.keyed (f.names j (omega arith) l);
     seconds = λ j w l e. rw f.keyed (f.seconds j w (omega arith) l e);
   };
-  sorted = λ z. absurd (omega (arith, f.keyed, z, up));
 }
 
 pub index_at : {key : ℕ} {text rows : List ℕ} {n i : ℕ} → IndexedFrom key text rows (2 * i) n → i ≡ 0 → IndexedFrom key text rows 0 n
 index_at {key} {text} {rows} {n} f e = subst (λ (k : ℕ). IndexedFrom key text rows (2 * k) n) e f
 
 pub kept_less : {text rows : List ℕ} {m n : ℕ} → m ≤ n → Kept text rows n → Kept text rows m
-kept_less {text} {rows} {m} {n} h k = record { few = omega (arith, h, k.few); chained = λ d. chains (k.chained d); sorted = λ z. nodes (k.sorted z) }
-  where
-    chains : Indexed text rows n → Indexed text rows m
-    chains f = record {
-      chain = f.chain;
-      follows = λ b l. f.follows b l;
-      names = λ j l. f.names j (omega (arith, h, l));
-      seconds = λ j w l e. f.seconds j w (omega (arith, h, l)) e;
-    }
-
-    nodes : Sorted text rows n → Sorted text rows m
-    nodes f = record {
-      ordered = f.ordered;
-      rising = λ p q l m₁ e. f.rising p q l m₁ e;
-      worded = λ p l o z. f.worded p l o z;
-      names = λ j l. f.names j (omega (arith, h, l));
-      seconds = λ j l d. f.seconds j (omega (arith, h, l)) d;
-    }
+kept_less h k = record {
+  few = omega (arith, h, k.few);
+  indexed = record {
+    chain = k.indexed.chain;
+    follows = λ b l. k.indexed.follows b l;
+    names = λ j l. k.indexed.names j (omega (arith, h, l));
+    seconds = λ j w l e. k.indexed.seconds j w (omega (arith, h, l)) e;
+  };
+}
 
 still : {j : ℕ} (chain : ℕ → List ℕ) (b k c : ℕ) → Among j (chain c) → Among j (pushed chain b k c)
 still {j} chain b k c a = go (eqb c b)
@@ -369,76 +354,30 @@ index-set rows i x h = record { size = length-set rows i x; kept = λ j l. get_o
 pub rows-front : {old new : List ℕ} → IndexKept old new → RowsKept old new
 rows-front f = record { size = f.size; kept = λ j l. f.kept j (omega (arith, l)) }
 
--- rows and index are the same
-abbrev Alike : List ℕ → List ℕ → Type 0
-Alike old new = (j : ℕ) → j < 5632 → get_or new j 0 ≡ get_or old j 0
-
-chain-alike : {old new : List ℕ} {p : ℕ} {is : List ℕ} → Alike old new → Chain old p is → Chain new p is
-chain-alike f (chain_end e) = chain_end e
-chain-alike {old} {new} f (chain_node {k = k} {is = is} e u q c) = chain_node {k = k} {is = is} e u (rw d q) (rw d (chain-alike f c))
+chain-front : {old new : List ℕ} {p : ℕ} {is : List ℕ} → IndexKept old new → Chain old p is → Chain new p is
+chain-front f (chain_end e) = chain_end e
+chain-front {old} {new} f (chain_node {k = k} {is = is} e u q c) = chain_node {k = k} {is = is} e u (rw d q) (rw d (chain-front f c))
   where
     d : link_at new k ≡ link_at old k
-    d = f (4608 + k) (omega (arith, u))
-
-sorted-alike : {text old new : List ℕ} {n : ℕ} → n ≤ 512 → Alike old new → Sorted text old n → Sorted text new n
-sorted-alike {text} {old} {new} {n} few f s = record {
-  ordered = record {
-    room = omega (arith, count, s.ordered.room);
-    low = λ p l. rw (node p (here-too p l)) (s.ordered.low p (here-too p l));
-    up = λ p q l m. rw (key p (earlier p q l m), key q (here-too q m)) (s.ordered.up p q l (here-too q m));
-  };
-  rising = λ p q l m e. rw (node p (earlier p q l m), node q (here-too q m)) (s.rising p q l (here-too q m) (sym (key p (earlier p q l m)) ∙ (e ∙ key q (here-too q m))));
-  worded = λ p l o z. s.worded p (here-too p l) (ap (λ (k : ℕ). k % 2) (sym (node p (here-too p l))) ∙ o) (second p (here-too p l) z);
-  names = λ i l. stands (s.names i l);
-  seconds = λ i l d. stands (s.seconds i l (λ e. d (f (8 * i + 5) (omega (arith, l, few)) ∙ e)));
-}
-  where
-    count : count_of new ≡ count_of old
-    count = f 4096 (omega arith)
-
-    here-too : (p : ℕ) → p < count_of new → p < count_of old
-    here-too p l = omega (arith, l, count)
-
-    earlier : (p q : ℕ) → p < q → q < count_of new → p < count_of old
-    earlier p q l m = omega (arith, l, m, count)
-
-    node : (p : ℕ) → p < count_of old → node_at new p ≡ node_at old p
-    node p l = f (4608 + p) (omega (arith, l, s.ordered.room))
-
-    key : (p : ℕ) → p < count_of old → node_key text new p ≡ node_key text old p
-    key p l = ap (key_at text new) (node p l) ∙ key-alike text old new (node_at old p) (λ j m. f j (omega (arith, m))) (s.ordered.low p l)
-
-    -- the length of the second word of a node's row
-    second : (p : ℕ) → p < count_of old → get_or new (8 * (node_at new p / 2) + 5) 0 ≡ 0 → get_or old (8 * (node_at old p / 2) + 5) 0 ≡ 0
-    second p l z = sym (f (8 * (node_at old p / 2) + 5) (omega (arith, s.ordered.low p l))) ∙ (ap (λ (k : ℕ). get_or new (8 * (k / 2) + 5) 0) (sym (node p l)) ∙ z)
-
-    stands : {k : ℕ} → Stands old k → Stands new k
-    stands t = record { at = t.at; low = omega (arith, t.low, count); is = node t.at t.low ∙ t.is }
-
-pub kept-alike : {text old new : List ℕ} {n : ℕ} → ((j : ℕ) → j < 5632 → get_or new j 0 ≡ get_or old j 0) → Kept text old n → Kept text new n
-kept-alike {text} {old} {new} {n} f k = record {
-  few = k.few;
-  chained = λ d. chains (k.chained (λ z. d (same_key ∙ z)));
-  sorted = λ z. sorted-alike k.few f (k.sorted (sym same_key ∙ z));
-}
-  where
-    same_key : key_of new ≡ key_of old
-    same_key = f 4607 (omega arith)
-
-    same-decl : (i : ℕ) → i < n → decl_at text new i ≡ decl_at text old i
-    same-decl i l = decl-same text old new i (λ j m. f j (omega (arith, m))) (omega (arith, l, k.few))
-
-    chains : Indexed text old n → Indexed text new n
-    chains x = record {
-      chain = x.chain;
-      follows = λ b l. rw (f (4096 + b) (omega (arith, l))) (chain-alike f (x.follows b l));
-      names = λ i l. rw (same-decl i l, same_key) (x.names i l);
-      seconds = λ i w l e. rw (same-decl i l, same_key) (x.seconds i w l (ap (λ (d : Decl). d.second) (sym (same-decl i l)) ∙ e));
-    }
+    d = f.kept (4608 + k) (omega (arith, u))
 
 -- writing behind the index keeps rows and index
 pub kept-behind : {text old new : List ℕ} {n : ℕ} → IndexKept old new → Kept text old n → Kept text new n
-kept-behind f k = kept-alike f.kept k
+kept-behind {text} {old} {new} {n} f k = record {
+  few = k.few;
+  indexed = record {
+    chain = k.indexed.chain;
+    follows = λ b l. rw (f.kept (4096 + b) (omega (arith, l))) (chain-front f (k.indexed.follows b l));
+    names = λ i l. rw (same-decl i l, same_key) (k.indexed.names i l);
+    seconds = λ i w l e. rw (same-decl i l, same_key) (k.indexed.seconds i w l (ap (λ (d : Decl). d.second) (sym (same-decl i l)) ∙ e));
+  };
+}
+  where
+    same_key : key_of new ≡ key_of old
+    same_key = f.kept 4607 (omega arith)
+
+    same-decl : (i : ℕ) → i < n → decl_at text new i ≡ decl_at text old i
+    same-decl i l = decl-kept text i (rows-front f) (omega (arith, l, k.few))
 
 pub held-behind : {old new : List ℕ} (text : List ℕ) (n : ℕ) → IndexKept old new → n ≤ 512 → held text new n ≡ held text old n
 held-behind text n f l = held_kept text n (rows-front f) l

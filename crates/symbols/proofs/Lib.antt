@@ -1,12 +1,8 @@
 -- Laws of parts of the text and of the row of declarations, for the proofs of the code; and worked examples.
 pub mod Parts
-pub mod Orders
-pub mod Bounds
 pub mod Searches
 pub mod Chains
 pub mod Indexing
 pub mod Along
-pub mod Sorting
-pub mod Sought
 pub mod Lookups
 pub mod Facts

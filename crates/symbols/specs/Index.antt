@@ -1,11 +1,8 @@
--- The index by names: behind the rows' 4,096 numbers stand 511 heads, the key of the hash and 1,024 links. Node k is row k / 2, by its name where k is even
--- and by its second word where k is odd; it is written k + 1 in a chain, 0 is no node. A chain meets the rows whose classes and words have one hash, in the
--- order of the row. Where the key is 0 there are no chains: in the place of the links stand the nodes, by class and word, and in that of the first head their
--- count.
-use Rattle.std.specs.Prelude.{Bool, true, false, ◌||◌, List, [], ◌∷◌, ◌⊎◌, ◌≡◌, ℕ, suc, ◌+◌, ◌*◌, ◌-◌, ◌/◌, ◌%◌, ◌<◌, ◌≤◌, eqb, ltb, length, get_or, set, if◌then◌else◌}
+-- The index by names: behind the rows' 4,096 numbers stand 511 heads, the key of the hash and 1,024 links. Node k + 1 is row k / 2, by its name where k is even and by its
+-- second word where k is odd; 0 is no node. A chain meets the rows whose classes and words have one hash, in the order of the row.
+use Rattle.std.specs.Prelude.{◌||◌, List, [], ◌∷◌, ◌⊎◌, ◌≡◌, ℕ, suc, ◌+◌, ◌*◌, ◌-◌, ◌/◌, ◌%◌, ◌<◌, ◌≤◌, eqb, ltb, length, get_or, set, if◌then◌else◌}
 use Rattle.std.proofs.Math.Option.{none, some}
 use Rattle.symbols.specs.Rows.{decl_at}
-use Rattle.symbols.specs.Search.{part}
 use Rattle.words.specs.Words.{Word}
 
 -- A hash has 48 bits. Under every odd key some names have the same, since 8 divides key * key - 1: short ones where a hash has 16 bits, long ones here.
@@ -21,7 +18,7 @@ seed_of class = if eqb class 2 || eqb class 3 then 1 else class % 28147497671065
 unfoldable pub bucket_of : ℕ → ℕ → List ℕ → ℕ
 bucket_of key class w = hash_from key (seed_of class) w % 511
 
--- the key of an index, 0 where its nodes are sorted
+-- the key of an index
 abbrev pub key_of : List ℕ → ℕ
 key_of rows = get_or rows 4607 0
 
@@ -73,90 +70,12 @@ pub record Indexed (text rows : List ℕ) (n : ℕ) : Type 0 where
   pub names : (i : ℕ) → i < n → Among i (chain (bucket_of (key_of rows) (decl_at text rows i).class (decl_at text rows i).name.text))
   pub seconds : (i : ℕ) (w : Word) → i < n → (decl_at text rows i).second ≡ some w → Among i (chain (bucket_of (key_of rows) (decl_at text rows i).class w.text))
 
--- The sorted nodes
-
--- how many nodes are sorted, in the place of the first head
-abbrev pub count_of : List ℕ → ℕ
-count_of rows = get_or rows 4096 0
-
--- the node at the place p of the sorted ones
-abbrev pub node_at : List ℕ → ℕ → ℕ
-node_at rows p = get_or rows (4608 + p) 0
-
--- where the word of a node stands in the rows
-abbrev pub word_at : ℕ → ℕ
-word_at k = 8 * (k / 2) + 2 + 2 * (k % 2)
-
--- what nodes are sorted by: the class and the bytes of the word
-unfoldable pub key_at : List ℕ → List ℕ → ℕ → List ℕ
-key_at text rows k = seed_of (get_or rows (8 * (k / 2)) 0) ∷ part text (get_or rows (word_at k) 0) (get_or rows (word_at k + 1) 0)
-
--- the first key stands before the second, number by number
-unfoldable pub lower : List ℕ → List ℕ → Bool
-lower [] [] = false
-lower [] (b ∷ t) = true
-lower (a ∷ s) [] = false
-lower (a ∷ s) (b ∷ t) = if ltb a b then true else if ltb b a then false else lower s t
-
--- the key at the place p
-abbrev pub node_key : List ℕ → List ℕ → ℕ → List ℕ
-node_key text rows p = key_at text rows (node_at rows p)
-
--- no key stands before an earlier one
-pub record Ordered (text rows : List ℕ) : Type 0 where
-  pub room : count_of rows ≤ 1024
-  pub low : (p : ℕ) → p < count_of rows → node_at rows p < 1024
-  pub up : (p q : ℕ) → p < q → q < count_of rows → lower (node_key text rows q) (node_key text rows p) ≡ false
-
--- the keys before the place r are lower, and none from there on
-pub record Bound (text rows key : List ℕ) (r : ℕ) : Type 0 where
-  pub inside : r ≤ count_of rows
-  pub below : (p : ℕ) → p < r → lower (node_key text rows p) key ≡ true
-  pub above : (p : ℕ) → r ≤ p → p < count_of rows → lower (node_key text rows p) key ≡ false
-
--- from the place p on the nodes have moved up by one
-pub record Opened (old new : List ℕ) (p : ℕ) : Type 0 where
-  pub size : length new ≡ length old
-  pub kept : (j : ℕ) → j < 4608 + p → get_or new j 0 ≡ get_or old j 0
-  pub behind : (q : ℕ) → p ≤ q → q < count_of old → node_at new (q + 1) ≡ node_at old q
-
--- node k has been put among the sorted nodes
-pub record Inserted (text old new : List ℕ) (k : ℕ) : Type 0 where
-  pub at : ℕ
-  pub bound : Bound text old (key_at text old k) at
-  pub rows : RowsKept old new
-  pub key : key_of new ≡ key_of old
-  pub count : count_of new ≡ count_of old + 1
-  pub before : (q : ℕ) → q < at → node_at new q ≡ node_at old q
-  pub own : node_at new at ≡ k
-  pub behind : (q : ℕ) → at ≤ q → q < count_of old → node_at new (q + 1) ≡ node_at old q
-
--- the second word of row i has, where there is one
-pub data InsertedSecond (text old new : List ℕ) (i : ℕ) : Type 0 where
-  none_second : get_or old (8 * i + 5) 0 ≡ 0 → new ≡ old → InsertedSecond text old new i
-  put_second : (get_or old (8 * i + 5) 0 ≡ 0 → ⊥) → Inserted text old new (2 * i + 1) → InsertedSecond text old new i
-
--- node k stands among the sorted nodes
-pub record Stands (rows : List ℕ) (k : ℕ) : Type 0 where
-  pub at : ℕ
-  pub low : at < count_of rows
-  pub is : node_at rows at ≡ k
-
--- every row is among the sorted nodes with its words; those of one key go by rows
-pub record Sorted (text rows : List ℕ) (n : ℕ) : Type 0 where
-  pub ordered : Ordered text rows
-  pub rising : (p q : ℕ) → p < q → q < count_of rows → node_key text rows p ≡ node_key text rows q → node_at rows p < node_at rows q
-  pub worded : (p : ℕ) → p < count_of rows → node_at rows p % 2 ≡ 1 → get_or rows (8 * (node_at rows p / 2) + 5) 0 ≡ 0 → ⊥
-  pub names : (i : ℕ) → i < n → Stands rows (2 * i)
-  pub seconds : (i : ℕ) → i < n → (get_or rows (8 * i + 5) 0 ≡ 0 → ⊥) → Stands rows (2 * i + 1)
-
--- the first n rows, few enough, in chains by a key or sorted
+-- the first n rows, few enough and indexed
 pub record Kept (text rows : List ℕ) (n : ℕ) : Type 0 where
   pub few : n ≤ 512
-  pub chained : (key_of rows ≡ 0 → ⊥) → Indexed text rows n
-  pub sorted : key_of rows ≡ 0 → Sorted text rows n
+  pub indexed : Indexed text rows n
 
 -- all of this file computes where this is unfolded
 unfoldable pub opened : Unit {0}
-unfolding hash_from seed_of bucket_of push_second push_name next_of key_at lower
+unfolding hash_from seed_of bucket_of push_second push_name next_of
 opened = tt

@@ -2,12 +2,12 @@
 // read as 0, and a part of the text that reaches past the text's end is cut there.
 #![tactic(auto)]
 
-ghost use Rattle.std.specs.Prelude.{◌≡◌, List, ◌∷◌, ℕ, ◌+◌, ◌*◌, ◌-◌, ◌<◌, ◌≤◌, length, get_or};
+ghost use Rattle.std.specs.Prelude.{◌≡◌, List, ℕ, ◌+◌, ◌*◌, ◌-◌, ◌<◌, ◌≤◌, length, get_or};
 ghost use Rattle.base.specs.Common.{same, member, given};
 ghost use Rattle.names.specs.Known.{find, is_word};
 ghost use Rattle.names.specs.Declare.{values_of};
 ghost use Rattle.declarations.specs.Decls.{knowns_in, index_of, declared_in, elsewhere_in, lookup_in, type_in};
-ghost use Rattle.symbols.specs.Index.{seed_of, bucket_of, head_at, key_of, next_of, push_rows, push_second, push_name, RowsKept, count_of, key_at, lower, Ordered, Bound, Indexed, Opened, Inserted, InsertedSecond, Sorted, Kept};
+ghost use Rattle.symbols.specs.Index.{seed_of, bucket_of, head_at, key_of, next_of, push_rows, push_second, push_name, RowsKept, Kept};
 ghost use Rattle.symbols.specs.Rows.{word_of, decl_at, held, number_of, row_in, operation_in, operators_row, rule_in, Looks};
 ghost use Rattle.symbols.specs.Search.{part, serves, knows, named, declares, counts, Tells};
 
@@ -51,19 +51,14 @@ pub const VALUES: usize = 8;
 
 pub const OPERATORS: usize = 600;
 
-// Behind the rows: the heads of the chains, the key of the words' hash, the links, how many pairs of a section and a rule there are, and the pairs. Where the
-// key is 0 the nodes are sorted: they stand in the links' place, and in the first head's place their count.
+// Behind the rows: the heads of the chains, the key of the words' hash, the links, how many pairs of a section and a rule there are, and the pairs.
 pub const HEADS: usize = 4096;
 
 pub const BUCKETS: usize = 511;
 
-const COUNT: usize = 4096;
-
 const KEY: usize = 4607;
 
 pub const LINKS: usize = 4608;
-
-const NODES: usize = 4608;
 
 pub const PAIRS: usize = 5632;
 
@@ -78,10 +73,13 @@ pub const PAIR_RULE: usize = 5635;
 // A word's hash is below this, 2 to the power 48: the product with a key still fits 64 bits.
 const MODULUS: usize = 281474976710656;
 
-// What a word's hash is multiplied by at each byte.
-const HASH_KEY: usize = 33;
+// What a word's hash is multiplied by at each byte, at first; the keys that are tried where a chain is long with it; and which chain is long.
+const FIRST_KEY: usize = 33;
 
-// A chain of more nodes is long: then the nodes are sorted.
+const KEY_STEP: usize = 2026;
+
+const LAST_KEY: usize = 40000;
+
 const LONG: usize = 32;
 
 // So few rows have no chain that takes long.
@@ -337,7 +335,7 @@ fn next_node(rows: &[u16], p: usize) -> usize
 
 // The first n rows are put into the chains of their words by a key, the last row first.
 fn build(text: &[u8], rows: &mut [u16], n: usize, key: usize)
-    requires { (length rows.old ≡ 6017) × (n ≤ 512) × (key < 65536) × (0 < key) }
+    requires { (length rows.old ≡ 6017) × (n ≤ 512) × (key < 65536) }
     ensures index { Kept text.now rows.new n }
     ensures rows { RowsKept rows.old rows.new }
 {
@@ -377,259 +375,46 @@ fn longest(rows: &[u16]) -> usize {
     most
 }
 
-// The sorted nodes
-
-// The n bytes at a stand before the m at b.
-fn lower_bytes(text: &[u8], a: usize, n: usize, b: usize, m: usize) -> bool
-    requires { (n ≤ length text.now - a) × (m ≤ length text.now - b) }
-    ensures { result ≡ lower (part text.now a n) (part text.now b m) }
-{
-    let mut i = 0;
-    while i < n {
-        if m <= i {
-            return false;
-        }
-        if text[a + i] < text[b + i] {
-            return true;
-        }
-        if text[b + i] < text[a + i] {
-            return false;
-        }
-        i += 1;
-    }
-    n < m
-}
-
-fn lower_part(text: &[u8], a: usize, alen: usize, b: usize, blen: usize) -> bool
-    ensures { result ≡ lower (part text.now a alen) (part text.now b blen) }
-{
-    let n = part_len(text, a, alen);
-    let m = part_len(text, b, blen);
-    lower_bytes(text, a, n, b, m)
-}
-
-// The key of node k stands before that of a family and a part.
-fn is_below(text: &[u8], rows: &[u16], k: usize, f: usize, start: usize, len: usize) -> bool
-    requires { k < 65536 }
-    ensures { result ≡ lower (key_at text.now rows.now k) (f ∷ part text.now start len) }
-{
-    let own = seed(number(rows, ROW * (k / 2)));
-    if own < f {
-        return true;
-    }
-    if f < own {
-        return false;
-    }
-    let at = ROW * (k / 2) + NAME_START + 2 * (k % 2);
-    lower_part(text, number(rows, at), number(rows, at + 1), start, len)
-}
-
-// It is that key.
-fn is_key(text: &[u8], rows: &[u16], k: usize, f: usize, start: usize, len: usize) -> bool
-    requires { k < 65536 }
-    ensures { result ≡ same (key_at text.now rows.now k) (f ∷ part text.now start len) }
-{
-    if seed(number(rows, ROW * (k / 2))) != f {
-        return false;
-    }
-    let at = ROW * (k / 2) + NAME_START + 2 * (k % 2);
-    same_part(text, number(rows, at), number(rows, at + 1), start, len)
-}
-
-// The first place of the sorted nodes whose key is not before that of a family and a part.
-fn lower_bound(text: &[u8], rows: &[u16], f: usize, start: usize, len: usize) -> usize
-    requires { Ordered text.now rows.now }
-    ensures { Bound text.now rows.now (f ∷ part text.now start len) result }
-{
-    let mut low: usize = 0;
-    let mut high = number(rows, COUNT);
-    while low < high {
-        let mid = low + (high - low) / 2;
-        if is_below(text, rows, number(rows, NODES + mid), f, start, len) {
-            low = mid + 1;
-        } else {
-            high = mid;
-        }
-    }
-    low
-}
-
-// The nodes from the place p on move up by one.
-fn open_gap(rows: &mut [u16], p: usize)
-    requires { (length rows.old ≡ 6017) × (p ≤ count_of rows.old) × (count_of rows.old < 1024) }
-    ensures { Opened rows.old rows.new p }
-{
-    let mut j = number(rows, COUNT);
-    while p < j {
-        j -= 1;
-        let k = rows[NODES + j];
-        rows[NODES + j + 1] = k;
-    }
-}
-
-// Node k is put among the sorted nodes.
-fn insert(text: &[u8], rows: &mut [u16], k: usize)
-    requires { (length rows.old ≡ 6017) × (k < 1024) × (count_of rows.old < 1024) × Ordered text.now rows.old }
-    ensures { Inserted text.now rows.old rows.new k }
-{
-    let f = seed(number(rows, ROW * (k / 2)));
-    let at = ROW * (k / 2) + NAME_START + 2 * (k % 2);
-    let p = lower_bound(text, rows, f, number(rows, at), number(rows, at + 1));
-    open_gap(rows, p);
-    let count = rows[COUNT];
-    rows[NODES + p] = k as u16;
-    rows[COUNT] = count + 1;
-}
-
-// The second word of row i is, where it has one.
-fn insert_second(text: &[u8], rows: &mut [u16], i: usize)
-    requires { (length rows.old ≡ 6017) × (i < 512) × (count_of rows.old < 1024) × Ordered text.now rows.old }
-    ensures { InsertedSecond text.now rows.old rows.new i }
-{
-    if number(rows, ROW * i + SECOND_LEN) == 0 {
-        return;
-    }
-    insert(text, rows, 2 * i + 1);
-}
-
-// The nodes of the first n rows are sorted, the last row first.
-fn sort(text: &[u8], rows: &mut [u16], n: usize)
+// The first key with no long chain; where there is none, that with the shortest longest one. The rows have the chains of the first key.
+fn best_key(text: &[u8], rows: &mut [u16], n: usize) -> usize
     requires { (length rows.old ≡ 6017) × (n ≤ 512) }
-    ensures sorted { Sorted text.now rows.new n }
-    ensures key { key_of rows.new ≡ 0 }
+    ensures low { result < 65536 }
     ensures rows { RowsKept rows.old rows.new }
 {
-    rows[KEY] = 0;
-    rows[COUNT] = 0;
-    let mut row = n;
-    while 0 < row {
-        row -= 1;
-        insert_second(text, rows, row);
-        insert(text, rows, 2 * row);
+    let mut best = FIRST_KEY;
+    let mut least = longest(rows);
+    let mut key = FIRST_KEY + KEY_STEP;
+    while key < LAST_KEY {
+        if least <= LONG {
+            return best;
+        }
+        build(text, rows, n, key);
+        let k = longest(rows);
+        if k < least {
+            best = key;
+            least = k;
+        }
+        key += KEY_STEP;
     }
+    best
 }
 
-// The first n rows are put into the chains of their words, or are sorted where a chain is long.
+// The first n rows are put into the chains of their words. Which words share a chain depends on a key: where a chain is long, other keys are tried.
 pub fn index(text: &[u8], rows: &mut [u16], n: usize)
     requires { (length rows.old ≡ 6017) × (n ≤ 512) }
     ensures index { Kept text.now rows.new n }
     ensures rows { RowsKept rows.old rows.new }
     ensures held { (t : List ℕ) → held t rows.new n ≡ held t rows.old n }
 {
-    build(text, rows, n, HASH_KEY);
+    build(text, rows, n, FIRST_KEY);
     if n <= FEW {
         return;
     }
     if longest(rows) <= LONG {
         return;
     }
-    sort(text, rows, n);
-}
-
-// The row by chains
-
-// The value of a part in a class, 65,536 where it has none.
-fn chained_value(
-    text: &[u8],
-    rows: &[u16],
-    n: usize,
-    class: usize,
-    start: usize,
-    len: usize,
-) -> usize
-    requires { (n ≤ 512) × Indexed text.now rows.now n }
-    ensures { Tells result (find (part text.now start len) (knowns_in class (held text.now rows.now n))) }
-{
-    let mut p = first_node(text, rows, class, start, len);
-    while p != 0 {
-        let i = (p - 1) / 2;
-        if n <= i {
-            return NONE;
-        }
-        if knows(text, rows, i, class, start, len) {
-            return number(rows, ROW * i + VALUE);
-        }
-        p = next_node(rows, p);
-    }
-    NONE
-}
-
-// The first declaration of the class that has the part as its name, 65,536 where there is none.
-fn chained_row(text: &[u8], rows: &[u16], n: usize, class: usize, start: usize, len: usize) -> usize
-    requires { (n ≤ 512) × Indexed text.now rows.now n }
-    ensures tells { Tells result (index_of class (part text.now start len) 0 (held text.now rows.now n)) }
-    ensures below { result < 65536 → result < n }
-{
-    let mut p = first_node(text, rows, class, start, len);
-    while p != 0 {
-        let i = (p - 1) / 2;
-        if n <= i {
-            return NONE;
-        }
-        if named(text, rows, i, class, start, len) {
-            return i;
-        }
-        p = next_node(rows, p);
-    }
-    NONE
-}
-
-// The row among sorted nodes
-
-// The value of a part in a class, 65,536 where it has none.
-fn sorted_value(
-    text: &[u8],
-    rows: &[u16],
-    n: usize,
-    class: usize,
-    start: usize,
-    len: usize,
-) -> usize
-    requires { (n ≤ 512) × Sorted text.now rows.now n }
-    ensures { Tells result (find (part text.now start len) (knowns_in class (held text.now rows.now n))) }
-{
-    let f = seed(class);
-    let count = number(rows, COUNT);
-    let mut p = lower_bound(text, rows, f, start, len);
-    while p < count {
-        let k = number(rows, NODES + p);
-        if n <= k / 2 {
-            return NONE;
-        }
-        if !is_key(text, rows, k, f, start, len) {
-            return NONE;
-        }
-        if serves(class, number(rows, ROW * (k / 2))) {
-            return number(rows, ROW * (k / 2) + VALUE);
-        }
-        p += 1;
-    }
-    NONE
-}
-
-// The first declaration of the class that has the part as its name, 65,536 where there is none.
-fn sorted_row(text: &[u8], rows: &[u16], n: usize, class: usize, start: usize, len: usize) -> usize
-    requires { (n ≤ 512) × Sorted text.now rows.now n }
-    ensures tells { Tells result (index_of class (part text.now start len) 0 (held text.now rows.now n)) }
-    ensures below { result < 65536 → result < n }
-{
-    let f = seed(class);
-    let count = number(rows, COUNT);
-    let mut p = lower_bound(text, rows, f, start, len);
-    while p < count {
-        let k = number(rows, NODES + p);
-        if n <= k / 2 {
-            return NONE;
-        }
-        if !is_key(text, rows, k, f, start, len) {
-            return NONE;
-        }
-        if named(text, rows, k / 2, class, start, len) {
-            return k / 2;
-        }
-        p += 1;
-    }
-    NONE
+    let key = best_key(text, rows, n);
+    build(text, rows, n, key);
 }
 
 // The row
@@ -647,10 +432,18 @@ pub fn find_value(
     ensures same { result ≡ number_of (find (part text.now start len) (knowns_in class (held text.now rows.now n))) }
     ensures tells { Tells result (find (part text.now start len) (knowns_in class (held text.now rows.now n))) }
 {
-    if number(rows, KEY) == 0 {
-        return sorted_value(text, rows, n, class, start, len);
+    let mut p = first_node(text, rows, class, start, len);
+    while p != 0 {
+        let i = (p - 1) / 2;
+        if n <= i {
+            return NONE;
+        }
+        if knows(text, rows, i, class, start, len) {
+            return number(rows, ROW * i + VALUE);
+        }
+        p = next_node(rows, p);
     }
-    chained_value(text, rows, n, class, start, len)
+    NONE
 }
 
 // The first declaration of the class that has the part as its name, 65,536 where there is none.
@@ -667,10 +460,18 @@ pub fn find_row(
     ensures tells { Tells result (index_of class (part text.now start len) 0 (held text.now rows.now n)) }
     ensures below { result < 65536 → result < n }
 {
-    if number(rows, KEY) == 0 {
-        return sorted_row(text, rows, n, class, start, len);
+    let mut p = first_node(text, rows, class, start, len);
+    while p != 0 {
+        let i = (p - 1) / 2;
+        if n <= i {
+            return NONE;
+        }
+        if named(text, rows, i, class, start, len) {
+            return i;
+        }
+        p = next_node(rows, p);
     }
-    chained_row(text, rows, n, class, start, len)
+    NONE
 }
 
 // The class has the part as a name or string.

@@ -23,11 +23,11 @@ slice_bounds-emit_rules-end-3 c = sym (length-take-le (2 * c.least-end.result) c
 
 pub returns-then-size-gt-TABLE_WORDS : goal.returns-then-size-gt-TABLE_WORDS
 unfolding Emits
-returns-then-size-gt-TABLE_WORDS c = λ prog h. rw (c.too_short-then-size-gt-TABLE_WORDS.ensures.fault_value.0, c.too_short-then-size-gt-TABLE_WORDS.ensures.fault_value.1) ((let a = c.args in let s = size_of a.cells.now a.sorts.now a.rules prog _ _ _ c.emit_rules-size.result h refl c.emit_rules-size.ensures in let n = length-take-le (2 * c.least-end.result) a.table.now (omega (arith, c.least-end.ensures)) in refused-part prog a.table.now c.emit_rules-size.new.1.1.1.1.0 _ _ (2 * c.least-end.result) s (inl (omega (arith, s, c.if-size-gt-TABLE_WORDS.true))) (c.emit_rules-size.auto.1.1.1.1.0 ∙ n) (omega (arith, c.least-end.ensures)) c.too_short-then-size-gt-TABLE_WORDS.ensures.table_after))
+returns-then-size-gt-TABLE_WORDS c = λ prog h. rw (c.too_short-then-size-gt-TABLE_WORDS.ensures.fault_value.0, c.too_short-then-size-gt-TABLE_WORDS.ensures.fault_value.1) ((let a = c.args in let s = size_of a.cells.now a.sorts.now a.rules prog _ _ _ c.emit_rules-size.result h refl c.emit_rules-size.ensures in let n = length-take-le (2 * c.least-end.result) a.table.now (omega (arith, c.least-end.ensures)) in refused-part prog a.table.now c.emit_rules-size.new.out _ _ (2 * c.least-end.result) s (inl (omega (arith, s, c.if-size-gt-TABLE_WORDS.true))) (c.emit_rules-size.auto.out ∙ n) (omega (arith, c.least-end.ensures)) c.too_short-then-size-gt-TABLE_WORDS.ensures.table_after))
 
 pub returns-then-table-size : goal.returns-then-table-size
 unfolding Emits
-returns-then-table-size c = λ prog h. rw (c.too_short-then-table-size.ensures.fault_value.0, c.too_short-then-table-size.ensures.fault_value.1) ((let a = c.args in let s = size_of a.cells.now a.sorts.now a.rules prog _ _ _ c.emit_rules-size.result h refl c.emit_rules-size.ensures in let n = length-take-le (2 * c.least-end.result) a.table.now (omega (arith, c.least-end.ensures)) in refused-part prog a.table.now c.emit_rules-size.new.1.1.1.1.0 _ _ (2 * c.least-end.result) s (inr (omega (arith, s, c.if-table-size.true))) (c.emit_rules-size.auto.1.1.1.1.0 ∙ n) (omega (arith, c.least-end.ensures)) c.too_short-then-table-size.ensures.table_after))
+returns-then-table-size c = λ prog h. rw (c.too_short-then-table-size.ensures.fault_value.0, c.too_short-then-table-size.ensures.fault_value.1) ((let a = c.args in let s = size_of a.cells.now a.sorts.now a.rules prog _ _ _ c.emit_rules-size.result h refl c.emit_rules-size.ensures in let n = length-take-le (2 * c.least-end.result) a.table.now (omega (arith, c.least-end.ensures)) in refused-part prog a.table.now c.emit_rules-size.new.out _ _ (2 * c.least-end.result) s (inr (omega (arith, s, c.if-table-size.true))) (c.emit_rules-size.auto.out ∙ n) (omega (arith, c.least-end.ensures)) c.too_short-then-table-size.ensures.table_after))
 
 pub returns : goal.returns
 unfolding Emits

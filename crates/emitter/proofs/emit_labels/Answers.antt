@@ -39,7 +39,7 @@ loop-left-smaller c = omega (arith, c.loop-left-test.true)
 -- src/lib.rt:333:5
 pub loop-left-preserved : goal.loop-left-preserved
 loop-left-preserved c = let o = c.loop-left in let a = c.args in (
-  c.put_span.auto.0 ∙ o.invariant.0,
+  c.put_span.auto.out ∙ o.invariant.0,
   omega (arith, o.invariant.1, c.loop-left-test.true),
   omega (arith, o.invariant.2, c.loop-left-test.true),
   labels-more a.cells.now a.p a.j a.out.now a.at a.from o.q o.l o.left o.out _ c.loop-left-test.true (c.put_span.ensures ∙ ap (λ (i : ℕ). puts o.out o.l (i ∷ cut (o.l + 1 - a.from) ∷ [])) c.cell.ensures) o.invariant.3,

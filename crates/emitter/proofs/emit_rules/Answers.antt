@@ -32,9 +32,9 @@ loop-r-preserved c = let P = c.requires in let a = c.args in let o = c.loop-r in
   omega (arith, c.loop-r-test.true),
   m.inside,
   omega (arith, m.few, m.on),
-  c.emit_rule-s.auto.1.1.1.0 ∙ (c.place_rule.auto.1.1.0 ∙ o.invariant.3),
-  c.emit_rule-s.auto.1.0 ∙ (c.place_rule.auto.0 ∙ o.invariant.4),
-  rules-go a.cells.now a.sorts.now a.rules a.slots.now a.out.now o.q o.l o.r c.sort_at.result _ _ o.out _ _ o.slots _ _ c.loop-r-test.true P.1 o.invariant.4 c.place_rule.auto.0 c.place_rule.ensures c.sort_at.ensures c.emit_rule-s.ensures.rule_done o.invariant.5,
+  c.emit_rule-s.auto.out ∙ (c.place_rule.auto.out ∙ o.invariant.3),
+  c.emit_rule-s.auto.slots ∙ (c.place_rule.auto.slots ∙ o.invariant.4),
+  rules-go a.cells.now a.sorts.now a.rules a.slots.now a.out.now o.q o.l o.r c.sort_at.result _ _ o.out _ _ o.slots _ _ c.loop-r-test.true P.1 o.invariant.4 c.place_rule.auto.slots c.place_rule.ensures c.sort_at.ensures c.emit_rule-s.ensures.rule_done o.invariant.5,
 )
 
 -- src/lib.rt:719:1

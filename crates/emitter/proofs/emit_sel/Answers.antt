@@ -23,4 +23,4 @@ overflow_add-result c = let a = c.args in let h : c.sel_of-w.result ≡ sel_at a
 pub returns : goal.returns
 unfolding sel_at called_at
 returns c = let a = c.args in let h : c.sel_of-w.result ≡ sel_at a.cells.now a.slots.now a.p = cc in let f = few-sel (get_or a.cells.now a.p 0) (get_or a.cells.now (a.p + 1) 0) (start_of a.slots.now (get_or a.cells.now (a.p + 1) 0)) in let P = c.requires.0 in let L = c.least.ensures in
-    let e : c.sel_of-w.result.cells ≡ (sel_at a.cells.now a.slots.now a.p).cells = ap (λ (w : Item). w.cells) h in record { item_done = record { next = λ i. omega (arith, i, e, L); after = ap (λ (w : Item). a.at + w.count) h; wrote = c.put_some.ensures ∙ ap (λ (w : Item). puts a.out.now a.at (words_in w)) h; on = omega (arith, e, L, f.some-cells, c.requires.1); inside = omega (arith, L); few = f.small }; slots_after = ((c.call_at.ensures ∙ (ap (λ (i : ℕ). called_by i 11 a.slots.now c.wide-r.result (a.at + 1)) c.cell-k.ensures ∙ ap (λ (i : ℕ). called_by (get_or a.cells.now a.p 0) 11 a.slots.now i (a.at + 1)) (c.wide-r.ensures.0 ∙ c.cell-v.ensures)), refl),) }
+    let e : c.sel_of-w.result.cells ≡ (sel_at a.cells.now a.slots.now a.p).cells = ap (λ (w : Item). w.cells) h in record { item_done = record { next = λ i. omega (arith, i, e, L); after = ap (λ (w : Item). a.at + w.count) h; wrote = c.put_some.ensures ∙ ap (λ (w : Item). puts a.out.now a.at (words_in w)) h; on = omega (arith, e, L, f.some-cells, c.requires.1); inside = omega (arith, L); few = f.small }; slots_after = ((c.call_at.ensures ∙ (ap (λ (i : ℕ). called_by i 11 a.slots.now c.wide-r.result (a.at + 1)) c.cell-k.ensures ∙ ap (λ (i : ℕ). called_by (get_or a.cells.now a.p 0) 11 a.slots.now i (a.at + 1)) (c.wide-r.ensures.0 ∙ c.cell-v.ensures)), refl)) }

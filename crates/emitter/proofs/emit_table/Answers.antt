@@ -45,7 +45,7 @@ loop-j-smaller c = let h = c.older_at-older.ensures.2 c.loop-j-test.true in omeg
 -- src/lib.rt:405:5
 pub loop-j-preserved : goal.loop-j-preserved
 loop-j-preserved c = let h = c.older_at-older.ensures.2 c.loop-j-test.true in let o = c.loop-j in let e = c.less-l.ensures in (
-  c.put_word.auto.0 ∙ (c.emit_labels.auto.1.1.1.0 ∙ c.loop-j.invariant.0),
+  c.put_word.auto.out ∙ (c.emit_labels.auto.out ∙ c.loop-j.invariant.0),
   omega arith,
   omega arith,
   table_more c.args.cells.now c.args.out.now c.args.newest c.args.from c.args.end c.loop-j.out _ _ c.loop-j.j c.loop-j.l c.wide-head.result c.labels_at-n.result c.older_at-older.result c.less-l.result c.loop-j-test.true (c.wide-head.ensures.0 ∙ c.word.ensures) c.labels_at-n.ensures.0 c.older_at-older.ensures.0 c.less-l.ensures _ c.behind.ensures c.emit_labels.ensures c.put_word.ensures c.loop-j.invariant.3,

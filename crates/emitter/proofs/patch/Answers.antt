@@ -19,7 +19,7 @@ loop-j-smaller c = let h = c.older_at-older.ensures.2 c.loop-j-test.true in omeg
 -- src/lib.rt:152:5
 pub loop-j-preserved : goal.loop-j-preserved
 loop-j-preserved c = let h = c.older_at-older.ensures.2 c.loop-j-test.true in
-    (c.put_word.auto.0 ∙ c.loop-j.invariant.0, omega arith, patch-more c.args.out.now c.args.newest c.args.to c.args.k c.loop-j.out c.loop-j.j c.older_at-older.result _ c.loop-j-test.true c.older_at-older.ensures.0 (c.put_word.ensures ∙ ap (λ (i : ℕ). set_word c.loop-j.out c.loop-j.j i) (c.span.ensures ∙ ap (λ (i : ℕ). cut (c.args.to - i)) c.anchor.ensures)) c.loop-j.invariant.2)
+    (c.put_word.auto.out ∙ c.loop-j.invariant.0, omega arith, patch-more c.args.out.now c.args.newest c.args.to c.args.k c.loop-j.out c.loop-j.j c.older_at-older.result _ c.loop-j-test.true c.older_at-older.ensures.0 (c.put_word.ensures ∙ ap (λ (i : ℕ). set_word c.loop-j.out c.loop-j.j i) (c.span.ensures ∙ ap (λ (i : ℕ). cut (c.args.to - i)) c.anchor.ensures)) c.loop-j.invariant.2)
 
 -- src/lib.rt:148:1
 pub shape_of-out : goal.shape_of-out

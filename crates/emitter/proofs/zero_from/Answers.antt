@@ -23,8 +23,8 @@ loop-i-smaller c = omega arith
 -- src/lib.rt:513:5
 pub loop-i-preserved : goal.loop-i-preserved
 loop-i-preserved c = let o = c.loop-i in
-    let h : c.put_word.new.0 ≡ set_word o.out o.i 0 = c.put_word.ensures in
-    (c.put_word.auto.0 ∙ o.invariant.0, ap (λ (s : List ℕ). puts s (o.i + 1) (replicate (words c.args.out.now - (o.i + 1)) 0)) h ∙ sym (zeros-more o.out o.i (words c.args.out.now) c.loop-i-test.true) ∙ o.invariant.1)
+    let h : c.put_word.new.out ≡ set_word o.out o.i 0 = c.put_word.ensures in
+    (c.put_word.auto.out ∙ o.invariant.0, ap (λ (s : List ℕ). puts s (o.i + 1) (replicate (words c.args.out.now - (o.i + 1)) 0)) h ∙ sym (zeros-more o.out o.i (words c.args.out.now) c.loop-i-test.true) ∙ o.invariant.1)
 
 -- src/lib.rt:508:1
 pub shape_of-out : goal.shape_of-out

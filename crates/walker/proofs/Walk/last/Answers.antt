@@ -6,23 +6,19 @@ use Rattle.machine.specs.Bytes.{count}
 use Rattle.walker.specs.Shape.{number_of}
 use Rattle.walker.specs.Steps.{Ends, turn_of, took_of}
 use Rattle.walker.proofs.Steps.{only-full, last_as}
-use borrow.Author.Rules.{rules}
+use borrow.Enum.Refused.{opened}
 use Rattle.walker.proofs.Walk.last.Goals as goal
-
--- where an operation is handed out three words are free
-three : (c : tie.After-known-told2) → 3 ≤ count c.before.before.before.before.args.out.now - 3 * c.before.before.before.before.args.events
-three c = subst (Ends _) c.before.x2.given.1 c.before.before.before.before.requires.0
 
 pub overflow_mul-events : goal.overflow_mul-events
 unfolding count
-overflow_mul-events c = omega (arith, three c.before, c.well_formed)
+overflow_mul-events c = let k : 3 ≤ count c.args.out.now - 3 * c.args.events = subst (Ends _) c.in-Waits.is c.requires.0 in omega (arith, k, c.well_formed)
 
 pub put_event-requires : goal.put_event-requires
-put_event-requires c = omega (arith, three c.before)
+put_event-requires c = let k : 3 ≤ count c.args.out.now - 3 * c.args.events = subst (Ends _) c.in-Waits.is c.requires.0 in omega (arith, k)
 
 pub overflow_add-events : goal.overflow_add-events
 unfolding count
-overflow_add-events c = omega (arith, three c.before.before.before.before.before.before, c.well_formed)
+overflow_add-events c = let k : 3 ≤ count c.args.out.now - 3 * c.args.events = subst (Ends _) c.in-Waits.is c.requires.0 in omega (arith, k, c.well_formed)
 
 pub returns-in-Outside : goal.returns-in-Outside
 unfolding turn_of took_of number_of
@@ -38,4 +34,4 @@ returns-in-Waits c = rw (c.ended.ensures, c.put_event.ensures, c.in_phase-walk.e
 
 pub returns-in_default : goal.returns-in_default
 unfolding turn_of took_of
-returns-in_default c = rw c.ended-in_default.ensures (last_as _ _ _ _ (only-full (count c.args.out.now - 3 * c.args.events) c.args.x c.requires.0 c.in_default.in_default-own.keys4))
+returns-in_default c = rw c.ended-in_default.ensures (last_as _ _ _ _ (only-full (count c.args.out.now - 3 * c.args.events) c.args.x c.requires.0 (opened c.in_default.in_default-own.keys4)))

@@ -10,12 +10,18 @@ go-requires c = simp c.clipped.ensures.1 (omega arith)
 
 pub returns-in-Going : goal.returns-in-Going
 returns-in-Going c =
-    let a = c.args in record { walk_value = (retold (whole-goes a.table.now a.tokens.now a.budget a.self a.events.now a.answers.now c.clipped.result c.clipped.ensures.1 c.clipped.ensures.2 c.in-Going.is) (c.go.ensures.walk_value, c.go.ensures.events_value, c.go.ensures.steps_value, c.go.ensures.number_value, c.go.ensures.out_after)).0; events_value = (retold (whole-goes a.table.now a.tokens.now a.budget a.self a.events.now a.answers.now c.clipped.result c.clipped.ensures.1 c.clipped.ensures.2 c.in-Going.is) (c.go.ensures.walk_value, c.go.ensures.events_value, c.go.ensures.steps_value, c.go.ensures.number_value, c.go.ensures.out_after)).1; steps_value = (retold (whole-goes a.table.now a.tokens.now a.budget a.self a.events.now a.answers.now c.clipped.result c.clipped.ensures.1 c.clipped.ensures.2 c.in-Going.is) (c.go.ensures.walk_value, c.go.ensures.events_value, c.go.ensures.steps_value, c.go.ensures.number_value, c.go.ensures.out_after)).2; number_value = (retold (whole-goes a.table.now a.tokens.now a.budget a.self a.events.now a.answers.now c.clipped.result c.clipped.ensures.1 c.clipped.ensures.2 c.in-Going.is) (c.go.ensures.walk_value, c.go.ensures.events_value, c.go.ensures.steps_value, c.go.ensures.number_value, c.go.ensures.out_after)).3; events_after = (retold (whole-goes a.table.now a.tokens.now a.budget a.self a.events.now a.answers.now c.clipped.result c.clipped.ensures.1 c.clipped.ensures.2 c.in-Going.is) (c.go.ensures.walk_value, c.go.ensures.events_value, c.go.ensures.steps_value, c.go.ensures.number_value, c.go.ensures.out_after)).4 }
+    let a = c.args in
+    let k = retold (whole-goes a.table.now a.tokens.now a.budget a.self a.events.now a.answers.now c.clipped.result c.clipped.ensures.1 c.clipped.ensures.2 c.in-Going.is) (c.go.ensures.walk_value, (c.go.ensures.events_value, (c.go.ensures.steps_value, (c.go.ensures.number_value, c.go.ensures.out_after)))) in
+    record { walk_value = k.0; events_value = k.1.0; steps_value = k.1.1.0; number_value = k.1.1.1.0; events_after = k.1.1.1.1 }
 
 pub returns-in-Waiting : goal.returns-in-Waiting
 returns-in-Waiting c =
-    let a = c.args in record { walk_value = (rw c.undone.ensures (parts (whole-waits a.table.now a.tokens.now a.budget a.self a.events.now a.answers.now c.in-Waiting.is))).0; events_value = (rw c.undone.ensures (parts (whole-waits a.table.now a.tokens.now a.budget a.self a.events.now a.answers.now c.in-Waiting.is))).1; steps_value = (rw c.undone.ensures (parts (whole-waits a.table.now a.tokens.now a.budget a.self a.events.now a.answers.now c.in-Waiting.is))).2; number_value = (rw c.undone.ensures (parts (whole-waits a.table.now a.tokens.now a.budget a.self a.events.now a.answers.now c.in-Waiting.is))).3; events_after = (rw c.undone.ensures (parts (whole-waits a.table.now a.tokens.now a.budget a.self a.events.now a.answers.now c.in-Waiting.is))).4 }
+    let a = c.args in
+    let k = parts (whole-waits a.table.now a.tokens.now a.budget a.self a.events.now a.answers.now c.in-Waiting.is) in
+    record { walk_value = rw c.undone.ensures k.0; events_value = rw c.undone.ensures k.1.0; steps_value = rw c.undone.ensures k.1.1.0; number_value = rw c.undone.ensures k.1.1.1.0; events_after = k.1.1.1.1 }
 
 pub returns-in-Stopped : goal.returns-in-Stopped
 returns-in-Stopped c =
-    let a = c.args in record { walk_value = (rw c.undone-in-Stopped.ensures (parts (whole-stops a.table.now a.tokens.now a.budget a.self a.events.now a.answers.now _ c.number_of.result c.in-Stopped.is c.number_of.ensures))).0; events_value = (rw c.undone-in-Stopped.ensures (parts (whole-stops a.table.now a.tokens.now a.budget a.self a.events.now a.answers.now _ c.number_of.result c.in-Stopped.is c.number_of.ensures))).1; steps_value = (rw c.undone-in-Stopped.ensures (parts (whole-stops a.table.now a.tokens.now a.budget a.self a.events.now a.answers.now _ c.number_of.result c.in-Stopped.is c.number_of.ensures))).2; number_value = (rw c.undone-in-Stopped.ensures (parts (whole-stops a.table.now a.tokens.now a.budget a.self a.events.now a.answers.now _ c.number_of.result c.in-Stopped.is c.number_of.ensures))).3; events_after = (rw c.undone-in-Stopped.ensures (parts (whole-stops a.table.now a.tokens.now a.budget a.self a.events.now a.answers.now _ c.number_of.result c.in-Stopped.is c.number_of.ensures))).4 }
+    let a = c.args in
+    let k = parts (whole-stops a.table.now a.tokens.now a.budget a.self a.events.now a.answers.now _ c.number_of.result c.in-Stopped.is c.number_of.ensures) in
+    record { walk_value = rw c.undone-in-Stopped.ensures k.0; events_value = rw c.undone-in-Stopped.ensures k.1.0; steps_value = rw c.undone-in-Stopped.ensures k.1.1.0; number_value = rw c.undone-in-Stopped.ensures k.1.1.1.0; events_after = k.1.1.1.1 }

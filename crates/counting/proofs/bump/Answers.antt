@@ -1,0 +1,43 @@
+-- `counting::bump` meets its contract: adding 0 leaves the counts as they are.
+use mathlib.Core.Bool.{Bool, true, false}
+use mathlib.Core.List.{List}
+use mathlib.Core.Logic.{⊎_elim}
+use mathlib.Core.Path.{◌≡◌, ap, ◌∙◌}
+use Prim.Native.Nat.{ℕ, suc, ◌+◌, ◌-◌}
+use native.Mathlib.Omega.{arith}
+use lib.ListN.{get_or, set}
+use lib.Seq.{set-get_or}
+use Rattle.std.specs.Prelude.{if◌then◌else◌}
+use Rattle.figures.specs.Figures.{bump}
+use borrow.Author.Rules.{rules}
+use Rattle.counting.proofs.bump.Goals as goal
+
+-- `counting::bump` meets its contract: adding 0 leaves the counts as they are.
+module _ (cs : List ℕ) (l : ℕ) where
+  one_more : (w : Bool) (n : ℕ) → w ≡ true → n ≡ 1 → set cs (l - 1) (get_or cs (l - 1) 0 + n) ≡ (if w then bump cs l else cs)
+  unfolding bump
+  one_more w n p q =
+      let e : get_or cs (l - 1) 0 + n ≡ suc (get_or cs (l - 1) 0) = omega arith in
+      rw p (ap (λ (x : ℕ). set cs (l - 1) x) e)
+
+  as-was : (w : Bool) (n : ℕ) → w ≡ false → n ≡ 0 → set cs (l - 1) (get_or cs (l - 1) 0 + n) ≡ (if w then bump cs l else cs)
+  as-was w n p q =
+      let e : get_or cs (l - 1) 0 + n ≡ get_or cs (l - 1) 0 = omega arith in
+      rw p (ap (λ (x : ℕ). set cs (l - 1) x) e ∙ set-get_or cs (l - 1) 0)
+
+pub overflow_add-counts : goal.overflow_add-counts
+overflow_add-counts c =
+    record {
+      fits = ⊎_elim
+          (λ w. omega (arith, w.1, c.requires.1.1 w.0.taken))
+          (λ w. omega (arith, w.1, (c.slice_known-1.given (c.args.l - 1)).fits))
+          c.if-writes.branch;
+    }
+
+pub returns : goal.returns
+returns c =
+    let a = c.args in
+    ⊎_elim
+    (λ w. one_more a.counts.now a.l a.writes _ w.0.taken w.1)
+    (λ w. as-was a.counts.now a.l a.writes _ w.0.left w.1)
+    c.if-writes.branch

@@ -1,0 +1,15 @@
+-- `counting::together` meets its contract: after i turns the totals of the first i rows are added.
+use mathlib.Core.Path.{◌≡◌, refl, ◌∙◌}
+use Prim.Native.Nat.{◌-◌, ◌<◌, ◌≤◌}
+use native.Mathlib.Omega.{arith}
+use lib.ListN.{take, get_or}
+use borrow.Author.Rules.{rules}
+use Rattle.counting.proofs.Rules.{told, all as totals-of, one-total, all-next, all_past, all_done}
+use Rattle.figures.specs.Figures.{sum}
+use Rattle.counting.proofs.together.Given as goal
+
+abbrev pub invariant-loop-i : goal.invariant-loop-i
+invariant-loop-i l = (l.i ≤ l.n) × ((l.all < 18446744073709551616) × (l.all ≡ sum (take l.i (totals-of l.rows l.counts l.n l.end))))
+
+abbrev pub decreases-loop-i : goal.decreases-loop-i
+decreases-loop-i l = l.n - l.i

@@ -1,0 +1,16 @@
+-- `loader::copy_words` meets its contract.
+use mathlib.Core.Path.{◌≡◌, ap, ◌∙◌}
+use native.Mathlib.Omega.{arith}
+use Prim.Native.Nat.{◌-◌, ◌≤◌}
+use lib.ListN.{length, take}
+use Rattle.machine.specs.Bytes.{bytes_of, over}
+use Rattle.loading.specs.File.{table_named}
+use Rattle.buffers.proofs.Writes.{upto-start, upto-size, upto_put, upto-end}
+use Rattle.loader.proofs.Loading.{word-named}
+use Rattle.loader.proofs.copy_words.Given as goal
+
+abbrev pub invariant-loop-k : goal.invariant-loop-k
+invariant-loop-k l = (l.k ≤ l.n) × (l.out ≡ over (bytes_of (take l.k (table_named l.file))) l.initial.out)
+
+abbrev pub decreases-loop-k : goal.decreases-loop-k
+decreases-loop-k l = l.n - l.k

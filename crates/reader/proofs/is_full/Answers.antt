@@ -1,0 +1,13 @@
+-- `reader::is_full` meets its contract.
+use mathlib.Core.Path.{refl}
+use borrow.Author.Rules.{rules}
+use Rattle.reader.specs.Counting.{full_in}
+use Rattle.reader.proofs.is_full.Goals as goal
+
+pub returns-then-kind : goal.returns-then-kind
+unfolding full_in
+returns-then-kind c = rw (c.if-kind.true, ← c.count_of-n.ensures) refl
+
+pub returns : goal.returns
+unfolding full_in
+returns c = rw c.if-kind.false refl

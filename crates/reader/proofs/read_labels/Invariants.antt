@@ -1,0 +1,17 @@
+-- `reader::read_labels` meets its contract.
+use mathlib.Core.Path.{◌≡◌, refl}
+use Prim.Native.Nat.{ℕ, suc, ◌+◌, ◌-◌, ◌≤◌}
+use native.Mathlib.Omega.{arith}
+use lib.ListN.{length}
+use Rattle.reader.proofs.Laws.{any_value, ends_with, faulty, fueled-late, gives-with, goes_with, no-with, passes-with, stops, yes-with}
+use Rattle.reader.specs.Answers.{Yields}
+use Rattle.reader.specs.Parts.{Leaves}
+use Rattle.syntax.specs.Actions.{some_labels}
+use Rattle.reader.specs.declared.Out.{Out}
+use Rattle.reader.proofs.read_labels.Given as goal
+
+abbrev pub invariant-loop-r : goal.invariant-loop-r
+invariant-loop-r l = (l.at ≤ l.i) × (l.i ≤ length l.text) × ((o : Out) (n : ℕ) → Yields (Leaves l.left n) l.text l.i (l.i + 1) (λ k. some_labels k l.left) o → Yields (Leaves l.room n) l.text l.at (l.at + 1) (λ k. some_labels k l.room) o)
+
+abbrev pub decreases-loop-r : goal.decreases-loop-r
+decreases-loop-r l = length l.text - l.i

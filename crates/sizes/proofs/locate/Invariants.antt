@@ -1,0 +1,14 @@
+use borrow.Author.Rules.{rules}
+use Prim.Native.Nat.{ℕ, ◌+◌, ◌*◌, ◌-◌, ◌≤◌, ◌<◌}
+use mathlib.Core.Path.{◌≡◌, refl, ◌∙◌}
+use native.Mathlib.Omega.{arith}
+use lib.ListN.{length}
+use Rattle.sizes.specs.Located.{Locates}
+use Rattle.sizes.proofs.Places.{PlacesGo, places-start, places-go, places-end}
+use Rattle.sizes.proofs.locate.Given as goal
+
+abbrev pub invariant-loop-r : goal.invariant-loop-r
+invariant-loop-r l = (l.q ≤ length l.cells) × (l.w ≤ 400 * l.q + l.r) × (length l.starts ≡ length l.initial.starts) × PlacesGo l.cells l.sorts l.rules l.starts l.q l.w l.r
+
+abbrev pub decreases-loop-r : goal.decreases-loop-r
+decreases-loop-r l = l.rules - l.r

@@ -1,0 +1,14 @@
+-- `symbols::best_key` meets its contract.
+use Prim.Native.Nat.{◌-◌, ◌<◌, ◌≤◌}
+use mathlib.Core.Logic.{⊎_elim}
+use mathlib.Core.Path.{◌≡◌, ◌∙◌}
+use native.Mathlib.Omega.{arith}
+use Rattle.symbols.specs.Index.{RowsKept}
+use Rattle.symbols.proofs.Indexing.{rows_same, rows-after}
+use Rattle.symbols.proofs.best_key.Given as goal
+
+abbrev pub invariant-loop-key : goal.invariant-loop-key
+invariant-loop-key l = (l.best < 65536) × (l.key < 65536) × RowsKept l.initial.rows l.rows
+
+abbrev pub decreases-loop-key : goal.decreases-loop-key
+decreases-loop-key l = 65536 - l.key

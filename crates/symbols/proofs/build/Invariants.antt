@@ -1,0 +1,13 @@
+-- `symbols::build` meets its contract.
+use mathlib.Core.Path.{◌≡◌, ◌∙◌}
+use Prim.Native.Nat.{ℕ, ◌*◌, ◌≤◌}
+use native.Mathlib.Omega.{arith}
+use Rattle.symbols.specs.Index.{RowsKept}
+use Rattle.symbols.proofs.Indexing.{IndexedFrom, rows_same, rows-after, index-none, index-all, index_at, mid-kept, row_kept, index-more}
+use Rattle.symbols.proofs.build.Given as goal
+
+abbrev pub invariant-loop-i : goal.invariant-loop-i
+invariant-loop-i l = (l.i ≤ l.n) × RowsKept l.initial.rows l.rows × IndexedFrom l.key l.text l.rows (2 * l.i) l.n
+
+abbrev pub decreases-loop-i : goal.decreases-loop-i
+decreases-loop-i l = l.i

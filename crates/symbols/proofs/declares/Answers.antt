@@ -1,0 +1,19 @@
+-- `symbols::declares` meets its contract.
+use borrow.Author.Rules.{rules}
+use mathlib.Core.Path.{refl}
+use borrow.Author.Tests.{ne_eqb, eq-eqb}
+use Rattle.symbols.specs.Search.{declares}
+use Rattle.symbols.proofs.Searches.{class-at}
+use Rattle.symbols.proofs.declares.Goals as goal
+
+pub returns-then-is_name : goal.returns-then-is_name
+unfolding declares
+returns-then-is_name c = rw (← c.is_name.ensures, c.if-is_name.true) refl
+
+pub returns-then-number-eq-OPERATION : goal.returns-then-number-eq-OPERATION
+unfolding declares
+returns-then-number-eq-OPERATION c = rw (← c.is_name.ensures, c.if-is_name.false, class-at, ← c.number.ensures.0, eq-eqb _ 6 c.if-number-eq-OPERATION.true) refl
+
+pub returns : goal.returns
+unfolding declares
+returns c = rw (← c.is_name.ensures, c.if-is_name.false, class-at, ← c.number.ensures.0, ne_eqb _ 6 c.if-number-eq-OPERATION.false) c.is_second.ensures

@@ -1,0 +1,30 @@
+-- `symbols::is_declared` meets its contract.
+use mathlib.Core.Path.{◌≡◌, sym, ◌∙◌}
+use Prim.Native.Nat.{◌-◌, ◌≤◌}
+use native.Mathlib.Omega.{arith}
+use Rattle.declarations.specs.Decls.{declared_in}
+use Rattle.symbols.specs.Rows.{held, held_from}
+use Rattle.symbols.specs.Search.{part}
+use Rattle.symbols.proofs.Searches.{by_word, start, hit, miss, end}
+use Rattle.symbols.proofs.is_declared.Goals as goal
+
+pub loop-i-init : goal.loop-i-init
+loop-i-init c = (omega arith, start (by_word (part c.args.text.now c.args.start c.args.len)) c.args.text.now c.args.rows.now c.args.n)
+
+pub declares-requires : goal.declares-requires
+declares-requires c = omega (arith, c.loop-i-test.true, c.requires.few)
+
+pub returns-then-declares : goal.returns-then-declares
+returns-then-declares c = sym (c.loop-i.invariant.1 ∙ hit (by_word (part c.args.text.now c.args.start c.args.len)) c.args.text.now c.args.rows.now c.loop-i.i c.args.n c.loop-i-test.true (sym c.declares.ensures ∙ c.if-declares.true))
+
+pub overflow_add-i : goal.overflow_add-i
+overflow_add-i c = omega arith
+
+pub loop-i-smaller : goal.loop-i-smaller
+loop-i-smaller c = omega arith
+
+pub loop-i-preserved : goal.loop-i-preserved
+loop-i-preserved c = (omega arith, c.loop-i.invariant.1 ∙ miss (by_word (part c.args.text.now c.args.start c.args.len)) c.args.text.now c.args.rows.now c.loop-i.i c.args.n c.loop-i-test.true (sym c.declares.ensures ∙ c.if-declares.false))
+
+pub returns : goal.returns
+returns c = sym (c.loop-i.invariant.1 ∙ end (by_word (part c.args.text.now c.args.start c.args.len)) c.args.text.now c.args.rows.now c.loop-i.i c.args.n (omega arith))

@@ -1,0 +1,15 @@
+-- `symbols::is_second` meets its contract.
+use borrow.Author.Rules.{rules}
+use mathlib.Core.Path.{refl, sym, ◌∙◌}
+use borrow.Author.Tests.{ne_eqb, eq-eqb}
+use Rattle.names.specs.Known.{is_word}
+use Rattle.symbols.specs.Rows.{decl_at, option_of}
+use Rattle.symbols.proofs.is_second.Goals as goal
+
+pub returns-then-n-eq0 : goal.returns-then-n-eq0
+unfolding decl_at option_of is_word
+returns-then-n-eq0 c = rw (eq-eqb _ 0 (sym c.number-n.ensures.0 ∙ c.if-n-eq0.true)) refl
+
+pub returns : goal.returns
+unfolding decl_at option_of is_word
+returns c = rw (← c.number-n.ensures.0, ne_eqb _ 0 c.if-n-eq0.false, ← c.number.ensures.0) c.same_part.ensures

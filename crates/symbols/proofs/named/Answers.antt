@@ -1,0 +1,15 @@
+-- `symbols::named` meets its contract.
+use borrow.Author.Rules.{rules}
+use mathlib.Core.Path.{refl}
+use borrow.Author.Tests.{ne_eqb, eq-eqb}
+use Rattle.symbols.specs.Rows.{decl_at}
+use Rattle.symbols.specs.Search.{named}
+use Rattle.symbols.proofs.named.Goals as goal
+
+pub returns-then-number-class : goal.returns-then-number-class
+unfolding decl_at named
+returns-then-number-class c = rw (← c.number.ensures.0, ne_eqb _ _ c.if-number-class.true) refl
+
+pub returns : goal.returns
+unfolding decl_at named
+returns c = rw (← c.number.ensures.0, eq-eqb _ _ c.if-number-class.false) c.is_name.ensures

@@ -1,0 +1,17 @@
+-- `symbols::same_bytes` meets its contract.
+use mathlib.Core.Path.{◌≡◌, refl, sym, ◌∙◌}
+use Prim.Native.Nat.{◌-◌, ◌≤◌}
+use native.Mathlib.Omega.{arith}
+use lib.ListN.{drop}
+use Rattle.base.proofs.Laws.{same_next, same_not, same_end}
+use Rattle.base.specs.Common.{same}
+use Rattle.scanner.proofs.WordLaws.{part_at}
+use Rattle.symbols.specs.Search.{part}
+use Rattle.symbols.proofs.Parts.{part-whole}
+use Rattle.symbols.proofs.same_bytes.Given as goal
+
+abbrev pub invariant-loop-i : goal.invariant-loop-i
+invariant-loop-i l = (l.i ≤ l.n) × (same (drop l.i (part l.text l.a l.n)) (drop l.i (part l.text l.b l.n)) ≡ same (part l.text l.a l.n) (part l.text l.b l.n))
+
+abbrev pub decreases-loop-i : goal.decreases-loop-i
+decreases-loop-i l = l.n - l.i

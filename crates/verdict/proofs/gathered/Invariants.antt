@@ -1,0 +1,15 @@
+-- `verdict::gathered` meets its contract: one cell more each time.
+use Prim.Native.Nat.{◌≤◌, ◌-◌}
+use mathlib.Core.Path.{◌≡◌, refl, sym, ap, ◌∙◌}
+use mathlib.Core.Logic.{⊎_elim}
+use native.Mathlib.Omega.{arith}
+use lib.ListN.{length, length-set}
+use borrow.Author.Rules.{rules}
+use Rattle.verdict.proofs.Growth.{Gathering, gather-start, gather-skip, gather-more, gather-full, gather-done}
+use Rattle.verdict.proofs.gathered.Given as goal
+
+abbrev pub invariant-loop-i : goal.invariant-loop-i
+invariant-loop-i l = (l.i ≤ l.to) × (length l.wanted ≡ length l.initial.wanted) × Gathering l.cells l.from l.facts l.m l.r l.wanted l.n l.i
+
+abbrev pub decreases-loop-i : goal.decreases-loop-i
+decreases-loop-i l = l.to - l.i

@@ -1,0 +1,46 @@
+-- `verdict::grown` meets its contract: one value more each time.
+use Prim.Native.Nat.{◌≤◌, ◌-◌}
+use mathlib.Core.Path.{◌≡◌, refl, sym, ap, ◌∙◌}
+use mathlib.Core.Logic.{⊎_elim}
+use native.Mathlib.Omega.{arith}
+use lib.ListN.{length, get_or}
+use borrow.Author.Rules.{rules}
+use Rattle.verdict.specs.Told.{NotesTold}
+use Rattle.verdict.proofs.Growth.{notes-start, notes-off, notes-on}
+use Rattle.verdict.proofs.grown.Goals as goal
+
+pub loop-j-init : goal.loop-j-init
+loop-j-init c = (omega arith, refl, notes-start c.args.facts.now c.args.m c.args.r c.args.wanted.now c.args.given c.requires.0)
+
+pub has-requires : goal.has-requires
+has-requires c = tt
+
+pub bounds-wanted-j : goal.bounds-wanted-j
+bounds-wanted-j c = omega arith
+
+pub noted-k-requires : goal.noted-k-requires
+noted-k-requires c = c.loop-j.invariant.2.grows.room
+
+pub overflow_add-j : goal.overflow_add-j
+overflow_add-j c = omega arith
+
+pub loop-j-smaller : goal.loop-j-smaller
+loop-j-smaller c = omega arith
+
+pub loop-j-preserved : goal.loop-j-preserved
+loop-j-preserved c =
+    let a = c.args in
+    let l = c.loop-j in
+    let e = c.has.ensures in
+    ⊎_elim
+    (λ w. (omega arith, omega (arith, ap length w.6, w.3.kept.0), rw (w.6, w.7) (notes-on a.facts.now a.m a.r a.wanted.now l.j a.given l.facts l.k w.3.last.0 w.3.result (get_or a.wanted.now l.j 0) refl (sym e ∙ w.0.taken) l.invariant.2 w.3.ensures)))
+    (λ w. (omega arith, omega (arith, ap length w.1), rw (w.1, w.2) (notes-off a.facts.now a.m a.r a.wanted.now l.j a.given l.facts l.k (sym e ∙ w.0.left) l.invariant.2)))
+    c.if-has.branch
+
+pub shape_of-facts : goal.shape_of-facts
+shape_of-facts c = omega arith
+
+pub returns : goal.returns
+returns c =
+    let e : c.loop-j.j ≡ c.args.n = omega arith in
+    rw e at c.loop-j.invariant.2

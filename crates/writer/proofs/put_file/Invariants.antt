@@ -1,0 +1,16 @@
+-- `writer::put_file` meets its contract.
+use mathlib.Core.Path.{◌≡◌, ap, ◌∙◌}
+use Prim.Native.Nat.{◌-◌, ◌≤◌}
+use native.Mathlib.Omega.{arith}
+use lib.ListN.{length, take}
+use Rattle.buffers.proofs.Writes.{upto-start, upto-size, upto_put, upto-end}
+use Rattle.loading.specs.File.{file_words}
+use Rattle.machine.specs.Bytes.{words_of, bytes_of, over}
+use Rattle.writer.proofs.Places.{room_for}
+use Rattle.writer.proofs.put_file.Given as goal
+
+abbrev pub invariant-loop-j : goal.invariant-loop-j
+invariant-loop-j l = (l.j ≤ l.total) × (l.file ≡ over (bytes_of (take l.j (file_words (words_of l.table) l.verdict))) l.initial.file)
+
+abbrev pub decreases-loop-j : goal.decreases-loop-j
+decreases-loop-j l = l.total - l.j
