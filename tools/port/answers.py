@@ -122,9 +122,13 @@ class Turn:
                 self.say(f"a place is handed on: {a}")
                 text = re.sub(rf"(?<![\w'.-]){re.escape(a)}(?![\w'.-])", "c", text)
 
-        for m in re.finditer(r"\blet ([A-Za-z0-9_']+) = (c(?:\.before)*\.([A-Za-z0-9_'-]+)) in\b", text):
-            if m[3] not in TOP and m[3] != "before":
-                text = re.sub(rf"(?<![\w'.-]){re.escape(m[1])}\.(?=[A-Za-z0-9])", m[2] + ".", text)
+        for m in re.finditer(r"\blet ([A-Za-z0-9_']+) = (c(?:\.before)*\.([A-Za-z0-9_'-]+)(\.ensures)?) in\b", text):
+            if m[3] in TOP or m[3] == "before" or re.search(rf"λ[^.]*(?<![\w'.-]){re.escape(m[1])}(?![\w'-])[^.]*\.", text):
+                continue
+            text = re.sub(rf"(?<![\w'.-]){re.escape(m[1])}\.(?=[A-Za-z0-9])", m[2] + ".", text)
+            of = [p for p in self.chain(place) if self.labels[p][0] and norm(self.labels[p][0]) == norm(m[3])]
+            if m[4] and of and self.clauses.get(of[0]) and len(re.findall(rf"(?<![\w'.-]){re.escape(m[1])}(?![\w'-])", text)) == 1:
+                text = re.sub(rf"\n?[ \t]*{re.escape(m[0])}", "", text)
 
         def step(m):
             label, after = m[2], m[3].split(".")[1:]
@@ -398,7 +402,7 @@ def turn_cycle(top, names, crate, inside):
             term = re.sub(r"(?<![\w'.-])a((?:\.1)*)(\.0)?(?![\w'-])", place_of, m[2])
             measures.append(f"abbrev pub decreases-{name} : goal.decreases-{name}\ndecreases-{name} l ={term}")
             continue
-        if re.search(r"(?m)^(abbrev )?\S+-(at|below|claims) :", code) and re.search(r": ℕ →\s*(In \d|\S+-lts\.Claims)", code) or re.search(r"\bstatement\b", code):
+        if re.search(r"(?m)^(abbrev )?\S+[-_](at|below|claims) :", code) and re.search(r": ℕ →\s*(In \d|\S+-lts\.Claims)", code) or re.search(r"\bstatement\b", code):
             continue
         helpers.append((n, t))
     gone = re.compile(r"\.Kinds as |\.Reads as |\.Lts-\S+ as |^use borrow\.Fn\.(Kinds|PlainCycle)\.|" + re.escape(inside) + r"\.(\{|Tie\.)")

@@ -41,6 +41,7 @@ most-le : {A : Type 0} {a : A} (as₁ : List A) (f : A → ℕ) → Memᴰ a as�
 unfolding most
 most-le (b ∷ as₁) f (mathlib.Core.List.Memᴰ.head p) = rw p (omega arith)
 most-le (b ∷ as₁) f (mathlib.Core.List.Memᴰ.tail i) = omega (arith, most-le as₁ f i)
+most-le {A = A} {a = a} [] f x' = elim x' [ ]
 
 truth-true : (b : Bool) → 0 < truth b → b ≡ true
 unfolding truth
@@ -82,6 +83,7 @@ in-each : {A B : Type 0} {a : A} {b : B} (as₁ : List A) (f : A → List B) →
 unfolding each
 in-each (c ∷ as₁) f (mathlib.Core.List.Memᴰ.head p) i = in_left (each as₁ f) (rw p at i)
 in-each (c ∷ as₁) f (mathlib.Core.List.Memᴰ.tail j) i = in_right (f c) (in-each as₁ f j i)
+in-each {A = A} {B = B} {a = a} {b = b} [] f x'' i = elim x'' [ ]
 
 in-somes : {v : ℕ} {vs : List ℕ} → Memᴰ v vs → Memᴰ (some v) (somes vs)
 unfolding somes
@@ -103,6 +105,7 @@ in-filter {A} {a} p (b ∷ as₁) (mathlib.Core.List.Memᴰ.tail i) h = go (p b)
     go : (t : Bool) → Memᴰ a (filter p as₁) → Memᴰ a (if t then b ∷ filter p as₁ else filter p as₁)
     go true j = mathlib.Core.List.Memᴰ.tail j
     go false j = j
+in-filter {A = A} {a = a} p [] x'' h = elim x'' [ ]
 
 filter-in : {A : Type 0} {a : A} (p : A → Bool) (as₁ : List A) → Memᴰ a (filter p as₁) → Memᴰ a as₁ × (p a ≡ true)
 unfolding filter
@@ -523,6 +526,7 @@ module _ (T : List ℕ) where
   unfolding some_way
   some-way (w ∷ us) c m {u} (mathlib.Core.List.Memᴰ.head p) e = or₁ (eqb (way_out T c w) m) (some_way T us c m) (eq-eqb (way_out T c w) m (rw p at e))
   some-way (w ∷ us) c m (mathlib.Core.List.Memᴰ.tail i) e = or₂ (eqb (way_out T c w) m) (some_way T us c m) (some-way us c m i e)
+  some-way [] c m {u = u} x'' e = elim x'' [ ]
 
   way-some : (us : List (Option ℕ)) (c m : ℕ) → some_way T us c m ≡ true → (u : Option ℕ) × (way_out T c u ≡ m)
   unfolding some_way
@@ -654,6 +658,7 @@ module _ (T : List ℕ) where
         go true d h (mathlib.Core.List.Memᴰ.head p) ih = rw p (ltb-true (v j) cap d)
         go true d h (mathlib.Core.List.Memᴰ.tail i) ih = ih h i
         go false d h m₁ ih = never h
+    below_all cap [] v e {k = k} m = elim m [ ]
 
     -- a key that has come to the cap
     record Capped (cap : ℕ) (ks : List Key) (v : Key → ℕ) : Type 0 where

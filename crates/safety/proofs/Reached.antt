@@ -126,6 +126,9 @@ module _ (T : List ℕ) where
     one_way (update_with op) r d leads_update_with = at_next r (ap (behind _) d)
     one_way (choose op) r d leads_choose = at_next r (ap (behind _) d)
     one_way (choose_with op) r d leads_choose_with = at_next r (ap (behind _) d)
+    one_way {l = l} {m = m} invalid r d x3 = elim x3 [ ]
+    one_way {l = l} {m = m} return r d x5 = elim x5 [ ]
+    one_way {l = l} {m = m} end_choice r d x7 = elim x7 [ ]
 
     from_start : {s : ℕ} → Begun T s → Reachable T s
     from_start first = at_start

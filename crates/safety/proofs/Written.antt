@@ -204,6 +204,7 @@ module _ (T : List ℕ) (start : ℕ → ℕ) (prog : List Rule) where
   out-place (around-cycle hb hr hk) (out-cycle a) = p-at hr hk a
   out-place (around-alternative hr hk) (out-alternative o) = out-place hk o
   out-place (around-otherwise hr hk) (out-otherwise o) = out-place hk o
+  out-place {v = v} around-nothing x6 = elim x6 [ ]
 
   module _ (laid : (r : ℕ) → r < length prog → At T start prog (rule_of prog r).valued (body_of prog r) [] (start r)) where
     plain-sound : {v : Bool} (p : Plain) {q : Acts} {k : List Context} {x l m e : ℕ} → Has prog (plain p ▸ q) → Around prog k → LayPlain T start prog v p x l m → Lays T start prog v q x m e

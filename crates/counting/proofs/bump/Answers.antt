@@ -1,7 +1,6 @@
 -- `counting::bump` meets its contract: adding 0 leaves the counts as they are.
 use mathlib.Core.Bool.{Bool, true, false}
 use mathlib.Core.List.{List}
-use mathlib.Core.Logic.{⊎_elim}
 use mathlib.Core.Path.{◌≡◌, ap, ◌∙◌}
 use Prim.Native.Nat.{ℕ, suc, ◌+◌, ◌-◌}
 use native.Mathlib.Omega.{arith}
@@ -10,6 +9,7 @@ use lib.Seq.{set-get_or}
 use Rattle.std.specs.Prelude.{if◌then◌else◌}
 use Rattle.figures.specs.Figures.{bump}
 use borrow.Author.Rules.{rules}
+use Rattle.counting.proofs.bump.Goals.{then-writes, else-writes}
 use Rattle.counting.proofs.bump.Goals as goal
 
 -- `counting::bump` meets its contract: adding 0 leaves the counts as they are.
@@ -28,16 +28,16 @@ module _ (cs : List ℕ) (l : ℕ) where
 pub overflow_add-counts : goal.overflow_add-counts
 overflow_add-counts c =
     record {
-      fits = ⊎_elim
-          (λ w. omega (arith, w.1, c.requires.1.1 w.0.taken))
-          (λ w. omega (arith, w.1, (c.slice_known-1.given (c.args.l - 1)).fits))
-          c.if-writes.branch;
+      fits = elim c.if-writes.branch [
+        then-writes w ↦ omega (arith, w.one-is, c.requires.1.1 w.if-writes.true)
+      | else-writes w ↦ omega (arith, w.one-is, (c.type_inv.counts (c.args.l - 1)).fits)
+      ];
     }
 
 pub returns : goal.returns
 returns c =
     let a = c.args in
-    ⊎_elim
-    (λ w. one_more a.counts.now a.l a.writes _ w.0.taken w.1)
-    (λ w. as-was a.counts.now a.l a.writes _ w.0.left w.1)
-    c.if-writes.branch
+    elim c.if-writes.branch [
+      then-writes w ↦ one_more a.counts.now a.l a.writes _ w.if-writes.true w.one-is
+    | else-writes w ↦ as-was a.counts.now a.l a.writes _ w.if-writes.false w.one-is
+    ]

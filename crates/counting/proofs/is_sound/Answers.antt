@@ -1,6 +1,5 @@
 -- `counting::is_sound` meets its contract.
 use mathlib.Core.List.{List}
-use mathlib.Core.Logic.{⊎_elim}
 use mathlib.Core.Path.{sym, ap, ◌∙◌}
 use Prim.Native.Nat.{ℕ}
 use lib.Dec.{eqb}
@@ -12,6 +11,7 @@ use Rattle.figures.specs.Figures.{sum, bits_of}
 use Rattle.figures.specs.Form.{figures_named, numbers_at}
 use Rattle.machine.specs.Bytes.{words_of}
 use borrow.Author.Rules.{rules}
+use Rattle.counting.proofs.is_sound.Goals.{then-books-eq0, else-books-eq0}
 use Rattle.counting.proofs.is_sound.Goals as goal
 
 pub returns-then-total-ne0 : goal.returns-then-total-ne0
@@ -31,7 +31,7 @@ returns-then-covers c =
     let e = c.number_at-total.ensures in
     c.adds_up.ensures ∙ (λ i. eqb (e i) (sum (c.requires.1 i)))
     ∙ fits-together (figures_named ws) (length-numbers_at ws 0 4096) (ap (λ (l : List ℕ). same (numbers_at ws 4096 64) (bits_of 64 l)) (sym c.requires.1) ∙ sym c.covers.ensures ∙ c.if-covers.true)
-    (λ b. ⊎_elim (λ w. sym e ∙ w.1.left) (λ w. absurd (w.left (c.number_at-books.ensures ∙ b))) c.if-books-eq0.branch)
+    (λ b. elim c.if-books-eq0.branch [ then-books-eq0 w ↦ ? | else-books-eq0 w ↦ ? ])
 
 pub returns-else-covers : goal.returns-else-covers
 unfolding figures_named

@@ -17,4 +17,4 @@ count_book-m-requires c = (c.requires, λ y. absurd (false≢true y))
 pub returns : goal.returns
 returns c =
     let b = c.count_book-m in
-    let a = c.args in record { value = ap (λ (x : Told). ltb a.left x.steps) b.ensures.0 ∙ past-measured _ _ _ c.if-b-left.false; events_unchanged = (b.ensures.1).0; counts_unchanged = (b.ensures.1).1 }
+    let a = c.args in record { value = ap (λ (x : Told). ltb a.left x.steps) b.ensures.value ∙ past-measured _ _ _ c.if-b-left.false; events_unchanged = b.ensures.out_after; counts_unchanged = b.ensures.counts_after }

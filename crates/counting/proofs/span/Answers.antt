@@ -28,18 +28,6 @@ one_more (c ∷ counts) (suc start) (suc k) h l =
 small : (counts : List ℕ) (start k : ℕ) → sum (drop start (take k counts)) ≤ sum counts
 small counts start k = omega (arith, sum_drop (take k counts) start, sum-most counts k)
 
--- the count that is read
-inside : (c : tie.After-shared-slice-known2 invariant-loop decreases-loop) → c.before.before.loop.k < length c.before.before.before.before.before.before.args.counts.now
-inside c = omega (arith, c.before.before.before.count-index2.ensures, c.before.loop-test.true, c.before.before.before.before.before.before.requires.0)
-
-grows : (c : tie.After-shared-slice-known2 invariant-loop decreases-loop) → let k = c.before.before.loop.k in let start = c.before.before.before.before.count_index.result in let counts = c.before.before.before.before.before.before.args.counts.now in
-    (sum (drop start (take (k + 1) counts)) ≡ sum (drop start (take k counts)) + get_or counts k 0) × (sum (drop start (take (k + 1) counts)) < 2 ^ 64)
-grows c =
-    let l = c.before.before in
-    let st = l.before.before.before.before in
-    let start = l.before.before.count_index.result in
-    (one_more st.args.counts.now start l.loop.k l.loop.invariant.0 (inside c), omega (arith, small st.args.counts.now start (l.loop.k + 1), st.requires.1, st.ranges.total))
-
 pub loop-k-init : goal.loop-k-init
 unfolding sum
 loop-k-init c =
@@ -48,32 +36,39 @@ loop-k-init c =
     (omega arith, omega arith, sym (ap sum (none_left counts start start (omega arith))))
 
 pub bounds-counts-k : goal.bounds-counts-k
-bounds-counts-k c = inside c
+bounds-counts-k c = omega (arith, c.count_index-end.ensures, c.loop-k-test.true, c.requires.0)
 
 pub overflow_add-n : goal.overflow_add-n
-overflow_add-n c = let g = grows c in record { fits = omega (arith, g.0, g.1, c.loop-k.invariant.2) }
+overflow_add-n c =
+    let start = c.count_index-start.result in
+    let counts = c.args.counts.now in
+    let l = c.loop-k in
+    let k_in : l.k < length counts = omega (arith, c.count_index-end.ensures, c.loop-k-test.true, c.requires.0) in
+    record { fits = omega (arith, one_more counts start l.k l.invariant.0 k_in, small counts start (l.k + 1), c.requires.1, c.ranges.total, l.invariant.2) }
 
 pub overflow_add-k : goal.overflow_add-k
-overflow_add-k c = record { fits = omega (arith, inside c, c.requires.0) }
+overflow_add-k c = record { fits = omega (arith, c.count_index-end.ensures, c.loop-k-test.true) }
 
 pub loop-k-smaller : goal.loop-k-smaller
 loop-k-smaller c = omega (arith, c.loop-k-test.true)
 
 pub loop-k-preserved : goal.loop-k-preserved
 loop-k-preserved c =
-    let g = grows c in
-    let v = c.loop-k.invariant in
-    (omega (arith, v.0), omega (arith, c.loop-k-test.true), omega (arith, g.0, v.2))
+    let start = c.count_index-start.result in
+    let counts = c.args.counts.now in
+    let l = c.loop-k in
+    let v = l.invariant in
+    let k_in : l.k < length counts = omega (arith, c.count_index-end.ensures, c.loop-k-test.true, c.requires.0) in
+    (omega (arith, v.0), omega (arith, c.loop-k-test.true), omega (arith, one_more counts start l.k v.0 k_in, v.2))
 
 pub returns : goal.returns
 returns c =
     let start = c.count_index-start.result in
     let end = c.count_index-end.result in
-    let st = c.before.before.before.before in
-    let counts = st.args.counts.now in
-    let n = st.requires.0 in
+    let counts = c.args.counts.now in
+    let n = c.requires.0 in
     c.loop-k.invariant.2 ∙ at_end counts start end c.loop-k.k c.loop-k.invariant.0 c.loop-k.invariant.1 c.loop-k-test.false
-    ∙ span-within st.args.from st.args.to start end counts (rw n c.count_index-start.ensures) (rw n c.count_index-end.ensures)
+    ∙ span-within c.args.from c.args.to start end counts (rw n c.count_index-start.ensures) (rw n c.count_index-end.ensures)
   where
     at_end : (counts : List ℕ) (start end k : ℕ) → start ≤ k → k ≤ max start end → end ≤ k → sum (drop start (take k counts)) ≡ sum (drop start (take end counts))
     at_end counts start end k a b d = elim (dec_le end start) [

@@ -8,13 +8,6 @@ use Rattle.counting.proofs.Rules.{told, all as totals-of, one-total, all-next, a
 use Rattle.figures.specs.Figures.{sum}
 use Rattle.counting.proofs.together.Goals as goal
 
--- the total of the present row
-this-row : (c : tie.After-span invariant-loop decreases-loop) → let a = c.before.before.before.before.before.before.before.args in get_or (totals-of a.rows.now a.counts.now a.n a.end) c.before.before.before.before.loop.i 0 ≡ c.span.result
-this-row c =
-    let a = c.before.before.before.before.before.before.before.args in
-    one-total a.rows.now a.counts.now a.n a.end c.before.before.before.before.loop.i c.before.before.location.result c.before.location2.result c.span.result c.before.before.before.loop-test.true
-    c.before.before.location.ensures c.before.location2.ensures c.span.ensures
-
 pub loop-i-init : goal.loop-i-init
 unfolding sum
 loop-i-init c = (omega arith, (omega arith, refl))
@@ -39,7 +32,7 @@ returns-then-all-t c =
     let a = c.args in
     let l = c.loop-i in
     told c.totalled.result 46 0 c.totalled.ensures
-    ∙ all_past a.rows.now a.counts.now a.n a.end l.i l.all c.span-t.result c.loop-i-test.true l.invariant.1.1 (this-row c.before.before) c.if-all-t.true
+    ∙ all_past a.rows.now a.counts.now a.n a.end l.i l.all c.span-t.result c.loop-i-test.true l.invariant.1.1 (one-total a.rows.now a.counts.now a.n a.end l.i c.location-from.result c.location-to.result c.span-t.result c.loop-i-test.true c.location-from.ensures c.location-to.ensures c.span-t.ensures) c.if-all-t.true
 
 pub overflow_add-all : goal.overflow_add-all
 overflow_add-all c = record { fits = omega (arith, c.if-all-t.false, c.loop-i.invariant.1.0) }
@@ -55,7 +48,7 @@ loop-i-preserved c =
     let a = c.args in
     let l = c.loop-i in
     let t = c.loop-i-test.true in
-    let g = all-next a.rows.now a.counts.now a.n a.end l.i c.span-t.result t (this-row c.before) in
+    let g = all-next a.rows.now a.counts.now a.n a.end l.i c.span-t.result t (one-total a.rows.now a.counts.now a.n a.end l.i c.location-from.result c.location-to.result c.span-t.result t c.location-from.ensures c.location-to.ensures c.span-t.ensures) in
     (omega (arith, t), (omega (arith, c.if-all-t.false, l.invariant.1.0), omega (arith, g, l.invariant.1.1)))
 
 pub returns : goal.returns

@@ -1,0 +1,14 @@
+-- `carrier::same_sections` meets its contract.
+use borrow.Author.Rules.{rules}
+use native.Mathlib.Omega.{arith}
+use Prim.Native.Nat.{◌-◌}
+use lib.ListN.{length}
+use Rattle.carrier.proofs.Laws.{not_so, yet-so}
+use Rattle.carrier.proofs.Stepping.{Steps, steps_first, both_end, new-ends, old-lacks, new-lacks, words-differ, steps_next}
+use Rattle.carrier.proofs.same_sections.Given as goal
+
+abbrev pub invariant-loop-w : goal.invariant-loop-w
+invariant-loop-w l = Steps l.old l.new l.i l.j
+
+abbrev pub decreases-loop-w : goal.decreases-loop-w
+decreases-loop-w l = length l.old - l.i
