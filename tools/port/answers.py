@@ -34,7 +34,7 @@ def blocks(text):
             head.append(line)
             continue
         m = HEAD.match(line) if line[:1] not in (" ", "\t", "") and not line.startswith("--") else None
-        opens = re.match(r"^(mutual|module|section|data|record|open)\b", line)
+        opens = re.match(r"^(mutual|module|section|data|record|open)(?=\s)", line)
         if line.startswith("--"):
             waiting.append(line)
             name = None if not decls else name
@@ -184,7 +184,15 @@ class Turn:
             text = re.sub(r"\bomega \((\w+)\)", r"omega \1", text)
             if "c.measure" in text:
                 self.say("the measure's value is cited")
-        text = NEGATED.sub(lambda m: m[1] or m[2], text)
+        calls = {p[2][1] for p in self.data["places"] if p[3]} | {p[3].split("::")[-1] for p in self.data["places"] if p[3]}
+
+        def plain(m):
+            # of a call's result the fact is plain today, of a field it is of its `not`
+            fact = m[1] or m[2]
+            of = re.match(r"c\.if-not-([\w-]+)\.", fact)[1]
+            return fact if any(of == it or of.startswith(it + "-") for it in calls) else m[0]
+
+        text = NEGATED.sub(plain, text)
         text = re.sub(r"(c\.type_inv\.[\w-]+)\.given\b", r"\1", text)
         if re.search(r"\bc\.before\b", text):
             self.say("a path by places is left")

@@ -219,6 +219,7 @@ entries-last {text} {rows} {rows'} {i} {n} {class} {v} {top} {t} {strings} {e} {
   most : (ws' : List Word) (es : List Entry) → EntriesIn strings v (words_at text i) ws' es → t ≡ next_of top es
   most ws' (x ∷ []) (last_entry q s) = omega (arith, a.value _ x q)
   most ws' (x ∷ es) (more_entries q m l) = absurd (more-not q m)
+  most ws' [] x' = elim x' [ ]
 
   going : (ws' : List Word) (es : List Entry) → EntriesIn strings v (words_at text i) ws' es → Goes text i w.next ws'
   going ws' (x ∷ []) (last_entry q s) = record {
@@ -226,10 +227,12 @@ entries-last {text} {rows} {rows'} {i} {n} {class} {v} {top} {t} {strings} {e} {
     rest = took-rest h (omega arith) (took-at (a.goes _ x q).rest s);
   }
   going ws' (x ∷ es) (more_entries q m l) = absurd (more-not q m)
+  going ws' [] x' = elim x' [ ]
 
   added : (ws' : List Word) (es : List Entry) → EntriesIn strings v (words_at text i) ws' es → Room rows n (length es) → Appends text rows rows' n e.count (entry_decls class es)
   added ws' (x ∷ []) (last_entry q s) r = a.appends _ x q r
   added ws' (x ∷ es) (more_entries q m l) r = absurd (more-not q m)
+  added ws' [] x'' r = elim x'' [ ]
 
 -- an entry, then others
 pub entries-more : {text rows rows₁ rows' : List ℕ} {i n class v top t : ℕ} {strings : Bool} {e : Entered} {w : WordAt} {r : Entries}
@@ -253,18 +256,21 @@ entries-more {text} {rows} {rows₁} {rows'} {i} {n} {class} {v} {top} {t} {stri
   most : (ws' : List Word) (es : List Entry) → EntriesIn strings v (words_at text i) ws' es → r.top ≡ next_of top es
   most ws' (x ∷ []) (last_entry q s) = absurd (last-not q s)
   most ws' (x ∷ es) (more_entries q m l) = rw (a.value _ x q, ← f) (u.most ws' es (others q l))
+  most ws' [] x' = elim x' [ ]
 
   going : (ws' : List Word) (es : List Entry) → EntriesIn strings v (words_at text i) ws' es → Goes text i r.at ws'
   going ws' (x ∷ []) (last_entry q s) = absurd (last-not q s)
   going ws' (x ∷ es) (more_entries q m l) =
       let g = u.goes ws' es (others q l) in
       record { past = omega (arith, g.past, a.bounds.low); rest = g.rest }
+  going ws' [] x' = elim x' [ ]
 
   added : (ws' : List Word) (es : List Entry) → EntriesIn strings v (words_at text i) ws' es → Room rows n (length es) → Appends text rows rows' n r.count (entry_decls class es)
   added ws' (x ∷ []) (last_entry q s) o = absurd (last-not q s)
   added ws' (x ∷ es) (more_entries q m l) o =
       let b = a.appends _ x q (record { size = o.size; room = omega (arith, o.room) }) in
       appends-then b (u.appends ws' es (others q l) (record { size = z ∙ o.size; room = omega (arith, o.room, b.counted) }))
+  added ws' [] x'' o = elim x'' [ ]
 
 -- an entry that is none
 pub entries-stuck : {text rows rows' : List ℕ} {i n class v top t : ℕ} {strings : Bool} {e : Entered}
@@ -394,6 +400,7 @@ operations-last {text} {rows} {rows'} {i} {n} {seen} {o} {w} a h k = record {
   adding : (is : List ℕ) (ws' : List Word) (os : List Operation) → OperationsIn is (words_at text i) ws' os → Kinds is seen → Adds (instructions os) seen o.seen
   adding is ws' (x ∷ []) (last_operation q s) z = a.adds is _ x q z
   adding is ws' (x ∷ os) (more_operations q m l) z = absurd (more-not q m)
+  adding is ws' [] x'' z = elim x'' [ ]
 
   going : (is : List ℕ) (ws' : List Word) (os : List Operation) → OperationsIn is (words_at text i) ws' os → Goes text i w.next ws'
   going is ws' (x ∷ []) (last_operation q s) = record {
@@ -401,11 +408,13 @@ operations-last {text} {rows} {rows'} {i} {n} {seen} {o} {w} a h k = record {
     rest = took-rest h (omega arith) (took-at (a.goes is _ x q).rest s);
   }
   going is ws' (x ∷ os) (more_operations q m l) = absurd (more-not q m)
+  going is ws' [] x' = elim x' [ ]
 
   added : (is : List ℕ) (ws' : List Word) (os : List Operation) → OperationsIn is (words_at text i) ws' os → Kinds is seen → Room rows n (length os)
       → Appends text rows rows' n o.count (operation_decls os)
   added is ws' (x ∷ []) (last_operation q s) z r = a.appends is _ x q z r
   added is ws' (x ∷ os) (more_operations q m l) z r = absurd (more-not q m)
+  added is ws' [] x3 z r = elim x3 [ ]
 
 pub operations-more : {text rows rows₁ rows' : List ℕ} {i n : ℕ} {seen : Seen} {o r : Operated} {w : WordAt}
     → AnOperation text rows rows₁ i n seen o → Here text o.at w → (w.kind ≡ 59 → ⊥) → length rows₁ ≡ length rows
@@ -431,12 +440,14 @@ operations-more {text} {rows} {rows₁} {rows'} {i} {n} {seen} {o} {r} {w} a h k
   adding is ws' (x ∷ []) (last_operation q s) y = absurd (last-not q s)
   adding is ws' (x ∷ os) (more_operations q m l) y =
       adds_then x.instruction (instructions os) seen o.seen r.seen (a.adds is _ x q y) (u.adds (x.instruction ∷ is) ws' os (others q l) (kinds q y))
+  adding is ws' [] x'' y = elim x'' [ ]
 
   going : (is : List ℕ) (ws' : List Word) (os : List Operation) → OperationsIn is (words_at text i) ws' os → Goes text i r.at ws'
   going is ws' (x ∷ []) (last_operation q s) = absurd (last-not q s)
   going is ws' (x ∷ os) (more_operations q m l) =
       let g = u.goes (x.instruction ∷ is) ws' os (others q l) in
       record { past = omega (arith, g.past, a.bounds.low); rest = g.rest }
+  going is ws' [] x' = elim x' [ ]
 
   added : (is : List ℕ) (ws' : List Word) (os : List Operation) → OperationsIn is (words_at text i) ws' os → Kinds is seen → Room rows n (length os)
       → Appends text rows rows' n r.count (operation_decls os)
@@ -444,6 +455,7 @@ operations-more {text} {rows} {rows₁} {rows'} {i} {n} {seen} {o} {r} {w} a h k
   added is ws' (x ∷ os) (more_operations q m l) y p =
       let b = a.appends is _ x q y (record { size = p.size; room = omega (arith, p.room) }) in
       appends-then b (u.appends (x.instruction ∷ is) ws' os (others q l) (kinds q y) (record { size = z ∙ p.size; room = omega (arith, p.room, b.counted) }))
+  added is ws' [] x3 y p = elim x3 [ ]
 
 pub operations-stuck : {text rows rows' : List ℕ} {i n : ℕ} {seen : Seen} {o : Operated} → AnOperation text rows rows' i n seen o → o.at ≤ i
     → SomeOperations text rows rows' i n seen o
@@ -492,6 +504,7 @@ rules-last {text} {rows} {rows'} {i} {n} {k} {x} {w} a h e = record { small = a.
   added : (ws' : List Word) (rs : List Rule) → LinesIn (words_at text i) ws' rs → Room rows n (length rs) → Appends text rows rows' n x.count (rule_decls k rs)
   added ws' (y ∷ []) (last_line q m) r = a.appends ws' y q r
   added ws' (y ∷ ys) (more_lines {ws₁ = ws₁} q m l) r = absurd (e (next-kind 257 h (ap (λ (vs : List Word). (peek vs).kind) (sym (a.goes ws₁ y q).rest) ∙ m)))
+  added ws' [] x3 r = elim x3 [ ]
 
 pub rules_more : {text rows rows₁ rows' : List ℕ} {i n k k' c : ℕ} {x : Spot} {w : WordAt} → ARule text rows rows₁ i n k x → Here text x.at w → w.kind ≡ 257
     → length rows₁ ≡ length rows → (x.count ≡ n + 1 → k' ≡ suc k) → SomeRules text rows₁ rows' x.at x.count k' c → SomeRules text rows rows' i n k c
@@ -504,6 +517,7 @@ rules_more {text} {rows} {rows₁} {rows'} {i} {n} {k} {k'} {c} {x} {w} a h e z 
       let l' : LinesIn (words_at text x.at) ws' ys = rw (a.goes ws₁ y q).rest at l in
       let d = u.appends ws' ys l' (record { size = z ∙ r.size; room = omega (arith, r.room, b.counted) }) in
       appends-then b (rw (f b.counted) at d)
+  added ws' [] x3 r = elim x3 [ ]
 
 pub rules-stuck : {text rows rows' : List ℕ} {i n k : ℕ} {x : Spot} → ARule text rows rows' i n k x → x.at ≤ i → SomeRules text rows rows' i n k x.count
 rules-stuck {text} {rows} {rows'} {i} {n} {k} {x} a e = record { small = a.bounds.small; appends = λ ws' rs q r. absurd (never q) } where

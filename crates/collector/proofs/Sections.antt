@@ -49,16 +49,40 @@ inputs_read {text} {rows} {rows'} {at} {n} {i} {t} {e} u m = record { bounds = u
     error = k.error;
     kinds = k.kinds;
   }
+  keeping s ws' (outputs _) x4 k = elim x4 [ ]
+  keeping s ws' (both _) x5 k = elim x5 [ ]
+  keeping s ws' (errors _) x6 k = elim x6 [ ]
+  keeping s ws' (values _ _) x8 k = elim x8 [ ]
+  keeping s ws' (operations _) x8 k = elim x8 [ ]
+  keeping s ws' (operators _ _) x10 k = elim x10 [ ]
 
   going : (s : Sofar) (ws' : List Word) (x : Section) → InputsIn s (words_at text at) ws' x → Keeps s t → Goes text at e.at ws'
   going s ws' (inputs es) (some_inputs q) k = u.goes ws' es (counted-from _ _ (sym k.input) q)
+  going s ws' (outputs _) x4 k = elim x4 [ ]
+  going s ws' (both _) x5 k = elim x5 [ ]
+  going s ws' (errors _) x6 k = elim x6 [ ]
+  going s ws' (values _ _) x8 k = elim x8 [ ]
+  going s ws' (operations _) x8 k = elim x8 [ ]
+  going s ws' (operators _ _) x10 k = elim x10 [ ]
 
   added : (s : Sofar) (ws' : List Word) (x : Section) → InputsIn s (words_at text at) ws' x → Keeps s t → Room rows n (names_in x)
       → Appends text rows rows' n e.count (section_decls n x)
   added s ws' (inputs es) (some_inputs q) k r = u.appends ws' es (counted-from _ _ (sym k.input) q) r
+  added s ws' (outputs _) x5 k r = elim x5 [ ]
+  added s ws' (both _) x6 k r = elim x6 [ ]
+  added s ws' (errors _) x7 k r = elim x7 [ ]
+  added s ws' (values _ _) x9 k r = elim x9 [ ]
+  added s ws' (operations _) x9 k r = elim x9 [ ]
+  added s ws' (operators _ _) x11 k r = elim x11 [ ]
 
   standing : (s : Sofar) (ws' : List Word) (x : Section) → InputsIn s (words_at text at) ws' x → Stands text x
   standing s ws' (inputs es) (some_inputs q) = tt
+  standing s ws' (outputs _) x3 = elim x3 [ ]
+  standing s ws' (both _) x4 = elim x4 [ ]
+  standing s ws' (errors _) x5 = elim x5 [ ]
+  standing s ws' (values _ _) x7 = elim x7 [ ]
+  standing s ws' (operations _) x7 = elim x7 [ ]
+  standing s ws' (operators _ _) x9 = elim x9 [ ]
 
 pub outputs-read : {text rows rows' : List ℕ} {at n o : ℕ} {t : State} {e : Entries} → SomeEntries (ListedIn true t.output (words_at text at)) text rows rows' at n 2 0 e → o ≡ max t.output e.top
     → ASection OutputsIn text rows rows' at n t (record { at = e.at; count = e.count; state = record { input = t.input; output = o; error = t.error; seen = t.seen } })
@@ -72,16 +96,40 @@ outputs-read {text} {rows} {rows'} {at} {n} {o} {t} {e} u m = record { bounds = 
     error = k.error;
     kinds = k.kinds;
   }
+  keeping s ws' (inputs _) x4 k = elim x4 [ ]
+  keeping s ws' (both _) x5 k = elim x5 [ ]
+  keeping s ws' (errors _) x6 k = elim x6 [ ]
+  keeping s ws' (values _ _) x8 k = elim x8 [ ]
+  keeping s ws' (operations _) x8 k = elim x8 [ ]
+  keeping s ws' (operators _ _) x10 k = elim x10 [ ]
 
   going : (s : Sofar) (ws' : List Word) (x : Section) → OutputsIn s (words_at text at) ws' x → Keeps s t → Goes text at e.at ws'
   going s ws' (outputs es) (some_outputs q) k = u.goes ws' es (counted-from _ _ (sym k.output) q)
+  going s ws' (inputs _) x4 k = elim x4 [ ]
+  going s ws' (both _) x5 k = elim x5 [ ]
+  going s ws' (errors _) x6 k = elim x6 [ ]
+  going s ws' (values _ _) x8 k = elim x8 [ ]
+  going s ws' (operations _) x8 k = elim x8 [ ]
+  going s ws' (operators _ _) x10 k = elim x10 [ ]
 
   added : (s : Sofar) (ws' : List Word) (x : Section) → OutputsIn s (words_at text at) ws' x → Keeps s t → Room rows n (names_in x)
       → Appends text rows rows' n e.count (section_decls n x)
   added s ws' (outputs es) (some_outputs q) k r = u.appends ws' es (counted-from _ _ (sym k.output) q) r
+  added s ws' (inputs _) x5 k r = elim x5 [ ]
+  added s ws' (both _) x6 k r = elim x6 [ ]
+  added s ws' (errors _) x7 k r = elim x7 [ ]
+  added s ws' (values _ _) x9 k r = elim x9 [ ]
+  added s ws' (operations _) x9 k r = elim x9 [ ]
+  added s ws' (operators _ _) x11 k r = elim x11 [ ]
 
   standing : (s : Sofar) (ws' : List Word) (x : Section) → OutputsIn s (words_at text at) ws' x → Stands text x
   standing s ws' (outputs es) (some_outputs q) = tt
+  standing s ws' (inputs _) x3 = elim x3 [ ]
+  standing s ws' (both _) x4 = elim x4 [ ]
+  standing s ws' (errors _) x5 = elim x5 [ ]
+  standing s ws' (values _ _) x7 = elim x7 [ ]
+  standing s ws' (operations _) x7 = elim x7 [ ]
+  standing s ws' (operators _ _) x9 = elim x9 [ ]
 
 pub both_read : {text rows rows' : List ℕ} {at n v i o : ℕ} {t : State} {e : Entries} → v ≡ max t.input t.output → SomeEntries (ListedIn true v (words_at text at)) text rows rows' at n 3 0 e
     → i ≡ max t.input e.top → o ≡ max t.output e.top
@@ -99,16 +147,40 @@ both_read {text} {rows} {rows'} {at} {n} {v} {i} {o} {t} {e} f u m l = record { 
     error = k.error;
     kinds = k.kinds;
   }
+  keeping s ws' (inputs _) x4 k = elim x4 [ ]
+  keeping s ws' (outputs _) x5 k = elim x5 [ ]
+  keeping s ws' (errors _) x6 k = elim x6 [ ]
+  keeping s ws' (values _ _) x8 k = elim x8 [ ]
+  keeping s ws' (operations _) x8 k = elim x8 [ ]
+  keeping s ws' (operators _ _) x10 k = elim x10 [ ]
 
   going : (s : Sofar) (ws' : List Word) (x : Section) → BothIn s (words_at text at) ws' x → Keeps s t → Goes text at e.at ws'
   going s ws' (both es) (some_both q) k = u.goes ws' es (from-v s k q)
+  going s ws' (inputs _) x4 k = elim x4 [ ]
+  going s ws' (outputs _) x5 k = elim x5 [ ]
+  going s ws' (errors _) x6 k = elim x6 [ ]
+  going s ws' (values _ _) x8 k = elim x8 [ ]
+  going s ws' (operations _) x8 k = elim x8 [ ]
+  going s ws' (operators _ _) x10 k = elim x10 [ ]
 
   added : (s : Sofar) (ws' : List Word) (x : Section) → BothIn s (words_at text at) ws' x → Keeps s t → Room rows n (names_in x)
       → Appends text rows rows' n e.count (section_decls n x)
   added s ws' (both es) (some_both q) k r = u.appends ws' es (from-v s k q) r
+  added s ws' (inputs _) x5 k r = elim x5 [ ]
+  added s ws' (outputs _) x6 k r = elim x6 [ ]
+  added s ws' (errors _) x7 k r = elim x7 [ ]
+  added s ws' (values _ _) x9 k r = elim x9 [ ]
+  added s ws' (operations _) x9 k r = elim x9 [ ]
+  added s ws' (operators _ _) x11 k r = elim x11 [ ]
 
   standing : (s : Sofar) (ws' : List Word) (x : Section) → BothIn s (words_at text at) ws' x → Stands text x
   standing s ws' (both es) (some_both q) = tt
+  standing s ws' (inputs _) x3 = elim x3 [ ]
+  standing s ws' (outputs _) x4 = elim x4 [ ]
+  standing s ws' (errors _) x5 = elim x5 [ ]
+  standing s ws' (values _ _) x7 = elim x7 [ ]
+  standing s ws' (operations _) x7 = elim x7 [ ]
+  standing s ws' (operators _ _) x9 = elim x9 [ ]
 
 pub errors-read : {text rows rows' : List ℕ} {at n o : ℕ} {t : State} {e : Entries} → SomeEntries (ListedIn false t.error (words_at text at)) text rows rows' at n 4 0 e → o ≡ max t.error e.top
     → ASection ErrorsIn text rows rows' at n t (record { at = e.at; count = e.count; state = record { input = t.input; output = t.output; error = o; seen = t.seen } })
@@ -122,16 +194,40 @@ errors-read {text} {rows} {rows'} {at} {n} {o} {t} {e} u m = record { bounds = u
     error = omega (arith, m, k.error, u.most ws' es (counted-from _ _ (sym k.error) q), next-max s.error es);
     kinds = k.kinds;
   }
+  keeping s ws' (inputs _) x4 k = elim x4 [ ]
+  keeping s ws' (outputs _) x5 k = elim x5 [ ]
+  keeping s ws' (both _) x6 k = elim x6 [ ]
+  keeping s ws' (values _ _) x8 k = elim x8 [ ]
+  keeping s ws' (operations _) x8 k = elim x8 [ ]
+  keeping s ws' (operators _ _) x10 k = elim x10 [ ]
 
   going : (s : Sofar) (ws' : List Word) (x : Section) → ErrorsIn s (words_at text at) ws' x → Keeps s t → Goes text at e.at ws'
   going s ws' (errors es) (some_errors q) k = u.goes ws' es (counted-from _ _ (sym k.error) q)
+  going s ws' (inputs _) x4 k = elim x4 [ ]
+  going s ws' (outputs _) x5 k = elim x5 [ ]
+  going s ws' (both _) x6 k = elim x6 [ ]
+  going s ws' (values _ _) x8 k = elim x8 [ ]
+  going s ws' (operations _) x8 k = elim x8 [ ]
+  going s ws' (operators _ _) x10 k = elim x10 [ ]
 
   added : (s : Sofar) (ws' : List Word) (x : Section) → ErrorsIn s (words_at text at) ws' x → Keeps s t → Room rows n (names_in x)
       → Appends text rows rows' n e.count (section_decls n x)
   added s ws' (errors es) (some_errors q) k r = u.appends ws' es (counted-from _ _ (sym k.error) q) r
+  added s ws' (inputs _) x5 k r = elim x5 [ ]
+  added s ws' (outputs _) x6 k r = elim x6 [ ]
+  added s ws' (both _) x7 k r = elim x7 [ ]
+  added s ws' (values _ _) x9 k r = elim x9 [ ]
+  added s ws' (operations _) x9 k r = elim x9 [ ]
+  added s ws' (operators _ _) x11 k r = elim x11 [ ]
 
   standing : (s : Sofar) (ws' : List Word) (x : Section) → ErrorsIn s (words_at text at) ws' x → Stands text x
   standing s ws' (errors es) (some_errors q) = tt
+  standing s ws' (inputs _) x3 = elim x3 [ ]
+  standing s ws' (outputs _) x4 = elim x4 [ ]
+  standing s ws' (both _) x5 = elim x5 [ ]
+  standing s ws' (values _ _) x7 = elim x7 [ ]
+  standing s ws' (operations _) x7 = elim x7 [ ]
+  standing s ws' (operators _ _) x9 = elim x9 [ ]
 
 pub tokens-alone : {text rows rows' : List ℕ} {at n : ℕ} {t : State} {w : WordAt} {r : Sectioned} → Here text at w → (w.kind ≡ 261 → ⊥) → ASection InputsIn text rows rows' at n t r
     → ASection TokensIn text rows rows' at n t r
@@ -183,11 +279,23 @@ type-read {text} {rows} {rows₁} {rows'} {at} {n} {c} {t} {w} {e} h p z u = rec
 } where
   keeping : (s : Sofar) (ws' : List Word) (x : Section) → TypeIn s (words_at text at) ws' x → Keeps s t → Keeps (after s x) t
   keeping s ws' (values v es) (a_type a q) k = record { input = k.input; output = k.output; error = k.error; kinds = k.kinds }
+  keeping s ws' (inputs _) x4 k = elim x4 [ ]
+  keeping s ws' (outputs _) x5 k = elim x5 [ ]
+  keeping s ws' (both _) x6 k = elim x6 [ ]
+  keeping s ws' (errors _) x7 k = elim x7 [ ]
+  keeping s ws' (operations _) x8 k = elim x8 [ ]
+  keeping s ws' (operators _ _) x10 k = elim x10 [ ]
 
   going : (s : Sofar) (ws' : List Word) (x : Section) → TypeIn s (words_at text at) ws' x → Keeps s t → Goes text at e.at ws'
   going s ws' (values v es) (a_type {ws₁ = ws₁} a q) k =
       let q' : ListedIn false 0 (words_at text w.next) ws' es = rw (took-rest h (omega arith) a) at q in
       record { past = omega (arith, h.onto, (u.goes ws' es q').past); rest = (u.goes ws' es q').rest }
+  going s ws' (inputs _) x4 k = elim x4 [ ]
+  going s ws' (outputs _) x5 k = elim x5 [ ]
+  going s ws' (both _) x6 k = elim x6 [ ]
+  going s ws' (errors _) x7 k = elim x7 [ ]
+  going s ws' (operations _) x8 k = elim x8 [ ]
+  going s ws' (operators _ _) x10 k = elim x10 [ ]
 
   added : (s : Sofar) (ws' : List Word) (x : Section) → TypeIn s (words_at text at) ws' x → Keeps s t → Room rows n (names_in x)
       → Appends text rows rows' n e.count (section_decls n x)
@@ -197,9 +305,21 @@ type-read {text} {rows} {rows₁} {rows'} {at} {n} {c} {t} {w} {e} h p z u = rec
       (decl-is text (type_row w) (of_type v) refl refl (took-word h a) (option-none text (second_kind 5) (record { start = 0; len = 0 }) refl) (option-none text 257 (record { start = 0; len = 0 }) refl))
       (record { size = r.size; room = omega (arith, r.room) }) in
       appends-then b (u.appends ws' es q' (record { size = z ∙ r.size; room = omega (arith, r.room, b.counted) }))
+  added s ws' (inputs _) x5 k r = elim x5 [ ]
+  added s ws' (outputs _) x6 k r = elim x6 [ ]
+  added s ws' (both _) x7 k r = elim x7 [ ]
+  added s ws' (errors _) x8 k r = elim x8 [ ]
+  added s ws' (operations _) x9 k r = elim x9 [ ]
+  added s ws' (operators _ _) x11 k r = elim x11 [ ]
 
   standing : (s : Sofar) (ws' : List Word) (x : Section) → TypeIn s (words_at text at) ws' x → Stands text x
   standing s ws' (values v es) (a_type a q) = tt
+  standing s ws' (inputs _) x3 = elim x3 [ ]
+  standing s ws' (outputs _) x4 = elim x4 [ ]
+  standing s ws' (both _) x5 = elim x5 [ ]
+  standing s ws' (errors _) x6 = elim x6 [ ]
+  standing s ws' (operations _) x7 = elim x7 [ ]
+  standing s ws' (operators _ _) x9 = elim x9 [ ]
 
 pub mechanism-read : {text rows rows' : List ℕ} {at n : ℕ} {t : State} {w c : WordAt} {o : Operated} → Here text at w → Here text w.next c
     → SomeOperations text rows rows' c.next n t.seen o
@@ -224,18 +344,42 @@ mechanism-read {text} {rows} {rows'} {at} {n} {t} {w} {c} {o} h m u = record {
     error = k.error;
     kinds = kinds-then (instructions os) s.seen t.seen o.seen k.kinds (u.adds s.seen ws' os (inner s ws' os a b q) k.kinds);
   }
+  keeping s ws' (inputs _) x4 k = elim x4 [ ]
+  keeping s ws' (outputs _) x5 k = elim x5 [ ]
+  keeping s ws' (both _) x6 k = elim x6 [ ]
+  keeping s ws' (errors _) x7 k = elim x7 [ ]
+  keeping s ws' (values _ _) x9 k = elim x9 [ ]
+  keeping s ws' (operators _ _) x10 k = elim x10 [ ]
 
   going : (s : Sofar) (ws' : List Word) (x : Section) → MechanismIn s (words_at text at) ws' x → Keeps s t → Goes text at o.at ws'
   going s ws' (operations os) (a_mechanism a b q) k =
       let g = u.goes s.seen ws' os (inner s ws' os a b q) in
       record { past = omega (arith, h.onto, m.onto, g.past); rest = g.rest }
+  going s ws' (inputs _) x4 k = elim x4 [ ]
+  going s ws' (outputs _) x5 k = elim x5 [ ]
+  going s ws' (both _) x6 k = elim x6 [ ]
+  going s ws' (errors _) x7 k = elim x7 [ ]
+  going s ws' (values _ _) x9 k = elim x9 [ ]
+  going s ws' (operators _ _) x10 k = elim x10 [ ]
 
   added : (s : Sofar) (ws' : List Word) (x : Section) → MechanismIn s (words_at text at) ws' x → Keeps s t → Room rows n (names_in x)
       → Appends text rows rows' n o.count (section_decls n x)
   added s ws' (operations os) (a_mechanism a b q) k r = u.appends s.seen ws' os (inner s ws' os a b q) k.kinds r
+  added s ws' (inputs _) x5 k r = elim x5 [ ]
+  added s ws' (outputs _) x6 k r = elim x6 [ ]
+  added s ws' (both _) x7 k r = elim x7 [ ]
+  added s ws' (errors _) x8 k r = elim x8 [ ]
+  added s ws' (values _ _) x10 k r = elim x10 [ ]
+  added s ws' (operators _ _) x11 k r = elim x11 [ ]
 
   standing : (s : Sofar) (ws' : List Word) (x : Section) → MechanismIn s (words_at text at) ws' x → Stands text x
   standing s ws' (operations os) (a_mechanism a b q) = tt
+  standing s ws' (inputs _) x3 = elim x3 [ ]
+  standing s ws' (outputs _) x4 = elim x4 [ ]
+  standing s ws' (both _) x5 = elim x5 [ ]
+  standing s ws' (errors _) x6 = elim x6 [ ]
+  standing s ws' (values _ _) x8 = elim x8 [ ]
+  standing s ws' (operators _ _) x9 = elim x9 [ ]
 
 -- A section of operators
 
@@ -262,9 +406,21 @@ operators-read {text} {rows} {rows'} {at} {n} {c} {to} {t} {w} {colon} {first} h
 
   keeping : (s : Sofar) (ws' : List Word) (x : Section) → OperatorsSectionIn s (words_at text at) ws' x → Keeps s t → Keeps (after s x) t
   keeping s ws' (operators v os) (some_operators_lem a b q) z = record { input = z.input; output = z.output; error = z.error; kinds = z.kinds }
+  keeping s ws' (inputs _) x4 z = elim x4 [ ]
+  keeping s ws' (outputs _) x5 z = elim x5 [ ]
+  keeping s ws' (both _) x6 z = elim x6 [ ]
+  keeping s ws' (errors _) x7 z = elim x7 [ ]
+  keeping s ws' (values _ _) x9 z = elim x9 [ ]
+  keeping s ws' (operations _) x9 z = elim x9 [ ]
 
   going : (s : Sofar) (ws' : List Word) (x : Section) → OperatorsSectionIn s (words_at text at) ws' x → Keeps s t → Goes text at to ws'
   going s ws' (operators v os) (some_operators_lem a b q) z = record { past = omega (arith, took-past h (omega arith) a, m.onto, k.low); rest = entries-behind k refl (inner a b q) }
+  going s ws' (inputs _) x4 z = elim x4 [ ]
+  going s ws' (outputs _) x5 z = elim x5 [ ]
+  going s ws' (both _) x6 z = elim x6 [ ]
+  going s ws' (errors _) x7 z = elim x7 [ ]
+  going s ws' (values _ _) x9 z = elim x9 [ ]
+  going s ws' (operations _) x9 z = elim x9 [ ]
 
   added : (s : Sofar) (ws' : List Word) (x : Section) → OperatorsSectionIn s (words_at text at) ws' x → Keeps s t → Room rows n (names_in x)
       → Appends text rows rows' n c (section_decls n x)
@@ -272,10 +428,22 @@ operators-read {text} {rows} {rows'} {at} {n} {c} {to} {t} {w} {colon} {first} h
       appended text (of_operators v os) p
       (decl-is text (operators_row w first.start) (of_operators v os) refl (first-place f (inner a b q)) (took-word h a) (option-none text (second_kind 600) (record { start = 0; len = 0 }) refl) (option-none text 257 (record { start = 0; len = 0 }) refl))
       r
+  added s ws' (inputs _) x5 z r = elim x5 [ ]
+  added s ws' (outputs _) x6 z r = elim x6 [ ]
+  added s ws' (both _) x7 z r = elim x7 [ ]
+  added s ws' (errors _) x8 z r = elim x8 [ ]
+  added s ws' (values _ _) x10 z r = elim x10 [ ]
+  added s ws' (operations _) x10 z r = elim x10 [ ]
 
   standing : (s : Sofar) (ws' : List Word) (x : Section) → OperatorsSectionIn s (words_at text at) ws' x → Stands text x
   standing s ws' (operators v os) (some_operators_lem a b q) =
       record { left = ws'; again = subst (λ (ws : List Word). OperatorsIn ws ws' os) (sym (ap (λ (i : ℕ). words_at text i) (first-place f (inner a b q)) ∙ start-again f)) (inner a b q) }
+  standing s ws' (inputs _) x3 = elim x3 [ ]
+  standing s ws' (outputs _) x4 = elim x4 [ ]
+  standing s ws' (both _) x5 = elim x5 [ ]
+  standing s ws' (errors _) x6 = elim x6 [ ]
+  standing s ws' (values _ _) x8 = elim x8 [ ]
+  standing s ws' (operations _) x8 = elim x8 [ ]
 
 -- Which section
 

@@ -267,6 +267,20 @@ module _ (prog : List Rule) where
         go : (i : Instruction) → HasTable c i → Fine T (place 1 prog) prog (rule_of prog r).valued here.stage l i → Fits T c
         go (input_choice d) by_token f = fits f.1
         go (choice d) by_result f = fits f.1
+        go invalid x'' f = elim x'' [ ]
+        go (jump _) x4 f = elim x4 [ ]
+        go (input _) x5 f = elim x5 [ ]
+        go input_any x5 f = elim x5 [ ]
+        go (write _) x7 f = elim x7 [ ]
+        go (call_rule _) x8 f = elim x8 [ ]
+        go return x8 f = elim x8 [ ]
+        go (set_result _) x10 f = elim x10 [ ]
+        go end_choice x10 f = elim x10 [ ]
+        go (set_parameter _) x12 f = elim x12 [ ]
+        go (update _) x13 f = elim x13 [ ]
+        go (update_with _) x14 f = elim x14 [ ]
+        go (choose _) x15 f = elim x15 [ ]
+        go (choose_with _) x16 f = elim x16 [ ]
 
     -- a rule gives a value exactly if a choice stands behind its calls
     pub rules-answer : {s m : ℕ} {y : Option ℕ} → decode T l ≡ call_rule s → Quiet T s none m (back y) → Given (is_choice (decode T (l + 2))) y

@@ -15,7 +15,7 @@ use Rattle.base.specs.Common.{member}
 use Rattle.base.specs.Tree.{choice, ◌▸◌, otherwise}
 use Rattle.figure.proofs.Spots.{as-rule}
 use Rattle.figure.specs.Promise.{RuleStart, rule_start}
-use Rattle.loading.proofs.Members.{member-head, member-tail}
+use Rattle.loading.proofs.Members.{member-here, member-tail}
 use Rattle.loading.specs.Reach.{by_token, by_result}
 use Rattle.machine.specs.Decode.{fetch}
 use Rattle.program.proofs.Places.{place-first}
@@ -88,7 +88,7 @@ module _ (T : List ℕ) where
       let z : l + 2 * 0 ≡ l = omega arith in
       let q : fetch T l ≡ some v = rw z at e in
       let x : v ≡ u = cc in
-      rw x (member-head u (heads ps))
+      member-here v u (heads ps) x
   entry-label {l} (entries-cons {v = u} {ps = ps} w f d t) (suc j) v k e =
       let z : l + 2 * suc j ≡ l + 2 + 2 * j = omega arith in
       member-tail v u (heads ps) (entry-label t j v (omega arith) (rw z at e))

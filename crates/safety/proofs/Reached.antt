@@ -109,18 +109,27 @@ module _ (T : List ℕ) where
         by-label none = default
         by-label (some v) = labelled v (label_at T v n (c + 1)) refl
 
+    -- by a token's choice, and by a result's
+    token-way : {l c m : ℕ} → Reachable T l → decode T l ≡ input_choice c → Leads T l (input_choice c) m → Reachable T m
+    unfolding bad
+    token-way {l} {c} r d (leads_token v) =
+        let x = chooses l c (input_choice c) d r refl (λ n e t. by_token d e t) in way-reached l c x.0 v r x.1 x.2 x.3
+
+    result-way : {l c m : ℕ} → Reachable T l → decode T l ≡ choice c → Leads T l (choice c) m → Reachable T m
+    unfolding bad
+    result-way {l} {c} r d (leads_choice v) =
+        let x = chooses l c (choice c) d r refl (λ n e t. by_result d e t) in way-reached l c x.0 v r x.1 x.2 x.3
+
     one_way : {l m : ℕ} (i : Instruction) → Reachable T l → decode T l ≡ i → Leads T l i m → Reachable T m
-    unfolding behind bad
+    unfolding behind
     one_way (jump m) r d leads_jump = at_target r d
     one_way (input t) r d leads_input = at_next r (ap (behind _) d)
     one_way input_any r d leads_any = at_next r (ap (behind _) d)
     one_way (write e) r d leads_write = at_next r (ap (behind _) d)
-    one_way {l} (input_choice c) r d (leads_token v) =
-        let x = chooses l c (input_choice c) d r refl (λ n e t. by_token d e t) in way-reached l c x.0 v r x.1 x.2 x.3
+    one_way (input_choice c) r d w = token-way r d w
     one_way (call_rule s) r d leads_call = after_call r d
     one_way (set_result v) r d leads_result = at_next r (ap (behind _) d)
-    one_way {l} (choice c) r d (leads_choice v) =
-        let x = chooses l c (choice c) d r refl (λ n e t. by_result d e t) in way-reached l c x.0 v r x.1 x.2 x.3
+    one_way (choice c) r d w = result-way r d w
     one_way (set_parameter v) r d leads_parameter = at_next r (ap (behind _) d)
     one_way (update op) r d leads_update = at_next r (ap (behind _) d)
     one_way (update_with op) r d leads_update_with = at_next r (ap (behind _) d)
@@ -179,7 +188,7 @@ module _ (T : List ℕ) where
           let y : c + 1 + 2 * i ≡ c + 2 * i + 1 = omega arith in
           let q = label-found g.0 n (c + 1) i h (rw y g.1) (λ j k e. once l c n j i r ch k h (let u : c + 2 * j + 1 ≡ c + 1 + 2 * j = omega arith in rw u (e ∙ sym g.1))) in
           let p : c + 1 + 2 * i + 1 ≡ c + 2 * i + 2 = omega arith in
-          (g.0, rw (o.1, way_of, q, way_among, p, f, back_from) refl)
+          (g.0, rw (o.1, way_of, q, way_among, p, f, back_from) (ap (λ (k : ℕ). k - x) p))
 
       all_these : {l : ℕ} → Reachable T l → Some l
       unfolding way_out way_of way_among label_by

@@ -24,7 +24,7 @@ use Rattle.machine.specs.Walk.{Phase, going, waiting, stopped, Walk, fresh, move
 use Rattle.loading.specs.Reach.{fits, bad, gives37, Reachable, at_start, Taken}
 use Rattle.loading.specs.Taking.{back_from, labelled, chosen, onward, ways}
 use Rattle.rights.specs.Rights.{operation_of}
-use Rattle.loading.proofs.Members.{member-head, member-tail, member-left, member_right}
+use Rattle.loading.proofs.Members.{member-head, member-here, member-tail, member-left, member_right}
 use Rattle.loading.proofs.Exact.{good-there}
 use Rattle.loading.proofs.Ways.{way}
 use Rattle.agreement.specs.Demand.{Listed, begin, then_call}
@@ -134,7 +134,7 @@ module _ (T tokens : List ℕ) (good : Taken T) where
       go : (t : Bool) → (if t then some (l + 1) else seek T tokens v n (l + 2)) ≡ some p
           → (seek T tokens v n (l + 2) ≡ some p → member (back_from T p) (labelled T n (l + 2)) ≡ true)
           → member (back_from T p) (back_from T (l + 1) ∷ labelled T n (l + 2)) ≡ true
-      go true d i = let q : l + 1 ≡ p = cc in rw (← q) (member-head (back_from T (l + 1)) (labelled T n (l + 2)))
+      go true d i = let q : l + 1 ≡ p = cc in member-here (back_from T p) (back_from T (l + 1)) (labelled T n (l + 2)) (ap (back_from T) (sym q))
       go false d i = member-tail (back_from T p) (back_from T (l + 1)) (labelled T n (l + 2)) (i d)
 
   seek_by-labelled : (o : Option ℕ) (n l p : ℕ) → seek_by T tokens o n l ≡ some p → member (back_from T p) (labelled T n l) ≡ true

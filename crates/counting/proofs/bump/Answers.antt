@@ -30,7 +30,7 @@ overflow_add-counts c =
     record {
       fits = elim c.if-writes.branch [
         then-writes w ↦ omega (arith, w.one-is, c.requires.1.1 w.if-writes.true)
-      | else-writes w ↦ omega (arith, w.one-is, (c.type_inv.counts (c.args.l - 1)).fits)
+      | else-writes w ↦ omega (arith, w.one-is)
       ];
     }
 

@@ -1,6 +1,5 @@
 -- `counting::count_book` meets its contract: the invariant carries the call and the locations still to come, and each case of `Next` has its law.
 use mathlib.Core.Bool.{false}
-use mathlib.Core.Logic.{◌⊎◌, ⊎_elim}
 use mathlib.Core.Path.{◌≡◌, refl, sym, ◌∙◌}
 use Prim.Native.Nat.{ℕ, ◌+◌, ◌-◌, ◌<◌, ◌≤◌}
 use native.Mathlib.Omega.{arith}
@@ -12,14 +11,6 @@ use Rattle.walker.specs.Shape.{step_of}
 use Rattle.counting.proofs.count_book.Goals.{in-On, in-Tells, in-Push}
 use Rattle.counting.proofs.count_book.Goals as goal
 
--- where the walk goes on: after any of the three
-moved : (c : goal.Joined-x) → ?
-moved c = elim c.match-x.branch [
-      in-On w ↦ moved_as w.at-is w.returns-is w.out-is w.events-is w.room-is (moved_on _ _ _ _ _ _ _ _ _ _ _ _ _ _ _ c.loop-done.invariant c.loop-done-test.true _ (sym c.next-x.ensures ∙ w.in-On.is))
-    | in-Tells w ↦ moved_as w.at-is w.returns-is w.out-is w.events-is w.room-is (moved-tells _ _ _ _ _ _ _ _ _ _ _ _ _ _ _ c.loop-done.invariant c.loop-done-test.true _ _ _ (sym c.next-x.ensures ∙ w.in-Tells.is) w.tell.ensures w.tell.auto.out)
-    | in-Push w ↦ moved_as (w.at-is ∙ w.hold-at.ensures.value) (w.returns-is ∙ w.hold-at.ensures.returns_after) w.out-is w.events-is w.room-is (moved-push _ _ _ _ _ _ _ _ _ _ _ _ _ _ _ c.loop-done.invariant c.loop-done-test.true _ _ (sym c.next-x.ensures ∙ w.in-Push.is))
-    ]
-
 pub loop-done-init : goal.loop-done-init
 loop-done-init c =
     let a = c.args in
@@ -30,7 +21,7 @@ unfolding lengths
 next-x-requires c = (refl, c.loop-done.invariant.deep)
 
 pub overflow_add-next : goal.overflow_add-next
-overflow_add-next c = omega (arith, c.loop-done-test.true, c.struct_known-1.given.0)
+overflow_add-next c = omega (arith, c.loop-done-test.true)
 
 pub returns-in-Full : goal.returns-in-Full
 returns-in-Full c =
@@ -71,13 +62,23 @@ pub returns-in-Waits : goal.returns-in-Waits
 returns-in-Waits c = absurd (never-waits _ _ _ _ _ _ _ _ (sym c.next-x.ensures ∙ c.in-Waits.is))
 
 pub bump-requires : goal.bump-requires
-bump-requires c = move-room _ _ _ _ _ _ _ _ _ _ _ _ _ _ _ c.loop-done.invariant c.loop-done-test.true _ _ _ _ _ (moved c)
+bump-requires c =
+    elim c.match-x.branch [
+      in-On w ↦ move-room _ _ _ _ _ _ _ _ _ _ _ _ _ _ _ c.loop-done.invariant c.loop-done-test.true _ _ _ _ _ (moved_as w.at-is w.returns-is w.out-is w.events-is w.room-is (moved_on _ _ _ _ _ _ _ _ _ _ _ _ _ _ _ c.loop-done.invariant c.loop-done-test.true _ (sym c.next-x.ensures ∙ w.in-On.is)))
+    | in-Tells w ↦ move-room _ _ _ _ _ _ _ _ _ _ _ _ _ _ _ c.loop-done.invariant c.loop-done-test.true _ _ _ _ _ (moved_as w.at-is w.returns-is w.out-is w.events-is w.room-is (moved-tells _ _ _ _ _ _ _ _ _ _ _ _ _ _ _ c.loop-done.invariant c.loop-done-test.true _ _ _ (sym c.next-x.ensures ∙ w.in-Tells.is) w.tell.ensures w.tell.auto.out))
+    | in-Push w ↦ move-room _ _ _ _ _ _ _ _ _ _ _ _ _ _ _ c.loop-done.invariant c.loop-done-test.true _ _ _ _ _ (moved_as (w.at-is ∙ w.hold-at.ensures.value) (w.returns-is ∙ w.hold-at.ensures.returns_after) w.out-is w.events-is w.room-is (moved-push _ _ _ _ _ _ _ _ _ _ _ _ _ _ _ c.loop-done.invariant c.loop-done-test.true _ _ (sym c.next-x.ensures ∙ w.in-Push.is)))
+    ]
 
 pub loop-done-smaller : goal.loop-done-smaller
 loop-done-smaller c = omega (arith, c.loop-done-test.true)
 
 pub loop-done-preserved : goal.loop-done-preserved
-loop-done-preserved c = again _ _ _ _ _ _ _ _ _ _ _ _ _ _ _ c.loop-done.invariant c.loop-done-test.true _ _ _ _ _ (moved c) _ c.bump.ensures
+loop-done-preserved c =
+    elim c.match-x.branch [
+      in-On w ↦ again _ _ _ _ _ _ _ _ _ _ _ _ _ _ _ c.loop-done.invariant c.loop-done-test.true _ _ _ _ _ (moved_as w.at-is w.returns-is w.out-is w.events-is w.room-is (moved_on _ _ _ _ _ _ _ _ _ _ _ _ _ _ _ c.loop-done.invariant c.loop-done-test.true _ (sym c.next-x.ensures ∙ w.in-On.is))) _ c.bump.ensures
+    | in-Tells w ↦ again _ _ _ _ _ _ _ _ _ _ _ _ _ _ _ c.loop-done.invariant c.loop-done-test.true _ _ _ _ _ (moved_as w.at-is w.returns-is w.out-is w.events-is w.room-is (moved-tells _ _ _ _ _ _ _ _ _ _ _ _ _ _ _ c.loop-done.invariant c.loop-done-test.true _ _ _ (sym c.next-x.ensures ∙ w.in-Tells.is) w.tell.ensures w.tell.auto.out)) _ c.bump.ensures
+    | in-Push w ↦ again _ _ _ _ _ _ _ _ _ _ _ _ _ _ _ c.loop-done.invariant c.loop-done-test.true _ _ _ _ _ (moved_as (w.at-is ∙ w.hold-at.ensures.value) (w.returns-is ∙ w.hold-at.ensures.returns_after) w.out-is w.events-is w.room-is (moved-push _ _ _ _ _ _ _ _ _ _ _ _ _ _ _ c.loop-done.invariant c.loop-done-test.true _ _ (sym c.next-x.ensures ∙ w.in-Push.is))) _ c.bump.ensures
+    ]
 
 pub returns : goal.returns
 returns c =

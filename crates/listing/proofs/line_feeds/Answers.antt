@@ -1,5 +1,4 @@
 -- `listing::line_feeds` meets its contract: the count is that of the bytes passed.
-use mathlib.Core.Logic.{⊎_elim}
 use mathlib.Core.Path.{◌≡◌, ◌∙◌, ap}
 use Prim.Native.Nat.{ℕ, ◌+◌, ◌-◌, ◌≤◌}
 use native.Mathlib.Omega.{arith}
@@ -7,6 +6,7 @@ use lib.ListN.{length, take}
 use lib.Seq.{take-length}
 use Rattle.listing.specs.Listing.{line_feeds}
 use Rattle.listing.proofs.Lines.{feeds-none, feed-more, feed-same}
+use Rattle.listing.proofs.line_feeds.Goals.{then-text-i-eq10, else-text-i-eq10}
 use Rattle.listing.proofs.line_feeds.Goals as goal
 
 pub loop-i-init : goal.loop-i-init
@@ -28,10 +28,10 @@ pub loop-i-preserved : goal.loop-i-preserved
 loop-i-preserved c =
     let text = c.args.text.now in
     let l = c.loop-i in
-    ⊎_elim
-    (λ w. (omega arith, omega arith, w.1 ∙ ap (λ (n : ℕ). n + 1) l.invariant.2 ∙ feed-more text l.i (omega arith) w.0.taken))
-    (λ w. (omega arith, omega arith, w.1 ∙ l.invariant.2 ∙ feed-same text l.i (omega arith) w.0.left))
-    c.if-text-i-eq10.branch
+    elim c.if-text-i-eq10.branch [
+      then-text-i-eq10 w ↦ (omega arith, omega arith, w.feeds-is ∙ ap (λ (n : ℕ). n + 1) l.invariant.2 ∙ feed-more text l.i (omega arith) w.if-text-i-eq10.true)
+    | else-text-i-eq10 w ↦ (omega arith, omega arith, w.feeds-is ∙ l.invariant.2 ∙ feed-same text l.i (omega arith) w.if-text-i-eq10.false)
+    ]
 
 pub returns : goal.returns
 returns c =

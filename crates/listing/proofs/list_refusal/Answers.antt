@@ -9,10 +9,10 @@ pub returns : goal.returns
 unfolding refusal_listing
 returns c =
     let a = c.put_bytes-a.ensures in
-    let b = (c.put_decimal-b.ensures.puts, c.put_decimal-b.ensures.upper_bound) in
+    let b = c.put_decimal-b.ensures in
     let d = c.put_bytes-d.ensures in
-    let e = (c.put_decimal-e.ensures.puts, c.put_decimal-e.ensures.upper_bound) in
+    let e = c.put_decimal-e.ensures in
     let f = c.put_byte.ensures in
-    let n = rw c.wide.ensures.0 at b.0 in
-    let p = puts_then (puts_then (puts_then (puts_then a n) d) e.0) f in
-    listed p (omega (arith, a.next, b.1, d.next, e.1, f.next))
+    let n = rw c.wide.ensures.0 at b.puts in
+    let p = puts_then (puts_then (puts_then (puts_then a n) d) e.puts) f in
+    listed p (omega (arith, a.next, b.upper_bound, d.next, e.upper_bound, f.next))

@@ -12,10 +12,10 @@ unfolding table_listing
 returns c =
     let a = c.args in
     let n = c.least-n.result in
-    let h = (c.put_heading-a.ensures.puts, c.put_heading-a.ensures.upper_bound) in
-    let q = (c.put_figure-b.ensures.puts, c.put_figure-b.ensures.upper_bound) in
-    let w = (c.put_words.ensures.puts, c.put_words.ensures.upper_bound) in
-    let p = puts_then (puts_then h.0 q.0) w.0 in
+    let h = c.put_heading-a.ensures in
+    let q = c.put_figure-b.ensures in
+    let w = c.put_words.ensures in
+    let p = puts_then (puts_then h.puts q.puts) w.puts in
     let e = listed-words a.table.now a.words n (omega arith) in
     let l = first-words a.table.now n (omega arith) in
-    rw (← e, l) (listed p (omega (arith, h.1, q.1, w.1)))
+    rw (← e, l) (listed p (omega (arith, h.upper_bound, q.upper_bound, w.upper_bound)))

@@ -12,5 +12,5 @@ returns-then-figure-eq0 c = record { puts = figure-none _ _ c.if-figure-eq0.true
 -- src/lib.rt:147:1
 pub returns : goal.returns
 returns c =
-    let d = (c.put_decimal-a.ensures.puts, c.put_decimal-a.ensures.upper_bound) in
-    let e = c.put_byte.ensures in record { puts = figure-some _ c.if-figure-eq0.false d.0 e; upper_bound = omega (arith, d.1, e.next) }
+    let d = c.put_decimal-a.ensures in
+    let e = c.put_byte.ensures in record { puts = figure-some _ c.if-figure-eq0.false d.puts e; upper_bound = omega (arith, d.upper_bound, e.next) }

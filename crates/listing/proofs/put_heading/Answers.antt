@@ -9,6 +9,6 @@ pub returns : goal.returns
 unfolding heading
 returns c =
     let a = c.put_bytes-a.ensures in
-    let b = (c.put_decimal-b.ensures.puts, c.put_decimal-b.ensures.upper_bound) in
+    let b = c.put_decimal-b.ensures in
     let d = c.put_bytes-d.ensures in
-    let e = (c.put_verdict.ensures.puts, c.put_verdict.ensures.upper_bound) in record { puts = puts_then (puts_then (puts_then a b.0) d) e.0; upper_bound = omega (arith, a.next, b.1, d.next, e.1) }
+    let e = c.put_verdict.ensures in record { puts = puts_then (puts_then (puts_then a b.puts) d) e.puts; upper_bound = omega (arith, a.next, b.upper_bound, d.next, e.upper_bound) }

@@ -5,22 +5,6 @@ use Rattle.sizes.specs.Heads.{open_after}
 use borrow.Author.Rules.{rules}
 use Rattle.sizes.proofs.open_after.Goals as goal
 
-pub open-after-spec : {M : Type 1} → statement M
-
-open-after-spec =
-    tie.close
-    (tie.spec
-    sub-result
-    returns
-    add-result
-    returns-2
-    add-result-2
-    returns-3
-    returns-4
-    add-result-3
-    returns-5
-    returns-6)
-
 -- src/lib.rt:174:9
 pub returns-then-k-eq-END : goal.returns-then-k-eq-END
 unfolding open_after

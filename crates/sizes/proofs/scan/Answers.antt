@@ -9,8 +9,6 @@ use Rattle.emitter.proofs.Leave.{all_in}
 use Rattle.sizes.proofs.Leave.{Runs, runs_none, runs-more, runs-end, turn, head-cells, head-words}
 use Rattle.sizes.proofs.scan.Goals as goal
 
-open-after-requires c κs = let P = c.before.before.before.before.requires in omega arith
-
 -- src/lib.rt:245:5
 pub loop-d-init : goal.loop-d-init
 loop-d-init c = (omega arith, omega arith, omega arith, omega arith, runs_none c.args.cells.now c.args.p)

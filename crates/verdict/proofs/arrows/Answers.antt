@@ -29,7 +29,7 @@ pub loop-r-preserved : goal.loop-r-preserved
 loop-r-preserved c =
     let a = c.args in
     let l = c.loop-r in
-    (omega arith, omega (arith, c.put.auto.rows), filling-next a.cells.now a.starts.now a.n (known_in a.k.passed a.facts.now a.k.count) l.r l.looping l.rows c.put.new.rows c.rule-w.result c.loop-r-test.true c.rule-w.ensures c.put.ensures l.invariant.2)
+    (omega arith, omega (arith, c.put.auto.rows), filling-next a.cells.now a.starts.now a.n (known_in a.k.passed a.facts.now a.k.count) c.loop-r.r c.loop-r.looping c.loop-r.rows c.put.new.rows c.rule-w.result c.loop-r-test.true c.rule-w.ensures c.put.ensures c.loop-r.invariant.2)
 
 pub shape_of-rows : goal.shape_of-rows
 shape_of-rows c = omega arith

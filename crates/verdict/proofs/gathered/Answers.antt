@@ -7,6 +7,7 @@ use lib.ListN.{length, length-set}
 use borrow.Author.Rules.{rules}
 use Rattle.verdict.proofs.Growth.{Gathering, gather-start, gather-skip, gather-more, gather-full, gather-done}
 use Rattle.verdict.proofs.gathered.Goals as goal
+use Rattle.verdict.proofs.gathered.Goals.{then-seeks+else-wanted-n, else-seeks}
 
 pub loop-i-init : goal.loop-i-init
 loop-i-init c = (omega arith, refl, gather-start c.args.cells.now c.args.from c.args.facts.now c.args.m c.args.r c.args.wanted.now)
@@ -43,10 +44,10 @@ loop-i-preserved c =
     let a = c.args in
     let l = c.loop-i in
     let e = c.seeks.ensures in
-    ⊎_elim
-    (λ w. (omega arith, omega (arith, ap length w.3 ∙ length-set l.wanted l.n w.2.result), rw (w.3, w.4) (gather-more a.cells.now a.from a.facts.now a.m a.r l.wanted l.n l.i w.2.result (omega arith) w.2.ensures l.invariant.2)))
-    (λ w. (omega arith, omega (arith, ap length w.1), rw (w.1, w.2) (gather-skip a.cells.now a.from a.facts.now a.m a.r l.wanted l.n l.i (sym e ∙ w.0.left) l.invariant.2)))
-    c.if-seeks.branch
+    elim c.if-seeks.branch [
+      then-seeks+else-wanted-n w ↦ (omega arith, omega (arith, ap length w.wanted-is ∙ length-set l.wanted l.n w.cell.result), rw (w.wanted-is, w.n-is) (gather-more a.cells.now a.from a.facts.now a.m a.r l.wanted l.n l.i w.cell.result (omega arith) w.cell.ensures l.invariant.2))
+    | else-seeks w ↦ (omega arith, omega (arith, ap length w.wanted-is), rw (w.wanted-is, w.n-is) (gather-skip a.cells.now a.from a.facts.now a.m a.r l.wanted l.n l.i (sym e ∙ w.if-seeks.false) l.invariant.2))
+    ]
 
 pub shape_of-wanted : goal.shape_of-wanted
 shape_of-wanted c = omega arith

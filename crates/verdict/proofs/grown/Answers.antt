@@ -8,6 +8,7 @@ use borrow.Author.Rules.{rules}
 use Rattle.verdict.specs.Told.{NotesTold}
 use Rattle.verdict.proofs.Growth.{notes-start, notes-off, notes-on}
 use Rattle.verdict.proofs.grown.Goals as goal
+use Rattle.verdict.proofs.grown.Goals.{then-has, else-has}
 
 pub loop-j-init : goal.loop-j-init
 loop-j-init c = (omega arith, refl, notes-start c.args.facts.now c.args.m c.args.r c.args.wanted.now c.args.given c.requires.0)
@@ -30,12 +31,11 @@ loop-j-smaller c = omega arith
 pub loop-j-preserved : goal.loop-j-preserved
 loop-j-preserved c =
     let a = c.args in
-    let l = c.loop-j in
     let e = c.has.ensures in
-    ⊎_elim
-    (λ w. (omega arith, omega (arith, ap length w.6, w.3.kept.0), rw (w.6, w.7) (notes-on a.facts.now a.m a.r a.wanted.now l.j a.given l.facts l.k w.3.last.0 w.3.result (get_or a.wanted.now l.j 0) refl (sym e ∙ w.0.taken) l.invariant.2 w.3.ensures)))
-    (λ w. (omega arith, omega (arith, ap length w.1), rw (w.1, w.2) (notes-off a.facts.now a.m a.r a.wanted.now l.j a.given l.facts l.k (sym e ∙ w.0.left) l.invariant.2)))
-    c.if-has.branch
+    elim c.if-has.branch [
+      then-has w ↦ (omega arith, omega (arith, ap length w.facts-is, w.noted-k.auto.facts), rw (w.facts-is, w.k-is) (notes-on a.facts.now a.m a.r a.wanted.now c.loop-j.j a.given c.loop-j.facts c.loop-j.k w.noted-k.new.facts w.noted-k.result (get_or a.wanted.now c.loop-j.j 0) refl (sym e ∙ w.if-has.true) c.loop-j.invariant.2 w.noted-k.ensures))
+    | else-has w ↦ (omega arith, omega (arith, ap length w.facts-is), rw (w.facts-is, w.k-is) (notes-off a.facts.now a.m a.r a.wanted.now c.loop-j.j a.given c.loop-j.facts c.loop-j.k (sym e ∙ w.if-has.false) c.loop-j.invariant.2))
+    ]
 
 pub shape_of-facts : goal.shape_of-facts
 shape_of-facts c = omega arith

@@ -16,13 +16,13 @@ loop-t-init c = (refl, λ j old x. x)
 pub tried_to_fixpoint-t-requires-in-loop-t : goal.tried_to_fixpoint-t-requires-in-loop-t
 tried_to_fixpoint-t-requires-in-loop-t c =
     let l = c.loop-t in
-    let x = l.invariant.1 c.args.k c.args.facts.now c.tried_to_fixpoint-t.ensures.looks in
+    let x = c.loop-t.invariant.1 c.args.k c.args.facts.now c.tried_to_fixpoint-t.ensures.looks in
     (omega arith, x.inside, x.widens.facts.room, c.requires.1)
 
 pub loop-t-smaller : goal.loop-t-smaller
 loop-t-smaller c =
     let l = c.loop-t in
-    let x = l.invariant.1 c.args.k c.args.facts.now c.tried_to_fixpoint-t.ensures.looks in
+    let x = c.loop-t.invariant.1 c.args.k c.args.facts.now c.tried_to_fixpoint-t.ensures.looks in
     omega (arith, c.tried_to_fixpoint-t-in-loop-t.ensures.further c.loop-t-test.true, x.inside, c.loop-t-test.true)
 
 pub loop-t-preserved : goal.loop-t-preserved
@@ -30,7 +30,7 @@ loop-t-preserved c =
     let a = c.args in
     let l = c.loop-t in
     let u = c.tried_to_fixpoint-t-in-loop-t in
-    (omega (arith, u.auto.1.1.1.1.0), λ j old x. looks-next a.cells.now a.starts.now a.r j old c.ahead-at.result l.t l.facts u.result u.new.1.1.1.1.0 (l.invariant.1 j old x) u.ensures.looks)
+    (omega (arith, c.tried_to_fixpoint-t-in-loop-t.auto.facts), λ j old x. looks-next a.cells.now a.starts.now a.r j old c.ahead-at.result c.loop-t.t c.loop-t.facts c.tried_to_fixpoint-t-in-loop-t.result c.tried_to_fixpoint-t-in-loop-t.new.facts (c.loop-t.invariant.1 j old x) c.tried_to_fixpoint-t-in-loop-t.ensures.looks)
 
 pub shape_of-facts : goal.shape_of-facts
 shape_of-facts c = omega (arith, c.tried_to_fixpoint-t.auto.facts)
@@ -39,4 +39,4 @@ pub returns : goal.returns
 returns c =
     let a = c.args in
     let l = c.loop-t in
-    looks-done a.cells.now a.starts.now a.r a.k a.facts.now c.number.result c.ahead-at.result l.t l.facts (rw c.wide.ensures.0 at c.number.ensures.0) c.ahead-at.ensures.there (omega arith) (l.invariant.1 a.k a.facts.now c.tried_to_fixpoint-t.ensures.looks)
+    looks-done a.cells.now a.starts.now a.r a.k a.facts.now c.number.result c.ahead-at.result c.loop-t.t c.loop-t.facts (rw c.wide.ensures.0 at c.number.ensures.0) c.ahead-at.ensures.there (omega arith) (c.loop-t.invariant.1 a.k a.facts.now c.tried_to_fixpoint-t.ensures.looks)

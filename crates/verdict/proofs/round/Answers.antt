@@ -45,7 +45,7 @@ loop-r-preserved c =
     let a = c.args in
     let l = c.loop-r in
     let k = c.looked_if-t in
-    (omega (arith, l.invariant.0), omega (arith, k.auto.1.1.1.1.0, l.invariant.1), sweep-after a.cells.now a.starts.now a.n a.n a.k a.facts.now l.j l.facts k.result k.new.1.1.1.1.0 l.invariant.2 (k.ensures a.n (omega (arith, l.invariant.0, c.loop-r-test.true))))
+    (omega (arith, c.loop-r.invariant.0), omega (arith, c.looked_if-t.auto.facts, c.loop-r.invariant.1), sweep-after a.cells.now a.starts.now a.n a.n a.k a.facts.now c.loop-r.j c.loop-r.facts c.looked_if-t.result c.looked_if-t.new.facts c.loop-r.invariant.2 (c.looked_if-t.ensures a.n (omega (arith, c.loop-r.invariant.0, c.loop-r-test.true))))
 
 pub shape_of-facts : goal.shape_of-facts
 shape_of-facts c = omega arith

@@ -23,7 +23,7 @@ loop-left-preserved c =
     let a = c.args in
     let l = c.loop-left in
     let k = c.round-t in
-    (omega (arith, k.auto.1.1.1.1.0, l.invariant.0), sweep-after a.cells.now a.starts.now a.n a.n a.k a.facts.now l.j l.facts k.result.known k.new.1.1.1.1.0 l.invariant.1 k.ensures)
+    (omega (arith, c.round-t.auto.facts, c.loop-left.invariant.0), sweep-after a.cells.now a.starts.now a.n a.n a.k a.facts.now c.loop-left.j c.loop-left.facts c.round-t.result.known c.round-t.new.facts c.loop-left.invariant.1 c.round-t.ensures)
 
 pub shape_of-facts : goal.shape_of-facts
 shape_of-facts c = omega arith

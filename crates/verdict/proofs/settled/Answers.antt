@@ -21,7 +21,7 @@ pub loop-more-smaller : goal.loop-more-smaller
 loop-more-smaller c =
     let l = c.loop-more in
     let s = c.swept-j in
-    let h = settle-less s.result l.k l.facts s.new.1.1.1.1.0 (length c.args.facts.now) c.unchanged-more.result s.ensures.widens (omega (arith, s.ensures.widens.facts.room, s.auto.1.1.1.1.0, l.invariant.0)) c.unchanged-more.ensures in
+    let h = settle-less c.swept-j.result c.loop-more.k c.loop-more.facts c.swept-j.new.facts (length c.args.facts.now) c.unchanged-more.result c.swept-j.ensures.widens (omega (arith, c.swept-j.ensures.widens.facts.room, c.swept-j.auto.facts, c.loop-more.invariant.0)) c.unchanged-more.ensures in
     rw c.loop-more-test.true h
 
 pub loop-more-preserved : goal.loop-more-preserved
@@ -29,7 +29,7 @@ loop-more-preserved c =
     let a = c.args in
     let l = c.loop-more in
     let s = c.swept-j in
-    (omega (arith, s.auto.1.1.1.1.0), settle-next a.cells.now a.starts.now a.n l.more c.unchanged-more.result l.k l.facts s.result s.new.1.1.1.1.0 c.unchanged-more.ensures l.invariant.1 s.ensures)
+    (omega (arith, c.swept-j.auto.facts), settle-next a.cells.now a.starts.now a.n c.loop-more.more c.unchanged-more.result c.loop-more.k c.loop-more.facts c.swept-j.result c.swept-j.new.facts c.unchanged-more.ensures c.loop-more.invariant.1 c.swept-j.ensures)
 
 pub shape_of-facts : goal.shape_of-facts
 shape_of-facts c = omega arith

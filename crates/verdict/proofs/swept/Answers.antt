@@ -11,7 +11,7 @@ returns-then-late c =
     let a = c.args in
     let h = c.rounds-m in
     let s = c.sweep in
-    sweep-after a.cells.now a.starts.now a.n 0 a.k a.facts.now h.result h.new.1.1.1.1.0 s.result s.new.1.1.1.1.0 h.ensures s.ensures
+    sweep-after a.cells.now a.starts.now a.n 0 a.k a.facts.now c.rounds-m.result c.rounds-m.new.facts c.sweep.result c.sweep.new.facts c.rounds-m.ensures c.sweep.ensures
 
 pub returns : goal.returns
 returns c = c.sweep-2.ensures

@@ -50,7 +50,7 @@ loop-i-preserved c =
     let l = c.loop-i in
     let p = c.packed in
     let q = c.packed-fact in
-    (omega arith, below_next l.i (λ i. eqb (get_or a.facts.now (2 * i) 0) a.r && eqb (get_or a.facts.now (2 * i + 1) 0) a.v) l.some (eqb p.result q.result) l.invariant.1 (packed-same (get_or a.facts.now (2 * l.i) 0) (get_or a.facts.now (2 * l.i + 1) 0) a.r a.v p.result q.result p.ensures.0 p.ensures.1 q.ensures.0 q.ensures.1))
+    (omega arith, below_next c.loop-i.i (λ i. eqb (get_or a.facts.now (2 * i) 0) a.r && eqb (get_or a.facts.now (2 * i + 1) 0) a.v) c.loop-i.some (eqb c.packed.result c.packed-fact.result) c.loop-i.invariant.1 (packed-same (get_or a.facts.now (2 * c.loop-i.i) 0) (get_or a.facts.now (2 * c.loop-i.i + 1) 0) a.r a.v c.packed.result c.packed-fact.result c.packed.ensures.0 c.packed.ensures.1 c.packed-fact.ensures.0 c.packed-fact.ensures.1))
 
 pub returns : goal.returns
 returns c =

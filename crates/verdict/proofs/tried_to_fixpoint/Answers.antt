@@ -27,8 +27,8 @@ pub loop-had-init : goal.loop-had-init
 loop-had-init c =
     let a = c.args in
     let t = c.tried-t in
-    let x = t.ensures.told _ _ (gather-nothing a.cells.now c.gathered-g.result.next a.facts.now a.k.count a.r _) in
-    (refl, x.looks.widens.facts.room, omega (arith, c.gathered-g.ensures.few, c.gathered-g.auto.wanted), omega arith, look_at _ _ _ _ _ _ _ _ _ t.ensures, omega (arith, c.gathered-g.auto.wanted), λ j old h y. y)
+    let x = c.tried-t.ensures.told _ _ (gather-nothing a.cells.now c.gathered-g.result.next a.facts.now a.k.count a.r _) in
+    (refl, x.looks.widens.facts.room, omega (arith, c.gathered-g.ensures.few, c.gathered-g.auto.wanted), omega arith, look_at _ _ _ _ _ _ _ _ _ c.tried-t.ensures, omega (arith, c.gathered-g.auto.wanted), λ j old h y. y)
 
 pub slice_bounds-without-end : goal.slice_bounds-without-end
 slice_bounds-without-end c = sym c.loop-had.invariant.5
@@ -53,14 +53,14 @@ loop-had-preserved c =
     let a = c.args in
     let l = c.loop-had in
     let t = c.tried-t-in-loop-had in
-    let x = t.ensures.told _ _ (gather-nothing a.cells.now c.gathered-g.result.next l.facts l.t.known.count a.r _) in (
-      omega (arith, t.auto.1.1.1.1.0, l.invariant.0),
+    let x = c.tried-t-in-loop-had.ensures.told _ _ (gather-nothing a.cells.now c.gathered-g.result.next c.loop-had.facts c.loop-had.t.known.count a.r _) in (
+      omega (arith, c.tried-t-in-loop-had.auto.facts, c.loop-had.invariant.0),
       x.looks.widens.facts.room,
-      omega (arith, c.without-n.ensures, l.invariant.2),
-      omega (arith, c.loop-had-test.true, l.invariant.3),
-      look_at _ _ _ _ _ _ _ _ _ t.ensures,
-      omega (arith, c.without-n.auto.wanted, l.invariant.5),
-      λ j old h y. tried-more a.cells.now a.starts.now a.r j old a.from a.to l.t l.facts _ _ t.result t.new.1.1.1.1.0 l.invariant.4 (omega (arith, h, l.invariant.3, c.loop-had-test.true)) (l.invariant.6 j old h y) t.ensures,
+      omega (arith, c.without-n.ensures, c.loop-had.invariant.2),
+      omega (arith, c.loop-had-test.true, c.loop-had.invariant.3),
+      look_at _ _ _ _ _ _ _ _ _ c.tried-t-in-loop-had.ensures,
+      omega (arith, c.without-n.auto.wanted, c.loop-had.invariant.5),
+      λ j old h y. tried-more a.cells.now a.starts.now a.r j old a.from a.to c.loop-had.t c.loop-had.facts _ _ c.tried-t-in-loop-had.result c.tried-t-in-loop-had.new.facts c.loop-had.invariant.4 (omega (arith, h, c.loop-had.invariant.3, c.loop-had-test.true)) (c.loop-had.invariant.6 j old h y) c.tried-t-in-loop-had.ensures,
     )
 
 pub shape_of-facts : goal.shape_of-facts
@@ -71,5 +71,5 @@ returns c =
     let a = c.args in
     let t = c.tried-t in
     let g = c.gathered-g in
-    let x = t.ensures.told a.from a.to (gather-first a.cells.now a.from a.to a.facts.now a.k.count a.r g.new.1.1.1.1.1.1.0 g.result g.ensures) in
+    let x = c.tried-t.ensures.told a.from a.to (gather-first a.cells.now a.from a.to a.facts.now a.k.count a.r c.gathered-g.new.wanted c.gathered-g.result c.gathered-g.ensures) in
     c.loop-had.invariant.6 a.k a.facts.now (c.facts_before-had.ensures (omega (arith, x.looks.widens.facts.more))) x

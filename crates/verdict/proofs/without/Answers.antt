@@ -6,6 +6,7 @@ use native.Mathlib.Omega.{arith}
 use lib.ListN.{length, get_or, length-set}
 use borrow.Author.Rules.{rules}
 use Rattle.verdict.proofs.without.Goals as goal
+use Rattle.verdict.proofs.without.Goals.{then-not-has, else-not-has}
 
 pub loop-j-init : goal.loop-j-init
 loop-j-init c = (refl, omega arith, omega arith)
@@ -30,10 +31,10 @@ loop-j-smaller c = omega arith
 
 pub loop-j-preserved : goal.loop-j-preserved
 loop-j-preserved c =
-    ⊎_elim
-    (λ w. (omega (arith, ap length w.2 ∙ length-set c.loop-j.wanted c.loop-j.k (get_or c.loop-j.wanted c.loop-j.j 0), c.loop-j.invariant.0), omega (arith, w.3, c.loop-j.invariant.1), omega arith))
-    (λ w. (omega (arith, ap length w.1, c.loop-j.invariant.0), omega (arith, w.2, c.loop-j.invariant.1), omega arith))
-    c.if-not-has.branch
+    elim c.if-not-has.branch [
+      then-not-has w ↦ (omega (arith, ap length w.wanted-is ∙ length-set c.loop-j.wanted c.loop-j.k (get_or c.loop-j.wanted c.loop-j.j 0), c.loop-j.invariant.0), omega (arith, w.k-is, c.loop-j.invariant.1), omega arith)
+    | else-not-has w ↦ (omega (arith, ap length w.wanted-is, c.loop-j.invariant.0), omega (arith, w.k-is, c.loop-j.invariant.1), omega arith)
+    ]
 
 pub shape_of-wanted : goal.shape_of-wanted
 shape_of-wanted c = omega arith

@@ -1,0 +1,7 @@
+-- `collector::collect_both` meets its contract.
+use Rattle.collector.proofs.Sections.{both_read}
+use borrow.Author.Rules.{rules}
+use Rattle.collector.proofs.collect_both.Goals as goal
+
+pub returns : goal.returns
+returns c = both_read c.larger-v.ensures c.collect_listed-e.ensures c.larger-input.ensures c.larger-output.ensures

@@ -1,0 +1,7 @@
+-- `collector::collect_entry` meets its contract.
+use Rattle.collector.proofs.Laws.{entry_read}
+use borrow.Author.Rules.{rules}
+use Rattle.collector.proofs.collect_entry.Goals as goal
+
+pub returns : goal.returns
+returns c = entry_read c.requires.4 c.look-w.ensures c.read_spelling-s.ensures c.read_count-n.ensures c.put_row-c.ensures

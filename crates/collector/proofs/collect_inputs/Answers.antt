@@ -1,0 +1,7 @@
+-- `collector::collect_inputs` meets its contract.
+use Rattle.collector.proofs.Sections.{inputs_read}
+use borrow.Author.Rules.{rules}
+use Rattle.collector.proofs.collect_inputs.Goals as goal
+
+pub returns : goal.returns
+returns c = inputs_read c.collect_listed-e.ensures c.larger-input.ensures

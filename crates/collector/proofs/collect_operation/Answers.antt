@@ -1,0 +1,8 @@
+-- `collector::collect_operation` meets its contract.
+use mathlib.Core.Path.{refl}
+use Rattle.collector.proofs.Laws.{operation-read}
+use borrow.Author.Rules.{rules}
+use Rattle.collector.proofs.collect_operation.Goals as goal
+
+pub returns : goal.returns
+returns c = operation-read _ _ refl refl c.read_head-h.ensures c.next_number-value.ensures.1 c.put_row-c.ensures c.with_one-s.ensures

@@ -1,0 +1,7 @@
+-- `collector::collect_operators` meets its contract.
+use Rattle.collector.proofs.Sections.{operators-read}
+use borrow.Author.Rules.{rules}
+use Rattle.collector.proofs.collect_operators.Goals as goal
+
+pub returns : goal.returns
+returns c = operators-read c.look-w.ensures c.look-colon.ensures c.look-first.ensures c.put_row-c.ensures c.behind_semicolon-to.ensures

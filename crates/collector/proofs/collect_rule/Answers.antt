@@ -1,0 +1,7 @@
+-- `collector::collect_rule` meets its contract.
+use Rattle.collector.proofs.Laws.{rule-read}
+use borrow.Author.Rules.{rules}
+use Rattle.collector.proofs.collect_rule.Goals as goal
+
+pub returns : goal.returns
+returns c = rule-read c.look-w.ensures c.read_gives-g.ensures c.put_row-c.ensures c.behind_semicolon-to.ensures

@@ -1,0 +1,15 @@
+-- `collector::collect_rules` meets its contract.
+use native.Mathlib.Omega.{arith}
+use mathlib.Core.Path.{◌≡◌, refl, ◌∙◌}
+use mathlib.Core.List.{List}
+use Prim.Native.Nat.{ℕ, ◌-◌, ◌≤◌}
+use lib.ListN.{length}
+use Rattle.collector.specs.Collecting.{SomeRules}
+use Rattle.collector.proofs.Laws.{rules-from, rules-last, rules_more, rules-stuck}
+use Rattle.collector.proofs.collect_rules.Given as goal
+
+abbrev pub invariant-loop-r : goal.invariant-loop-r
+invariant-loop-r l = (l.at ≤ l.i) × (l.i ≤ length l.text) × (l.n ≤ 512) × (length l.rows ≡ length l.initial.rows) × (l.count ≤ l.n) × ((rows' : List ℕ) (r : ℕ) → SomeRules l.text l.rows rows' l.i l.n (l.n - l.count) r → SomeRules l.text l.initial.rows rows' l.at l.count 0 r)
+
+abbrev pub decreases-loop-r : goal.decreases-loop-r
+decreases-loop-r l = length l.text - l.i

@@ -1,0 +1,13 @@
+-- `maker::look_pair` meets its contract.
+use native.Mathlib.Omega.{arith}
+use mathlib.Core.Path.{◌≡◌}
+use Prim.Native.Nat.{◌-◌, ◌<◌, ◌≤◌}
+use Rattle.maker.specs.Pairs.{pairs_from, pairs_held, look_pair}
+use Rattle.maker.proofs.Holding.{look-first, look_hit, look-on, look-end}
+use Rattle.maker.proofs.look_pair.Given as goal
+
+abbrev pub invariant-loop-j : goal.invariant-loop-j
+invariant-loop-j l = (l.j ≤ l.n) × (l.n < 65536) × (look_pair l.section l.operand (pairs_held l.rows) ≡ look_pair l.section l.operand (pairs_from l.rows l.j (l.n - l.j)))
+
+abbrev pub decreases-loop-j : goal.decreases-loop-j
+decreases-loop-j l = l.n - l.j

@@ -1,0 +1,20 @@
+use Rattle.meter.specs.Store.{numbers_of}
+use Rattle.meter.proofs.Store.{length-numbers}
+use mathlib.Core.Logic.{⊎_elim}
+use Rattle.meter.proofs.Figures.{GreatestUpto, greatest-first, greatest-same, greatest-more, greatest-all}
+use borrow.Author.Rules.{rules}
+use Prim.Native.Nat.{◌-◌}
+use native.Mathlib.Omega.{arith}
+use Rattle.meter.proofs.greatest.Goals as goal
+
+-- src/lib.rt:482:5
+pub loop-i-init : goal.loop-i-init
+loop-i-init c = greatest-first _ _
+
+-- src/lib.rt:482:5
+pub loop-i-preserved : goal.loop-i-preserved
+loop-i-preserved c = ⊎_elim (λ w. greatest-more c.loop-i.invariant c.number-v.ensures (omega (arith, length-numbers c.args.rows.now)) w.0.taken w.1) (λ w. greatest-same c.loop-i.invariant c.number-v.ensures (omega (arith, length-numbers c.args.rows.now)) w.0.left w.1) c.if-most-v.branch
+
+-- src/lib.rt:477:1
+pub returns : goal.returns
+returns c = greatest-all c.loop-i.invariant (omega (arith, length-numbers c.args.rows.now))

@@ -1,0 +1,14 @@
+use Rattle.meter.specs.Store.{numbers_of}
+use Rattle.meter.proofs.Store.{length-numbers}
+use mathlib.Core.Logic.{⊎_elim}
+use Rattle.meter.proofs.Figures.{GreatestUpto, greatest-first, greatest-same, greatest-more, greatest-all}
+use borrow.Author.Rules.{rules}
+use Prim.Native.Nat.{◌-◌}
+use native.Mathlib.Omega.{arith}
+use Rattle.meter.proofs.greatest.Given as goal
+
+abbrev pub invariant-loop-i : goal.invariant-loop-i
+invariant-loop-i l = GreatestUpto (numbers_of l.rows) l.from l.i l.most
+
+abbrev pub decreases-loop-i : goal.decreases-loop-i
+decreases-loop-i l = 4353 - l.i

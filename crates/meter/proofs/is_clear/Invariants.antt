@@ -1,0 +1,15 @@
+-- `meter::is_clear` meets its contract: one number more each time.
+use Prim.Native.Nat.{◌≤◌, ◌-◌}
+use mathlib.Core.Bool.{true}
+use mathlib.Core.Path.{◌≡◌}
+use native.Mathlib.Omega.{arith}
+use borrow.Author.Rules.{rules}
+use Rattle.base.specs.Bools.{never}
+use Rattle.meter.proofs.Store.{ClearUpto, clear_first, clear_next, clear-all}
+use Rattle.meter.proofs.is_clear.Given as goal
+
+abbrev pub invariant-loop-j : goal.invariant-loop-j
+invariant-loop-j l = (l.j ≤ 32) × (l.clear ≡ true → ClearUpto l.rows l.i l.j)
+
+abbrev pub decreases-loop-j : goal.decreases-loop-j
+decreases-loop-j l = 32 - l.j

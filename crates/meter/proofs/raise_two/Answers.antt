@@ -1,0 +1,7 @@
+use Rattle.meter.proofs.Raising.{two}
+use borrow.Author.Rules.{rules}
+use Rattle.meter.proofs.raise_two.Goals as goal
+
+-- src/lib.rt:136:1
+pub returns : goal.returns
+returns c = rw c.either.ensures (two c.raise-a.ensures c.raise-b.ensures)

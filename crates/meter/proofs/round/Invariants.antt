@@ -1,0 +1,17 @@
+-- `meter::round` meets its contract.
+use mathlib.Core.Path.{◌≡◌, ◌∙◌}
+use Prim.Native.Nat.{◌≤◌, ◌-◌}
+use lib.ListN.{length}
+use borrow.Author.Rules.{rules}
+use native.Mathlib.Omega.{arith}
+use Rattle.machine.specs.Bytes.{table_of}
+use Rattle.meter.specs.Steps.{Steps, AskedFrom}
+use Rattle.meter.specs.Store.{numbers_of, called_numbers}
+use Rattle.meter.proofs.Sweeps.{none-asked, then-swept}
+use Rattle.meter.proofs.round.Given as goal
+
+abbrev pub invariant-loop-r : goal.invariant-loop-r
+invariant-loop-r l = (l.r ≤ length l.starts) × (length l.rows ≡ 4490) × Steps (table_of l.table) l.starts (AskedFrom (table_of l.table) l.starts (called_numbers l.called) (length l.starts)) (called_numbers l.called) (numbers_of l.initial.rows) (numbers_of l.rows) l.changed
+
+abbrev pub decreases-loop-r : goal.decreases-loop-r
+decreases-loop-r l = l.r

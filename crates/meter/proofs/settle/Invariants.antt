@@ -1,0 +1,13 @@
+use Rattle.meter.specs.Store.{numbers_of, called_numbers}
+use mathlib.Core.Path.{◌≡◌}
+use lib.ListN.{length}
+use Rattle.meter.proofs.Sweeps.{Settling, todo, settling-first, settling-rounds, settling-next, todo-less, settled}
+use Rattle.machine.specs.Bytes.{table_of}
+use borrow.Author.Rules.{rules}
+use Rattle.meter.proofs.settle.Given as goal
+
+abbrev pub invariant-loop-changed : goal.invariant-loop-changed
+invariant-loop-changed l = (Settling (table_of l.table) l.starts (called_numbers l.called) (numbers_of l.initial.rows) (numbers_of l.rows) l.changed) × (length l.rows ≡ 4490)
+
+abbrev pub decreases-loop-changed : goal.decreases-loop-changed
+decreases-loop-changed l = todo (numbers_of l.rows) l.changed

@@ -1,0 +1,14 @@
+use Rattle.meter.specs.Store.{numbers_of, called_numbers}
+use mathlib.Core.Path.{◌≡◌}
+use lib.ListN.{length}
+use Rattle.meter.proofs.Sweeps.{RulesFrom, rules-first, rules-next, rules-all}
+use Rattle.machine.specs.Bytes.{table_of}
+use borrow.Author.Rules.{rules}
+use native.Mathlib.Omega.{arith}
+use Rattle.meter.proofs.sweep_down.Given as goal
+
+abbrev pub invariant-loop-r : goal.invariant-loop-r
+invariant-loop-r l = (RulesFrom (table_of l.table) l.starts (called_numbers l.called) l.r (numbers_of l.initial.rows) (numbers_of l.rows) l.changed) × (length l.rows ≡ 4490)
+
+abbrev pub decreases-loop-r : goal.decreases-loop-r
+decreases-loop-r l = l.r

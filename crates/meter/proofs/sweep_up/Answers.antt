@@ -1,0 +1,27 @@
+use Rattle.meter.specs.Store.{numbers_of, called_numbers}
+use mathlib.Core.Path.{◌≡◌}
+use lib.ListN.{length}
+use Prim.Native.Nat.{◌-◌}
+use Rattle.meter.proofs.Sweeps.{RulesBefore, before-first, before-next, before-all}
+use Rattle.machine.specs.Bytes.{table_of}
+use borrow.Author.Rules.{rules}
+use native.Mathlib.Omega.{arith}
+use Rattle.meter.proofs.sweep_up.Goals as goal
+
+pub loop-r-init : goal.loop-r-init
+loop-r-init c = (before-first c.requires.0, search rules)
+
+pub sweep_rule-more-requires : goal.sweep_rule-more-requires
+sweep_rule-more-requires c = (c.loop-r.invariant.0.steps.kept, search rules, c.loop-r.invariant.1)
+
+pub overflow_add-r : goal.overflow_add-r
+overflow_add-r c = omega (arith, c.loop-r.invariant.0.upto, c.requires.0.shaped.few)
+
+pub loop-r-smaller : goal.loop-r-smaller
+loop-r-smaller c = omega arith
+
+pub loop-r-preserved : goal.loop-r-preserved
+loop-r-preserved c = (before-next c.loop-r.invariant.0 (search rules) c.sweep_rule-more.ensures c.either-changed.ensures, search rules)
+
+pub returns : goal.returns
+returns c = before-all c.loop-r.invariant.0 (search rules)
