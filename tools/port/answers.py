@@ -261,8 +261,6 @@ def turn(top, names, crate, inside):
                 it.say(f"a form of its own: {n}")
                 continue
             args = e[1].split()
-            if args not in (["c"], ["c", "κs"], ["κs", "c"], ["_"], ["c", "_"]):
-                it.say(f"arguments of {n}: {args}")
             rhs = it.body(place, e[2])
             if re.fullmatch(r"\s*search rules\s*", rhs) and not m[1]:
                 continue
@@ -271,7 +269,7 @@ def turn(top, names, crate, inside):
                 rhs = as_record(rhs, fields)
             if re.search(r"\bκs\b", rhs):
                 it.say(f"κs in {n}")
-            answers.append("\n".join(comments + [f"pub {new} : goal.{new}"] + ([m[1].rstrip()] if m[1] else []) + [f"{new} c ={rhs}"]))
+            answers.append("\n".join(comments + [f"pub {new} : goal.{new}"] + ([m[1].rstrip()] if m[1] else []) + [f"{new} {' '.join(given(args))} ={rhs}"]))
         elif re.search(r":\s*tie\.(invariant|decreases)-", t):
             m = re.search(r"(?s)^(.*?)abbrev ((?:invariant|decreases)-(\S*)) : tie\.\S+\n\S+ ?([^=]*?)=(.*)$", t)
             if not m:
@@ -369,8 +367,6 @@ def turn_cycle(top, names, crate, inside):
                 it.say(f"a form of its own: {n}")
                 continue
             args = m[2].split()
-            if [x for x in args if x != "κs"] not in (["t", "c"], ["_", "c"], ["t", "_"], ["_", "_"]):
-                it.say(f"arguments of {n}: {args}")
             if m[3].strip() == "tt" or m[3].strip() == "search rules" and not m[1]:
                 continue
             rhs = it.body(place, m[3])
@@ -379,7 +375,7 @@ def turn_cycle(top, names, crate, inside):
                 rhs = as_record(rhs, fields)
             if re.search(r"\bκs\b", rhs):
                 it.say(f"κs in {n}")
-            answers.append("\n".join(comments + [f"pub {stem}{new} : goal.{stem}{new}"] + ([m[1].rstrip()] if m[1] else []) + [f"{stem}{new} t c ={rhs}"]))
+            answers.append("\n".join(comments + [f"pub {stem}{new} : goal.{stem}{new}"] + ([m[1].rstrip()] if m[1] else []) + [f"{stem}{new} {' '.join(given(args))} ={rhs}"]))
             continue
         m = re.search(r"(?ms)^abbrev (\S+) : (\S+)-lts\.(invariant|decreases)-(\S+)\s*\n\1 ?([^=]*?)=(.*)$", code)
         if m and norm(m[2]) in its:
@@ -523,6 +519,11 @@ def with_other_binder(body, name):
             end += 1
         inner = body[m.start() : end - (depth < 0)]
         body = body[: m.start()] + re.sub(rf"(?<![\w'.₀-₉-]){re.escape(name)}(?![\w'₀-₉-])", name + "'", inner) + body[end - (depth < 0) :]
+
+
+def given(args):
+    """The arguments of an answer: without the lifetimes."""
+    return [it for it in args if it != "κs"] or ["c"]
 
 
 def loop_text(it, m, loop, changed, stem=""):

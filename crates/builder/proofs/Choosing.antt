@@ -152,6 +152,7 @@ alts-other {text} {rows} {n} {at} {inside} {class} {labels} {miss} {seen} {used}
         (λ y f. (refl, (e₁ ∙ ap (λ t. one || t) f.0, e₂ ∙ ap (λ t. some || t) f.1))))
     go p names rs g (alternative ls b nil) absent room ws (last_in d _ _ _ _) _ old _ = absurd (labels-begin h d k)
     go p names rs g (alternative ls b q) x room ws (next_in d _ _ _ _ _) _ old _ = absurd (labels-begin h d k)
+    go p names rs g nil absent room ws x8 _ old _ = elim x8 [ ]
 
 pub alts-fail : {text rows : List ℕ} {n at : ℕ} {inside : Bool} {class labels miss : ℕ} {seen : List ℕ} {used : ℕ} {seen' : List ℕ} {one some : Bool} {cs : List ℕ} {c : ℕ} {cs' : List ℕ} {l : Labelled} {w : WordAt}
     → Next text at w → (w.kind ≡ 42 → ⊥) → LabelledDone text rows n at inside class labels seen used seen' cs c cs' l → (l.built.done.fault ≡ 0 → ⊥)
@@ -173,6 +174,7 @@ alts-fail {text} {rows} {n} {at} {inside} {class} {labels} {miss} {seen} {used} 
         subst (λ y. Ends (PairsAre text rows n p names) text ws cs c cs' (choices_cells miss) (Marks l.built one some) l.built.done y) (alternative-order p names rs ls b q x (place_of (held text rows n) inside class) (knowns_in labels (held text rows n)) old)
         (ends-fails (labelled_of p names rs ls b (place_of (held text rows n) inside class) (knowns_in labels (held text rows n)) old) _
         (L.done p names rs g ls b colon ws₁ ws₂ ws₃ d (omega (arith, i, fits)) t e old m) z)
+    go p names rs g nil absent room ws x8 fits old m = elim x8 [ ]
 
 pub alts-last : {text rows : List ℕ} {n at : ℕ} {inside : Bool} {class labels miss : ℕ} {seen : List ℕ} {used : ℕ} {seen' : List ℕ} {one some : Bool} {cs : List ℕ} {c : ℕ} {cs₁ cs' : List ℕ} {l : Labelled}
     {r : Built} {w v : WordAt}
@@ -214,6 +216,7 @@ alts-last {text} {rows} {n} {at} {inside} {class} {labels} {miss} {seen} {used} 
         ends-here (labelled_of p names rs ls b (place_of (held text rows n) inside class) (knowns_in labels (held text rows n)) old)
         (L.done p names rs g ls b colon ws₁ ws₂ ws₃ d (omega (arith, i, fits)) t e old m) z in
         absurd (k₂ (took-kind text l.built.done.at 124 v bar ws₄ h₂ (subst (λ l. Took 124 l bar ws₄) here u)))
+    go p names rs g nil absent room ws x8 fits old m = elim x8 [ ]
 
 pub alts-next : {text rows : List ℕ} {n at : ℕ} {inside : Bool} {class labels miss : ℕ} {seen : List ℕ} {used : ℕ} {seen' : List ℕ} {one some one' some' : Bool} {cs : List ℕ} {c : ℕ} {cs₁ cs' : List ℕ} {l : Labelled}
     {r : Built} {w v : WordAt}
@@ -263,3 +266,4 @@ alts-next {text} {rows} {n} {at} {inside} {class} {labels} {miss} {seen} {used} 
           ),
         ))
         )
+    go p names rs g nil absent room ws x8 fits old m = elim x8 [ ]

@@ -118,6 +118,7 @@ row-fail {text} {rows} {n} {first} {k} {at} {cs} {c} {cs₁} {starts} {sorts} {x
     go p names rs A seen (y ∷ rest) ws s (more_rules {ws₁ = ws₁} d _ _) _ =
         subst (λ m. RowEnd (PairsAre text rows n p names) k cs c cs₁ starts sorts starts sorts r (◌>>=◌ m (λ a. ◌>>=◌ (rules_mean p names rs (y.rule.text ∷ seen) rest) (λ as'. good (a ∷ as')))))
         (one-rule text rows n first k p names rs seen y rest A s) (row-fails (rule_by p names rs (held text rows n) first k y) _ (R.done p names rs A y ws₁ d) z e₁ e₂ e₃)
+    go p names rs A seen [] ws s x4 _ = elim x4 [ ]
 
 pub row_last : {text rows : List ℕ} {n first k at : ℕ} {cs : List ℕ} {c : ℕ} {cs₁ starts sorts starts' sorts' : List ℕ} {x : Ruled} {r : Rules} {w : WordAt}
     → length cs ≤ 60000 → k < length starts → k < length sorts
@@ -140,6 +141,7 @@ row_last {text} {rows} {n} {first} {k} {at} {cs} {c} {cs₁} {starts} {sorts} {s
     go p names rs A seen (y ∷ rest) ws s (more_rules {ws₁ = ws₁} d v _) _ =
         let here : ws₁ ≡ words_at text x.done.at = ends-here (rule_by p names rs (held text rows n) first k y) (R.done p names rs A y ws₁ d) z in
         absurd (kind (sym (kind-here text x.done.at w N) ∙ ap (λ l. (peek l).kind) (sym here) ∙ v))
+    go p names rs A seen [] ws s x4 _ = elim x4 [ ]
 
 some_rule : {ws ws' : List Word} {rs : List written.Rule} → RulesIn ws ws' rs → 0 < length rs
 some_rule (last_rule _ _) = omega arith
@@ -157,6 +159,7 @@ row-over {text} {rows} {n} {first} {k} {at} {cs} {c} {cs₁} {cs'} {starts} {sor
         let here : ws ≡ words_at text x.done.at = ends-here (rule_by p names rs (held text rows n) first k y) (R.done p names rs A y ws d) z in
         absurd (t (ap (λ l. (peek l).kind) here ∙ kind-here text x.done.at w N ∙ kind))
     go p names rs A seen (y ∷ rest) ws s (more_rules d _ more) h = absurd (omega (arith, e, h, some_rule more))
+    go p names rs A seen [] ws s x4 h = elim x4 [ ]
 
 pub row_next : {text rows : List ℕ} {n first k at : ℕ} {cs : List ℕ} {c : ℕ} {cs₁ cs' starts sorts starts₁ sorts₁ starts' sorts' : List ℕ} {x : Ruled} {r : Rules} {w : WordAt}
     → n ≤ 512 → length cs ≤ 60000 → k < length starts → k < length sorts
@@ -182,6 +185,7 @@ row_next {text} {rows} {n} {first} {k} {at} {cs} {c} {cs₁} {cs'} {starts} {sor
         (subst (λ b. RowEnd (PairsAre text rows n p names) (k + 1) cs₁ x.done.count cs' starts₁ b starts' sorts' r (rules_mean p names rs (y.rule.text ∷ seen) rest)) q₂
         (M.done p names rs A (y.rule.text ∷ seen) rest ws (sofar-more (held text rows n) first k seen y rest (held-short text rows n few) s)
         (subst (λ l. RulesIn l ws rest) here more) (omega (arith, h))))))
+    go p names rs A seen [] ws s x4 h = elim x4 [ ]
 
 -- The whole
 

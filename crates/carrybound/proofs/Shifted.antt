@@ -171,15 +171,24 @@ module _ (prog : List Rule) (T W : List ℕ) (start mk : ℕ → ℕ) (base : �
   near : (b o n : ℕ) → b + o + n ≡ b + (o + n)
   near b o n = omega arith
 
+  down-jump : {o y m : ℕ} → Spot y → Leads T (base + o) (jump (base + y)) m → Down o (jump y) m
+  down-jump {o} {y} s leads_jump = record { to = y; is = refl; way = leads_jump; spot = s }
+
+  down-token : {o c m : ℕ} → ((v : Option ℕ) → Spot (way_out W c v)) → ((v : Option ℕ) → way_out T (base + c) v ≡ base + way_out W c v) → Leads T (base + o) (input_choice (base + c)) m → Down o (input_choice c) m
+  down-token {o} {c} s e (leads_token v) = record { to = way_out W c v; is = e v; way = leads_token v; spot = s v }
+
+  down-choice : {o c m : ℕ} → ((v : Option ℕ) → Spot (way_out W c v)) → ((v : Option ℕ) → way_out T (base + c) v ≡ base + way_out W c v) → Leads T (base + o) (by_result (base + c)) m → Down o (by_result c) m
+  down-choice {o} {c} s e (leads_choice v) = record { to = way_out W c v; is = e v; way = leads_choice v; spot = s v }
+
   down_step : {o m : ℕ} {i j : Instruction} → Alike o i j → Leads T (base + o) j m → Down o i m
-  down_step {o} (a-jump {y = y} s) leads_jump = record { to = y; is = refl; way = leads_jump; spot = s }
+  down_step (a-jump s) w = down-jump s w
   down_step {o} (a-input s) leads_input = record { to = o + 2; is = near base o 2; way = leads_input; spot = s }
   down_step {o} (a-any s) leads_any = record { to = o + 1; is = near base o 1; way = leads_any; spot = s }
   down_step {o} (a_write s) leads_write = record { to = o + 2; is = near base o 2; way = leads_write; spot = s }
-  down_step {o} (a-token {c = c} s e) (leads_token v) = record { to = way_out W c v; is = e v; way = leads_token v; spot = s v }
+  down_step (a-token s e) w = down-token s e w
   down_step {o} (a_call s) leads_call = record { to = o + 2; is = near base o 2; way = leads_call; spot = s }
   down_step {o} (a-result s) leads_result = record { to = o + 2; is = near base o 2; way = leads_result; spot = s }
-  down_step {o} (a-choice {c = c} s e) (leads_choice v) = record { to = way_out W c v; is = e v; way = leads_choice v; spot = s v }
+  down_step (a-choice s e) w = down-choice s e w
   down_step {o} (a-parameter s) leads_parameter = record { to = o + 2; is = near base o 2; way = leads_parameter; spot = s }
   down_step {o} (a-update s) leads_update = record { to = o + 1; is = near base o 1; way = leads_update; spot = s }
   down_step {o} (a-update_with s) leads_update_with = record { to = o + 1; is = near base o 1; way = leads_update_with; spot = s }
@@ -194,15 +203,24 @@ module _ (prog : List Rule) (T W : List ℕ) (start mk : ℕ → ℕ) (base : �
   up_to : {o l : ℕ} {j : Instruction} (m : ℕ) → l ≡ base + m → Leads T (base + o) j l → Spot m → Up o j m
   up_to {o} {j = j} m e h s = record { way = subst (λ (k : ℕ). Leads T (base + o) j k) e h; spot = s }
 
+  up-jump : {o y m : ℕ} → Spot y → Leads W o (jump y) m → Up o (jump (base + y)) m
+  up-jump {y = y} s leads_jump = up_to y refl leads_jump s
+
+  up-token : {o c m : ℕ} → ((v : Option ℕ) → Spot (way_out W c v)) → ((v : Option ℕ) → way_out T (base + c) v ≡ base + way_out W c v) → Leads W o (input_choice c) m → Up o (input_choice (base + c)) m
+  up-token {c = c} s e (leads_token v) = up_to (way_out W c v) (e v) (leads_token v) (s v)
+
+  up-choice : {o c m : ℕ} → ((v : Option ℕ) → Spot (way_out W c v)) → ((v : Option ℕ) → way_out T (base + c) v ≡ base + way_out W c v) → Leads W o (by_result c) m → Up o (by_result (base + c)) m
+  up-choice {c = c} s e (leads_choice v) = up_to (way_out W c v) (e v) (leads_choice v) (s v)
+
   up_step : {o m : ℕ} {i j : Instruction} → Alike o i j → Leads W o i m → Up o j m
-  up_step {o} (a-jump {y = y} s) leads_jump = up_to y refl leads_jump s
+  up_step (a-jump s) w = up-jump s w
   up_step {o} (a-input s) leads_input = up_to (o + 2) (near base o 2) leads_input s
   up_step {o} (a-any s) leads_any = up_to (o + 1) (near base o 1) leads_any s
   up_step {o} (a_write s) leads_write = up_to (o + 2) (near base o 2) leads_write s
-  up_step {o} (a-token {c = c} s e) (leads_token v) = up_to (way_out W c v) (e v) (leads_token v) (s v)
+  up_step (a-token s e) w = up-token s e w
   up_step {o} (a_call s) leads_call = up_to (o + 2) (near base o 2) leads_call s
   up_step {o} (a-result s) leads_result = up_to (o + 2) (near base o 2) leads_result s
-  up_step {o} (a-choice {c = c} s e) (leads_choice v) = up_to (way_out W c v) (e v) (leads_choice v) (s v)
+  up_step (a-choice s e) w = up-choice s e w
   up_step {o} (a-parameter s) leads_parameter = up_to (o + 2) (near base o 2) leads_parameter s
   up_step {o} (a-update s) leads_update = up_to (o + 1) (near base o 1) leads_update s
   up_step {o} (a-update_with s) leads_update_with = up_to (o + 1) (near base o 1) leads_update_with s

@@ -48,13 +48,16 @@ values-past {T} {S} {called} {c} {k} {q} {to} {p} {n} {rows} {after} {b} u h l z
   steps = record { kept = u.steps.kept; grows = u.steps.grows; same = u.steps.same; less = u.steps.less; all = λ e {i} {v} m d. one e m d };
 }
   where
-    one : b ≡ false → {i v : ℕ} → Values T S called c k q n rows i v → i < half → min v cap ≤ row_of rows i
-    one e (values {p = o} y x (value_at d f)) w = elim (dec_lt o p) [
+    at-value : b ≡ false → {o i v : ℕ} → InRule T S q o → o < n → ValueAt T called c k o rows i v → i < half → min v cap ≤ row_of rows i
+    at-value e {o} y x (value_at d f) w = elim (dec_lt o p) [
       | yes g ↦ u.steps.all e (values y g (value_at d f)) w
       | no g ↦
           let r : called_of called rows o ≡ 0 = rw (u.steps.same e) at (z.zero o (omega arith) x) in
           absurd (omega (arith, f, r))
     ]
+
+    one : b ≡ false → {i v : ℕ} → Values T S called c k q n rows i v → i < half → min v cap ≤ row_of rows i
+    one e (values y x a) w = at-value e y x a w
 
 pub values-all : {T S called : List ℕ} {c k q to p : ℕ} {rows after : List ℕ} {b : Bool} → ValuesUpto T S called c k q to p rows after b → to ≤ p → Steps T S (Values T S called c k q (end_of (length T) S q)) called rows after b
 values-all {T} {S} {called} {c} {k} {q} {to} {p} {rows} {after} {b} u h =

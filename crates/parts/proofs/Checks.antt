@@ -221,11 +221,11 @@ seen-not prev before i (opened-cons {r = r} {o = o} {os = os} x g) h u =
     let y : is_named o.name.text before ≡ false = sym (h o.name.text) ∙ ap (λ (v : Word). is_one v.text prev) x.name ∙ u.0 in
     none_or (found_if (is_named o.name.text before) i o.name) (twice before i os) (off-found (is_named o.name.text before) i o.name y) (seen-not prev before i g h u.1)
 
-apart_from : (prev : List (List ℕ)) (before : List OpenRule) (i : ℕ) {c : Common} {n : Names} {rss : List (List written.Rule)} {objects : List Object} → Translates c n rss objects → Same prev before
+apart_from : {c : Common} {n : Names} (prev : List (List ℕ)) (before : List OpenRule) (i : ℕ) {rss : List (List written.Rule)} {objects : List Object} → Translates c n rss objects → Same prev before
     → twice_in before i objects ≡ none → Apart prev rss
 unfolding twice_in Apart
 apart_from prev before i no_more h e = tt
-apart_from prev before i {c} {n} (translates {rs = rs} {os = os} {objects = objects} d t) h e =
+apart_from {c} {n} prev before i (translates {rs = rs} {os = os} {objects = objects} d t) h e =
     let x = or-none (twice before i os) (twice_in (before ++ os) (suc i) objects) e in
     let g = all-opened (together c rs) n (open_rules c.listed rs) [] rs os d in
     (unseen prev before i g h x.0, apart_from (seen_after prev rs) (before ++ os) (suc i) t (λ w. same_after prev before g h w) x.1)
@@ -233,11 +233,11 @@ apart_from prev before i {c} {n} (translates {rs = rs} {os = os} {objects = obje
 pub apart : {c : Common} {n : Names} {rss : List (List written.Rule)} {objects : List Object} → Translates c n rss objects → twice_in [] 1 objects ≡ none → Apart [] rss
 apart t e = apart_from [] [] 1 t (λ w. unfold is_one is_named in refl) e
 
-apart-back : (prev : List (List ℕ)) (before : List OpenRule) (i : ℕ) {c : Common} {n : Names} {rss : List (List written.Rule)} {objects : List Object} → Translates c n rss objects → Same prev before
+apart-back : {c : Common} {n : Names} (prev : List (List ℕ)) (before : List OpenRule) (i : ℕ) {rss : List (List written.Rule)} {objects : List Object} → Translates c n rss objects → Same prev before
     → Apart prev rss → twice_in before i objects ≡ none
 unfolding twice_in Apart
 apart-back prev before i no_more h a = refl
-apart-back prev before i {c} {n} (translates {rs = rs} {os = os} {objects = objects} d t) h a =
+apart-back {c} {n} prev before i (translates {rs = rs} {os = os} {objects = objects} d t) h a =
     let g = all-opened (together c rs) n (open_rules c.listed rs) [] rs os d in
     none_or (twice before i os) (twice_in (before ++ os) (suc i) objects) (seen-not prev before i g h a.0) (apart-back (seen_after prev rs) (before ++ os) (suc i) t (λ w. same_after prev before g h w) a.1)
 

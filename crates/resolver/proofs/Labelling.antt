@@ -191,6 +191,7 @@ module _ {text rows : List ℕ} {n at class used : ℕ} {seen : List ℕ} {l : L
           → LabelsEnd text ws seen used seen r (labels_of p names rs ls (knowns_in class (held text rows n)) old)
       go p names rs ag (w ∷ []) ws (last_label t y) q old same = first p names rs ag w [] ws ws t (omega arith) old same
       go p names rs ag (w ∷ ls) ws (more_labels {ws₁ = ws₁} t c u) q old same = first p names rs ag w ls ws ws₁ t (omega arith) old same
+      go p names rs ag [] ws x3 q old same = elim x3 [ ]
 
   module _ (z : l.fault ≡ 0) (k : WordAt) (h : Next text l.at k) where
     pub labels-last : (k.kind ≡ 44 → ⊥) → r.fault ≡ 0 → r.at ≡ l.at → r.used ≡ used + 1 → LabelsDone text rows n at class seen used (set seen used l.value) r
@@ -218,6 +219,7 @@ module _ {text rows : List ℕ} {n at class used : ℕ} {seen : List ℕ} {l : L
             let e : LabelEnds text ws₁ l (label_of (held text rows n) class (take used seen) w) = d.done (d.room z) w ws₁ t in
             let c' : Took 44 (words_at text l.at) comma ws₂ = rw (label-words e z) at c in
             absurd (y (took-kind text l.at 44 k comma ws₂ h c'))
+        go p names rs ag [] ws x3 q old same = elim x3 [ ]
 
     pub labels-more : {seen' : List ℕ} → k.kind ≡ 44 → LabelsDone text rows n k.next class (set seen used l.value) (used + 1) seen' r → LabelsDone text rows n at class seen used seen' r
     labels-more {seen'} y g = record {
@@ -243,3 +245,4 @@ module _ {text rows : List ℕ} {n at class used : ℕ} {seen : List ℕ} {l : L
             labels-by (labels-first ag class w ls old (take used seen) same ∙ after-good (others p names rs ls (knowns_in class (held text rows n)) old) l.value (label-good e z))
             (labels-extend l.value (d.room z) (g.done p names rs ag ls ws u' (omega (arith, length-set seen used l.value)) (l.value ∷ old)
             (λ v. member-more v l.value old seen used (d.room z) (same v))))
+        go p names rs ag [] ws x3 q old same = elim x3 [ ]

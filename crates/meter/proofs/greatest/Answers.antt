@@ -1,11 +1,11 @@
 use Rattle.meter.specs.Store.{numbers_of}
 use Rattle.meter.proofs.Store.{length-numbers}
-use mathlib.Core.Logic.{⊎_elim}
 use Rattle.meter.proofs.Figures.{GreatestUpto, greatest-first, greatest-same, greatest-more, greatest-all}
 use borrow.Author.Rules.{rules}
 use Prim.Native.Nat.{◌-◌}
 use native.Mathlib.Omega.{arith}
 use Rattle.meter.proofs.greatest.Goals as goal
+use Rattle.meter.proofs.greatest.Goals.{then-most-v, else-most-v}
 
 -- src/lib.rt:482:5
 pub loop-i-init : goal.loop-i-init
@@ -13,7 +13,10 @@ loop-i-init c = greatest-first _ _
 
 -- src/lib.rt:482:5
 pub loop-i-preserved : goal.loop-i-preserved
-loop-i-preserved c = ⊎_elim (λ w. greatest-more c.loop-i.invariant c.number-v.ensures (omega (arith, length-numbers c.args.rows.now)) w.0.taken w.1) (λ w. greatest-same c.loop-i.invariant c.number-v.ensures (omega (arith, length-numbers c.args.rows.now)) w.0.left w.1) c.if-most-v.branch
+loop-i-preserved c = elim c.if-most-v.branch [
+  | then-most-v w ↦ greatest-more c.loop-i.invariant c.number-v.ensures (omega (arith, length-numbers c.args.rows.now)) w.if-most-v.true w.most-is
+  | else-most-v w ↦ greatest-same c.loop-i.invariant c.number-v.ensures (omega (arith, length-numbers c.args.rows.now)) w.if-most-v.false w.most-is
+]
 
 -- src/lib.rt:477:1
 pub returns : goal.returns

@@ -1,0 +1,16 @@
+-- `builder::put_labels` meets its contract.
+use mathlib.Core.Path.{◌≡◌, refl, ◌∙◌}
+use Prim.Native.Nat.{ℕ, ◌+◌, ◌-◌, ◌≤◌}
+use native.Mathlib.Omega.{arith}
+use lib.ListN.{length, take, drop}
+use borrow.Author.Rules.{rules}
+use Rattle.resolver.proofs.Appending.{appends-length}
+use Rattle.builder.proofs.Labelling.{labels-all, labels-none, labels-stored}
+use Rattle.resolver.specs.Resolved.{Appends}
+use Rattle.builder.proofs.put_labels.Given as goal
+
+abbrev pub invariant-loop-i : goal.invariant-loop-i
+invariant-loop-i l = (l.from ≤ l.i) × (l.i ≤ l.to) × (length l.cells ≡ length l.initial.cells) × Appends l.initial.cells l.initial.c (take (l.i - l.from) (drop l.from l.seen)) l.cells l.c
+
+abbrev pub decreases-loop-i : goal.decreases-loop-i
+decreases-loop-i l = l.to - l.i

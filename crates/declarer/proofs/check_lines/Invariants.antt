@@ -1,0 +1,13 @@
+-- `declarer::check_lines` meets its contract.
+use mathlib.Core.Path.{◌≡◌, refl, ◌∙◌}
+use Prim.Native.Nat.{◌-◌, ◌≤◌}
+use native.Mathlib.Omega.{arith}
+use Rattle.symbols.specs.Rows.{held}
+use Rattle.declarer.proofs.FaultLaws.{lines_from, moved, lines-go, lines-stop, lines_end}
+use Rattle.declarer.proofs.check_lines.Given as goal
+
+abbrev pub invariant-loop-i : goal.invariant-loop-i
+invariant-loop-i l = (l.i ≤ l.to) × (lines_from l.text l.rows (held l.text l.rows l.n) l.to l.first ≡ lines_from l.text l.rows (held l.text l.rows l.n) l.to l.i)
+
+abbrev pub decreases-loop-i : goal.decreases-loop-i
+decreases-loop-i l = l.to - l.i

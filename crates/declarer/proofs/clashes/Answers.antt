@@ -1,0 +1,8 @@
+-- `declarer::clashes` meets its contract.
+use borrow.Author.Rules.{rules}
+use Rattle.declarations.specs.Decls.{clashes_in}
+use Rattle.declarer.proofs.clashes.Goals as goal
+
+pub returns : goal.returns
+unfolding clashes_in
+returns c = c.name_taken.ensures

@@ -1,0 +1,23 @@
+-- `declarer::entries_fault` meets its contract.
+use borrow.Author.Rules.{rules}
+use mathlib.Core.List.{List}
+use mathlib.Core.Path.{◌≡◌, refl, ◌∙◌}
+use Prim.Native.Nat.{◌-◌, ◌≤◌}
+use native.Mathlib.Omega.{arith}
+use lib.ListN.{length, take}
+use Rattle.declarer.specs.Operators.{Passed, AllMarked}
+use Rattle.grammar.specs.Derived.{OperatorsIn}
+use Rattle.symbols.specs.Rows.{held}
+use Rattle.syntax.specs.Written.{Operator}
+use Rattle.words.specs.Words.{Word, words_at}
+use Rattle.declarer.proofs.MarkLaws.{marked-none}
+use Rattle.declarer.proofs.OperatorLaws.{apart-entry, passed_start, passed-moves, passed-stops, passed-ends, passed-goes, passed-marks}
+use Rattle.declarer.proofs.entries_fault.Given as goal
+
+abbrev pub invariant-loop-marks : goal.invariant-loop-marks
+invariant-loop-marks l =
+    (l.count ≤ l.i) × (l.i ≤ length l.text) × ((es : List Operator) (ws' : List Word) → OperatorsIn (words_at l.text l.at) ws' es → Passed (held l.text l.rows l.n) l.text l.i l.count ws' es)
+    × ((es : List Operator) (ws' : List Word) → OperatorsIn (words_at l.text l.at) ws' es → AllMarked (held l.text l.rows l.n) l.rows l.n l.marks (take l.count es)) × (length l.marks ≡ 545)
+
+abbrev pub decreases-loop-marks : goal.decreases-loop-marks
+decreases-loop-marks l = length l.text - l.i

@@ -1,0 +1,16 @@
+-- `declarer::line_fault` meets its contract.
+use Rattle.symbols.proofs.Indexing.{kept_less}
+use borrow.Author.Rules.{rules}
+use Rattle.symbols.specs.Rows.{held, decl_at}
+use Rattle.declarer.proofs.FaultLaws.{line-go, line-stop}
+use Rattle.declarer.proofs.line_fault.Goals as goal
+
+-- `declarer::line_fault` meets its contract.
+pub line_again-requires : goal.line_again-requires
+line_again-requires c = kept_less c.requires.1 c.requires.0
+
+pub returns-then-f-ne0 : goal.returns-then-f-ne0
+returns-then-f-ne0 c = line-stop (held c.args.text.now c.args.rows.now c.args.n) (held c.args.text.now c.args.rows.now c.args.i) (decl_at c.args.text.now c.args.rows.now c.args.i) (rw c.line_again.ensures at c.fault_if-f.ensures) c.if-f-ne0.true
+
+pub returns : goal.returns
+returns c = line-go (held c.args.text.now c.args.rows.now c.args.n) (held c.args.text.now c.args.rows.now c.args.i) (decl_at c.args.text.now c.args.rows.now c.args.i) (rw c.line_again.ensures at c.fault_if-f.ensures) c.if-f-ne0.false c.given_fault.ensures

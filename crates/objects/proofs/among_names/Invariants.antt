@@ -1,0 +1,20 @@
+-- `objects::among_names` meets its contract: the names passed are others.
+use native.Mathlib.Omega.{arith}
+use mathlib.Core.List.{List}
+use mathlib.Core.Path.{◌≡◌, refl, sym, ◌∙◌}
+use Prim.Native.Nat.{ℕ, ◌+◌, ◌-◌, ◌≤◌}
+use lib.ListN.{length, drop}
+use borrow.Author.Rules.{rules}
+use Rattle.machine.specs.Bytes.{words_of}
+use Rattle.objects.proofs.Among.{Seeking, seeking, none_left, leads-by, found_first, not_first}
+use Rattle.objects.specs.Places.{NameAt}
+use Rattle.objects.specs.Take.{took, times}
+use Rattle.objects.specs.View.{Name, a_name}
+use Rattle.objects.proofs.among_names.Given as goal
+
+abbrev pub invariant-loop-i : goal.invariant-loop-i
+invariant-loop-i l = (l.i ≤ l.n) × (l.q ≤ length (words_of l.objects))
+    × ((ns : List Name) (m : Name) (rest : List ℕ) → times l.n a_name (drop l.at (words_of l.objects)) ≡ took ns rest → NameAt (words_of l.objects) l.p m → Seeking (words_of l.objects) ns rest m (l.n - l.i) l.q)
+
+abbrev pub decreases-loop-i : goal.decreases-loop-i
+decreases-loop-i l = l.n - l.i

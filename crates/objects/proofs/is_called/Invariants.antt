@@ -1,0 +1,20 @@
+-- `objects::is_called` meets its contract: the rules passed call others.
+use native.Mathlib.Omega.{arith}
+use mathlib.Core.List.{List}
+use mathlib.Core.Path.{◌≡◌, refl, sym, ◌∙◌}
+use Prim.Native.Nat.{ℕ, ◌+◌, ◌-◌, ◌≤◌}
+use lib.ListN.{length, drop}
+use borrow.Author.Rules.{rules}
+use Rattle.machine.specs.Bytes.{words_of}
+use Rattle.objects.proofs.Called.{SeekingRules, seeking-rules, no-rule-left, rules-by, found-rule, not-rule}
+use Rattle.objects.specs.Places.{NameAt}
+use Rattle.objects.specs.Take.{took, times}
+use Rattle.objects.specs.View.{Name, RuleView, a_rule}
+use Rattle.objects.proofs.is_called.Given as goal
+
+abbrev pub invariant-loop-i : goal.invariant-loop-i
+invariant-loop-i l = (l.i ≤ l.n) × (l.q ≤ length (words_of l.objects))
+    × ((vs : List RuleView) (m : Name) (rest : List ℕ) → times l.n a_rule (drop l.at (words_of l.objects)) ≡ took vs rest → NameAt (words_of l.objects) l.p m → SeekingRules (words_of l.objects) vs rest m (l.n - l.i) l.q)
+
+abbrev pub decreases-loop-i : goal.decreases-loop-i
+decreases-loop-i l = l.n - l.i

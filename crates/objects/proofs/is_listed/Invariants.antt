@@ -1,0 +1,20 @@
+-- `objects::is_listed` meets its contract: the lines passed have another name, so that those left decide.
+use native.Mathlib.Omega.{arith}
+use mathlib.Core.List.{List, []}
+use mathlib.Core.Path.{◌≡◌, refl, sym, ◌∙◌}
+use Prim.Native.Nat.{◌-◌, ◌/◌, ◌≤◌}
+use lib.ListN.{length, drop}
+use borrow.Author.Rules.{rules}
+use Rattle.machine.specs.Bytes.{words_of}
+use Rattle.syntax.specs.Texts.{Head}
+use Rattle.objects.proofs.Looked.{listed-none, listed_found, listed-later, line-is}
+use Rattle.objects.specs.Order.{is_listed}
+use Rattle.objects.specs.Places.{NameAt, HeadsAt}
+use Rattle.objects.specs.View.{Name}
+use Rattle.objects.proofs.is_listed.Given as goal
+
+abbrev pub invariant-loop-i : goal.invariant-loop-i
+invariant-loop-i l = (l.i ≤ length l.heads / 4) × ((hs : List Head) (n : Name) → HeadsAt l.common l.heads hs → NameAt (words_of l.objects) l.p n → is_listed hs n ≡ is_listed (drop l.i hs) n)
+
+abbrev pub decreases-loop-i : goal.decreases-loop-i
+decreases-loop-i l = length l.heads / 4 - l.i

@@ -1,0 +1,15 @@
+-- `objects::past_names` meets its contract: a name at a turn; what ends behind those left ends behind all.
+use native.Mathlib.Omega.{arith}
+use Prim.Native.Nat.{◌-◌, ◌≤◌}
+use lib.ListN.{length}
+use borrow.Author.Rules.{rules}
+use Rattle.machine.specs.Bytes.{words_of}
+use Rattle.objects.proofs.Ends.{Left, left-all, left-more, left-off, left-none}
+use Rattle.objects.specs.View.{a_name}
+use Rattle.objects.proofs.past_names.Given as goal
+
+abbrev pub invariant-loop-i : goal.invariant-loop-i
+invariant-loop-i l = (l.i ≤ l.n) × (l.p ≤ length (words_of l.objects)) × Left a_name (words_of l.objects) l.n l.at (l.n - l.i) l.p
+
+abbrev pub decreases-loop-i : goal.decreases-loop-i
+decreases-loop-i l = l.n - l.i

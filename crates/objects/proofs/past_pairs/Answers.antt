@@ -1,0 +1,27 @@
+-- `objects::past_pairs` meets its contract: a pair at a turn; what ends behind those left ends behind all.
+use native.Mathlib.Omega.{arith}
+use Prim.Native.Nat.{◌-◌, ◌≤◌}
+use lib.ListN.{length}
+use borrow.Author.Rules.{rules}
+use Rattle.machine.specs.Bytes.{words_of}
+use Rattle.objects.proofs.Ends.{Left, left-all, left-more, left-off, left-none}
+use Rattle.objects.specs.View.{a_pair}
+use Rattle.objects.proofs.past_pairs.Goals as goal
+
+pub loop-i-init : goal.loop-i-init
+loop-i-init c = (omega arith, omega arith, left-all a_pair (omega arith) (omega arith))
+
+pub returns-then-p-end : goal.returns-then-p-end
+returns-then-p-end c = left-off a_pair c.loop-i.invariant.2 (omega arith) c.past_pair-p.ensures (omega arith)
+
+pub overflow_add-i : goal.overflow_add-i
+overflow_add-i c = omega arith
+
+pub loop-i-smaller : goal.loop-i-smaller
+loop-i-smaller c = omega arith
+
+pub loop-i-preserved : goal.loop-i-preserved
+loop-i-preserved c = (omega arith, omega arith, left-more a_pair c.loop-i.invariant.2 (omega arith) c.past_pair-p.ensures (omega arith))
+
+pub returns : goal.returns
+returns c = left-none a_pair c.loop-i.invariant.2 (omega arith) (omega arith)

@@ -1,0 +1,35 @@
+-- `resolver::select_rule` meets its contract.
+use mathlib.Core.Path.{sym, ◌∙◌}
+use native.Mathlib.Omega.{arith}
+use Rattle.resolver.proofs.Appending.{appends-same}
+use Rattle.resolver.proofs.Choosing.{rule-balks, rule-procedure, rule-picks}
+use Rattle.resolver.proofs.Rests.{same_class}
+use borrow.Author.Rules.{rules}
+use Rattle.resolver.proofs.select_rule.Goals as goal
+
+pub returns-then-o-ne0 : goal.returns-then-o-ne0
+returns-then-o-ne0 c = rule-balks _ c.next_word-w.ensures c.requires.0 (c.rule_of-o.ensures.looks _) c.if-o-ne0.true c.balked.ensures
+
+pub overflow_mul-row : goal.overflow_mul-row
+overflow_mul-row c = omega (arith, c.rule_of-o.ensures.low c.if-o-ne0.false)
+
+pub overflow_add-row : goal.overflow_add-row
+overflow_add-row c = omega (arith, c.rule_of-o.ensures.low c.if-o-ne0.false)
+
+pub returns-then-gives-eq0 : goal.returns-then-gives-eq0
+returns-then-gives-eq0 c = rule-procedure _ c.next_word-w.ensures c.requires.0 (c.rule_of-o.ensures.looks _) c.if-o-ne0.false (c.rule_of-o.ensures.low c.if-o-ne0.false) (sym c.number-gives.ensures.0 ∙ c.if-gives-eq0.true) c.balked-then-gives-eq0.ensures
+
+pub overflow_mul-row-2 : goal.overflow_mul-row-2
+overflow_mul-row-2 c = omega (arith, c.rule_of-o.ensures.low c.if-o-ne0.false)
+
+pub overflow_add-row-2 : goal.overflow_add-row-2
+overflow_add-row-2 c = omega (arith, c.rule_of-o.ensures.low c.if-o-ne0.false)
+
+pub overflow_mul-row-3 : goal.overflow_mul-row-3
+overflow_mul-row-3 c = omega (arith, c.rule_of-o.ensures.low c.if-o-ne0.false)
+
+pub overflow_add-row-3 : goal.overflow_add-row-3
+overflow_add-row-3 c = omega (arith, c.rule_of-o.ensures.low c.if-o-ne0.false)
+
+pub returns : goal.returns
+returns c = rule-picks _ c.next_word-w.ensures c.requires.0 (c.rule_of-o.ensures.looks _) _ c.if-o-ne0.false (c.rule_of-o.ensures.low c.if-o-ne0.false) (λ e. c.if-gives-eq0.false (c.number-gives.ensures.0 ∙ e)) (same_class _ _ _ c.class_named-class.ensures c.number-start.ensures.0 c.number-gives.ensures.0) (appends-same c.number-place.ensures.0 c.put_two-c.ensures) c.chose.ensures
