@@ -30,7 +30,7 @@ def blocks(text):
     head, decls, waiting = [], [], []
     name = None
     for line in lines:
-        if re.match(r"(use|infix)", line):
+        if re.match(r"(use|infix[lr]?)\s", line):
             head.append(line)
             continue
         m = HEAD.match(line) if line[:1] not in (" ", "\t", "") and not line.startswith("--") else None

@@ -194,6 +194,8 @@ module _ (prog : List Rule) (T W : List ℕ) (start mk : ℕ → ℕ) (base : �
   down_step {o} (a-update_with s) leads_update_with = record { to = o + 1; is = near base o 1; way = leads_update_with; spot = s }
   down_step {o} (a-choose s) leads_choose = record { to = o + 1; is = near base o 1; way = leads_choose; spot = s }
   down_step {o} (a-choose_with s) leads_choose_with = record { to = o + 1; is = near base o 1; way = leads_choose_with; spot = s }
+  down_step a-return w = elim w [ ]
+  down_step a-end w = elim w [ ]
 
   -- from W to T
   record Up (o : ℕ) (j : Instruction) (m : ℕ) : Type 0 where
@@ -226,6 +228,8 @@ module _ (prog : List Rule) (T W : List ℕ) (start mk : ℕ → ℕ) (base : �
   up_step {o} (a-update_with s) leads_update_with = up_to (o + 1) (near base o 1) leads_update_with s
   up_step {o} (a-choose s) leads_choose = up_to (o + 1) (near base o 1) leads_choose s
   up_step {o} (a-choose_with s) leads_choose_with = up_to (o + 1) (near base o 1) leads_choose_with s
+  up_step a-return w = elim w [ ]
+  up_step a-end w = elim w [ ]
 
   module _ (first : P 1) where
     -- a location of T that is reachable in the rule, by the rule's own words

@@ -1,7 +1,7 @@
 -- "21 .. (walk and buffer unchanged; before all other tests)": a call over bytes that answers 21 changes nothing and counts nothing. "such stops are
 -- final, and repeat, before the budget test, with nothing changed": nor does a call of a walk that has stopped.
 use mathlib.Core.Bool.{Bool, true, false}
-use mathlib.Core.List.{List, [], ◌∷◌}
+use mathlib.Core.List.{List, []}
 use mathlib.Core.Option.{Option, none, some}
 use mathlib.Core.Path.{◌≡◌, refl, ap, ◌∙◌}
 use Prim.Native.Nat.{ℕ, zero, suc, ◌+◌, ◌-◌}
@@ -16,7 +16,7 @@ use Rattle.machine.specs.Call.{Mode, whole, paused, Called, ends, ends_for, writ
 use Rattle.machine.specs.Form.{walk_bytes, walk_of, events_words, outcome, call_bytes}
 use Rattle.machine.specs.Step.{Next, goes_outside, stops, goes, tells, asks, step}
 use Rattle.machine.specs.Unchanged.{Same, Unchanged}
-use Rattle.machine.specs.Walk.{Phase, going, waiting, stopped, Walk, at_rest, with_answer, in_phase}
+use Rattle.machine.specs.Walk.{Phase, going, waiting, stopped, Walk, at_rest, with_answer}
 
 -- no reason has the number 21
 no-reason : (r : Reason) → reason_number r ≡ 21 → ⊥

@@ -1,5 +1,5 @@
 -- "numbers and byte slices, words high byte first; an odd last byte counts for nothing and is not touched"
-use Rattle.std.specs.Prelude.{List, [], ◌∷◌, ◌++◌, ℕ, ◌+◌, ◌*◌, ◌/◌, ◌%◌, length, take, drop, get_or, replicate}
+use Rattle.std.specs.Prelude.{List, [], ◌∷◌, ◌++◌, ℕ, ◌+◌, ◌*◌, ◌/◌, ◌%◌, length, take, drop, get_or}
 
 -- whole words in a buffer
 unfoldable pub count : List ℕ → ℕ

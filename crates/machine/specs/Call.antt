@@ -1,5 +1,5 @@
 -- A call of a walk: whole, "given all answers beforehand", or paused, given an answer or none.
-use Rattle.std.specs.Prelude.{true, List, [], ◌∷◌, ℕ, zero, suc, ◌+◌, ◌-◌, ltb, if◌then◌else◌}
+use Rattle.std.specs.Prelude.{List, [], ℕ, zero, suc, ◌+◌, ◌-◌, ltb, if◌then◌else◌}
 use Rattle.std.proofs.Math.Option.{Option, none, some}
 use Rattle.events.specs.Events.{Event, Reason, reason_number, unanswered, outside, answer, wrote}
 use Rattle.machine.specs.Walk.{Phase, going, waiting, stopped, Walk, with_io, in_phase, with_answer, at_rest}

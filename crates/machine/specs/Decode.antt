@@ -1,5 +1,5 @@
 -- What stands at a location of a table, with its targets computed: "`distance` is counted from the location of the word that holds it".
-use Rattle.std.specs.Prelude.{true, ◌&&◌, List, [], ◌∷◌, ℕ, zero, suc, ◌+◌, ◌-◌, eqb, leb, ltb, if◌then◌else◌}
+use Rattle.std.specs.Prelude.{List, ℕ, zero, suc, ◌+◌, ◌-◌, eqb, ltb, if◌then◌else◌}
 use Rattle.std.proofs.Math.Option.{Option, none, some}
 use Rattle.std.proofs.Math.ListN.{get_elem?}
 use Rattle.events.specs.Events.{Event, output, signal}

@@ -1,11 +1,11 @@
 -- The byte form of a walk (docs/LAYOUT.md), and a call over bytes alone.
-use Rattle.std.specs.Prelude.{true, List, [], ◌∷◌, ◌++◌, reverse, ◌≡◌, ℕ, ◌+◌, ◌*◌, ◌-◌, ◌/◌, ◌%◌, ◌<◌, ◌≤◌, eqb, length, take, drop, get_or, replicate, if◌then◌else◌}
+use Rattle.std.specs.Prelude.{List, [], ◌∷◌, ◌++◌, reverse, ◌≡◌, ℕ, ◌+◌, ◌*◌, ◌-◌, ◌/◌, ◌%◌, ◌<◌, ◌≤◌, eqb, length, take, drop, get_or, replicate, if◌then◌else◌}
 use Rattle.std.proofs.Math.Option.{Option, none, some}
 use Rattle.base.specs.Common.{same}
 use Rattle.events.specs.Events.{Event, event_words, Reason, finished, differs, missing, unlabelled, deep, unanswered, outside, reason_number}
 use Rattle.machine.specs.Bytes.{count, words_of, table_of, bytes_of, over}
 use Rattle.machine.specs.Walk.{Phase, going, waiting, stopped, Walk}
-use Rattle.machine.specs.Call.{Mode, whole, Called, call_walk}
+use Rattle.machine.specs.Call.{Mode, Called, call_walk}
 
 -- the first two words: 0 0 going on, 1 0 waiting, 2 and the reason's number stopped
 unfoldable pub phase_words : Phase → List ℕ

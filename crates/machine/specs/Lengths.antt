@@ -1,5 +1,5 @@
 -- "The length of each instruction is fixed by its number: two words, or one for 4, 9, 12 and the operations."
-use Rattle.std.specs.Prelude.{true, ◌&&◌, ◌||◌, List, [], ◌∷◌, ℕ, ◌-◌, eqb, leb, get_or, if◌then◌else◌}
+use Rattle.std.specs.Prelude.{◌&&◌, ◌||◌, List, [], ◌∷◌, ℕ, ◌-◌, eqb, leb, get_or, if◌then◌else◌}
 
 -- the rule
 unfoldable pub length_rule : ℕ → ℕ

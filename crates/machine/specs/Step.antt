@@ -1,5 +1,5 @@
 -- One instruction of a walk that goes on, over the table T and the tokens. 37 is found before all else that the instruction tests.
-use Rattle.std.specs.Prelude.{Bool, true, ◌&&◌, ◌||◌, List, [], ◌∷◌, ℕ, zero, suc, ◌+◌, ◌*◌, ◌-◌, leb, ltb, length, if◌then◌else◌}
+use Rattle.std.specs.Prelude.{Bool, List, [], ◌∷◌, ℕ, zero, suc, ◌+◌, ◌*◌, ◌-◌, leb, ltb, length, if◌then◌else◌}
 use Rattle.std.proofs.Math.Option.{Option, none, some}
 use Rattle.base.specs.Common.{given}
 use Rattle.events.specs.Events.{Event, repair, operation, operation_with, Reason, finished, differs, missing, unlabelled, deep, present, took, mends, spent, is}

@@ -1,7 +1,7 @@
 -- "A walk is going on, waits for an operation's answer, or has stopped for one reason; it holds its location, up to 64 return
 -- locations, result and parameter, tokens read and answers used."; "The walk's record holds the allowance"
-use Rattle.std.specs.Prelude.{List, [], ◌∷◌, ℕ, ◌-◌, length, drop}
-use Rattle.events.specs.Events.{Reason, Io, answered, wrote}
+use Rattle.std.specs.Prelude.{List, [], ℕ, ◌-◌, length, drop}
+use Rattle.events.specs.Events.{Reason, Io, answered}
 
 pub data Phase : Type 0 where
   going waiting : Phase

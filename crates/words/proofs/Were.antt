@@ -1,5 +1,5 @@
 -- Words as they were: a percent sign cut a string, so that the quote before it made no word; all else was as now.
-use mathlib.Core.Bool.{true, false, not, ◌&&◌}
+use mathlib.Core.Bool.{not, ◌&&◌}
 use lib.Dec.{T}
 use Rattle.base.specs.Common.{bytes}
 use Rattle.words.specs.Before

@@ -3,7 +3,6 @@ use mathlib.Core.Path.{sym}
 use native.Mathlib.Omega.{arith}
 use Rattle.machine.specs.Lengths.{lengths}
 use Rattle.machine.proofs.Lengths.{length-entry, length_none, length-between, length-operation, length_above}
-use borrow.Author.Rules.{rules}
 use Rattle.machine.proofs.instruction_length.Goals as goal
 
 -- `machine::instruction_length` meets its contract: the constant table is `lengths`, and the laws of `length_of` say the rest.

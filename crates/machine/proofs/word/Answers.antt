@@ -4,7 +4,6 @@ use lib.ListN.{get_or-eq_default}
 use Rattle.machine.proofs.Bytes.{length-words_of, get_d-words_of}
 use Rattle.machine.specs.Bytes.{count, words_of, word_at}
 use native.Mathlib.Omega.{arith}
-use borrow.Author.Rules.{rules}
 use Rattle.machine.proofs.word.Goals as goal
 
 pub overflow_mul-i : goal.overflow_mul-i

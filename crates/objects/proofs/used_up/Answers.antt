@@ -4,8 +4,6 @@ use Rattle.objects.proofs.Told.{used-none, used-cells, used-names, used_all}
 use borrow.Author.Rules.{rules}
 use Rattle.objects.proofs.used_up.Goals as goal
 
-pub used-up-spec : {M : Type 1} → statement M
-
 -- `objects::used_up` meets its contract.
 pub returns-then-not-o : goal.returns-then-not-o
 returns-then-not-o c = λ words w x. used-none _ w (not-true _ c.if-not-o.true) x

@@ -1,0 +1,20 @@
+-- `linkchecks::count_all` meets its contract.
+use borrow.Author.Rules.{rules}
+use native.Mathlib.Omega.{arith}
+use mathlib.Core.List.{List}
+use Prim.Native.Nat.{◌+◌, ◌-◌, ◌≤◌}
+use lib.ListN.{length}
+use Rattle.machine.specs.Bytes.{words_of}
+use Rattle.objects.specs.View.{View}
+use Rattle.linkchecks.specs.Walk.{Viewed}
+use Rattle.linkchecks.specs.Row.{row_from}
+use Rattle.linkchecks.proofs.Walking.{Still, heads, still-none, ended}
+use Rattle.linkchecks.proofs.count_all.Given as goal
+
+abbrev pub invariant-loop-cursor : goal.invariant-loop-cursor
+invariant-loop-cursor l =
+    (l.cursor.at ≤ length (words_of l.objects)) × (l.cursor.text ≤ l.cursor.at) × (l.rules ≤ l.cursor.at)
+    × ((vs : List View) → Viewed l.common (words_of l.objects) vs → Still l.common (words_of l.objects) vs (λ row. l.rules + length row) (length (row_from 1 vs)) l.cursor)
+
+abbrev pub decreases-loop-cursor : goal.decreases-loop-cursor
+decreases-loop-cursor l = length (words_of l.objects) - l.cursor.at

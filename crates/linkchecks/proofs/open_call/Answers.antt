@@ -1,0 +1,16 @@
+-- `linkchecks::open_call` meets its contract: past the rule's name and its type stand the names of its calls.
+use borrow.Author.Rules.{rules}
+use native.Mathlib.Omega.{arith}
+use mathlib.Core.Path.{◌∙◌}
+use Rattle.machine.specs.Bytes.{words_of}
+use Rattle.objects.proofs.Called.{calls_at}
+use Rattle.linkchecks.proofs.open_call.Goals as goal
+
+pub returns-then-gives-end : goal.returns-then-gives-end
+returns-then-gives-end c = λ vs v k w e. let y = calls_at (words_of c.args.objects.now) c.args.at _ v k e c.past_name-gives.ensures in let h = y.inside in absurd (omega (arith, h))
+
+pub returns-then-calls-end : goal.returns-then-calls-end
+returns-then-calls-end c = λ vs v k w e. let y = calls_at (words_of c.args.objects.now) c.args.at _ v k e c.past_name-gives.ensures in let h = (y.count _ c.past_option-calls.ensures).0 in absurd (omega (arith, h))
+
+pub returns : goal.returns
+returns c = λ vs v k w e. let y = calls_at (words_of c.args.objects.now) c.args.at _ v k e c.past_name-gives.ensures in let d = c.number.ensures.0 ∙ (y.count _ c.past_option-calls.ensures).1 in c.open_name.ensures vs v.calls y.rest w (rw d (y.taken _ c.past_option-calls.ensures))

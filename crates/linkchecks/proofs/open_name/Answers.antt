@@ -1,0 +1,41 @@
+-- `linkchecks::open_name` meets its contract: a rule has each of the names passed.
+use borrow.Author.Rules.{rules}
+use native.Mathlib.Omega.{arith}
+use mathlib.Core.List.{List}
+use mathlib.Core.Path.{◌≡◌, refl, ap}
+use Prim.Native.Nat.{ℕ, ◌+◌, ◌-◌, ◌≤◌}
+use lib.ListN.{length, drop}
+use Rattle.machine.specs.Bytes.{words_of}
+use Rattle.objects.specs.View.{Name, View}
+use Rattle.linkchecks.specs.Walk.{Viewed}
+use borrow.Author.Tests.{not-true, not-false}
+use Rattle.objects.proofs.Looked.{name-at}
+use Rattle.objects.specs.Take.{took, times}
+use Rattle.objects.specs.View.{a_name}
+use Rattle.linkchecks.specs.Row.{row_from, first_shown, open_name}
+use Rattle.linkchecks.proofs.Finding.{Asking, asking, asked-all, asks, asked_here, asked-passed, open-some, open_none}
+use Rattle.linkchecks.proofs.open_name.Goals as goal
+
+pub loop-i-init : goal.loop-i-init
+loop-i-init c = (omega arith, omega arith, λ vs ns rest v e. asking c.args.n c.args.at ns (omega arith) refl e refl)
+
+pub overflow_add-end : goal.overflow_add-end
+overflow_add-end c = omega arith
+
+pub returns-then-not-is_named : goal.returns-then-not-is_named
+returns-then-not-is_named c = λ vs ns rest v e. let y = asks (c.args.n - (c.loop-i.i + 1)) (c.loop-i.invariant.2 vs ns rest v e) (omega arith) in asked_here y _ (record { text = c.args.text; name = y.first }) (open-some (length (words_of c.args.objects.now) + 1) (row_from 1 vs) c.args.text y.first _ _ (ap (λ i. i + 1) c.total-end.ensures.0) (c.is_named.ensures vs y.first v (name-at _ _ y.first y.tail y.here)) c.if-not-is_named.true) (c.found_at.ensures y.first y.tail y.here)
+
+pub returns-then-q-end : goal.returns-then-q-end
+returns-then-q-end c = λ vs ns rest v e. let y = asks (c.args.n - (c.loop-i.i + 1)) (c.loop-i.invariant.2 vs ns rest v e) (omega arith) in let l = (y.behind _ c.past_name-q.ensures).0 in absurd (omega (arith, l))
+
+pub overflow_add-i : goal.overflow_add-i
+overflow_add-i c = omega arith
+
+pub loop-i-smaller : goal.loop-i-smaller
+loop-i-smaller c = omega arith
+
+pub loop-i-preserved : goal.loop-i-preserved
+loop-i-preserved c = (omega arith, omega arith, λ vs ns rest v e. let y = asks (c.args.n - (c.loop-i.i + 1)) (c.loop-i.invariant.2 vs ns rest v e) (omega arith) in asked-passed y (open_none (length (words_of c.args.objects.now) + 1) (row_from 1 vs) c.args.text y.first _ _ (ap (λ i. i + 1) c.total-end.ensures.0) (c.is_named.ensures vs y.first v (name-at _ _ y.first y.tail y.here)) c.if-not-is_named.false) _ c.past_name-q.ensures)
+
+pub returns : goal.returns
+returns c = λ vs ns rest v e. asked-all (c.loop-i.invariant.2 vs ns rest v e) (omega arith) _ c.nothing-2.ensures

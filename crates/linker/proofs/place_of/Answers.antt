@@ -1,0 +1,40 @@
+-- `linker::place_of` meets its contract.
+use mathlib.Core.Path.{◌≡◌, refl, sym, ◌∙◌}
+use Prim.Native.Nat.{◌+◌, ◌-◌, ◌≤◌}
+use native.Mathlib.Omega.{arith}
+use borrow.Author.Rules.{rules}
+use lib.ListN.{length, drop}
+use Rattle.machine.specs.Bytes.{words_of}
+use Rattle.linker.specs.Place.{text_at, texts_at, place_of}
+use Rattle.linker.proofs.Placing.{compared, place_here, place-later, place_none}
+use Rattle.linker.proofs.place_of.Goals as goal
+
+pub loop-i-init : goal.loop-i-init
+loop-i-init c = (omega arith, omega arith)
+
+pub returns-then-same_name : goal.returns-then-same_name
+returns-then-same_name c =
+    let a = c.args in
+    let o = c.loop-i in
+    let t = compared (words_of a.words.now) _ _ _ c.same_name.ensures c.within.ensures.0 c.if-same_name.true in
+    sym (c.loop-i.invariant.1 ∙ place_here (words_of a.words.now) (text_at (words_of a.words.now) a.p) a.names.now c.loop-i.i c.loop-i-test.true t)
+
+pub overflow_add-i : goal.overflow_add-i
+overflow_add-i c = omega arith
+
+pub loop-i-smaller : goal.loop-i-smaller
+loop-i-smaller c = omega arith
+
+pub loop-i-preserved : goal.loop-i-preserved
+loop-i-preserved c =
+    let a = c.args in
+    let o = c.loop-i in
+    let t = compared (words_of a.words.now) _ _ _ c.same_name.ensures c.within.ensures.0 c.if-same_name.false in
+    (omega arith, c.loop-i.invariant.1 ∙ place-later (words_of a.words.now) (text_at (words_of a.words.now) a.p) a.names.now c.loop-i.i c.loop-i-test.true t)
+
+pub returns : goal.returns
+returns c =
+    let a = c.args in
+    let o = c.loop-i in
+    let e = place_none (words_of a.words.now) (text_at (words_of a.words.now) a.p) a.names.now c.loop-i.i c.loop-i-test.false in
+    omega (arith, c.loop-i.invariant.1, e)

@@ -1,0 +1,16 @@
+use borrow.Author.Rules.{rules}
+use Rattle.mapping.specs.Mapping.{rows_words}
+use Rattle.mapper.specs.Mapped.{Puts, levels_held}
+use Rattle.mapper.proofs.Made.{levels-start, levels-step, levels-end}
+use lib.ListN.{length}
+use native.Mathlib.Omega.{arith}
+use Prim.Native.Nat.{◌-◌, ◌*◌, ◌≤◌}
+use mathlib.Core.Path.{◌≡◌, refl, ◌∙◌}
+use Rattle.mapper.proofs.put_levels.Given as goal
+
+abbrev pub invariant-loop-i : goal.invariant-loop-i
+invariant-loop-i l =
+    (l.k ≤ l.i) × (l.i ≤ l.end) × (length l.out ≡ length l.initial.out) × Puts l.initial.out l.out (12 * l.k) (rows_words (levels_held l.name.start l.name.len l.places l.k (l.i - l.k)))
+
+abbrev pub decreases-loop-i : goal.decreases-loop-i
+decreases-loop-i l = l.end - l.i

@@ -1,0 +1,17 @@
+use borrow.Author.Rules.{rules}
+use Rattle.mapper.specs.Mapped.{MadePut}
+use Rattle.mapper.proofs.Made.{made-end, made-never, made-next}
+use lib.ListN.{length}
+use native.Mathlib.Omega.{arith}
+use Prim.Native.Nat.{ℕ, ◌-◌, ◌≤◌}
+use mathlib.Core.Path.{◌≡◌, refl, ◌∙◌}
+use mathlib.Core.List.{List}
+use Rattle.mapper.proofs.put_made.Given as goal
+
+abbrev pub invariant-loop-j : goal.invariant-loop-j
+invariant-loop-j l =
+    (l.b.written ≤ l.k) × (l.k ≤ l.b.rules) × (length l.out ≡ length l.initial.out) × (l.at ≤ length l.text)
+    × ((out' : List ℕ) → MadePut l.text l.rows l.b l.j l.k l.at l.places l.out out' → MadePut l.text l.rows l.b 0 l.b.written l.b.body l.places l.initial.out out')
+
+abbrev pub decreases-loop-j : goal.decreases-loop-j
+decreases-loop-j l = l.pairs - l.j

@@ -1,0 +1,13 @@
+-- `partnames::part_place` meets its contract.
+use native.Mathlib.Omega.{arith}
+use borrow.Author.Rules.{rules}
+use Rattle.partnames.specs.Buffer.{part_place}
+use Rattle.partnames.proofs.part_place.Goals as goal
+
+pub returns-then-from-at : goal.returns-then-from-at
+unfolding part_place
+returns-then-from-at c = omega arith
+
+pub returns : goal.returns
+unfolding part_place
+returns c = omega arith

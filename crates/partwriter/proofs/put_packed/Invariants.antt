@@ -1,0 +1,19 @@
+-- `partwriter::put_packed` meets its contract.
+use mathlib.Core.List.{List}
+use mathlib.Core.Path.{◌≡◌, refl, ◌∙◌}
+use Prim.Native.Nat.{ℕ, suc, ◌-◌, ◌≤◌}
+use native.Mathlib.Omega.{arith}
+use lib.ListN.{length, drop}
+use Rattle.machine.specs.Bytes.{count}
+use Rattle.partwriter.specs.Put.{Puts}
+use Rattle.parts.specs.Form.{packed}
+use Rattle.partwriter.proofs.Putting.{puts-bound, puts_then, puts-next, puts-nothing, next-packed, no-packed}
+use borrow.Author.Rules.{rules}
+use Rattle.partwriter.proofs.put_packed.Given as goal
+
+abbrev pub invariant-loop-i : goal.invariant-loop-i
+invariant-loop-i l =
+    (l.n ≤ suc (count l.object)) × (length l.object ≡ length l.initial.object) × ((o : List ℕ) (m : ℕ) → Puts l.object l.n (packed (drop l.i l.common)) o m → Puts l.initial.object l.c (packed l.common) o m)
+
+abbrev pub decreases-loop-i : goal.decreases-loop-i
+decreases-loop-i l = length l.common - l.i

@@ -1,0 +1,15 @@
+-- `rulerows::put_written` meets its contract.
+use borrow.Author.Rules.{rules}
+use lib.ListN.{length}
+use mathlib.Core.Path.{◌≡◌, refl, sym, ◌∙◌}
+use native.Mathlib.Omega.{arith}
+use Prim.Native.Nat.{◌-◌, ◌≤◌}
+use Rattle.rulerows.proofs.Laws.{row_put, written_none, written-more, written-end}
+use Rattle.rulerows.specs.Filled.{WrittenPut}
+use Rattle.rulerows.proofs.put_written.Given as goal
+
+abbrev pub invariant-loop-k : goal.invariant-loop-k
+invariant-loop-k l = (l.k ≤ l.rules) × (length l.sheet ≡ 770) × WrittenPut l.rows l.first l.places l.k l.sheet
+
+abbrev pub decreases-loop-k : goal.decreases-loop-k
+decreases-loop-k l = l.rules - l.k
