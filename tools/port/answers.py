@@ -13,7 +13,7 @@ import sys
 OLDER = os.environ.get("OLDER", "6cac6c75339a9f547821c2c6f8b8af2d3f2b974e")
 TOP = ["args", "requires", "ranges", "type_inv", "utf8", "well_formed", "well-formed", "lifetimes"]
 STEP = re.compile(r"\bc((?:\.before)*)\.([A-Za-z0-9_'-]+)((?:\.[A-Za-z0-9_'-]+)*)")
-NOTS = r"(?:not-true|not-false|not_so|yet-so|not_yet) (?:_|[\w'.₀-₉-]+) (c\.if-not-[\w-]+\.(?:true|false))"
+NOTS = r"(?:not-true|not-false|not_so|yet-so|not_yet|turned_on|turned-off) (?:_|[\w'.₀-₉-]+) (c\.if-not-[\w-]+\.(?:true|false))"
 NEGATED = re.compile(rf"\({NOTS}\)|(?<![\w'.-]){NOTS}")
 HEAD = re.compile(r"^((?:pub |abbrev |unfoldable |data |record )*)([^\s:(){},]+)((?:\s+(?:\{[^}]*\}|\([^)]*\)))*)\s+:(?:\s|$)")
 KINDS = {"array-read": "element_copy_out", "array-write": "element_copy_in"}

@@ -40,7 +40,9 @@ texts-from front (w ∷ ws) back =
     let e = behind-at front w (names_words ws ++ back) in
     let ih = texts-from (front ++ name_words w) ws back in
     rw (append_assoc (name_words w) (names_words ws) back, t, e)
-    (ap (λ l. w.text ∷ l) (ap (λ l. texts_from l (length (front ++ name_words w)) (length ws)) (sym (append_assoc front (name_words w) (names_words ws ++ back))) ∙ ih))
+    (ap (λ l. w.text ∷ l)
+    (ap (λ (l : List ℕ). texts_from (front ++ l) (length (front ++ name_words w)) (length ws)) (append_assoc (name_words w) (names_words ws) back)
+    ∙ (ap (λ l. texts_from l (length (front ++ name_words w)) (length ws)) (sym (append_assoc front (name_words w) (names_words ws ++ back))) ∙ ih)))
 
 pub texts-end : (front : List ℕ) (ws : List Word) (back : List ℕ) → texts_end (front ++ (names_words ws ++ back)) (length front) (length ws) ≡ length front + length (names_words ws)
 unfolding texts_end names_words

@@ -2,7 +2,7 @@
 use mathlib.Core.Bool.{Bool, true, false, ◌||◌, or_comm, or_assoc, or-false}
 use mathlib.Core.List.{List, [], ◌∷◌, ◌++◌, append_assoc}
 use mathlib.Core.Option.{none, some}
-use mathlib.Core.Path.{◌≡◌, refl, sym, ap, ◌∙◌}
+use mathlib.Core.Path.{◌≡◌, refl, sym, ap, subst, ◌∙◌}
 use native.Mathlib.Omega.{arith}
 use Prim.Native.Nat.{ℕ, suc, ◌+◌}
 use lib.ListN.{length}
@@ -42,6 +42,10 @@ module _ (n : Names) (others : ℕ) where
   outcome-more os own seen u us e (gathered after all) h = (rw e h.0, h.1 ∙ append_assoc seen (u ∷ []) us)
   outcome-more os own seen u us e (past v) h = rw e h
 
+  firsts-is : (sees : List Use) (u : Use) (us : List Use) (t : Bool) → is_used u sees ≡ t → firsts sees (u ∷ us) ≡ (if t then firsts sees us else u ∷ firsts (u ∷ sees) us)
+  unfolding firsts
+  firsts-is sees u us t e = ap (λ (b : Bool). if b then firsts sees us else u ∷ firsts (u ∷ sees) us) e
+
   outcome : (os : List Object) (own : ℕ) (sees seen us : List Use) → Same sees seen → Outcome os own seen (firsts sees us) (gather n others own seen us)
   unfolding Outcome gather firsts past_made found_if or◌else◌
   outcome os own sees seen [] h = (refl, rw (append-nil seen))
@@ -55,9 +59,9 @@ module _ (n : Names) (others : ℕ) where
       go : (s : Bool) → is_used u seen ≡ s → (t : Bool) → passes others own (levels_used n u) ≡ t → Outcome os own seen (firsts sees us) (gather n others own seen us)
           → Outcome os (own + length (levels_used n u)) (seen ++ (u ∷ [])) (firsts (u ∷ sees) us) (gather n others (own + length (levels_used n u)) (seen ++ (u ∷ [])) us)
           → Outcome os own seen (firsts sees (u ∷ us)) (gather n others own seen (u ∷ us))
-      go true d t e a b = rw (gather, firsts, h u, d) a
-      go false d true e a b = rw (gather, firsts, h u, d, e, Outcome, past_made, e) refl
-      go false d false e a b = rw (gather, firsts, h u, d, e) (outcome-more os own seen u (firsts (u ∷ sees) us) e (gather n others (own + length (levels_used n u)) (seen ++ (u ∷ [])) us) b)
+      go true d t e a b = subst (λ (x : List Use). Outcome os own seen x (gather n others own seen (u ∷ us))) (sym (firsts-is sees u us true (h u ∙ d))) (rw (gather, d) a)
+      go false d true e a b = subst (λ (x : List Use). Outcome os own seen x (gather n others own seen (u ∷ us))) (sym (firsts-is sees u us false (h u ∙ d))) (rw (gather, d, e, Outcome, past_made, e) refl)
+      go false d false e a b = subst (λ (x : List Use). Outcome os own seen x (gather n others own seen (u ∷ us))) (sym (firsts-is sees u us false (h u ∙ d))) (rw (gather, d, e) (outcome-more os own seen u (firsts (u ∷ sees) us) e (gather n others (own + length (levels_used n u)) (seen ++ (u ∷ [])) us) b))
 
   -- what is gathered of all objects
   pub gathers : (os : List Object) (own : ℕ) → Outcome os own [] (pairs_in os) (gather n others own [] (uses_of os))

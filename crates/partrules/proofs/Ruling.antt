@@ -139,6 +139,7 @@ rules-fail {text} {rows} {seen} {seen'} {cs} {object} {object'} {n} {first} {mov
         → k + length rs ≤ 128 → Each (Able (held text rows n) (length cs) x) rs → RulesEnd k moved first x object c object' a (open_all x.program x.names x.known before rs)
     go x H before S (r ∷ []) ws (last_rule i _) q A = pick (open_rule x.program x.names x.known before r) _ (R.done x H before S r ws i A.0)
     go x H before S (r ∷ rs) ws (more_rules {ws₁ = ws₁} i _ _) q A = pick (open_rule x.program x.names x.known before r) _ (R.done x H before S r ws₁ i A.0)
+    go x H before S [] ws x4 q A = elim x4 [ ]
 
 pub rules-last : {text rows seen seen' cs object object' : List ℕ} {n first moved k at c : ℕ} {d : Done} {w : WordAt} {a : Rules} → RuleDone text rows n first moved at seen cs object c seen' object' d → d.fault ≡ 0
     → Next text d.at w → (w.kind ≡ 257 → ⊥) → a.fault ≡ 0 → a.rules ≡ k + 1 → a.count ≡ d.count → RulesDone text rows n first moved k at (length cs) seen object c object' a
@@ -158,6 +159,7 @@ rules-last {text} {rows} {seen} {seen'} {cs} {object} {object'} {n} {first} {mov
         → k + length rs ≤ 128 → Each (Able (held text rows n) (length cs) x) rs → RulesEnd k moved first x object c object' a (open_all x.program x.names x.known before rs)
     go x H before S (r ∷ []) ws (last_rule i _) q A = pick (open_rule x.program x.names x.known before r) (R.done x H before S r ws i A.0)
     go x H before S (r ∷ rs) ws (more_rules {ws₁ = ws₁} i t _) q A = no (open_rule x.program x.names x.known before r) (R.done x H before S r ws₁ i A.0) t
+    go x H before S [] ws x4 q A = elim x4 [ ]
 
 pub rules-over : {text rows seen seen' cs object object' : List ℕ} {n first moved k at c : ℕ} {d : Done} {w : WordAt} {a : Rules} → RuleDone text rows n first moved at seen cs object c seen' object' d → d.fault ≡ 0
     → Next text d.at w → w.kind ≡ 257 → k + 1 ≡ 128 → RulesDone text rows n first moved k at (length cs) seen object c object' a
@@ -176,6 +178,7 @@ rules-over {text} {rows} {seen} {seen'} {cs} {object} {object'} {n} {first} {mov
         → k + length rs ≤ 128 → Each (Able (held text rows n) (length cs) x) rs → RulesEnd k moved first x object c object' a (open_all x.program x.names x.known before rs)
     go x H before S (r ∷ []) ws (last_rule i t) q A = no (open_rule x.program x.names x.known before r) (R.done x H before S r ws i A.0) t
     go x H before S (r ∷ rs) ws (more_rules i _ more) q A = absurd (omega (arith, q, full, longer rs more))
+    go x H before S [] ws x4 q A = elim x4 [ ]
 
 pub rules-next : {text rows seen seen' cs object object' object'' : List ℕ} {n first moved k at c : ℕ} {d : Done} {w : WordAt} {a : Rules} → RuleDone text rows n first moved at seen cs object c seen' object' d → d.fault ≡ 0
     → Next text d.at w → w.kind ≡ 257 → RulesDone text rows n first moved (k + 1) d.at (length cs) seen' object' d.count object'' a → RulesDone text rows n first moved k at (length cs) seen object c object'' a
@@ -202,3 +205,4 @@ rules-next {text} {rows} {seen} {seen'} {cs} {object} {object'} {object''} {n} {
     go x H before S (r ∷ rs) ws (more_rules {ws₁ = ws₁} i _ more) q A =
         pick (open_rule x.program x.names x.known before r) (open_all x.program x.names x.known (r.rule.text ∷ before) rs) (R.done x H before S r ws₁ i A.0)
         (λ s here. T.done x H (r.rule.text ∷ before) s rs ws (subst (λ l. RulesIn l ws rs) here more) (omega (arith, q)) A.1)
+    go x H before S [] ws x4 q A = elim x4 [ ]

@@ -2,20 +2,22 @@
 use Rattle.partnames.proofs.Listing.{turned_on}
 use Rattle.partnames.proofs.Mentioned.{not-led, no-name-there, name-known, name-past, name_new}
 use borrow.Author.Rules.{rules}
+use mathlib.Core.Bool.{not}
+use mathlib.Core.Path.{ap}
 use Rattle.partnames.proofs.add_name.Goals as goal
 
 -- `partnames::add_name` meets its contract.
 pub returns-then-not-led : goal.returns-then-not-led
-returns-then-not-led c = not-led _ _ _ _ c.requires.1 _ c.if-not-led.true
+returns-then-not-led c = not-led _ _ _ _ c.requires.1 _ (ap not c.if-not-led.true)
 
 pub returns-then-w-ne-NAME : goal.returns-then-w-ne-NAME
 returns-then-w-ne-NAME c = no-name-there _ _ _ _ c.requires.1 _ _ c.if-w-ne-NAME.true
 
 pub returns-then-is_rule : goal.returns-then-is_rule
-returns-then-is_rule c = name-known _ _ _ _ c.requires.1 _ c.args.w (turned_on _ c.if-not-led.false) c.if-w-ne-NAME.false c.is_rule.ensures c.if-is_rule.true
+returns-then-is_rule c = name-known _ _ _ _ c.requires.1 _ c.args.w c.if-not-led.false c.if-w-ne-NAME.false c.is_rule.ensures c.if-is_rule.true
 
 pub returns-then-n-eq-NAMES : goal.returns-then-n-eq-NAMES
-returns-then-n-eq-NAMES c = name-past _ _ _ _ c.requires.1 _ c.args.w (turned_on _ c.if-not-led.false) c.if-w-ne-NAME.false c.is_rule.ensures c.if-is_rule.false c.if-n-eq-NAMES.true
+returns-then-n-eq-NAMES c = name-past _ _ _ _ c.requires.1 _ c.args.w c.if-not-led.false c.if-w-ne-NAME.false c.is_rule.ensures c.if-is_rule.false c.if-n-eq-NAMES.true
 
 pub returns : goal.returns
-returns c = name_new _ _ _ _ c.requires.1 _ c.args.w (turned_on _ c.if-not-led.false) c.if-w-ne-NAME.false c.is_rule.ensures c.if-is_rule.false c.if-n-eq-NAMES.false c.put_row.ensures
+returns c = name_new _ _ _ _ c.requires.1 _ c.args.w c.if-not-led.false c.if-w-ne-NAME.false c.is_rule.ensures c.if-is_rule.false c.if-n-eq-NAMES.false c.put_row.ensures

@@ -19,7 +19,7 @@ pub shape_of-rows-then-not-begins_line : goal.shape_of-rows-then-not-begins_line
 shape_of-rows-then-not-begins_line c = c.loop-at.invariant.3
 
 pub returns-then-not-begins_line : goal.returns-then-not-begins_line
-returns-then-not-begins_line c = c.loop-at.invariant.5 _ _ (lines_none c.loop-at.invariant.1 c.loop-at.invariant.2 c.begins_line.ensures (turned-off _ c.if-not-begins_line.true))
+returns-then-not-begins_line c = c.loop-at.invariant.5 _ _ (lines_none c.loop-at.invariant.1 c.loop-at.invariant.2 c.begins_line.ensures c.if-not-begins_line.true)
 
 pub overflow_sub-n : goal.overflow_sub-n
 overflow_sub-n c = omega arith
@@ -31,10 +31,10 @@ pub shape_of-rows-then-r-i : goal.shape_of-rows-then-r-i
 shape_of-rows-then-r-i c = c.collect_rule-r.auto.rows ∙ c.loop-at.invariant.3
 
 pub returns-then-r-i : goal.returns-then-r-i
-returns-then-r-i c = c.loop-at.invariant.5 _ _ (lines-stuck c.begins_line.ensures (turned_on _ c.if-not-begins_line.false) c.collect_rule-r.ensures c.if-r-i.true)
+returns-then-r-i c = c.loop-at.invariant.5 _ _ (lines-stuck c.begins_line.ensures c.if-not-begins_line.false c.collect_rule-r.ensures c.if-r-i.true)
 
 pub loop-at-smaller : goal.loop-at-smaller
 loop-at-smaller c = omega (arith, c.if-r-i.false, c.collect_rule-r.ensures.bounds.high)
 
 pub loop-at-preserved : goal.loop-at-preserved
-loop-at-preserved c = (omega (arith, c.if-r-i.false), c.collect_rule-r.ensures.bounds.high, c.collect_rule-r.ensures.bounds.small, c.collect_rule-r.auto.rows ∙ c.loop-at.invariant.3, omega (arith, c.collect_rule-r.ensures.bounds.more), λ rows' r e. c.loop-at.invariant.5 rows' r (lines_more c.begins_line.ensures (turned_on _ c.if-not-begins_line.false) c.collect_rule-r.ensures c.collect_rule-r.auto.rows (λ z. omega (arith, z)) e))
+loop-at-preserved c = (omega (arith, c.if-r-i.false), c.collect_rule-r.ensures.bounds.high, c.collect_rule-r.ensures.bounds.small, c.collect_rule-r.auto.rows ∙ c.loop-at.invariant.3, omega (arith, c.collect_rule-r.ensures.bounds.more), λ rows' r e. c.loop-at.invariant.5 rows' r (lines_more c.begins_line.ensures c.if-not-begins_line.false c.collect_rule-r.ensures c.collect_rule-r.auto.rows (λ z. omega (arith, z)) e))

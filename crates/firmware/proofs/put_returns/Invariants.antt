@@ -1,0 +1,31 @@
+-- `firmware::put_returns` meets its contract: after i turns the first i words of the return locations are written, the held ones first.
+use mathlib.Core.List.{List, [], ◌∷◌, reverse}
+use mathlib.Core.Path.{◌≡◌, refl, sym, ap, ◌∙◌}
+use Prim.Native.Nat.{ℕ, ◌+◌, ◌-◌, ◌≤◌, min}
+use native.Mathlib.Numerals.{add-one}
+use native.Mathlib.Omega.{arith}
+use lib.ListN.{length, take, get_or}
+use lib.Seq.{length-take-le, take-suc, take_all}
+use borrow.Author.Rules.{rules}
+use Rattle.machine.specs.Bytes.{bytes_of}
+use Rattle.machine.specs.Form as form
+use Rattle.firmware.specs.Writes.{puts}
+use Rattle.firmware.proofs.Laws.{puts_one, puts_then, length-puts, length-return-words, return_held, return-free}
+use Rattle.firmware.proofs.put_returns.Given as goal
+
+-- `firmware::put_returns` meets its contract: after i turns the first i words of the return locations are written, the held ones first.
+-- the words that are to be written
+abbrev pub words : ℕ → List ℕ → List ℕ
+words depth returns = form.return_words (reverse (take depth returns))
+
+abbrev pub invariant-loop-i : goal.invariant-loop-i
+invariant-loop-i l = (l.i ≤ l.held) × (l.out ≡ puts l.initial.out 15 (take l.i (words l.depth l.returns)))
+
+abbrev pub decreases-loop-i : goal.decreases-loop-i
+decreases-loop-i l = l.held - l.i
+
+abbrev pub invariant-loop-i-2 : goal.invariant-loop-i-2
+invariant-loop-i-2 l = (l.i ≤ 64) × ((l.held ≤ l.i) × ((s : List ℕ) → l.initial.out ≡ puts s 15 (take l.initial.i (words l.depth l.returns)) → l.out ≡ puts s 15 (take l.i (words l.depth l.returns))))
+
+abbrev pub decreases-loop-i-2 : goal.decreases-loop-i-2
+decreases-loop-i-2 l = 64 - l.i

@@ -1,0 +1,20 @@
+-- `firmware::reason_or_none` meets its contract: by the phases.
+use mathlib.Core.Path.{sym, ap, ◌∙◌}
+use borrow.Author.Rules.{rules}
+use Rattle.walker.proofs.Link.{number-reason}
+use Rattle.walker.specs.View as view
+use Rattle.walker.specs.declared.Phase.{Phase}
+use Rattle.firmware.specs.Entries.{reason_in}
+use Rattle.firmware.proofs.reason_or_none.Goals as goal
+
+pub returns-in-Going : goal.returns-in-Going
+unfolding reason_in view.phase_of
+returns-in-Going c = sym (ap (λ (p : Phase). reason_in (view.phase_of p)) c.in-Going.is)
+
+pub returns-in-Waiting : goal.returns-in-Waiting
+unfolding reason_in view.phase_of
+returns-in-Waiting c = sym (ap (λ (p : Phase). reason_in (view.phase_of p)) c.in-Waiting.is)
+
+pub returns-in-Stopped : goal.returns-in-Stopped
+unfolding reason_in view.phase_of
+returns-in-Stopped c = c.number_of.ensures ∙ number-reason _ ∙ sym (ap (λ (p : Phase). reason_in (view.phase_of p)) c.in-Stopped.is)

@@ -1,0 +1,13 @@
+-- `firmware::sst_location` meets its contract: of the walk that the bytes are, or of none.
+use borrow.Author.Rules.{rules}
+use Rattle.walker.specs.View as view
+use Rattle.firmware.specs.Entries.{location_or0}
+use Rattle.firmware.proofs.sst_location.Goals as goal
+
+pub returns-then-h : goal.returns-then-h
+unfolding location_or0 view.walk_of view.walk_in
+returns-then-h c = rw (c.read_walk-h.ensures.some_walk c.if-h.true)
+
+pub returns-else-h : goal.returns-else-h
+unfolding location_or0
+returns-else-h c = rw (c.read_walk-h.ensures.no_walk c.if-h.false)

@@ -1,0 +1,16 @@
+-- `partrules::count_calls` meets its contract.
+use mathlib.Core.Path.{◌≡◌, refl, sym, ◌∙◌}
+use Prim.Native.Nat.{◌+◌, ◌-◌, ◌≤◌}
+use native.Mathlib.Omega.{arith}
+use lib.ListN.{length}
+use Rattle.words.specs.Words.{words_at}
+use Rattle.partrules.specs.Calls.{calls_from, signs}
+use Rattle.partrules.proofs.Calling.{is_word, count-on, count-off, signs-few}
+use borrow.Author.Rules.{rules}
+use Rattle.partrules.proofs.count_calls.Given as goal
+
+abbrev pub invariant-loop-w : goal.invariant-loop-w
+invariant-loop-w l = (l.p ≤ length l.text) × (l.n + l.at ≤ l.p) × (l.n + length (calls_from (words_at l.text l.p)) ≡ length (calls_from (words_at l.text l.at)))
+
+abbrev pub decreases-loop-w : goal.decreases-loop-w
+decreases-loop-w l = length l.text - l.p

@@ -1,0 +1,20 @@
+-- `partrules::open_rules` meets its contract.
+use mathlib.Core.List.{List}
+use mathlib.Core.Path.{◌≡◌, refl, sym, ◌∙◌, subst}
+use Prim.Native.Nat.{ℕ, ◌+◌, ◌-◌, ◌<◌, ◌≤◌}
+use native.Mathlib.Omega.{arith}
+use lib.ListN.{length}
+use Rattle.partrules.proofs.Ruling.{rules-fail, rules-last, rules-over, rules-next}
+use Rattle.partrules.specs.Opened.{RulesDone}
+use Rattle.partrules.specs.declared.Rules.{Rules}
+use borrow.Author.Rules.{rules}
+use Rattle.partrules.proofs.open_rules.Given as goal
+
+abbrev pub invariant-loop-part : goal.invariant-loop-part
+invariant-loop-part l =
+    (l.k < 128) × (l.here.at ≤ length l.text) × (length l.seen ≡ length l.initial.seen) × (length l.cells ≡ length l.initial.cells) × (length l.object ≡ length l.initial.object)
+    × ((o : List ℕ) (a : Rules) → RulesDone l.text l.rows l.part.n l.part.first l.part.moved l.k l.here.at (length l.cells) l.seen l.object l.here.count o a
+    → RulesDone l.text l.rows l.part.n l.part.first l.part.moved 0 l.initial.here.at (length l.initial.cells) l.initial.seen l.initial.object l.initial.here.count o a)
+
+abbrev pub decreases-loop-part : goal.decreases-loop-part
+decreases-loop-part l = 128 - l.k

@@ -1,0 +1,9 @@
+-- `partrules::put_rule` meets its contract.
+use native.Mathlib.Omega.{arith}
+use Prim.Native.Nat.{◌+◌, ◌-◌, ◌<◌, ◌≤◌}
+use borrow.Author.Rules.{rules}
+use Rattle.partrules.proofs.Writing.{rule-put}
+use Rattle.partrules.proofs.put_rule.Goals as goal
+
+pub returns : goal.returns
+returns c = rule-put _ _ c.put_head-h.ensures c.count_calls-m.ensures.0 c.put-d.ensures c.put_calls-e.ensures c.put-f.ensures c.requires.2 c.put_marked.ensures

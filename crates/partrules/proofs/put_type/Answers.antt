@@ -1,0 +1,16 @@
+-- `partrules::put_type` meets its contract.
+use native.Mathlib.Omega.{arith}
+use Prim.Native.Nat.{◌+◌, ◌-◌, ◌<◌, ◌≤◌}
+use mathlib.Core.Path.{refl}
+use borrow.Author.Rules.{rules}
+use Rattle.partrules.proofs.Writing.{type-absent, type-there}
+use Rattle.partrules.proofs.put_type.Goals as goal
+
+pub returns-then-g-ne-TWICE : goal.returns-then-g-ne-TWICE
+returns-then-g-ne-TWICE c = type-absent c.requires.0 c.next_word-g.ensures c.if-g-ne-TWICE.true c.put-n.ensures refl
+
+pub put_name-m-requires : goal.put_name-m-requires
+put_name-m-requires c = let g = c.requires in let n = c.next_word-g.ensures in let w = c.next_word-w.ensures in (c.next_word-w.ensures.inside (c.next_word-g.ensures.high g.0), g.1)
+
+pub returns : goal.returns
+returns c = type-there c.requires.0 c.next_word-g.ensures (omega (arith, c.if-g-ne-TWICE.false)) c.next_word-w.ensures c.put-n-2.ensures c.put_name-m.ensures c.next_word-d.ensures refl
