@@ -30,7 +30,7 @@ use Rattle.listing.specs.Listing.{line_feeds, line_at, refusal_listing, table_li
 use Rattle.listing.specs.Written.{Listed, longest}
 use Rattle.listing.proofs.Laws.{listed-whole}
 use Rattle.listing.proofs.Lines.{feeds-append, feeds-few}
-use Rattle.io.specs.Counts.{IsPrefixLen}
+use Rattle.std.specs.Counts.{IsPrefixLen}
 use Rattle.lister.specs.declared.Piece.{Piece}
 use Rattle.lister.specs.Prints.{count_on, Counted, Prints, FigureShown}
 

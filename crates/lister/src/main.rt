@@ -1,18 +1,22 @@
 // The lister: reads a program on standard input and prints its table, verdict and figure, or the number and line of its fault, and then shows the word at fault.
 #![tactic(auto)]
 
-ghost use Rattle.std.specs.Prelude.{◌≤◌, length};
-ghost use Rattle.io.specs.Counts.{IsPrefixLen};
+ghost use Rattle.std.specs.Prelude.{◌≤◌, length, IfOk};
+ghost use Rattle.std.specs.Counts.{IsPrefixLen};
 ghost use Rattle.listing.specs.Written.{longest};
 ghost use Rattle.lister.specs.Prints.{Prints, Counted, most};
 
-use libc::{STDERR_FILENO, STDIN_FILENO, STDOUT_FILENO};
+use std::io;
+use std::io::{Read, Write};
 
 // One byte more than a program may have: enough to see that a text is over_long.
 const KEPT: usize = base::TEXT_BYTES + 1;
 
 // The bytes of the longest table.
 const TABLE_BYTES: usize = 2 * base::TABLE_WORDS;
+
+// The bytes of a piece.
+const PIECE_BYTES: usize = 65536;
 
 // As many pieces are read at most: an input ends long before they do.
 const PIECES: u64 = 1 << 40;
@@ -49,59 +53,75 @@ struct Piece {
 }
 
 // The next piece of the input, where `feeds` line feeds have been counted.
-fn count_piece(feeds: usize, buf: &mut [u8]) -> Piece
+fn count_piece<R: Read>(input: &mut R, feeds: usize, buf: &mut [u8]) -> io::Result<Piece>
     requires { feeds ≤ most }
-    ensures { Counted feeds buf.new result }
+    ensures { IfOk result (λ r. Counted feeds buf.new r) }
 {
-    let n = io::count(libc::read(STDIN_FILENO, buf), buf);
-    Piece {
+    let n = input.read(buf)?;
+    Ok(Piece {
         len: n,
         feeds: feeds + listing::line_feeds(&buf[..n]),
-    }
+    })
 }
 
 // The line feeds from here to the input's end, piece by piece.
-fn count_rest() -> usize
-    ensures { result ≤ most }
+fn count_rest<R: Read>(input: &mut R) -> io::Result<usize>
+    ensures { IfOk result (λ n. n ≤ most) }
 {
-    let mut buf = io::large_buffer();
+    let mut buf = [0u8; PIECE_BYTES];
     let mut feeds = 0;
     let mut left = PIECES;
     while 0 < left {
-        let piece = count_piece(feeds, &mut buf);
+        let piece = count_piece(input, feeds, &mut buf)?;
         if piece.len == 0 {
-            return feeds;
+            return Ok(feeds);
         }
         feeds = piece.feeds;
         left -= 1;
     }
-    feeds
+    Ok(feeds)
+}
+
+// Reads until the buffer is full or the input ends, and says how many bytes it put at the buffer's start.
+fn read_full<R: Read>(input: &mut R, buf: &mut [u8]) -> io::Result<usize>
+    ensures { IfOk result (λ n. n ≤ length buf.new) }
+{
+    let mut n = 0;
+    while n < buf.len() {
+        let more = input.read(&mut buf[n..])?;
+        if more == 0 {
+            return Ok(n);
+        }
+        n += more;
+    }
+    Ok(n)
 }
 
 // Shows the author the word at fault, on standard error: standard output has number and line alone.
-fn show(word: &[u8]) {
+fn show<W: Write>(output: &mut W, word: &[u8]) -> io::Result<()> {
     if word.len() == 0 {
-        io::write_all(STDERR_FILENO, b"at: the end of the text\n");
-        return;
+        return output.write_all(b"at: the end of the text\n");
     }
-    io::write_all(STDERR_FILENO, b"at: ");
-    io::write_all(STDERR_FILENO, word);
-    io::write_all(STDERR_FILENO, b"\n");
+    output.write_all(b"at: ")?;
+    output.write_all(word)?;
+    output.write_all(b"\n")
 }
 
-fn main() {
+fn main(rt: HostRuntime) -> io::Result<()> {
+    let mut input = rt.stdin();
     let mut text = [0u8; KEPT];
-    let n = io::read_full(STDIN_FILENO, &mut text);
+    let n = read_full(&mut input, &mut text)?;
     let mut feeds = 0;
     if n == KEPT {
-        feeds = count_rest();
+        feeds = count_rest(&mut input)?;
     }
     let mut out = [0u8; listing::LONGEST];
     let printed = list(&text[..n], feeds, &mut out);
     let len = printed.len;
-    io::write_all(STDOUT_FILENO, &out[..len]);
+    rt.stdout().write_all(&out[..len])?;
     let answer = printed.answer;
     if answer.number != 0 {
-        show(translator::fault_word(&text[..n], answer));
+        show(&mut rt.stderr(), translator::fault_word(&text[..n], answer))?;
     }
+    Ok(())
 }

@@ -1,15 +1,12 @@
--- `lister::count_rest` is safe and ends: each turn adds 65,536 at most.
+-- `lister::count_rest` ends: each turn adds 65,536 at most.
 use mathlib.Core.Path.{◌≡◌}
 use Prim.Native.Nat.{◌+◌, ◌*◌, ◌≤◌}
-use native.Mathlib.Omega.{arith}
-use borrow.Author.Rules.{rules}
 use lib.ListN.{length}
 use Rattle.lister.specs.Prints.{most}
-use Rattle.lister.proofs.Steps.{counted-most}
 use Rattle.lister.proofs.count_rest.Given as goal
 
 abbrev pub invariant-loop-left : goal.invariant-loop-left
-invariant-loop-left l = (65536 ≡ length l.buf) × (l.feeds + 65536 * l.left ≤ most)
+invariant-loop-left g l = (65536 ≡ length l.buf) × (l.feeds + 65536 * l.left ≤ most)
 
 abbrev pub decreases-loop-left : goal.decreases-loop-left
-decreases-loop-left l = l.left
+decreases-loop-left g l = l.left

@@ -1,0 +1,24 @@
+-- `linkage::close_object` meets its contract.
+use mathlib.Core.List.{List, ◌++◌}
+use mathlib.Core.Path.{◌≡◌, refl, ap, ◌∙◌}
+use Prim.Native.Nat.{ℕ, suc, ◌+◌, ◌-◌, ◌<◌, ◌≤◌}
+use native.Mathlib.Omega.{arith}
+use borrow.Author.Rules.{rules}
+use lib.ListN.{length, drop}
+use Rattle.machine.proofs.Bytes.{length-words_of}
+use Rattle.machine.specs.Bytes.{count, words_of}
+use Rattle.objects.specs.View.{RuleView, all, rule_words}
+use Rattle.linkage.specs.Closing.{Lows}
+use Rattle.linkage.specs.declared.Uses.{Uses}
+use Rattle.linkage.proofs.Groups.{Going, going-first, going_on, going_end, lows-as}
+use Rattle.linkage.proofs.close_object.Given as goal
+
+abbrev pub invariant-loop-i : goal.invariant-loop-i
+invariant-loop-i l =
+    (l.at ≤ length (words_of l.objects)) × (l.n ≤ suc (length l.cells)) × (length l.cells ≡ length l.initial.cells)
+    × ((low : ℕ → ℕ) → Lows (words_of l.objects) l.sites l.lowest l.group.uses low → (vs : List RuleView) (k : List ℕ) → drop l.group.at (words_of l.objects) ≡ all rule_words vs ++ k → length vs ≡ l.left
+    → Going (words_of l.objects) l.names low vs k l.initial.cells l.from l.left l.cells l.at l.n l.i)
+    × (length (words_of l.objects) < 9223372036854775808) × (l.left < 18446744073709551616)
+
+abbrev pub decreases-loop-i : goal.decreases-loop-i
+decreases-loop-i l = l.left - l.i
