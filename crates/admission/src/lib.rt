@@ -108,6 +108,7 @@ fn lowest_denied(table: &[u8], set: &[u8], seen: &[u8], size: usize) -> usize
 }
 
 // Whether a table is admitted for the publisher who holds the set.
+#[inline(never)]
 pub fn admits(table: &[u8], set: &[u8]) -> Admission
     ensures { says result.number result.location ≡ admit (table_of table.now) set.now }
 {

@@ -571,6 +571,7 @@ fn finished(d: Done, rules: usize) -> Rules
 }
 
 // The rules from the place `at` on: their cells, where each begins, and its sort.
+#[inline(never)]
 pub fn build(
     text: &[u8],
     rows: &[u16],

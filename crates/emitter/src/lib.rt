@@ -727,6 +727,7 @@ fn too_short(table: &mut [u8], size: usize) -> Answer
 }
 
 // The table of the program whose cells these are into the lent words, zero words behind it; all zero if it does not fit.
+#[inline(never)]
 pub fn emit(cells: &[u16], sorts: &[u8], rules: usize, table: &mut [u8]) -> Answer
     ensures { Emits cells.now sorts.now rules table.old table.new result.fault result.size }
 {

@@ -1,4 +1,4 @@
-// The C entries (include/sst.h): numbers and byte slices, the walk as its 158 bytes (docs/LAYOUT.md).
+// What the C entries of include/sst.h do (firmware_c exports them): numbers and byte slices, the walk as its 158 bytes (docs/LAYOUT.md).
 #![tactic(auto)]
 
 ghost use Rattle.std.specs.Prelude.{[], ◌∷◌, reverse, false, ◌≡◌, ◌+◌, ◌*◌, ◌<◌, ◌≤◌, min, length, take, drop, get_or};
@@ -285,8 +285,7 @@ pub fn read_walk(s: &[u8]) -> Held
 // Entries
 
 // A fresh walk with a repair allowance, in a buffer of the right length.
-#[unsafe(no_mangle)]
-pub extern "C" fn sst_fresh(walk: &mut [u8], allowance: u16) -> u16
+pub fn sst_fresh(walk: &mut [u8], allowance: u16) -> u16
     ensures { (result ≡ fresh_number walk.old) × (walk.new ≡ fresh_in allowance walk.old) }
 {
     if walk.len() == WALK_BYTES {
@@ -319,8 +318,7 @@ fn give(r: Called, walk: &mut [u8], written: &mut u64, steps: &mut u64) -> u16
 }
 
 // A whole call, on bytes alone.
-#[unsafe(no_mangle)]
-pub extern "C" fn sst_whole(
+pub fn sst_whole(
     table: &[u8],
     tokens: &[u8],
     answers: &[u8],
@@ -343,8 +341,7 @@ pub extern "C" fn sst_whole(
 }
 
 // A paused call, on bytes alone.
-#[unsafe(no_mangle)]
-pub extern "C" fn sst_paused(
+pub fn sst_paused(
     table: &[u8],
     tokens: &[u8],
     given: u16,
@@ -391,8 +388,7 @@ fn fresh_book(seat: &mut [u8], allowance: u16)
 }
 
 // Both books begin.
-#[unsafe(no_mangle)]
-pub extern "C" fn sst_screen_fresh(screen: &mut [u8], allowance_0: u16, allowance_1: u16) -> u16
+pub fn sst_screen_fresh(screen: &mut [u8], allowance_0: u16, allowance_1: u16) -> u16
     ensures { (result ≡ screen_number screen.old) × (screen.new ≡ fresh_bytes allowance_0 allowance_1 screen.old) }
 {
     if screen.len() != SCREEN_BYTES {
@@ -411,8 +407,7 @@ fn left_word(book: u16) -> usize
 }
 
 // The steps left to a book are set anew.
-#[unsafe(no_mangle)]
-pub extern "C" fn sst_refill(screen: &mut [u8], book: u16, left: u64) -> u16
+pub fn sst_refill(screen: &mut [u8], book: u16, left: u64) -> u16
     ensures { (result ≡ refill_number book screen.old) × (screen.new ≡ refill_bytes book left screen.old) }
 {
     if !is_book(book, screen) {
@@ -423,8 +418,7 @@ pub extern "C" fn sst_refill(screen: &mut [u8], book: u16, left: u64) -> u16
 }
 
 // A whole turn: a call of one book with the steps left to it, which fall by those done.
-#[unsafe(no_mangle)]
-pub extern "C" fn sst_turn_whole(
+pub fn sst_turn_whole(
     table: &[u8],
     tokens: &[u8],
     answers: &[u8],
@@ -459,8 +453,7 @@ pub extern "C" fn sst_turn_whole(
 }
 
 // A paused turn.
-#[unsafe(no_mangle)]
-pub extern "C" fn sst_turn_paused(
+pub fn sst_turn_paused(
     table: &[u8],
     tokens: &[u8],
     given: u16,
@@ -520,8 +513,7 @@ fn reason_or_none(p: Phase) -> u16
     }
 }
 
-#[unsafe(no_mangle)]
-pub extern "C" fn sst_phase(walk: &[u8]) -> u16
+pub fn sst_phase(walk: &[u8]) -> u16
     ensures { result ≡ phase_number (form.walk_of walk.now) }
 {
     let h = read_walk(walk);
@@ -534,8 +526,7 @@ pub extern "C" fn sst_phase(walk: &[u8]) -> u16
     }
 }
 
-#[unsafe(no_mangle)]
-pub extern "C" fn sst_reason(walk: &[u8]) -> u16
+pub fn sst_reason(walk: &[u8]) -> u16
     ensures { result ≡ reason_or_none (form.walk_of walk.now) }
 {
     let h = read_walk(walk);
@@ -548,8 +539,7 @@ pub extern "C" fn sst_reason(walk: &[u8]) -> u16
     }
 }
 
-#[unsafe(no_mangle)]
-pub extern "C" fn sst_location(walk: &[u8]) -> u16
+pub fn sst_location(walk: &[u8]) -> u16
     ensures { result ≡ location_or0 (form.walk_of walk.now) }
 {
     let h = read_walk(walk);
@@ -562,8 +552,7 @@ pub extern "C" fn sst_location(walk: &[u8]) -> u16
     }
 }
 
-#[unsafe(no_mangle)]
-pub extern "C" fn sst_read(walk: &[u8]) -> u64
+pub fn sst_read(walk: &[u8]) -> u64
     ensures { result ≡ read_or0 (form.walk_of walk.now) }
 {
     let h = read_walk(walk);
@@ -576,8 +565,7 @@ pub extern "C" fn sst_read(walk: &[u8]) -> u64
     }
 }
 
-#[unsafe(no_mangle)]
-pub extern "C" fn sst_used(walk: &[u8]) -> u64
+pub fn sst_used(walk: &[u8]) -> u64
     ensures { result ≡ used_or0 (form.walk_of walk.now) }
 {
     let h = read_walk(walk);
@@ -590,8 +578,7 @@ pub extern "C" fn sst_used(walk: &[u8]) -> u64
     }
 }
 
-#[unsafe(no_mangle)]
-pub extern "C" fn sst_allowance(walk: &[u8]) -> u16
+pub fn sst_allowance(walk: &[u8]) -> u16
     ensures { result ≡ allowance_or0 (form.walk_of walk.now) }
 {
     let h = read_walk(walk);
@@ -611,8 +598,7 @@ fn flag(b: bool) -> u64
 }
 
 // The processor, on bytes and numbers alone.
-#[unsafe(no_mangle)]
-pub extern "C" fn sst_process(
+pub fn sst_process(
     text: &[u8],
     table: &mut [u8],
     start: &mut u64,
@@ -638,8 +624,7 @@ pub extern "C" fn sst_process(
 // Table files
 
 // A file's table is put into the lent one, if the loader takes it.
-#[unsafe(no_mangle)]
-pub extern "C" fn sst_load(file: &[u8], table: &mut [u8], words: &mut u64, verdict: &mut u64) -> u16
+pub fn sst_load(file: &[u8], table: &mut [u8], words: &mut u64, verdict: &mut u64) -> u16
     ensures verdict_after { hands result words.new verdict.new ≡ files.numbers_of (files.load file.now (count table.old)) }
     ensures lent { table.new ≡ files.lent_bytes (files.load file.now (count table.old)) table.old }
 {
@@ -650,8 +635,7 @@ pub extern "C" fn sst_load(file: &[u8], table: &mut [u8], words: &mut u64, verdi
 }
 
 // The file of a table and a verdict is put into the lent buffer, if the loader would take it.
-#[unsafe(no_mangle)]
-pub extern "C" fn sst_write_file(
+pub fn sst_write_file(
     table: &[u8],
     verdict: u64,
     file: &mut [u8],
@@ -667,8 +651,7 @@ pub extern "C" fn sst_write_file(
 }
 
 // Whether a table is admitted for the publisher who holds the set.
-#[unsafe(no_mangle)]
-pub extern "C" fn sst_admit(table: &[u8], set: &[u8], location: &mut u64) -> u16
+pub fn sst_admit(table: &[u8], set: &[u8], location: &mut u64) -> u16
     ensures { rights.says result location.new ≡ rights.admit (table_of table.now) set.now }
 {
     let a = admission::admits(table, set);
@@ -677,8 +660,7 @@ pub extern "C" fn sst_admit(table: &[u8], set: &[u8], location: &mut u64) -> u16
 }
 
 // A table file is loaded and its table admitted, on bytes and numbers alone.
-#[unsafe(no_mangle)]
-pub extern "C" fn sst_load_admitted(
+pub fn sst_load_admitted(
     file: &[u8],
     set: &[u8],
     table: &mut [u8],
@@ -697,8 +679,7 @@ pub extern "C" fn sst_load_admitted(
 }
 
 // The character filter, on bytes and numbers alone.
-#[unsafe(no_mangle)]
-pub extern "C" fn sst_filter(
+pub fn sst_filter(
     filter: &[u8],
     text: &[u8],
     tokens: &mut [u8],

@@ -99,6 +99,7 @@ fn resolve_rules(
 }
 
 // A text that the syntax pass has read, up to its rules' cells: its declarations into rows, then its rules into cells.
+#[inline(never)]
 pub fn resolve(
     text: &[u8],
     rows: &mut [u16],

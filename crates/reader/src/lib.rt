@@ -1343,6 +1343,7 @@ fn over_long(n: usize) -> Out
 }
 
 // The first fault 1, 2 or 9 of a text and its word, or fault 0: the text is a program.
+#[inline(never)]
 pub fn check_syntax(text: &[u8]) -> Out
     ensures { Decides result (parse text.now) }
 {

@@ -85,6 +85,7 @@ pub fn with_figure(a: Answer, f: Figure) -> Answer
 }
 
 // What the meter finds in a table whose rules start at these locations.
+#[inline(never)]
 fn measure(table: &[u8], starts: &[usize]) -> u64
     requires { IsTabled table.now starts.now }
     ensures { Measures table.now starts.now result }
@@ -113,6 +114,7 @@ pub fn figure_of(table: &[u8], starts: &[usize]) -> Figure
 }
 
 // The table and the verdict of the program in the buffers, or 20. The spare room is written over.
+#[inline(never)]
 pub fn finish(
     size: usize,
     cells: &[u16],
@@ -144,6 +146,7 @@ struct Translated {
 }
 
 // A text that the syntax pass has read, and its rules' locations. Once its rules are resolved the rows are spare room.
+#[inline(never)]
 fn translate(text: &[u8], table: &mut [u8], places: &mut [usize]) -> Translated
     requires { IsRead text.now × (length places.old ≡ 128) }
     ensures { Translates text.now table.old table.new places.new result.answer result.rules }

@@ -1146,6 +1146,7 @@ fn decided(cells: &[u16], starts: &[u16], n: usize, facts: &mut [u16]) -> bool
 // Whether the program of count rules is finishing whose cells these are, rule r's from the place that starts says on. At most 128 rules are
 // looked at: of more, and of cells that are no program's, the answer says nothing. The facts are lent, two numbers each: room for as many numbers
 // as a program has cells, 4224 at most, is enough; of less the answer says nothing either.
+#[inline(never)]
 pub fn verdict(cells: &[u16], starts: &[u16], count: usize, facts: &mut [u16]) -> bool
     ensures { Verdict cells.now starts.now count (length facts.old) result }
 {
