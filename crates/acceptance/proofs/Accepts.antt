@@ -1,6 +1,6 @@
 -- A text that is understood gives an accepted program; a table that the processor accepts is that program's, and all its words and locations
 -- are in range.
-use mathlib.Core.Bool.{Bool, true, false, ◌&&◌, ◌||◌}
+use mathlib.Core.Bool.{Bool, true, false, ◌&&◌}
 use mathlib.Core.List.{List, [], ◌∷◌, ◌++◌}
 use mathlib.Core.Option.{Option, none, some}
 use mathlib.Core.Path.{◌≡◌, refl, sym, ap, ◌∙◌}
@@ -32,7 +32,7 @@ use Rattle.program.proofs.Places.{place-from, place_inside}
 use Rattle.program.specs.Accepted.{Calls, Oks, Accepted}
 use Rattle.program.specs.Past.{past_all}
 use Rattle.program.specs.Program.{Rule, rule_of, body_of}
-use Rattle.program.specs.Table.{size_rules, place, table}
+use Rattle.program.specs.Table.{size_rules, table}
 use Rattle.syntax.specs.Parse.{parse, end_of}
 use Rattle.syntax.specs.Reading.{Read, got, fault}
 use Rattle.syntax.specs.Sections.{names_in_all}

@@ -20,7 +20,7 @@ use Rattle.base.specs.Tree.{plain, cycle, choice, done, ◌▸◌, nil, alternat
 use Rattle.syntax.specs.Actions.{a_constant, a_value, a_ranked, a_plain, a_selector, a_label, some_labels, closes, a_cycle, a_choice, an_action, an_otherwise, an_alternative, actions, alternatives}
 use Rattle.syntax.specs.Parse.{a_rule, some_rules, program, end_of}
 use Rattle.syntax.specs.Reading.{Read, got, fault, Reader, onward, ◌>>=◌, ◌>>◌, pure, peek, pass, refuse, over, within, on◌then◌else◌, expect, longest, short, a_name, one_name, name_or_string, small, a_number, optional}
-use Rattle.syntax.specs.Sections.{a_spelling, a_count, an_entry, entries, kind_ahead, is_full, a_parameter, numbered, an_operation, some_operations, spells, ranking, a_level, a_side, an_operator, some_operators, operator_section, mechanism_section, other_section, Sofar, nothing, after as after_section, token_section, a_section, Sections, some_sections}
+use Rattle.syntax.specs.Sections.{a_spelling, a_count, an_entry, entries, kind_ahead, is_full, a_parameter, numbered, an_operation, some_operations, spells, ranking, a_level, a_side, an_operator, some_operators, operator_section, mechanism_section, other_section, Sofar, nothing, after as after_section, token_section, a_section, some_sections}
 use Rattle.syntax.specs.Written.{Plain, named, any, exit, emit, error as an_error, call, give, ranked, Selector, by_token, by_rule, by_operation, Act, Acts, Alts, Other, Choices, Constant, Entry, Operation, Operator, Section, inputs, outputs, both, errors, values, operations, operators, Rule, Program}
 use Rattle.words.specs.Words.{Word, bad, last, twice, name, number, string, input, output, error, type, mechanism, rules, end, value, words}
 

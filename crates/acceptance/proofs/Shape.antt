@@ -1,8 +1,6 @@
 -- What the syntax pass leaves of a program as written: values and instruction numbers in range, labels where a default needs one.
-use mathlib.Core.Bool.{true}
 use mathlib.Core.List.{List, [], ◌∷◌}
-use Prim.Native.Nat.{ℕ, ◌+◌, ◌<◌, ◌≤◌}
-use lib.ListN.{length}
+use Prim.Native.Nat.{◌+◌, ◌<◌, ◌≤◌}
 use Rattle.base.specs.Common.{given}
 use Rattle.base.specs.Tree.{plain, cycle, choice, done, ◌▸◌, nil, alternative, absent, otherwise}
 use Rattle.syntax.specs.Sections.{first_of}

@@ -1,7 +1,7 @@
 -- "with budgets and buffers enough": two calls of one walk that end neither with 35 nor with 36 give the same, whatever their budgets and
 -- buffers; from it the agreement of a whole call with paused calls that each have a budget and a buffer of their own.
 use mathlib.Core.Bool.{Bool, true, false}
-use mathlib.Core.List.{List, [], ◌∷◌}
+use mathlib.Core.List.{List, []}
 use mathlib.Core.Option.{Option, none, some}
 use mathlib.Core.Path.{◌≡◌, refl, sym, ap, ◌∙◌}
 use Prim.Native.Nat.{ℕ, zero, suc, ◌+◌, ◌-◌, ◌*◌, ◌^◌, ◌<◌, ◌≤◌}
@@ -10,7 +10,7 @@ use lib.Dec.{ltb}
 use lib.ListN.{length, drop}
 use borrow.Author.Tests.{ltb-false, le-ltb}
 use Rattle.std.specs.Prelude.{if◌then◌else◌}
-use Rattle.events.specs.Events.{Event, unanswered, answer}
+use Rattle.events.specs.Events.{Event, answer}
 use Rattle.machine.specs.Call.{Mode, whole, paused, Called, ends, writing, Turn, over, further, takes, hands_out, turn, run, call_in, call_walk}
 use Rattle.machine.specs.Step.{Next, goes_outside, stops, goes, tells, asks, step}
 use Rattle.machine.specs.Walk.{Phase, going, waiting, stopped, Walk, with_answer, at_rest}

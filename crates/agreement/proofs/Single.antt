@@ -1,5 +1,5 @@
 -- The walk over a table as single steps, with no budget, no buffer and no pause: what every list of calls comes to.
-use mathlib.Core.List.{List, ◌∷◌}
+use mathlib.Core.List.{List}
 use mathlib.Core.Option.{Option, none, some}
 use Prim.Native.Nat.{ℕ, zero, suc}
 use lib.ListN.{get_elem?}

@@ -1,11 +1,10 @@
 -- Demand 3: from the lists of calls, the single steps and the rules' own walk to the claim itself.
-use mathlib.Core.Bool.{Bool, true}
+use mathlib.Core.Bool.{Bool}
 use mathlib.Core.List.{List, [], ◌∷◌, ◌++◌, append-nil}
 use mathlib.Core.Logic.{inl, inr}
-use mathlib.Core.Option.{Option, none, some}
+use mathlib.Core.Option.{Option}
 use mathlib.Core.Path.{◌≡◌, refl, sym, ap, ◌∙◌}
 use Prim.Native.Nat.{ℕ, zero, suc, ◌+◌, ◌-◌, ◌*◌, ◌<◌, ◌≤◌}
-use lib.ListN.{length, get_elem?}
 use native.Mathlib.Decide.{dec_lt}
 use native.Mathlib.Omega.{arith}
 use Rattle.acceptance.proofs.Accepts.{accepted-table}
@@ -17,13 +16,13 @@ use Rattle.agreement.proofs.MoreAnswers.{one_more, alike}
 use Rattle.agreement.proofs.Lists.{with_events, step-asked, going-stopped, waiting-stopped, runs-suc, one-going, Where, lives, left, waits, listed-where, kept_fresh, number-37}
 use Rattle.agreement.proofs.Sim.{Running, running-on, running-choosing}
 use Rattle.agreement.proofs.Single.{taking, done, one_in, one, runs}
-use Rattle.agreement.specs.Demand.{wanted, Listed, RulesStop, RulesWrite, HasStopped, Suffices, StepsBelow, Agrees, Finishes, Demand3}
+use Rattle.agreement.specs.Demand.{Listed, RulesStop, RulesWrite, HasStopped, Suffices, StepsBelow, Agrees, Finishes, Demand3}
 use Rattle.events.specs.Events as io
 use Rattle.events.specs.Events.{Event, Reason, unanswered, outside, choices, Io}
 use Rattle.finishing.proofs.Exact.{finishing-sound, finishing-complete}
 use Rattle.finishing.specs.Finishing.{Finishing}
 use Rattle.machine.specs.Call.{writing}
-use Rattle.machine.specs.Step.{Next, goes_outside, stops, step}
+use Rattle.machine.specs.Step.{Next, goes_outside, step}
 use Rattle.machine.specs.Walk
 use Rattle.machine.specs.Walk.{Phase, going, waiting, stopped, Walk, fresh, with_io, in_phase, with_answer}
 use Rattle.ownwalk.specs.OwnWalk as rules

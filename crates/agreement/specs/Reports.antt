@@ -1,5 +1,5 @@
 -- What a call's number says of the walk that it gives back.
-use Rattle.std.specs.Prelude.{◌≡◌, ℕ}
+use Rattle.std.specs.Prelude.{ℕ}
 use Rattle.events.specs.Events.{Reason, reason_number}
 use Rattle.machine.specs.Call.{waits}
 use Rattle.machine.specs.Walk.{Phase, going, waiting, stopped}

@@ -1,13 +1,13 @@
 -- Choices: the selector, the labelled alternatives and otherwise, one law for each way in which a function goes on or returns.
-use mathlib.Core.Bool.{Bool, true, false, ◌&&◌, ◌||◌, or-false, or_assoc}
+use mathlib.Core.Bool.{Bool, false, ◌||◌, or-false, or_assoc}
 use mathlib.Core.List.{List, [], ◌∷◌, ◌++◌}
 use mathlib.Core.Logic.{◌⊎◌, inl, inr}
 use mathlib.Core.Path.{◌≡◌, refl, sym, ap, ◌∙◌, subst}
-use Prim.Native.Nat.{ℕ, ◌+◌, ◌-◌, ◌<◌, ◌≤◌}
+use Prim.Native.Nat.{ℕ, ◌+◌, ◌-◌, ◌≤◌}
 use lib.ListN.{length, take}
 use native.Mathlib.Omega.{arith}
 use Rattle.base.specs.Common.{member}
-use Rattle.base.specs.Tree.{choice, done, nil, alternative, absent, otherwise}
+use Rattle.base.specs.Tree.{choice, nil, alternative, absent, otherwise}
 use Rattle.resolver.proofs.Appending.{appends-length}
 use Rattle.builder.proofs.Encoding.{choice-cells, alternative-cells}
 use Rattle.builder.proofs.Laws.{ends-fails, ends-here, ends-map, ends-moved, ends-then, member-more}

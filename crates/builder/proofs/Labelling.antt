@@ -1,14 +1,12 @@
 -- Alternatives: the labels that stand in the choice's array and are copied to the cells.
-use mathlib.Core.Bool.{Bool, true, false, ◌&&◌, ◌||◌}
+use mathlib.Core.Bool.{Bool, true, false}
 use mathlib.Core.List.{List, [], ◌∷◌, ◌++◌}
-use mathlib.Core.Logic.{inr}
 use mathlib.Core.Path.{◌≡◌, refl, sym, ap, ◌∙◌, subst}
 use Prim.Native.Nat.{ℕ, zero, suc, ◌+◌, ◌-◌, ◌<◌, ◌≤◌}
 use lib.ListN.{length, take, drop, get_or, length-drop}
 use lib.Seq.{drop-append_seam, get_or-drop, length-take-le, take-nil, take-suc}
 use native.Mathlib.Omega.{arith}
 use Rattle.base.specs.Common.{member}
-use Rattle.base.specs.Tree.{choice, done, otherwise}
 use Rattle.resolver.proofs.Appending.{appends-length, appends-none, appends-then}
 use Rattle.builder.proofs.Laws.{Holds, ends-after, ends-map}
 use Rattle.builder.specs.Parts.{place_of, labelled_of, label_cells, ActsDone, LabelledDone}
@@ -19,7 +17,7 @@ use Rattle.grammar.specs.Derived.{Took, ActsIn}
 use Rattle.names.specs.Known.{Checked, good, wrong, ◌>>=◌, fault_if, lookup, Known, KnownRule, Names}
 use Rattle.names.specs.Resolve.{labels_of, acts_of}
 use Rattle.places.proofs.Heres.{took-here}
-use Rattle.program.specs.Past.{past, past_all, exits, exits_all}
+use Rattle.program.specs.Past.{past_all, exits_all}
 use Rattle.program.specs.Program as means
 use Rattle.resolver.specs.Resolved.{Appends, Ends, failed, Flags, LabelsEnd, labelled, mislabelled, LabelsDone}
 use Rattle.resolver.specs.declared.Done.{Done}

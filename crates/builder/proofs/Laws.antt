@@ -2,8 +2,7 @@
 use mathlib.Core.Bool.{◌||◌, or_comm}
 use mathlib.Core.List.{List, ◌++◌}
 use mathlib.Core.Path.{◌≡◌, sym, ap, ◌∙◌}
-use Prim.Native.Nat.{ℕ, ◌+◌, ◌-◌, ◌<◌}
-use lib.ListN.{length}
+use Prim.Native.Nat.{ℕ}
 use Rattle.base.proofs.Laws.{member-append}
 use Rattle.base.specs.Common.{member}
 use Rattle.resolver.proofs.Appending.{appends-then}

@@ -1,6 +1,6 @@
 -- A rule's head: its name, which nothing before it may have, and its type.
-use Rattle.std.specs.Prelude.{Bool, true, false, ◌&&◌, ◌||◌, List, ◌≡◌, ℕ, ◌+◌, ◌≤◌, eqb, ltb, length}
-use Rattle.std.proofs.Math.Option.{Option, none, some}
+use Rattle.std.specs.Prelude.{Bool, ◌&&◌, ◌||◌, List, ◌≡◌, ℕ, ◌+◌, ◌≤◌, eqb, ltb, length}
+use Rattle.std.proofs.Math.Option.{Option}
 use Rattle.base.specs.Common.{given}
 use Rattle.builder.specs.declared.Head.{Head}
 use Rattle.declarations.specs.Decls.{Decl, index_of, optional_in}

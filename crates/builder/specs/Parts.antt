@@ -1,6 +1,6 @@
 -- What the functions that resolve actions promise: for every program whose declarations the rows hold, and every tree that stands at the place,
 -- the outcome is that of crate names, the cells appended are the encoding of what it means, and the flags are those of crate program.
-use Rattle.std.specs.Prelude.{Bool, true, false, ◌&&◌, ◌||◌, List, [], ◌∷◌, ◌++◌, ◌≡◌, ℕ, suc, ◌+◌, ◌-◌, ◌<◌, ◌≤◌, length, take, drop}
+use Rattle.std.specs.Prelude.{Bool, ◌&&◌, ◌||◌, List, [], ◌∷◌, ◌++◌, ◌≡◌, ℕ, suc, ◌+◌, ◌-◌, ◌≤◌, length, take, drop}
 use Rattle.base.specs.Common.{member}
 use Rattle.base.specs.Tree.{cycle, choice, otherwise}
 use Rattle.builder.specs.declared.Labelled.{Labelled}

@@ -1,5 +1,5 @@
 -- One rule, and the rules from one on: what is promised of them before the whole.
-use Rattle.std.specs.Prelude.{true, false, ◌&&◌, List, [], ◌∷◌, ◌≡◌, ℕ, ◌+◌, ◌<◌, ◌≤◌, eqb, ltb, length, get_or, drop}
+use Rattle.std.specs.Prelude.{false, ◌&&◌, List, [], ◌≡◌, ℕ, ◌+◌, ◌<◌, ◌≤◌, eqb, ltb, length, get_or, drop}
 use Rattle.base.specs.Common.{given}
 use Rattle.builder.specs.Heads.{head_of}
 use Rattle.builder.specs.Parts.{place_of}

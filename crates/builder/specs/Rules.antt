@@ -1,5 +1,5 @@
 -- What the function that resolves the rules promises: their cells one after the other, where each begins, and what sort it is.
-use Rattle.std.specs.Prelude.{List, [], ◌∷◌, ◌≡◌, ℕ, ◌+◌, ◌<◌, ◌≤◌, length, get_or}
+use Rattle.std.specs.Prelude.{List, [], ◌≡◌, ℕ, ◌<◌, ◌≤◌, length, get_or}
 use Rattle.builder.specs.declared.Rules.{Rules}
 use Rattle.cells.specs.Cells.{rules_cells, cells_start}
 unfoldable pub use Rattle.cells.specs.Cells.{sort_of}

@@ -1,6 +1,6 @@
 -- Where `sst_load_admitted` answers 0, no call over the bytes that it left writes an event of an operation outside the set.
-use mathlib.Core.Bool.{true, ◌&&◌}
-use mathlib.Core.List.{List, ◌∷◌}
+use mathlib.Core.Bool.{true}
+use mathlib.Core.List.{List}
 use mathlib.Core.Path.{◌≡◌, refl, sym, ap, ◌∙◌}
 use Prim.Native.Nat.{ℕ}
 use Rattle.base.specs.Bools.{both}

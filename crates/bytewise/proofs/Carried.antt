@@ -1,10 +1,10 @@
 -- Carrying over bytes: what `sst_carry` leaves where it answers 0 goes on, over the bytes of the new table, as the new rules say.
-use mathlib.Core.Bool.{Bool, true, false, ◌&&◌}
+use mathlib.Core.Bool.{Bool, true, false}
 use mathlib.Core.List.{List, [], ◌∷◌, ◌++◌}
 use mathlib.Core.Logic.{◌⊎◌, inl, inr}
 use mathlib.Core.Option.{Option, none, some}
-use mathlib.Core.Path.{◌≡◌, refl, sym, ap, ◌∙◌, subst}
-use Prim.Native.Nat.{ℕ, zero, suc, ◌+◌, ◌-◌, ◌*◌, ◌<◌, ◌≤◌}
+use mathlib.Core.Path.{◌≡◌, refl, sym, ap, ◌∙◌}
+use Prim.Native.Nat.{ℕ, ◌+◌, ◌-◌, ◌*◌, ◌<◌, ◌≤◌}
 use native.Mathlib.Omega.{arith}
 use lib.ListN.{length, get_elem?}
 use Rattle.acceptance.proofs.Accepts.{accepted-table}
@@ -20,9 +20,9 @@ use Rattle.carry.proofs.Lying.{accepted-most}
 use Rattle.carry.proofs.Sources.{SourceOk, source_ok}
 use Rattle.carry.proofs.Theorem.{carrying-on}
 use Rattle.carry.specs.Carry.{Source, Carried, carried, stays, carry_place, carry_places, put_at, same_all, carry, source_of}
-use Rattle.carry.specs.GoingOn.{WritesFrom, StopsFrom, EndsBy, Follows, GoesOn, Carries, CarryingOn}
+use Rattle.carry.specs.GoingOn.{WritesFrom, EndsBy, Follows, GoesOn, Carries, CarryingOn}
 use Rattle.carry.specs.Texts.{answer_of, between, carry_texts, told, Outcome, outcome, carry_bytes}
-use Rattle.events.specs.Events.{Event, Reason, Io}
+use Rattle.events.specs.Events.{Event, Reason}
 use Rattle.figure.specs.Count.{figure}
 use Rattle.machine.proofs.Bytes.{length-words_of}
 use Rattle.machine.proofs.Form.{walk_of-walk_bytes}

@@ -1,8 +1,6 @@
 -- The figure that `sst_process` tells of the new text is enough for every list of calls after a carrying.
 use mathlib.Core.Bool.{true}
-use mathlib.Core.List.{List}
-use mathlib.Core.Path.{◌≡◌, refl, ap, ◌∙◌}
-use Prim.Native.Nat.{ℕ, ◌<◌}
+use mathlib.Core.Path.{refl, ap, ◌∙◌}
 use native.Mathlib.Omega.{arith}
 use Rattle.figure.specs.Told.{figure_of}
 use Rattle.firmware.proofs.Zero.{accepts-0}

@@ -1,8 +1,8 @@
 -- Demand 3 for the bytes that `sst_process` leaves in a lent buffer, and calls of `sst_whole` and `sst_paused` over them.
-use mathlib.Core.Bool.{Bool, true}
+use mathlib.Core.Bool.{Bool}
 use mathlib.Core.List.{List, [], ◌∷◌, ◌++◌, append_assoc}
 use mathlib.Core.Logic.{◌⊎◌, inl, inr}
-use mathlib.Core.Option.{Option, none, some}
+use mathlib.Core.Option.{Option, some}
 use mathlib.Core.Path.{◌≡◌, sym, ap, ◌∙◌}
 use Prim.Native.Nat.{ℕ, zero, suc, ◌+◌, ◌*◌, ◌-◌, ◌<◌, ◌≤◌}
 use native.Mathlib.Omega.{arith}
@@ -25,7 +25,7 @@ use Rattle.processor.specs.Process.{Answer, accepted, process, lent_words, lent_
 use Rattle.program.specs.Program.{Rule}
 use Rattle.bytewise.proofs.Joined.{events_words-then, choices-words, byte-calls}
 use Rattle.bytewise.specs.AtEntries.{RulesWriteWords, RulesStopWords, WaitsPastBytes, StoppedBytes, SufficesBytes, StepsBelowBytes, AgreesBytes, Leaves, AtEntries, Processed, Claimed}
-use Rattle.bytewise.specs.ByteCalls.{Slice, choices_in, ByteCalls, Stands}
+use Rattle.bytewise.specs.ByteCalls.{Slice, ByteCalls, Stands}
 
 -- The lent bytes
 

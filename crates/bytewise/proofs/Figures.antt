@@ -5,7 +5,6 @@ use mathlib.Core.Option.{Option, none, some}
 use mathlib.Core.Path.{◌≡◌, refl, sym, ap, ◌∙◌}
 use Prim.Native.Nat.{ℕ, ◌+◌, ◌*◌, ◌<◌}
 use native.Mathlib.Omega.{arith}
-use lib.ListN.{length}
 use Rattle.acceptance.proofs.Accepts.{accepted-table}
 use Rattle.figure.proofs.Battery.{figure-enough, figure-steps}
 use Rattle.figure.specs.Count.{figure}

@@ -3,14 +3,12 @@ use mathlib.Core.Bool.{Bool}
 use mathlib.Core.List.{List}
 use mathlib.Core.Path.{◌≡◌}
 use Prim.Native.Nat.{ℕ, ◌<◌}
-use Rattle.agreement.specs.Demand.{Listed}
 use Rattle.carry.proofs.Identity.{identity-bytes}
 use Rattle.carry.proofs.Lying.{accepted-most, lies-from-calls}
 use Rattle.carry.specs.Identity.{Unmoved}
 use Rattle.carry.specs.Texts.{carry_bytes}
 use Rattle.figure.specs.Told.{figure_of}
 use Rattle.firmware.proofs.Zero.{accepts-0}
-use Rattle.firmware.specs.Processing.{Numbers}
 use Rattle.machine.specs.Bytes.{count, words_of}
 use Rattle.processor.specs.Process.{accepted, process}
 use Rattle.bytewise.proofs.Entries.{behind, begins, left-bytes}

@@ -1,8 +1,8 @@
 -- Carrying as a caller from C meets it: calls over the bytes that `sst_process` left for the old text, then `sst_carry`, then calls over the bytes that it left for the new text.
 use Rattle.std.specs.Prelude.{Bool, true, List, [], ◌∷◌, ◌++◌, ◌⊎◌, ◌≡◌, ℕ, ◌-◌, ◌<◌, length}
-use Rattle.std.proofs.Math.Option.{none, some}
+use Rattle.std.proofs.Math.Option.{some}
 use Rattle.std.proofs.Math.ListN.{get_elem?}
-use Rattle.agreement.specs.Demand.{events_of, HasStopped}
+use Rattle.agreement.specs.Demand.{events_of}
 use Rattle.agreement.specs.Reports.{Reports}
 use Rattle.carry.specs.GoingOn.{StopsFrom, Starts}
 use Rattle.carry.specs.Texts.{Outcome, carry_bytes}

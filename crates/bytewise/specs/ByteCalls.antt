@@ -1,6 +1,6 @@
 -- "The firmware calls in from C with numbers and byte slices": a list of calls as `sst_whole` and `sst_paused` get them, over bytes alone,
 -- each getting the bytes of the walk that the last one gave back.
-use Rattle.std.specs.Prelude.{true, ◌&&◌, List, [], ◌∷◌, ◌++◌, ◌≡◌, ℕ, ◌+◌, ◌*◌, ◌-◌, ◌^◌, ◌<◌, eqb, leb, length, take, get_or, if◌then◌else◌}
+use Rattle.std.specs.Prelude.{◌&&◌, List, [], ◌∷◌, ◌++◌, ◌≡◌, ℕ, ◌+◌, ◌*◌, ◌-◌, ◌^◌, ◌<◌, eqb, leb, length, take, get_or, if◌then◌else◌}
 use Rattle.std.proofs.Math.Option.{none, some}
 use Rattle.std.proofs.Math.ListN.{get_elem?}
 use Rattle.agreement.specs.Demand.{ListedFrom}

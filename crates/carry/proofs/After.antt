@@ -1,6 +1,5 @@
 -- Lists of calls that begin with a walk at whose place the rules' own walk stands: what demand 3 says of them.
-use mathlib.Core.Path.{◌≡◌, refl, sym, ap, ◌∙◌, subst}
-use mathlib.Core.Bool.{true}
+use mathlib.Core.Path.{◌≡◌, refl, sym, ap, ◌∙◌}
 use mathlib.Core.Logic.{◌⊎◌, inl, inr}
 use mathlib.Core.Option.{Option, none, some}
 use mathlib.Core.List.{List, [], ◌∷◌, ◌++◌, append-nil}
@@ -13,8 +12,8 @@ use Rattle.agreement.proofs.Agree.{Same, same-events, same-stopped, stopped-same
 use Rattle.agreement.proofs.Laid.{program-laid}
 use Rattle.agreement.proofs.Lists.{with_events, step-asked, going-stopped, going-waiting, waiting-stopped, Kept, runs-suc, one-going, Where, lives, left, waits, listed-from, Awaits, still, answered, listed-awaits, number-37}
 use Rattle.agreement.proofs.MoreAnswers.{one_more, alike_from}
-use Rattle.agreement.proofs.Single.{taking, done, one_in, one, runs}
-use Rattle.agreement.proofs.Theorem.{stays, later}
+use Rattle.agreement.proofs.Single.{taking, done, one, runs}
+use Rattle.agreement.proofs.Theorem.{later}
 use Rattle.agreement.specs.Demand.{events_of, wanted, Allowed, ListedFrom, begin, then_call, HasStopped}
 use Rattle.carry.proofs.Found.{Spot}
 use Rattle.carry.proofs.Lists.{none-some}
@@ -23,7 +22,6 @@ use Rattle.carry.specs.Places.{Within, at_start, behind_value, behind_parameter,
 use Rattle.events.specs.Events as events
 use Rattle.events.specs.Events.{Event, Reason, outside, choices, Io}
 use Rattle.machine.specs.Call.{Mode, whole, paused, Called, writing, call_in, call_walk}
-use Rattle.machine.specs.Decode.{decode}
 use Rattle.machine.specs.Step.{Next, goes_outside, exec, step}
 use Rattle.machine.specs.Walk
 use Rattle.machine.specs.Walk.{Phase, going, waiting, stopped, Walk, with_io, in_phase, with_answer}

@@ -8,18 +8,14 @@ use native.Mathlib.Omega.{arith}
 use lib.ListN.{length, get_or}
 use Rattle.base.proofs.Laws.{same-eq}
 use Rattle.std.specs.Prelude.{if◌then◌else◌}
-use Rattle.base.specs.Common.{same}
 use Rattle.carry.proofs.Carrying.{keeping}
 use Rattle.carry.proofs.Found.{length_marked}
-use Rattle.carry.proofs.Lists.{some_inj, none-some, number-found, LiesIn, place-of}
-use Rattle.carry.specs.Carry.{Source, Place, place_of, number_of, name_of, mark, marked_words, same_words, in_rule, carried_at, carry_place, beside, carry_places, Carried, carried, stays, put_at, same_all, carry}
-use Rattle.carry.specs.GoingOn.{Kept}
-use Rattle.events.specs.Events.{Event, Io}
+use Rattle.carry.proofs.Lists.{some_inj, none-some, number-found, place-of}
+use Rattle.carry.specs.Carry.{Source, Place, place_of, number_of, name_of, mark, marked_words, same_words, in_rule, carried_at, carry_place, beside, carry_places, carried, stays, put_at, same_all, carry}
 use Rattle.machine.specs.Form.{Fits}
-use Rattle.machine.specs.Walk
 use Rattle.machine.specs.Walk.{Walk, moved, with_returns}
 use Rattle.program.proofs.Places.{place-fits}
-use Rattle.program.specs.Program.{Rule, rule_of}
+use Rattle.program.specs.Program.{rule_of}
 use Rattle.program.specs.Table.{size_rule, size_rules, place}
 
 module _ (p q : Source) (nq : length q.names ≡ length q.rules) where

@@ -1,17 +1,17 @@
 -- A walk that a list of calls led to, carried: it goes on, waits or has stopped, and in each case the new rules go on from its places.
-use mathlib.Core.Path.{◌≡◌, refl, sym, ap, ◌∙◌, subst}
-use mathlib.Core.Logic.{inl, inr}
+use mathlib.Core.Path.{◌≡◌, refl, sym, ap, ◌∙◌}
+use mathlib.Core.Logic.{inr}
 use mathlib.Core.Bool.{Bool, true, false}
 use mathlib.Core.Option.{Option, none, some}
 use mathlib.Core.List.{List, [], ◌∷◌, ◌++◌}
-use Prim.Native.Nat.{ℕ, zero, suc, ◌+◌, ◌-◌, ◌*◌, ◌^◌, ◌≤◌, ◌<◌, min}
+use Prim.Native.Nat.{ℕ, suc, ◌+◌, ◌-◌, ◌*◌, ◌^◌, ◌≤◌, ◌<◌, min}
 use native.Mathlib.Omega.{arith}
 use lib.ListN.{length, get_elem?}
 use Rattle.agreement.proofs.Agree.{agree, never-outside}
 use Rattle.agreement.proofs.BoundWalk.{budget}
-use Rattle.agreement.proofs.Lists.{with_events, step-asked, choices-asked, wanted-asked, asked-next, Kept, kept-runs, kept_fresh, runs-suc, one-going, Where, lives, left, waits, listed-where, going-stopped, going-waiting, waiting-stopped}
+use Rattle.agreement.proofs.Lists.{with_events, step-asked, choices-asked, wanted-asked, asked-next, Kept, kept-runs, kept_fresh, Where, lives, left, waits, listed-where, going-stopped, going-waiting, waiting-stopped}
 use Rattle.agreement.proofs.MoreAnswers.{kept-answer, one_more, alike}
-use Rattle.agreement.proofs.Single.{taking, done, one, runs}
+use Rattle.agreement.proofs.Single.{taking, runs}
 use Rattle.agreement.proofs.Theorem.{no-way-out}
 use Rattle.agreement.specs.Demand.{wanted, Listed}
 use Rattle.std.specs.Prelude.{if◌then◌else◌}
@@ -20,8 +20,8 @@ use Rattle.carry.proofs.Ends.{ends-after}
 use Rattle.carry.proofs.Found.{carried-inj, no-stay, Spot, found_after}
 use Rattle.carry.proofs.Lists.{some_inj, none-some, Distinct}
 use Rattle.carry.proofs.Tokens.{runs-reads}
-use Rattle.carry.specs.Carry.{Source, carry_place, beside, carry_places, Carried, carried, stays, put_at, same_all, carry}
-use Rattle.carry.specs.GoingOn.{Kept as AllKept, Starts, starts_going, starts_waiting, starts_stopped, EndsBy, GoesOn, Carries, after}
+use Rattle.carry.specs.Carry.{Source, carry_place, beside, carry_places, carried, stays, put_at, same_all, carry}
+use Rattle.carry.specs.GoingOn.{Kept as AllKept, starts_going, starts_waiting, starts_stopped, EndsBy, GoesOn, Carries, after}
 use Rattle.carry.specs.Places.{Standing}
 use Rattle.events.specs.Events as events
 use Rattle.events.specs.Events.{Event, Reason, outside, choices, Io}

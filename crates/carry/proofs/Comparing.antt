@@ -3,27 +3,25 @@ use mathlib.Core.Bool.{Bool, true, false}
 use mathlib.Core.List.{List, [], ◌∷◌, ◌++◌}
 use mathlib.Core.Option.{Option, none, some}
 use mathlib.Core.Path.{◌≡◌, refl, sym, ap, ◌∙◌}
-use Prim.Native.Nat.{ℕ, zero, suc, ◌+◌, ◌*◌, ◌≤◌, ◌<◌}
+use Prim.Native.Nat.{ℕ, suc, ◌+◌, ◌*◌, ◌≤◌, ◌<◌}
 use native.Mathlib.Omega.{arith}
 use lib.Dec.{eqb}
 use lib.ListN.{length}
 use borrow.Author.Tests.{eqb-true, eq-eqb, ne_eqb}
 use Rattle.agreement.proofs.Laid.{own_words}
-use Rattle.base.proofs.Laws.{is_false}
 use Rattle.base.specs.Bools.{never, split}
 use Rattle.base.specs.Bools as bools
-use Rattle.std.specs.Prelude.{if◌then◌else◌}
 use Rattle.base.specs.Common.{same}
 use Rattle.base.specs.Tree.{plain, cycle, choice, done, ◌▸◌, nil, alternative, absent, otherwise}
 use Rattle.carry.proofs.Found.{shift-place, place-back}
-use Rattle.carry.proofs.Lists.{some_inj, name-self, name-eq, Distinct, number-name, number-found, LiesIn, place-of}
+use Rattle.carry.proofs.Lists.{name-self, name-eq, Distinct, number-name, number-found, place-of}
 use Rattle.carry.proofs.Scanning.{in_step, scanned-rule}
 use Rattle.carry.specs.Carry.{Name, same_name, Source, Place, place_of, number_of, name_of, numbered, mark, marked_words, same_words}
-use Rattle.carry.specs.Scan.{instruction, scan, same_scan, names_meet, calls_meet}
+use Rattle.carry.specs.Scan.{instruction, same_scan, names_meet, calls_meet}
 use Rattle.program.proofs.Places.{rule-word}
-use Rattle.program.specs.Accepted.{Calls, OkPlain, OkSelector, Ok, Oks, OkAlts, OkOther, Accepted}
+use Rattle.program.specs.Accepted.{OkPlain, OkSelector, Ok, Oks, OkAlts, OkOther, Accepted}
 use Rattle.program.specs.Program.{Plain, match, any, emit, error, exit, call, back, give, update, update_with, Selector, by_token, by_rule, by_operation, by_operation_with, Act, Acts, Alts, Other, Rule, rule_of, body_of}
-use Rattle.program.specs.Table.{count_labels, sizes, size_alts, size_other, size_absent, table_words, first_label, absent_words, choice_number, selector_words, plain_words, code, codes, code_alts, code_other, end_words, size_rule, place}
+use Rattle.program.specs.Table.{count_labels, sizes, size_alts, size_other, size_absent, table_words, first_label, absent_words, choice_number, selector_words, plain_words, code, codes, code_alts, code_other, end_words, place}
 
 -- Only the rules that are there are called
 

@@ -1,23 +1,21 @@
 -- A walk carried to a finishing program ends, within a budget that the program, the number of tokens and the allowance left give.
-use mathlib.Core.Path.{◌≡◌, refl, sym, ap, ◌∙◌, subst}
-use mathlib.Core.List.{List, [], ◌∷◌, ◌++◌}
-use mathlib.Core.Option.{some}
-use Prim.Native.Nat.{ℕ, zero, suc, ◌+◌, ◌*◌, ◌≤◌, ◌<◌}
+use mathlib.Core.Path.{◌≡◌, refl, sym, ap, ◌∙◌}
+use mathlib.Core.List.{List, ◌++◌}
+use Prim.Native.Nat.{ℕ, suc, ◌+◌, ◌*◌, ◌≤◌, ◌<◌}
 use native.Mathlib.Nat.{le_refl}
 use native.Mathlib.Omega.{arith}
 use lib.ListN.{length}
-use Rattle.agreement.proofs.Agree.{Same, near, near_same, ahead}
-use Rattle.agreement.proofs.Bound.{Over, over-stopped, over-nowhere, read_of, left_of, weigh, weighs, weigh_alts, weigh_other, Tame, Tames, TameAlts, TameOther}
+use Rattle.agreement.proofs.Agree.{near, near_same, ahead}
+use Rattle.agreement.proofs.Bound.{read_of, left_of, weigh, weighs, weigh_alts, Tame, Tames, TameAlts}
 use Rattle.agreement.proofs.BoundRules.{total, total-le, tame-rule}
-use Rattle.agreement.proofs.BoundWalk.{call_cost, all_rules, most, budget, Fits, fits-rule, fits-cycle, fits-alternative, fits-otherwise, fits-tame, fits-rest, Waits, waits-nil, waits-before, waits-choice, Sits, Good, good-on, good-choosing, OverBy, over_by}
+use Rattle.agreement.proofs.BoundWalk.{call_cost, all_rules, budget, Fits, fits-rule, fits-cycle, fits-alternative, fits-otherwise, fits-tame, fits-rest, Waits, waits-nil, waits-before, waits-choice, Good, good-on, good-choosing, over_by}
 use Rattle.agreement.proofs.Laid.{program-laid}
-use Rattle.agreement.proofs.Lists.{Kept}
 use Rattle.agreement.proofs.Single.{runs}
 use Rattle.agreement.proofs.Theorem.{over-stops, later}
-use Rattle.base.specs.Tree.{cycle, choice, ◌▸◌, alternative, otherwise}
-use Rattle.carry.proofs.After.{Steps, within-steps, runs-add}
+use Rattle.base.specs.Tree.{choice, otherwise}
+use Rattle.carry.proofs.After.{within-steps, runs-add}
 use Rattle.carry.proofs.Found.{Spot}
-use Rattle.carry.proofs.Tokens.{Reads, Goes, Tells, Leaves, step-leaves, runs-reads}
+use Rattle.carry.proofs.Tokens.{Leaves, step-leaves, runs-reads}
 use Rattle.carry.specs.Places.{OneOf, this_one, that_one, Inside, in_start, in_rest, inside_cycle, in_labelled, inside_otherwise, PendingAt, no_pending, pending_at, choice_at, StandsAt, stands_on, stands_choosing, Within, at_start, behind_value, behind_parameter, at_default, behind_repair}
 use Rattle.events.specs.Events as events
 use Rattle.events.specs.Events.{Event, Reason, repair, Io}
@@ -26,9 +24,9 @@ use Rattle.machine.specs.Call.{writing}
 use Rattle.machine.specs.Step.{goes, tells, step}
 use Rattle.machine.specs.Walk
 use Rattle.machine.specs.Walk.{going, stopped, Walk}
-use Rattle.ownwalk.specs.OwnWalk.{Context, Pending, Own, on, choosing, owns}
+use Rattle.ownwalk.specs.OwnWalk.{Context, Pending, Own}
 use Rattle.program.specs.Accepted.{Accepted}
-use Rattle.program.specs.Program.{Act, Acts, Alts, Other, Rule, body_of}
+use Rattle.program.specs.Program.{Acts, Alts, Rule, body_of}
 use Rattle.program.specs.Table.{place, table}
 
 -- Places are no heavier than all rules

@@ -1,5 +1,5 @@
 -- "A walk from calls as in demand 3 then goes on as the new source rules say from the same places, with all else it holds kept."
-use Prim.Native.Nat.{ℕ, zero, suc, ◌+◌, ◌-◌, ◌*◌, ◌≤◌, ◌<◌}
+use Prim.Native.Nat.{ℕ, zero, suc, ◌+◌, ◌-◌, ◌≤◌, ◌<◌}
 use native.Mathlib.Omega.{arith}
 use mathlib.Core.Path.{◌≡◌, refl, sym, ap, ◌∙◌, subst}
 use mathlib.Core.Logic.{◌⊎◌, inl, inr}
@@ -11,31 +11,28 @@ use lib.ListN.{length, length-append}
 use borrow.Author.Tests.{lt-ltb, le-ltb}
 use Rattle.base.specs.Bools.{never}
 use Rattle.std.specs.Prelude.{if◌then◌else◌}
-use Rattle.base.specs.Common.{same, given}
+use Rattle.base.specs.Common.{given}
 use Rattle.base.proofs.Laws.{same-eq}
-use Rattle.events.specs.Events.{Reason, Io}
+use Rattle.events.specs.Events.{Io}
 use Rattle.machine.specs.Decode.{fetch}
-use Rattle.machine.specs.Walk
-use Rattle.machine.specs.Walk.{going, stopped, Walk, fresh, moved, with_returns}
+use Rattle.machine.specs.Walk.{going, Walk, fresh, moved, with_returns}
 use Rattle.ownwalk.specs.OwnWalk as rules
 use Rattle.ownwalk.specs.OwnWalk.{Context, Own, on, Pending, before, before_choice, own, owns}
 use Rattle.program.proofs.Lengths.{length-codes}
-use Rattle.program.specs.Accepted.{Calls, Accepted}
+use Rattle.program.specs.Accepted.{Accepted}
 use Rattle.base.specs.Tree.{choice, ◌▸◌}
 use Rattle.program.specs.Program.{Selector, Acts, Alts, Other, Rule, rule_of, body_of}
-use Rattle.program.specs.Table.{size_selector, sizes, codes, end_words, size_rule, place, table}
-use Rattle.agreement.proofs.Agree.{Same, stopped-same, Near, near, half as halfway, near_same, after, all, ahead}
+use Rattle.program.specs.Table.{size_selector, size_rule, place, table}
+use Rattle.agreement.proofs.Agree.{Near}
 use Rattle.agreement.proofs.Laid.{fetch-le, program-laid}
 use Rattle.agreement.proofs.Lay.{going_at, At, AtChoice, Pend, pend-nil, pend-last, pend-before, pend-choice, Rel, rel-on, rel-choosing}
-use Rattle.agreement.proofs.Single.{one, runs}
-use Rattle.agreement.proofs.Sim.{weight, Running, running-on, running-choosing}
+use Rattle.agreement.proofs.Single.{runs}
 use Rattle.carry.proofs.Lists.{some_inj, none-some, Distinct, number-name, number-found}
-use Rattle.carry.proofs.Placed.{Place, Choice, to_at, to-choice, here-inside, BeforeIn, before-inside}
+use Rattle.carry.proofs.Placed.{Place, Choice, to_at, to-choice, here-inside, before-inside}
 use Rattle.carry.specs.Places.{Inside, PendingAt, no_pending, pending_at, choice_at, StandsAt, stands_on, stands_choosing, Within, at_start}
 use Rattle.carry.proofs.Rules.{place-later}
-use Rattle.carry.proofs.Sources.{SourceOk, source_ok}
-use Rattle.carry.proofs.Track.{Twin, TwinC, CallsNew, Pended, plainly, choosing, Frames, frames-nil, frames-cons, Track₀, at_place, at-choosing, at-stop, Track, now, half, tracked, place_inside, choice-inside}
-use Rattle.carry.specs.Carry.{Name, Source, place_in, place_of, number_of, name_of, numbered, mark, marked_words, same_words, in_rule, carried_at, carry_place, beside, carry_places, Carried, carried, stays, put_at, same_all, carry, source_of}
+use Rattle.carry.proofs.Track.{Twin, TwinC, CallsNew, plainly, choosing, Frames, frames-nil, frames-cons, at_place, at-choosing, at-stop, Track, now, half, tracked, place_inside, choice-inside}
+use Rattle.carry.specs.Carry.{Name, Source, place_in, place_of, number_of, name_of, numbered, mark, marked_words, same_words, in_rule, carried_at, carry_place, beside, carry_places, carried, stays, put_at, same_all, carry}
 
 -- Locations and places
 

@@ -1,27 +1,25 @@
 -- `identity`, `identity-bytes`: carried to an identical program, a walk whose places lie in rules is equal.
 use mathlib.Core.Bool.{Bool, true, false}
 use mathlib.Core.List.{List, [], ◌∷◌}
-use mathlib.Core.Option.{Option, none, some}
+use mathlib.Core.Option.{none, some}
 use mathlib.Core.Path.{◌≡◌, refl, sym, ap, ◌∙◌}
-use Prim.Native.Nat.{ℕ, zero, suc, ◌+◌, ◌<◌}
+use Prim.Native.Nat.{ℕ, ◌+◌}
 use native.Mathlib.Omega.{arith}
 use lib.ListN.{length}
 use Rattle.acceptance.proofs.Accepts.{accepted-table}
-use Rattle.acceptance.specs.Answers.{TableOf}
 use Rattle.base.proofs.Laws.{same_refl, same-eq}
 use Rattle.std.specs.Prelude.{if◌then◌else◌}
 use Rattle.base.specs.Common.{same}
-use Rattle.carry.proofs.Lists.{none-some, some_inj, all-self, Distinct, number-name, LiesIn, place-of}
-use Rattle.carry.proofs.Sources.{SourceOk, source_ok}
-use Rattle.carry.specs.Carry.{Source, Place, place_of, number_of, name_of, mark, marked_words, same_words, in_rule, carried_at, carry_place, beside, carry_places, Carried, carried, put_at, same_all, carry, source_of}
-use Rattle.carry.specs.Identity.{InRule, InRules, in_nil, in_cons, Lies, IdentityWalks, Unmoved, IdentityBytes}
-use Rattle.carry.specs.Texts.{goes, answer_of, between, carry_texts, told, outcome, carry_bytes}
+use Rattle.carry.proofs.Lists.{none-some, some_inj, all-self, Distinct, number-name, place-of}
+use Rattle.carry.proofs.Sources.{source_ok}
+use Rattle.carry.specs.Carry.{Source, mark, marked_words, same_words, in_rule, carried_at, carry_place, beside, carry_places, carried, put_at, carry, source_of}
+use Rattle.carry.specs.Identity.{InRule, InRules, in_nil, in_cons, IdentityWalks, IdentityBytes}
+use Rattle.carry.specs.Texts.{answer_of, between, carry_texts, told, outcome, carry_bytes}
 use Rattle.machine.specs.Bytes.{words_of}
 use Rattle.machine.specs.Form.{walk_named, walk_bytes, walk_of}
 use Rattle.machine.specs.Walk
 use Rattle.machine.specs.Walk.{Walk, moved, with_returns}
-use Rattle.program.specs.Program.{Rule, rule_of}
-use Rattle.program.specs.Table.{place}
+use Rattle.program.specs.Program.{rule_of}
 
 module _ (p : Source) (d : Distinct p.names) (n : length p.names ≡ length p.rules) where
   place-itself : (l : ℕ) → InRule p.rules l → carry_place p p l ≡ some l

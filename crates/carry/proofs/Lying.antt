@@ -8,9 +8,8 @@ use native.Mathlib.Omega.{arith}
 use lib.ListN.{length, get_elem?}
 use borrow.Author.Tests.{le-leb}
 use Rattle.acceptance.proofs.Accepts.{accepted-table}
-use Rattle.acceptance.specs.Answers.{TableOf}
 use Rattle.agreement.proofs.Laid.{fetch-le}
-use Rattle.agreement.proofs.Lists.{with_events, After, after-outside, after_stop, after-goes, after-tells, after-asks, step_after, step-asked, wanted-asked, asked-next, kept_fresh, runs-suc, one-going, Where, lives, left, waits, listed-where, going-stopped}
+use Rattle.agreement.proofs.Lists.{with_events, After, after-outside, after_stop, after-goes, after-tells, after-asks, step_after, step-asked, wanted-asked, asked-next, kept_fresh, runs-suc, Where, lives, left, waits, listed-where, going-stopped}
 use Rattle.agreement.proofs.MoreAnswers.{one_more, alike}
 use Rattle.agreement.proofs.Single.{taking, done, one_in, one, runs}
 use Rattle.agreement.proofs.Theorem.{no-way-out}
@@ -19,17 +18,17 @@ use Rattle.base.specs.Common.{given}
 use Rattle.carry.proofs.Found.{place-back, given_some, length_marked, not-zero}
 use Rattle.carry.proofs.Identity.{identity}
 use Rattle.carry.proofs.Lists.{none-some}
-use Rattle.carry.proofs.Sources.{SourceOk, source_ok}
-use Rattle.carry.proofs.Track.{Twin, TwinC, plainly, choosing, Frames, frames-nil, frames-cons, at_place, at-choosing, at-stop, Track, now, half, tracked, place_inside, choice-inside}
+use Rattle.carry.proofs.Sources.{source_ok}
+use Rattle.carry.proofs.Track.{plainly, choosing, Frames, frames-nil, frames-cons, at_place, at-choosing, at-stop, Track, now, half, tracked, place_inside, choice-inside}
 use Rattle.carry.specs.Carry.{place_of, marked_words, source_of}
 use Rattle.carry.specs.FromCalls.{LiesFromCalls, IdentityFromCalls}
-use Rattle.carry.specs.Identity.{InRule, InRules, in_nil, in_cons, Lies}
+use Rattle.carry.specs.Identity.{InRule, InRules, in_nil, in_cons}
 use Rattle.events.specs.Events as events
 use Rattle.events.specs.Events.{Event, Reason, outside, unanswered, choices}
 use Rattle.finishing.specs.Test.{finishing}
 use Rattle.machine.specs.Call.{writing}
 use Rattle.machine.specs.Decode.{fetch}
-use Rattle.machine.specs.Step.{Next, asks, step}
+use Rattle.machine.specs.Step.{Next}
 use Rattle.machine.specs.Walk
 use Rattle.machine.specs.Walk.{Phase, going, waiting, stopped, Walk, fresh, in_phase, with_answer}
 use Rattle.processor.specs.Process.{accepted, process, answer_for}

@@ -7,7 +7,7 @@ use Prim.Native.Nat.{ℕ, zero, suc, ◌<◌, ◌≤◌}
 use native.Mathlib.Omega.{arith}
 use lib.Dec.{eqb}
 use borrow.Author.Tests.{eqb-true}
-use Rattle.acceptance.proofs.CheckLaws.{Yields, no-good, yields, next, passed}
+use Rattle.acceptance.proofs.CheckLaws.{Yields, yields, next, passed}
 use Rattle.acceptance.proofs.NamesOk.{each_append, picked}
 use Rattle.acceptance.proofs.Shape.{Each}
 use Rattle.base.proofs.Laws.{neither, is_false, same_refl, same-eq}
@@ -17,7 +17,7 @@ use Rattle.base.specs.Common.{same, given}
 use Rattle.carry.proofs.Lists.{none-some, name-eq, Apart, apart-nil, apart_cons, Distinct, distinct_nil, distinct_cons}
 use Rattle.carry.specs.Carry.{Name, written, made, same_name, level_of, level_names, made_names}
 use Rattle.names.specs.Declare.{declare_all, declare_both, declare_operations, with_operations, operators_of, declare_section, declare_sections}
-use Rattle.names.specs.Known.{Checked, good, Known, KnownOperators, Names, find, find_type, find_operation, find_operators, optional_type}
+use Rattle.names.specs.Known.{KnownOperators, Names, find, find_type, find_operation, find_operators, optional_type}
 use Rattle.names.specs.Uses.{Use, same_pair, is_used, firsts, levels_used}
 use Rattle.program.specs.Made.{Operator, Level, at_level, level_and, levels_from, levels_of}
 use Rattle.syntax.specs.Written.{Operation, Section, inputs, outputs, both, errors, values, operations, operators, Program}

@@ -1,30 +1,22 @@
 -- Places of a rule by its own words. W has the words of one rule from location 1 on, with `mk` for the locations of the rules that it calls;
 -- in the table T the rule begins `base` words later, with `start` for them. A place of the rule stands at o in W and at base + o in T, and
 -- what it leads to is again such a place, told by the words of W alone.
-use Prim.Native.Nat.{ℕ, zero, suc, ◌+◌, ◌-◌, ◌*◌, ◌≤◌, ◌<◌}
+use Prim.Native.Nat.{ℕ, ◌+◌, ◌*◌}
 use native.Mathlib.Omega.{arith}
-use native.Mathlib.Nat.{add-zero}
-use mathlib.Core.Path.{◌≡◌, refl, sym, ap, ◌∙◌, subst}
+use mathlib.Core.Path.{◌≡◌, refl, sym, subst}
 use mathlib.Core.Bool.{Bool, true, false, ◌||◌}
-use mathlib.Core.Option.{Option, none, some}
 use mathlib.Core.List.{List, [], ◌∷◌, ◌++◌}
-use lib.Dec.{eqb}
 use lib.ListN.{length}
-use Rattle.base.specs.Bools.{never, or₁, or₂, both}
-use Rattle.std.specs.Prelude.{if◌then◌else◌}
-use Rattle.base.specs.Common.{member}
-use Rattle.base.specs.Tree.{plain, cycle, choice, done, ◌▸◌, nil, alternative, absent, otherwise}
-use Rattle.events.specs.Events.{Event, output, signal}
-use Rattle.machine.specs.Decode.{fetch, Instruction, jump, input, input_any, write, input_choice, call_rule, return, set_result, choice as by_result, end_choice, set_parameter, update as updates, update_with as updates_with, choose, choose_with, decode_operation, decode_two, decode_one, decode_word, decode_at, decode}
-use Rattle.machine.specs.Lengths.{lengths, length_of}
+use Rattle.base.specs.Bools.{never}
+use Rattle.base.specs.Tree.{choice, ◌▸◌}
 use Rattle.ownwalk.specs.OwnWalk.{Context, in_cycle, in_alternative, in_otherwise}
-use Rattle.program.proofs.Lengths.{length-labels, length-table_words, length-selector, length-code, length-codes, length-alts}
-use Rattle.program.specs.Accepted.{Labelled, NeedsLabel, Calls, OkPlain, OkSelector, Ok, Oks, OkAlts, OkOther}
-use Rattle.program.specs.Past.{plain_past, is_exit, exits, exits_all, exits_some, exits_other, past, past_all, past_some, past_other}
-use Rattle.program.specs.Program.{Plain, match, any, emit, error, exit, call, back, give, update, update_with, Selector, by_token, by_rule, by_operation, by_operation_with, Act, Acts, Alts, Other, Rule}
-use Rattle.program.specs.Table.{size_plain, size_selector, size_absent, count_labels, size, sizes, size_alts, size_other, label_words, table_words, first_of, first_label, absent_words, choice_number, selector_words, plain_words, code, codes, code_alts, code_other, end_words}
-use Rattle.agreement.proofs.Lay.{Entry, lookup, entries, Table, At, at_place, End, end-rule, end-cycle, end-alternative, end-otherwise, Out, out-cycle, out-alternative, out-otherwise, AtChoice, at-choice, LayChoice, lay-choice}
-use Rattle.agreement.proofs.Laid.{Seg, seg-nil, seg-cons, seg-at, seg-left, seg-right, seg-after, seg_two, seg-one, seg-operation, seg-return, seg-jump, seg-jump_back, is_update, is_update_with, is-choose, is-choose_with, pairs, pairs-length, laid_table, laids, laid-alts, laid-other, laid-result, Parts, parts, other_at, is_token}
+use Rattle.program.proofs.Lengths.{length-table_words, length-codes, length-alts}
+use Rattle.program.specs.Accepted.{NeedsLabel, Oks, OkAlts, OkOther}
+use Rattle.program.specs.Past.{exits_all, exits_some, exits_other, past_all, past_some, past_other}
+use Rattle.program.specs.Program.{Selector, by_token, by_rule, by_operation, by_operation_with, Acts, Alts, Other, Rule}
+use Rattle.program.specs.Table.{size_selector, size_absent, count_labels, sizes, size_alts, size_other, table_words, first_label, absent_words, choice_number, codes, code_alts, code_other}
+use Rattle.agreement.proofs.Lay.{Entry, At, at_place, End, end-rule, end-cycle, end-alternative, end-otherwise, Out, out-cycle, out-alternative, out-otherwise, AtChoice, at-choice}
+use Rattle.agreement.proofs.Laid.{Seg, seg-left, seg-after, seg-return, seg-jump, seg-jump_back, pairs, pairs-length, laid_table, laids, laid-alts, laid-other, laid-result, parts, other_at, is_token}
 use Rattle.carry.specs.Places.{Inside}
 
 -- the words of a choice from its instruction on

@@ -1,31 +1,30 @@
 -- What stands at a place of a rule, in its own words and in the table, and the places that it leads to.
-use Prim.Native.Nat.{ℕ, zero, suc, ◌+◌, ◌-◌, ◌*◌, ◌≤◌, ◌<◌}
+use Prim.Native.Nat.{ℕ, ◌+◌, ◌*◌}
 use native.Mathlib.Omega.{arith}
 use native.Mathlib.Nat.{add-zero}
 use mathlib.Core.Path.{◌≡◌, refl, sym, ap, ◌∙◌, subst}
-use mathlib.Core.Bool.{Bool, true, false, ◌||◌}
-use mathlib.Core.Option.{Option, none, some}
+use mathlib.Core.Bool.{Bool, true, false}
+use mathlib.Core.Option.{some}
 use mathlib.Core.List.{List, [], ◌∷◌, ◌++◌}
 use lib.Dec.{eqb}
 use lib.ListN.{length}
 use borrow.Author.Tests.{eq-eqb}
 use Rattle.base.specs.Bools.{never, or₁, or₂, both}
 use Rattle.std.specs.Prelude.{if◌then◌else◌}
-use Rattle.base.specs.Common.{member}
 use Rattle.base.specs.Tree.{plain, cycle, choice, done, ◌▸◌, nil, alternative, absent, otherwise}
 use Rattle.events.specs.Events.{Event, output, signal}
-use Rattle.machine.specs.Decode.{fetch, Instruction, invalid, jump, input, input_any, write, input_choice, call_rule, return, set_result, choice as by_result, end_choice, set_parameter, update as updates, update_with as updates_with, choose, choose_with, decode_operation, decode_two, decode_one, decode_word, decode_at, decode}
+use Rattle.machine.specs.Decode.{Instruction, invalid, jump, input, input_any, write, input_choice, call_rule, return, set_result, choice as by_result, end_choice, set_parameter, update as updates, update_with as updates_with, choose, choose_with, decode_two, decode_one, decode_word, decode}
 use Rattle.machine.specs.Lengths.{lengths, length_of}
 use Rattle.ownwalk.specs.OwnWalk.{Context, in_cycle, in_alternative, in_otherwise}
-use Rattle.program.proofs.Lengths.{length-labels, length-table_words, length-selector, length-code, length-codes, length-alts}
+use Rattle.program.proofs.Lengths.{length-table_words, length-selector, length-code, length-codes, length-alts}
 use Rattle.program.specs.Accepted.{Labelled, NeedsLabel, Calls, OkPlain, OkSelector, Ok, Oks, OkAlts, OkOther}
 use Rattle.program.specs.Past.{plain_past, is_exit, exits, exits_all, exits_some, exits_other, past, past_all, past_some, past_other}
 use Rattle.program.specs.Program.{Plain, match, any, emit, error, exit, call, back, give, update, update_with, Selector, by_token, by_rule, by_operation, by_operation_with, Act, Acts, Alts, Other, Rule}
-use Rattle.program.specs.Table.{size_plain, size_selector, size_absent, count_labels, size, sizes, size_alts, size_other, label_words, table_words, first_of, first_label, absent_words, choice_number, selector_words, plain_words, code, codes, code_alts, code_other, end_words}
+use Rattle.program.specs.Table.{size_plain, size_selector, size_absent, count_labels, size, sizes, size_alts, size_other, table_words, first_of, first_label, absent_words, choice_number, selector_words, plain_words, code, codes, code_alts, code_other}
 use Rattle.agreement.proofs.Lay.{Entry, lookup, entries, Table}
 use Rattle.agreement.proofs.Sim.{good, at-good, at-choice-good}
-use Rattle.agreement.proofs.Laid.{Seg, seg-nil, seg-cons, seg-at, seg-left, seg-right, seg-after, seg_two, seg-one, seg-operation, seg-return, seg-jump, seg-jump_back, is_update, is_update_with, is-choose, is-choose_with, pairs, pairs-length, laid_table, laids, laid-alts, laid-other, laid-result, Parts, parts, other_at, is_token}
-use Rattle.carry.specs.Places.{OneOf, this_one, that_one, Inside, in_start, in_rest, inside_cycle, in_labelled, inside_otherwise}
+use Rattle.agreement.proofs.Laid.{Seg, seg-at, seg-left, seg-after, seg_two, seg-one, seg-operation, seg-return, seg-jump, seg-jump_back, is_update, is_update_with, is-choose, is-choose_with, pairs, pairs-length, laid_table}
+use Rattle.carry.specs.Places.{OneOf, this_one, that_one, Inside, in_rest, inside_cycle, in_labelled, inside_otherwise}
 use Rattle.carry.proofs.Placed.{rest_of, choice_words, by_tokens, later, Here, here, Then, then_rule, then-cycle, then-alternative, then-otherwise, Exit, exit-cycle, exit-alternative, exit-otherwise, Before, before, Place, Choice, to_at, to-choice}
 
 pairs-later : (base l : ℕ) (al : Alts) → pairs (base + l) al ≡ later base (pairs l al)

@@ -1,23 +1,21 @@
 -- The source of a text that is understood: the program that the text means, as many names as rules, no name twice.
-use mathlib.Core.Bool.{Bool, true, false, ◌&&◌, ◌||◌}
+use mathlib.Core.Bool.{false}
 use mathlib.Core.List.{List, [], ◌∷◌, ◌++◌}
-use mathlib.Core.Path.{◌≡◌, refl, sym, ap, ◌∙◌}
-use Prim.Native.Nat.{ℕ, zero, suc, ◌+◌}
+use mathlib.Core.Path.{◌≡◌, refl, ap}
+use Prim.Native.Nat.{ℕ, suc}
 use native.Mathlib.Omega.{arith}
 use lib.ListN.{length, length-append}
-use Rattle.acceptance.proofs.CheckLaws.{Yields, no-good, yields, next, passed, Any, any}
+use Rattle.acceptance.proofs.CheckLaws.{Yields, yields, next, passed}
 use Rattle.acceptance.proofs.Shape.{Each}
 use Rattle.acceptance.proofs.Used.{total, MadeAre, made-are}
 use Rattle.base.proofs.Laws.{neither}
-use Rattle.std.specs.Prelude.{if◌then◌else◌}
 use Rattle.base.specs.Common.{same, given}
 use Rattle.carry.proofs.Lists.{Apart, apart-nil, apart_cons, Distinct, distinct_nil, distinct_cons}
 use Rattle.carry.proofs.Naming.{sections-rising, AllRising, firsts-once, distinct_append, made-distinct, written-made}
-use Rattle.carry.specs.Carry.{Name, written, same_name, Source, written_names, level_names, made_names, names_of, section_words, with_rules, of_read, source_of}
+use Rattle.carry.specs.Carry.{written, same_name, Source, written_names, level_names, made_names, names_of, with_rules, of_read, source_of}
 use Rattle.names.specs.Declare.{declare_sections, known_rules}
-use Rattle.names.specs.Known.{Checked, good, wrong, ◌>>=◌, fault_if, KnownRule, Names, find_operation, optional_type}
-use Rattle.names.specs.Resolve.{acts_of}
-use Rattle.names.specs.Understand.{nobody, is_one, taken, is_first, rule_means, rules_mean, understand}
+use Rattle.names.specs.Known.{Checked, good, wrong, KnownRule, Names, find_operation}
+use Rattle.names.specs.Understand.{nobody, is_one, taken, rule_means, rules_mean, understand}
 use Rattle.names.specs.Uses.{Use, rules_uses, pairs_of, levels_used, made_for}
 use Rattle.processor.specs.Process.{Part, meaning, faulty, checked, read_in, understood}
 use Rattle.program.specs.Made.{Level}
@@ -27,7 +25,7 @@ use Rattle.syntax.specs.Reading.{Read, got, fault}
 use Rattle.syntax.specs.Sections.{names_in_all}
 use Rattle.syntax.specs.Written as syntax
 use Rattle.syntax.specs.Written.{Program}
-use Rattle.words.specs.Words.{Word, words}
+use Rattle.words.specs.Words.{Word}
 
 -- The rules as written
 

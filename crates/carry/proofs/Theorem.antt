@@ -1,9 +1,8 @@
 -- `carrying-on`: between any two texts that `process` accepts.
 use mathlib.Core.Bool.{Bool, true}
 use mathlib.Core.List.{List, ◌++◌}
-use mathlib.Core.Path.{◌≡◌, refl, sym, ap, ◌∙◌, subst}
+use mathlib.Core.Path.{◌≡◌, sym, ap, ◌∙◌, subst}
 use Prim.Native.Nat.{ℕ, ◌+◌, ◌*◌}
-use lib.ListN.{length}
 use Rattle.acceptance.proofs.Accepts.{accepted-table}
 use Rattle.acceptance.specs.Answers.{TableOf}
 use Rattle.agreement.proofs.BoundWalk.{budget}
@@ -11,7 +10,7 @@ use Rattle.agreement.specs.Demand.{Listed}
 use Rattle.carry.proofs.Carrying.{carries, ends-carried}
 use Rattle.carry.proofs.Sources.{SourceOk, source_ok}
 use Rattle.carry.specs.Carry.{Source, carried, carry, source_of}
-use Rattle.carry.specs.GoingOn.{Carries, EndsBy, FinishesCarried, CarryingOn}
+use Rattle.carry.specs.GoingOn.{Carries, FinishesCarried, CarryingOn}
 use Rattle.events.specs.Events.{Event}
 use Rattle.finishing.proofs.Exact.{finishing-sound}
 use Rattle.finishing.specs.Finishing.{Finishing}

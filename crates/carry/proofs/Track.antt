@@ -1,6 +1,6 @@
 -- A walk over the old table, single step by single step, beside the places of the new program: wherever it stands in a rule that the new program
 -- has with the same words, the new rule has a place at the same word.
-use Prim.Native.Nat.{ℕ, zero, suc, ◌+◌, ◌-◌, ◌*◌, ◌≤◌, ◌<◌}
+use Prim.Native.Nat.{ℕ, zero, suc, ◌+◌, ◌*◌, ◌<◌}
 use native.Mathlib.Omega.{arith}
 use mathlib.Core.Path.{◌≡◌, refl, sym, ap, ◌∙◌, subst}
 use mathlib.Core.Logic.{◌⊎◌, inl, inr}
@@ -17,9 +17,8 @@ use Rattle.events.specs.Events as events
 use Rattle.events.specs.Events.{Event, operation, operation_with, repair, Reason, finished, differs, missing, unlabelled, deep, unanswered, choices, Io, present, took, mends, spent, repaired, is}
 use Rattle.machine.specs.Call.{writing}
 use Rattle.machine.specs.Decode.{fetch, Instruction, invalid, jump, input, input_any, write, input_choice, call_rule, return, set_result, choice as by_result, end_choice, set_parameter, update as updates, update_with as updates_with, choose, choose_with, decode_at, decode}
-use Rattle.machine.specs.Step.{Next as Outcome, goes_outside, stops, goes, tells, asks, go_to, seek_by, landed, branched, input_choosing, calling, returning, requiring, exec, step}
-use Rattle.machine.specs.Walk
-use Rattle.machine.specs.Walk.{going, waiting, stopped, Walk, fresh, moved, with_returns, with_result, with_parameter, with_io, in_phase, with_answer}
+use Rattle.machine.specs.Step.{stops, goes, tells, go_to, seek_by, landed, calling, returning, requiring, exec, step}
+use Rattle.machine.specs.Walk.{stopped, Walk, fresh, moved, with_returns, with_result, with_parameter, with_io, in_phase, with_answer}
 use Rattle.program.specs.Accepted.{Calls, Accepted}
 use Rattle.program.specs.Program.{Rule, rule_of}
 use Rattle.program.specs.Table.{place, table}

@@ -9,7 +9,7 @@ use Rattle.events.specs.Events.{Event, Reason, Io}
 use Rattle.machine.specs.Walk.{going, waiting, stopped, Walk, with_io, with_answer}
 use Rattle.ownwalk.specs.OwnWalk as rules
 use Rattle.ownwalk.specs.OwnWalk.{Own, owns}
-use Rattle.processor.specs.Process.{accepted, process, understood, meaning}
+use Rattle.processor.specs.Process.{understood, meaning}
 use Rattle.program.specs.Program.{Rule}
 
 -- "with all else it holds kept"

@@ -2,7 +2,7 @@
 -- read, repair or stop a walk does at most as many steps as there are in the quiet paths of the rules that are in progress, and so again behind each read and repair.
 use mathlib.Core.List.{List, [], ◌∷◌}
 use mathlib.Core.Logic.{◌⊎◌, inl, inr}
-use mathlib.Core.Option.{Option, none, some}
+use mathlib.Core.Option.{Option, none}
 use mathlib.Core.Path.{◌≡◌, refl, sym, ap, ◌∙◌}
 use native.Mathlib.Nat.{mul-le-mul_right}
 use native.Mathlib.Omega.{arith}
@@ -12,7 +12,7 @@ use Rattle.agreement.proofs.Lists.{going-stopped, one-going}
 use Rattle.agreement.proofs.Single.{one_in, one, runs}
 use Rattle.agreement.proofs.Theorem.{stays}
 use Rattle.events.specs.Events.{Reason, outside}
-use Rattle.figure.proofs.Steps.{left, Knows, knows-none, After, Last, Sorted, goes-outside, stops-here, reads_here, goes_on, calls, returns, step-sort}
+use Rattle.figure.proofs.Steps.{left, Knows, knows-none, After, Sorted, goes-outside, stops-here, reads_here, goes_on, calls, returns, step-sort}
 use Rattle.figure.specs.Figure.{Leads, leads_call, Reached, at_start, further, End, over, back, Quiet, quiet, Does, does_call_over, does_call, does_return, Bounds}
 use Rattle.machine.specs.Decode.{Instruction, call_rule, return, decode}
 use Rattle.machine.specs.Step.{step}

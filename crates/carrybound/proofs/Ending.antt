@@ -1,30 +1,28 @@
 -- `figure-carried`: 65 × Q × (n + r + 1) steps suffice for the calls after a carrying.
-use mathlib.Core.Bool.{Bool, true}
+use mathlib.Core.Bool.{true}
 use mathlib.Core.List.{List, [], ◌∷◌, ◌++◌, append-nil}
 use mathlib.Core.Logic.{◌⊎◌, inl, inr}
 use mathlib.Core.Option.{Option, none, some}
-use mathlib.Core.Path.{◌≡◌, refl, sym, ap, ◌∙◌, subst}
+use mathlib.Core.Path.{◌≡◌, refl, sym, ap, ◌∙◌}
 use native.Mathlib.Decide.{dec_lt}
 use native.Mathlib.Nat.{le_refl}
 use native.Mathlib.Omega.{arith}
 use Prim.Native.Nat.{ℕ, zero, suc, ◌+◌, ◌*◌, ◌≤◌, ◌<◌}
 use lib.ListN.{length}
 use Rattle.acceptance.proofs.Accepts.{accepted-table}
-use Rattle.acceptance.specs.Answers.{TableOf}
 use Rattle.agreement.proofs.Agree.{never-outside}
 use Rattle.agreement.proofs.BoundWalk.{budget}
-use Rattle.agreement.proofs.Lists.{with_events, step-asked, Kept, runs-suc, one-going, Where, lives, left, waits, listed-from, Awaits, still, answered, listed-awaits, going-stopped, going-waiting}
+use Rattle.agreement.proofs.Lists.{with_events, Kept, runs-suc, one-going, Where, lives, left, waits, listed-from, Awaits, still, answered, listed-awaits, going-stopped, going-waiting}
 use Rattle.agreement.proofs.MoreAnswers.{one_more, alike_from}
 use Rattle.agreement.proofs.Single.{taking, done, one, runs}
 use Rattle.agreement.proofs.Theorem.{later}
 use Rattle.agreement.specs.Demand.{wanted, Listed, ListedFrom, HasStopped}
 use Rattle.carry.proofs.After.{same_after, listed-stays, ends-stopped, listed-idle}
-use Rattle.carry.proofs.Carrying.{keeping, Begun, begun-going, begun-waiting, More, begun_more}
+use Rattle.carry.proofs.Carrying.{keeping, Begun, begun-going, begun-waiting, begun_more}
 use Rattle.carry.proofs.Ends.{ends-after}
 use Rattle.carry.proofs.Lists.{Distinct}
-use Rattle.carry.proofs.Sources.{SourceOk, source_ok}
+use Rattle.carry.proofs.Sources.{source_ok}
 use Rattle.carry.specs.Carry.{Source, carried, carry, source_of}
-use Rattle.carry.specs.GoingOn.{EndsBy}
 use Rattle.events.specs.Events as events
 use Rattle.events.specs.Events.{Event, Reason, outside, choices}
 use Rattle.figure.proofs.Battery.{figure-exact}
@@ -40,7 +38,7 @@ use Rattle.machine.specs.Decode.{call_rule, decode}
 use Rattle.machine.specs.Step.{Next, asks, step}
 use Rattle.machine.specs.Walk
 use Rattle.machine.specs.Walk.{Phase, going, waiting, stopped, Walk, with_answer}
-use Rattle.processor.specs.Process.{Understood, accepted, process, understood, meaning}
+use Rattle.processor.specs.Process.{Understood, meaning}
 use Rattle.program.specs.Accepted.{Accepted}
 use Rattle.program.specs.Program.{Rule}
 use Rattle.program.specs.Table.{table}

@@ -1,14 +1,13 @@
 -- The places of a carried walk are reachable in the rules of the new program, since those of the walk were in the rules of the old one and the rules in progress have the same words.
-use mathlib.Core.List.{List, [], ◌∷◌, ◌++◌, append-nil}
+use mathlib.Core.List.{List, [], ◌∷◌, ◌++◌}
 use mathlib.Core.Option.{some}
-use mathlib.Core.Path.{◌≡◌, refl, sym, ap, ◌∙◌, subst}
+use mathlib.Core.Path.{◌≡◌, refl, sym, ap, ◌∙◌}
 use native.Mathlib.Omega.{arith}
-use Prim.Native.Nat.{ℕ, zero, suc, ◌+◌, ◌≤◌, ◌<◌}
+use Prim.Native.Nat.{ℕ, suc, ◌+◌, ◌<◌}
 use lib.ListN.{length}
 use Rattle.agreement.specs.Demand.{Listed}
-use Rattle.agreement.proofs.Single.{runs}
 use Rattle.carry.proofs.Carrying.{keeping}
-use Rattle.carry.proofs.Found.{Partner, partner-is, CarriedAt, carried-at, CarriedTwo, carried-two, Puts, puts}
+use Rattle.carry.proofs.Found.{Partner, partner-is, carried-at, carried-two, puts}
 use Rattle.carry.proofs.Lists.{some_inj}
 use Rattle.carry.proofs.Lying.{listed-places}
 use Rattle.carry.proofs.Rules.{place-later, rule-place}
@@ -18,7 +17,7 @@ use Rattle.figure.proofs.Spots.{reached-rule}
 use Rattle.figure.specs.Figure.{Reached, at_start}
 use Rattle.figure.specs.Promise.{RuleStart, rule_start}
 use Rattle.machine.specs.Decode.{call_rule, decode}
-use Rattle.machine.specs.Walk.{going, Walk, fresh, moved, with_returns}
+use Rattle.machine.specs.Walk.{Walk, fresh, moved, with_returns}
 use Rattle.program.proofs.Places.{place-first}
 use Rattle.program.specs.Accepted.{Accepted}
 use Rattle.program.specs.Program.{Rule, rule_of}

@@ -1,27 +1,24 @@
 -- What is reachable in a rule by the rule's own words is what is reachable in the table, so many words later. W has the words of one rule from location 1 on, with `mk` for the
 -- locations of the rules that it calls; in the table T the rule begins `base` words later (crate carry, proofs/Placed.antt).
-use mathlib.Core.Bool.{Bool, true, false}
-use mathlib.Core.List.{List, [], ◌∷◌, ◌++◌}
+use mathlib.Core.Bool.{Bool, true}
+use mathlib.Core.List.{List, []}
 use mathlib.Core.Option.{Option, none, some}
-use mathlib.Core.Path.{◌≡◌, refl, sym, ap, ◌∙◌, subst}
+use mathlib.Core.Path.{◌≡◌, refl, subst}
 use native.Mathlib.Omega.{arith}
-use Prim.Native.Nat.{ℕ, zero, suc, ◌+◌, ◌-◌, ◌*◌, ◌≤◌, ◌<◌}
+use Prim.Native.Nat.{ℕ, ◌+◌, ◌*◌}
 use lib.ListN.{length}
 use borrow.Author.Tests.{eq-eqb}
 use Rattle.agreement.proofs.Lay as lay
 use Rattle.agreement.proofs.Lay.{Entry, lookup, Table}
 use Rattle.agreement.proofs.Sim.{lookup_by, good, good-there, seek-leads}
-use Rattle.std.specs.Prelude.{if◌then◌else◌}
 use Rattle.base.specs.Common.{given}
-use Rattle.carry.proofs.Lists.{none-some}
 use Rattle.carry.proofs.Placed.{later, Place, Choice}
 use Rattle.carry.proofs.Ready.{Default, default-place, default-input, default-end, Branch, Ready, r-jump, r-input, r-any, r-write, r-call, r-rule, r-return, r-give, r-update, r-update_with, r-token, r-operation, r-operation_with, ready, ReadyChoice, ready-choice}
 use Rattle.carry.proofs.Track.{length-later, ahead, by-later}
 use Rattle.events.specs.Events.{Event}
 use Rattle.figure.proofs.Steps.{labels-seek}
-use Rattle.figure.specs.Figure.{label_by, back_from, way_among, way_of, way_out, Leads, leads_jump, leads_input, leads_any, leads_write, leads_token, leads_call, leads_result, leads_choice, leads_parameter, leads_update, leads_update_with, leads_choose, leads_choose_with, Reached, at_start, further}
-use Rattle.machine.specs.Decode.{fetch, Instruction, invalid, jump, input, input_any, write, input_choice, call_rule, return, set_result, choice as by_result, end_choice, set_parameter, update as updates, update_with as updates_with, choose, choose_with, decode}
-use Rattle.machine.specs.Step.{seek_by}
+use Rattle.figure.specs.Figure.{back_from, way_among, way_of, way_out, Leads, leads_jump, leads_input, leads_any, leads_write, leads_token, leads_call, leads_result, leads_choice, leads_parameter, leads_update, leads_update_with, leads_choose, leads_choose_with, Reached, at_start, further}
+use Rattle.machine.specs.Decode.{fetch, Instruction, jump, input, input_any, write, input_choice, call_rule, return, set_result, choice as by_result, end_choice, set_parameter, update as updates, update_with as updates_with, choose, choose_with, decode}
 use Rattle.program.specs.Program.{Rule}
 
 -- Choice tables

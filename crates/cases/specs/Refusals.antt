@@ -1,6 +1,6 @@
 -- Texts that are refused: for each number 1 to 9, 20 and 45 at least one, and those whose order or word is easily got wrong. `^` marks the start
 -- of the word at fault and is not in the text.
-use Rattle.std.specs.Prelude.{Bool, true, false, ◌&&◌, List, [], ◌∷◌, ◌++◌, ℕ, zero, suc, ◌+◌, eqb, length, replicate, if◌then◌else◌}
+use Rattle.std.specs.Prelude.{Bool, true, false, ◌&&◌, List, [], ◌∷◌, ◌++◌, ℕ, zero, suc, eqb, replicate, if◌then◌else◌}
 use Prim.Native.Char.{code}
 use Prim.Native.String.{String}
 use Rattle.base.specs.Common.{bytes}

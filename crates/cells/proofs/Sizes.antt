@@ -1,7 +1,5 @@
 -- "never longer than the table but for the end of each choice rule": how many cells a program has.
-use mathlib.Core.Bool.{true}
 use mathlib.Core.List.{List, [], ◌∷◌}
-use mathlib.Core.Path.{◌≡◌}
 use Prim.Native.Nat.{ℕ, ◌+◌, ◌*◌, ◌≤◌}
 use lib.ListN.{length, length-append}
 use native.Mathlib.Omega.{arith}

@@ -1,5 +1,5 @@
 -- Two exits in a cycle, by computing: their chain while the cycle is open, and their distances afterwards.
-use Prim.Native.Nat.{ℕ, ◌-◌}
+use Prim.Native.Nat.{◌-◌}
 use mathlib.Core.Path.{◌≡◌, refl}
 use mathlib.Core.List.{[], ◌∷◌}
 use native.Mathlib.Omega.{arith}

@@ -7,8 +7,8 @@ use mathlib.Core.List.{List, [], ◌∷◌, ◌++◌, append_assoc, append-nil}
 use native.Mathlib.Omega.{arith}
 use lib.ListN.{length, get_or, length-append, get_or-append}
 use lib.Seq.{get_or-append-add}
-use lib.Dec.{eqb, ltb}
-use Rattle.chains.specs.Marks.{Target, outside, end, head, table, rule, Mark, known, waiting, waits, number, knowns, filled, close}
+use lib.Dec.{eqb}
+use Rattle.chains.specs.Marks.{Target, outside, end, head, table, rule, Mark, known, waiting, waits, number, knowns, filled}
 use Rattle.chains.specs.Chain.{Chain, places, patched, At, at_here, at_there, newest, Waiting, Fixed, fixed_known, fixed_call, Grown, placed}
 use Rattle.chains.proofs.Lists.{waits-eq, waits-ne, ne-waits, at_in, at_split, Behind, places-append, chain_same, same-before, same-append, same-places, length-patched, patched-low, patched-at, patched-kept, length-filled, FilledAt, as-was, now-known, at-filled, places-filled, places-filled-other, length-knowns, places-knowns, at-knowns}
 

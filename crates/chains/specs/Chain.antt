@@ -1,6 +1,6 @@
 -- "let the incomplete jump words hold the chain until the target is known: while the table fits, it runs through exactly a target's open jumps, and beside
 -- it only the newest is kept". Words are counted from 0; no jump's word is the table's first, so 0 ends a chain.
-use Rattle.std.specs.Prelude.{◌≡◌, true, cond, List, [], ◌∷◌, ◌++◌, ℕ, ◌+◌, ◌-◌, ◌<◌, ◌≤◌, eqb, length, get_or, set}
+use Rattle.std.specs.Prelude.{◌≡◌, cond, List, [], ◌∷◌, ◌++◌, ℕ, ◌+◌, ◌<◌, ◌≤◌, length, get_or, set}
 use Rattle.chains.specs.Marks.{Target, outside, end, head, table, rule, Mark, known, waiting, waits}
 
 -- the words ws hold a chain from the word at n on: each names the next older one, and these are its places

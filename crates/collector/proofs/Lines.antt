@@ -1,5 +1,5 @@
 -- Lines: a rule is one, and so is each of a common part's list.
-use mathlib.Core.List.{List, [], ◌∷◌, ◌++◌}
+use mathlib.Core.List.{List, ◌++◌}
 use mathlib.Core.Path.{◌≡◌, ap, ◌∙◌}
 use Prim.Native.Nat.{ℕ}
 use Rattle.collector.proofs.Skips.{body, stays}

@@ -21,7 +21,7 @@ use Rattle.collector.specs.declared.Spot.{Spot}
 use Rattle.collector.specs.declared.State.{State}
 use Rattle.declarations.proofs.Whole.{length-section, length-sections}
 use Rattle.declarations.specs.Decls.{Decl, decls_of, entries_of, of_operators, of_type, place_of, rule_decls, section_decls, sections_decls}
-use Rattle.grammar.specs.Derived.{Took, ListedIn, OperationsIn, OperatorsIn, one_operator, last_operator, more_operators, SectionIn, inputs_in, both_in, outputs_in, errors_in, values_in, operations_in, operators_in, SectionsIn, no_section, more_sections, RulesIn, ProgramIn, a_program, names_in, names_in_all}
+use Rattle.grammar.specs.Derived.{Took, ListedIn, OperationsIn, OperatorsIn, one_operator, last_operator, more_operators, SectionIn, inputs_in, both_in, outputs_in, errors_in, values_in, operations_in, operators_in, SectionsIn, no_section, more_sections, ProgramIn, a_program, names_in, names_in_all}
 use Rattle.reader.proofs.Laws.{apart}
 use Rattle.reader.proofs.SectionLaws.{kinds-then, next-max}
 use Rattle.reader.specs.Answers.{Here}

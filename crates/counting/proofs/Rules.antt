@@ -16,7 +16,6 @@ use Rattle.figures.proofs.Shelves.{balanced}
 use Rattle.figures.proofs.Spans.{length-span_totals, length-locations_at, get_d-span_totals, get_d-last_total}
 use Rattle.figures.specs.Figures.{sum, sound}
 use Rattle.figures.specs.Form.{number_at, numbers_at, figures_named, figures_of}
-use Rattle.figures.specs.Spans as spans
 use Rattle.figures.specs.Spans.{span_total, span_totals, location_at, locations_at, locations_in, tells, span_of, span_bytes, bounded, together_of, together_bytes}
 use Rattle.machine.specs.Bytes.{words_of}
 

@@ -1,5 +1,5 @@
 -- A book's call in the order of the code, over the walker's definitions: what it gives, and the locations of its steps.
-use Rattle.std.specs.Prelude.{Bool, false, List, [], ◌∷◌, ◌++◌, ℕ, zero, suc, ◌+◌, ◌*◌, ◌-◌, ◌<◌, ◌≤◌, leb, ltb, set, replicate, if◌then◌else◌}
+use Rattle.std.specs.Prelude.{Bool, false, List, [], ◌∷◌, ◌++◌, ℕ, zero, suc, ◌+◌, ◌-◌, ◌<◌, ◌≤◌, leb, ltb, set, replicate, if◌then◌else◌}
 use Rattle.figures.specs.Figures.{bits_of}
 use Rattle.figures.specs.Form as form
 use Rattle.figures.specs.Spans as spans

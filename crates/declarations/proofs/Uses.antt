@@ -7,7 +7,7 @@ use Prim.Native.Nat.{ℕ, ◌+◌}
 use Rattle.base.specs.Common.{given}
 use Rattle.declarations.proofs.Lookups.{found, found-names, found-row, looked-up}
 use Rattle.declarations.specs.Decls.{Decl, knowns_in, index_of, declared_in, type_class, class_named, mapped, Agrees, elsewhere_in, lookup_in, type_in, optional_in}
-use Rattle.names.specs.Known.{Checked, good, wrong, ◌>>=◌, Known, KnownRule, Names, find_type, declared, is_type, elsewhere, lookup, lookup_type, optional_type}
+use Rattle.names.specs.Known.{Checked, good, wrong, ◌>>=◌, Known, KnownRule, Names, find_type, elsewhere, lookup, lookup_type, optional_type}
 use Rattle.names.specs.Resolve as resolve
 use Rattle.syntax.specs.Written.{Program}
 use Rattle.words.specs.Words.{Word}

@@ -1,6 +1,6 @@
 -- A program's declarations in one row, in text order: what the processor keeps of the sections and of the rules' heads. The classes of crate
 -- names are read off it.
-use Rattle.std.specs.Prelude.{Bool, true, false, ◌&&◌, ◌||◌, not, List, [], ◌∷◌, ◌++◌, ◌≡◌, ℕ, suc, ◌+◌, eqb, length, get_or, if◌then◌else◌}
+use Rattle.std.specs.Prelude.{Bool, false, ◌&&◌, ◌||◌, not, List, [], ◌∷◌, ◌++◌, ◌≡◌, ℕ, suc, ◌+◌, eqb, length, get_or, if◌then◌else◌}
 use Rattle.std.proofs.Math.Option.{Option, none, some}
 use Rattle.base.specs.Common.{same, given, member}
 use Rattle.grammar.specs.Derived.{OperatorsIn}

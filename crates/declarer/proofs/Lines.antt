@@ -15,7 +15,7 @@ use Rattle.declarations.proofs.Whole.{index-rules, is_rule}
 use Rattle.declarations.specs.Decls.{Agrees, Decl, decls_of, decl_of, elsewhere_in, index_of, knowns_in, mapped, of_rule, optional_in, rule_decls, rule_from, sections_decls, type_in}
 use Rattle.declarer.specs.Faults.{line_fault, line_faults, lines_mean}
 use Rattle.names.specs.Declare.{known_rules}
-use Rattle.names.specs.Known.{Checked, good, wrong, ◌>>=◌, fault_if, Known, KnownRule, Names, find_operation, find_rule, optional_type}
+use Rattle.names.specs.Known.{Checked, good, wrong, ◌>>=◌, fault_if, Known, KnownRule, Names, find_operation, find_rule}
 use Rattle.names.specs.Understand.{is_one, taken}
 use Rattle.syntax.specs.Written.{Rule, Section, Program}
 use Rattle.words.specs.Words.{Word}

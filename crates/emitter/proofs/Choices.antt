@@ -1,15 +1,14 @@
 -- Choices: alternatives, the choice table, otherwise. Assumes nothing.
-use Prim.Native.Nat.{ℕ, zero, ◌+◌, ◌*◌, ◌-◌, ◌<◌, ◌≤◌, min}
+use Prim.Native.Nat.{ℕ, ◌+◌, ◌*◌, ◌-◌, ◌<◌, ◌≤◌, min}
 use mathlib.Core.Path.{◌≡◌, refl, sym, ap, ◌∙◌, subst}
-use mathlib.Core.Bool.{Bool, true, cond}
+use mathlib.Core.Bool.{Bool, cond}
 use mathlib.Core.List.{List, [], ◌∷◌, ◌++◌, append_assoc, append-nil}
 use native.Mathlib.Omega.{arith}
 use lib.ListN.{length, get_or, length-append}
 use lib.Seq.{get_or-append-add, get_or-set_other}
-use lib.Dec.{eqb, ltb}
 use borrow.Author.Tests.{ne_eqb, lt-ltb, le-ltb}
 use Rattle.base.specs.Tree.{choice, absent, otherwise}
-use Rattle.program.specs.Program.{Plain, emit, exit, call, Selector, by_token, by_rule, by_operation, by_operation_with, Act, Acts, Alts, Other}
+use Rattle.program.specs.Program.{Plain, Selector, by_token, by_rule, by_operation, by_operation_with, Act, Acts, Alts, Other}
 use Rattle.program.specs.Table.{size_absent, count_labels, size_alts, table_words, first_of, first_label, absent_words, choice_number, selector_words}
 use Rattle.program.specs.Accepted.{NeedsLabel, Labelled}
 use Rattle.program.proofs.Lengths.{length-table_words, length-selector}

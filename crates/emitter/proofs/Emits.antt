@@ -1,5 +1,5 @@
 -- Emission over the cells: what stands where, and how the words grow. Assumes nothing.
-use Prim.Native.Nat.{ℕ, zero, ◌+◌, ◌-◌, ◌<◌, ◌≤◌, min}
+use Prim.Native.Nat.{ℕ, ◌+◌, ◌-◌, ◌<◌, ◌≤◌, min}
 use mathlib.Core.Path.{◌≡◌, refl, sym, ap, ◌∙◌, subst}
 use mathlib.Core.Bool.{Bool, true, false, cond}
 use mathlib.Core.List.{List, [], ◌∷◌, ◌++◌, append_assoc, append-nil}
@@ -8,8 +8,8 @@ use lib.ListN.{length, get_or, set, length-set, length-append}
 use lib.Seq.{get_or-set_same, get_or-set_other}
 use lib.Dec.{eqb, ltb}
 use borrow.Author.Tests.{eq-eqb, ne_eqb, lt-ltb, le-ltb, ltb-true, ltb-false, eqb-true, eqb-false}
-use Rattle.base.specs.Tree.{plain, cycle, choice, done, ◌▸◌, otherwise}
-use Rattle.program.specs.Program.{Plain, emit, exit, call, Selector, by_token, Act, Acts}
+use Rattle.base.specs.Tree.{plain, cycle, done, ◌▸◌}
+use Rattle.program.specs.Program.{Plain, exit, Selector, Act, Acts}
 use Rattle.program.specs.Table.{sizes, plain_words}
 use Rattle.program.proofs.Lengths.{length-plain}
 use Rattle.chains.specs.Marks.{Target, outside, end, head, table, rule, Mark, known, waiting, knowns, close, plain_marks, marks, marks_all}
@@ -17,7 +17,7 @@ use Rattle.chains.specs.Chain.{Chain, places, patched, newest, Waiting, Fixed, f
 use Rattle.chains.proofs.Lists.{length-knowns, length-filled, at_in}
 use Rattle.chains.proofs.Grows.{chain-low, grown-none, grown-join, grown-known, grown-open, grown-placed, grown-close}
 use Rattle.chains.proofs.Solves.{length-marks_all, length-plain_marks}
-use Rattle.emitter.specs.Words.{words, puts, cut}
+use Rattle.emitter.specs.Words.{puts, cut}
 use Rattle.emitter.specs.Stands.{IsSel, sel_token, sel_rule, sel_op, sel_op_with, IsPlain, is_match, is_any, is_emit, is_error, is_exit, is_called, is_back, is_give, is_update, is_update_with, Is, is_plain, is_cycle, is_a_choice, IsAll, is_done, is_cons}
 use Rattle.emitter.specs.Heads.{chooses, plain_of, firsts, words_in, start_of, plain_at, called, called_at, anchor}
 use Rattle.emitter.specs.Work.{ItemDone, PatchDone, Emitted, Done, ListDone, ActDone, CycleDone}

@@ -1,10 +1,10 @@
 -- An example by computing: the cells of a program, what is asked of them, and the bytes that the emitter makes of them.
 use Prim.Native.Nat.{ℕ, zero, suc, ◌<◌}
 use mathlib.Core.Path.{◌≡◌, refl}
-use mathlib.Core.Bool.{true, false}
+use mathlib.Core.Bool.{false}
 use mathlib.Core.List.{List, [], ◌∷◌}
 use native.Mathlib.Omega.{arith}
-use lib.ListN.{length, get_or}
+use lib.ListN.{get_or}
 use Rattle.base.specs.Tree.{plain, cycle, choice, done, ◌▸◌, nil, alternative, absent}
 use Rattle.program.specs.Program.{exit, by_token, Rule, rule_of, body_of}
 use Rattle.program.specs.Accepted.{Oks, OkPlain, OkSelector, NeedsLabel, Labelled, Values}

@@ -1,5 +1,5 @@
 -- Laws of the definitions of specs/. Assumes nothing.
-use Prim.Native.Nat.{ℕ, zero, suc, ◌+◌, ◌*◌, ◌-◌, ◌/◌, ◌%◌, ◌<◌, ◌≤◌}
+use Prim.Native.Nat.{ℕ, zero, suc, ◌+◌, ◌*◌, ◌/◌, ◌%◌, ◌<◌, ◌≤◌}
 use mathlib.Core.Path.{◌≡◌, refl, sym, ap, ◌∙◌}
 use mathlib.Core.Bool.{Bool, true, false, cond}
 use mathlib.Core.List.{List, [], ◌∷◌, ◌++◌}
@@ -8,9 +8,7 @@ use native.Mathlib.Nat.{add-zero, mod-eq_of_lt}
 use lib.ListN.{length, get_or, set, length-set}
 use lib.Dec.{eqb, ltb}
 use borrow.Author.Tests.{eq-eqb, ne_eqb, lt-ltb, le-ltb}
-use Rattle.base.specs.Tree.{choice, otherwise}
-use Rattle.program.specs.Program.{emit, exit, call, by_token}
-use Rattle.program.specs.Table.{place, table}
+use Rattle.program.specs.Table.{place}
 use Rattle.chains.specs.Chain.{placed}
 use Rattle.emitter.specs.Words.{words, set_word, puts, cut}
 use Rattle.emitter.specs.Heads.{labels_in, labels_at, plain_of, sel_of, firsts, words_in, called, called_by}

@@ -1,16 +1,14 @@
 -- What stands in the cells, by its first cell. Assumes nothing.
-use Prim.Native.Nat.{ℕ, zero, ◌+◌, ◌-◌, ◌<◌, ◌≤◌}
+use Prim.Native.Nat.{ℕ, ◌+◌, ◌<◌, ◌≤◌}
 use mathlib.Core.Path.{◌≡◌, refl, ap, ◌∙◌}
 use mathlib.Core.Bool.{Bool, true, false, cond}
-use mathlib.Core.Logic.{inr}
-use mathlib.Core.List.{List, ◌∷◌}
+use mathlib.Core.List.{List}
 use native.Mathlib.Omega.{arith}
 use lib.ListN.{length, get_or}
-use lib.Dec.{eqb, ltb}
+use lib.Dec.{ltb}
 use borrow.Author.Tests.{lt-ltb, le-ltb}
-use Rattle.base.specs.Tree.{choice, nil, alternative, otherwise}
-use Rattle.program.specs.Program.{Plain, emit, exit, call, Selector, by_token, by_rule, by_operation, by_operation_with, Act, Acts, Alts, Other}
-use Rattle.program.specs.Table.{table}
+use Rattle.base.specs.Tree.{nil, alternative}
+use Rattle.program.specs.Program.{Plain, Selector, by_token, by_rule, by_operation, by_operation_with, Act, Acts, Alts, Other}
 use Rattle.cells.specs.Cells.{absent_cell}
 use Rattle.emitter.specs.Stands.{IsSel, sel_token, sel_rule, sel_op, sel_op_with, Labels, IsPlain, is_match, is_any, is_emit, is_error, is_exit, is_called, is_back, is_give, is_update, is_update_with, Is, is_plain, is_cycle, is_a_choice, IsAlts, is_nil, is_alt, IsOther, is_stop, is_other, IsAll, is_done, is_cons}
 use Rattle.emitter.specs.Heads.{labels_in, labels_at}

@@ -10,13 +10,12 @@ use lib.ListN.{length, get_or, set, take, drop, replicate, length-append, length
 use lib.Seq.{get_or-set_same, get_or-set_other, ext_get_or, drop-append-add, drop-drop, drop-append-le, length-take-le}
 use borrow.Author.Tests.{ltb-true, ltb-false, eqb-true, eqb-false, le-leb, lt-leb}
 use Rattle.base.proofs.Laws.{lt-or-le, zeros-at}
-use Rattle.std.specs.Prelude.{if◌then◌else◌}
 use Rattle.program.specs.Program.{Rule}
 use Rattle.program.specs.Table.{end_words, size_rule, size_rules, place, table}
 use Rattle.program.proofs.Lengths.{length-table}
 use Rattle.program.proofs.Places.{place-first, place-fits}
 use Rattle.machine.specs.Bytes.{count, bytes_of}
-use Rattle.chains.specs.Marks.{Target, outside, rule, Mark, known, waiting, number, knowns, close, marks_all, marks_rule, marks_rules, solved}
+use Rattle.chains.specs.Marks.{Target, outside, rule, Mark, known, waiting, knowns, close, marks_all, marks_rule, marks_rules, solved}
 use Rattle.chains.specs.Chain.{Chain, places, patched, newest, Waiting, At, Fixed, fixed_known, fixed_call, placed}
 use Rattle.chains.proofs.Lists.{at_in, at_split, Behind, at_some, places-append, length-patched, patched-at, patched-kept, known-waits, waits-ne, length-filled, length-knowns}
 use Rattle.chains.proofs.Grows.{chain-fill}

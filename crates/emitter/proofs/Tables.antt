@@ -1,5 +1,5 @@
 -- The choice table, from its last entry back along the chain of ends. Assumes nothing.
-use Prim.Native.Nat.{ℕ, zero, ◌+◌, ◌*◌, ◌-◌, ◌<◌, ◌≤◌}
+use Prim.Native.Nat.{ℕ, ◌+◌, ◌*◌, ◌-◌, ◌<◌, ◌≤◌}
 use mathlib.Core.Path.{◌≡◌, refl, sym, ap, ◌∙◌, subst}
 use mathlib.Core.Bool.{Bool, true, false, cond}
 use mathlib.Core.List.{List, [], ◌∷◌, ◌++◌, append_assoc, append-nil}
@@ -12,7 +12,7 @@ use Rattle.program.specs.Program.{Alts}
 use Rattle.program.specs.Table.{sizes, size_alts, count_labels, label_words, table_words}
 use Rattle.program.proofs.Lengths.{length-labels}
 use Rattle.machine.specs.Bytes.{words_of}
-use Rattle.chains.specs.Marks.{end, head, table, waiting, waits, number, marks_all, marks_alts}
+use Rattle.chains.specs.Marks.{end, head, waiting, waits, number, marks_all, marks_alts}
 use Rattle.chains.specs.Chain.{Chain, places, patched}
 use Rattle.chains.proofs.Lists.{places-append}
 use Rattle.chains.proofs.Solves.{length-marks_all}

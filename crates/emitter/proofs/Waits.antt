@@ -1,16 +1,14 @@
 -- What the words of a part can wait for: an exit, or a call of a rule. Assumes nothing.
-use Prim.Native.Nat.{ℕ, zero, ◌+◌, ◌*◌, ◌-◌, ◌<◌}
+use Prim.Native.Nat.{ℕ, ◌+◌, ◌*◌, ◌<◌}
 use mathlib.Core.Path.{◌≡◌, refl}
-use mathlib.Core.Bool.{true, false}
+use mathlib.Core.Bool.{false}
 use mathlib.Core.Logic.{◌⊎◌, inl, inr}
 use mathlib.Core.List.{List, [], ◌∷◌, ◌++◌}
 use native.Mathlib.Omega.{arith}
-use lib.ListN.{length}
 use borrow.Author.Tests.{ne_eqb}
-use Rattle.base.specs.Tree.{choice, otherwise}
-use Rattle.program.specs.Program.{Plain, emit, exit, call, Selector, by_token, Act, Acts, Alts, Other, Rule}
+use Rattle.program.specs.Program.{Plain, Selector, Act, Acts, Alts, Other, Rule}
 use Rattle.program.specs.Table.{size_alts, count_labels, table_words, absent_words, first_label, end_words}
-use Rattle.chains.specs.Marks.{Target, outside, end, head, table, rule, Mark, known, waiting, waits, number, knowns, filled, close, shut, plain_marks, selector_marks, marks, marks_all, marks_alts, marks_other, marks_rule, marks_rules}
+use Rattle.chains.specs.Marks.{Target, outside, end, head, rule, Mark, known, waiting, waits, number, knowns, filled, close, shut, plain_marks, selector_marks, marks, marks_all, marks_alts, marks_other, marks_rule, marks_rules}
 use Rattle.chains.specs.Chain.{At, at_here, at_there, places}
 use Rattle.chains.proofs.Lists.{at_in, at_split, Behind, at-filled, FilledAt, as-was, now-known, at-knowns, places-none, ne-waits}
 use Rattle.emitter.specs.Stands.{IsSel, sel_token, sel_rule, sel_op, sel_op_with, IsPlain, is_match, is_any, is_emit, is_error, is_exit, is_called, is_back, is_give, is_update, is_update_with, Is, is_plain, is_cycle, is_a_choice, IsAlts, is_nil, is_alt, IsOther, is_stop, is_other, IsAll, is_done, is_cons}

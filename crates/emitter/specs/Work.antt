@@ -1,5 +1,5 @@
 -- What each function of the emitter does: on any cells it keeps to its bounds, and whatever stands there is written, open jumps in their chains.
-use Rattle.std.specs.Prelude.{ℕ, ◌+◌, ◌*◌, ◌-◌, ◌<◌, ◌≤◌, ◌≡◌, List, ◌∷◌, ◌++◌, length}
+use Rattle.std.specs.Prelude.{ℕ, ◌+◌, ◌*◌, ◌-◌, ◌<◌, ◌≤◌, ◌≡◌, List, ◌++◌, length}
 use Rattle.base.specs.Tree.{cycle}
 use Rattle.program.specs.Program.{Selector, Act, Acts, Alts, Other}
 use Rattle.program.specs.Table.{count_labels, label_words, absent_words}

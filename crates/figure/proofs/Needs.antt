@@ -1,5 +1,5 @@
 -- "Then no walk of n tokens and repair allowance r .. needs more than 65 × Q × (n + r + 1) steps": for every table, if the walk stops at all.
-use mathlib.Core.List.{List, [], ◌∷◌}
+use mathlib.Core.List.{List}
 use mathlib.Core.Path.{◌≡◌, refl, sym, ap, ◌∙◌}
 use native.Mathlib.Nat.{zero-add, suc-add, mul-le-mul_right}
 use native.Mathlib.Omega.{arith}
@@ -11,7 +11,7 @@ use Rattle.events.specs.Events.{Reason, outside}
 use Rattle.machine.specs.Decode.{decode}
 use Rattle.machine.specs.Step.{step}
 use Rattle.machine.specs.Walk.{Phase, going, stopped, Walk, fresh}
-use Rattle.figure.specs.Figure.{at_start, over, quiet, Bounds}
+use Rattle.figure.specs.Figure.{at_start, quiet, Bounds}
 use Rattle.figure.proofs.Steps.{left, Sorted, goes-outside, stops-here, reads_here, goes_on, calls, returns, step-sort}
 use Rattle.figure.proofs.Frames.{Called, called-first, is-here, all_none, Placed, ending-stop, ending-read, Quietly, quietly-on, quietly-call, quietly-back, Until, until-last, until-more, Ended, ended-stop, ended-read, until-ended, stretch}
 

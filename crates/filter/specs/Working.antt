@@ -1,8 +1,8 @@
 -- What the filter's functions compute, over bytes.
-use Rattle.std.specs.Prelude.{true, List, [], ◌∷◌, ◌≡◌, ℕ, zero, suc, ◌+◌, ◌*◌, ◌/◌, ◌%◌, ◌<◌, ◌≤◌, eqb, leb, length, get_or, set, drop}
+use Rattle.std.specs.Prelude.{List, [], ◌∷◌, ◌≡◌, ℕ, zero, suc, ◌+◌, ◌*◌, ◌/◌, ◌%◌, ◌<◌, ◌≤◌, eqb, leb, length, get_or, set, drop}
 use Rattle.std.proofs.Math.Option.{Option, none, some}
 use Rattle.buffers.specs.Words.{put_word}
-use Rattle.filtering.specs.Filter.{Entry, entries, has, holders, lowest, token_of}
+use Rattle.filtering.specs.Filter.{Entry, entries, holders, lowest, token_of}
 
 -- the entry at place i
 unfoldable pub entry_at : List ℕ → ℕ → Entry

@@ -1,6 +1,6 @@
 -- A filter is accepted exactly if it has at most 64 entries, none of them crossed, and every byte value in one and no more; the token of a byte is then that of
 -- the entry that has it.
-use mathlib.Core.Bool.{Bool, true, false, ◌&&◌}
+use mathlib.Core.Bool.{Bool, true, false}
 use mathlib.Core.List.{List, [], ◌∷◌}
 use mathlib.Core.Option.{Option, none, some}
 use mathlib.Core.Path.{◌≡◌, refl, ap, ◌∙◌}

@@ -3,7 +3,7 @@
 use Rattle.std.specs.Prelude.{List, ℕ, ◌<◌, length}
 use Rattle.base.specs.Tree.{plain, cycle, choice, done, ◌▸◌, alternative, otherwise}
 use Rattle.finishing.specs.Finishing.{Way, to_end, to_exit, to_back, to_give, to_call, Away, Far, Returns, Finishing}
-use Rattle.program.specs.Program.{match, emit, error, exit, call, back, give, update, update_with, Selector, by_token, by_rule, by_operation, by_operation_with, Act, Acts, Alts, Other, Rule, body_of}
+use Rattle.program.specs.Program.{emit, error, exit, call, back, give, update, update_with, Selector, by_token, by_rule, by_operation, by_operation_with, Act, Acts, Alts, Other, Rule, body_of}
 
 module _ (prog : List Rule) where
   mutual

@@ -18,8 +18,8 @@
 -- read, Lines comes to Foot and Foot to Lines: `through`, and it is not finishing either.
 use Rattle.std.specs.Prelude.{Bool, true, false, ◌||◌, List, ◌≡◌, ℕ, ◌<◌, length}
 use Rattle.base.specs.Common.{member}
-use Rattle.base.specs.Tree.{plain, cycle, choice, done, ◌▸◌, nil, alternative, absent, otherwise}
-use Rattle.program.specs.Program.{match, emit, error, exit, call, back, give, update, update_with, Selector, by_token, by_rule, by_operation, by_operation_with, Act, Acts, Alts, Other, Rule, body_of}
+use Rattle.base.specs.Tree.{plain, cycle, choice, done, ◌▸◌, nil, alternative, otherwise}
+use Rattle.program.specs.Program.{emit, error, exit, call, back, give, update, update_with, Selector, by_token, by_rule, by_operation, by_operation_with, Act, Acts, Alts, Other, Rule, body_of}
 
 -- where a path comes to: the end of what it began in, an exit of the cycle around that, a return without a value, one with its
 -- value, a call of a rule

@@ -10,7 +10,7 @@ use Rattle.events.specs.Events
 use Rattle.events.specs.Events.{unlabelled}
 use Rattle.firmware.specs.Entries.{phase_in, reason_in, phase_number, reason_or_none, location_or0, read_or0, used_or0, allowance_or0, fresh_number, fresh_in, handing, gives}
 use Rattle.firmware.specs.Filing.{hands}
-use Rattle.firmware.specs.Processing.{flag_of, Numbers, numbers_of, tells}
+use Rattle.firmware.specs.Processing.{flag_of, numbers_of, tells}
 use Rattle.firmware.specs.Turning.{leaves}
 use Rattle.loading.specs.File as files
 use Rattle.machine.specs.Bytes

@@ -1,5 +1,5 @@
 -- Number 0 of `sst_process` means that the text is accepted, and `*words` and `*finishing` are the table's length and the verdict.
-use mathlib.Core.Bool.{Bool, true}
+use mathlib.Core.Bool.{Bool}
 use mathlib.Core.List.{List}
 use mathlib.Core.Path.{◌≡◌, refl, sym, ap, ◌∙◌}
 use Prim.Native.Nat.{ℕ}

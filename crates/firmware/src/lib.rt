@@ -635,12 +635,7 @@ pub fn sst_load(file: &[u8], table: &mut [u8], words: &mut u64, verdict: &mut u6
 }
 
 // The file of a table and a verdict is put into the lent buffer, if the loader would take it.
-pub fn sst_write_file(
-    table: &[u8],
-    verdict: u64,
-    file: &mut [u8],
-    words: &mut u64,
-) -> u16
+pub fn sst_write_file(table: &[u8], verdict: u64, file: &mut [u8], words: &mut u64) -> u16
     ensures value { result ≡ (files.numbers_of (files.store (words_of table.now) verdict (count file.old))).number }
     ensures words { words.new ≡ (files.numbers_of (files.store (words_of table.now) verdict (count file.old))).words }
     ensures lent { file.new ≡ files.lent_bytes (files.store (words_of table.now) verdict (count file.old)) file.old }

@@ -16,7 +16,7 @@ use Rattle.grammar.specs.Derived.{Took, Not, SpellingIn, no_strings, no_spelling
 use Rattle.grammar.proofs.Laws.{From, no-got, bind, next, gives, refuses, either, on-kind, weaken, passes, expects, a-name, Named, one_name_lem, name-or-string}
 use Rattle.syntax.proofs.Ahead.{kind-read, room-left}
 use Rattle.syntax.specs.Reading.{got, fault, onward, ◌>>=◌, ◌>>◌, pure, peek, pass, refuse, over, on◌then◌else◌, expect, a_name, one_name, small, a_number, optional, name_or_string}
-use Rattle.syntax.specs.Sections.{a_spelling, a_count, an_entry, entries, first_of, kind_ahead, is_full, a_parameter, numbered, an_operation, some_operations, Sofar, after, token_section, a_section, Sections, some_sections, of_kind, spells, ranking, a_level, a_side, an_operator, some_operators, operator_section, mechanism_section, other_section}
+use Rattle.syntax.specs.Sections.{a_spelling, a_count, an_entry, entries, first_of, kind_ahead, is_full, a_parameter, numbered, an_operation, some_operations, Sofar, after, token_section, a_section, Sections, some_sections, spells, ranking, a_level, a_side, an_operator, some_operators, operator_section, mechanism_section, other_section}
 use Rattle.syntax.specs.Written.{Entry, Operation, Section, inputs, outputs, both, errors, values, operations, Operator, operators}
 use Rattle.words.specs.Words.{Word, twice, number, string, input, output, error, type, mechanism, rules, value}
 use Rattle.base.specs.Bools.{and}

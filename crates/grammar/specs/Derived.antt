@@ -1,7 +1,7 @@
 -- What was read from where: the words that a tree was read from, and those left. A text that passes the syntax pass has such a
 -- derivation (proofs), and the later passes read it again by it. Kinds are crate words': a symbol's kind is its byte, `>>` is 256, a name 257,
 -- a number 258, a string 259, the heads 260 to 264, `rules` 265, `end` 266.
-use Rattle.std.specs.Prelude.{Bool, true, false, List, [], ◌∷◌, ◌≡◌, ℕ, ◌+◌, ◌-◌, ◌≤◌, max, eqb, length}
+use Rattle.std.specs.Prelude.{Bool, true, false, List, [], ◌∷◌, ◌≡◌, ℕ, ◌+◌, ◌-◌, ◌≤◌, max, length}
 use Rattle.std.proofs.Math.Option.{Option, none, some}
 use Prim.Native.Char.{code}
 use Rattle.base.specs.Common.{bytes, given}

@@ -3,11 +3,10 @@ use mathlib.Core.Bool.{Bool, true, false}
 use mathlib.Core.List.{List, [], ◌∷◌, ◌++◌, append_assoc}
 use mathlib.Core.Path.{◌≡◌, refl, sym, ap, ◌∙◌}
 use Prim.Native.Nat.{ℕ}
-use Rattle.base.specs.Tree.{choice, otherwise}
 use Rattle.cells.specs.Cells.{plain_cells, selector_cells, act_cells, acts_cells, alts_cells, rules_cells}
 use Rattle.levels.specs.LevelCells.{operator_cells, level_cells, open_cells, close_cells, called_by}
 use Rattle.program.specs.Made.{Operator, Level, operator_alts, level_body, level_rule}
-use Rattle.program.specs.Program.{by_token, Rule}
+use Rattle.program.specs.Program.{Rule}
 
 alts-are : (c : ℕ) (os : List Operator) (k : List ℕ) → alts_cells (operator_alts c os) k ≡ operator_cells c os k
 unfolding operator_alts operator_cells act_cells plain_cells

@@ -2,19 +2,18 @@
 use mathlib.Core.List.{List, [], ◌∷◌, ◌++◌, append_assoc}
 use mathlib.Core.Path.{◌≡◌, refl, sym, ap, ◌∙◌}
 use native.Mathlib.Omega.{arith}
-use Prim.Native.Nat.{ℕ, suc, ◌+◌, ◌-◌, ◌<◌, ◌≤◌}
+use Prim.Native.Nat.{ℕ, ◌+◌, ◌-◌, ◌<◌, ◌≤◌}
 use lib.ListN.{length, get_or, take, drop, length-append, length-take, length-drop}
 use lib.Seq.{get_or-drop, drop-drop, take-append_seam, drop-append_seam}
 use Rattle.linkage.specs.Bodies.{IsBody, BodyAt}
 use Rattle.linkage.specs.declared.Body.{Body}
-use Rattle.linkage.specs.declared.Names.{Names}
 use Rattle.linkage.specs.declared.Uses.{Uses}
 use Rattle.linker.proofs.Placing.{letters-are}
 use Rattle.linker.specs.Place.{letters, text_at, behind_name, texts_from, texts_end}
 use Rattle.objects.proofs.Looked.{name-at, ends-took}
 use Rattle.objects.proofs.TakeLaws.{times-exact}
 use Rattle.objects.proofs.Views.{name-exact, option-exact}
-use Rattle.objects.specs.Places.{EndsAt, Ends, NameAt}
+use Rattle.objects.specs.Places.{EndsAt, Ends}
 use Rattle.objects.specs.Take.{Taken, took, missing, times}
 use Rattle.objects.specs.View.{Name, RuleView, name_words, option_words, rule_words, all, a_name, an_option}
 use Rattle.objects.specs.Whole.{texts_of}

@@ -23,7 +23,7 @@ use Rattle.objects.proofs.TakeLaws.{times-exact}
 use Rattle.objects.proofs.Views.{pair-exact, pairs-length}
 use Rattle.objects.specs.Places.{Ends}
 use Rattle.objects.specs.Take.{times}
-use Rattle.objects.specs.View.{Pair, a_pair, pair_of, pairs_of, all, pair_words}
+use Rattle.objects.specs.View.{a_pair, pair_of, pairs_of, all, pair_words}
 
 -- The names of the calls
 

@@ -1,5 +1,4 @@
 -- The rules of an object closed one behind the other, and those of all objects.
-use mathlib.Core.Bool.{true}
 use mathlib.Core.List.{List, [], ◌∷◌, ◌++◌, append_assoc}
 use mathlib.Core.Path.{◌≡◌, refl, sym, ap, ◌∙◌}
 use native.Mathlib.Omega.{arith}
@@ -11,7 +10,7 @@ use Rattle.builder.proofs.Encoding.{acts-cells}
 use Rattle.calls.specs.Renumber.{renumber_rule}
 use Rattle.cells.specs.Cells.{acts_cells, rules_cells}
 use Rattle.frontend.proofs.Joining.{rules-append}
-use Rattle.linkage.specs.Bodies.{IsBody, BodyAt, close_rules}
+use Rattle.linkage.specs.Bodies.{BodyAt, close_rules}
 use Rattle.linkage.specs.Closing.{Lows, places_of}
 use Rattle.linkage.specs.Groups.{IsGroup, GroupAt, ClosesGroup, Calls}
 use Rattle.linkage.specs.declared.Body.{Body}
@@ -27,20 +26,20 @@ use Rattle.names.specs.Uses.{Use}
 use Rattle.objects.proofs.EndsLong.{packed-length}
 use Rattle.objects.proofs.Looked.{ends-took}
 use Rattle.objects.proofs.TakeLaws.{times-exact}
-use Rattle.objects.proofs.Views.{pair-exact, pairs-length, rules-length, object-words}
+use Rattle.objects.proofs.Views.{pair-exact, pairs-length, object-words}
 use Rattle.objects.specs.Places.{Ends}
 use Rattle.objects.specs.Take.{times}
 use Rattle.objects.specs.View as view
 use Rattle.objects.specs.View.{RuleView, View, all, pair_words, rule_words, body_words, view_words, a_pair, view_of, pairs_of, rule_of, names_of}
 use Rattle.objects.specs.Whole as whole
 use Rattle.parts.proofs.Alike.{each_left, each_right}
-use Rattle.parts.specs.Form.{AreObjects, packed, object_words, all_words, body_cells, first_pair}
-use Rattle.parts.specs.Link.{rules_of, is_named, known_of, closing, closed, closed_in}
-use Rattle.parts.specs.Objects.{Aim, OpenRule, Object}
+use Rattle.parts.specs.Form.{packed, object_words, all_words, body_cells, first_pair}
+use Rattle.parts.specs.Link.{rules_of, known_of, closing, closed, closed_in}
+use Rattle.parts.specs.Objects.{OpenRule, Object}
 use Rattle.parts.specs.Sound.{texts_of, SoundRule, Sound}
 use Rattle.resolver.proofs.Appending.{appends-none, appends-then}
 use Rattle.resolver.specs.Resolved.{Appends}
-use Rattle.syntax.specs.Texts.{Head, Common}
+use Rattle.syntax.specs.Texts.{Head}
 use Rattle.words.specs.Words.{Word}
 
 -- The rules of an object

@@ -4,7 +4,7 @@ use mathlib.Core.List.{List, [], ◌∷◌, ◌++◌}
 use mathlib.Core.Option.{Option, none, some}
 use mathlib.Core.Path.{◌≡◌, refl, sym, ap, ◌∙◌, subst}
 use native.Mathlib.Omega.{arith}
-use Prim.Native.Nat.{ℕ, zero, suc, ◌+◌, ◌<◌, ◌≤◌, min}
+use Prim.Native.Nat.{ℕ, zero, suc, ◌+◌, ◌<◌, ◌≤◌}
 use lib.Dec.{eqb, ltb}
 use lib.ListN.{length, get_or, length-append}
 use Rattle.acceptance.proofs.Accepts.{at_place, later-procedures, nobody-ok}
@@ -24,7 +24,7 @@ use Rattle.linkage.specs.Groups.{Calls}
 use Rattle.linkage.specs.Placed.{cells_before, sort_at, Placed}
 use Rattle.linkchecks.specs.Row.{Item, in_text, row_from}
 use Rattle.linker.proofs.Rules.{rule-closed}
-use Rattle.linker.specs.Close.{behind, in_row, operand, places_after, close_from, close_cells}
+use Rattle.linker.specs.Close.{behind, in_row, places_after, close_from, close_cells}
 use Rattle.linker.specs.Place.{rule_texts, places_for, lowests}
 use Rattle.names.specs.Known.{good, Names}
 use Rattle.names.specs.Understand.{nobody}

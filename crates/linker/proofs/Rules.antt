@@ -14,7 +14,7 @@ use Rattle.objects.proofs.Marks.{nothing}
 use Rattle.objects.proofs.Numbering.{not-ranked, ranked-same, first_is, past-heads, past-calls}
 use Rattle.parts.specs.Form.{mark_of, body_cells, first_pair}
 use Rattle.parts.specs.Link.{is_named, known_of, place_for, closing}
-use Rattle.parts.specs.Objects.{Aim, named, ranked, head_aims, use_aims, call_aims, OpenRule, Object}
+use Rattle.parts.specs.Objects.{Aim, named, ranked, use_aims, call_aims, OpenRule, Object}
 use Rattle.parts.specs.Sound.{numbers_all, frame, texts_of, StandsFor, Aligned, SoundRule, Sound}
 use Rattle.syntax.specs.Texts.{Head}
 use Rattle.words.specs.Words.{Word}

@@ -1,18 +1,18 @@
 -- What is answered for bytes with a common part that is in order; and one answer for the same bytes.
-use mathlib.Core.Bool.{Bool, true, false, ◌&&◌, false≢true}
-use mathlib.Core.List.{List, [], ◌++◌, append_assoc}
+use mathlib.Core.Bool.{Bool, true, false, ◌&&◌}
+use mathlib.Core.List.{List, ◌++◌, append_assoc}
 use mathlib.Core.Option.{Option, none, some}
 use mathlib.Core.Path.{◌≡◌, refl, sym, ap, ◌∙◌}
 use native.Mathlib.Omega.{arith}
-use Prim.Native.Nat.{ℕ, ◌+◌, ◌*◌, ◌-◌, ◌<◌, ◌≤◌, ◌%◌}
+use Prim.Native.Nat.{ℕ, ◌+◌, ◌*◌, ◌-◌, ◌<◌, ◌≤◌}
 use lib.Dec.{leb}
 use lib.ListN.{length, get_or, take, drop, replicate}
 use lib.Seq.{take_at}
 use Rattle.std.specs.Prelude.{if◌then◌else◌}
 use Rattle.figure.specs.Told.{Told, untold, told_if}
 use Rattle.finishing.specs.Test.{finishing}
-use Rattle.linking.specs.Answered.{IsCommon, AreBytes, Answered, no_objects, joined, linked_as, Leaves, Links}
-use Rattle.linking.specs.Linking.{Rowed, checked, Passed, Finds, faulty, passed, behind_checks, Sound, LinksSound, Declared}
+use Rattle.linking.specs.Answered.{AreBytes, no_objects, joined, linked_as, Leaves, Links}
+use Rattle.linking.specs.Linking.{Rowed, checked, Passed, Finds, faulty, passed, behind_checks, Sound, LinksSound}
 use Rattle.linking.specs.declared.Fault.{Fault}
 use Rattle.linking.specs.declared.Linked as code
 use Rattle.linking.specs.declared.Shared.{Shared}

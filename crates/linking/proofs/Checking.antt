@@ -8,10 +8,9 @@ use Prim.Native.Nat.{ℕ, min}
 use borrow.Author.Tests.{ne_eqb}
 use lib.Dec.{eqb, ltb}
 use lib.ListN.{length}
-use Rattle.std.specs.Prelude.{if◌then◌else◌}
 use Rattle.linkchecks.specs.Checks as checks
 use Rattle.linkchecks.specs.declared.Found as shown
-use Rattle.linking.specs.Linking.{checked, Passed, Finds, faulty, passed}
+use Rattle.linking.specs.Linking.{checked, Finds, faulty, passed}
 use Rattle.linking.specs.declared.Fault.{Fault}
 use Rattle.parts.specs.Link.{Linked, refused, Found, rules_of, first_typed, unlike_in, twice_in, past_limit_in, refused_at}
 use Rattle.parts.specs.Objects.{Object}

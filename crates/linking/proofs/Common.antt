@@ -1,35 +1,31 @@
 -- The common part of linking: its own faults, or its declarations in the rows.
-use mathlib.Core.Bool.{Bool, true, false, false≢true}
+use mathlib.Core.Bool.{Bool, true, false}
 use mathlib.Core.List.{List, [], ◌∷◌}
-use mathlib.Core.Path.{◌≡◌, refl, sym, ap, ◌∙◌}
+use mathlib.Core.Path.{◌≡◌, refl, sym, ◌∙◌}
 use native.Mathlib.Omega.{arith}
-use Prim.Native.Nat.{ℕ, ◌+◌, ◌*◌, ◌-◌, ◌≤◌, min}
+use Prim.Native.Nat.{ℕ, ◌+◌, ◌*◌, ◌-◌, ◌≤◌}
 use borrow.Author.Tests.{ltb-false}
 use lib.ListN.{length}
 use Rattle.std.specs.Prelude.{if◌then◌else◌}
-use Rattle.declarations.specs.Decls.{Decl, Agrees, EntriesAt, decls_of, entries_of}
+use Rattle.declarations.specs.Decls.{Agrees, decls_of}
 use Rattle.declarer.specs.declared.Fault as found
-use Rattle.linking.specs.Answered.{IsCommon, Answered, over_long, unread, misnamed, Leaves, Links}
+use Rattle.linking.specs.Answered.{over_long, unread, misnamed, Leaves, Links}
 use Rattle.linking.specs.Linking.{IsRead, Rowed, Named, Declared}
 use Rattle.linking.specs.declared.Linked.{Linked}
 use Rattle.linking.specs.declared.Shared.{Shared}
-use Rattle.linkpairs.specs.Standing.{Sections}
-use Rattle.machine.specs.Bytes.{count}
 use Rattle.names.specs.Known.{Checked, good, wrong, KnownRule, Names}
 use Rattle.objects.proofs.Sections.{sections-agree}
-use Rattle.objects.specs.Places.{HeadsAt}
 use Rattle.parts.specs.Link.{refused}
 use Rattle.parts.specs.Objects.{common_means, together}
 use Rattle.partnames.proofs.Commons.{listed-in-text, end-no-line}
 use Rattle.partnames.proofs.HeadLaws.{heads-at}
 use Rattle.partnames.proofs.Together.{rows-alone}
-use Rattle.partnames.specs.Declaring as rows
 use Rattle.partnames.specs.Declaring.{CommonIn, CommonRows, Declares}
 use Rattle.partnames.specs.Heads.{CopiesHeads}
 use Rattle.partnames.specs.Settling.{RowsOf, Settled, in_order, faulty, Settles}
 use Rattle.partnames.specs.declared.Declared as code
 use Rattle.processor.specs.Process.{part_of}
-use Rattle.reader.specs.Answers.{Holds, held, void}
+use Rattle.reader.specs.Answers.{Holds, held}
 use Rattle.reader.specs.Counting.{Decides, fine, wrong as unreadable}
 use Rattle.reader.specs.Texts as reads
 use Rattle.reader.specs.Texts.{Listed, unless_long}
@@ -37,7 +33,6 @@ use Rattle.reader.specs.declared.Counted.{Counted}
 use Rattle.symbols.specs.Rows as symbols
 use Rattle.syntax.specs.Parse.{end_of}
 use Rattle.syntax.specs.Reading.{Read, got, fault}
-use Rattle.syntax.specs.Sections.{names_in_all}
 use Rattle.syntax.specs.Texts.{Common, too_long, read_common}
 use Rattle.words.specs.Words.{Word, words_at}
 

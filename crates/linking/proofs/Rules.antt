@@ -1,15 +1,14 @@
 -- The rules of the objects and those made for operators: what is left in the buffers gives the answer.
-use mathlib.Core.Bool.{Bool, true, false, ◌||◌, ◌&&◌}
+use mathlib.Core.Bool.{Bool, true, false, ◌&&◌}
 use mathlib.Core.List.{List, [], ◌∷◌}
 use mathlib.Core.Option.{Option, none, some}
 use mathlib.Core.Path.{◌≡◌, refl, sym, ap, ◌∙◌}
 use native.Mathlib.Omega.{arith}
-use Prim.Native.Nat.{ℕ, zero, suc, ◌+◌, ◌*◌, ◌<◌, ◌≤◌, min}
-use lib.Dec.{eqb, ltb, leb}
+use Prim.Native.Nat.{ℕ, suc, ◌<◌, ◌≤◌, min}
+use lib.Dec.{leb}
 use lib.ListN.{length, get_or, replicate, length-replicate}
 use Rattle.std.specs.Prelude.{if◌then◌else◌}
-use Rattle.cells.specs.Cells.{rules_cells}
-use Rattle.figure.specs.Told.{Told, untold, told_if}
+use Rattle.figure.specs.Told.{untold, told_if}
 use Rattle.finishing.specs.Test.{finishing}
 use Rattle.frontend.specs.Resolving.{Ready}
 use Rattle.levels.specs.declared.Made.{Made}
@@ -23,7 +22,7 @@ use Rattle.linkchecks.specs.Row.{row_from}
 use Rattle.linkchecks.specs.Walk.{Viewed}
 use Rattle.linker.specs.Place.{text_at, texts_at, rule_texts}
 use Rattle.linking.specs.Answered.{linked_as, Leaves}
-use Rattle.linking.specs.Linking.{Rowed, Passed, behind_checks, Sound, SoMany, LinksSound, Closed, IsClosed, LinksClosed}
+use Rattle.linking.specs.Linking.{Rowed, Passed, behind_checks, Closed, IsClosed}
 use Rattle.linking.specs.declared.Linked as code
 use Rattle.linking.specs.declared.Shared.{Shared}
 use Rattle.linkpairs.proofs.Making.{text_of}
@@ -31,7 +30,6 @@ use Rattle.linkpairs.proofs.Whole.{pairs_made}
 use Rattle.linkpairs.specs.Places.{SitesFound, RulesMade}
 use Rattle.linkpairs.specs.Standing.{Held, Tells, Collected}
 use Rattle.linkpairs.specs.declared.Pairs.{Pairs}
-use Rattle.linkpairs.specs.declared.Scope.{Scope}
 use Rattle.linkpairs.specs.declared.Work.{Work}
 use Rattle.machine.specs.Bytes.{count, words_of}
 use Rattle.names.specs.Known.{good, Names}
@@ -46,7 +44,6 @@ use Rattle.processor.specs.Process as one
 use Rattle.processor.specs.Process.{Answer, accepted, meaning, part_of, answer_for}
 use Rattle.program.specs.Program.{Rule}
 use Rattle.program.specs.Table.{size_rules, table}
-use Rattle.resolver.specs.Resolved.{Appends}
 use Rattle.symbols.specs.Index.{Kept}
 use Rattle.syntax.specs.Parse.{end_of}
 use Rattle.syntax.specs.Sections.{names_in_all}

@@ -1,5 +1,5 @@
 -- What the steps of linking promise each other.
-use Rattle.std.specs.Prelude.{true, false, ◌||◌, List, [], ◌≡◌, ℕ, ◌+◌, ◌*◌, ◌≤◌, min, eqb, ltb, length, replicate, if◌then◌else◌}
+use Rattle.std.specs.Prelude.{false, ◌||◌, List, [], ◌≡◌, ℕ, ◌+◌, ◌*◌, ◌≤◌, min, eqb, ltb, length, replicate, if◌then◌else◌}
 use Rattle.std.proofs.Math.Option.{none}
 use Rattle.cells.specs.Cells.{rules_cells}
 use Rattle.declarations.specs.Decls.{decls_of}

@@ -23,7 +23,6 @@ use Rattle.names.specs.Uses.{Use, is_used, levels_used}
 use Rattle.objects.specs.Places.{Ends}
 use Rattle.objects.specs.View.{pairs_of, all, pair_words, a_pair}
 use Rattle.parts.specs.Link.{passes}
-use Rattle.program.specs.Made.{crowded}
 use Rattle.syntax.specs.Written.{Program}
 
 -- One pair more in the rows

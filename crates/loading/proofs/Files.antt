@@ -2,14 +2,14 @@
 use mathlib.Core.Bool.{Bool, true, false, ◌&&◌}
 use mathlib.Core.List.{List, [], ◌∷◌, append-nil}
 use mathlib.Core.Path.{◌≡◌, refl, sym, ap, ◌∙◌}
-use Prim.Native.Nat.{ℕ, zero, suc, ◌+◌, ◌*◌, ◌<◌, ◌≤◌}
+use Prim.Native.Nat.{ℕ, zero, suc, ◌*◌, ◌≤◌}
 use native.Mathlib.Omega.{arith}
-use lib.Dec.{eqb, leb}
+use lib.Dec.{leb}
 use lib.ListN.{length, take, drop, length-drop, take-append-drop, drop_of_length-le}
 use lib.Seq.{take_all, take_at, drop_at, length-take-le}
 use borrow.Author.Tests.{leb-true, leb-false, le-leb}
 use Rattle.base.proofs.Laws.{same_refl, same-eq}
-use Rattle.base.specs.Bools.{and, both, split}
+use Rattle.base.specs.Bools.{and, split}
 use Rattle.std.specs.Prelude.{if◌then◌else◌}
 use Rattle.base.specs.Common.{same}
 use Rattle.machine.specs.Bytes.{bytes_of}

@@ -10,7 +10,7 @@ use lib.ListN.{length, take, drop, get_or, length-append, length-drop, take-appe
 use lib.Seq.{take_all, take_at, drop_at, length-take-le, get_or-take, get_or-drop, get_or-append-add}
 use borrow.Author.Tests.{eqb-true, eq-eqb, leb-true, leb-false, le-leb, lt-leb}
 use Rattle.base.proofs.Laws.{same_refl}
-use Rattle.base.specs.Bools.{never, and, both, split}
+use Rattle.base.specs.Bools.{never, and, split}
 use Rattle.base.specs.Common as common
 use Rattle.std.specs.Prelude.{if◌then◌else◌}
 use Rattle.machine.specs.Bytes.{words_of}

@@ -1,8 +1,6 @@
 -- The operand of each use of the rules is a name.
-use mathlib.Core.List.{List, [], ◌∷◌}
-use mathlib.Core.Path.{◌≡◌}
+use mathlib.Core.List.{List, []}
 use Prim.Native.Nat.{ℕ}
-use Rattle.base.specs.Tree.{choice, otherwise}
 use Rattle.grammar.specs.Derived.{PlainIn, named_in, any_in, emit_in, error_in, exit_in, call_in, give_in, ranked_in, ActIn, plain_in, cycle_in, choice_in, ActsIn, none_in, more_in, AltsIn, other_in, last_in, next_in, RuleIn, one_rule, RulesIn, last_rule, more_rules}
 use Rattle.maker.specs.Pairing.{AllNamed}
 use Rattle.names.specs.Uses.{Use, plain_uses, act_uses, acts_uses, alts_uses, other_uses, rules_uses}

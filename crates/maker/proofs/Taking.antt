@@ -1,7 +1,6 @@
 -- Uses taken one after the other: the pairs that stand there are those of the uses seen, and the answer is that of the rules made for them.
 use mathlib.Core.Bool.{Bool, true, false, ◌&&◌, ◌||◌}
 use mathlib.Core.List.{List, [], ◌∷◌, ◌++◌}
-use mathlib.Core.Logic.{inr}
 use mathlib.Core.Option.{none, some}
 use mathlib.Core.Path.{◌≡◌, refl, sym, ap, ◌∙◌}
 use Prim.Native.Nat.{ℕ, suc, ◌+◌, ◌*◌, ◌-◌, ◌<◌, ◌≤◌}
@@ -17,7 +16,6 @@ use Rattle.declarations.specs.Decls.{Agrees, Decl, EntriesAt, entries_of, decl_o
 use Rattle.grammar.specs.Derived.{OperatorsIn}
 use Rattle.maker.proofs.Holding.{tells-given, tells-not}
 use Rattle.maker.proofs.Ranking.{levels-some}
-use Rattle.maker.specs.Marks.{behind}
 use Rattle.maker.specs.Pairs.{pairs_held, look_pair, section_row, operand_row, Ordered, pair_of}
 use Rattle.maker.specs.Pairing.{Adds, PlaceOf, Finds, UseRead, passes, is_there, again, added, over, TakenBound, UseDone}
 use Rattle.maker.specs.Ranks.{LevelsDone}

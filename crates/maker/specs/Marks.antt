@@ -1,5 +1,5 @@
 -- The uses of operators as a plain loop over the words of the rules finds them: a `^`, the word behind it and the third behind it.
-use Rattle.std.specs.Prelude.{List, [], ◌∷◌, ℕ, eqb, if◌then◌else◌}
+use Rattle.std.specs.Prelude.{List, [], ◌∷◌, eqb, if◌then◌else◌}
 use Rattle.names.specs.Uses.{Use}
 use Rattle.syntax.specs.Reading.{peek}
 use Rattle.words.specs.Words.{Word}

@@ -1,6 +1,5 @@
 -- What the functions that collect the pairs promise.
 use Rattle.std.specs.Prelude.{Bool, true, false, ◌||◌, List, [], ◌∷◌, ◌++◌, ◌≡◌, ℕ, ◌+◌, ◌*◌, ◌<◌, ◌≤◌, ltb, length, get_or, set}
-use Rattle.std.proofs.Math.Option.{none, some}
 use Rattle.base.specs.Common.{given}
 use Rattle.declarations.specs.Decls.{Agrees, Decl, EntriesAt, entries_of}
 use Rattle.grammar.specs.Derived.{OperatorsIn, RulesIn}

@@ -1,5 +1,5 @@
 -- The pairs of section and operand rule that a text uses, as they stand in the rows behind the index: 5632 their number, then three numbers a pair from 5633 on.
-use Rattle.std.specs.Prelude.{true, ◌&&◌, List, [], ◌∷◌, ◌≡◌, ℕ, zero, suc, ◌+◌, ◌*◌, eqb, length, get_or, if◌then◌else◌}
+use Rattle.std.specs.Prelude.{◌&&◌, List, [], ◌∷◌, ◌≡◌, ℕ, zero, suc, ◌+◌, ◌*◌, eqb, length, get_or, if◌then◌else◌}
 use Rattle.std.proofs.Math.Option.{Option, none, some}
 use Rattle.declarations.specs.Decls.{Decl, index_of}
 use Rattle.names.specs.Known.{Names}

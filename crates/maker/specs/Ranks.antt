@@ -1,5 +1,5 @@
 -- The levels of a section of operators as scans of its entries find them: the next level in use, how many operators it has, its side.
-use Rattle.std.specs.Prelude.{Bool, true, false, List, [], ◌∷◌, ◌≡◌, ℕ, ◌+◌, ◌-◌, ◌<◌, ◌≤◌, leb, ltb, length, if◌then◌else◌}
+use Rattle.std.specs.Prelude.{Bool, false, List, [], ◌∷◌, ◌≡◌, ℕ, ◌+◌, ◌<◌, ◌≤◌, leb, ltb, length, if◌then◌else◌}
 use Rattle.declarations.specs.Decls.{Decl, operators_from}
 use Rattle.grammar.specs.Derived.{OperatorIn, OperatorsIn}
 use Rattle.maker.specs.declared.Entry.{Entry}

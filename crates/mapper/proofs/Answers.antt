@@ -34,7 +34,7 @@ use Rattle.reader.specs.Counting.{Decides}
 use Rattle.reader.specs.declared.Out.{Out}
 use Rattle.symbols.specs.Rows.{held}
 use Rattle.syntax.specs.Parse.{parse}
-use Rattle.syntax.specs.Reading.{got, fault}
+use Rattle.syntax.specs.Reading.{got}
 use Rattle.syntax.specs.Written.{Program}
 use Rattle.frontend.proofs.Buffers.{ready-cells, refused-20, accepts-it, too_long}
 use Rattle.frontend.proofs.Meant.{its-meaning}

@@ -1,7 +1,6 @@
 -- What is raised is the number of a path.
 use mathlib.Core.Bool.{Bool, true, false}
-use mathlib.Core.List.{List, ◌∷◌}
-use mathlib.Core.Logic.{inr}
+use mathlib.Core.List.{List}
 use mathlib.Core.Option.{Option, none, some}
 use mathlib.Core.Path.{◌≡◌, refl, sym, ◌∙◌}
 use native.Mathlib.Decide.{dec_lt}
@@ -11,7 +10,7 @@ use lib.ListN.{length}
 use Rattle.base.specs.Bools.{never}
 use Rattle.base.specs.Common.{given}
 use Rattle.loading.proofs.Members.{fetch-inside, outside-invalid}
-use Rattle.machine.specs.Decode.{fetch, Instruction, invalid, jump, call_rule, return, set_result, choice, decode}
+use Rattle.machine.specs.Decode.{fetch, Instruction, invalid, call_rule, return, set_result, choice, decode}
 use Rattle.figure.specs.Figure.{way_out, Leads, leads_jump, leads_input, leads_any, leads_write, leads_token, leads_call, leads_result, leads_choice, leads_parameter, leads_update, leads_update_with, leads_choose, leads_choose_with, Reached, at_start, End, over, back, Quiet, quiet, Does, does_jump, does_input, does_any, does_write, does_token, does_default, does_call_over, does_call, does_call_stop, does_return, does_result, does_choice, does_end, does_parameter, does_update, does_update_with, does_choose, does_choose_with, does_choose_stop, does_choose_with_stop, any_way, by_result}
 use Rattle.meter.specs.Makes.{over_at, back_at, Makes, makes_jump, makes_input, marks_input, makes_any, marks_any, makes_write, makes_token, makes_default, marks_label, makes_call_over, makes_call_back, makes_call_value, marks_call, makes_return, makes_result, makes_choice, makes_end, makes_parameter, makes_update, makes_update_with, makes_choose, makes_choose_over, makes_choose_with, makes_choose_with_over, Alike, alike_over, alike_back, alike_given, Origin, the_start, any_place, Then, Prefix, Comes, Ends, IsOver, is_over_lem, IsBack, is_back, Sound, Stands, stands_place, stands_over, stands_back}
 use Rattle.meter.specs.Shaped.{index_of, start_of, InRule, is_choice, Given, given_none, given_some, Shaped}

@@ -1,14 +1,12 @@
 -- Loops over the places of a rule, over the rules, and until nothing is raised.
 use mathlib.Core.Bool.{Bool, true, false, ◌||◌}
 use mathlib.Core.List.{List}
-use mathlib.Core.Option.{none, some}
 use mathlib.Core.Path.{◌≡◌, refl, sym}
 use native.Mathlib.Decide.{dec_lt}
 use native.Mathlib.Omega.{arith}
 use Prim.Native.Nat.{ℕ, ◌+◌, ◌*◌, ◌-◌, ◌≤◌, ◌<◌, min}
 use lib.ListN.{length, get_or}
 use Rattle.base.specs.Bools.{never}
-use Rattle.machine.specs.Decode.{choice}
 use Rattle.meter.specs.Makes.{half, cap}
 use Rattle.meter.specs.Shaped.{start_of, end_of, InRule}
 use Rattle.meter.specs.Steps.{row_of, called_of, left, Kept, Steps, Both, this, that, ValueAt, value_at, Values, values, NoneCalled, AskedAt, AskedBelow, asked_below, AskedFrom, asked_from, Settled}

@@ -1,16 +1,14 @@
 -- What a visit of an instruction does is what the instruction asks for.
 use mathlib.Core.Bool.{Bool, false, ◌||◌, or-false}
-use mathlib.Core.List.{List, ◌∷◌}
-use mathlib.Core.Logic.{inr}
+use mathlib.Core.List.{List}
 use mathlib.Core.Option.{Option, none, some}
 use mathlib.Core.Path.{◌≡◌, refl, sym, ◌∙◌}
 use native.Mathlib.Decide.{dec_lt}
 use native.Mathlib.Omega.{arith}
 use Prim.Native.Nat.{ℕ, ◌+◌, ◌*◌, ◌-◌, ◌≤◌, ◌<◌, min}
-use lib.Dec.{eqb, ltb}
 use lib.ListN.{length}
 use borrow.Author.Tests.{ne_eqb, lt-ltb, le-ltb}
-use Rattle.machine.specs.Decode.{fetch, jump, input_any, return, choice, end_choice, update, update_with, choose, choose_with, decode_operation, decode_one}
+use Rattle.machine.specs.Decode.{fetch, input_any, return, end_choice, update, update_with, choose, choose_with, decode_operation, decode_one}
 use Rattle.figure.specs.Figure.{way_out}
 use Rattle.meter.specs.Shaped.{Fits}
 use Rattle.meter.proofs.Words.{one-count, Labelled, labelled, unlabelled, label-cases, FirstOr, is-first, repeats, label-way, default-way}

@@ -1,6 +1,6 @@
 -- How the figure is found: numbers by location, raised until none can be raised. The number of a location is one more than the most instructions before it on a
 -- quiet path, 0 where none comes. Behind the locations stand the numbers of each rule: the most instructions of its paths that are over, and of those that are back.
-use Rattle.std.specs.Prelude.{true, false, List, ◌≡◌, ℕ, suc, ◌+◌, ◌-◌, ◌≤◌, ◌<◌, min, length}
+use Rattle.std.specs.Prelude.{false, List, ◌≡◌, ℕ, suc, ◌+◌, ◌≤◌, ◌<◌, min, length}
 use Rattle.std.proofs.Math.Option.{Option, none, some}
 use Rattle.events.specs.Events.{Event}
 use Rattle.machine.specs.Decode.{Instruction, jump, input, input_any, write, input_choice, call_rule, return, set_result, choice, end_choice, set_parameter, update, update_with, choose, choose_with, decode}

@@ -1,7 +1,7 @@
 -- What the code keeps of the lent numbers, two halves of 4,353, and what it says of each step. `called` are the numbers of the first half, which say what a
 -- call adds, while the second is raised; none while the first itself is raised.
-use Rattle.std.specs.Prelude.{Bool, true, false, ◌||◌, List, [], ◌∷◌, ◌≡◌, ℕ, ◌+◌, ◌*◌, ◌-◌, ◌≤◌, ◌<◌, min, length, get_or}
-use Rattle.std.proofs.Math.Option.{Option, none, some}
+use Rattle.std.specs.Prelude.{Bool, true, false, List, [], ◌∷◌, ◌≡◌, ℕ, ◌+◌, ◌*◌, ◌-◌, ◌≤◌, ◌<◌, min, length, get_or}
+use Rattle.std.proofs.Math.Option.{Option, some}
 use Rattle.machine.specs.Decode.{fetch, Instruction, input_choice, call_rule, set_result, choice, decode}
 use Rattle.meter.specs.Makes.{back_at, half, cap, Makes, Comes, Sound, Stands}
 use Rattle.figure.specs.Figure.{way_out}

@@ -1,9 +1,9 @@
 -- Declarations in text order. Fault 4: "declared twice, or a value repeated, at the entry's name". Operators sections are checked here too:
 -- faults 3, 45 and 5 at their tokens.
-use Rattle.std.specs.Prelude.{Bool, true, false, ◌||◌, ◌&&◌, not, List, [], ◌∷◌, ◌++◌, ℕ, suc, eqb, if◌then◌else◌}
+use Rattle.std.specs.Prelude.{Bool, true, false, ◌||◌, ◌&&◌, not, List, [], ◌∷◌, ◌++◌, ℕ, suc, eqb}
 use Rattle.std.proofs.Math.Option.{Option, none, some}
 use Rattle.base.specs.Common.{member, given}
-use Rattle.names.specs.Known.{Checked, good, wrong, ◌>>=◌, fault_if, Known, KnownType, KnownOperation, KnownOperators, KnownRule, Names, find, find_type, find_operation, find_operators, declared, lookup, optional_type}
+use Rattle.names.specs.Known.{Checked, good, ◌>>=◌, fault_if, Known, KnownType, KnownOperation, KnownOperators, KnownRule, Names, find, find_type, find_operation, find_operators, declared, lookup, optional_type}
 use Rattle.program.specs.Made as made
 use Rattle.program.specs.Made.{levels_of}
 use Rattle.syntax.specs.Written.{Entry, Operation, Operator, Section, inputs, outputs, both, errors, values, operations, operators, Rule, Program}

@@ -2,7 +2,7 @@
 -- yet declared", "5 declared, but not in the class wanted here". A string's bytes have its quotes, so strings and names never clash.
 use Rattle.std.specs.Prelude.{Bool, true, false, ◌||◌, List, [], ◌∷◌, ℕ, if◌then◌else◌}
 use Rattle.std.proofs.Math.Option.{Option, none, some}
-use Rattle.base.specs.Common.{same, given}
+use Rattle.base.specs.Common.{same}
 use Rattle.program.specs.Made.{Level}
 use Rattle.syntax.specs.Written.{Entry, Operation, Section, inputs, outputs, both, errors, values, operations, operators, Rule, Program}
 use Rattle.words.specs.Words.{Word}

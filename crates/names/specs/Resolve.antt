@@ -1,6 +1,6 @@
 -- From what the author wrote to what it means, in text order. Faults 3, 5, 6, 7 and 8; "by the first word in the text": the first fault met
 -- in text order is the one given, and of two at one word the lower is tested first.
-use Rattle.std.specs.Prelude.{Bool, true, false, ◌||◌, List, [], ◌∷◌, ◌++◌, ℕ, length, if◌then◌else◌}
+use Rattle.std.specs.Prelude.{Bool, true, List, [], ◌∷◌, ◌++◌, ℕ, length, if◌then◌else◌}
 use Rattle.std.proofs.Math.Option.{Option, none, some}
 use Rattle.base.specs.Common.{member, given}
 use Rattle.base.specs.Tree.{plain, cycle, choice, done, ◌▸◌, nil, alternative, absent, otherwise}

@@ -1,9 +1,8 @@
 -- The whole program: sections in order, then the rules in order, each by its name, its type, its actions and its semicolon.
-use Rattle.std.specs.Prelude.{Bool, true, false, ◌&&◌, ◌||◌, List, [], ◌∷◌, ◌++◌, ℕ, length, if◌then◌else◌}
-use Rattle.std.proofs.Math.Option.{none, some}
+use Rattle.std.specs.Prelude.{Bool, true, false, ◌&&◌, ◌||◌, List, [], ◌∷◌, ◌++◌, ℕ, length}
 use Rattle.base.specs.Common.{same, given}
 use Rattle.names.specs.Declare.{declare_sections, known_rules}
-use Rattle.names.specs.Known.{Checked, good, wrong, ◌>>=◌, fault_if, KnownRule, Names, find_operation, optional_type}
+use Rattle.names.specs.Known.{Checked, good, ◌>>=◌, fault_if, KnownRule, Names, find_operation, optional_type}
 use Rattle.names.specs.Resolve.{acts_of}
 use Rattle.names.specs.Uses.{pairs_of, made_for}
 use Rattle.program.specs.Past.{past_all}

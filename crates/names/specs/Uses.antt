@@ -1,9 +1,9 @@
 -- The uses of operators, "for each pair of section and operand rule in the order of first use", and the rules made for them.
-use Rattle.std.specs.Prelude.{Bool, true, false, ◌&&◌, ◌||◌, List, [], ◌∷◌, ◌++◌, ℕ, ◌+◌, ltb, length, if◌then◌else◌}
+use Rattle.std.specs.Prelude.{Bool, false, ◌&&◌, ◌||◌, List, [], ◌∷◌, ◌++◌, ℕ, ◌+◌, ltb, length, if◌then◌else◌}
 use Rattle.std.proofs.Math.Option.{none, some}
 use Rattle.base.specs.Common.{same}
 use Rattle.base.specs.Tree.{plain, cycle, choice, done, ◌▸◌, nil, alternative, absent, otherwise}
-use Rattle.names.specs.Known.{Checked, good, wrong, ◌>>=◌, fault_if, KnownRule, Names, find_operators, find_rule}
+use Rattle.names.specs.Known.{Checked, good, ◌>>=◌, fault_if, KnownRule, Names, find_operators, find_rule}
 use Rattle.program.specs.Made.{Level, level_rules, crowded}
 use Rattle.program.specs.Program as means
 use Rattle.syntax.specs.Written.{Plain, named, any, exit, emit, error, call, give, ranked, Act, Acts, Alts, Other, Rule}

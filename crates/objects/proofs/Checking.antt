@@ -1,6 +1,6 @@
 -- Objects tested one behind the other: those passed are in order, so that the words left decide.
 use mathlib.Core.Bool.{Bool, true, false, ◌&&◌}
-use mathlib.Core.List.{List, [], ◌∷◌, ◌++◌}
+use mathlib.Core.List.{List, [], ◌∷◌}
 use mathlib.Core.Option.{Option, none, some}
 use mathlib.Core.Path.{◌≡◌, refl, sym, ap, ◌∙◌}
 use native.Mathlib.Omega.{arith}
@@ -12,7 +12,7 @@ use Rattle.syntax.specs.Texts.{Head}
 use Rattle.objects.proofs.TakeLaws.{no-took}
 use Rattle.objects.proofs.Views.{view-exact}
 use Rattle.objects.specs.Places.{EndsAt, Ends}
-use Rattle.objects.specs.Take.{Taken, took, missing, Taker, onward, a_word, the_word, sized}
+use Rattle.objects.specs.Take.{Taken, took, missing, Taker, onward, a_word, the_word}
 use Rattle.objects.specs.View.{View, body_words, view_words, before, behind, a_view, views}
 use Rattle.objects.specs.Whole.{every, view_in_order, all_in_order, are_objects, good_after, good_views}
 

@@ -17,13 +17,12 @@ use Rattle.names.specs.Known.{Names, find_operators}
 use Rattle.names.specs.Understand.{is_one}
 use Rattle.names.specs.Uses.{Use}
 use Rattle.parts.proofs.Alike.{each_left, each_right}
-use Rattle.parts.specs.Form as form
 use Rattle.parts.specs.Form.{mark_of, body_cells, packed, first_pair, AreObjects, all_words}
 use Rattle.parts.specs.Link.{listed_type}
 use Rattle.parts.specs.Objects.{Aim, ranked, OpenRule, Object}
 use Rattle.parts.specs.Sound as sound
 use Rattle.parts.specs.Sound.{SoundRule, call_words, SoundUse, Sound}
-use Rattle.syntax.specs.Texts.{Head, Common}
+use Rattle.syntax.specs.Texts.{Head}
 use Rattle.program.specs.Accepted.{Values}
 use Rattle.program.specs.Past.{past_all}
 use Rattle.program.specs.Program.{Acts}

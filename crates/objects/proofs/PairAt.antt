@@ -1,7 +1,7 @@
 -- A pair at a place: its section, and its operand rule behind that.
-use mathlib.Core.Bool.{Bool, true, false, ◌&&◌, not}
-use mathlib.Core.List.{List, ◌∷◌, ◌++◌, append_assoc}
-use mathlib.Core.Path.{◌≡◌, refl, sym, ap, ◌∙◌}
+use mathlib.Core.Bool.{Bool, true, false}
+use mathlib.Core.List.{List, ◌++◌, append_assoc}
+use mathlib.Core.Path.{◌≡◌, sym, ap, ◌∙◌}
 use native.Mathlib.Omega.{arith}
 use Prim.Native.Nat.{ℕ, ◌+◌, ◌≤◌}
 use lib.ListN.{length, drop, length-drop}
@@ -14,7 +14,7 @@ use Rattle.objects.proofs.Looked.{ends-took, name-at}
 use Rattle.objects.proofs.Views.{name-exact}
 use Rattle.objects.specs.Order.{is_listed}
 use Rattle.objects.specs.Places.{Ends, NameAt}
-use Rattle.objects.specs.View.{Name, Pair, RuleView, name_words, pair_words, a_name}
+use Rattle.objects.specs.View.{Pair, RuleView, name_words, pair_words, a_name}
 use Rattle.objects.specs.Whole.{calls_of, texts_of, pair_in_order}
 
 pub record PairAt (words : List ℕ) (p : Pair) (q : ℕ) : Type 0 where

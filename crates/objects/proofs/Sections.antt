@@ -6,7 +6,7 @@ use mathlib.Core.Path.{◌≡◌, refl, sym, ap, ◌∙◌}
 use native.Mathlib.Omega.{arith}
 use Prim.Native.Nat.{ℕ, zero, suc, ◌+◌, ◌*◌, ◌<◌, ◌≤◌}
 use borrow.Author.Tests.{eq-eqb, ne_eqb}
-use lib.ListN.{length, get_or, take, drop, drop_of_length-le}
+use lib.ListN.{length, get_or, take, drop_of_length-le}
 use Rattle.base.specs.Common.{same, given}
 use Rattle.declarations.specs.Decls.{Decl, Agrees, index_of, mapped, operators_from, entries_of}
 use Rattle.names.specs.Known.{KnownRule, Names, find_operators}

@@ -6,7 +6,6 @@ use mathlib.Core.Path.{◌≡◌, refl}
 use Prim.Native.Nat.{ℕ, ◌+◌, ◌-◌}
 use lib.Dec.{T, eqb}
 use lib.ListN.{replicate}
-use Rattle.std.specs.Prelude.{if◌then◌else◌}
 use Rattle.base.specs.Common.{same}
 use Rattle.base.specs.Tree.{plain, cycle, choice, done, ◌▸◌, nil, alternative, absent, otherwise}
 use Rattle.events.specs.Events

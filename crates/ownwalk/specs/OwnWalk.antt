@@ -1,7 +1,7 @@
 -- "The rules' own walk is fed the program, tokens and answers, no table. It holds its place, pending calls, tokens read, answers
 -- used (with the same greatest) and events, and begins at the first rule's start."; "the source meaning begins with the same allowance and
 -- repairs likewise"
-use Rattle.std.specs.Prelude.{true, List, [], ◌∷◌, ℕ, zero, suc, ltb, length, if◌then◌else◌}
+use Rattle.std.specs.Prelude.{List, [], ◌∷◌, ℕ, zero, suc, ltb, length, if◌then◌else◌}
 use Rattle.std.proofs.Math.Option.{Option, none, some}
 use Rattle.std.proofs.Math.ListN.{get_elem?}
 use Rattle.base.specs.Common.{member, given}

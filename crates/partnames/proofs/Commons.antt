@@ -16,7 +16,7 @@ use Rattle.partnames.specs.Buffer.{part_place, both_texts}
 use Rattle.partnames.specs.Declaring.{CommonIn, NoLine, no_name, no_type, no_semicolon}
 use Rattle.reader.specs.Texts.{Listed, up_to_end}
 use Rattle.scanner.proofs.Joined.{joined, moved, words-moved}
-use Rattle.syntax.specs.Reading.{got, expect, a_name, one_name, peek, ◌>>=◌, ◌>>◌}
+use Rattle.syntax.specs.Reading.{got, expect, a_name, one_name, peek, ◌>>=◌}
 use Rattle.syntax.specs.Sections.{nothing, some_sections}
 use Rattle.syntax.specs.Texts.{Common, Head, a_head, some_heads}
 use Rattle.syntax.specs.Written.{Rule}

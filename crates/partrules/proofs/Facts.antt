@@ -1,9 +1,8 @@
 -- Worked examples: marks in place of numbers, calls told from words, and rows marked.
 use mathlib.Core.Bool.{true, false}
-use mathlib.Core.List.{List, [], ◌∷◌}
-use mathlib.Core.Option.{none, some}
+use mathlib.Core.List.{[], ◌∷◌}
+use mathlib.Core.Option.{some}
 use mathlib.Core.Path.{◌≡◌, refl}
-use Prim.Native.Nat.{ℕ}
 use Rattle.base.specs.Common.{bytes}
 use Rattle.linker.specs.Close as close
 use Rattle.parts.specs.Form as form

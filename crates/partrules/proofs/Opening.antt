@@ -1,10 +1,10 @@
 -- One rule of a part: how the code goes on, and what it means.
 use mathlib.Core.Bool.{Bool, true, false, ◌&&◌, ◌||◌}
-use mathlib.Core.List.{List, [], ◌∷◌}
-use mathlib.Core.Option.{Option, none, some}
+use mathlib.Core.List.{List, []}
+use mathlib.Core.Option.{Option}
 use mathlib.Core.Path.{◌≡◌, refl, sym, ap, ◌∙◌, subst}
 use native.Mathlib.Omega.{arith}
-use Prim.Native.Nat.{ℕ, ◌+◌, ◌<◌, ◌≤◌}
+use Prim.Native.Nat.{ℕ, ◌≤◌}
 use lib.Dec.{ltb}
 use lib.ListN.{length}
 use Rattle.base.specs.Common.{given}
@@ -18,9 +18,9 @@ use Rattle.cells.specs.Cells.{acts_cells}
 use Rattle.declarations.proofs.Rows.{given-mapped}
 use Rattle.declarations.specs.Decls.{Agrees, Decl, index_of, optional_in}
 use Rattle.grammar.specs.Derived.{Took, GivesIn, ActsIn, RuleIn, one_rule}
-use Rattle.names.specs.Known.{Checked, good, wrong, ◌>>=◌, fault_if, Known, find_operation, optional_type}
+use Rattle.names.specs.Known.{Checked, good, wrong, ◌>>=◌, fault_if, Known, find_operation}
 use Rattle.names.specs.Resolve.{acts_of}
-use Rattle.names.specs.Understand.{is_one, taken}
+use Rattle.names.specs.Understand.{taken}
 use Rattle.parts.specs.Objects.{OpenRule, calls_all, open_names, open_rule}
 use Rattle.places.proofs.Heres.{Same, took-here}
 use Rattle.program.specs.Past.{past_all}
@@ -28,7 +28,7 @@ use Rattle.program.specs.Program as means
 use Rattle.resolver.specs.Resolved.{Appends, Ends, ended, failed}
 use Rattle.resolver.specs.declared.Built.{Built}
 use Rattle.resolver.specs.declared.Done.{Done}
-use Rattle.scanner.specs.Next.{Next, as_word}
+use Rattle.scanner.specs.Next.{Next}
 use Rattle.scanner.specs.declared.WordAt.{WordAt}
 use Rattle.symbols.specs.Rows.{held, gives_of}
 use Rattle.symbols.specs.Search.{part}

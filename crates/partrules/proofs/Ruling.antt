@@ -1,17 +1,17 @@
 -- A rule that is read and written, and the rules one after the other.
-use mathlib.Core.Bool.{Bool, true, false}
+use mathlib.Core.Bool.{true, false}
 use mathlib.Core.List.{List, [], ◌∷◌, ◌++◌, append-nil}
 use mathlib.Core.Option.{Option, none, some}
 use mathlib.Core.Path.{◌≡◌, refl, sym, ap, ◌∙◌, subst}
 use native.Mathlib.Omega.{arith}
-use Prim.Native.Nat.{ℕ, zero, suc, ◌+◌, ◌-◌, ◌<◌, ◌≤◌, min}
+use Prim.Native.Nat.{ℕ, suc, ◌+◌, ◌<◌, ◌≤◌, min}
 use lib.ListN.{length, take, drop}
 use lib.Seq.{take_at}
 use Rattle.acceptance.proofs.Shape.{Each}
 use Rattle.base.specs.Common.{given}
 use Rattle.cells.specs.Cells.{acts_cells}
 use Rattle.declarations.specs.Decls.{index_of}
-use Rattle.grammar.specs.Derived.{Took, Not, RuleIn, one_rule, RulesIn, last_rule, more_rules}
+use Rattle.grammar.specs.Derived.{Not, RuleIn, one_rule, RulesIn, last_rule, more_rules}
 use Rattle.maker.proofs.Taking.{row-less}
 use Rattle.names.specs.Known.{Checked, good, wrong, ◌>>=◌}
 use Rattle.parts.specs.Form.{mark_of, body_cells, rule_words, rules_words}
@@ -24,7 +24,7 @@ use Rattle.places.proofs.Heres.{Same, took-here, kind-here}
 use Rattle.resolver.proofs.Appending.{appends-whole}
 use Rattle.resolver.specs.Resolved.{Ends, ended, failed}
 use Rattle.resolver.specs.declared.Done.{Done}
-use Rattle.scanner.specs.Next.{Next, as_word}
+use Rattle.scanner.specs.Next.{Next}
 use Rattle.scanner.specs.declared.WordAt.{WordAt}
 use Rattle.symbols.specs.Rows.{held}
 use Rattle.symbols.specs.Search.{part}

@@ -4,7 +4,7 @@ use mathlib.Core.List.{List, [], ◌∷◌}
 use mathlib.Core.Option.{Option, none, some}
 use mathlib.Core.Path.{◌≡◌, refl, sym, ap, ◌∙◌}
 use native.Mathlib.Omega.{arith}
-use Prim.Native.Nat.{ℕ, zero, suc, ◌+◌, ◌<◌, ◌≤◌}
+use Prim.Native.Nat.{ℕ, zero, suc, ◌<◌, ◌≤◌}
 use borrow.Author.Tests.{lt-ltb, le-ltb, eq-eqb, ne_eqb, eqb-true, eqb-false}
 use lib.Dec.{eqb, ltb}
 use lib.ListN.{length, get_or, set}
@@ -12,9 +12,8 @@ use lib.Seq.{set_out, get_or-set_same, get_or-set_other}
 use Rattle.base.proofs.Laws.{same_refl, same-eq}
 use Rattle.base.specs.Common.{same, given}
 use Rattle.declarations.specs.Decls.{Decl, decl_of, index_of}
-use Rattle.maker.proofs.Taking.{row_at, row-less}
+use Rattle.maker.proofs.Taking.{row_at}
 use Rattle.names.specs.Understand.{is_one}
-use Rattle.symbols.specs.Rows.{held, number_of}
 use Rattle.symbols.specs.Search.{Tells, there, nowhere}
 use Rattle.partrules.specs.Opened.{marked, marking, SeenAre, taken_by}
 

@@ -1,17 +1,17 @@
 -- A rule's words are written one behind the other.
-use mathlib.Core.List.{List, [], ◌∷◌, ◌++◌, append_assoc, append-nil}
+use mathlib.Core.List.{List, [], ◌∷◌, append_assoc}
 use mathlib.Core.Option.{Option, none, some}
 use mathlib.Core.Path.{◌≡◌, refl, sym, ap, ◌∙◌, subst}
 use native.Mathlib.Omega.{arith}
-use Prim.Native.Nat.{ℕ, zero, suc, ◌+◌, ◌-◌, ◌<◌, ◌≤◌}
+use Prim.Native.Nat.{ℕ, zero, suc, ◌≤◌}
 use lib.ListN.{length, take}
 use lib.Seq.{length-take-le}
 use Rattle.cells.specs.Cells.{acts_cells}
 use Rattle.grammar.specs.Derived.{Took, ActsIn, GivesIn, gives_none, gives_some, RuleIn, one_rule}
-use Rattle.parts.specs.Form.{name_words, type_words, names_words, body_cells, rule_words}
+use Rattle.parts.specs.Form.{name_words, type_words, body_cells, rule_words}
 use Rattle.parts.specs.Moved.{move_word, move_words, move_if, move_open}
 use Rattle.parts.specs.Objects.{Aim, OpenRule, calls_all}
-use Rattle.partwriter.proofs.Putting.{puts_then, puts-same, puts-size}
+use Rattle.partwriter.proofs.Putting.{puts_then, puts-same}
 use Rattle.partwriter.specs.Put.{Puts, back, name_here}
 use Rattle.places.proofs.Heres.{Same, took-kind, took-here, not-here}
 use Rattle.scanner.specs.Next.{Next, as_word}

@@ -1,5 +1,5 @@
 -- The cells of a rule of a part, with marks in place of the numbers of its calls, in one pass over the cells by what each first cell tells.
-use Rattle.std.specs.Prelude.{Bool, List, [], ◌∷◌, ◌≡◌, ℕ, zero, suc, ◌+◌, ◌-◌, ltb, if◌then◌else◌}
+use Rattle.std.specs.Prelude.{List, [], ◌∷◌, ◌≡◌, ℕ, zero, suc, ◌+◌, ◌-◌, ltb, if◌then◌else◌}
 use Rattle.linker.specs.Close.{is_call, behind}
 use Rattle.partrules.specs.declared.Pass.{Pass}
 

@@ -1,5 +1,5 @@
 -- A rule's words, from where it stands in the text at hand.
-use Rattle.std.specs.Prelude.{List, [], ◌∷◌, ◌++◌, ◌≡◌, ℕ, ◌≤◌, length}
+use Rattle.std.specs.Prelude.{List, ◌∷◌, ◌++◌, ◌≡◌, ℕ, ◌≤◌, length}
 use Rattle.std.proofs.Math.Option.{Option}
 use Rattle.grammar.specs.Derived.{Took, GivesIn, RuleIn}
 use Rattle.parts.specs.Form.{name_words, type_words}

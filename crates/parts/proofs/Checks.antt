@@ -13,7 +13,7 @@ use Rattle.base.proofs.Laws.{same-eq}
 use Rattle.base.specs.Bools.{never}
 use Rattle.base.specs.Common.{same, given}
 use Rattle.names.specs.Declare.{known_rules}
-use Rattle.names.specs.Known.{Checked, good, wrong, ◌>>=◌, KnownRule, Names}
+use Rattle.names.specs.Known.{Checked, good, wrong, KnownRule, Names}
 use Rattle.names.specs.Understand.{is_one, is_first}
 use Rattle.names.specs.Uses.{Use, levels_used, operand_of, made_for}
 use Rattle.parts.proofs.Numbers.{none-some, Finds, each_map}

@@ -1,6 +1,6 @@
 -- "At most 32 deep": what the reader gives nests no deeper than it is told.
 use mathlib.Core.Bool.{Bool, true, false}
-use mathlib.Core.List.{List, [], ◌∷◌}
+use mathlib.Core.List.{[], ◌∷◌}
 use mathlib.Core.Path.{◌≡◌, refl, subst}
 use native.Mathlib.Omega.{arith}
 use Prim.Native.Char.{code}
@@ -18,7 +18,7 @@ use Rattle.syntax.specs.Actions.{a_plain, a_selector, some_labels, closes, a_cyc
 use Rattle.syntax.specs.Parse.{a_rule, some_rules}
 use Rattle.syntax.specs.Reading.{got, Reader, ◌>>◌, pure, peek, pass, over, within, on◌then◌else◌, expect, a_name, one_name, optional}
 use Rattle.syntax.specs.Written.{Act, Acts, Choices, Rule}
-use Rattle.words.specs.Words.{Word, last, twice, name, rules, end}
+use Rattle.words.specs.Words.{last, twice, name, rules, end}
 
 -- what is read where something is left
 limited : {A : Type 0} (P : A → Type 0) (left : ℕ) (m : Reader A) → (1 ≤ left → Gives P m) → Gives P (within left m)

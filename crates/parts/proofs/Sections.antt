@@ -10,7 +10,7 @@ use Rattle.base.specs.Bools.{or₁}
 use Rattle.std.specs.Prelude.{if◌then◌else◌}
 use Rattle.base.specs.Common.{same, given}
 use Rattle.names.specs.Declare.{knowns, with_operations, declare_operations, all_knowns, inputs_of, outputs_of, other_side, listed, operator_of, operators_of, declare_section, declare_sections}
-use Rattle.names.specs.Known.{Checked, good, wrong, ◌>>=◌, Known, Names, find, find_operation, find_operators, is_word, among_entries, in_section, in_sections, among_rules, declared, elsewhere, lookup}
+use Rattle.names.specs.Known.{Checked, good, wrong, Known, Names, find, find_operation, find_operators, is_word, among_entries, in_section, in_sections, among_rules, declared, elsewhere, lookup}
 use Rattle.parts.proofs.Alike.{both-good, both-wrong, Like, like-next, like-if, id, lookup-alike, optional-alike}
 use Rattle.program.specs.Made as made
 use Rattle.syntax.specs.Written.{Entry, Operation, Operator, Section, inputs, outputs, both, errors, values, operations, operators, Rule, Program}

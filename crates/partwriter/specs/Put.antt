@@ -1,5 +1,5 @@
 -- What writing an object's words into lent bytes leaves there: words are appended as cells are in crate resolver, and an odd last byte is not touched.
-use Rattle.std.specs.Prelude.{List, [], ◌∷◌, ◌++◌, ◌≡◌, ℕ, suc, ◌+◌, ◌*◌, ◌-◌, min, length, drop}
+use Rattle.std.specs.Prelude.{List, ◌∷◌, ◌≡◌, ℕ, suc, ◌+◌, ◌*◌, ◌-◌, min, length, drop}
 use Rattle.std.proofs.lemmas.List.Edits.{sets}
 use Rattle.machine.specs.Bytes.{count, words_of}
 use Rattle.parts.specs.Form.{packed, name_words}

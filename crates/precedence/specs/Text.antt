@@ -1,5 +1,5 @@
 -- Operators in an accepted text.
-use Rattle.std.specs.Prelude.{true, List, [], ◌∷◌, ◌++◌, ◌≡◌, ℕ, length}
+use Rattle.std.specs.Prelude.{List, length}
 use Rattle.names.specs.Known.{KnownRule, Names}
 use Rattle.names.specs.Uses.{Use, pairs_of, lowest_of, levels_used, operand_of}
 use Rattle.precedence.specs.Sums.{Apart, Stand}

@@ -6,7 +6,7 @@ use Prim.Native.String.{String}
 use lib.Dec.{T, eqb}
 use lib.ListN.{length, replicate}
 use Rattle.base.specs.Common.{bytes, same}
-use Rattle.base.specs.Tree.{plain, Actions, done, ◌▸◌}
+use Rattle.base.specs.Tree.{plain, done, ◌▸◌}
 use Rattle.finishing.specs.Test
 use Rattle.machine.specs.Bytes
 use Rattle.machine.specs.Bytes.{count}

@@ -1,5 +1,5 @@
 -- The processor: a text and a lent buffer give a table and a verdict, or a number and a part of the text.
-use Rattle.std.specs.Prelude.{Bool, true, ◌&&◌, List, ◌∷◌, ◌++◌, ℕ, ◌*◌, ◌-◌, leb, length, drop, replicate, if◌then◌else◌}
+use Rattle.std.specs.Prelude.{Bool, ◌&&◌, List, ◌++◌, ℕ, ◌*◌, ◌-◌, leb, length, drop, replicate, if◌then◌else◌}
 use Rattle.finishing.specs.Test.{finishing}
 use Rattle.machine.specs.Bytes.{count, bytes_of}
 use Rattle.names.specs.Known.{Checked, good, wrong}

@@ -1,8 +1,8 @@
 -- The rules of operators, by computation: levels from a section's entries, and the words of a program that has them behind its own.
 use mathlib.Core.Bool.{Bool, true, false, not, ◌&&◌}
-use mathlib.Core.List.{List, [], ◌∷◌, ◌++◌}
+use mathlib.Core.List.{List, [], ◌∷◌}
 use Prim.Native.Nat.{ℕ}
-use lib.Dec.{T, eqb}
+use lib.Dec.{T}
 use lib.ListN.{length, replicate}
 use Rattle.base.specs.Common.{same}
 use Rattle.base.specs.Tree.{plain, done, ◌▸◌}

@@ -1,8 +1,8 @@
 -- The rules that stand for operators under precedence: "Its meaning is that of the nested rules in section 4.2 of document 000, one for
 -- each level used." What they are is a list of plain rules; table, walks, finishing and limits know nothing else of operators.
-use Rattle.std.specs.Prelude.{Bool, true, false, ◌||◌, List, [], ◌∷◌, ◌++◌, ℕ, zero, suc, ◌+◌, eqb, ltb, length, if◌then◌else◌}
-use Rattle.base.specs.Tree.{plain, cycle, choice, done, ◌▸◌, nil, alternative, absent, otherwise}
-use Rattle.program.specs.Program.{emit, exit, call, give, update_with, by_token, Acts, Alts, Rule}
+use Rattle.std.specs.Prelude.{Bool, true, false, ◌||◌, List, [], ◌∷◌, ℕ, zero, suc, eqb, ltb, length, if◌then◌else◌}
+use Rattle.base.specs.Tree.{plain, cycle, choice, done, ◌▸◌, nil, alternative, otherwise}
+use Rattle.program.specs.Program.{emit, exit, call, by_token, Acts, Alts, Rule}
 
 -- an entry of an operators section: input token, level, side, output token
 pub record Operator : Type 0 where

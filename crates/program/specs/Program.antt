@@ -1,6 +1,6 @@
 -- A program as numbers: what the author's words mean, with no word left in it. A rule is its place in the text, from 0; an operation
 -- its instruction number; a token, an error, a label and a constant its value.
-use Rattle.std.specs.Prelude.{Bool, true, false, List, [], ℕ, get_or}
+use Rattle.std.specs.Prelude.{Bool, false, List, ℕ, get_or}
 use Rattle.base.specs.Tree.{Action, Actions, Alternatives, Otherwise, done}
 
 -- "Actions: match a token; `?`; `.token`; `#error`; .. `>` out of the nearest cycle; .. `@rule`; `>>`; an update operation"

@@ -1,17 +1,16 @@
 -- What the actions and selectors come to, by the answers of the lookups.
-use mathlib.Core.Bool.{true}
-use mathlib.Core.List.{List, ◌∷◌}
+use mathlib.Core.List.{List}
 use mathlib.Core.Option.{Option, none, some}
 use mathlib.Core.Path.{◌≡◌, sym, ap, ◌∙◌}
 use Prim.Native.Nat.{ℕ, ◌+◌, ◌*◌, ◌<◌}
-use lib.ListN.{length, get_or}
+use lib.ListN.{get_or}
 use Rattle.base.specs.Common.{given}
 use Rattle.declarations.specs.Decls.{Agrees, knowns_in, decl_of, class_named, members_of, operation_from, rule_from, lookup_in}
 use Rattle.declarations.proofs.Uses.{uses-lookup, uses-members}
 use Rattle.names.specs.Known.{Checked, good, wrong, ◌>>=◌, fault_if, Known, KnownRule, Names, find, lookup}
 use Rattle.names.specs.Resolve.{Place, Chooses, updating, choosing, operation_of, rule_named, parameter_of, update_of, match_of, give_of, ranked_of, plain_of, selector_of}
 use Rattle.names.specs.Resolve as resolve
-use Rattle.program.specs.Program.{Plain, emit, error, call, give, by_token, by_rule}
+use Rattle.program.specs.Program.{Plain, emit, error, call, give, by_rule}
 use Rattle.resolver.proofs.Looking.{after-good, after-wrong, operation-is, rule-is, ranked-is, procedure_of, lowest_for, option-none, option-some}
 use Rattle.resolver.specs.Parts.{valued, named_of, call_of, by_rule_of, by_operation_of, chooses_of}
 use Rattle.symbols.proofs.Searches.{held_at}

@@ -3,7 +3,7 @@ use mathlib.Core.Bool.{Bool, true}
 use mathlib.Core.List.{List}
 use mathlib.Core.Logic.{◌⊎◌, inl, inr}
 use mathlib.Core.Path.{◌≡◌, refl, sym, ap, ◌∙◌}
-use Prim.Native.Nat.{ℕ, ◌<◌, ◌≤◌}
+use Prim.Native.Nat.{ℕ, ◌≤◌}
 use native.Mathlib.Omega.{arith}
 use lib.ListN.{length}
 use Rattle.cells.specs.Cells.{plain_cells}
@@ -14,7 +14,7 @@ use Rattle.names.specs.Known.{KnownRule, Names}
 use Rattle.names.specs.Resolve.{plain_of, give_of, ranked_of}
 use Rattle.places.proofs.Heres.{Same, took-here, took-kind, reference-kind, reference-here}
 use Rattle.program.specs.Past.{plain_past, is_exit}
-use Rattle.program.specs.Program.{Plain, emit, error}
+use Rattle.program.specs.Program.{emit, error}
 use Rattle.resolver.proofs.Outcomes.{emit-is, error-is}
 use Rattle.resolver.proofs.Rests.{ends_by}
 use Rattle.resolver.specs.declared.Built.{Built}

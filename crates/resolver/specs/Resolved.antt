@@ -1,6 +1,6 @@
 -- What the functions that resolve a part of a rule promise: for every program whose declarations the rows hold, and every tree that stands at the
 -- place, the outcome is that of crate names, and the cells appended are the encoding of what it means.
-use Rattle.std.specs.Prelude.{Bool, true, List, [], ◌∷◌, ◌++◌, ◌≡◌, ℕ, suc, ◌+◌, ◌<◌, ◌≤◌, min, length, take}
+use Rattle.std.specs.Prelude.{Bool, List, [], ◌++◌, ◌≡◌, ℕ, suc, ◌+◌, ◌<◌, ◌≤◌, min, length, take}
 use Rattle.std.proofs.lemmas.List.Edits.{sets}
 use Rattle.base.specs.Common.{member}
 use Rattle.cells.specs.Cells.{plain_cells, selector_cells, absent_cell}

@@ -1,6 +1,6 @@
 -- `admit` answers 0 exactly for a table that is taken and whose reachable operations are all granted; 48 names the lowest location.
 use mathlib.Core.Bool.{Bool, true, false, ◌&&◌, not}
-use mathlib.Core.List.{List, ◌∷◌}
+use mathlib.Core.List.{List}
 use mathlib.Core.Logic.{◌⊎◌, inl, inr}
 use mathlib.Core.Option.{Option, none, some}
 use mathlib.Core.Path.{◌≡◌, refl, sym, ap, ◌∙◌}
@@ -11,7 +11,7 @@ use lib.Dec.{eqb, leb}
 use lib.ListN.{length, get_or}
 use borrow.Author.Tests.{eqb-true, eqb-false, leb-true, not-true}
 use Rattle.base.proofs.Laws.{above_zero}
-use Rattle.base.specs.Bools.{never, and, both, split}
+use Rattle.base.specs.Bools.{never, and, split}
 use Rattle.std.specs.Prelude.{if◌then◌else◌}
 use Rattle.base.specs.Common.{member}
 use Rattle.machine.proofs.Decoded.{of-operation, of_one, of_two, of_word}

@@ -5,7 +5,6 @@ use mathlib.Core.Path.{◌≡◌, refl}
 use Prim.Native.Nat.{ℕ}
 use lib.Dec.{T, eqb}
 use lib.ListN.{replicate}
-use Rattle.std.specs.Prelude.{if◌then◌else◌}
 use Rattle.loading.specs.File
 use Rattle.loading.specs.File.{file_bytes, done, load}
 use Rattle.loading.specs.Reach

@@ -2,7 +2,6 @@
 -- stands at a reachable location.
 use mathlib.Core.Bool.{Bool, true, false, not}
 use mathlib.Core.List.{List, [], ◌∷◌, ◌++◌}
-use mathlib.Core.Logic.{inr}
 use mathlib.Core.Option.{Option, none, some}
 use mathlib.Core.Path.{◌≡◌, refl, sym, ap, ◌∙◌}
 use Prim.Native.Nat.{ℕ, zero, suc, ◌+◌, ◌*◌, ◌-◌}
@@ -15,7 +14,6 @@ use Rattle.base.specs.Common.{member, given}
 use Rattle.events.specs.Events
 use Rattle.events.specs.Events.{Event, output, signal, repair, operation, operation_with, Reason, finished, differs, missing, unlabelled, deep, unanswered, outside, reason_number, present, took, wrote, answer, mends, spent, is}
 use Rattle.machine.proofs.Decoded as decoded
-use Rattle.machine.specs.Call
 use Rattle.machine.specs.Call.{Mode, whole, paused, Called, ends, ends_for, writing, Turn, over, further, takes, hands_out, turn, keeps, run, call_in, call_walk}
 use Rattle.machine.specs.Decode.{fetch, Instruction, invalid, jump, input, input_any, write, input_choice, call_rule, return, set_result, choice, end_choice, set_parameter, update, update_with, choose, choose_with, decode}
 use Rattle.machine.specs.Step.{Next, goes_outside, stops, goes, tells, asks, go_to, seek, seek_by, landed, branched, input_choosing, calling, returning, requiring, exec, step}

@@ -1,6 +1,6 @@
 -- What is asked of each rule of a part holds.
 use mathlib.Core.Bool.{Bool, true, false, not}
-use mathlib.Core.List.{List, [], ◌∷◌, ◌++◌}
+use mathlib.Core.List.{List, [], ◌∷◌}
 use mathlib.Core.Option.{Option, none, some}
 use mathlib.Core.Path.{◌≡◌, refl, sym, ap, subst, ◌∙◌}
 use Prim.Native.Nat.{ℕ, zero, suc, ◌+◌, ◌≤◌}
@@ -9,22 +9,17 @@ use lib.Dec.{eqb}
 use lib.ListN.{length, get_or, replicate}
 use Rattle.acceptance.proofs.Shape.{Each}
 use Rattle.base.specs.Bools.{never}
-use Rattle.base.specs.Common.{given}
 use Rattle.cells.specs.Cells.{acts_cells}
 use Rattle.declarations.specs.Decls.{Decl, index_of}
 use Rattle.grammar.specs.Derived.{RuleIn, one_rule, RulesIn, last_rule, more_rules}
 use Rattle.names.specs.Known.{Checked, good, wrong, ◌>>=◌, fault_if, KnownRule, Names}
 use Rattle.names.specs.Understand.{is_one, taken}
-use Rattle.names.specs.Uses.{Use}
 use Rattle.parts.proofs.Bound.{took-less, gives_less, rule-cells, words-at-few}
 use Rattle.parts.proofs.Counts.{acts-calls}
-use Rattle.parts.specs.Objects.{Aim, OpenRule, open_rule, open_all}
+use Rattle.parts.specs.Objects.{OpenRule, open_rule, open_all}
 use Rattle.parts.specs.Sound.{SoundRule}
 use Rattle.partrules.specs.Opened.{Context, Able, SeenAre, marked, aims_in}
 use Rattle.separate.proofs.Own.{Rowed}
-use Rattle.symbols.specs.Rows.{held}
-use Rattle.syntax.specs.Texts.{Head}
-use Rattle.syntax.specs.Written as written
 use Rattle.syntax.specs.Written.{Program, Rule}
 use Rattle.words.specs.Words.{Word, words_at}
 

@@ -1,30 +1,27 @@
 -- What a part's rules are resolved in, as crate partrules asks for it.
 use mathlib.Core.Bool.{Bool, true, false, ◌&&◌, ◌||◌}
-use mathlib.Core.List.{List, [], ◌∷◌, ◌++◌}
-use mathlib.Core.Option.{Option, none, some}
-use mathlib.Core.Path.{◌≡◌, refl, sym, ap, ◌∙◌}
-use Prim.Native.Nat.{ℕ, suc, ◌+◌, ◌≤◌}
+use mathlib.Core.List.{List, []}
+use mathlib.Core.Path.{◌≡◌, ◌∙◌}
+use Prim.Native.Nat.{ℕ}
 use native.Mathlib.Omega.{arith}
 use lib.ListN.{length}
 use Rattle.cells.specs.Cells.{acts_cells}
 use Rattle.grammar.specs.Derived.{RulesIn}
 use Rattle.names.specs.Known.{Checked, good, wrong, Names}
-use Rattle.names.specs.Uses.{Use, rules_uses, pairs_of}
+use Rattle.names.specs.Uses.{Use, pairs_of}
 use Rattle.partnames.proofs.Together.{rules-length}
 use Rattle.partpairs.proofs.Open.{open-acts, opens-ordered}
 use Rattle.partpairs.specs.Numbers.{Numbered}
 use Rattle.partpairs.specs.Pairing.{Collected, PairsDone}
-use Rattle.partrules.specs.Opened.{Context, OpenActs, Holds}
+use Rattle.partrules.specs.Opened.{Context, Holds}
 use Rattle.parts.specs.Objects.{OpenRule, open_all, open_rules, others, together}
 use Rattle.program.specs.Past.{past_all, exits_all}
 use Rattle.program.specs.Program.{Acts}
 use Rattle.resolver.specs.Resolved.{Ends, ended, failed, Flags}
 use Rattle.resolver.specs.declared.Built.{Built}
-use Rattle.resolver.specs.declared.Done.{Done}
 use Rattle.separate.specs.Steps.{Known}
 use Rattle.symbols.proofs.Indexing.{kept-behind, held-behind}
-use Rattle.symbols.specs.Index.{IndexKept, Kept}
-use Rattle.symbols.specs.Rows.{held}
+use Rattle.symbols.specs.Index.{IndexKept}
 use Rattle.syntax.specs.Reading.{peek}
 use Rattle.syntax.specs.Texts.{Common}
 use Rattle.syntax.specs.Written.{Rule}

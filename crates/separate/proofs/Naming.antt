@@ -1,17 +1,17 @@
 -- The names of a common part and a part that stand in one text.
 use mathlib.Core.Bool.{true}
-use mathlib.Core.List.{List, []}
+use mathlib.Core.List.{List}
 use mathlib.Core.Option.{Option, none, some}
 use mathlib.Core.Path.{◌≡◌, refl, sym, ap, ◌∙◌}
-use Prim.Native.Nat.{ℕ, ◌+◌, ◌-◌, ◌≤◌}
+use Prim.Native.Nat.{ℕ, ◌+◌, ◌-◌}
 use native.Mathlib.Omega.{arith}
 use lib.ListN.{length}
-use Rattle.declarations.specs.Decls.{EntriesAt, decls_of, entries_of}
+use Rattle.declarations.specs.Decls.{decls_of}
 use Rattle.declarer.specs.declared.Fault as declarer
 use Rattle.names.specs.Known.{Checked, good, wrong, Names}
 use Rattle.partnames.proofs.Commons.{rules-no-line}
 use Rattle.partnames.proofs.Together.{others-rowed, rows-together, rules-known}
-use Rattle.partnames.specs.Declaring.{CommonIn, CommonRows, Declares}
+use Rattle.partnames.specs.Declaring.{CommonRows, Declares}
 use Rattle.partnames.specs.Mentioning.{AddsFrom}
 use Rattle.partnames.specs.Settling.{Rowed, in_rows, past_names_lem, Settled, in_order, faulty, Settles}
 use Rattle.partnames.specs.declared.Added.{Added}
@@ -21,12 +21,10 @@ use Rattle.parts.specs.Objects.{common_means, meaning, of_common, others, past_n
 use Rattle.partwriter.specs.Put.{back}
 use Rattle.processor.specs.Process.{part_of}
 use Rattle.separate.proofs.Reading.{IsFault}
-use Rattle.separate.specs.Steps.{Refuses, refuses_common, refuses_part, StandsIn, translated_in, Known, opened_by, Finds, names_found, names_faulty, FindsNames}
+use Rattle.separate.specs.Steps.{Refuses, refuses_common, refuses_part, StandsIn, translated_in, opened_by, Finds, names_found, names_faulty, FindsNames}
 use Rattle.separate.specs.declared.Fault.{Fault}
 use Rattle.separate.specs.declared.Named.{Named}
-use Rattle.symbols.specs.Index.{Kept}
 use Rattle.symbols.specs.Rows.{held}
-use Rattle.syntax.specs.Reading.{got}
 use Rattle.syntax.specs.Texts.{Common}
 use Rattle.syntax.specs.Written.{Rule}
 use Rattle.words.specs.Words.{Word, words_at}

@@ -1,11 +1,11 @@
 -- The object's words, or the first fault of its rules.
 use mathlib.Core.Bool.{Bool, true, false}
-use mathlib.Core.List.{List, [], ◌∷◌, ◌++◌, append_assoc}
+use mathlib.Core.List.{List, [], ◌∷◌, ◌++◌}
 use mathlib.Core.Path.{◌≡◌, refl, sym, ap, subst, ◌∙◌}
-use Prim.Native.Nat.{ℕ, suc, ◌+◌, ◌-◌, ◌/◌, ◌%◌, ◌<◌, ◌≤◌, min}
+use Prim.Native.Nat.{ℕ, suc, ◌+◌, ◌-◌, ◌/◌, ◌%◌, ◌<◌, ◌≤◌}
 use native.Mathlib.Omega.{arith}
 use lib.ListN.{length, take, drop, set, replicate, length-append}
-use lib.Seq.{sets, sets-eq, take_at}
+use lib.Seq.{sets-eq, take_at}
 use Rattle.acceptance.proofs.Shape.{Each}
 use Rattle.base.specs.Bools.{never}
 use Rattle.machine.proofs.Bytes.{length-words_of}
@@ -17,12 +17,11 @@ use Rattle.partpairs.specs.Pairing.{Collected}
 use Rattle.partrules.specs.Opened.{Context, aims_in, RulesEnd, rules_made, rules_faulty, RulesDone}
 use Rattle.partrules.specs.declared.Rules.{Rules}
 use Rattle.parts.proofs.ShiftedRules.{others-moved, aims-moved}
-use Rattle.parts.proofs.Shifted.{pairs-moved}
 use Rattle.parts.specs.Form.{packed, uses_words, rules_words, first_pair, body_of, object_words}
-use Rattle.parts.specs.Moved.{move_part, move_word, move_words, move_use, move_uses, move_aim, move_aims, move_rules, move_open, move_opens, move_object, move_translated}
+use Rattle.parts.specs.Moved.{move_part, move_words, move_uses, move_aims, move_rules, move_opens, move_object, move_translated}
 use Rattle.parts.specs.Objects.{Aim, OpenRule, Object, object, together, open_rules, open_rule, open_all, others, head_aims, call_aims, use_aims, aims_of, of_part, common_means}
 use Rattle.parts.specs.Sound.{SoundRule}
-use Rattle.partwriter.proofs.Putting.{puts_then, puts-same, same_count}
+use Rattle.partwriter.proofs.Putting.{puts_then, same_count}
 use Rattle.partwriter.specs.Put.{Puts, back, front}
 use Rattle.partwriter.specs.declared.Sizes.{Sizes}
 use Rattle.processor.specs.Process.{part_of}
@@ -31,8 +30,8 @@ use Rattle.separate.proofs.Contexts.{context_of, holds}
 use Rattle.separate.proofs.Own.{own-rows}
 use Rattle.separate.proofs.Reading.{IsFault}
 use Rattle.separate.specs.Answers.{Holds}
-use Rattle.separate.specs.Objects.{sized, Writes, object_written, not_written, Ordered, WritesObject}
-use Rattle.separate.specs.Steps.{Refuses, refuses_part, StandsIn, translated_in, Known, opened_by}
+use Rattle.separate.specs.Objects.{sized, Writes, object_written, not_written, Ordered}
+use Rattle.separate.specs.Steps.{refuses_part, StandsIn, translated_in, Known, opened_by}
 use Rattle.separate.specs.Uses.{UsesPut}
 use Rattle.separate.specs.declared.Plan.{Plan}
 use Rattle.separate.specs.declared.Written.{Written}

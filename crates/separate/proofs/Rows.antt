@@ -4,9 +4,8 @@ use mathlib.Core.Path.{◌≡◌, refl, sym, ap, ◌∙◌}
 use Prim.Native.Nat.{ℕ, zero, suc, ◌+◌, ◌*◌, ◌<◌, ◌≤◌}
 use native.Mathlib.Omega.{arith}
 use lib.ListN.{length, get_or}
-use Rattle.declarations.specs.Decls.{Decl, EntriesAt, decls_of, entries_of, Agrees}
+use Rattle.declarations.specs.Decls.{Decl}
 use Rattle.names.specs.Known.{Names}
-use Rattle.parts.specs.Objects.{together, open_rules}
 use Rattle.separate.specs.Steps.{Known}
 use Rattle.symbols.specs.Index.{key_of, link_at, Chain, chain_end, chain_node, Kept}
 use Rattle.symbols.specs.Rows.{decl_at, held_from, held}

@@ -6,14 +6,14 @@ use Prim.Native.Nat.{ℕ}
 use lib.ListN.{get_or}
 use Rattle.acceptance.proofs.Shape.{Each}
 use Rattle.base.specs.Common.{given}
-use Rattle.names.specs.Known.{Checked, good, Names}
+use Rattle.names.specs.Known.{good, Names}
 use Rattle.names.specs.Uses.{pairs_of}
 use Rattle.parts.proofs.Linking.{common_is, common-same, is-common}
 use Rattle.parts.proofs.ShiftedRules.{aims-moved, meaning-moved}
 use Rattle.parts.proofs.Written.{translated-sound}
 use Rattle.parts.specs.Moved.{move_word, move_words, move_if, move_rules, move_open, move_opens, move_object, move_translated}
 use Rattle.parts.specs.Objects.{Aim, named, ranked, OpenRule, Object, object, together, open_rules, open_all, aims_of, meaning, of_common, of_part, common_means}
-use Rattle.parts.specs.Sound.{StandsFor, Aligned, SoundRule, Sound}
+use Rattle.parts.specs.Sound.{StandsFor, Aligned, SoundRule}
 use Rattle.syntax.specs.Reading.{got}
 use Rattle.syntax.specs.Texts.{Common, Head, read_common, read_part}
 use Rattle.syntax.specs.Written.{Rule}

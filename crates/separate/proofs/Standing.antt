@@ -1,22 +1,20 @@
 -- A common part and a part that are read stand in one text, and are translated there as by themselves.
 use mathlib.Core.List.{List, [], ◌∷◌, ◌++◌, append_assoc}
 use mathlib.Core.Path.{◌≡◌, refl, sym, ap, subst, ◌∙◌}
-use Prim.Native.Nat.{ℕ, suc, ◌+◌, ◌-◌, ◌<◌, ◌≤◌, max, min}
+use Prim.Native.Nat.{ℕ, suc, ◌+◌, ◌-◌, ◌<◌, ◌≤◌, max}
 use native.Mathlib.Omega.{arith}
 use lib.ListN.{length, take, drop, replicate, length-append, length-take, length-drop, length-replicate}
 use lib.Seq.{drop_at}
 use Rattle.partnames.proofs.Commons.{listed-in-buffer}
 use Rattle.partnames.specs.Buffer.{part_place, both_texts}
-use Rattle.partnames.specs.Declaring.{CommonIn}
-use Rattle.parts.proofs.PartIn.{PartIn, part_in, part-few}
+use Rattle.parts.proofs.PartIn.{part_in, part-few}
 use Rattle.parts.proofs.ShiftedBack.{Back, rules-back}
 use Rattle.parts.proofs.ShiftedIn.{peek-moved, rules-moved}
 use Rattle.parts.proofs.ShiftedRules.{read-on-moved}
-use Rattle.parts.specs.Moved.{move_word, move_words, move_rules, move_translated}
+use Rattle.parts.specs.Moved.{move_word, move_words, move_rules}
 use Rattle.parts.specs.Objects.{Object, object, translate, read_on}
 use Rattle.partwriter.specs.Put.{back}
 use Rattle.reader.proofs.TextLaws.{part-words}
-use Rattle.reader.specs.Texts.{Listed}
 use Rattle.scanner.proofs.Joined.{moved, words-moved}
 use Rattle.separate.proofs.Sound.{sound-rules}
 use Rattle.separate.specs.Objects.{Countable, Ordered}

@@ -1,25 +1,23 @@
 -- From one text to the object.
-use mathlib.Core.Bool.{Bool, true, false}
 use mathlib.Core.List.{List, [], ◌∷◌, ◌++◌}
-use mathlib.Core.Path.{◌≡◌, refl, sym, ap, subst, ◌∙◌}
-use Prim.Native.Nat.{ℕ, suc, ◌+◌, ◌-◌, ◌<◌, ◌≤◌}
+use mathlib.Core.Path.{◌≡◌, ap}
+use Prim.Native.Nat.{ℕ, ◌+◌, ◌-◌, ◌<◌}
 use native.Mathlib.Omega.{arith}
 use lib.ListN.{length, take, drop, replicate, length-append, length-drop, length-take, length-replicate}
 use Rattle.grammar.specs.Derived.{RulesIn, last_rule, more_rules}
-use Rattle.names.specs.Known.{good}
 use Rattle.names.specs.Understand.{is_one}
 use Rattle.partnames.proofs.Together.{rules-length}
 use Rattle.partpairs.specs.Pairing.{PairsDone}
-use Rattle.parts.specs.Objects.{mentions, fresh, names_of, others, together}
+use Rattle.parts.specs.Objects.{mentions, fresh, names_of, others}
 use Rattle.separate.proofs.Contexts.{known_behind, collected}
 use Rattle.separate.proofs.Rows.{Front, in-front, kept-front, known-front}
-use Rattle.separate.specs.Objects.{Writes, not_written, Ordered, WritesObject, TranslatesIn}
+use Rattle.separate.specs.Objects.{Writes, not_written, WritesObject, TranslatesIn}
 use Rattle.separate.specs.Steps.{StandsIn, translated_in, Known, Finds, names_found, names_faulty, FindsNames}
 use Rattle.separate.specs.declared.Named.{Named}
 use Rattle.separate.specs.declared.Plan.{Plan}
 use Rattle.separate.specs.declared.Written.{Written}
 use Rattle.symbols.specs.Index.{Kept}
-use Rattle.syntax.specs.Texts.{Common, Head}
+use Rattle.syntax.specs.Texts.{Head}
 use Rattle.syntax.specs.Written.{Rule}
 use Rattle.words.specs.Words.{Word}
 

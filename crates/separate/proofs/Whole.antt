@@ -1,14 +1,14 @@
 -- The whole: the answer and the lent bytes.
 use mathlib.Core.List.{List, [], ◌∷◌, ◌++◌}
 use mathlib.Core.Path.{◌≡◌, refl, sym, ap, subst, ◌∙◌}
-use Prim.Native.Nat.{ℕ, suc, ◌+◌, ◌*◌, ◌-◌, ◌/◌, ◌%◌, ◌<◌, ◌≤◌, min}
+use Prim.Native.Nat.{ℕ, suc, ◌+◌, ◌*◌, ◌/◌, ◌%◌, ◌≤◌, min}
 use native.Mathlib.Omega.{arith}
 use lib.ListN.{length, take, drop, length-append, length-drop, length-take}
 use lib.Seq.{drop_at}
 use Rattle.machine.specs.Bytes.{count, bytes_of, words_of}
 use Rattle.parts.specs.Form as form
 use Rattle.parts.specs.Form.{made, unmade, if_fits, as_made, make_object, lent_object, object_words}
-use Rattle.parts.specs.Objects.{Object, Translated, object, in_common, in_part, translate}
+use Rattle.parts.specs.Objects.{Translated, translate}
 use Rattle.separate.specs.Answers.{lent_bytes, Settles, Makes, unmade_by, Refused, Holds, Concludes}
 use Rattle.separate.specs.Objects.{Writes, object_written, not_written}
 use Rattle.separate.specs.Steps.{Refuses, refuses_common, refuses_part, ReadsTexts}

@@ -1,25 +1,23 @@
 -- Laws of what is written into the lent bytes.
-use mathlib.Core.Bool.{true, false}
 use mathlib.Core.List.{List, [], ◌∷◌, ◌++◌, append_assoc, append-nil}
 use mathlib.Core.Path.{◌≡◌, refl, sym, ap, ◌∙◌}
-use Prim.Native.Nat.{ℕ, suc, ◌+◌, ◌*◌, ◌-◌, ◌/◌, ◌%◌, ◌<◌, ◌≤◌, min}
+use Prim.Native.Nat.{ℕ, suc, ◌+◌, ◌*◌, ◌-◌, ◌/◌, ◌%◌, ◌<◌, ◌≤◌}
 use native.Mathlib.Omega.{arith}
-use lib.Dec.{leb}
 use lib.ListN.{length, get_or, take, drop, replicate, length-take, length-drop}
 use borrow.Author.Tests.{le-leb, lt-leb}
 use Rattle.machine.specs.Bytes.{count, bytes_of, words_of}
 use Rattle.names.specs.Uses.{Use}
-use Rattle.partpairs.specs.Pairing.{UseAt, UsesAt, UseRead}
+use Rattle.partpairs.specs.Pairing.{UsesAt, UseRead}
 use Rattle.partpairs.specs.declared.UseWords.{UseWords}
 use Rattle.parts.specs.Form.{made, if_fits, lent_object, name_words, uses_words}
 use Rattle.parts.specs.Moved.{move_word, move_use, move_uses}
-use Rattle.partwriter.proofs.Putting.{puts-bound, puts_none, puts_then, puts-nothing, puts-same, same_count}
+use Rattle.partwriter.proofs.Putting.{puts-bound, puts_then, puts-nothing, puts-same, same_count}
 use Rattle.partwriter.specs.Put.{Leaves, Puts, back, name_here}
 use Rattle.processor.specs.Process.{part_of}
 use Rattle.syntax.specs.Parse.{end_of}
 use Rattle.scanner.specs.Next.{as_word}
-use Rattle.separate.specs.Answers.{answered, lent_bytes, Settles, Holds, Refused, Concludes}
-use Rattle.separate.specs.Uses.{UsePut, UsesPut}
+use Rattle.separate.specs.Answers.{answered, lent_bytes, Holds, Refused, Concludes}
+use Rattle.separate.specs.Uses.{UsePut}
 use Rattle.separate.specs.declared.Fault.{Fault}
 use Rattle.separate.specs.declared.Made.{Made}
 use Rattle.separate.specs.declared.Written.{Written}

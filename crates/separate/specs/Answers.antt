@@ -1,5 +1,5 @@
 -- The answer, and every lent byte.
-use Rattle.std.specs.Prelude.{List, ◌++◌, ◌≡◌, ℕ, suc, ◌*◌, ◌-◌, ◌≤◌, min, length, take, drop}
+use Rattle.std.specs.Prelude.{List, ◌++◌, ◌≡◌, ℕ, suc, ◌*◌, ◌≤◌, min, length, take, drop}
 use Rattle.machine.specs.Bytes.{count, bytes_of, words_of}
 use Rattle.parts.specs.Form as form
 use Rattle.parts.specs.Form.{made, unmade, if_fits, make_object, lent_object}

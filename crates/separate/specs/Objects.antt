@@ -6,12 +6,11 @@ use Rattle.names.specs.Uses.{pairs_of}
 use Rattle.partpairs.specs.Pairing.{Collected}
 use Rattle.parts.specs.Form.{uses_words, rules_words, first_pair, object_words}
 use Rattle.parts.specs.Moved.{move_rules, move_translated}
-use Rattle.parts.specs.Objects.{OpenRule, Object, Translated, object, together, open_rules, open_all, aims_of, common_means, translate}
+use Rattle.parts.specs.Objects.{OpenRule, Object, Translated, object, together, open_rules, open_all, aims_of, common_means}
 use Rattle.parts.specs.Sound.{SoundRule}
 use Rattle.partwriter.specs.Put.{back}
-use Rattle.separate.specs.Answers.{Holds, Makes}
+use Rattle.separate.specs.Answers.{Holds}
 use Rattle.separate.specs.Steps.{Refuses, StandsIn, Known, opened_by, translated_in}
-use Rattle.separate.specs.declared.Made.{Made}
 use Rattle.separate.specs.declared.Plan.{Plan}
 use Rattle.separate.specs.declared.Written.{Written}
 

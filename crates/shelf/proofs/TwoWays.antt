@@ -22,7 +22,7 @@ use Rattle.machine.proofs.Bytes.{length-bytes_of, length-table_of, words_of-byte
 use Rattle.machine.proofs.Words.{number64-words64}
 use Rattle.machine.specs.Bytes.{count, bytes_of, over}
 use Rattle.machine.specs.Form.{words64, number64}
-use Rattle.mapping.specs.Mapping.{Row, rule_rows, Answer, mapped, refused, map_of, map_rules, row_words, rows_words, room_in, lent_rows}
+use Rattle.mapping.specs.Mapping.{Row, rule_rows, mapped, refused, map_of, map_rules, row_words, rows_words, room_in, lent_rows}
 use Rattle.mapping.specs.Parts.{Parts, none_left, one_more}
 use Rattle.processor.specs.Process as processor
 use Rattle.processor.specs.Process.{process, accepted, lent_bytes}

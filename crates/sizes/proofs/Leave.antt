@@ -10,11 +10,9 @@ use lib.Dec.{eqb, ltb, leb}
 use borrow.Author.Tests.{ne_eqb, lt-ltb, le-ltb, ltb-true, ltb-false, leb-true}
 use Rattle.base.proofs.Laws.{lt-or-le}
 use Rattle.base.specs.Bools.{and}
-use Rattle.base.specs.Tree.{choice, otherwise}
 use Rattle.program.specs.Program.{Selector, by_token, by_rule, by_operation, by_operation_with, Acts, Alts, Other}
 use Rattle.program.specs.Table.{size_plain, size_selector, size_absent, count_labels, sizes, size_alts, size_other}
 use Rattle.cells.specs.Cells.{absent_cell}
-use Rattle.emitter.specs.Words.{words}
 use Rattle.emitter.specs.Stands.{sel_token, sel_rule, sel_op, sel_op_with, is_match, is_any, is_emit, is_error, is_exit, is_called, is_back, is_give, is_update, is_update_with, is_plain, is_cycle, is_a_choice, IsAlts, is_nil, is_alt, IsOther, is_stop, is_other, IsAll, is_done, is_cons}
 use Rattle.sizes.specs.Heads.{cells_table, words_table, cells_of, words_of, open_after}
 use Rattle.emitter.proofs.Leave.{all_in, alts-in, other_in}

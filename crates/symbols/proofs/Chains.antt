@@ -9,7 +9,7 @@ use Rattle.base.proofs.Laws.{is_false, lt-or-le}
 use Rattle.declarations.specs.Decls.{Decl}
 use Rattle.symbols.proofs.Searches.{Search, From, hit, miss, end}
 use Rattle.symbols.specs.Index.{Chain, chain_end, chain_node, Among, here, later, link_at}
-use Rattle.symbols.specs.Rows.{decl_at, held_from, held}
+use Rattle.symbols.specs.Rows.{decl_at, held}
 
 -- no row of a chain is below its first
 pub data AtLeast (lo : ℕ) : List ℕ → Type 0 where

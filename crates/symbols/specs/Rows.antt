@@ -1,5 +1,5 @@
 -- The row of declarations as the code keeps it: eight 16-bit numbers a declaration. Words are places of the text, a length 0 stands for no word.
-use Rattle.std.specs.Prelude.{true, List, [], ◌∷◌, ◌≡◌, ℕ, zero, suc, ◌+◌, ◌*◌, eqb, length, get_or, take, drop, if◌then◌else◌}
+use Rattle.std.specs.Prelude.{List, [], ◌∷◌, ◌≡◌, ℕ, zero, suc, ◌+◌, ◌*◌, eqb, get_or, take, drop, if◌then◌else◌}
 use Rattle.std.proofs.Math.Option.{Option, none, some}
 use Rattle.base.specs.Common.{given}
 use Rattle.declarations.specs.Decls.{Decl, index_of, elsewhere_in, knowns_in}

@@ -1,6 +1,5 @@
 -- Operators sections and `^`: texts that are read, and those where reading stops. `~` marks the start of the word at fault and is not in the
 -- text (`^` is a word here).
-use mathlib.Core.Bool.{true}
 use mathlib.Core.List.{List, [], ◌∷◌}
 use Prim.Native.Char.{code}
 use Prim.Native.Nat.{ℕ}

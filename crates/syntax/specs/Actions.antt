@@ -1,10 +1,10 @@
 -- Actions, cycles and choices. A reader that calls itself has its fuel first: the bytes of the text are enough, since each call has read
 -- a word. `left` is how many more cycles and choices may be entered.
-use Rattle.std.specs.Prelude.{Bool, true, ◌||◌, List, [], ◌∷◌, ℕ, zero, suc, ◌-◌, eqb, length, if◌then◌else◌}
+use Rattle.std.specs.Prelude.{Bool, ◌||◌, List, [], ◌∷◌, ℕ, zero, suc, ◌-◌, eqb, length, if◌then◌else◌}
 use Rattle.std.proofs.Math.Option.{Option, none, some}
 use Prim.Native.Char.{code}
 use Rattle.base.specs.Tree.{plain, cycle, choice, done, ◌▸◌, nil, alternative, absent, otherwise}
-use Rattle.syntax.specs.Reading.{fault, Reader, onward, ◌>>=◌, ◌>>◌, pure, peek, pass, refuse, within, on◌then◌else◌, expect, short, a_name, name_or_string}
+use Rattle.syntax.specs.Reading.{Reader, ◌>>=◌, ◌>>◌, pure, peek, pass, refuse, within, on◌then◌else◌, expect, short, a_name, name_or_string}
 use Rattle.syntax.specs.Written.{Constant, Plain, named, any, exit, emit, error, call, give, ranked, Selector, by_token, by_rule, by_operation, Act, Acts, Choices}
 use Rattle.words.specs.Words.{Word, twice, name, string}
 

@@ -1,9 +1,8 @@
 -- "A program is sections, then `rules`, one rule or more, `end`, and no word after it."
-use Rattle.std.specs.Prelude.{true, List, [], ◌∷◌, ℕ, zero, suc, ◌+◌, ◌-◌, min, eqb, ltb, length, if◌then◌else◌}
-use Rattle.std.proofs.Math.Option.{none, some}
+use Rattle.std.specs.Prelude.{List, [], ◌∷◌, ℕ, zero, suc, ◌+◌, ◌-◌, min, ltb, length, if◌then◌else◌}
 use Prim.Native.Char.{code}
 use Rattle.syntax.specs.Actions.{actions}
-use Rattle.syntax.specs.Reading.{Read, fault, Reader, onward, ◌>>=◌, ◌>>◌, pure, peek, pass, refuse, on◌then◌else◌, expect, a_name, one_name, optional}
+use Rattle.syntax.specs.Reading.{Read, fault, Reader, ◌>>=◌, ◌>>◌, pure, refuse, on◌then◌else◌, expect, a_name, one_name, optional}
 use Rattle.syntax.specs.Sections.{nothing, some_sections}
 use Rattle.syntax.specs.Written.{Rule, Program}
 use Rattle.words.specs.Words.{Word, words, last, twice, name, rules, end}

@@ -1,6 +1,6 @@
 -- Reading words one after the other: what is read, or the first fault 1, 2 or 9 at its word. "Then 1, 2, 9 by the first word in the
 -- text, the lower number where one word has two": a word's kind is tested before a limit that it passes.
-use Rattle.std.specs.Prelude.{true, ◌&&◌, List, [], ◌∷◌, ℕ, eqb, ltb, length, if◌then◌else◌}
+use Rattle.std.specs.Prelude.{List, [], ◌∷◌, ℕ, eqb, ltb, length, if◌then◌else◌}
 use Rattle.std.proofs.Math.Option.{Option, none, some}
 use Rattle.words.specs.Words.{Word, bad, last, name, number, string, value}
 

@@ -1,5 +1,4 @@
 -- Number 0 in the code's answer means that the text is accepted, and the answer has the table's words and the verdict.
-use mathlib.Core.Bool.{true}
 use mathlib.Core.List.{List}
 use mathlib.Core.Path.{◌≡◌, refl, sym, ap, ◌∙◌}
 use Prim.Native.Nat.{ℕ}

@@ -13,7 +13,7 @@ use borrow.Author.Tests.{eq-eqb, eqb-true, le-ltb, not-false}
 use Rattle.base.specs.Bools.{never, or, and, or₁, both}
 use Rattle.program.specs.Program.{Rule, body_of}
 use Rattle.finishing.specs.Finishing.{Gives, Passed}
-use Rattle.finishing.specs.Test.{Known, end, return, gives, quiets, loops, passes}
+use Rattle.finishing.specs.Test.{Known, gives, quiets, loops, passes}
 use Rattle.finishing.proofs.Rounds.{values_in}
 use Rattle.finishing.proofs.Paths.{passes-sound, gives-sound}
 use Rattle.verdict.specs.Told.{member, known_in, Tells, RuleTold, Laid, True, Exhausts, Apart, ClosedAt, alike, Same, GatheredTold, NotesTold, outside, Widens, Joined, Looks, AskedTold, TriedTold, LookedTold, SweepTold, LearntTold}

@@ -1,10 +1,8 @@
 -- Laws of a rule's scan.
-use Prim.Native.Nat.{ℕ, ◌+◌, ◌<◌}
+use Prim.Native.Nat.{ℕ}
 use mathlib.Core.Path.{◌≡◌, ap, ◌∙◌}
-use mathlib.Core.Bool.{true, false, ◌&&◌}
 use mathlib.Core.List.{List}
-use lib.Dec.{eqb}
-use lib.ListN.{length, drop, get_or}
+use lib.ListN.{drop, get_or}
 use Rattle.finishing.specs.Test.{Known}
 use Rattle.verdict.specs.Told.{ActsTold, RuleTold}
 use Rattle.verdict.specs.declared.Ways.{Ways}

@@ -14,7 +14,7 @@ use Rattle.std.specs.Prelude.{if◌then◌else◌}
 use Rattle.base.specs.Common.{member as listed}
 use Rattle.base.specs.Tree.{plain, absent, otherwise}
 use Rattle.program.specs.Program.{Plain, match, any, emit, error, exit, call, back, give, update, update_with, Act, Acts, Alts, Other}
-use Rattle.finishing.specs.Test.{Goal, end, leave, return, gives, calls, Known, is_end, is_leave, is_return, is_give, is_call, is_far, quiet_plain, quiet, quiets, quiet_some, quiet_named, quiet_other, loop, loops, loops_some, loops_other}
+use Rattle.finishing.specs.Test.{Goal, end, leave, return, gives, calls, Known, is_end, is_leave, is_return, is_give, is_call, is_far, quiet_plain, quiet, quiets, quiet_some, quiet_named, loop, loops, loops_some, loops_other}
 use Rattle.finishing.specs.Finishing.{named}
 use Rattle.finishing.proofs.Exact.{below-same}
 use Rattle.cells.specs.Cells.{plain_cells}

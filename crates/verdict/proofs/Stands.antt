@@ -7,7 +7,6 @@ use native.Mathlib.Omega.{arith}
 use Prim.Native.Nat.{ℕ, suc, ◌+◌, ◌<◌, ◌≤◌}
 use lib.ListN.{length, drop, get_or, length-drop}
 use lib.Seq.{get_or-drop, drop-drop}
-use Rattle.base.specs.Tree.{choice, otherwise}
 use Rattle.program.specs.Program.{Plain, match, any, emit, error, exit, call, back, give, update, update_with, Act, Acts, Alts, Other}
 use Rattle.cells.specs.Cells.{plain_cells}
 use Rattle.finishing.specs.Test.{values_plain, values, values_all, values_some, values_other}

@@ -4,7 +4,6 @@ use mathlib.Core.Path.{◌≡◌, refl, sym, ap, ◌∙◌}
 use mathlib.Core.Bool.{Bool, true, false, not, ◌||◌, ◌&&◌}
 use mathlib.Core.List.{List}
 use native.Mathlib.Omega.{arith}
-use Rattle.base.specs.Bools.{never}
 use Rattle.finishing.specs.Test.{some_below}
 use Rattle.verdict.specs.Told.{member, some_in, Either, Covers, Worth, all_worth, none_worth}
 use Rattle.verdict.specs.declared.Rules.{Rules}

@@ -1,5 +1,5 @@
 -- What the walker's functions compute, in the code's own order, over bytes. proofs/Link.antt shows that it is what the machine's definitions say.
-use Rattle.std.specs.Prelude.{Bool, true, false, List, [], ◌≡◌, ℕ, zero, suc, ◌+◌, ◌*◌, ◌-◌, ◌/◌, ◌%◌, ◌<◌, min, eqb, ltb, leb, length, get_or, set, if◌then◌else◌}
+use Rattle.std.specs.Prelude.{Bool, true, false, List, [], ℕ, zero, suc, ◌+◌, ◌*◌, ◌-◌, ◌/◌, ◌%◌, min, eqb, ltb, leb, get_or, set, if◌then◌else◌}
 use Rattle.machine.specs.Bytes.{count, word_at}
 use Rattle.machine.specs.Lengths.{length_of}
 use Rattle.walker.specs.declared.Event.{Event}

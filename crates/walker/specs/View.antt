@@ -1,5 +1,5 @@
 -- The walker's structs and enums as the machine's definitions have them.
-use Rattle.std.specs.Prelude.{List, [], ◌∷◌, reverse, ℕ, ◌%◌, take}
+use Rattle.std.specs.Prelude.{List, [], reverse, ℕ, ◌%◌, take}
 use Rattle.events.specs.Events as events
 use Rattle.machine.specs.Walk as machine
 use Rattle.walker.specs.declared.Event.{Event}

@@ -1,6 +1,5 @@
 -- `admission::admits` meets its contract.
 use mathlib.Core.Path.{sym, ◌∙◌}
-use borrow.Author.Tests.{not-true, not-false}
 use Rattle.machine.proofs.Bytes.{length-table_of}
 use Rattle.admission.proofs.Laws.{not_taken, all-granted, one-denied}
 use borrow.Author.Rules.{rules}

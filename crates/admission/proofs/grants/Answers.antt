@@ -1,6 +1,5 @@
 -- `admission::grants` meets its contract.
 use Rattle.admission.proofs.Laws.{grants-there, grants-past}
-use borrow.Author.Rules.{rules}
 use Rattle.admission.proofs.grants.Goals as goal
 
 pub returns-then-i-set : goal.returns-then-i-set

@@ -1,6 +1,5 @@
 -- `admission::is_wrong` meets its contract.
 use Rattle.admission.proofs.Laws.{wrong-unseen, wrong-low, wrong-above, wrong-operation}
-use borrow.Author.Rules.{rules}
 use Rattle.admission.proofs.is_wrong.Goals as goal
 
 pub returns-then-seen-l-eq0 : goal.returns-then-seen-l-eq0

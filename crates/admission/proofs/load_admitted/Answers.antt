@@ -3,7 +3,6 @@ use native.Mathlib.Omega.{arith}
 use Prim.Native.Nat.{◌*◌}
 use Rattle.loader.proofs.Loading.{part_length}
 use Rattle.admission.proofs.Loaded.{front, told-refused, told-loaded}
-use borrow.Author.Rules.{rules}
 use Rattle.admission.proofs.load_admitted.Goals as goal
 
 pub returns-then-a-ne0 : goal.returns-then-a-ne0

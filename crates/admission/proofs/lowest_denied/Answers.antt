@@ -1,9 +1,6 @@
 -- `admission::lowest_denied` meets its contract.
-use mathlib.Core.Path.{◌≡◌, sym, ◌∙◌}
-use Prim.Native.Nat.{◌+◌, ◌-◌, ◌≤◌}
+use mathlib.Core.Path.{sym, ◌∙◌}
 use native.Mathlib.Omega.{arith}
-use Rattle.machine.specs.Bytes.{table_of}
-use Rattle.rights.specs.Rights.{lowest, denied}
 use Rattle.admission.proofs.Laws.{flagged-at, lowest-on, lowest-here, lowest-end, denied-from}
 use Rattle.admission.proofs.lowest_denied.Goals as goal
 

@@ -1,10 +1,8 @@
 -- `admission::lowest_denied` meets its contract.
-use mathlib.Core.Path.{◌≡◌, sym, ◌∙◌}
+use mathlib.Core.Path.{◌≡◌}
 use Prim.Native.Nat.{◌+◌, ◌-◌, ◌≤◌}
-use native.Mathlib.Omega.{arith}
 use Rattle.machine.specs.Bytes.{table_of}
 use Rattle.rights.specs.Rights.{lowest, denied}
-use Rattle.admission.proofs.Laws.{flagged-at, lowest-on, lowest-here, lowest-end, denied-from}
 use Rattle.admission.proofs.lowest_denied.Given as goal
 
 abbrev pub invariant-loop-l : goal.invariant-loop-l

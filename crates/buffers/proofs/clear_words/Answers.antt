@@ -1,10 +1,8 @@
 -- `buffers::clear_words` meets its contract.
-use mathlib.Core.Path.{◌≡◌, refl, ap, ◌∙◌}
+use mathlib.Core.Path.{ap, ◌∙◌}
 use native.Mathlib.Omega.{arith}
-use mathlib.Core.List.{◌++◌}
-use Prim.Native.Nat.{◌-◌, ◌*◌, ◌/◌, ◌≤◌}
-use lib.ListN.{length, drop, replicate}
-use Rattle.buffers.proofs.Zeros.{zero-next, zero-end, zero-length}
+use lib.ListN.{length}
+use Rattle.buffers.proofs.Zeros.{zero-end, zero-length}
 use Rattle.buffers.proofs.clear_words.Goals as goal
 
 pub overflow_mul-n : goal.overflow_mul-n

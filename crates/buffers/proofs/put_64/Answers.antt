@@ -1,6 +1,5 @@
 -- `buffers::put_64` meets its contract.
 use Rattle.buffers.specs.Words.{put64}
-use borrow.Author.Rules.{rules}
 use Rattle.buffers.proofs.put_64.Goals as goal
 
 pub returns : goal.returns

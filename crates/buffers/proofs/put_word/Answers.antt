@@ -1,6 +1,5 @@
 -- `buffers::put_word` meets its contract.
-use mathlib.Core.Path.{◌≡◌, refl}
-use borrow.Author.Rules.{rules}
+use mathlib.Core.Path.{refl}
 use Rattle.buffers.specs.Words.{put_word}
 use Rattle.buffers.proofs.put_word.Goals as goal
 

@@ -2,7 +2,6 @@
 use native.Mathlib.Nat.{add-zero}
 use native.Mathlib.Omega.{arith}
 use lib.Seq.{get_or-drop}
-use borrow.Author.Rules.{rules}
 use Rattle.machine.specs.Bytes.{words_of}
 use Rattle.machine.specs.Form.{number64}
 use Rattle.buffers.proofs.read_64.Goals as goal

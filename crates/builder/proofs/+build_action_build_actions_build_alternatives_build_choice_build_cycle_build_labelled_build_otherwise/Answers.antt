@@ -1,6 +1,5 @@
 -- The functions that build actions, cycles, choices and alternatives meet their contracts. Measure: five times the bytes left, and a rank.
 use mathlib.Core.Path.{refl, sym, ◌∙◌}
-use Prim.Native.Nat.{◌-◌}
 use native.Mathlib.Omega.{arith}
 use Rattle.resolver.proofs.Appending.{appends-length}
 use Rattle.builder.proofs.Building.{acts-stop, acts-fail, acts-more, act-cycle, act-choice, act-plain, cycle-fail, cycle-end, other-fail, other-end}

@@ -1,13 +1,7 @@
 -- `builder::build` meets its contract.
-use mathlib.Core.Path.{◌≡◌, refl, ◌∙◌}
+use mathlib.Core.Path.{refl, ◌∙◌}
 use native.Mathlib.Omega.{arith}
-use mathlib.Core.List.{List}
-use Prim.Native.Nat.{ℕ, ◌-◌, ◌≤◌, ◌<◌}
-use lib.ListN.{length}
-use borrow.Author.Rules.{rules}
 use Rattle.builder.proofs.Whole.{row-fail, row_last, row-over, row_next, whole-done}
-use Rattle.builder.specs.Row.{RowDone}
-use Rattle.builder.specs.declared.Rules.{Rules}
 use Rattle.builder.proofs.build.Goals as goal
 
 pub loop-listed-init : goal.loop-listed-init

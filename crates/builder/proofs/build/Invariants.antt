@@ -1,11 +1,8 @@
 -- `builder::build` meets its contract.
-use mathlib.Core.Path.{◌≡◌, refl, ◌∙◌}
-use native.Mathlib.Omega.{arith}
+use mathlib.Core.Path.{◌≡◌}
 use mathlib.Core.List.{List}
 use Prim.Native.Nat.{ℕ, ◌-◌, ◌≤◌, ◌<◌}
 use lib.ListN.{length}
-use borrow.Author.Rules.{rules}
-use Rattle.builder.proofs.Whole.{row-fail, row_last, row-over, row_next, whole-done}
 use Rattle.builder.specs.Row.{RowDone}
 use Rattle.builder.specs.declared.Rules.{Rules}
 use Rattle.builder.proofs.build.Given as goal

@@ -1,9 +1,8 @@
 -- `builder::build_rule` meets its contract.
-use mathlib.Core.Path.{◌≡◌, refl}
+use mathlib.Core.Path.{refl}
 use native.Mathlib.Omega.{arith}
 use Rattle.builder.proofs.Building.{apart}
 use Rattle.builder.proofs.Ruling.{rule-headless, rule-fail, rule-closed}
-use borrow.Author.Rules.{rules}
 use Rattle.builder.proofs.build_rule.Goals as goal
 
 pub returns-then-h-ne0 : goal.returns-then-h-ne0

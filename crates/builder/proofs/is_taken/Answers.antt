@@ -2,7 +2,6 @@
 use lib.ListN.{take, drop}
 use Rattle.builder.proofs.Heading.{operation-taken, rule-taken}
 use Rattle.symbols.specs.Rows.{held}
-use borrow.Author.Rules.{rules}
 use Rattle.builder.proofs.is_taken.Goals as goal
 
 pub returns-then-o-lt-NONE : goal.returns-then-o-lt-NONE

@@ -1,12 +1,8 @@
 -- `builder::put_labels` meets its contract.
-use mathlib.Core.Path.{◌≡◌, refl, ◌∙◌}
-use Prim.Native.Nat.{ℕ, ◌+◌, ◌-◌, ◌≤◌}
+use mathlib.Core.Path.{refl, ◌∙◌}
 use native.Mathlib.Omega.{arith}
-use lib.ListN.{length, take, drop}
-use borrow.Author.Rules.{rules}
 use Rattle.resolver.proofs.Appending.{appends-length}
 use Rattle.builder.proofs.Labelling.{labels-all, labels-none, labels-stored}
-use Rattle.resolver.specs.Resolved.{Appends}
 use Rattle.builder.proofs.put_labels.Goals as goal
 
 pub overflow_sub-to : goal.overflow_sub-to

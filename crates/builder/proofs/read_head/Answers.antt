@@ -1,8 +1,7 @@
 -- `builder::read_head` meets its contract.
-use mathlib.Core.Path.{◌≡◌, refl, sym, ◌∙◌}
+use mathlib.Core.Path.{refl, sym, ◌∙◌}
 use native.Mathlib.Omega.{arith}
 use Rattle.builder.proofs.Heading.{head-taken, head_first, head_more}
-use borrow.Author.Rules.{rules}
 use Rattle.builder.proofs.read_head.Goals as goal
 
 pub returns-then-is_taken : goal.returns-then-is_taken

@@ -1,7 +1,6 @@
 -- `builder::read_type` meets its contract.
-use mathlib.Core.Path.{◌≡◌, refl}
+use mathlib.Core.Path.{refl}
 use Rattle.builder.proofs.Heading.{type-none, type-fail, type-more}
-use borrow.Author.Rules.{rules}
 use Rattle.builder.proofs.read_type.Goals as goal
 
 pub returns-then-g-ne-TWICE : goal.returns-then-g-ne-TWICE

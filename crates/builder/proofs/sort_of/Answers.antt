@@ -1,5 +1,5 @@
 -- `builder::sort_of` meets its contract.
-use mathlib.Core.Path.{◌≡◌, sym, ap}
+use mathlib.Core.Path.{sym, ap}
 use Rattle.builder.specs.Rules.{sort_of}
 use Rattle.builder.proofs.sort_of.Goals as goal
 

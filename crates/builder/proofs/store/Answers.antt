@@ -1,7 +1,6 @@
 -- `builder::store` meets its contract.
-use mathlib.Core.Path.{◌≡◌, refl, ap}
+use mathlib.Core.Path.{refl, ap}
 use lib.ListN.{set}
-use borrow.Author.Rules.{rules}
 use Rattle.builder.proofs.store.Goals as goal
 
 pub returns : goal.returns

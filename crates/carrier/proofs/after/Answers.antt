@@ -1,6 +1,5 @@
 -- `carrier::after` meets its contract.
 use Rattle.carrier.proofs.Words.{follows-operand, follows-label, follows-table, follows-two, follows-one}
-use borrow.Author.Rules.{rules}
 use Rattle.carrier.proofs.after.Goals as goal
 
 -- `carrier::after` meets its contract.

@@ -1,8 +1,6 @@
 -- `carrier::announce` meets its contract.
 use Rattle.carrier.proofs.Words.{tells-no-operand, tells-no-choice, tells-past, tells-table}
-use Rattle.carrier.proofs.Laws.{not_so, yet-so}
 use native.Mathlib.Omega.{arith}
-use borrow.Author.Rules.{rules}
 use Rattle.carrier.proofs.announce.Goals as goal
 
 -- `carrier::announce` meets its contract.

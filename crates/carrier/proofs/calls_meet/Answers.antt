@@ -1,5 +1,4 @@
 -- `carrier::calls_meet` meets its contract.
-use borrow.Author.Rules.{rules}
 use Rattle.carrier.proofs.Laws.{calls-nowhere, calls-gone, calls-named}
 use Rattle.carrier.proofs.calls_meet.Goals as goal
 

@@ -1,8 +1,6 @@
 -- `carrier::carry_place` meets its contract.
 use native.Mathlib.Omega.{arith}
-use Rattle.carrier.proofs.Laws.{not_so, yet-so}
 use Rattle.carrier.proofs.Placing.{rule-lies, named-low, place-nowhere, place-gone, place-changed, place_kept, place-small}
-use borrow.Author.Rules.{rules}
 use Rattle.carrier.proofs.carry_place.Goals as goal
 
 pub returns-then-i-eq-NO_RULE : goal.returns-then-i-eq-NO_RULE

@@ -1,11 +1,7 @@
 -- `carrier::carry_walk` meets its contract: the return locations before i are carried, the others as they were.
-use mathlib.Core.Path.{◌≡◌}
 use Prim.Native.Nat.{◌-◌}
-use native.Mathlib.Omega.{arith}
-use lib.ListN.{length}
-use borrow.Author.Rules.{rules}
 use Rattle.carrier.specs.Held.{place_held}
-use Rattle.carrier.proofs.Walks.{Moving, moving-first, moving-next, location-gone, return-gone, all-carried}
+use Rattle.carrier.proofs.Walks.{Moving}
 use Rattle.carrier.proofs.carry_walk.Given as goal
 
 abbrev pub invariant-loop-i : goal.invariant-loop-i

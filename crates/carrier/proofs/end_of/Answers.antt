@@ -1,7 +1,6 @@
 -- `carrier::end_of` meets its contract.
 use Rattle.carrier.proofs.Laws.{end-next, end-last}
 use native.Mathlib.Omega.{arith}
-use borrow.Author.Rules.{rules}
 use Rattle.carrier.proofs.end_of.Goals as goal
 
 pub returns-then-i-number : goal.returns-then-i-number

@@ -1,6 +1,5 @@
 -- `carrier::labels` meets its contract.
 use Rattle.carrier.proofs.Words.{labels-none, labels-some}
-use borrow.Author.Rules.{rules}
 use Rattle.carrier.proofs.labels.Goals as goal
 
 -- `carrier::labels` meets its contract.

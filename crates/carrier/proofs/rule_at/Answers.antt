@@ -1,7 +1,6 @@
 -- `carrier::rule_at` meets its contract.
 use native.Mathlib.Omega.{arith}
-use borrow.Author.Rules.{rules}
-use Rattle.carrier.proofs.Laws.{rule-zero, rule-past, Upto, upto-first, upto-found, upto_next, upto-none}
+use Rattle.carrier.proofs.Laws.{rule-zero, rule-past, upto-first, upto-found, upto_next, upto-none}
 use Rattle.carrier.proofs.rule_at.Goals as goal
 
 pub returns-then-l-eq0 : goal.returns-then-l-eq0

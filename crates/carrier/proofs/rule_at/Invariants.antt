@@ -1,7 +1,5 @@
 -- `carrier::rule_at` meets its contract.
-use native.Mathlib.Omega.{arith}
-use borrow.Author.Rules.{rules}
-use Rattle.carrier.proofs.Laws.{rule-zero, rule-past, Upto, upto-first, upto-found, upto_next, upto-none}
+use Rattle.carrier.proofs.Laws.{Upto}
 use Rattle.carrier.proofs.rule_at.Given as goal
 
 abbrev pub invariant-loop-k : goal.invariant-loop-k

@@ -1,8 +1,6 @@
 -- `carrier::rule_named` meets its contract.
-use Rattle.carrier.proofs.Laws.{Sought, sought-first, sought-found, sought-next, sought-none}
-use borrow.Author.Rules.{rules}
+use Rattle.carrier.proofs.Laws.{sought-first, sought-found, sought-next, sought-none}
 use native.Mathlib.Omega.{arith}
-use Prim.Native.Nat.{◌-◌}
 use Rattle.carrier.proofs.rule_named.Goals as goal
 
 pub loop-j-init : goal.loop-j-init

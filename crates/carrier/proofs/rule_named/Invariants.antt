@@ -1,7 +1,5 @@
 -- `carrier::rule_named` meets its contract.
-use Rattle.carrier.proofs.Laws.{Sought, sought-first, sought-found, sought-next, sought-none}
-use borrow.Author.Rules.{rules}
-use native.Mathlib.Omega.{arith}
+use Rattle.carrier.proofs.Laws.{Sought}
 use Prim.Native.Nat.{◌-◌}
 use Rattle.carrier.proofs.rule_named.Given as goal
 

@@ -1,7 +1,6 @@
 -- `carrier::same_bytes` meets its contract.
-use Prim.Native.Nat.{◌-◌}
 use native.Mathlib.Omega.{arith}
-use Rattle.carrier.proofs.Laws.{Alike, alike-first, alike-not, alike_next, alike_end}
+use Rattle.carrier.proofs.Laws.{alike-first, alike-not, alike_next, alike_end}
 use Rattle.carrier.proofs.same_bytes.Goals as goal
 
 pub loop-k-init : goal.loop-k-init

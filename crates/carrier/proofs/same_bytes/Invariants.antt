@@ -1,7 +1,6 @@
 -- `carrier::same_bytes` meets its contract.
 use Prim.Native.Nat.{◌-◌}
-use native.Mathlib.Omega.{arith}
-use Rattle.carrier.proofs.Laws.{Alike, alike-first, alike-not, alike_next, alike_end}
+use Rattle.carrier.proofs.Laws.{Alike}
 use Rattle.carrier.proofs.same_bytes.Given as goal
 
 abbrev pub invariant-loop-k : goal.invariant-loop-k

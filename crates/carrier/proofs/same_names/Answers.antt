@@ -1,6 +1,5 @@
 -- `carrier::same_names` meets its contract.
-use borrow.Author.Rules.{rules}
-use Rattle.carrier.proofs.Laws.{names_apart, names-written, names-first, names-both, parts-as, not_so, yet-so}
+use Rattle.carrier.proofs.Laws.{names_apart, names-written, names-first, names-both, parts-as}
 use Rattle.carrier.proofs.same_names.Goals as goal
 
 pub returns-then-level-number : goal.returns-then-level-number

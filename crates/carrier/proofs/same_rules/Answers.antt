@@ -1,7 +1,6 @@
 -- `carrier::same_rules` meets its contract.
 use native.Mathlib.Omega.{arith}
 use Rattle.carrier.proofs.Spans.{bounds, ordered, rules-apart, rules-meet, spans_fit}
-use borrow.Author.Rules.{rules}
 use Rattle.carrier.proofs.same_rules.Goals as goal
 
 pub overflow_sub-n : goal.overflow_sub-n

@@ -1,10 +1,6 @@
 -- `carrier::same_sections` meets its contract.
-use borrow.Author.Rules.{rules}
 use native.Mathlib.Omega.{arith}
-use Prim.Native.Nat.{◌-◌}
-use lib.ListN.{length}
-use Rattle.carrier.proofs.Laws.{not_so, yet-so}
-use Rattle.carrier.proofs.Stepping.{Steps, steps_first, both_end, new-ends, old-lacks, new-lacks, words-differ, steps_next}
+use Rattle.carrier.proofs.Stepping.{steps_first, both_end, new-ends, old-lacks, new-lacks, words-differ, steps_next}
 use Rattle.carrier.proofs.same_sections.Goals as goal
 
 pub loop-w-init : goal.loop-w-init

@@ -1,13 +1,10 @@
 -- `carrier::same_words` meets its contract.
-use borrow.Author.Rules.{rules}
 use mathlib.Core.Path.{refl}
 use native.Mathlib.Omega.{arith}
-use Prim.Native.Nat.{◌-◌}
 use Rattle.machine.specs.Bytes.{words_of}
 use Rattle.symbols.specs.Search.{part}
 use Rattle.carrier.specs.Held.{calls_held}
-use Rattle.carrier.proofs.Laws.{not_so, yet-so}
-use Rattle.carrier.proofs.Loop.{Going, going-first, going-not, going_next, going_end, rule-length, rule-word}
+use Rattle.carrier.proofs.Loop.{going-first, going-not, going_next, going_end, rule-length, rule-word}
 use Rattle.carrier.proofs.same_words.Goals as goal
 
 pub loop-o-init : goal.loop-o-init

@@ -1,7 +1,6 @@
 -- `carrier::words_meet` meets its contract.
 use Rattle.carrier.proofs.Words.{meets-no-operand, meets-no-call, meets_call}
 use Rattle.carrier.specs.Held.{calls_held}
-use borrow.Author.Rules.{rules}
 use Rattle.carrier.proofs.words_meet.Goals as goal
 
 -- `carrier::words_meet` meets its contract.

@@ -5,7 +5,6 @@ use lib.ListN.{replicate, length-replicate}
 use Rattle.carrying.proofs.Sheets.{first}
 use Rattle.carrying.proofs.Texts.{refuses}
 use Rattle.carrying.proofs.Told.{old-refused}
-use borrow.Author.Rules.{rules}
 use Rattle.carrying.proofs.carry.Goals as goal
 
 pub returns-then-p-ne0 : goal.returns-then-p-ne0

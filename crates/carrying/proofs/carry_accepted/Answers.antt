@@ -2,7 +2,6 @@
 use Rattle.carrying.proofs.Sheets.{both}
 use Rattle.carrying.proofs.Texts.{refuses-read}
 use Rattle.carrying.proofs.Told.{new-refused}
-use borrow.Author.Rules.{rules}
 use Rattle.carrying.proofs.carry_accepted.Goals as goal
 
 pub returns-then-q-ne0 : goal.returns-then-q-ne0

@@ -1,6 +1,4 @@
 -- `carrying::carry_prepared` meets its contract: 51, 52 or the walk.
-use borrow.Author.Rules.{rules}
-use Rattle.carrier.proofs.Laws.{not_so, yet-so}
 use Rattle.carrying.proofs.Told.{sections-differ, walk-goes, walk-stays}
 use Rattle.carrying.proofs.carry_prepared.Goals as goal
 

@@ -5,7 +5,6 @@ use lib.Seq.{length-take-le}
 use Rattle.carrying.proofs.Sheets.{second-is-read}
 use Rattle.carrying.proofs.Texts.{written}
 use Rattle.carrying.proofs.Told.{both-accepted}
-use borrow.Author.Rules.{rules}
 use Rattle.carrying.proofs.carry_read.Goals as goal
 
 pub slice_bounds-carry_prepared-end-2 : goal.slice_bounds-carry_prepared-end-2

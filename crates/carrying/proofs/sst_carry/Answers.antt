@@ -1,5 +1,4 @@
 -- `carrying::sst_carry` meets its contract: the walk that the bytes are is carried, and what it becomes is written.
-use borrow.Author.Rules.{rules}
 use Rattle.carrier.proofs.Laws.{not_so, yet-so}
 use Rattle.machine.proofs.Form.{walk_of-length}
 use Rattle.carrying.proofs.Told.{no_walk, walk-carried, walk_kept}

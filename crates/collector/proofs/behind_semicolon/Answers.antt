@@ -1,10 +1,6 @@
 -- `collector::behind_semicolon` meets its contract.
 use native.Mathlib.Omega.{arith}
-use mathlib.Core.Path.{◌≡◌, refl}
-use Prim.Native.Nat.{◌-◌, ◌≤◌}
-use lib.ListN.{length}
-use Rattle.collector.specs.Collecting.{to_semicolon}
-use Rattle.words.specs.Words.{words_at}
+use mathlib.Core.Path.{refl}
 use Rattle.collector.proofs.Skips.{skip-found, skip-lost, skip-on}
 use Rattle.collector.proofs.behind_semicolon.Goals as goal
 

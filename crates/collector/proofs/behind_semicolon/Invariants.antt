@@ -1,11 +1,9 @@
 -- `collector::behind_semicolon` meets its contract.
-use native.Mathlib.Omega.{arith}
-use mathlib.Core.Path.{◌≡◌, refl}
+use mathlib.Core.Path.{◌≡◌}
 use Prim.Native.Nat.{◌-◌, ◌≤◌}
 use lib.ListN.{length}
 use Rattle.collector.specs.Collecting.{to_semicolon}
 use Rattle.words.specs.Words.{words_at}
-use Rattle.collector.proofs.Skips.{skip-found, skip-lost, skip-on}
 use Rattle.collector.proofs.behind_semicolon.Given as goal
 
 abbrev pub invariant-loop-w : goal.invariant-loop-w

@@ -1,6 +1,5 @@
 -- `collector::collect` meets its contract.
 use Rattle.collector.proofs.Sections.{collected}
-use borrow.Author.Rules.{rules}
 use Rattle.collector.proofs.collect.Goals as goal
 
 pub returns : goal.returns

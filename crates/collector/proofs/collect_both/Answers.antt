@@ -1,6 +1,5 @@
 -- `collector::collect_both` meets its contract.
 use Rattle.collector.proofs.Sections.{both_read}
-use borrow.Author.Rules.{rules}
 use Rattle.collector.proofs.collect_both.Goals as goal
 
 pub returns : goal.returns

@@ -1,14 +1,6 @@
 -- `collector::collect_entries` meets its contract.
 use native.Mathlib.Omega.{arith}
-use borrow.Author.Rules.{rules}
-use mathlib.Core.Path.{◌≡◌, refl, ◌∙◌}
-use mathlib.Core.List.{List}
-use Prim.Native.Nat.{ℕ, ◌-◌, ◌≤◌}
-use lib.ListN.{length}
-use Rattle.collector.specs.Collecting.{SomeEntries}
-use Rattle.collector.specs.declared.Entries.{Entries}
-use Rattle.grammar.specs.Derived.{EntriesIn}
-use Rattle.words.specs.Words.{words_at}
+use mathlib.Core.Path.{refl, ◌∙◌}
 use Rattle.collector.proofs.Laws.{entries-last, entries-more, entries-stuck}
 use Rattle.collector.proofs.collect_entries.Goals as goal
 

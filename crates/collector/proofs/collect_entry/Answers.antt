@@ -1,6 +1,5 @@
 -- `collector::collect_entry` meets its contract.
 use Rattle.collector.proofs.Laws.{entry_read}
-use borrow.Author.Rules.{rules}
 use Rattle.collector.proofs.collect_entry.Goals as goal
 
 pub returns : goal.returns

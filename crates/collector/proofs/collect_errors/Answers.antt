@@ -1,6 +1,5 @@
 -- `collector::collect_errors` meets its contract.
 use Rattle.collector.proofs.Sections.{errors-read}
-use borrow.Author.Rules.{rules}
 use Rattle.collector.proofs.collect_errors.Goals as goal
 
 pub returns : goal.returns

@@ -1,6 +1,5 @@
 -- `collector::collect_inputs` meets its contract.
 use Rattle.collector.proofs.Sections.{inputs_read}
-use borrow.Author.Rules.{rules}
 use Rattle.collector.proofs.collect_inputs.Goals as goal
 
 pub returns : goal.returns

@@ -1,7 +1,6 @@
 -- `collector::collect_listed` meets its contract.
 use native.Mathlib.Omega.{arith}
 use Rattle.collector.proofs.Laws.{listed-read}
-use borrow.Author.Rules.{rules}
 use Rattle.collector.proofs.collect_listed.Goals as goal
 
 pub collect_entries-requires : goal.collect_entries-requires

@@ -1,6 +1,5 @@
 -- `collector::collect_mechanism` meets its contract.
 use Rattle.collector.proofs.Sections.{mechanism-read}
-use borrow.Author.Rules.{rules}
 use Rattle.collector.proofs.collect_mechanism.Goals as goal
 
 pub returns : goal.returns

@@ -1,7 +1,6 @@
 -- `collector::collect_operation` meets its contract.
 use mathlib.Core.Path.{refl}
 use Rattle.collector.proofs.Laws.{operation-read}
-use borrow.Author.Rules.{rules}
 use Rattle.collector.proofs.collect_operation.Goals as goal
 
 pub returns : goal.returns

@@ -1,11 +1,6 @@
 -- `collector::collect_operations` meets its contract.
 use native.Mathlib.Omega.{arith}
-use mathlib.Core.Path.{◌≡◌, refl, ◌∙◌}
-use mathlib.Core.List.{List}
-use Prim.Native.Nat.{ℕ, ◌-◌, ◌≤◌}
-use lib.ListN.{length}
-use Rattle.collector.specs.Collecting.{SomeOperations}
-use Rattle.collector.specs.declared.Operated.{Operated}
+use mathlib.Core.Path.{refl, ◌∙◌}
 use Rattle.collector.proofs.Laws.{operations-last, operations-more, operations-stuck}
 use Rattle.collector.proofs.collect_operations.Goals as goal
 

@@ -1,12 +1,10 @@
 -- `collector::collect_operations` meets its contract.
-use native.Mathlib.Omega.{arith}
-use mathlib.Core.Path.{◌≡◌, refl, ◌∙◌}
+use mathlib.Core.Path.{◌≡◌}
 use mathlib.Core.List.{List}
 use Prim.Native.Nat.{ℕ, ◌-◌, ◌≤◌}
 use lib.ListN.{length}
 use Rattle.collector.specs.Collecting.{SomeOperations}
 use Rattle.collector.specs.declared.Operated.{Operated}
-use Rattle.collector.proofs.Laws.{operations-last, operations-more, operations-stuck}
 use Rattle.collector.proofs.collect_operations.Given as goal
 
 abbrev pub invariant-loop-o : goal.invariant-loop-o

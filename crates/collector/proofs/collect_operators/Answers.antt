@@ -1,6 +1,5 @@
 -- `collector::collect_operators` meets its contract.
 use Rattle.collector.proofs.Sections.{operators-read}
-use borrow.Author.Rules.{rules}
 use Rattle.collector.proofs.collect_operators.Goals as goal
 
 pub returns : goal.returns

@@ -1,6 +1,5 @@
 -- `collector::collect_outputs` meets its contract.
 use Rattle.collector.proofs.Sections.{outputs-read}
-use borrow.Author.Rules.{rules}
 use Rattle.collector.proofs.collect_outputs.Goals as goal
 
 pub returns : goal.returns

@@ -1,6 +1,5 @@
 -- `collector::collect_rule` meets its contract.
 use Rattle.collector.proofs.Laws.{rule-read}
-use borrow.Author.Rules.{rules}
 use Rattle.collector.proofs.collect_rule.Goals as goal
 
 pub returns : goal.returns

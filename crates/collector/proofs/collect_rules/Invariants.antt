@@ -1,11 +1,9 @@
 -- `collector::collect_rules` meets its contract.
-use native.Mathlib.Omega.{arith}
-use mathlib.Core.Path.{◌≡◌, refl, ◌∙◌}
+use mathlib.Core.Path.{◌≡◌}
 use mathlib.Core.List.{List}
 use Prim.Native.Nat.{ℕ, ◌-◌, ◌≤◌}
 use lib.ListN.{length}
 use Rattle.collector.specs.Collecting.{SomeRules}
-use Rattle.collector.proofs.Laws.{rules-from, rules-last, rules_more, rules-stuck}
 use Rattle.collector.proofs.collect_rules.Given as goal
 
 abbrev pub invariant-loop-r : goal.invariant-loop-r

@@ -1,6 +1,5 @@
 -- `collector::collect_section` meets its contract.
 use Rattle.collector.proofs.Sections.{section-errors, section-mechanism, section-operators, section-outputs, section-tokens, section-type}
-use borrow.Author.Rules.{rules}
 use Rattle.collector.proofs.collect_section.Goals as goal
 
 pub returns-in-260 : goal.returns-in-260

@@ -1,11 +1,6 @@
 -- `collector::collect_sections` meets its contract.
 use native.Mathlib.Omega.{arith}
-use mathlib.Core.Path.{◌≡◌, refl, ◌∙◌}
-use mathlib.Core.List.{List}
-use Prim.Native.Nat.{ℕ, ◌-◌, ◌≤◌}
-use lib.ListN.{length}
-use Rattle.collector.specs.Collecting.{SomeSections}
-use Rattle.collector.specs.declared.Spot.{Spot}
+use mathlib.Core.Path.{refl, ◌∙◌}
 use Rattle.collector.proofs.Sections.{sections-end, sections-more, sections-stuck}
 use Rattle.collector.proofs.collect_sections.Goals as goal
 

@@ -1,6 +1,5 @@
 -- `collector::collect_tokens` meets its contract.
 use Rattle.collector.proofs.Sections.{tokens-alone, tokens-both}
-use borrow.Author.Rules.{rules}
 use Rattle.collector.proofs.collect_tokens.Goals as goal
 
 pub returns-then-w-eq-OUTPUT : goal.returns-then-w-eq-OUTPUT

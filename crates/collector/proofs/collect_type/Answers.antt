@@ -1,6 +1,5 @@
 -- `collector::collect_type` meets its contract.
 use Rattle.collector.proofs.Sections.{type-read}
-use borrow.Author.Rules.{rules}
 use Rattle.collector.proofs.collect_type.Goals as goal
 
 pub returns : goal.returns

@@ -1,4 +1,3 @@
-use borrow.Author.Rules.{rules}
 use Rattle.collector.proofs.put_part.Goals as goal
 
 -- src/lib.rt:124:1

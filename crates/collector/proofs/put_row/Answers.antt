@@ -1,7 +1,6 @@
 -- `collector::put_row` meets its contract.
 use native.Mathlib.Omega.{arith}
 use Rattle.collector.proofs.Rows.{put_full, put-parts}
-use borrow.Author.Rules.{rules}
 use Rattle.collector.proofs.put_row.Goals as goal
 
 -- `collector::put_row` meets its contract.

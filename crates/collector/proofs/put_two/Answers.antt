@@ -1,6 +1,5 @@
 use native.Mathlib.Omega.{arith}
 use lib.ListN.{length-set}
-use borrow.Author.Rules.{rules}
 use Rattle.collector.proofs.put_two.Goals as goal
 
 -- src/lib.rt:121:5

@@ -1,5 +1,4 @@
 -- `collector::put_words` meets its contract.
-use borrow.Author.Rules.{rules}
 use Rattle.collector.proofs.put_words.Goals as goal
 
 pub returns : goal.returns

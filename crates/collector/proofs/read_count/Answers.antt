@@ -1,6 +1,5 @@
 -- `collector::read_count` meets its contract.
 use Rattle.collector.proofs.Laws.{count-on, count_set}
-use borrow.Author.Rules.{rules}
 use Rattle.collector.proofs.read_count.Goals as goal
 
 pub returns-then-w-eq-EQUALS : goal.returns-then-w-eq-EQUALS

@@ -1,6 +1,5 @@
 -- `collector::read_gives` meets its contract.
 use Rattle.collector.proofs.Laws.{gives-not, gives-there}
-use borrow.Author.Rules.{rules}
 use Rattle.collector.proofs.read_gives.Goals as goal
 
 pub returns-then-w-eq-TWICE : goal.returns-then-w-eq-TWICE

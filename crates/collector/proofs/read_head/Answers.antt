@@ -1,6 +1,5 @@
 -- `collector::read_head` meets its contract.
 use Rattle.collector.proofs.Laws.{head_read}
-use borrow.Author.Rules.{rules}
 use Rattle.collector.proofs.read_head.Goals as goal
 
 pub returns : goal.returns

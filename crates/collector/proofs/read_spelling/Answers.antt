@@ -1,6 +1,5 @@
 -- `collector::read_spelling` meets its contract.
 use Rattle.collector.proofs.Laws.{spelling-never, spelling-none, spelling-there}
-use borrow.Author.Rules.{rules}
 use Rattle.collector.proofs.read_spelling.Goals as goal
 
 pub returns-then-w-eq-STRING : goal.returns-then-w-eq-STRING

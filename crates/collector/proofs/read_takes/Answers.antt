@@ -1,6 +1,5 @@
 -- `collector::read_takes` meets its contract.
 use Rattle.collector.proofs.Laws.{takes-not, takes-there}
-use borrow.Author.Rules.{rules}
 use Rattle.collector.proofs.read_takes.Goals as goal
 
 pub returns-then-w-eq-OPENING : goal.returns-then-w-eq-OPENING

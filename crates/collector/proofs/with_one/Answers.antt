@@ -1,6 +1,5 @@
 -- `collector::with_one` meets its contract.
 use native.Mathlib.Omega.{arith}
-use borrow.Author.Rules.{rules}
 use Rattle.collector.proofs.with_one.Goals as goal
 
 pub returns-then-n-gt-LAST_OF_KIND : goal.returns-then-n-gt-LAST_OF_KIND

@@ -1,14 +1,13 @@
 -- `counting::adds_up` meets its contract: what is left of the total and the first i counts are the total.
 use mathlib.Core.Path.{◌≡◌, refl, sym, ◌∙◌}
-use Prim.Native.Nat.{ℕ, zero, suc, ◌+◌, ◌-◌, ◌≤◌}
+use Prim.Native.Nat.{ℕ, zero, suc, ◌+◌}
 use native.Mathlib.Omega.{arith}
 use lib.Dec.{eqb}
-use lib.ListN.{length, take}
+use lib.ListN.{take}
 use lib.Seq.{take_all}
 use borrow.Author.Tests.{eq-eqb, ne_eqb}
 use Rattle.counting.proofs.Form.{sum-next, sum-most}
 use Rattle.figures.specs.Figures.{sum}
-use borrow.Author.Rules.{rules}
 use Rattle.counting.proofs.adds_up.Goals as goal
 
 same_test : (left total all : ℕ) → left + all ≡ total → eqb left 0 ≡ eqb total all

@@ -1,11 +1,10 @@
 -- `counting::bits_of` meets its contract: the bits of the counts from i on.
 use mathlib.Core.Path.{◌≡◌, ap, ◌∙◌}
-use Prim.Native.Nat.{ℕ, ◌*◌, ◌-◌}
+use Prim.Native.Nat.{ℕ, ◌*◌}
 use lib.ListN.{take, drop}
 use Rattle.figures.specs.Figures.{packed}
 use native.Mathlib.Omega.{arith}
-use Rattle.counting.proofs.Form.{Packs, packs-start, packs-room, packs-again}
-use borrow.Author.Rules.{rules}
+use Rattle.counting.proofs.Form.{packs-start, packs-room, packs-again}
 use Rattle.counting.proofs.bits_of.Goals as goal
 
 pub loop-i-init : goal.loop-i-init

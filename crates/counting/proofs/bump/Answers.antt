@@ -8,7 +8,6 @@ use lib.ListN.{get_or, set}
 use lib.Seq.{set-get_or}
 use Rattle.std.specs.Prelude.{if◌then◌else◌}
 use Rattle.figures.specs.Figures.{bump}
-use borrow.Author.Rules.{rules}
 use Rattle.counting.proofs.bump.Goals.{then-writes, else-writes}
 use Rattle.counting.proofs.bump.Goals as goal
 
@@ -29,8 +28,8 @@ pub overflow_add-counts : goal.overflow_add-counts
 overflow_add-counts c =
     record {
       fits = elim c.if-writes.branch [
-        then-writes w ↦ omega (arith, w.one-is, c.requires.1.1 w.if-writes.true)
-      | else-writes w ↦ omega (arith, w.one-is)
+        | then-writes w ↦ omega (arith, w.one-is, c.requires.1.1 w.if-writes.true)
+        | else-writes w ↦ omega (arith, w.one-is)
       ];
     }
 
@@ -38,6 +37,6 @@ pub returns : goal.returns
 returns c =
     let a = c.args in
     elim c.if-writes.branch [
-      then-writes w ↦ one_more a.counts.now a.l a.writes _ w.if-writes.true w.one-is
-    | else-writes w ↦ as-was a.counts.now a.l a.writes _ w.if-writes.false w.one-is
+      | then-writes w ↦ one_more a.counts.now a.l a.writes _ w.if-writes.true w.one-is
+      | else-writes w ↦ as-was a.counts.now a.l a.writes _ w.if-writes.false w.one-is
     ]

@@ -1,13 +1,9 @@
 -- `counting::count_book` meets its contract: the invariant carries the call and the locations still to come, and each case of `Next` has its law.
-use mathlib.Core.Bool.{false}
-use mathlib.Core.Path.{◌≡◌, refl, sym, ◌∙◌}
-use Prim.Native.Nat.{ℕ, ◌+◌, ◌-◌, ◌<◌, ◌≤◌}
+use mathlib.Core.Path.{refl, sym, ◌∙◌}
 use native.Mathlib.Omega.{arith}
-use borrow.Author.Rules.{rules}
 use Rattle.machine.specs.Bytes.{count}
 use Rattle.machine.specs.Lengths.{lengths}
-use Rattle.counting.proofs.Loop.{Inv, Moved, never-waits, at-spent, at-full, at-outside, at-stop, stop-room, moved_as, moved_on, moved-tells, moved-push, tells-room, push-deep, move-room, again, start}
-use Rattle.walker.specs.Shape.{step_of}
+use Rattle.counting.proofs.Loop.{never-waits, at-spent, at-full, at-outside, at-stop, stop-room, moved_as, moved_on, moved-tells, moved-push, tells-room, push-deep, move-room, again, start}
 use Rattle.counting.proofs.count_book.Goals.{in-On, in-Tells, in-Push}
 use Rattle.counting.proofs.count_book.Goals as goal
 
@@ -64,9 +60,9 @@ returns-in-Waits c = absurd (never-waits _ _ _ _ _ _ _ _ (sym c.next-x.ensures �
 pub bump-requires : goal.bump-requires
 bump-requires c =
     elim c.match-x.branch [
-      in-On w ↦ move-room _ _ _ _ _ _ _ _ _ _ _ _ _ _ _ c.loop-done.invariant c.loop-done-test.true _ _ _ _ _ (moved_as w.at-is w.returns-is w.out-is w.events-is w.room-is (moved_on _ _ _ _ _ _ _ _ _ _ _ _ _ _ _ c.loop-done.invariant c.loop-done-test.true _ (sym c.next-x.ensures ∙ w.in-On.is)))
-    | in-Tells w ↦ move-room _ _ _ _ _ _ _ _ _ _ _ _ _ _ _ c.loop-done.invariant c.loop-done-test.true _ _ _ _ _ (moved_as w.at-is w.returns-is w.out-is w.events-is w.room-is (moved-tells _ _ _ _ _ _ _ _ _ _ _ _ _ _ _ c.loop-done.invariant c.loop-done-test.true _ _ _ (sym c.next-x.ensures ∙ w.in-Tells.is) w.tell.ensures w.tell.auto.out))
-    | in-Push w ↦ move-room _ _ _ _ _ _ _ _ _ _ _ _ _ _ _ c.loop-done.invariant c.loop-done-test.true _ _ _ _ _ (moved_as (w.at-is ∙ w.hold-at.ensures.value) (w.returns-is ∙ w.hold-at.ensures.returns_after) w.out-is w.events-is w.room-is (moved-push _ _ _ _ _ _ _ _ _ _ _ _ _ _ _ c.loop-done.invariant c.loop-done-test.true _ _ (sym c.next-x.ensures ∙ w.in-Push.is)))
+      | in-On w ↦ move-room _ _ _ _ _ _ _ _ _ _ _ _ _ _ _ c.loop-done.invariant c.loop-done-test.true _ _ _ _ _ (moved_as w.at-is w.returns-is w.out-is w.events-is w.room-is (moved_on _ _ _ _ _ _ _ _ _ _ _ _ _ _ _ c.loop-done.invariant c.loop-done-test.true _ (sym c.next-x.ensures ∙ w.in-On.is)))
+      | in-Tells w ↦ move-room _ _ _ _ _ _ _ _ _ _ _ _ _ _ _ c.loop-done.invariant c.loop-done-test.true _ _ _ _ _ (moved_as w.at-is w.returns-is w.out-is w.events-is w.room-is (moved-tells _ _ _ _ _ _ _ _ _ _ _ _ _ _ _ c.loop-done.invariant c.loop-done-test.true _ _ _ (sym c.next-x.ensures ∙ w.in-Tells.is) w.tell.ensures w.tell.auto.out))
+      | in-Push w ↦ move-room _ _ _ _ _ _ _ _ _ _ _ _ _ _ _ c.loop-done.invariant c.loop-done-test.true _ _ _ _ _ (moved_as (w.at-is ∙ w.hold-at.ensures.value) (w.returns-is ∙ w.hold-at.ensures.returns_after) w.out-is w.events-is w.room-is (moved-push _ _ _ _ _ _ _ _ _ _ _ _ _ _ _ c.loop-done.invariant c.loop-done-test.true _ _ (sym c.next-x.ensures ∙ w.in-Push.is)))
     ]
 
 pub loop-done-smaller : goal.loop-done-smaller
@@ -75,9 +71,9 @@ loop-done-smaller c = omega (arith, c.loop-done-test.true)
 pub loop-done-preserved : goal.loop-done-preserved
 loop-done-preserved c =
     elim c.match-x.branch [
-      in-On w ↦ again _ _ _ _ _ _ _ _ _ _ _ _ _ _ _ c.loop-done.invariant c.loop-done-test.true _ _ _ _ _ (moved_as w.at-is w.returns-is w.out-is w.events-is w.room-is (moved_on _ _ _ _ _ _ _ _ _ _ _ _ _ _ _ c.loop-done.invariant c.loop-done-test.true _ (sym c.next-x.ensures ∙ w.in-On.is))) _ c.bump.ensures
-    | in-Tells w ↦ again _ _ _ _ _ _ _ _ _ _ _ _ _ _ _ c.loop-done.invariant c.loop-done-test.true _ _ _ _ _ (moved_as w.at-is w.returns-is w.out-is w.events-is w.room-is (moved-tells _ _ _ _ _ _ _ _ _ _ _ _ _ _ _ c.loop-done.invariant c.loop-done-test.true _ _ _ (sym c.next-x.ensures ∙ w.in-Tells.is) w.tell.ensures w.tell.auto.out)) _ c.bump.ensures
-    | in-Push w ↦ again _ _ _ _ _ _ _ _ _ _ _ _ _ _ _ c.loop-done.invariant c.loop-done-test.true _ _ _ _ _ (moved_as (w.at-is ∙ w.hold-at.ensures.value) (w.returns-is ∙ w.hold-at.ensures.returns_after) w.out-is w.events-is w.room-is (moved-push _ _ _ _ _ _ _ _ _ _ _ _ _ _ _ c.loop-done.invariant c.loop-done-test.true _ _ (sym c.next-x.ensures ∙ w.in-Push.is))) _ c.bump.ensures
+      | in-On w ↦ again _ _ _ _ _ _ _ _ _ _ _ _ _ _ _ c.loop-done.invariant c.loop-done-test.true _ _ _ _ _ (moved_as w.at-is w.returns-is w.out-is w.events-is w.room-is (moved_on _ _ _ _ _ _ _ _ _ _ _ _ _ _ _ c.loop-done.invariant c.loop-done-test.true _ (sym c.next-x.ensures ∙ w.in-On.is))) _ c.bump.ensures
+      | in-Tells w ↦ again _ _ _ _ _ _ _ _ _ _ _ _ _ _ _ c.loop-done.invariant c.loop-done-test.true _ _ _ _ _ (moved_as w.at-is w.returns-is w.out-is w.events-is w.room-is (moved-tells _ _ _ _ _ _ _ _ _ _ _ _ _ _ _ c.loop-done.invariant c.loop-done-test.true _ _ _ (sym c.next-x.ensures ∙ w.in-Tells.is) w.tell.ensures w.tell.auto.out)) _ c.bump.ensures
+      | in-Push w ↦ again _ _ _ _ _ _ _ _ _ _ _ _ _ _ _ c.loop-done.invariant c.loop-done-test.true _ _ _ _ _ (moved_as (w.at-is ∙ w.hold-at.ensures.value) (w.returns-is ∙ w.hold-at.ensures.returns_after) w.out-is w.events-is w.room-is (moved-push _ _ _ _ _ _ _ _ _ _ _ _ _ _ _ c.loop-done.invariant c.loop-done-test.true _ _ (sym c.next-x.ensures ∙ w.in-Push.is))) _ c.bump.ensures
     ]
 
 pub returns : goal.returns

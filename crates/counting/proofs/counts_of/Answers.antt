@@ -1,9 +1,9 @@
 -- `counting::counts_of` meets its contract: after i turns the first i counts stand there.
 use mathlib.Core.Path.{◌≡◌, refl, sym, ◌∙◌}
-use Prim.Native.Nat.{◌+◌, ◌-◌, ◌≤◌}
+use Prim.Native.Nat.{◌+◌}
 use native.Mathlib.Numerals.{add-one}
 use native.Mathlib.Omega.{arith}
-use lib.ListN.{length, take, length-set, set}
+use lib.ListN.{take, length-set, set}
 use lib.Seq.{take-suc-set, take-suc, take_all}
 use Rattle.figures.proofs.Form.{length-numbers_at, get_d-numbers_at}
 use Rattle.figures.specs.Form.{numbers_at}

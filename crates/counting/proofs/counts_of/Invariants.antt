@@ -1,14 +1,9 @@
 -- `counting::counts_of` meets its contract: after i turns the first i counts stand there.
-use mathlib.Core.Path.{◌≡◌, refl, sym, ◌∙◌}
-use Prim.Native.Nat.{◌+◌, ◌-◌, ◌≤◌}
-use native.Mathlib.Numerals.{add-one}
-use native.Mathlib.Omega.{arith}
-use lib.ListN.{length, take, length-set, set}
-use lib.Seq.{take-suc-set, take-suc, take_all}
-use Rattle.figures.proofs.Form.{length-numbers_at, get_d-numbers_at}
+use mathlib.Core.Path.{◌≡◌}
+use Prim.Native.Nat.{◌-◌, ◌≤◌}
+use lib.ListN.{length, take}
 use Rattle.figures.specs.Form.{numbers_at}
 use Rattle.machine.specs.Bytes.{words_of}
-use borrow.Author.Rules.{rules}
 use Rattle.counting.proofs.counts_of.Given as goal
 
 abbrev pub invariant-loop-i : goal.invariant-loop-i

@@ -1,6 +1,6 @@
 -- `counting::covered` meets its contract: the ones of the first j words.
 use mathlib.Core.Path.{◌≡◌, refl, sym, ap, ◌∙◌}
-use Prim.Native.Nat.{ℕ, ◌*◌, ◌-◌, ◌≤◌}
+use Prim.Native.Nat.{ℕ}
 use native.Mathlib.Omega.{arith}
 use lib.Count.{ones, ones-le}
 use lib.ListN.{take, get_or}
@@ -10,7 +10,6 @@ use Rattle.figures.proofs.Form.{length-numbers_at, get_d-numbers_at}
 use Rattle.figures.specs.Figures as figures
 use Rattle.figures.specs.Form.{numbers_at}
 use Rattle.machine.specs.Bytes.{words_of}
-use borrow.Author.Rules.{rules}
 use Rattle.counting.proofs.covered.Goals as goal
 
 pub loop-j-init : goal.loop-j-init

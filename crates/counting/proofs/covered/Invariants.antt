@@ -1,16 +1,10 @@
 -- `counting::covered` meets its contract: the ones of the first j words.
-use mathlib.Core.Path.{◌≡◌, refl, sym, ap, ◌∙◌}
-use Prim.Native.Nat.{ℕ, ◌*◌, ◌-◌, ◌≤◌}
-use native.Mathlib.Omega.{arith}
-use lib.Count.{ones, ones-le}
-use lib.ListN.{take, get_or}
-use lib.Seq.{take_all}
-use Rattle.counting.proofs.Form.{covered_next}
-use Rattle.figures.proofs.Form.{length-numbers_at, get_d-numbers_at}
+use mathlib.Core.Path.{◌≡◌}
+use Prim.Native.Nat.{◌*◌, ◌-◌, ◌≤◌}
+use lib.ListN.{take}
 use Rattle.figures.specs.Figures as figures
 use Rattle.figures.specs.Form.{numbers_at}
 use Rattle.machine.specs.Bytes.{words_of}
-use borrow.Author.Rules.{rules}
 use Rattle.counting.proofs.covered.Given as goal
 
 abbrev pub invariant-loop-j : goal.invariant-loop-j

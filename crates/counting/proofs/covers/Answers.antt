@@ -1,9 +1,6 @@
 -- `counting::covers` meets its contract: the words up to j are the same.
-use mathlib.Core.Path.{◌≡◌, refl, sym, ◌∙◌}
-use Prim.Native.Nat.{◌-◌, ◌≤◌}
+use mathlib.Core.Path.{refl, sym, ◌∙◌}
 use native.Mathlib.Omega.{arith}
-use lib.ListN.{drop}
-use Rattle.base.specs.Common.{same}
 use Rattle.base.proofs.Laws.{same_next, same_not, same_end}
 use Rattle.figures.proofs.Bits.{get_d_bits}
 use Rattle.figures.proofs.Form.{length-numbers_at, get_d-numbers_at, length-bits}

@@ -1,16 +1,11 @@
 -- `counting::covers` meets its contract: the words up to j are the same.
-use mathlib.Core.Path.{◌≡◌, refl, sym, ◌∙◌}
+use mathlib.Core.Path.{◌≡◌}
 use Prim.Native.Nat.{◌-◌, ◌≤◌}
-use native.Mathlib.Omega.{arith}
 use lib.ListN.{drop}
 use Rattle.base.specs.Common.{same}
-use Rattle.base.proofs.Laws.{same_next, same_not, same_end}
-use Rattle.figures.proofs.Bits.{get_d_bits}
-use Rattle.figures.proofs.Form.{length-numbers_at, get_d-numbers_at, length-bits}
 use Rattle.figures.specs.Figures.{bits_of}
 use Rattle.figures.specs.Form.{numbers_at}
 use Rattle.machine.specs.Bytes.{words_of}
-use borrow.Author.Rules.{rules}
 use Rattle.counting.proofs.covers.Given as goal
 
 abbrev pub invariant-loop-j : goal.invariant-loop-j

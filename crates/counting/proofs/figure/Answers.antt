@@ -1,9 +1,7 @@
 -- `counting::figure` meets its contract.
 use mathlib.Core.Path.{◌∙◌}
-use Prim.Native.Nat.{◌-◌}
 use native.Mathlib.Omega.{arith}
 use Rattle.counting.proofs.Form.{a-count, a_word, the-books, the-total}
-use borrow.Author.Rules.{rules}
 use Rattle.counting.proofs.figure.Goals as goal
 
 pub returns-then-i-lt-BITS_NUMBER : goal.returns-then-i-lt-BITS_NUMBER

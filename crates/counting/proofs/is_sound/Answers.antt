@@ -10,7 +10,6 @@ use Rattle.figures.proofs.Form.{length-numbers_at}
 use Rattle.figures.specs.Figures.{sum, bits_of}
 use Rattle.figures.specs.Form.{figures_named, numbers_at}
 use Rattle.machine.specs.Bytes.{words_of}
-use borrow.Author.Rules.{rules}
 use Rattle.counting.proofs.is_sound.Goals.{then-books-eq0+else-total-ne0, else-books-eq0}
 use Rattle.counting.proofs.is_sound.Goals as goal
 

@@ -1,6 +1,5 @@
 -- `counting::location` meets its contract.
 use mathlib.Core.Path.{refl}
-use borrow.Author.Rules.{rules}
 use borrow.Author.Tests.{lt-ltb, le-ltb}
 use Rattle.figures.specs.Spans.{location_at}
 use Rattle.counting.proofs.location.Goals as goal

@@ -1,7 +1,6 @@
 -- `counting::mean_of` meets its contract.
 use mathlib.Core.Path.{refl}
 use borrow.Author.Tests.{eq-eqb, ne_eqb}
-use borrow.Author.Rules.{rules}
 use Rattle.counting.proofs.mean_of.Goals as goal
 
 pub returns-then-books-eq0 : goal.returns-then-books-eq0

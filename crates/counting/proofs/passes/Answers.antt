@@ -2,7 +2,6 @@
 use mathlib.Core.Bool.{false≢true}
 use mathlib.Core.Path.{refl, ap, ◌∙◌}
 use lib.Dec.{ltb}
-use borrow.Author.Rules.{rules}
 use Rattle.counting.proofs.Adds.{past-budget, past-measured}
 use Rattle.counting.specs.declared.Told.{Told}
 use Rattle.counting.proofs.passes.Goals as goal

@@ -1,13 +1,10 @@
 -- `counting::put_figures` meets its contract: after i turns the first i numbers stand there.
-use mathlib.Core.Path.{◌≡◌, refl, ap, ◌∙◌}
-use Prim.Native.Nat.{ℕ, ◌*◌, ◌-◌, ◌≤◌}
-use native.Mathlib.Omega.{arith}
+use mathlib.Core.Path.{◌≡◌}
+use Prim.Native.Nat.{◌*◌, ◌-◌, ◌≤◌}
 use lib.ListN.{length, take}
-use Rattle.counting.proofs.Form.{length-numbers_of, written_next, written_all}
 use Rattle.counting.specs.Counting.{numbers_of}
 use Rattle.machine.specs.Bytes.{bytes_of, over}
 use Rattle.figures.specs.Form.{number_words}
-use borrow.Author.Rules.{rules}
 use Rattle.counting.proofs.put_figures.Given as goal
 
 abbrev pub invariant-loop-i : goal.invariant-loop-i

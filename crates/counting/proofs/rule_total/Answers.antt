@@ -3,8 +3,6 @@ use mathlib.Core.List.{List}
 use mathlib.Core.Path.{sym, ap, ◌∙◌}
 use Prim.Native.Nat.{ℕ}
 use lib.ListN.{length}
-use borrow.Author.Rules.{rules}
-use borrow.Author.Tests.{not-true, not-false}
 use Rattle.counting.proofs.Rules.{told, no_span, unsound-span, the-span, sound-sum}
 use Rattle.figures.proofs.Form.{length-numbers_at}
 use Rattle.figures.specs.Figures.{sum}

@@ -4,8 +4,6 @@ use mathlib.Core.Path.{sym, ap, ◌∙◌}
 use Prim.Native.Nat.{ℕ, ◌/◌}
 use native.Mathlib.Omega.{arith}
 use lib.ListN.{length}
-use borrow.Author.Rules.{rules}
-use borrow.Author.Tests.{not-true, not-false}
 use Rattle.counting.proofs.Rules.{told, no-rules, unsound-rules, the-rules, sound-sum}
 use Rattle.figures.proofs.Form.{length-numbers_at}
 use Rattle.figures.specs.Figures.{sum}

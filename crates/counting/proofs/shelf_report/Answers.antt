@@ -1,8 +1,6 @@
 -- `counting::shelf_report` meets its contract.
 use mathlib.Core.Path.{sym, ◌∙◌}
-use borrow.Author.Tests.{not-true, not-false}
 use Rattle.counting.proofs.Adds.{no-figures, no-sound-figures, the-report}
-use borrow.Author.Rules.{rules}
 use Rattle.counting.proofs.shelf_report.Goals as goal
 
 pub returns-then-figures-ne-FIGURES_BYTES : goal.returns-then-figures-ne-FIGURES_BYTES

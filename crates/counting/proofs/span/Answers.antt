@@ -1,11 +1,10 @@
 -- `counting::span` meets its contract: where the loop stands at k, the counts from the span's start up to k are added.
 use mathlib.Core.List.{List, [], ◌∷◌}
-use mathlib.Core.Path.{◌≡◌, refl, sym, ap, ◌∙◌}
-use Prim.Native.Nat.{ℕ, zero, suc, ◌+◌, ◌-◌, ◌^◌, ◌≤◌, ◌<◌, min, max}
+use mathlib.Core.Path.{◌≡◌, sym, ap, ◌∙◌}
+use Prim.Native.Nat.{ℕ, zero, suc, ◌+◌, ◌≤◌, ◌<◌, max}
 use native.Mathlib.Decide.{dec_le}
 use native.Mathlib.Omega.{arith}
 use lib.ListN.{length, take, drop, get_or, length-take, drop_of_length-le}
-use borrow.Author.Rules.{rules}
 use Rattle.counting.proofs.Form.{sum-next, sum-most}
 use Rattle.figures.proofs.Spans.{span-within, sum_drop}
 use Rattle.figures.specs.Figures.{sum}

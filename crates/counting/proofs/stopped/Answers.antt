@@ -1,7 +1,6 @@
 -- `counting::stopped` meets its contract.
 use mathlib.Core.Path.{ap, ◌∙◌}
 use Prim.Native.Nat.{ℕ}
-use borrow.Author.Rules.{rules}
 use Rattle.counting.specs.Counting.{told_of}
 use Rattle.counting.proofs.stopped.Goals as goal
 

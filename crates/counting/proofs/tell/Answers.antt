@@ -1,5 +1,4 @@
 -- `counting::tell` meets its contract.
-use borrow.Author.Rules.{rules}
 use Rattle.counting.proofs.tell.Goals as goal
 
 pub returns-then-writes : goal.returns-then-writes

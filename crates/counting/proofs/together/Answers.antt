@@ -1,10 +1,7 @@
 -- `counting::together` meets its contract: after i turns the totals of the first i rows are added.
-use mathlib.Core.Path.{◌≡◌, refl, ◌∙◌}
-use Prim.Native.Nat.{◌-◌, ◌<◌, ◌≤◌}
+use mathlib.Core.Path.{refl, ◌∙◌}
 use native.Mathlib.Omega.{arith}
-use lib.ListN.{take, get_or}
-use borrow.Author.Rules.{rules}
-use Rattle.counting.proofs.Rules.{told, all as totals-of, one-total, all-next, all_past, all_done}
+use Rattle.counting.proofs.Rules.{told, one-total, all-next, all_past, all_done}
 use Rattle.figures.specs.Figures.{sum}
 use Rattle.counting.proofs.together.Goals as goal
 

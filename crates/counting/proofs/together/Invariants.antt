@@ -1,10 +1,8 @@
 -- `counting::together` meets its contract: after i turns the totals of the first i rows are added.
-use mathlib.Core.Path.{◌≡◌, refl, ◌∙◌}
+use mathlib.Core.Path.{◌≡◌}
 use Prim.Native.Nat.{◌-◌, ◌<◌, ◌≤◌}
-use native.Mathlib.Omega.{arith}
-use lib.ListN.{take, get_or}
-use borrow.Author.Rules.{rules}
-use Rattle.counting.proofs.Rules.{told, all as totals-of, one-total, all-next, all_past, all_done}
+use lib.ListN.{take}
+use Rattle.counting.proofs.Rules.{all as totals-of}
 use Rattle.figures.specs.Figures.{sum}
 use Rattle.counting.proofs.together.Given as goal
 

@@ -1,18 +1,6 @@
 -- `declarer::against` meets its contract.
-use mathlib.Core.List.{List}
-use mathlib.Core.Path.{◌≡◌}
-use Prim.Native.Nat.{ℕ, ◌-◌, ◌<◌, ◌≤◌}
 use native.Mathlib.Omega.{arith}
-use lib.ListN.{length}
-use Rattle.declarations.specs.Decls.{knowns_in}
-use Rattle.declarer.specs.Operators.{Left}
-use Rattle.grammar.specs.Derived.{OperatorsIn}
-use Rattle.maker.specs.Ranks.{EntryIs}
-use Rattle.names.specs.Known.{find}
 use Rattle.symbols.specs.Rows.{held}
-use Rattle.symbols.specs.Search.{part, Tells}
-use Rattle.syntax.specs.Written.{Operator}
-use Rattle.words.specs.Words.{Word, words_at}
 use Rattle.declarer.proofs.OperatorLaws.{left-start, left-stops, left-goes, left-ends}
 use Rattle.declarer.proofs.against.Goals as goal
 

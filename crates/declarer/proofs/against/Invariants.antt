@@ -1,8 +1,6 @@
 -- `declarer::against` meets its contract.
 use mathlib.Core.List.{List}
-use mathlib.Core.Path.{◌≡◌}
 use Prim.Native.Nat.{ℕ, ◌-◌, ◌<◌, ◌≤◌}
-use native.Mathlib.Omega.{arith}
 use lib.ListN.{length}
 use Rattle.declarations.specs.Decls.{knowns_in}
 use Rattle.declarer.specs.Operators.{Left}
@@ -13,7 +11,6 @@ use Rattle.symbols.specs.Rows.{held}
 use Rattle.symbols.specs.Search.{part, Tells}
 use Rattle.syntax.specs.Written.{Operator}
 use Rattle.words.specs.Words.{Word, words_at}
-use Rattle.declarer.proofs.OperatorLaws.{left-start, left-stops, left-goes, left-ends}
 use Rattle.declarer.proofs.against.Given as goal
 
 abbrev pub invariant-loop-k : goal.invariant-loop-k

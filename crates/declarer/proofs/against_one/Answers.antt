@@ -1,5 +1,4 @@
 -- `declarer::against_one` meets its contract.
-use borrow.Author.Rules.{rules}
 use Rattle.declarer.proofs.OperatorLaws.{sides-clash, sides-same}
 use Rattle.declarer.proofs.against_one.Goals as goal
 

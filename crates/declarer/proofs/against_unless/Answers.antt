@@ -1,5 +1,4 @@
 -- `declarer::against_unless` meets its contract.
-use borrow.Author.Rules.{rules}
 use mathlib.Core.Path.{sym}
 use Rattle.declarer.proofs.against_unless.Goals as goal
 

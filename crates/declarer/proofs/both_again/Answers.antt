@@ -1,5 +1,4 @@
 -- `declarer::both_again` meets its contract.
-use borrow.Author.Rules.{rules}
 use mathlib.Core.Path.{refl}
 use Rattle.declarer.proofs.both_again.Goals as goal
 

@@ -1,11 +1,6 @@
 -- `declarer::check_declarations` meets its contract.
-use mathlib.Core.List.{List, []}
-use mathlib.Core.Path.{◌≡◌, ◌∙◌}
-use Prim.Native.Nat.{ℕ, ◌-◌, ◌≤◌}
+use mathlib.Core.Path.{◌∙◌}
 use native.Mathlib.Omega.{arith}
-use Rattle.declarations.specs.Decls.{decl_faults, EntriesAt}
-use Rattle.symbols.specs.Rows.{held, held_from}
-use Rattle.syntax.specs.Written.{Operator}
 use Rattle.declarer.proofs.FaultLaws.{moved, rows_start, rows-go, rows-stop, rows_end}
 use Rattle.declarer.proofs.check_declarations.Goals as goal
 

@@ -1,12 +1,10 @@
 -- `declarer::check_declarations` meets its contract.
 use mathlib.Core.List.{List, []}
-use mathlib.Core.Path.{◌≡◌, ◌∙◌}
+use mathlib.Core.Path.{◌≡◌}
 use Prim.Native.Nat.{ℕ, ◌-◌, ◌≤◌}
-use native.Mathlib.Omega.{arith}
 use Rattle.declarations.specs.Decls.{decl_faults, EntriesAt}
 use Rattle.symbols.specs.Rows.{held, held_from}
 use Rattle.syntax.specs.Written.{Operator}
-use Rattle.declarer.proofs.FaultLaws.{moved, rows_start, rows-go, rows-stop, rows_end}
 use Rattle.declarer.proofs.check_declarations.Given as goal
 
 abbrev pub invariant-loop-i : goal.invariant-loop-i

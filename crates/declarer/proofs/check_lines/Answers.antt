@@ -1,9 +1,8 @@
 -- `declarer::check_lines` meets its contract.
-use mathlib.Core.Path.{◌≡◌, refl, ◌∙◌}
-use Prim.Native.Nat.{◌-◌, ◌≤◌}
+use mathlib.Core.Path.{refl, ◌∙◌}
 use native.Mathlib.Omega.{arith}
 use Rattle.symbols.specs.Rows.{held}
-use Rattle.declarer.proofs.FaultLaws.{lines_from, moved, lines-go, lines-stop, lines_end}
+use Rattle.declarer.proofs.FaultLaws.{moved, lines-go, lines-stop, lines_end}
 use Rattle.declarer.proofs.check_lines.Goals as goal
 
 pub loop-i-init : goal.loop-i-init

@@ -1,9 +1,8 @@
 -- `declarer::check_lines` meets its contract.
-use mathlib.Core.Path.{◌≡◌, refl, ◌∙◌}
+use mathlib.Core.Path.{◌≡◌}
 use Prim.Native.Nat.{◌-◌, ◌≤◌}
-use native.Mathlib.Omega.{arith}
 use Rattle.symbols.specs.Rows.{held}
-use Rattle.declarer.proofs.FaultLaws.{lines_from, moved, lines-go, lines-stop, lines_end}
+use Rattle.declarer.proofs.FaultLaws.{lines_from}
 use Rattle.declarer.proofs.check_lines.Given as goal
 
 abbrev pub invariant-loop-i : goal.invariant-loop-i

@@ -1,5 +1,4 @@
 -- `declarer::clashes` meets its contract.
-use borrow.Author.Rules.{rules}
 use Rattle.declarations.specs.Decls.{clashes_in}
 use Rattle.declarer.proofs.clashes.Goals as goal
 

@@ -1,6 +1,5 @@
 -- `declarer::decl_fault` meets its contract.
 use Rattle.symbols.proofs.Indexing.{kept_less}
-use borrow.Author.Rules.{rules}
 use mathlib.Core.Path.{sym, ◌∙◌}
 use native.Mathlib.Omega.{arith}
 use Rattle.symbols.specs.Rows.{held, decl_at}

@@ -1,17 +1,13 @@
 -- `declarer::entries_fault` meets its contract.
-use borrow.Author.Rules.{rules}
 use mathlib.Core.List.{List}
-use mathlib.Core.Path.{◌≡◌, refl, ◌∙◌}
+use mathlib.Core.Path.{◌≡◌}
 use Prim.Native.Nat.{◌-◌, ◌≤◌}
-use native.Mathlib.Omega.{arith}
 use lib.ListN.{length, take}
 use Rattle.declarer.specs.Operators.{Passed, AllMarked}
 use Rattle.grammar.specs.Derived.{OperatorsIn}
 use Rattle.symbols.specs.Rows.{held}
 use Rattle.syntax.specs.Written.{Operator}
 use Rattle.words.specs.Words.{Word, words_at}
-use Rattle.declarer.proofs.MarkLaws.{marked-none}
-use Rattle.declarer.proofs.OperatorLaws.{apart-entry, passed_start, passed-moves, passed-stops, passed-ends, passed-goes, passed-marks}
 use Rattle.declarer.proofs.entries_fault.Given as goal
 
 abbrev pub invariant-loop-marks : goal.invariant-loop-marks

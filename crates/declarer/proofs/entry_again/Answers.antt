@@ -1,5 +1,4 @@
 -- `declarer::entry_again` meets its contract.
-use borrow.Author.Rules.{rules}
 use mathlib.Core.Path.{sym, ◌∙◌}
 use Rattle.symbols.specs.Rows.{decl_at, held}
 use Rattle.symbols.proofs.Searches.{class-at}

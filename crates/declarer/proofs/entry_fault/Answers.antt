@@ -1,5 +1,4 @@
 -- `declarer::entry_fault` meets its contract.
-use borrow.Author.Rules.{rules}
 use lib.ListN.{take}
 use Rattle.symbols.specs.Rows.{held}
 use Rattle.declarer.proofs.OperatorLaws.{entry-nowhere, entry-again, entry-token, entry-emits}

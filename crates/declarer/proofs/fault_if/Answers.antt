@@ -1,5 +1,4 @@
 -- `declarer::fault_if` meets its contract.
-use borrow.Author.Rules.{rules}
 use mathlib.Core.Path.{refl}
 use native.Mathlib.Omega.{arith}
 use Rattle.symbols.specs.Rows.{decl_at}

@@ -1,5 +1,4 @@
 -- `declarer::given_fault` meets its contract.
-use borrow.Author.Rules.{rules}
 use Rattle.symbols.specs.Rows.{decl_at}
 use Rattle.declarer.proofs.given_fault.Goals as goal
 

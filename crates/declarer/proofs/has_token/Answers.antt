@@ -1,5 +1,4 @@
 -- `declarer::has_token` meets its contract.
-use borrow.Author.Rules.{rules}
 use Rattle.declarer.proofs.OperatorLaws.{token-none, token-same}
 use Rattle.declarer.proofs.has_token.Goals as goal
 

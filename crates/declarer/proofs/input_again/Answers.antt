@@ -1,5 +1,4 @@
 -- `declarer::input_again` meets its contract.
-use borrow.Author.Rules.{rules}
 use mathlib.Core.Path.{refl}
 use Rattle.declarer.proofs.input_again.Goals as goal
 

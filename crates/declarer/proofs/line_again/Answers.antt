@@ -1,5 +1,4 @@
 -- `declarer::line_again` meets its contract.
-use borrow.Author.Rules.{rules}
 use mathlib.Core.Path.{refl}
 use Rattle.declarer.proofs.line_again.Goals as goal
 

@@ -1,6 +1,5 @@
 -- `declarer::line_fault` meets its contract.
 use Rattle.symbols.proofs.Indexing.{kept_less}
-use borrow.Author.Rules.{rules}
 use Rattle.symbols.specs.Rows.{held, decl_at}
 use Rattle.declarer.proofs.FaultLaws.{line-go, line-stop}
 use Rattle.declarer.proofs.line_fault.Goals as goal

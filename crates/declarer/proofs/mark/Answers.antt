@@ -1,5 +1,4 @@
 -- `declarer::mark` meets its contract.
-use borrow.Author.Rules.{rules}
 use Rattle.declarer.proofs.MarkLaws.{marks-side, mark-side, marks-both, mark-both}
 use Rattle.declarer.proofs.mark.Goals as goal
 

@@ -1,5 +1,4 @@
 -- `declarer::name_taken` meets its contract.
-use borrow.Author.Rules.{rules}
 use mathlib.Core.Path.{refl}
 use Rattle.symbols.specs.Rows.{decl_at}
 use Rattle.declarer.proofs.name_taken.Goals as goal

@@ -1,5 +1,4 @@
 -- `declarer::operation_again` meets its contract.
-use borrow.Author.Rules.{rules}
 use mathlib.Core.Path.{refl}
 use Rattle.declarer.proofs.operation_again.Goals as goal
 

@@ -1,6 +1,5 @@
 -- `declarer::operators_fault` meets its contract.
 use Rattle.symbols.proofs.Indexing.{kept_less}
-use borrow.Author.Rules.{rules}
 use native.Mathlib.Omega.{arith}
 use Rattle.symbols.specs.Rows.{held, decl_at}
 use Rattle.declarer.proofs.FaultLaws.{value_at}

@@ -1,5 +1,4 @@
 -- `declarer::optional_fault` meets its contract.
-use borrow.Author.Rules.{rules}
 use Rattle.symbols.specs.Rows.{held}
 use Rattle.declarer.proofs.FaultLaws.{optional-none, optional-good, optional-wrong}
 use Rattle.declarer.proofs.optional_fault.Goals as goal

@@ -1,5 +1,4 @@
 -- `declarer::other_side` meets its contract.
-use borrow.Author.Rules.{rules}
 use Rattle.declarer.proofs.OperatorLaws.{levels-apart, levels-same}
 use Rattle.declarer.proofs.other_side.Goals as goal
 

@@ -1,5 +1,4 @@
 -- `declarer::repeats` meets its contract.
-use borrow.Author.Rules.{rules}
 use mathlib.Core.Path.{refl}
 use Rattle.declarations.specs.Decls.{repeats_in}
 use Rattle.declarer.proofs.FaultLaws.{value_at}

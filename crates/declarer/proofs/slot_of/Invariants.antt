@@ -1,9 +1,7 @@
 -- `declarer::slot_of` meets its contract.
 use mathlib.Core.Path.{◌≡◌}
 use Prim.Native.Nat.{◌-◌, ◌≤◌}
-use native.Mathlib.Omega.{arith}
 use Rattle.declarer.specs.Operators.{slot_from}
-use Rattle.declarer.proofs.MarkLaws.{slot-start, slot-here, slot_next, slot-none}
 use Rattle.declarer.proofs.slot_of.Given as goal
 
 abbrev pub invariant-loop-i : goal.invariant-loop-i

@@ -1,5 +1,4 @@
 -- `declarer::string_known` meets its contract.
-use borrow.Author.Rules.{rules}
 use mathlib.Core.Path.{refl, sym, ◌∙◌}
 use borrow.Author.Tests.{ne_eqb, eq-eqb}
 use Rattle.names.specs.Declare.{spelled}

@@ -1,5 +1,4 @@
 -- `declarer::types_fault` meets its contract.
-use borrow.Author.Rules.{rules}
 use Rattle.symbols.specs.Rows.{held, decl_at, second_kind}
 use lib.ListN.{get_or}
 use Prim.Native.Nat.{◌*◌}

@@ -1,5 +1,4 @@
 -- `declarer::word_fault` meets its contract.
-use borrow.Author.Rules.{rules}
 use mathlib.Core.Path.{refl}
 use Rattle.declarer.proofs.word_fault.Goals as goal
 

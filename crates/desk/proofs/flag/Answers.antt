@@ -1,5 +1,5 @@
 -- `desk::flag` meets its contract.
-use mathlib.Core.Path.{◌≡◌, sym, ap}
+use mathlib.Core.Path.{sym, ap}
 use Rattle.desk.specs.Parted.{flag_of}
 use Rattle.desk.proofs.flag.Goals as goal
 

@@ -1,5 +1,4 @@
 -- `desk::sst_link` meets its contract: linking's, as numbers.
-use borrow.Author.Rules.{rules}
 use Rattle.desk.proofs.Joining.{joins}
 use Rattle.desk.proofs.sst_link.Goals as goal
 

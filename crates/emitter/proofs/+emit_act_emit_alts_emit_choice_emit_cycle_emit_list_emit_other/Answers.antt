@@ -1,6 +1,6 @@
 use mathlib.Core.Path.{refl, ap, sym, ◌∙◌}
 use native.Mathlib.Omega.{arith}
-use Prim.Native.Nat.{ℕ, ◌-◌}
+use Prim.Native.Nat.{ℕ}
 use mathlib.Core.List.{[], ◌∷◌}
 use Rattle.emitter.specs.Words.{puts}
 use Rattle.emitter.specs.Heads.{chooses, ins_of}
@@ -179,8 +179,11 @@ emit_choice-shape_of-out t c = c.patch-2.auto.out ∙ (c.emit_other-s.auto.out �
 
 -- src/lib.rt:618:1
 pub emit_choice-returns : goal.emit_choice-returns
-emit_choice-returns t c = let P = c.requires.0 in let D = c.emit_sel-a.ensures.item_done in let M = c.emit_alts-z.ensures.moved.0 in let O = c.emit_other-s.ensures.moved.0 in let a = c.args in record { act_done = choice-join a.cells.now a.p a.out.now _ _ _ _ _ _ _ _ a.at a.x a.slots.now _ _ _ c.emit_sel-a.result.p c.emit_sel-a.result.at c.ins_of-ins.result c.cell-2.result c.emit_alts-z.result c.emit_other-s.result.p c.emit_other-s.result.at c.emit_other-s.result.exit c.requires.2 c.emit_sel-a.auto.slots (c.emit_alts-z.auto.slots ∙ c.emit_sel-a.auto.slots)
-      c.emit_sel-a.ensures.item_done c.emit_sel-a.ensures.slots_after.0 (c.ins_of-ins.ensures ∙ ap ins_of c.cell.ensures) c.cell-2.ensures c.put_two.ensures c.emit_alts-z.ensures.alts_done c.patch.ensures c.put_one.ensures c.emit_table.ensures c.emit_other-s.ensures.other_done c.patch-2.ensures; passed = (record { on = omega (arith, D.on, M.on, O.on); inside = O.inside; few = omega (arith, D.after, D.few, D.on, M.few, M.on, O.few, O.on) }, c.emit_other-s.ensures.moved.1) }
+emit_choice-returns t c = let P = c.requires.0 in let D = c.emit_sel-a.ensures.item_done in let M = c.emit_alts-z.ensures.moved.0 in let O = c.emit_other-s.ensures.moved.0 in let a = c.args in record {
+  act_done = choice-join a.cells.now a.p a.out.now _ _ _ _ _ _ _ _ a.at a.x a.slots.now _ _ _ c.emit_sel-a.result.p c.emit_sel-a.result.at c.ins_of-ins.result c.cell-2.result c.emit_alts-z.result c.emit_other-s.result.p c.emit_other-s.result.at c.emit_other-s.result.exit c.requires.2 c.emit_sel-a.auto.slots (c.emit_alts-z.auto.slots ∙ c.emit_sel-a.auto.slots)
+      c.emit_sel-a.ensures.item_done c.emit_sel-a.ensures.slots_after.0 (c.ins_of-ins.ensures ∙ ap ins_of c.cell.ensures) c.cell-2.ensures c.put_two.ensures c.emit_alts-z.ensures.alts_done c.patch.ensures c.put_one.ensures c.emit_table.ensures c.emit_other-s.ensures.other_done c.patch-2.ensures;
+  passed = (record { on = omega (arith, D.on, M.on, O.on); inside = O.inside; few = omega (arith, D.after, D.few, D.on, M.few, M.on, O.few, O.on) }, c.emit_other-s.ensures.moved.1);
+}
 
 -- src/lib.rt:540:37
 pub emit_cycle-overflow_add-p : goal.emit_cycle-overflow_add-p

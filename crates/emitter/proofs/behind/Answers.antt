@@ -1,9 +1,8 @@
-use mathlib.Core.Path.{◌≡◌, ap, sym}
+use mathlib.Core.Path.{ap, sym}
 use mathlib.Core.Bool.{Bool, cond}
-use Prim.Native.Nat.{ℕ, ◌+◌, ◌-◌, ◌<◌}
+use Prim.Native.Nat.{◌+◌}
 use borrow.Author.Tests.{eq-eqb, ne_eqb}
 use Rattle.emitter.specs.Heads.{behind}
-use borrow.Author.Rules.{rules}
 use Rattle.emitter.proofs.behind.Goals as goal
 
 -- src/lib.rt:384:1

@@ -1,8 +1,6 @@
-use mathlib.Core.Path.{◌≡◌, sym, ◌∙◌}
+use mathlib.Core.Path.{sym, ◌∙◌}
 use Rattle.emitter.proofs.Laws.{by_call, not-by-call, called-open, called-placed}
 use native.Mathlib.Omega.{arith}
-use Prim.Native.Nat.{ℕ, ◌+◌, ◌-◌, ◌<◌}
-use borrow.Author.Rules.{rules}
 use Rattle.emitter.proofs.call_at.Goals as goal
 
 -- src/lib.rt:121:1

@@ -1,13 +1,11 @@
 -- `emitter::emit` meets its contract: a refusal by its size, else by `accepted-part`.
-use mathlib.Core.Path.{◌≡◌, refl, ap, sym, ◌∙◌}
+use mathlib.Core.Path.{refl, ap, sym, ◌∙◌}
 use native.Mathlib.Omega.{arith}
-use Prim.Native.Nat.{ℕ, ◌+◌, ◌*◌, ◌-◌, ◌<◌}
-use lib.ListN.{length}
+use Prim.Native.Nat.{ℕ, ◌*◌}
 use lib.Seq.{length-take-le}
 use mathlib.Core.Logic.{inl, inr}
 use Rattle.emitter.specs.Emitted.{Emits}
 use Rattle.emitter.proofs.Rules.{refused-part, accepted-part, size_of}
-use borrow.Author.Rules.{rules}
 use Rattle.emitter.proofs.emit.Goals as goal
 
 pub returns-then-cells-gt-WORD_VALUES : goal.returns-then-cells-gt-WORD_VALUES

@@ -1,10 +1,7 @@
-use mathlib.Core.Path.{◌≡◌, refl, sym, ◌∙◌}
+use mathlib.Core.Path.{refl, sym, ◌∙◌}
 use native.Mathlib.Omega.{arith}
-use Prim.Native.Nat.{ℕ, ◌+◌, ◌-◌, ◌<◌}
-use lib.ListN.{length}
 use Rattle.emitter.specs.Words.{cut}
 use Rattle.emitter.proofs.Choices.{token-done, end-done}
-use borrow.Author.Rules.{rules}
 use Rattle.emitter.proofs.emit_absent.Goals as goal
 
 -- src/lib.rt:454:9

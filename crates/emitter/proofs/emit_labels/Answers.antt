@@ -1,11 +1,9 @@
-use borrow.Author.Rules.{rules}
-use Prim.Native.Nat.{ℕ, ◌+◌, ◌*◌, ◌-◌, ◌<◌}
-use mathlib.Core.Path.{◌≡◌, refl, ap, ◌∙◌}
+use Prim.Native.Nat.{ℕ, ◌+◌, ◌-◌}
+use mathlib.Core.Path.{refl, ap, ◌∙◌}
 use mathlib.Core.List.{◌∷◌, []}
 use native.Mathlib.Omega.{arith}
-use lib.ListN.{length}
 use Rattle.emitter.specs.Words.{puts, cut}
-use Rattle.emitter.proofs.Labels.{LabelsGo, labels-none, labels-more, labels-end}
+use Rattle.emitter.proofs.Labels.{labels-none, labels-more, labels-end}
 use Rattle.emitter.proofs.emit_labels.Goals as goal
 
 -- src/lib.rt:333:5

@@ -1,11 +1,7 @@
-use borrow.Author.Rules.{rules}
-use Prim.Native.Nat.{ℕ, ◌+◌, ◌*◌, ◌-◌, ◌<◌}
-use mathlib.Core.Path.{◌≡◌, refl, ap, ◌∙◌}
-use mathlib.Core.List.{◌∷◌, []}
-use native.Mathlib.Omega.{arith}
+use Prim.Native.Nat.{◌+◌, ◌*◌}
+use mathlib.Core.Path.{◌≡◌}
 use lib.ListN.{length}
-use Rattle.emitter.specs.Words.{puts, cut}
-use Rattle.emitter.proofs.Labels.{LabelsGo, labels-none, labels-more, labels-end}
+use Rattle.emitter.proofs.Labels.{LabelsGo}
 use Rattle.emitter.proofs.emit_labels.Given as goal
 
 abbrev pub invariant-loop-left : goal.invariant-loop-left

@@ -1,9 +1,5 @@
-use mathlib.Core.Path.{◌≡◌}
 use native.Mathlib.Omega.{arith}
-use Prim.Native.Nat.{ℕ, ◌+◌, ◌-◌, ◌<◌}
-use lib.ListN.{length}
 use Rattle.emitter.proofs.Rules.{rule-return, rule-none}
-use borrow.Author.Rules.{rules}
 use Rattle.emitter.proofs.emit_rule.Goals as goal
 
 -- src/lib.rt:700:9

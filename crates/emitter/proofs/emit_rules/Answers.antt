@@ -1,9 +1,6 @@
-use borrow.Author.Rules.{rules}
-use mathlib.Core.Path.{◌≡◌, refl, ◌∙◌}
+use mathlib.Core.Path.{refl, ◌∙◌}
 use native.Mathlib.Omega.{arith}
-use Prim.Native.Nat.{ℕ, ◌+◌, ◌*◌, ◌-◌, ◌≤◌, ◌<◌}
-use lib.ListN.{length}
-use Rattle.emitter.proofs.Rules.{RulesGo, rules-start, rules-go, rules-end}
+use Rattle.emitter.proofs.Rules.{rules-start, rules-go, rules-end}
 use Rattle.emitter.proofs.emit_rules.Goals as goal
 
 -- src/lib.rt:732:5

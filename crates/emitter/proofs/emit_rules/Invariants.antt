@@ -1,9 +1,7 @@
-use borrow.Author.Rules.{rules}
-use mathlib.Core.Path.{◌≡◌, refl, ◌∙◌}
-use native.Mathlib.Omega.{arith}
-use Prim.Native.Nat.{ℕ, ◌+◌, ◌*◌, ◌-◌, ◌≤◌, ◌<◌}
+use mathlib.Core.Path.{◌≡◌}
+use Prim.Native.Nat.{◌+◌, ◌*◌, ◌-◌, ◌≤◌}
 use lib.ListN.{length}
-use Rattle.emitter.proofs.Rules.{RulesGo, rules-start, rules-go, rules-end}
+use Rattle.emitter.proofs.Rules.{RulesGo}
 use Rattle.emitter.proofs.emit_rules.Given as goal
 
 abbrev pub invariant-loop-r : goal.invariant-loop-r

@@ -1,12 +1,11 @@
 use mathlib.Core.Path.{◌≡◌, refl, ap, ◌∙◌}
 use native.Mathlib.Omega.{arith}
-use Prim.Native.Nat.{ℕ, ◌+◌, ◌-◌, ◌<◌}
-use lib.ListN.{length, get_or}
+use Prim.Native.Nat.{ℕ, ◌+◌}
+use lib.ListN.{get_or}
 use Rattle.emitter.specs.Words.{puts}
 use Rattle.emitter.specs.declared.Item.{Item}
 use Rattle.emitter.specs.Heads.{sel_at, words_in, start_of, called_by, called_at}
 use Rattle.emitter.proofs.Laws.{few-sel}
-use borrow.Author.Rules.{rules}
 use Rattle.emitter.proofs.emit_sel.Goals as goal
 
 -- src/lib.rt:360:18

@@ -1,9 +1,6 @@
-use borrow.Author.Rules.{rules}
-use mathlib.Core.Path.{◌≡◌, refl, ◌∙◌}
+use mathlib.Core.Path.{refl, ◌∙◌}
 use native.Mathlib.Omega.{arith}
-use Prim.Native.Nat.{ℕ, ◌+◌, ◌-◌, ◌≤◌, ◌<◌}
-use lib.ListN.{length}
-use Rattle.emitter.proofs.Tables.{TableGo, table_none, table_more, table-end}
+use Rattle.emitter.proofs.Tables.{table_none, table_more, table-end}
 use Rattle.emitter.proofs.emit_table.Goals as goal
 
 -- src/lib.rt:405:5

@@ -1,9 +1,7 @@
-use borrow.Author.Rules.{rules}
-use mathlib.Core.Path.{◌≡◌, refl, ◌∙◌}
-use native.Mathlib.Omega.{arith}
-use Prim.Native.Nat.{ℕ, ◌+◌, ◌-◌, ◌≤◌, ◌<◌}
+use mathlib.Core.Path.{◌≡◌}
+use Prim.Native.Nat.{◌≤◌}
 use lib.ListN.{length}
-use Rattle.emitter.proofs.Tables.{TableGo, table_none, table_more, table-end}
+use Rattle.emitter.proofs.Tables.{TableGo}
 use Rattle.emitter.proofs.emit_table.Given as goal
 
 abbrev pub invariant-loop-j : goal.invariant-loop-j

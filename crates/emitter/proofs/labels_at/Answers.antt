@@ -1,10 +1,8 @@
-use Prim.Native.Nat.{ℕ, ◌+◌, ◌<◌}
 use mathlib.Core.Path.{◌≡◌, sym, ap, ◌∙◌}
 use native.Mathlib.Omega.{arith}
-use lib.ListN.{length, get_or}
+use lib.ListN.{get_or}
 use Rattle.emitter.specs.Heads.{labels_in}
 use Rattle.emitter.proofs.Laws.{at_in, at_out}
-use borrow.Author.Rules.{rules}
 use Rattle.emitter.proofs.labels_at.Goals as goal
 
 -- src/lib.rt:264:1

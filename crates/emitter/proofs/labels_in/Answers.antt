@@ -1,9 +1,6 @@
-use Prim.Native.Nat.{ℕ, ◌-◌}
-use mathlib.Core.Path.{◌≡◌}
 use native.Mathlib.Omega.{arith}
 use borrow.Author.Tests.{lt-ltb, le-ltb}
 use Rattle.emitter.specs.Heads.{labels_in}
-use borrow.Author.Rules.{rules}
 use Rattle.emitter.proofs.labels_in.Goals as goal
 
 -- src/lib.rt:210:9

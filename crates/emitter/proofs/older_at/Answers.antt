@@ -1,8 +1,6 @@
-use mathlib.Core.Path.{◌≡◌, sym, ◌∙◌}
+use mathlib.Core.Path.{sym, ◌∙◌}
 use native.Mathlib.Omega.{arith}
-use Prim.Native.Nat.{ℕ, ◌+◌, ◌-◌, ◌<◌}
 use Rattle.emitter.proofs.Patches.{link-is, link-none}
-use borrow.Author.Rules.{rules}
 use Rattle.emitter.proofs.older_at.Goals as goal
 
 -- src/lib.rt:129:1

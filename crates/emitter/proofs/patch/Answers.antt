@@ -1,11 +1,8 @@
-use borrow.Author.Rules.{rules}
-use mathlib.Core.Path.{◌≡◌, refl, ap, ◌∙◌}
+use mathlib.Core.Path.{refl, ap, ◌∙◌}
 use native.Mathlib.Omega.{arith}
-use Prim.Native.Nat.{ℕ, ◌+◌, ◌-◌, ◌≤◌, ◌<◌}
-use lib.ListN.{length}
+use Prim.Native.Nat.{ℕ, ◌-◌}
 use Rattle.emitter.specs.Words.{set_word, cut}
-use Rattle.emitter.proofs.Patches.{PatchGo, patch-none, patch-more, patch-end}
-use Rattle.emitter.specs.Heads.{anchor}
+use Rattle.emitter.proofs.Patches.{patch-none, patch-more, patch-end}
 use Rattle.emitter.proofs.patch.Goals as goal
 
 -- src/lib.rt:152:5

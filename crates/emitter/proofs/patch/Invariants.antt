@@ -1,11 +1,7 @@
-use borrow.Author.Rules.{rules}
-use mathlib.Core.Path.{◌≡◌, refl, ap, ◌∙◌}
-use native.Mathlib.Omega.{arith}
-use Prim.Native.Nat.{ℕ, ◌+◌, ◌-◌, ◌≤◌, ◌<◌}
+use mathlib.Core.Path.{◌≡◌}
+use Prim.Native.Nat.{◌≤◌}
 use lib.ListN.{length}
-use Rattle.emitter.specs.Words.{set_word, cut}
-use Rattle.emitter.proofs.Patches.{PatchGo, patch-none, patch-more, patch-end}
-use Rattle.emitter.specs.Heads.{anchor}
+use Rattle.emitter.proofs.Patches.{PatchGo}
 use Rattle.emitter.proofs.patch.Given as goal
 
 abbrev pub invariant-loop-j : goal.invariant-loop-j

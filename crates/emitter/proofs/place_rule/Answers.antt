@@ -1,7 +1,4 @@
-use mathlib.Core.Path.{◌≡◌}
-use Prim.Native.Nat.{ℕ, ◌+◌, ◌-◌, ◌<◌}
 use Rattle.emitter.proofs.Rules.{place-done}
-use borrow.Author.Rules.{rules}
 use Rattle.emitter.proofs.place_rule.Goals as goal
 
 -- src/lib.rt:710:1

@@ -1,5 +1,4 @@
 use Rattle.emitter.specs.Words.{puts}
-use borrow.Author.Rules.{rules}
 use Rattle.emitter.proofs.put_one.Goals as goal
 
 -- src/lib.rt:31:1

@@ -2,7 +2,6 @@ use mathlib.Core.Path.{ap, sym, ◌∙◌}
 use mathlib.Core.List.{List}
 use Rattle.emitter.specs.Words.{puts}
 use Rattle.emitter.proofs.Laws.{firsts-zero, firsts-one, firsts-two, firsts-three}
-use borrow.Author.Rules.{rules}
 use Rattle.emitter.proofs.put_some.Goals as goal
 
 -- src/lib.rt:142:9

@@ -1,4 +1,3 @@
-use borrow.Author.Rules.{rules}
 use Rattle.emitter.proofs.put_span.Goals as goal
 
 -- src/lib.rt:63:1

@@ -1,8 +1,7 @@
-use mathlib.Core.Path.{◌≡◌, sym}
+use mathlib.Core.Path.{sym}
 use native.Mathlib.Omega.{arith}
 use lib.ListN.{length-set}
 use Rattle.emitter.proofs.Laws.{set-in, set_out}
-use borrow.Author.Rules.{rules}
 use Rattle.emitter.proofs.put_word.Goals as goal
 
 -- src/lib.rt:20:9

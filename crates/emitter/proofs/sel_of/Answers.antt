@@ -1,6 +1,5 @@
 use borrow.Author.Tests.{lt-ltb, le-ltb, eq-eqb, ne_eqb}
 use mathlib.Core.Path.{◌∙◌}
-use borrow.Author.Rules.{rules}
 use Rattle.emitter.specs.Heads.{sel_of}
 use Rattle.emitter.proofs.sel_of.Goals as goal
 

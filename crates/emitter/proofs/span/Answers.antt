@@ -1,8 +1,7 @@
-use Prim.Native.Nat.{ℕ, ◌-◌}
+use Prim.Native.Nat.{◌-◌}
 use mathlib.Core.Path.{◌≡◌, sym, ap}
 use native.Mathlib.Omega.{arith}
 use Rattle.emitter.specs.Words.{cut}
-use borrow.Author.Rules.{rules}
 use Rattle.emitter.proofs.span.Goals as goal
 
 -- src/lib.rt:56:1

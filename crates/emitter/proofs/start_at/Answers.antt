@@ -1,7 +1,6 @@
-use mathlib.Core.Path.{◌≡◌, ap, ◌∙◌}
+use mathlib.Core.Path.{ap, ◌∙◌}
 use Rattle.emitter.specs.Words.{cut}
 use Rattle.emitter.specs.Heads.{start_of}
-use borrow.Author.Rules.{rules}
 use Rattle.emitter.proofs.start_at.Goals as goal
 
 -- src/lib.rt:113:1

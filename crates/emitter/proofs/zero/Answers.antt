@@ -1,4 +1,3 @@
-use borrow.Author.Rules.{rules}
 use Rattle.emitter.proofs.Rules.{zeros}
 use Rattle.emitter.specs.Emitted.{zeroed_bytes}
 use Rattle.machine.specs.Bytes.{count}

@@ -1,9 +1,6 @@
 -- `filter::first_crossed` meets its contract.
-use mathlib.Core.Path.{◌≡◌, refl}
-use Prim.Native.Nat.{◌-◌, ◌≤◌, ◌+◌}
+use mathlib.Core.Path.{refl}
 use native.Mathlib.Omega.{arith}
-use lib.ListN.{drop}
-use Rattle.filtering.specs.Filter.{entries, crossed}
 use Rattle.filter.proofs.Laws.{crossed-on, crossed-here, crossed-end}
 use Rattle.filter.proofs.first_crossed.Goals as goal
 

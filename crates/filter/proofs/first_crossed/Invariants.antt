@@ -1,10 +1,8 @@
 -- `filter::first_crossed` meets its contract.
-use mathlib.Core.Path.{◌≡◌, refl}
-use Prim.Native.Nat.{◌-◌, ◌≤◌, ◌+◌}
-use native.Mathlib.Omega.{arith}
+use mathlib.Core.Path.{◌≡◌}
+use Prim.Native.Nat.{◌-◌, ◌≤◌}
 use lib.ListN.{drop}
 use Rattle.filtering.specs.Filter.{entries, crossed}
-use Rattle.filter.proofs.Laws.{crossed-on, crossed-here, crossed-end}
 use Rattle.filter.proofs.first_crossed.Given as goal
 
 abbrev pub invariant-loop-i : goal.invariant-loop-i

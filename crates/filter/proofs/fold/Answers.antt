@@ -1,11 +1,10 @@
 -- `filter::fold` meets its contract: the checks in their order, then the tokens.
-use mathlib.Core.Path.{◌≡◌, refl}
+use mathlib.Core.Path.{refl}
 use native.Mathlib.Omega.{arith}
 use Rattle.base.proofs.Laws.{zeros-at}
 use Rattle.filter.proofs.Counting.{tally-start}
 use Rattle.filter.proofs.Writes.{told, too_many, at-crossed, at-doubled, at-missing, too_short, all-written}
 use Rattle.machine.specs.Bytes.{count}
-use borrow.Author.Rules.{rules}
 use Rattle.filter.proofs.fold.Goals as goal
 
 pub returns-then-n-gt-MOST_ENTRIES : goal.returns-then-n-gt-MOST_ENTRIES

@@ -1,11 +1,10 @@
 -- `filter::lowest_doubled` meets its contract: the bytes below b do not pass the test.
-use mathlib.Core.Path.{◌≡◌, refl}
-use Prim.Native.Nat.{ℕ, ◌-◌, ◌≤◌, ◌+◌}
+use mathlib.Core.Path.{refl}
+use Prim.Native.Nat.{ℕ}
 use native.Mathlib.Omega.{arith}
 use borrow.Author.Tests.{le-leb, lt-leb}
 use lib.Dec.{leb}
 use lib.ListN.{get_or}
-use Rattle.filtering.specs.Filter.{lowest}
 use Rattle.filter.specs.Working.{lowest_doubled}
 use Rattle.filter.proofs.Laws.{low-on, low-here, low_end}
 use Rattle.filter.proofs.lowest_doubled.Goals as goal

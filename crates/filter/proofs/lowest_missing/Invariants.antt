@@ -1,13 +1,9 @@
 -- `filter::lowest_missing` meets its contract: the bytes below b do not pass the test.
-use mathlib.Core.Path.{◌≡◌, refl}
-use Prim.Native.Nat.{ℕ, ◌-◌, ◌≤◌, ◌+◌}
-use native.Mathlib.Omega.{arith}
-use borrow.Author.Tests.{eq-eqb, ne_eqb}
+use mathlib.Core.Path.{◌≡◌}
+use Prim.Native.Nat.{ℕ, ◌-◌, ◌≤◌}
 use lib.Dec.{eqb}
 use lib.ListN.{get_or}
 use Rattle.filtering.specs.Filter.{lowest}
-use Rattle.filter.specs.Working.{lowest_missing}
-use Rattle.filter.proofs.Laws.{low-on, low-here, low_end}
 use Rattle.filter.proofs.lowest_missing.Given as goal
 
 abbrev pub invariant-loop-b : goal.invariant-loop-b

@@ -1,9 +1,9 @@
 -- `filter::put_fours` meets its contract: the first k tokens stand in the buffer.
-use mathlib.Core.Path.{◌≡◌, refl, ap, ◌∙◌}
-use Prim.Native.Nat.{◌+◌, ◌-◌, ◌≤◌}
+use mathlib.Core.Path.{refl, ap, ◌∙◌}
+use Prim.Native.Nat.{◌+◌}
 use native.Mathlib.Omega.{arith}
 use lib.ListN.{length}
-use Rattle.filter.specs.Working.{map_tokens, put_words}
+use Rattle.filter.specs.Working.{map_tokens}
 use Rattle.filter.proofs.Writes.{length-words, words-none, words-next}
 use Rattle.filter.proofs.put_fours.Goals as goal
 

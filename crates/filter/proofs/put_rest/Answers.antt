@@ -1,9 +1,9 @@
 -- `filter::put_rest` meets its contract: the tokens up to i stand in the buffer.
-use mathlib.Core.Path.{◌≡◌, ap, ◌∙◌}
-use Prim.Native.Nat.{◌+◌, ◌-◌, ◌≤◌}
+use mathlib.Core.Path.{ap, ◌∙◌}
+use Prim.Native.Nat.{◌+◌, ◌-◌}
 use native.Mathlib.Omega.{arith}
 use lib.ListN.{length}
-use Rattle.filter.specs.Working.{map_tokens, put_words}
+use Rattle.filter.specs.Working.{map_tokens}
 use Rattle.filter.proofs.Writes.{length-words, words-none, words-next, words_last}
 use Rattle.filter.proofs.put_rest.Goals as goal
 

@@ -1,10 +1,8 @@
 -- `filter::put_rest` meets its contract: the tokens up to i stand in the buffer.
-use mathlib.Core.Path.{◌≡◌, ap, ◌∙◌}
-use Prim.Native.Nat.{◌+◌, ◌-◌, ◌≤◌}
-use native.Mathlib.Omega.{arith}
+use mathlib.Core.Path.{◌≡◌}
+use Prim.Native.Nat.{◌-◌, ◌≤◌}
 use lib.ListN.{length}
 use Rattle.filter.specs.Working.{map_tokens, put_words}
-use Rattle.filter.proofs.Writes.{length-words, words-none, words-next, words_last}
 use Rattle.filter.proofs.put_rest.Given as goal
 
 abbrev pub invariant-loop-i : goal.invariant-loop-i

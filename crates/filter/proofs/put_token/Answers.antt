@@ -1,6 +1,5 @@
 -- `filter::put_token` meets its contract.
 use Rattle.filter.proofs.Writes.{words-one}
-use borrow.Author.Rules.{rules}
 use Rattle.filter.proofs.put_token.Goals as goal
 
 pub returns : goal.returns

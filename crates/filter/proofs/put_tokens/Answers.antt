@@ -4,8 +4,6 @@ use native.Mathlib.Omega.{arith}
 use Rattle.filter.specs.Working.{map_tokens}
 use Rattle.filter.proofs.Writes.{words-next, words-all, tokens-length, tokens-fit}
 use lib.ListN.{length}
-use Prim.Native.Nat.{◌-◌}
-use borrow.Author.Rules.{rules}
 use Rattle.filter.proofs.put_tokens.Goals as goal
 
 pub returns : goal.returns

@@ -2,7 +2,6 @@
 use mathlib.Core.Path.{refl}
 use Rattle.filter.specs.Working.{map_tokens}
 use Rattle.filter.proofs.Writes.{words-next}
-use borrow.Author.Rules.{rules}
 use Rattle.filter.proofs.put_two.Goals as goal
 
 pub returns : goal.returns

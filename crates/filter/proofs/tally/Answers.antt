@@ -1,8 +1,6 @@
 -- `filter::tally` meets its contract: entry after entry.
-use mathlib.Core.Path.{◌≡◌, sym, ◌∙◌}
-use Prim.Native.Nat.{◌-◌, ◌≤◌}
+use mathlib.Core.Path.{sym, ◌∙◌}
 use native.Mathlib.Omega.{arith}
-use Rattle.filter.specs.Working.{Tallied}
 use Rattle.filter.proofs.Counting.{tally-end}
 use Rattle.filter.proofs.tally.Goals as goal
 

@@ -1,9 +1,6 @@
 -- `filter::tally` meets its contract: entry after entry.
-use mathlib.Core.Path.{◌≡◌, sym, ◌∙◌}
 use Prim.Native.Nat.{◌-◌, ◌≤◌}
-use native.Mathlib.Omega.{arith}
 use Rattle.filter.specs.Working.{Tallied}
-use Rattle.filter.proofs.Counting.{tally-end}
 use Rattle.filter.proofs.tally.Given as goal
 
 abbrev pub invariant-loop-i : goal.invariant-loop-i

@@ -1,5 +1,4 @@
 -- `filter::tally_byte` meets its contract.
-use borrow.Author.Rules.{rules}
 use Rattle.filter.proofs.Counting.{counts-later, counts-first}
 use Rattle.filter.proofs.tally_byte.Goals as goal
 

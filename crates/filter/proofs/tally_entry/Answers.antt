@@ -1,9 +1,7 @@
 -- `filter::tally_entry` meets its contract: the bytes below b are counted with this entry, the others not yet.
-use mathlib.Core.Path.{◌≡◌, sym, ◌∙◌}
-use Prim.Native.Nat.{◌+◌, ◌-◌, ◌*◌, ◌≤◌, ◌<◌}
+use mathlib.Core.Path.{sym, ◌∙◌}
 use native.Mathlib.Omega.{arith}
-use lib.ListN.{get_or}
-use Rattle.filter.proofs.Counting.{Partly, partly-start, partly-next, partly-end}
+use Rattle.filter.proofs.Counting.{partly-start, partly-next, partly-end}
 use Rattle.filter.proofs.tally_entry.Goals as goal
 
 pub turned_token-token-requires : goal.turned_token-token-requires

@@ -1,9 +1,7 @@
 -- `filter::tally_entry` meets its contract: the bytes below b are counted with this entry, the others not yet.
-use mathlib.Core.Path.{◌≡◌, sym, ◌∙◌}
-use Prim.Native.Nat.{◌+◌, ◌-◌, ◌*◌, ◌≤◌, ◌<◌}
-use native.Mathlib.Omega.{arith}
+use Prim.Native.Nat.{◌+◌, ◌-◌, ◌*◌, ◌≤◌}
 use lib.ListN.{get_or}
-use Rattle.filter.proofs.Counting.{Partly, partly-start, partly-next, partly-end}
+use Rattle.filter.proofs.Counting.{Partly}
 use Rattle.filter.proofs.tally_entry.Given as goal
 
 abbrev pub invariant-loop-b : goal.invariant-loop-b

@@ -1,5 +1,4 @@
 -- `filter::turned_token` meets its contract.
-use borrow.Author.Rules.{rules}
 use Rattle.filter.proofs.Writes.{turned-is}
 use Rattle.filter.proofs.turned_token.Goals as goal
 

@@ -1,5 +1,5 @@
 -- `firmware::flag` meets its contract.
-use mathlib.Core.Path.{◌≡◌, sym, ap}
+use mathlib.Core.Path.{sym, ap}
 use Rattle.firmware.specs.Processing.{flag_of}
 use Rattle.firmware.proofs.flag.Goals as goal
 

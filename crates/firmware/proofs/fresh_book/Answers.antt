@@ -2,7 +2,6 @@
 use mathlib.Core.Path.{sym, ap, ◌∙◌}
 use native.Mathlib.Omega.{arith}
 use lib.Seq.{length-take-le}
-use borrow.Author.Rules.{rules}
 use Rattle.machine.specs.Form.{walk_bytes}
 use Rattle.firmware.proofs.Screens.{book-put}
 use Rattle.firmware.proofs.fresh_book.Goals as goal

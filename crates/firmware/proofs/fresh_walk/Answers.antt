@@ -1,7 +1,6 @@
 -- `firmware::fresh_walk` meets its contract: both sides compute, but for the allowance.
 use mathlib.Core.Path.{ap}
 use native.Mathlib.Omega.{arith}
-use borrow.Author.Rules.{rules}
 use Rattle.machine.specs.Walk.{fresh, opened as walk-opened}
 use Rattle.walker.specs.View.{opened as view-opened}
 use Rattle.firmware.proofs.fresh_walk.Goals as goal

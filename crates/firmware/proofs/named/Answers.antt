@@ -1,5 +1,4 @@
 -- `firmware::named` meets its contract: part by part.
-use borrow.Author.Rules.{rules}
 use Rattle.machine.specs.Bytes.{words_of}
 use Rattle.machine.proofs.Words.{small-words}
 use Rattle.firmware.proofs.Walks.{named-is}

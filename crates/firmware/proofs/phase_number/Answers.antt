@@ -1,6 +1,5 @@
 -- `firmware::phase_number` meets its contract: by the phases.
 use mathlib.Core.Path.{sym, ap}
-use borrow.Author.Rules.{rules}
 use Rattle.walker.specs.View as view
 use Rattle.walker.specs.declared.Phase.{Phase}
 use Rattle.firmware.specs.Entries.{phase_in}

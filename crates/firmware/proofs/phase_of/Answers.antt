@@ -1,6 +1,5 @@
 -- `firmware::phase_of` meets its contract: by the numbers.
 use mathlib.Core.Path.{ap}
-use borrow.Author.Rules.{rules}
 use borrow.Author.Tests.{ne_eqb}
 use Rattle.machine.specs.Form as form
 use Rattle.machine.specs.Walk as machine

@@ -2,7 +2,6 @@
 use mathlib.Core.List.{List}
 use mathlib.Core.Path.{sym, ap, ◌∙◌}
 use Prim.Native.Nat.{ℕ}
-use borrow.Author.Rules.{rules}
 use Rattle.machine.specs.Form.{phase_words}
 use Rattle.walker.proofs.Link.{number-reason}
 use Rattle.walker.specs.View.{phase_of}

@@ -2,7 +2,6 @@
 use mathlib.Core.List.{[], ◌∷◌, ◌++◌}
 use mathlib.Core.Path.{refl, ap, ◌∙◌}
 use Prim.Native.Nat.{◌%◌, min}
-use borrow.Author.Rules.{rules}
 use Rattle.machine.specs.Form as form
 use Rattle.firmware.specs.Writes.{puts, register_words}
 use Rattle.firmware.proofs.Laws.{puts_one, puts-64, puts_then}

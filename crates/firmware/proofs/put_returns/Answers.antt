@@ -1,14 +1,13 @@
 -- `firmware::put_returns` meets its contract: after i turns the first i words of the return locations are written, the held ones first.
-use mathlib.Core.List.{List, [], ◌∷◌, reverse}
+use mathlib.Core.List.{List, [], ◌∷◌}
 use mathlib.Core.Path.{◌≡◌, refl, sym, ap, ◌∙◌}
-use Prim.Native.Nat.{ℕ, ◌+◌, ◌-◌, ◌≤◌, min}
+use Prim.Native.Nat.{ℕ, ◌+◌, ◌≤◌}
 use native.Mathlib.Numerals.{add-one}
 use native.Mathlib.Omega.{arith}
 use lib.ListN.{length, take, get_or}
 use lib.Seq.{length-take-le, take-suc, take_all}
 use borrow.Author.Rules.{rules}
 use Rattle.machine.specs.Bytes.{bytes_of}
-use Rattle.machine.specs.Form as form
 use Rattle.firmware.specs.Writes.{puts}
 use Rattle.firmware.proofs.Laws.{puts_one, puts_then, length-puts, length-return-words, return_held, return-free}
 use Rattle.firmware.proofs.put_returns.Invariants.{words}

@@ -2,7 +2,6 @@
 use mathlib.Core.List.{[], ◌∷◌}
 use mathlib.Core.Path.{refl, ◌∙◌}
 use Prim.Native.Nat.{◌+◌}
-use borrow.Author.Rules.{rules}
 use Rattle.firmware.proofs.Laws.{puts_one, puts_then}
 use Rattle.firmware.proofs.put_two.Goals as goal
 

@@ -1,6 +1,5 @@
 -- `firmware::reason_or_none` meets its contract: by the phases.
 use mathlib.Core.Path.{sym, ap, ◌∙◌}
-use borrow.Author.Rules.{rules}
 use Rattle.walker.proofs.Link.{number-reason}
 use Rattle.walker.specs.View as view
 use Rattle.walker.specs.declared.Phase.{Phase}

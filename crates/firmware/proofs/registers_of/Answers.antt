@@ -1,5 +1,4 @@
 -- `firmware::registers_of` meets its contract: field by field.
-use borrow.Author.Rules.{rules}
 use Rattle.firmware.specs.Writes.{registers_in}
 use Rattle.firmware.proofs.registers_of.Goals as goal
 

@@ -1,9 +1,9 @@
 -- `firmware::returns_of` meets its contract: after i turns the first i elements are the words from 15 on.
 use mathlib.Core.Path.{◌≡◌, refl, sym, ◌∙◌}
-use Prim.Native.Nat.{◌+◌, ◌-◌, ◌≤◌}
+use Prim.Native.Nat.{◌+◌}
 use native.Mathlib.Numerals.{add-one}
 use native.Mathlib.Omega.{arith}
-use lib.ListN.{length, take, drop, length-set, length-drop, set}
+use lib.ListN.{take, drop, length-set, length-drop, set}
 use lib.Seq.{take-suc-set, take-suc, get_or-drop, take_all}
 use borrow.Author.Rules.{rules}
 use Rattle.machine.proofs.Bytes.{length-words_of}

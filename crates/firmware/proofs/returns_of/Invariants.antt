@@ -1,13 +1,8 @@
 -- `firmware::returns_of` meets its contract: after i turns the first i elements are the words from 15 on.
-use mathlib.Core.Path.{◌≡◌, refl, sym, ◌∙◌}
-use Prim.Native.Nat.{◌+◌, ◌-◌, ◌≤◌}
-use native.Mathlib.Numerals.{add-one}
-use native.Mathlib.Omega.{arith}
-use lib.ListN.{length, take, drop, length-set, length-drop, set}
-use lib.Seq.{take-suc-set, take-suc, get_or-drop, take_all}
-use borrow.Author.Rules.{rules}
-use Rattle.machine.proofs.Bytes.{length-words_of}
-use Rattle.machine.specs.Bytes.{count, words_of}
+use mathlib.Core.Path.{◌≡◌}
+use Prim.Native.Nat.{◌-◌, ◌≤◌}
+use lib.ListN.{length, take, drop}
+use Rattle.machine.specs.Bytes.{words_of}
 use Rattle.firmware.proofs.returns_of.Given as goal
 
 abbrev pub invariant-loop-i : goal.invariant-loop-i

@@ -1,5 +1,4 @@
 -- `firmware::sst_admit` meets its contract: that of crate admission, as numbers.
-use borrow.Author.Rules.{rules}
 use Rattle.firmware.proofs.sst_admit.Goals as goal
 
 pub returns : goal.returns

@@ -1,5 +1,4 @@
 -- `firmware::sst_filter` meets its contract: the filter's, as numbers.
-use borrow.Author.Rules.{rules}
 use Rattle.firmware.proofs.sst_filter.Goals as goal
 
 pub returns : goal.returns

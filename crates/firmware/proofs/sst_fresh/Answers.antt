@@ -1,7 +1,6 @@
 -- `firmware::sst_fresh` meets its contract: by the length.
 use mathlib.Core.Path.{ap, ◌∙◌}
 use lib.ListN.{length}
-use borrow.Author.Rules.{rules}
 use borrow.Author.Tests.{eq-eqb, ne_eqb}
 use Rattle.machine.specs.Form.{walk_bytes}
 use Rattle.firmware.specs.Entries.{fresh_number, fresh_in}

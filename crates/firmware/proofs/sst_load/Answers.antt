@@ -1,5 +1,4 @@
 -- `firmware::sst_load` meets its contract: the loader's, as numbers.
-use borrow.Author.Rules.{rules}
 use Rattle.firmware.proofs.sst_load.Goals as goal
 
 -- `firmware::sst_load` meets its contract: the loader's, as numbers.

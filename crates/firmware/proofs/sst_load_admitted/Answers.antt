@@ -1,5 +1,4 @@
 -- `firmware::sst_load_admitted` meets its contract: that of crate admission, as numbers.
-use borrow.Author.Rules.{rules}
 use Rattle.firmware.proofs.sst_load_admitted.Goals as goal
 
 pub returns : goal.returns

@@ -6,7 +6,6 @@ use Prim.Native.Nat.{ℕ, ◌<◌}
 use native.Mathlib.Omega.{arith}
 use lib.Dec.{eqb}
 use lib.ListN.{length}
-use borrow.Author.Rules.{rules}
 use Rattle.machine.proofs.Form.{walk_of-length}
 use Rattle.machine.specs.Form as form
 use Rattle.walker.specs.Shape as shape

@@ -1,5 +1,4 @@
 -- `firmware::sst_phase` meets its contract: of the walk that the bytes are, or of none.
-use borrow.Author.Rules.{rules}
 use Rattle.walker.specs.View as view
 use Rattle.firmware.specs.Entries.{phase_number}
 use Rattle.firmware.proofs.sst_phase.Goals as goal

@@ -1,5 +1,4 @@
 -- `firmware::sst_process` meets its contract: the processor's, as numbers.
-use borrow.Author.Rules.{rules}
 use Rattle.firmware.proofs.Processing.{numbers-told}
 use Rattle.firmware.proofs.sst_process.Goals as goal
 

@@ -1,5 +1,4 @@
 -- `firmware::sst_reason` meets its contract: of the walk that the bytes are, or of none.
-use borrow.Author.Rules.{rules}
 use Rattle.walker.specs.View as view
 use Rattle.firmware.specs.Entries.{reason_or_none}
 use Rattle.firmware.proofs.sst_reason.Goals as goal

@@ -1,8 +1,6 @@
 -- `firmware::sst_refill` meets its contract: by the length and the book.
 use mathlib.Core.Path.{sym, ap, ◌∙◌}
 use native.Mathlib.Omega.{arith}
-use borrow.Author.Rules.{rules}
-use borrow.Author.Tests.{not-true, not-false}
 use Rattle.buffers.specs.Words.{put64}
 use Rattle.screen.proofs.Turns.{book-in}
 use Rattle.screen.specs.Screen.{refill_number, refill_bytes}

@@ -2,7 +2,6 @@
 use mathlib.Core.Path.{sym}
 use native.Mathlib.Omega.{arith}
 use lib.Seq.{length-take-le}
-use borrow.Author.Rules.{rules}
 use Rattle.screen.proofs.Turns.{screen-is, screen-not}
 use Rattle.screen.specs.Screen.{screen_number, fresh_bytes}
 use Rattle.firmware.proofs.Screens.{screen-put}

@@ -2,8 +2,6 @@
 use mathlib.Core.Path.{refl, sym, ◌∙◌}
 use Prim.Native.Nat.{◌+◌, ◌*◌}
 use native.Mathlib.Omega.{arith}
-use borrow.Author.Rules.{rules}
-use borrow.Author.Tests.{not-true, not-false}
 use Rattle.firmware.specs.Entries.{handing}
 use Rattle.screen.proofs.Turns.{book-in}
 use Rattle.firmware.proofs.Screens.{enough, turned, turned-away}

@@ -2,8 +2,6 @@
 use mathlib.Core.Path.{refl, sym, ◌∙◌}
 use Prim.Native.Nat.{◌+◌, ◌*◌}
 use native.Mathlib.Omega.{arith}
-use borrow.Author.Rules.{rules}
-use borrow.Author.Tests.{not-true, not-false}
 use Rattle.machine.specs.Bytes.{words_of}
 use Rattle.machine.specs.Call.{whole}
 use Rattle.screen.proofs.Turns.{book-in}

@@ -1,5 +1,4 @@
 -- `firmware::sst_used` meets its contract: of the walk that the bytes are, or of none.
-use borrow.Author.Rules.{rules}
 use Rattle.walker.specs.View as view
 use Rattle.firmware.specs.Entries.{used_or0}
 use Rattle.firmware.proofs.sst_used.Goals as goal

@@ -5,7 +5,6 @@ use mathlib.Core.Path.{◌≡◌}
 use Prim.Native.Nat.{ℕ, ◌<◌}
 use native.Mathlib.Omega.{arith}
 use lib.ListN.{length}
-use borrow.Author.Rules.{rules}
 use Rattle.machine.proofs.Form.{walk_of-length}
 use Rattle.machine.specs.Bytes.{words_of}
 use Rattle.machine.specs.Call as call

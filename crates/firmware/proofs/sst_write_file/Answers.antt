@@ -1,5 +1,4 @@
 -- `firmware::sst_write_file` meets its contract: the writer's, as numbers.
-use borrow.Author.Rules.{rules}
 use Rattle.firmware.proofs.sst_write_file.Goals as goal
 
 -- `firmware::sst_write_file` meets its contract: the writer's, as numbers.

@@ -1,4 +1,3 @@
-use borrow.Author.Rules.{rules}
 use mathlib.Core.Path.{◌∙◌}
 use Rattle.frontend.proofs.Passes.{declared_wrong, declared_good}
 use native.Mathlib.Omega.{arith}

@@ -1,4 +1,3 @@
-use borrow.Author.Rules.{rules}
 use Rattle.symbols.proofs.Indexing.{kept-behind}
 use Rattle.frontend.proofs.Rests.{rules-wrong, limit-passed, rules_made}
 use native.Mathlib.Omega.{arith}

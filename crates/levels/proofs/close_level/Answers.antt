@@ -1,6 +1,5 @@
 -- `levels::close_level` meets its contract.
 use Rattle.levels.proofs.Putting.{close-right, close-left}
-use borrow.Author.Rules.{rules}
 use Rattle.levels.proofs.close_level.Goals as goal
 
 -- src/lib.rt:157:9

@@ -1,10 +1,8 @@
 -- `levels::first_use` meets its contract.
-use native.Mathlib.Omega.{arith}
 use Prim.Native.Nat.{◌-◌, ◌≤◌}
 use lib.ListN.{length}
 use Rattle.levels.specs.Naming.{FirstDone}
 use Rattle.levels.specs.declared.FirstUse.{FirstUse}
-use Rattle.levels.proofs.Naming.{first-end, first-last, first-hit, first_next}
 use Rattle.levels.proofs.first_use.Given as goal
 
 abbrev pub invariant-loop-w : goal.invariant-loop-w

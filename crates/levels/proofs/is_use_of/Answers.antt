@@ -1,6 +1,5 @@
 -- `levels::is_use_of` meets its contract.
 use Rattle.levels.proofs.Naming.{word-no, word-is, word_else}
-use borrow.Author.Rules.{rules}
 use Rattle.levels.proofs.is_use_of.Goals as goal
 
 -- `levels::is_use_of` meets its contract.

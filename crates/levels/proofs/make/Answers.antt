@@ -1,11 +1,6 @@
 -- `levels::make` meets its contract.
 use native.Mathlib.Omega.{arith}
-use mathlib.Core.List.{List}
-use mathlib.Core.Path.{◌≡◌, refl, sym, ◌∙◌}
-use Prim.Native.Nat.{ℕ, ◌+◌, ◌-◌, ◌<◌, ◌≤◌}
-use lib.ListN.{length}
-use Rattle.levels.specs.Making.{MakeFrom}
-use Rattle.levels.specs.declared.Made.{Made}
+use mathlib.Core.Path.{refl, sym, ◌∙◌}
 use Rattle.levels.proofs.Making.{make-first, make-step, make-end, make-whole}
 use Rattle.levels.proofs.make.Goals as goal
 

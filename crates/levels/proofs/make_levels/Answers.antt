@@ -1,9 +1,7 @@
 -- `levels::make_levels` meets its contract.
 use native.Mathlib.Omega.{arith}
-use mathlib.Core.Path.{◌≡◌, refl, sym, ◌∙◌}
-use Prim.Native.Nat.{ℕ, ◌+◌, ◌-◌, ◌<◌, ◌≤◌}
-use lib.ListN.{length}
-use Rattle.levels.proofs.Making.{RestIs, rest-is, Going, going-first, going_more, higher-low, site-made, site-full}
+use mathlib.Core.Path.{refl, sym, ◌∙◌}
+use Rattle.levels.proofs.Making.{rest-is, going-first, going_more, higher-low, site-made, site-full}
 use Rattle.levels.proofs.make_levels.Goals as goal
 
 -- src/lib.rt:230:9

@@ -1,9 +1,8 @@
 -- `levels::make_levels` meets its contract.
-use native.Mathlib.Omega.{arith}
-use mathlib.Core.Path.{◌≡◌, refl, sym, ◌∙◌}
-use Prim.Native.Nat.{ℕ, ◌+◌, ◌-◌, ◌<◌, ◌≤◌}
+use mathlib.Core.Path.{◌≡◌}
+use Prim.Native.Nat.{◌+◌, ◌-◌, ◌<◌, ◌≤◌}
 use lib.ListN.{length}
-use Rattle.levels.proofs.Making.{RestIs, rest-is, Going, going-first, going_more, higher-low, site-made, site-full}
+use Rattle.levels.proofs.Making.{RestIs, Going}
 use Rattle.levels.proofs.make_levels.Given as goal
 
 abbrev pub invariant-loop-l : goal.invariant-loop-l

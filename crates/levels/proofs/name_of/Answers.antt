@@ -2,7 +2,6 @@
 use native.Mathlib.Omega.{arith}
 use mathlib.Core.Path.{refl}
 use Rattle.levels.proofs.Naming.{name-is}
-use borrow.Author.Rules.{rules}
 use Rattle.levels.proofs.name_of.Goals as goal
 
 -- src/lib.rt:346:15

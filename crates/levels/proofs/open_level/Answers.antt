@@ -1,6 +1,5 @@
 -- `levels::open_level` meets its contract.
 use Rattle.levels.proofs.Putting.{open-right, open-left}
-use borrow.Author.Rules.{rules}
 use Rattle.levels.proofs.open_level.Goals as goal
 
 -- src/lib.rt:147:9

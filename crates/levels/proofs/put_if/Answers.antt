@@ -1,6 +1,5 @@
 -- `levels::put_if` meets its contract.
 use Rattle.levels.proofs.Putting.{entry-put, entry-passed}
-use borrow.Author.Rules.{rules}
 use Rattle.levels.proofs.put_if.Goals as goal
 
 -- src/lib.rt:105:9

@@ -2,7 +2,6 @@
 use native.Mathlib.Omega.{arith}
 use Rattle.levels.proofs.Putting.{called-low, level-put}
 use Rattle.resolver.proofs.Appending.{appends-length, appends-bound}
-use borrow.Author.Rules.{rules}
 use Rattle.levels.proofs.put_level.Goals as goal
 
 -- src/lib.rt:187:9

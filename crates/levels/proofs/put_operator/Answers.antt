@@ -1,6 +1,5 @@
 -- `levels::put_operator` meets its contract.
 use Rattle.levels.proofs.Putting.{operator-put}
-use borrow.Author.Rules.{rules}
 use Rattle.levels.proofs.put_operator.Goals as goal
 
 -- src/lib.rt:68:1

@@ -1,10 +1,6 @@
 -- `levels::put_operators` meets its contract.
 use native.Mathlib.Omega.{arith}
-use mathlib.Core.List.{List}
-use mathlib.Core.Path.{◌≡◌, refl, ◌∙◌}
-use Prim.Native.Nat.{ℕ, ◌+◌, ◌-◌, ◌≤◌}
-use lib.ListN.{length}
-use Rattle.levels.specs.Making.{OperatorsPut}
+use mathlib.Core.Path.{refl, ◌∙◌}
 use Rattle.levels.proofs.Putting.{operators-last, operators-more, operators-stuck}
 use Rattle.resolver.proofs.Appending.{appends-length, appends-bound}
 use Rattle.levels.proofs.put_operators.Goals as goal

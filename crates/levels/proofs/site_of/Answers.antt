@@ -1,6 +1,5 @@
 -- `levels::site_of` meets its contract.
 use Rattle.levels.proofs.Making.{site-of}
-use borrow.Author.Rules.{rules}
 use Rattle.levels.proofs.site_of.Goals as goal
 
 -- src/lib.rt:258:1

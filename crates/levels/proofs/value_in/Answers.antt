@@ -1,7 +1,6 @@
 -- `levels::value_in` meets its contract.
 use native.Mathlib.Omega.{arith}
 use Rattle.levels.proofs.Putting.{value_there, value_none}
-use borrow.Author.Rules.{rules}
 use Rattle.levels.proofs.value_in.Goals as goal
 
 -- src/lib.rt:62:9

@@ -1,11 +1,9 @@
 -- `linkage::aimed` meets its contract.
-use mathlib.Core.Path.{◌∙◌}
 use native.Mathlib.Omega.{arith}
 use Rattle.linker.proofs.Placing.{place-bound}
 use Rattle.linker.specs.Place.{text_at}
 use Rattle.machine.specs.Bytes.{words_of}
 use Rattle.linkage.proofs.Closing.{by_pair, by-none, by_name}
-use borrow.Author.Rules.{rules}
 use Rattle.linkage.proofs.aimed.Goals as goal
 
 -- src/lib.rt:84:9

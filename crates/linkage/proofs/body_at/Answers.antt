@@ -1,7 +1,6 @@
 -- `linkage::body_at` meets its contract.
 use mathlib.Core.Path.{refl}
 use Rattle.linkage.proofs.Bodies.{nobody, no-gives, no-calls, no_cells, few-cells, a_body}
-use borrow.Author.Rules.{rules}
 use Rattle.linkage.proofs.body_at.Goals as goal
 
 -- src/lib.rt:202:9

@@ -1,18 +1,15 @@
 -- `linkage::close` meets its contract. The loop's invariant: whatever is appended next, with what is left to close it is all that is to be appended.
-use mathlib.Core.List.{List, [], ◌∷◌}
+use mathlib.Core.List.{[], ◌∷◌}
 use mathlib.Core.Path.{◌≡◌, refl, ◌∙◌}
-use Prim.Native.Nat.{ℕ, suc, ◌+◌, ◌-◌, ◌≤◌}
+use Prim.Native.Nat.{ℕ, ◌+◌, ◌-◌}
 use native.Mathlib.Omega.{arith}
 use borrow.Author.Rules.{rules}
-use lib.ListN.{length, take, drop}
 use Rattle.linker.proofs.Passing.{starts, appends-next, appends-nothing}
 use Rattle.linker.specs.Close.{close_cells}
-use Rattle.linker.specs.Place.{texts_end}
 use Rattle.machine.proofs.Bytes.{length-words_of}
 use Rattle.machine.specs.Bytes.{count, words_of}
 use Rattle.resolver.proofs.Appending.{appends-length, appends-bound, appends-then}
-use Rattle.resolver.specs.Resolved.{Appends}
-use Rattle.linkage.specs.Closing.{Lows, places_of}
+use Rattle.linkage.specs.Closing.{Lows}
 use Rattle.linkage.proofs.Closing.{rest, goes_on, ends}
 use Rattle.linkage.proofs.close.Goals as goal
 

@@ -1,14 +1,9 @@
 -- `linkage::close_all` meets its contract.
-use mathlib.Core.List.{List}
-use mathlib.Core.Path.{◌≡◌, refl, ap, ◌∙◌}
-use Prim.Native.Nat.{ℕ, suc, ◌+◌, ◌-◌, ◌≤◌}
+use mathlib.Core.Path.{refl, ◌∙◌}
 use native.Mathlib.Omega.{arith}
-use borrow.Author.Rules.{rules}
-use lib.ListN.{length}
 use Rattle.machine.specs.Bytes.{words_of}
 use Rattle.parts.specs.Link.{rules_of}
-use Rattle.parts.specs.Objects.{Object}
-use Rattle.linkage.proofs.Groups.{Ground, GoingAll, all_first, all-on, all_end}
+use Rattle.linkage.proofs.Groups.{Ground, all_first, all-on, all_end}
 use Rattle.linkage.proofs.close_all.Goals as goal
 
 -- src/lib.rt:311:5
@@ -50,7 +45,10 @@ shape_of-cells c = omega (arith, c.loop-at.invariant.2)
 pub returns : goal.returns
 returns c =
     let a = c.args in
-    let o = c.loop-at in record { bound = (omega (arith, c.loop-at.invariant.1, c.loop-at.invariant.2), c.loop-at.invariant.2); closed = λ common k n h own after us held texts calls.
+    let o = c.loop-at in record {
+      bound = (omega (arith, c.loop-at.invariant.1, c.loop-at.invariant.2), c.loop-at.invariant.2);
+      closed = λ common k n h own after us held texts calls.
           let gr : Ground (words_of a.objects.now) a.names.now a.sites.now a.lowest.now a.collected =
           record { common = common; heads = k.listed; known = n; own = own; after = after; pairs = us; rules = rules_of h.objects; held = held; texts = texts } in
-          all_end gr h.objects a.cells.now (c.loop-at.invariant.3 gr h.objects (all_first gr h.objects a.cells.now h.lengths h.are h.as_many h.sound calls)) (omega (arith, c.loop-at-test.false, c.total-end.ensures.0)) c.loop-at.invariant.1 }
+          all_end gr h.objects a.cells.now (c.loop-at.invariant.3 gr h.objects (all_first gr h.objects a.cells.now h.lengths h.are h.as_many h.sound calls)) (omega (arith, c.loop-at-test.false, c.total-end.ensures.0)) c.loop-at.invariant.1;
+    }

@@ -1,14 +1,11 @@
 -- `linkage::close_all` meets its contract.
 use mathlib.Core.List.{List}
-use mathlib.Core.Path.{◌≡◌, refl, ap, ◌∙◌}
-use Prim.Native.Nat.{ℕ, suc, ◌+◌, ◌-◌, ◌≤◌}
-use native.Mathlib.Omega.{arith}
-use borrow.Author.Rules.{rules}
+use mathlib.Core.Path.{◌≡◌}
+use Prim.Native.Nat.{suc, ◌-◌, ◌≤◌}
 use lib.ListN.{length}
 use Rattle.machine.specs.Bytes.{words_of}
-use Rattle.parts.specs.Link.{rules_of}
 use Rattle.parts.specs.Objects.{Object}
-use Rattle.linkage.proofs.Groups.{Ground, GoingAll, all_first, all-on, all_end}
+use Rattle.linkage.proofs.Groups.{Ground, GoingAll}
 use Rattle.linkage.proofs.close_all.Given as goal
 
 abbrev pub invariant-loop-at : goal.invariant-loop-at

@@ -1,16 +1,12 @@
 -- `linkage::close_object` meets its contract.
 use mathlib.Core.List.{List, ◌++◌}
-use mathlib.Core.Path.{◌≡◌, refl, ap, ◌∙◌}
-use Prim.Native.Nat.{ℕ, suc, ◌+◌, ◌-◌, ◌<◌, ◌≤◌}
-use native.Mathlib.Omega.{arith}
-use borrow.Author.Rules.{rules}
+use mathlib.Core.Path.{◌≡◌}
+use Prim.Native.Nat.{ℕ, suc, ◌-◌, ◌<◌, ◌≤◌}
 use lib.ListN.{length, drop}
-use Rattle.machine.proofs.Bytes.{length-words_of}
-use Rattle.machine.specs.Bytes.{count, words_of}
+use Rattle.machine.specs.Bytes.{words_of}
 use Rattle.objects.specs.View.{RuleView, all, rule_words}
 use Rattle.linkage.specs.Closing.{Lows}
-use Rattle.linkage.specs.declared.Uses.{Uses}
-use Rattle.linkage.proofs.Groups.{Going, going-first, going_on, going_end, lows-as}
+use Rattle.linkage.proofs.Groups.{Going}
 use Rattle.linkage.proofs.close_object.Given as goal
 
 abbrev pub invariant-loop-i : goal.invariant-loop-i

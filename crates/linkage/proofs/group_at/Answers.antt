@@ -3,7 +3,6 @@ use mathlib.Core.Path.{refl}
 use native.Mathlib.Omega.{arith}
 use Rattle.machine.specs.Bytes.{words_of}
 use Rattle.linkage.proofs.Groups.{is-group}
-use borrow.Author.Rules.{rules}
 use Rattle.linkage.proofs.group_at.Goals as goal
 
 -- src/lib.rt:275:1

@@ -1,7 +1,5 @@
 -- `linkage::low_of` meets its contract.
 use Rattle.linkage.proofs.Closing.{low-none, low-found}
-use native.Mathlib.Omega.{arith}
-use borrow.Author.Rules.{rules}
 use Rattle.linkage.proofs.low_of.Goals as goal
 
 -- `linkage::low_of` meets its contract.

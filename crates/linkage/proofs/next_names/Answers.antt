@@ -3,7 +3,6 @@ use mathlib.Core.Path.{◌∙◌}
 use native.Mathlib.Omega.{arith}
 use Rattle.machine.specs.Bytes.{words_of}
 use Rattle.linkage.proofs.Closing.{behind-none, behind-one, past_one}
-use borrow.Author.Rules.{rules}
 use Rattle.linkage.proofs.next_names.Goals as goal
 
 -- `linkage::next_names` meets its contract.

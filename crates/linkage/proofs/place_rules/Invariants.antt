@@ -1,15 +1,13 @@
 -- `linkage::place_rules` meets its contract.
 use mathlib.Core.List.{List}
-use mathlib.Core.Path.{◌≡◌, refl, ◌∙◌}
-use Prim.Native.Nat.{ℕ, ◌-◌, ◌≤◌}
-use native.Mathlib.Omega.{arith}
-use borrow.Author.Rules.{rules}
+use mathlib.Core.Path.{◌≡◌}
+use Prim.Native.Nat.{◌-◌, ◌≤◌}
 use lib.ListN.{length}
 use Rattle.linkchecks.specs.Row.{row_from}
 use Rattle.linkchecks.specs.Walk.{Viewed}
 use Rattle.machine.specs.Bytes.{words_of}
 use Rattle.objects.specs.View.{View}
-use Rattle.linkage.proofs.Placing.{Placing, placing-first, placing-next, placing-end}
+use Rattle.linkage.proofs.Placing.{Placing}
 use Rattle.linkage.proofs.place_rules.Given as goal
 
 abbrev pub invariant-loop-cursor : goal.invariant-loop-cursor

@@ -1,9 +1,6 @@
 -- `linkage::put_sort` meets its contract.
-use mathlib.Core.Path.{refl}
-use native.Mathlib.Omega.{arith}
 use lib.ListN.{length-set}
 use lib.Seq.{get_or-set_same, get_or-set_other}
-use borrow.Author.Rules.{rules}
 use Rattle.linkage.proofs.put_sort.Goals as goal
 
 -- src/lib.rt:367:1

@@ -1,9 +1,6 @@
 -- `linkage::put_start` meets its contract.
-use mathlib.Core.Path.{refl}
-use native.Mathlib.Omega.{arith}
 use lib.ListN.{length-set}
 use lib.Seq.{get_or-set_same, get_or-set_other}
-use borrow.Author.Rules.{rules}
 use Rattle.linkage.proofs.put_start.Goals as goal
 
 -- src/lib.rt:358:1

@@ -1,7 +1,6 @@
 -- `linkage::rule_size` meets its contract.
 use native.Mathlib.Omega.{arith}
 use Rattle.linkage.proofs.Bodies.{body-size}
-use borrow.Author.Rules.{rules}
 use Rattle.linkage.proofs.rule_size.Goals as goal
 
 -- src/lib.rt:344:1

@@ -2,7 +2,6 @@
 use Rattle.linkchecks.proofs.Finding.{gives_at}
 use Rattle.machine.specs.Bytes.{words_of}
 use Rattle.linkage.proofs.Placing.{sort-outside, sort-none, sort-some}
-use borrow.Author.Rules.{rules}
 use Rattle.linkage.proofs.rule_sort.Goals as goal
 
 -- src/lib.rt:335:9

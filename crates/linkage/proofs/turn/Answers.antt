@@ -4,7 +4,6 @@ use native.Mathlib.Omega.{arith}
 use Rattle.linker.proofs.Placing.{end-behind}
 use Rattle.machine.specs.Bytes.{words_of}
 use Rattle.linkage.proofs.Closing.{turned-first, turned-call, turned-copy}
-use borrow.Author.Rules.{rules}
 use Rattle.linkage.proofs.turn.Goals as goal
 
 -- src/lib.rt:124:9

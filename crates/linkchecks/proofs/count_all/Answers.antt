@@ -1,14 +1,7 @@
 -- `linkchecks::count_all` meets its contract.
-use borrow.Author.Rules.{rules}
 use native.Mathlib.Omega.{arith}
-use mathlib.Core.List.{List}
-use Prim.Native.Nat.{◌+◌, ◌-◌, ◌≤◌}
-use lib.ListN.{length}
-use Rattle.machine.specs.Bytes.{words_of}
-use Rattle.objects.specs.View.{View}
-use Rattle.linkchecks.specs.Walk.{Viewed}
 use Rattle.linkchecks.specs.Row.{row_from}
-use Rattle.linkchecks.proofs.Walking.{Still, heads, still-none, ended}
+use Rattle.linkchecks.proofs.Walking.{heads, still-none, ended}
 use Rattle.linkchecks.proofs.count_all.Goals as goal
 
 pub loop-cursor-init : goal.loop-cursor-init

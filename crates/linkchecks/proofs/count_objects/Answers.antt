@@ -1,5 +1,4 @@
 -- `linkchecks::count_objects` meets its contract.
-use borrow.Author.Rules.{rules}
 use mathlib.Core.Path.{◌∙◌}
 use Rattle.linkchecks.proofs.Rows.{viewed, as-many-views}
 use Rattle.linkchecks.proofs.count_objects.Goals as goal

@@ -1,5 +1,4 @@
 -- `linkchecks::count_rules` meets its contract.
-use borrow.Author.Rules.{rules}
 use mathlib.Core.Path.{◌∙◌}
 use Rattle.linkchecks.proofs.Rows.{viewed, row-length}
 use Rattle.linkchecks.proofs.count_rules.Goals as goal

@@ -1,7 +1,6 @@
 -- `linkchecks::enter` meets its contract.
 use native.Mathlib.Omega.{arith}
 use Rattle.linkchecks.proofs.Walking.{enters_none, enters, pairs-ahead}
-use borrow.Author.Rules.{rules}
 use Rattle.linkchecks.proofs.enter.Goals as goal
 
 pub returns-then-pairs-end : goal.returns-then-pairs-end

@@ -1,17 +1,13 @@
 -- `linkchecks::find_line` meets its contract: the lines passed have other names.
-use borrow.Author.Rules.{rules}
-use native.Mathlib.Omega.{arith}
 use mathlib.Core.List.{List}
-use mathlib.Core.Path.{◌≡◌, ◌∙◌}
+use mathlib.Core.Path.{◌≡◌}
 use Prim.Native.Nat.{◌+◌, ◌-◌, ◌/◌, ◌≤◌}
 use lib.ListN.{length, drop}
 use Rattle.machine.specs.Bytes.{words_of}
 use Rattle.objects.specs.View.{Name}
 use Rattle.objects.specs.Places.{NameAt, HeadsAt}
-use Rattle.objects.proofs.Looked.{line-is}
 use Rattle.syntax.specs.Texts.{Head}
 use Rattle.linkchecks.specs.Row.{line_of}
-use Rattle.linkchecks.proofs.Finding.{line-none, line-found, line-later}
 use Rattle.linkchecks.proofs.find_line.Given as goal
 
 abbrev pub invariant-loop-i : goal.invariant-loop-i

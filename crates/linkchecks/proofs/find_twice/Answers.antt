@@ -1,15 +1,8 @@
 -- `linkchecks::find_twice` meets its contract: no part before has the name of a rule passed.
-use borrow.Author.Rules.{rules}
 use native.Mathlib.Omega.{arith}
-use mathlib.Core.List.{List}
 use mathlib.Core.Path.{refl}
-use Prim.Native.Nat.{◌-◌, ◌≤◌}
-use lib.ListN.{length}
-use Rattle.machine.specs.Bytes.{words_of}
-use Rattle.objects.specs.View.{View}
-use Rattle.linkchecks.specs.Walk.{Viewed}
-use Rattle.linkchecks.specs.Row.{row_from, first_shown, twice_rule}
-use Rattle.linkchecks.proofs.Walking.{Still, heads}
+use Rattle.linkchecks.specs.Row.{row_from}
+use Rattle.linkchecks.proofs.Walking.{heads}
 use Rattle.linkchecks.proofs.Finding.{stands-name, stands-named, stands-text, shown-some, shown-passed, shown-none, twice-some, twice-none}
 use Rattle.linkchecks.proofs.Rows.{viewed, finds-by, twice-row}
 use Rattle.linkchecks.proofs.find_twice.Goals as goal

@@ -1,17 +1,11 @@
 -- `linkchecks::find_unlike` meets its contract: nothing is shown of the rules passed.
-use borrow.Author.Rules.{rules}
 use native.Mathlib.Omega.{arith}
-use mathlib.Core.List.{List}
 use mathlib.Core.Path.{refl}
-use Prim.Native.Nat.{◌+◌, ◌-◌, ◌≤◌}
+use Prim.Native.Nat.{◌+◌}
 use lib.ListN.{length}
 use Rattle.machine.specs.Bytes.{words_of}
-use Rattle.objects.specs.View.{View}
-use Rattle.linkchecks.specs.Walk.{Viewed}
-use Rattle.objects.specs.Places.{HeadsAt}
-use Rattle.syntax.specs.Texts.{Head}
-use Rattle.linkchecks.specs.Row.{row_from, first_shown, unlike_rule}
-use Rattle.linkchecks.proofs.Walking.{Still, heads}
+use Rattle.linkchecks.specs.Row.{row_from}
+use Rattle.linkchecks.proofs.Walking.{heads}
 use Rattle.linkchecks.proofs.Finding.{shown-here, shown-later, shown-none}
 use Rattle.linkchecks.proofs.Rows.{viewed, finds-by, few-objects, unlike-row}
 use Rattle.linkchecks.proofs.find_unlike.Goals as goal

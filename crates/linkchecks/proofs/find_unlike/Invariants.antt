@@ -1,8 +1,5 @@
 -- `linkchecks::find_unlike` meets its contract: nothing is shown of the rules passed.
-use borrow.Author.Rules.{rules}
-use native.Mathlib.Omega.{arith}
 use mathlib.Core.List.{List}
-use mathlib.Core.Path.{refl}
 use Prim.Native.Nat.{◌+◌, ◌-◌, ◌≤◌}
 use lib.ListN.{length}
 use Rattle.machine.specs.Bytes.{words_of}
@@ -11,9 +8,7 @@ use Rattle.linkchecks.specs.Walk.{Viewed}
 use Rattle.objects.specs.Places.{HeadsAt}
 use Rattle.syntax.specs.Texts.{Head}
 use Rattle.linkchecks.specs.Row.{row_from, first_shown, unlike_rule}
-use Rattle.linkchecks.proofs.Walking.{Still, heads}
-use Rattle.linkchecks.proofs.Finding.{shown-here, shown-later, shown-none}
-use Rattle.linkchecks.proofs.Rows.{viewed, finds-by, few-objects, unlike-row}
+use Rattle.linkchecks.proofs.Walking.{Still}
 use Rattle.linkchecks.proofs.find_unlike.Given as goal
 
 abbrev pub invariant-loop-cursor : goal.invariant-loop-cursor

@@ -1,7 +1,6 @@
 -- `linkchecks::first_rule` meets its contract.
 use native.Mathlib.Omega.{arith}
 use Rattle.linkchecks.proofs.Walking.{begins}
-use borrow.Author.Rules.{rules}
 use Rattle.linkchecks.proofs.first_rule.Goals as goal
 
 pub returns : goal.returns

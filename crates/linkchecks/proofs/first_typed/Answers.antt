@@ -3,7 +3,6 @@ use native.Mathlib.Omega.{arith}
 use mathlib.Core.Path.{sym, ◌∙◌}
 use Rattle.linkchecks.proofs.Finding.{shows-none, typed-outside, typed-not, typed-is}
 use Rattle.linkchecks.proofs.Rows.{viewed, finds-by, first-typed-row}
-use borrow.Author.Rules.{rules}
 use Rattle.linkchecks.proofs.first_typed.Goals as goal
 
 pub returns-then-gives-end : goal.returns-then-gives-end

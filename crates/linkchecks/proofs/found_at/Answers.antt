@@ -2,7 +2,6 @@
 use native.Mathlib.Omega.{arith}
 use Rattle.machine.specs.Bytes.{words_of}
 use Rattle.linkchecks.proofs.Finding.{name-before, found-is}
-use borrow.Author.Rules.{rules}
 use Rattle.linkchecks.proofs.found_at.Goals as goal
 
 pub returns-then-p-end : goal.returns-then-p-end

@@ -1,7 +1,6 @@
 -- `linkchecks::has_name` meets its contract.
 use native.Mathlib.Omega.{arith}
 use borrow.Author.Tests.{lt-ltb, le-ltb}
-use borrow.Author.Rules.{rules}
 use Rattle.linkchecks.proofs.has_name.Goals as goal
 
 -- `linkchecks::has_name` meets its contract.

@@ -1,5 +1,4 @@
 -- `linkchecks::is_alike` meets its contract.
-use borrow.Author.Rules.{rules}
 use native.Mathlib.Omega.{arith}
 use mathlib.Core.Path.{refl, sym, ◌∙◌}
 use Rattle.machine.specs.Bytes.{words_of}

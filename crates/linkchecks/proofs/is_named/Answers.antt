@@ -1,16 +1,8 @@
 -- `linkchecks::is_named` meets its contract: the rules passed have other names.
-use borrow.Author.Rules.{rules}
 use native.Mathlib.Omega.{arith}
-use mathlib.Core.List.{List}
 use mathlib.Core.Path.{refl}
-use Prim.Native.Nat.{◌-◌, ◌≤◌}
-use lib.ListN.{length}
-use Rattle.machine.specs.Bytes.{words_of}
-use Rattle.objects.specs.View.{Name, View}
-use Rattle.linkchecks.specs.Walk.{Viewed}
-use Rattle.objects.specs.Places.{NameAt}
-use Rattle.linkchecks.specs.Row.{row_from, is_named_below}
-use Rattle.linkchecks.proofs.Walking.{Still, heads}
+use Rattle.linkchecks.specs.Row.{row_from}
+use Rattle.linkchecks.proofs.Walking.{heads}
 use Rattle.linkchecks.proofs.Finding.{stands-named, named_here, named-later, named_none}
 use Rattle.linkchecks.proofs.is_named.Goals as goal
 

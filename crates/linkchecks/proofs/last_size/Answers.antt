@@ -1,5 +1,4 @@
 -- `linkchecks::last_size` meets its contract.
-use borrow.Author.Rules.{rules}
 use mathlib.Core.Path.{◌∙◌}
 use Rattle.linkchecks.proofs.Rows.{viewed, last-is}
 use Rattle.linkchecks.proofs.last_size.Goals as goal

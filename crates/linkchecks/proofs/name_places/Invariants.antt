@@ -1,16 +1,12 @@
 -- `linkchecks::name_places` meets its contract: the names of the rules passed are put.
-use borrow.Author.Rules.{rules}
-use native.Mathlib.Omega.{arith}
 use mathlib.Core.List.{List}
-use mathlib.Core.Path.{◌≡◌, refl, sym, ◌∙◌, subst}
+use mathlib.Core.Path.{◌≡◌}
 use Prim.Native.Nat.{◌-◌, ◌≤◌}
-use lib.ListN.{length, get_or}
+use lib.ListN.{length}
 use Rattle.machine.specs.Bytes.{words_of}
 use Rattle.objects.specs.View.{View}
 use Rattle.linkchecks.specs.Walk.{Viewed}
-use Rattle.objects.specs.Places.{NameAt}
-use Rattle.linkchecks.proofs.Placing.{Placed, placed-none, placed-next, placed-all, item-names}
-use Rattle.linkchecks.proofs.Rows.{viewed, row-length}
+use Rattle.linkchecks.proofs.Placing.{Placed}
 use Rattle.linkchecks.proofs.name_places.Given as goal
 
 abbrev pub invariant-loop-cursor : goal.invariant-loop-cursor

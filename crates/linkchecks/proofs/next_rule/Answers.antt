@@ -1,7 +1,6 @@
 -- `linkchecks::next_rule` meets its contract.
 use native.Mathlib.Omega.{arith}
 use Rattle.linkchecks.proofs.Walking.{rule-ahead, steps, next-over, next_here, next-object}
-use borrow.Author.Rules.{rules}
 use Rattle.linkchecks.proofs.next_rule.Goals as goal
 
 pub returns-then-at-end : goal.returns-then-at-end

@@ -1,5 +1,4 @@
 -- `linkchecks::open_call` meets its contract: past the rule's name and its type stand the names of its calls.
-use borrow.Author.Rules.{rules}
 use native.Mathlib.Omega.{arith}
 use mathlib.Core.Path.{◌∙◌}
 use Rattle.machine.specs.Bytes.{words_of}

@@ -1,19 +1,12 @@
 -- `linkchecks::open_name` meets its contract: a rule has each of the names passed.
-use borrow.Author.Rules.{rules}
 use native.Mathlib.Omega.{arith}
-use mathlib.Core.List.{List}
-use mathlib.Core.Path.{◌≡◌, refl, ap}
-use Prim.Native.Nat.{ℕ, ◌+◌, ◌-◌, ◌≤◌}
-use lib.ListN.{length, drop}
+use mathlib.Core.Path.{refl, ap}
+use Prim.Native.Nat.{◌+◌, ◌-◌}
+use lib.ListN.{length}
 use Rattle.machine.specs.Bytes.{words_of}
-use Rattle.objects.specs.View.{Name, View}
-use Rattle.linkchecks.specs.Walk.{Viewed}
-use borrow.Author.Tests.{not-true, not-false}
 use Rattle.objects.proofs.Looked.{name-at}
-use Rattle.objects.specs.Take.{took, times}
-use Rattle.objects.specs.View.{a_name}
-use Rattle.linkchecks.specs.Row.{row_from, first_shown, open_name}
-use Rattle.linkchecks.proofs.Finding.{Asking, asking, asked-all, asks, asked_here, asked-passed, open-some, open_none}
+use Rattle.linkchecks.specs.Row.{row_from}
+use Rattle.linkchecks.proofs.Finding.{asking, asked-all, asks, asked_here, asked-passed, open-some, open_none}
 use Rattle.linkchecks.proofs.open_name.Goals as goal
 
 pub loop-i-init : goal.loop-i-init

@@ -1,15 +1,8 @@
 -- `linkchecks::past_limit` meets its contract: the rules passed are within the limit.
-use borrow.Author.Rules.{rules}
 use native.Mathlib.Omega.{arith}
-use mathlib.Core.List.{List}
 use mathlib.Core.Path.{◌∙◌}
-use Prim.Native.Nat.{◌-◌, ◌≤◌}
-use lib.ListN.{length}
-use Rattle.machine.specs.Bytes.{words_of}
-use Rattle.objects.specs.View.{View}
-use Rattle.linkchecks.specs.Walk.{Viewed}
-use Rattle.linkchecks.specs.Row.{row_from, past_row}
-use Rattle.linkchecks.proofs.Walking.{Still, heads}
+use Rattle.linkchecks.specs.Row.{row_from}
+use Rattle.linkchecks.proofs.Walking.{heads}
 use Rattle.linkchecks.proofs.Finding.{stands-name, shows-none, limit-start, limit-here, limit-later, limit-none}
 use Rattle.linkchecks.proofs.Rows.{viewed, finds-by, past-rows}
 use Rattle.linkchecks.proofs.past_limit.Goals as goal

@@ -1,5 +1,4 @@
 -- `linkchecks::put_place` meets its contract.
-use borrow.Author.Rules.{rules}
 use lib.ListN.{length-set}
 use lib.Seq.{get_or-set_same, get_or-set_other}
 use Rattle.linkchecks.proofs.put_place.Goals as goal

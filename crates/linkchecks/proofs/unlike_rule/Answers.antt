@@ -1,6 +1,4 @@
 -- `linkchecks::unlike_rule` meets its contract.
-use borrow.Author.Rules.{rules}
-use borrow.Author.Tests.{not-true, not-false}
 use Rattle.linkchecks.specs.Row.{row_from}
 use Rattle.linkchecks.proofs.Finding.{stands-rule, stands-name, stands-text, unlike-here, unlike-calls}
 use Rattle.linkchecks.proofs.unlike_rule.Goals as goal

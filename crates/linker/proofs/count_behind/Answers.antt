@@ -4,7 +4,6 @@ use mathlib.Core.Path.{ap, ◌∙◌}
 use lib.ListN.{get_or}
 use borrow.Author.Tests.{lt-ltb, le-ltb}
 use Rattle.linker.specs.Close.{behind, behind_table}
-use borrow.Author.Rules.{rules}
 use Rattle.linker.proofs.count_behind.Goals as goal
 
 pub returns-then-x-lt-PAST : goal.returns-then-x-lt-PAST

@@ -1,11 +1,8 @@
 -- `linker::place_of` meets its contract.
-use mathlib.Core.Path.{◌≡◌, refl, sym, ◌∙◌}
-use Prim.Native.Nat.{◌+◌, ◌-◌, ◌≤◌}
+use mathlib.Core.Path.{sym, ◌∙◌}
 use native.Mathlib.Omega.{arith}
-use borrow.Author.Rules.{rules}
-use lib.ListN.{length, drop}
 use Rattle.machine.specs.Bytes.{words_of}
-use Rattle.linker.specs.Place.{text_at, texts_at, place_of}
+use Rattle.linker.specs.Place.{text_at}
 use Rattle.linker.proofs.Placing.{compared, place_here, place-later, place_none}
 use Rattle.linker.proofs.place_of.Goals as goal
 

@@ -2,7 +2,6 @@
 use mathlib.Core.Path.{sym, ◌∙◌}
 use Rattle.machine.specs.Bytes.{words_of}
 use Rattle.linker.proofs.Placing.{unlike-names, like-names}
-use borrow.Author.Rules.{rules}
 use Rattle.linker.proofs.same_name.Goals as goal
 
 pub returns-then-n-wide : goal.returns-then-n-wide

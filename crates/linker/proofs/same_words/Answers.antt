@@ -1,12 +1,8 @@
 -- `linker::same_words` meets its contract.
-use mathlib.Core.Path.{◌≡◌, sym, ◌∙◌}
-use Prim.Native.Nat.{◌-◌, ◌≤◌}
+use mathlib.Core.Path.{sym, ◌∙◌}
 use native.Mathlib.Omega.{arith}
-use borrow.Author.Rules.{rules}
-use Rattle.base.specs.Common.{same}
 use Rattle.machine.specs.Bytes.{words_of}
-use Rattle.linker.specs.Place.{letters}
-use Rattle.linker.proofs.Placing.{Left, left-next, left_other, left-none, left-all}
+use Rattle.linker.proofs.Placing.{left-next, left_other, left-none, left-all}
 use Rattle.linker.proofs.same_words.Goals as goal
 
 pub loop-i-init : goal.loop-i-init

@@ -1,12 +1,10 @@
 -- `linker::same_words` meets its contract.
-use mathlib.Core.Path.{◌≡◌, sym, ◌∙◌}
+use mathlib.Core.Path.{◌≡◌}
 use Prim.Native.Nat.{◌-◌, ◌≤◌}
-use native.Mathlib.Omega.{arith}
-use borrow.Author.Rules.{rules}
 use Rattle.base.specs.Common.{same}
 use Rattle.machine.specs.Bytes.{words_of}
 use Rattle.linker.specs.Place.{letters}
-use Rattle.linker.proofs.Placing.{Left, left-next, left_other, left-none, left-all}
+use Rattle.linker.proofs.Placing.{Left}
 use Rattle.linker.proofs.same_words.Given as goal
 
 abbrev pub invariant-loop-i : goal.invariant-loop-i

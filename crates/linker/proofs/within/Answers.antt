@@ -1,7 +1,6 @@
 -- `linker::within` meets its contract.
 use mathlib.Core.Path.{ap, ◌∙◌}
 use native.Mathlib.Omega.{arith}
-use borrow.Author.Rules.{rules}
 use Rattle.machine.specs.Bytes.{words_of}
 use Rattle.linker.specs.Place.{text_at}
 use Rattle.linker.proofs.Placing.{text-within}

@@ -1,7 +1,6 @@
 use Prim.Native.Nat.{min}
 use mathlib.Core.Path.{refl, ap, ◌∙◌}
 use Rattle.linking.proofs.Checking.{wrong-number, right-number, typed-first, one-unlike, one-twice, one-past, none-past}
-use borrow.Author.Rules.{rules}
 use Rattle.linking.proofs.check_parts.Goals as goal
 
 -- src/lib.rt:101:9

@@ -1,5 +1,4 @@
 use Rattle.linking.proofs.Common.{is_read, not-read}
-use borrow.Author.Rules.{rules}
 use Rattle.linking.proofs.link.Goals as goal
 
 -- src/lib.rt:178:9

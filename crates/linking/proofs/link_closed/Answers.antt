@@ -1,7 +1,6 @@
 use mathlib.Core.Path.{refl}
 use native.Mathlib.Omega.{arith}
 use Rattle.linking.proofs.Rules.{concluded, is-ready, kept, few-made}
-use borrow.Author.Rules.{rules}
 use Rattle.linking.proofs.link_closed.Goals as goal
 
 -- src/lib.rt:151:9

@@ -2,7 +2,6 @@ use lib.Seq.{length-take-le}
 use mathlib.Core.Path.{refl, sym, ◌∙◌}
 use native.Mathlib.Omega.{arith}
 use Rattle.linking.proofs.Common.{short-size, few-lines, wrong-names, named}
-use borrow.Author.Rules.{rules}
 use Rattle.linking.proofs.link_common.Goals as goal
 
 -- src/lib.rt:176:9

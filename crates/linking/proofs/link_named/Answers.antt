@@ -1,6 +1,5 @@
 use native.Mathlib.Omega.{arith}
 use Rattle.linking.proofs.Common.{named-lines, declared}
-use borrow.Author.Rules.{rules}
 use Rattle.linking.proofs.link_named.Goals as goal
 
 -- src/lib.rt:165:17

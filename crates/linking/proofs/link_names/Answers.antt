@@ -1,4 +1,4 @@
-use mathlib.Core.Path.{refl, sym, ◌∙◌}
+use mathlib.Core.Path.{refl, ◌∙◌}
 use native.Mathlib.Omega.{arith}
 use Rattle.linking.proofs.Rules.{pair-past, as-behind, closed, few_rules}
 use borrow.Author.Rules.{rules}

@@ -1,8 +1,7 @@
 use lib.Seq.{length-take-le}
-use mathlib.Core.Path.{refl, sym, ◌∙◌}
+use mathlib.Core.Path.{sym, ◌∙◌}
 use native.Mathlib.Omega.{arith}
 use Rattle.linking.proofs.Rules.{few_rules}
-use borrow.Author.Rules.{rules}
 use Rattle.linking.proofs.link_rules.Goals as goal
 
 -- src/lib.rt:196:39

@@ -1,6 +1,4 @@
-use mathlib.Core.Path.{◌∙◌}
 use Rattle.linking.proofs.Answers.{refused-so}
-use borrow.Author.Rules.{rules}
 use Rattle.linking.proofs.refuse.Goals as goal
 
 -- src/lib.rt:79:1

@@ -1,17 +1,9 @@
 -- `linkpairs::collect` meets its contract: what is gathered of the objects left is gathered of all.
-use mathlib.Core.List.{List}
-use mathlib.Core.Path.{◌≡◌, refl, sym, ◌∙◌}
+use mathlib.Core.Path.{refl, sym, ◌∙◌}
 use native.Mathlib.Omega.{arith}
-use Prim.Native.Nat.{ℕ, ◌+◌, ◌-◌, ◌≤◌}
-use lib.ListN.{length}
 use Rattle.linkpairs.proofs.Collecting.{pairs-as, moved}
-use Rattle.linkpairs.proofs.Objects.{all_known, Going, going-first, going_next, going-over, going_end}
-use Rattle.linkpairs.specs.Standing.{Sections}
+use Rattle.linkpairs.proofs.Objects.{all_known, going-first, going_next, going-over, going_end}
 use Rattle.machine.specs.Bytes.{words_of}
-use Rattle.names.specs.Known.{Names}
-use Rattle.parts.specs.Form.{AreObjects}
-use Rattle.syntax.specs.Texts.{Common}
-use Rattle.syntax.specs.Written.{Program}
 use Rattle.linkpairs.proofs.collect.Goals as goal
 
 pub total-end-requires : goal.total-end-requires

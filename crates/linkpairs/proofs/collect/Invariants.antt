@@ -1,11 +1,9 @@
 -- `linkpairs::collect` meets its contract: what is gathered of the objects left is gathered of all.
 use mathlib.Core.List.{List}
-use mathlib.Core.Path.{◌≡◌, refl, sym, ◌∙◌}
-use native.Mathlib.Omega.{arith}
+use mathlib.Core.Path.{◌≡◌}
 use Prim.Native.Nat.{ℕ, ◌+◌, ◌-◌, ◌≤◌}
 use lib.ListN.{length}
-use Rattle.linkpairs.proofs.Collecting.{pairs-as, moved}
-use Rattle.linkpairs.proofs.Objects.{all_known, Going, going-first, going_next, going-over, going_end}
+use Rattle.linkpairs.proofs.Objects.{Going}
 use Rattle.linkpairs.specs.Standing.{Sections}
 use Rattle.machine.specs.Bytes.{words_of}
 use Rattle.names.specs.Known.{Names}

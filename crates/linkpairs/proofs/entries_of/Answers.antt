@@ -1,6 +1,5 @@
 -- `linkpairs::entries_of` meets its contract: where the section's declaration says.
 use native.Mathlib.Omega.{arith}
-use borrow.Author.Rules.{rules}
 use Rattle.linkpairs.proofs.Sections.{row_low, entries-are}
 use Rattle.linkpairs.proofs.Standing.{section-name}
 use Rattle.machine.specs.Bytes.{words_of}

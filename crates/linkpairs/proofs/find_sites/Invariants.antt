@@ -1,11 +1,7 @@
 -- `linkpairs::find_sites` meets its contract: two numbers a pair, those of the pairs passed kept.
-use mathlib.Core.Path.{◌≡◌, refl, ◌∙◌}
-use native.Mathlib.Omega.{arith}
-use Prim.Native.Nat.{◌+◌, ◌*◌, ◌-◌, ◌≤◌}
-use lib.ListN.{length, set, length-set}
-use Rattle.linker.proofs.Placing.{place-bound}
-use Rattle.linker.specs.Place.{text_at}
-use Rattle.linkpairs.proofs.Making.{site-found, sites-more}
+use mathlib.Core.Path.{◌≡◌}
+use Prim.Native.Nat.{◌-◌, ◌≤◌}
+use lib.ListN.{length}
 use Rattle.linkpairs.specs.Places.{SitesFound}
 use Rattle.machine.specs.Bytes.{words_of}
 use Rattle.linkpairs.proofs.find_sites.Given as goal

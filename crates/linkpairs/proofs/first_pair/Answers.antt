@@ -1,7 +1,6 @@
 -- `linkpairs::first_pair` meets its contract: behind seven words and the common part stand the pairs.
 use mathlib.Core.Path.{refl}
 use native.Mathlib.Omega.{arith}
-use borrow.Author.Rules.{rules}
 use Rattle.linkpairs.proofs.Standing.{pairs-at, pairs_inside}
 use Rattle.machine.specs.Bytes.{words_of}
 use Rattle.linkpairs.proofs.first_pair.Goals as goal

@@ -1,5 +1,4 @@
 -- `linkpairs::levels_of` meets its contract: the levels of the entries found.
-use borrow.Author.Rules.{rules}
 use Rattle.linkpairs.proofs.Sections.{levels-counted}
 use Rattle.linkpairs.proofs.levels_of.Goals as goal
 

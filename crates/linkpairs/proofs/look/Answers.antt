@@ -1,13 +1,8 @@
 -- `linkpairs::look` meets its contract: the pairs passed are others.
-use mathlib.Core.List.{List}
-use mathlib.Core.Path.{◌≡◌, sym, ◌∙◌}
+use mathlib.Core.Path.{sym, ◌∙◌}
 use native.Mathlib.Omega.{arith}
-use Prim.Native.Nat.{◌-◌, ◌≤◌}
-use lib.ListN.{length}
-use Rattle.linkpairs.proofs.Looking.{Looking, look-first, look-here, look-on, look-end}
-use Rattle.linkpairs.specs.Standing.{PairAt, Stand}
+use Rattle.linkpairs.proofs.Looking.{look-first, look-here, look-on, look-end}
 use Rattle.machine.specs.Bytes.{words_of}
-use Rattle.names.specs.Uses.{Use}
 use Rattle.linkpairs.proofs.look.Goals as goal
 
 pub loop-i-init : goal.loop-i-init

@@ -1,10 +1,9 @@
 -- `linkpairs::look` meets its contract: the pairs passed are others.
 use mathlib.Core.List.{List}
-use mathlib.Core.Path.{◌≡◌, sym, ◌∙◌}
-use native.Mathlib.Omega.{arith}
+use mathlib.Core.Path.{◌≡◌}
 use Prim.Native.Nat.{◌-◌, ◌≤◌}
 use lib.ListN.{length}
-use Rattle.linkpairs.proofs.Looking.{Looking, look-first, look-here, look-on, look-end}
+use Rattle.linkpairs.proofs.Looking.{Looking}
 use Rattle.linkpairs.specs.Standing.{PairAt, Stand}
 use Rattle.machine.specs.Bytes.{words_of}
 use Rattle.names.specs.Uses.{Use}

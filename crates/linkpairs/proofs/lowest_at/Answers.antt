@@ -3,7 +3,6 @@ use mathlib.Core.Path.{◌≡◌, sym, ap, ◌∙◌}
 use native.Mathlib.Omega.{arith}
 use Prim.Native.Nat.{ℕ, ◌+◌}
 use lib.ListN.{get_or}
-use borrow.Author.Rules.{rules}
 use Rattle.linkpairs.proofs.Looking.{lowest-there, lowest-none}
 use Rattle.linkpairs.specs.Gather.{index_of}
 use Rattle.linkpairs.proofs.lowest_at.Goals as goal

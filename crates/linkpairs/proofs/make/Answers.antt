@@ -1,12 +1,7 @@
 -- `linkpairs::make` meets its contract: what is made for the pairs left is made behind those passed.
-use mathlib.Core.List.{List}
-use mathlib.Core.Path.{◌≡◌, refl, sym, ◌∙◌}
+use mathlib.Core.Path.{refl, sym, ◌∙◌}
 use native.Mathlib.Omega.{arith}
-use Prim.Native.Nat.{ℕ, ◌+◌, ◌-◌, ◌<◌, ◌≤◌}
-use lib.ListN.{length}
-use Rattle.levels.specs.declared.Made.{Made}
 use Rattle.linkpairs.proofs.Making.{rules-done, rules-step, rules-first}
-use Rattle.linkpairs.specs.Places.{RulesMade}
 use Rattle.linkpairs.proofs.make.Goals as goal
 
 pub loop-j-init : goal.loop-j-init

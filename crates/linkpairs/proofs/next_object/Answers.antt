@@ -2,7 +2,6 @@
 use mathlib.Core.Path.{refl}
 use native.Mathlib.Omega.{arith}
 use Prim.Native.Nat.{◌+◌, ◌*◌}
-use borrow.Author.Rules.{rules}
 use Rattle.linkpairs.proofs.Standing.{object-inside, behind-object}
 use Rattle.machine.specs.Bytes.{words_of}
 use Rattle.linkpairs.proofs.next_object.Goals as goal

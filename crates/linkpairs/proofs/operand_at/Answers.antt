@@ -1,6 +1,5 @@
 -- `linkpairs::operand_at` meets its contract: behind the section's name stands the operand rule's.
 use native.Mathlib.Omega.{arith}
-use borrow.Author.Rules.{rules}
 use Rattle.linkpairs.proofs.Standing.{operand-name}
 use Rattle.machine.specs.Bytes.{words_of}
 use Rattle.linkpairs.proofs.operand_at.Goals as goal

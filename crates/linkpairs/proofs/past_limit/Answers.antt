@@ -3,7 +3,6 @@ use mathlib.Core.Path.{◌≡◌, refl, ap, ◌∙◌}
 use native.Mathlib.Omega.{arith}
 use Prim.Native.Nat.{ℕ, ◌+◌}
 use lib.ListN.{get_or}
-use borrow.Author.Rules.{rules}
 use Rattle.linkpairs.proofs.Standing.{pair_inside, sign-start, sign-size}
 use Rattle.machine.specs.Bytes.{words_of}
 use Rattle.linkpairs.proofs.past_limit.Goals as goal

@@ -1,5 +1,4 @@
 -- `linkpairs::same_pair` meets its contract: both names are the same.
-use borrow.Author.Rules.{rules}
 use Rattle.linkpairs.proofs.Looking.{pair-yes, pair-no}
 use Rattle.linkpairs.proofs.Standing.{section-name}
 use Rattle.machine.specs.Bytes.{words_of}

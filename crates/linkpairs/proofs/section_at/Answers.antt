@@ -1,7 +1,6 @@
 -- `linkpairs::section_at` meets its contract: past the pair's two numbers stands its section's name.
 use mathlib.Core.Path.{refl}
 use native.Mathlib.Omega.{arith}
-use borrow.Author.Rules.{rules}
 use Rattle.linkpairs.proofs.Standing.{pair_inside}
 use Rattle.machine.specs.Bytes.{words_of}
 use Rattle.linkpairs.proofs.section_at.Goals as goal

@@ -1,6 +1,5 @@
 -- `linkpairs::take_pair` meets its contract: the pair stands there, passes a limit or is put behind the others.
 use native.Mathlib.Omega.{arith}
-use borrow.Author.Rules.{rules}
 use Rattle.base.proofs.Laws.{above_zero}
 use Rattle.linkpairs.proofs.Collecting.{taken-again, taken-empty, taken-over, taken-new, few-more}
 use Rattle.linkpairs.proofs.take_pair.Goals as goal

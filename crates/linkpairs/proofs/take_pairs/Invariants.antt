@@ -1,10 +1,8 @@
 -- `linkpairs::take_pairs` meets its contract: what is gathered of the pairs left is gathered of all.
 use mathlib.Core.List.{List}
-use mathlib.Core.Path.{◌≡◌, refl, sym, ◌∙◌}
-use native.Mathlib.Omega.{arith}
-use Prim.Native.Nat.{ℕ, ◌-◌, ◌≤◌}
+use mathlib.Core.Path.{◌≡◌}
+use Prim.Native.Nat.{ℕ, ◌≤◌}
 use lib.ListN.{length}
-use Rattle.linkpairs.proofs.Collecting.{pairs-done, pairs-over, pairs-off, pairs-step, pairs-as, moved}
 use Rattle.linkpairs.specs.Standing.{PairsTaken}
 use Rattle.linkpairs.specs.declared.Spot.{Spot}
 use Rattle.machine.specs.Bytes.{words_of}

@@ -1,5 +1,4 @@
 -- `lister::list` meets its contract, by its two ends.
-use borrow.Author.Rules.{rules}
 use native.Mathlib.Omega.{arith}
 use Rattle.machine.specs.Bytes.{count}
 use Rattle.lister.proofs.Steps.{list-refused, list-accepted, counted, line-most}

@@ -1,6 +1,6 @@
 -- `listing::line_feeds` meets its contract: the count is that of the bytes passed.
 use mathlib.Core.Path.{◌≡◌, ◌∙◌, ap}
-use Prim.Native.Nat.{ℕ, ◌+◌, ◌-◌, ◌≤◌}
+use Prim.Native.Nat.{ℕ, ◌+◌}
 use native.Mathlib.Omega.{arith}
 use lib.ListN.{length, take}
 use lib.Seq.{take-length}
@@ -29,8 +29,8 @@ loop-i-preserved c =
     let text = c.args.text.now in
     let l = c.loop-i in
     elim c.if-text-i-eq10.branch [
-      then-text-i-eq10 w ↦ (omega arith, omega arith, w.feeds-is ∙ ap (λ (n : ℕ). n + 1) l.invariant.2 ∙ feed-more text l.i (omega arith) w.if-text-i-eq10.true)
-    | else-text-i-eq10 w ↦ (omega arith, omega arith, w.feeds-is ∙ l.invariant.2 ∙ feed-same text l.i (omega arith) w.if-text-i-eq10.false)
+      | then-text-i-eq10 w ↦ (omega arith, omega arith, w.feeds-is ∙ ap (λ (n : ℕ). n + 1) l.invariant.2 ∙ feed-more text l.i (omega arith) w.if-text-i-eq10.true)
+      | else-text-i-eq10 w ↦ (omega arith, omega arith, w.feeds-is ∙ l.invariant.2 ∙ feed-same text l.i (omega arith) w.if-text-i-eq10.false)
     ]
 
 pub returns : goal.returns

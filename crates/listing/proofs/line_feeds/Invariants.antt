@@ -1,12 +1,8 @@
 -- `listing::line_feeds` meets its contract: the count is that of the bytes passed.
-use mathlib.Core.Logic.{⊎_elim}
-use mathlib.Core.Path.{◌≡◌, ◌∙◌, ap}
-use Prim.Native.Nat.{ℕ, ◌+◌, ◌-◌, ◌≤◌}
-use native.Mathlib.Omega.{arith}
+use mathlib.Core.Path.{◌≡◌}
+use Prim.Native.Nat.{◌-◌, ◌≤◌}
 use lib.ListN.{length, take}
-use lib.Seq.{take-length}
 use Rattle.listing.specs.Listing.{line_feeds}
-use Rattle.listing.proofs.Lines.{feeds-none, feed-more, feed-same}
 use Rattle.listing.proofs.line_feeds.Given as goal
 
 abbrev pub invariant-loop-i : goal.invariant-loop-i

@@ -1,5 +1,4 @@
 -- `listing::list_refusal` meets its contract: five runs of bytes, one behind the other.
-use borrow.Author.Rules.{rules}
 use native.Mathlib.Omega.{arith}
 use Rattle.listing.specs.Listing.{refusal_listing}
 use Rattle.listing.proofs.Laws.{puts_then, listed}

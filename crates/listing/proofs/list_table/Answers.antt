@@ -1,5 +1,4 @@
 -- `listing::list_table` meets its contract: the heading, the figure, then the lines.
-use borrow.Author.Rules.{rules}
 use native.Mathlib.Omega.{arith}
 use Rattle.listing.specs.Listing.{table_listing}
 use Rattle.listing.proofs.Laws.{puts_then, listed}

@@ -2,7 +2,6 @@
 use mathlib.Core.Path.{ap, ◌∙◌}
 use lib.ListN.{length, length-set}
 use Rattle.listing.proofs.Laws.{byte-in, byte-out}
-use borrow.Author.Rules.{rules}
 use Rattle.listing.proofs.put_byte.Goals.{then-at-out, else-at-out}
 use Rattle.listing.proofs.put_byte.Goals as goal
 

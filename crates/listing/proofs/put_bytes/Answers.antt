@@ -1,9 +1,7 @@
 -- `listing::put_bytes` meets its contract: what is left to write gives the whole.
-use mathlib.Core.Path.{◌≡◌, refl, ◌∙◌}
-use Prim.Native.Nat.{◌+◌, ◌-◌, ◌≤◌}
+use mathlib.Core.Path.{refl, ◌∙◌}
 use native.Mathlib.Omega.{arith}
-use lib.ListN.{length, drop}
-use Rattle.listing.proofs.Laws.{Left, puts-length, left-all, left-byte, left_end}
+use Rattle.listing.proofs.Laws.{puts-length, left-all, left-byte, left_end}
 use Rattle.listing.proofs.put_bytes.Goals as goal
 
 pub loop-i-init : goal.loop-i-init

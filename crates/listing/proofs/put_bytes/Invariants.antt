@@ -1,9 +1,8 @@
 -- `listing::put_bytes` meets its contract: what is left to write gives the whole.
-use mathlib.Core.Path.{◌≡◌, refl, ◌∙◌}
+use mathlib.Core.Path.{◌≡◌}
 use Prim.Native.Nat.{◌+◌, ◌-◌, ◌≤◌}
-use native.Mathlib.Omega.{arith}
 use lib.ListN.{length, drop}
-use Rattle.listing.proofs.Laws.{Left, puts-length, left-all, left-byte, left_end}
+use Rattle.listing.proofs.Laws.{Left}
 use Rattle.listing.proofs.put_bytes.Given as goal
 
 abbrev pub invariant-loop-i : goal.invariant-loop-i

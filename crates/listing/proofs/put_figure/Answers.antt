@@ -1,5 +1,4 @@
 -- `listing::put_figure` meets its contract, by the figure.
-use borrow.Author.Rules.{rules}
 use native.Mathlib.Omega.{arith}
 use Rattle.listing.proofs.Laws.{figure-none, figure-some}
 use Rattle.listing.proofs.put_figure.Goals as goal

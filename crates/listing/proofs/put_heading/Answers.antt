@@ -1,5 +1,4 @@
 -- `listing::put_heading` meets its contract: four runs of bytes, one behind the other.
-use borrow.Author.Rules.{rules}
 use native.Mathlib.Omega.{arith}
 use Rattle.listing.specs.Listing.{heading}
 use Rattle.listing.proofs.Laws.{puts_then}

@@ -1,5 +1,4 @@
 -- `listing::put_line` meets its contract: four runs of bytes, one behind the other.
-use borrow.Author.Rules.{rules}
 use Rattle.listing.specs.Listing.{word_line}
 use Rattle.listing.proofs.Laws.{puts_then}
 use Rattle.listing.proofs.put_line.Goals as goal

@@ -1,5 +1,4 @@
 -- `listing::put_verdict` meets its contract, by the verdict.
-use borrow.Author.Rules.{rules}
 use native.Mathlib.Omega.{arith}
 use Rattle.listing.specs.Listing.{verdict_end}
 use Rattle.listing.proofs.put_verdict.Goals as goal

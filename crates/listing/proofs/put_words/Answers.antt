@@ -1,11 +1,8 @@
 -- `listing::put_words` meets its contract: the lines left to write give the whole.
-use mathlib.Core.Path.{◌≡◌, refl, ◌∙◌}
-use Prim.Native.Nat.{◌+◌, ◌*◌, ◌-◌, ◌≤◌}
+use mathlib.Core.Path.{refl, ◌∙◌}
+use Prim.Native.Nat.{◌+◌}
 use native.Mathlib.Omega.{arith}
-use lib.ListN.{length, take, drop}
-use Rattle.machine.specs.Bytes.{words_of}
-use Rattle.listing.specs.Listing.{word_lines}
-use Rattle.listing.proofs.Laws.{Left, puts-length, left-all}
+use Rattle.listing.proofs.Laws.{puts-length, left-all}
 use Rattle.listing.proofs.Lines.{line-short, left-line, left-lines}
 use Rattle.listing.proofs.put_words.Goals as goal
 

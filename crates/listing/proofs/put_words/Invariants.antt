@@ -1,12 +1,10 @@
 -- `listing::put_words` meets its contract: the lines left to write give the whole.
-use mathlib.Core.Path.{◌≡◌, refl, ◌∙◌}
+use mathlib.Core.Path.{◌≡◌}
 use Prim.Native.Nat.{◌+◌, ◌*◌, ◌-◌, ◌≤◌}
-use native.Mathlib.Omega.{arith}
 use lib.ListN.{length, take, drop}
 use Rattle.machine.specs.Bytes.{words_of}
 use Rattle.listing.specs.Listing.{word_lines}
-use Rattle.listing.proofs.Laws.{Left, puts-length, left-all}
-use Rattle.listing.proofs.Lines.{line-short, left-line, left-lines}
+use Rattle.listing.proofs.Laws.{Left}
 use Rattle.listing.proofs.put_words.Given as goal
 
 abbrev pub invariant-loop-i : goal.invariant-loop-i

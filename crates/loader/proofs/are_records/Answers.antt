@@ -1,9 +1,7 @@
 -- `loader::are_records` meets its contract.
-use mathlib.Core.Path.{◌≡◌, sym, ◌∙◌}
+use mathlib.Core.Path.{sym, ◌∙◌}
 use native.Mathlib.Omega.{arith}
-use borrow.Author.Tests.{not-true, not-false}
 use Rattle.machine.specs.Bytes.{words_of}
-use Rattle.loader.specs.Records.{Read}
 use Rattle.loader.proofs.Filing.{read-start, read-on, read-bad, read-end}
 use Rattle.loader.proofs.are_records.Goals as goal
 

@@ -1,8 +1,6 @@
-use mathlib.Core.Path.{◌≡◌, ◌∙◌, sym}
+use mathlib.Core.Path.{◌≡◌}
 use Prim.Native.Nat.{ℕ, ◌-◌, ◌<◌, ◌≤◌}
-use native.Mathlib.Omega.{arith}
-use lib.ListN.{length, get_or, length-set}
-use Rattle.loader.proofs.Visits.{cleared, clear_next}
+use lib.ListN.{length, get_or}
 use Rattle.loader.proofs.clear.Given as goal
 
 abbrev pub invariant-loop-i : goal.invariant-loop-i

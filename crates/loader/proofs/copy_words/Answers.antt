@@ -1,9 +1,7 @@
 -- `loader::copy_words` meets its contract.
-use mathlib.Core.Path.{◌≡◌, ap, ◌∙◌}
+use mathlib.Core.Path.{ap, ◌∙◌}
 use native.Mathlib.Omega.{arith}
-use Prim.Native.Nat.{◌-◌, ◌≤◌}
-use lib.ListN.{length, take}
-use Rattle.machine.specs.Bytes.{bytes_of, over}
+use lib.ListN.{length}
 use Rattle.loading.specs.File.{table_named}
 use Rattle.buffers.proofs.Writes.{upto-start, upto-size, upto_put, upto-end}
 use Rattle.loader.proofs.Loading.{word-named}

@@ -1,12 +1,9 @@
 -- `loader::copy_words` meets its contract.
-use mathlib.Core.Path.{◌≡◌, ap, ◌∙◌}
-use native.Mathlib.Omega.{arith}
+use mathlib.Core.Path.{◌≡◌}
 use Prim.Native.Nat.{◌-◌, ◌≤◌}
-use lib.ListN.{length, take}
+use lib.ListN.{take}
 use Rattle.machine.specs.Bytes.{bytes_of, over}
 use Rattle.loading.specs.File.{table_named}
-use Rattle.buffers.proofs.Writes.{upto-start, upto-size, upto_put, upto-end}
-use Rattle.loader.proofs.Loading.{word-named}
 use Rattle.loader.proofs.copy_words.Given as goal
 
 abbrev pub invariant-loop-k : goal.invariant-loop-k

@@ -1,7 +1,6 @@
 -- `loader::file_words` meets its contract.
-use mathlib.Core.Path.{◌≡◌, ◌∙◌}
+use mathlib.Core.Path.{◌∙◌}
 use native.Mathlib.Omega.{arith}
-use borrow.Author.Tests.{not-true, not-false}
 use Rattle.base.proofs.Laws.{above_zero}
 use Rattle.loader.proofs.Filing.{odd-file, first-file, second-file, length-file, verdict_file, records-file, whole-file}
 use Rattle.loader.proofs.file_words.Goals as goal

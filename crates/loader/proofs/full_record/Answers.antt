@@ -1,5 +1,5 @@
 -- `loader::full_record` meets its contract.
-use mathlib.Core.Path.{◌≡◌, refl, ◌∙◌}
+use mathlib.Core.Path.{refl, ◌∙◌}
 use native.Mathlib.Omega.{arith}
 use Rattle.loader.proofs.Filing.{full-mark, full-count, full-there}
 use Rattle.loader.proofs.full_record.Goals as goal

@@ -1,5 +1,4 @@
 use Rattle.loader.proofs.Passing.{not-whole}
-use borrow.Author.Rules.{rules}
 use Rattle.loader.proofs.is_block.Goals as goal
 
 pub returns-then-e-ne-BLOCK : goal.returns-then-e-ne-BLOCK

@@ -1,5 +1,5 @@
 -- `loader::last_record` meets its contract.
-use mathlib.Core.Path.{◌≡◌, refl, ◌∙◌}
+use mathlib.Core.Path.{refl, ◌∙◌}
 use native.Mathlib.Omega.{arith}
 use Rattle.loader.proofs.Filing.{last-mark, last-count, last-there}
 use Rattle.loader.proofs.last_record.Goals as goal

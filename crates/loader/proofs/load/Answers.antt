@@ -1,8 +1,6 @@
 -- `loader::load` meets its contract.
-use mathlib.Core.Path.{◌≡◌, sym, ap, ◌∙◌}
+use mathlib.Core.Path.{sym, ap, ◌∙◌}
 use native.Mathlib.Omega.{arith}
-use borrow.Author.Tests.{not-true, not-false}
-use lib.ListN.{length}
 use Rattle.machine.specs.Bytes.{count, bytes_of, over}
 use Rattle.loading.specs.File.{table_named}
 use Rattle.buffers.specs.Words.{zeroed}

@@ -1,4 +1,3 @@
-use borrow.Author.Rules.{rules}
 use native.Mathlib.Omega.{arith}
 use Rattle.loader.proofs.Laws.{room, mark-zero, mark-past, mark-old, mark-new}
 use Rattle.loader.proofs.mark.Goals as goal

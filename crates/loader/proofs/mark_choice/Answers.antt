@@ -1,5 +1,5 @@
 use native.Mathlib.Omega.{arith}
-use mathlib.Core.Path.{◌≡◌, sym, ◌∙◌}
+use mathlib.Core.Path.{sym, ◌∙◌}
 use borrow.Author.Tests.{not-true, not-false}
 use Rattle.loader.proofs.Visits.{choice-past, choice-cut, choice-stop, choice-on}
 use Rattle.loader.proofs.Passing.{through-mark}

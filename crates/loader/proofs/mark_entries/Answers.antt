@@ -1,10 +1,7 @@
-use mathlib.Core.Path.{◌≡◌, refl, sym, ◌∙◌}
-use Prim.Native.Nat.{◌-◌}
+use mathlib.Core.Path.{refl, sym, ◌∙◌}
 use native.Mathlib.Omega.{arith}
 use borrow.Author.Tests.{not-true, not-false}
-use Rattle.machine.specs.Bytes.{table_of}
-use Rattle.loader.specs.Passing.{Passed}
-use Rattle.loader.proofs.Laws.{Along, along-start, along-end}
+use Rattle.loader.proofs.Laws.{along-start, along-end}
 use Rattle.loader.proofs.Passing.{lies-part, along-by, along-halt}
 use Rattle.loader.proofs.mark_entries.Goals as goal
 

@@ -1,11 +1,8 @@
-use mathlib.Core.Path.{◌≡◌, refl, sym, ◌∙◌}
+use mathlib.Core.Path.{◌≡◌}
 use Prim.Native.Nat.{◌-◌}
-use native.Mathlib.Omega.{arith}
-use borrow.Author.Tests.{not-true, not-false}
 use Rattle.machine.specs.Bytes.{table_of}
 use Rattle.loader.specs.Passing.{Passed}
-use Rattle.loader.proofs.Laws.{Along, along-start, along-end}
-use Rattle.loader.proofs.Passing.{lies-part, along-by, along-halt}
+use Rattle.loader.proofs.Laws.{Along}
 use Rattle.loader.proofs.mark_entries.Given as goal
 
 abbrev pub invariant-loop-i : goal.invariant-loop-i

@@ -1,9 +1,7 @@
 use borrow.Author.Tests.{not-true, not-false}
 use mathlib.Core.Path.{◌∙◌, sym}
-use Prim.Native.Nat.{◌-◌}
 use native.Mathlib.Omega.{arith}
-use Rattle.machine.specs.Bytes.{table_of}
-use Rattle.loader.proofs.Laws.{back_is, Along, along-start, along-next, along-stop, along-end}
+use Rattle.loader.proofs.Laws.{back_is, along-start, along-next, along-stop, along-end}
 use Rattle.loader.proofs.mark_labels.Goals as goal
 
 pub loop-i-init : goal.loop-i-init

@@ -1,7 +1,6 @@
 use lib.ListN.{length-set}
-use mathlib.Core.Path.{◌≡◌, refl, sym, ◌∙◌}
+use mathlib.Core.Path.{refl, sym, ◌∙◌}
 use native.Mathlib.Omega.{arith}
-use borrow.Author.Tests.{not-false}
 use Rattle.loader.proofs.Passing.{through-marks, piece-done, piece-new}
 use Rattle.loader.proofs.mark_piece.Goals as goal
 

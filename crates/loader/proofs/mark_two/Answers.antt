@@ -1,6 +1,5 @@
 use borrow.Author.Tests.{not-true, not-false}
 use Rattle.loader.proofs.Visits.{two-stop, two-on}
-use borrow.Author.Rules.{rules}
 use Rattle.loader.proofs.mark_two.Goals as goal
 
 pub returns-then-not-r : goal.returns-then-not-r

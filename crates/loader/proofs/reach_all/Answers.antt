@@ -1,11 +1,9 @@
-use mathlib.Core.Path.{◌≡◌, sym, ◌∙◌}
-use Prim.Native.Nat.{◌-◌}
+use mathlib.Core.Path.{sym, ◌∙◌}
 use native.Mathlib.Omega.{arith}
 use borrow.Author.Tests.{not-true, not-false}
 use Rattle.machine.specs.Bytes.{table_of}
 use Rattle.machine.proofs.Bytes.{length-table_of}
-use Rattle.loader.specs.Passing.{Passed}
-use Rattle.loader.proofs.Reaches.{Loop, loop-kept, loop-start, loop-none, loop-low, loop-row, loop-flags, loop-end, loop-ready, loop-fails, loop-next}
+use Rattle.loader.proofs.Reaches.{loop-kept, loop-start, loop-none, loop-low, loop-row, loop-flags, loop-end, loop-ready, loop-fails, loop-next}
 use Rattle.loader.proofs.Passing.{none_passed, passed-room}
 use Rattle.loader.proofs.reach_all.Goals as goal
 

@@ -1,4 +1,3 @@
-use borrow.Author.Rules.{rules}
 use native.Mathlib.Omega.{arith}
 use Rattle.loader.proofs.Laws.{table-length}
 use Rattle.loader.proofs.size_of.Goals as goal

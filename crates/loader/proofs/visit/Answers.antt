@@ -1,5 +1,5 @@
 use native.Mathlib.Omega.{arith}
-use mathlib.Core.Path.{◌≡◌, sym, ◌∙◌}
+use mathlib.Core.Path.{sym, ◌∙◌}
 use Rattle.loader.proofs.Visits.{outside-none, outside-cut, here-is, holds-one, takes_two, two-words}
 use Rattle.loader.proofs.Passing.{through-visit}
 use Rattle.loader.proofs.visit.Goals as goal

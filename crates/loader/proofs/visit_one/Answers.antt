@@ -1,6 +1,5 @@
 use mathlib.Core.Logic.{inl, inr}
 use Rattle.loader.proofs.Visits.{ends_there, one_on}
-use borrow.Author.Rules.{rules}
 use Rattle.loader.proofs.visit_one.Goals as goal
 
 pub returns-then-i-eq-RETURN : goal.returns-then-i-eq-RETURN

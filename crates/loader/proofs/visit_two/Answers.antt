@@ -1,5 +1,5 @@
 use native.Mathlib.Omega.{arith}
-use mathlib.Core.Path.{◌≡◌, sym, ◌∙◌}
+use mathlib.Core.Path.{sym, ◌∙◌}
 use Rattle.loader.proofs.Visits.{same-work, forward-is, back_is, input-choice-is, choice-is, call-is, on-is}
 use Rattle.loader.proofs.Passing.{through-visit, same-through}
 use Rattle.loader.proofs.visit_two.Goals as goal

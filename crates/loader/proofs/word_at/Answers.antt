@@ -1,4 +1,3 @@
-use borrow.Author.Rules.{rules}
 use mathlib.Core.Option.{some}
 use mathlib.Core.Path.{◌∙◌, ap, sym}
 use Rattle.loader.proofs.Laws.{table-fetch}

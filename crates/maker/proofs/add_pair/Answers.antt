@@ -1,7 +1,6 @@
 -- `maker::add_pair` meets its contract.
 use mathlib.Core.Path.{refl}
 use Rattle.maker.proofs.Holding.{pair_put}
-use borrow.Author.Rules.{rules}
 use Rattle.maker.proofs.add_pair.Goals as goal
 
 -- src/lib.rt:233:1

@@ -1,7 +1,6 @@
 -- `maker::entries_at` meets its contract.
 use native.Mathlib.Omega.{arith}
 use Rattle.maker.proofs.Entering.{place_same, place-past}
-use borrow.Author.Rules.{rules}
 use Rattle.maker.proofs.entries_at.Goals as goal
 
 -- src/lib.rt:183:9

@@ -1,7 +1,6 @@
 -- `maker::is_over` meets its contract.
 use mathlib.Core.Path.{refl}
 use borrow.Author.Tests.{lt-ltb, le-ltb}
-use borrow.Author.Rules.{rules}
 use Rattle.maker.proofs.is_over.Goals as goal
 
 -- src/lib.rt:262:9

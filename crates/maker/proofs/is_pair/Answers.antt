@@ -1,6 +1,5 @@
 -- `maker::is_pair` meets its contract.
 use Rattle.maker.proofs.Holding.{pair-yes, pair-no}
-use borrow.Author.Rules.{rules}
 use Rattle.maker.proofs.is_pair.Goals as goal
 
 -- src/lib.rt:200:9

@@ -1,8 +1,5 @@
 -- `maker::is_without` meets its contract.
-use mathlib.Core.Bool.{false≢true}
 use Prim.Native.Nat.{◌-◌, ◌≤◌}
-use native.Mathlib.Omega.{arith}
-use Rattle.maker.proofs.Walking.{more-without}
 use Rattle.maker.specs.Pairing.{NoSection}
 use Rattle.maker.proofs.is_without.Given as goal
 

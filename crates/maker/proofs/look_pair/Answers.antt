@@ -1,8 +1,5 @@
 -- `maker::look_pair` meets its contract.
 use native.Mathlib.Omega.{arith}
-use mathlib.Core.Path.{◌≡◌}
-use Prim.Native.Nat.{◌-◌, ◌<◌, ◌≤◌}
-use Rattle.maker.specs.Pairs.{pairs_from, pairs_held, look_pair}
 use Rattle.maker.proofs.Holding.{look-first, look_hit, look-on, look-end}
 use Rattle.maker.proofs.look_pair.Goals as goal
 

@@ -1,7 +1,6 @@
 -- `maker::lowest` meets its contract.
 use native.Mathlib.Omega.{arith}
 use Rattle.maker.proofs.Holding.{lowest-there, lowest-none}
-use borrow.Author.Rules.{rules}
 use Rattle.maker.proofs.lowest.Goals as goal
 
 -- src/lib.rt:214:9

@@ -1,10 +1,6 @@
 -- `maker::next_level` meets its contract.
 use native.Mathlib.Omega.{arith}
-use mathlib.Core.Path.{◌≡◌}
-use Prim.Native.Nat.{ℕ, ◌-◌, ◌≤◌}
-use lib.ListN.{length}
-use Rattle.maker.specs.Ranks.{no_rank, RankBound, RankDone}
-use Rattle.maker.specs.declared.Rank.{Rank}
+use Rattle.maker.specs.Ranks.{no_rank}
 use Rattle.maker.proofs.Entering.{rank-last, rank-more, rank-stuck}
 use Rattle.maker.proofs.Ranking.{bound-step, count-step}
 use Rattle.maker.proofs.next_level.Goals as goal

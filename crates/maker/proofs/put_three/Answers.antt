@@ -1,7 +1,6 @@
 -- `maker::put_three` meets its contract.
 use native.Mathlib.Omega.{arith}
 use lib.ListN.{length-set}
-use borrow.Author.Rules.{rules}
 use Rattle.maker.proofs.put_three.Goals as goal
 
 -- src/lib.rt:228:5

@@ -1,6 +1,5 @@
 -- `maker::read_entry` meets its contract.
 use Rattle.maker.proofs.Entering.{entry_read}
-use borrow.Author.Rules.{rules}
 use Rattle.maker.proofs.read_entry.Goals as goal
 
 -- src/lib.rt:96:9

@@ -3,7 +3,6 @@ use native.Mathlib.Omega.{arith}
 use borrow.Author.Tests.{ltb-true, lt-ltb}
 use Rattle.base.specs.Bools.{never}
 use Rattle.maker.proofs.Holding.{use-read}
-use borrow.Author.Rules.{rules}
 use Rattle.maker.proofs.read_use.Goals as goal
 
 -- src/lib.rt:242:9

@@ -1,9 +1,6 @@
 -- `maker::section_levels` meets its contract.
 use native.Mathlib.Omega.{arith}
-use mathlib.Core.Path.{◌≡◌}
-use Prim.Native.Nat.{ℕ, ◌-◌, ◌<◌, ◌≤◌}
-use lib.ListN.{length}
-use Rattle.maker.proofs.Ranking.{CountedAt, levels-first, levels-more, levels-end}
+use Rattle.maker.proofs.Ranking.{levels-first, levels-more, levels-end}
 use Rattle.maker.proofs.section_levels.Goals as goal
 
 -- src/lib.rt:169:9

@@ -1,9 +1,6 @@
 -- `maker::section_levels` meets its contract.
-use native.Mathlib.Omega.{arith}
-use mathlib.Core.Path.{◌≡◌}
-use Prim.Native.Nat.{ℕ, ◌-◌, ◌<◌, ◌≤◌}
-use lib.ListN.{length}
-use Rattle.maker.proofs.Ranking.{CountedAt, levels-first, levels-more, levels-end}
+use Prim.Native.Nat.{◌-◌, ◌<◌, ◌≤◌}
+use Rattle.maker.proofs.Ranking.{CountedAt}
 use Rattle.maker.proofs.section_levels.Given as goal
 
 abbrev pub invariant-loop-l : goal.invariant-loop-l

@@ -2,7 +2,6 @@
 use native.Mathlib.Omega.{arith}
 use borrow.Author.Tests.{not-true, not-false}
 use Rattle.maker.proofs.Taking.{use-missing, use-again, use-empty, use-over, use-added, not-over}
-use borrow.Author.Rules.{rules}
 use Rattle.maker.proofs.take_use.Goals as goal
 
 -- src/lib.rt:284:9

@@ -1,6 +1,5 @@
 -- `maker::take_word` meets its contract.
 use Rattle.maker.proofs.Walking.{word-caret, word-other}
-use borrow.Author.Rules.{rules}
 use Rattle.maker.proofs.take_word.Goals as goal
 
 -- src/lib.rt:318:9

@@ -1,14 +1,8 @@
 -- `maker::take_words` meets its contract.
 use native.Mathlib.Omega.{arith}
-use mathlib.Core.List.{List}
-use mathlib.Core.Path.{◌≡◌, sym, ◌∙◌}
-use Prim.Native.Nat.{ℕ, ◌-◌, ◌≤◌}
-use lib.ListN.{length, get_or}
-use Rattle.maker.specs.Pairing.{PairsFrom}
-use Rattle.maker.specs.declared.Paired.{Paired}
+use mathlib.Core.Path.{sym, ◌∙◌}
 use Rattle.maker.proofs.Walking.{pairs-stop, pairs-last, pairs-over, pairs-step}
 use Rattle.symbols.proofs.Indexing.{kept-behind}
-use Rattle.symbols.specs.Index.{Kept}
 use Rattle.maker.proofs.take_words.Goals as goal
 
 -- src/lib.rt:337:5

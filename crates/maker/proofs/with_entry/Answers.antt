@@ -1,7 +1,6 @@
 -- `maker::with_entry` meets its contract.
 use mathlib.Core.Path.{sym}
 use native.Mathlib.Omega.{arith}
-use borrow.Author.Rules.{rules}
 use Rattle.maker.proofs.Ranking.{step-low, step-high, step-new, step_same}
 use Rattle.maker.proofs.with_entry.Goals as goal
 

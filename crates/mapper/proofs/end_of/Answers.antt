@@ -1,4 +1,3 @@
-use borrow.Author.Rules.{rules}
 use Rattle.mapper.proofs.Made.{end-next, end-over}
 use Rattle.mapper.proofs.end_of.Goals as goal
 

@@ -1,4 +1,3 @@
-use borrow.Author.Rules.{rules}
 use Rattle.frontend.proofs.Meant.{text-read}
 use Rattle.mapper.proofs.Answers.{text-wrong}
 use Rattle.mapper.proofs.map_rules.Goals as goal

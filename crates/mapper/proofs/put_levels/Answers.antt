@@ -1,11 +1,7 @@
 use borrow.Author.Rules.{rules}
-use Rattle.mapping.specs.Mapping.{rows_words}
-use Rattle.mapper.specs.Mapped.{Puts, levels_held}
 use Rattle.mapper.proofs.Made.{levels-start, levels-step, levels-end}
-use lib.ListN.{length}
 use native.Mathlib.Omega.{arith}
-use Prim.Native.Nat.{◌-◌, ◌*◌, ◌≤◌}
-use mathlib.Core.Path.{◌≡◌, refl, ◌∙◌}
+use mathlib.Core.Path.{refl, ◌∙◌}
 use Rattle.mapper.proofs.put_levels.Goals as goal
 
 -- src/lib.rt:80:5

@@ -1,11 +1,7 @@
 use borrow.Author.Rules.{rules}
-use Rattle.mapper.specs.Mapped.{MadePut}
 use Rattle.mapper.proofs.Made.{made-end, made-never, made-next}
-use lib.ListN.{length}
 use native.Mathlib.Omega.{arith}
-use Prim.Native.Nat.{ℕ, ◌-◌, ◌≤◌}
-use mathlib.Core.Path.{◌≡◌, refl, ◌∙◌}
-use mathlib.Core.List.{List}
+use mathlib.Core.Path.{refl, ◌∙◌}
 use Rattle.mapper.proofs.put_made.Goals as goal
 
 pub loop-j-init : goal.loop-j-init

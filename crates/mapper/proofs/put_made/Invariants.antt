@@ -1,10 +1,7 @@
-use borrow.Author.Rules.{rules}
 use Rattle.mapper.specs.Mapped.{MadePut}
-use Rattle.mapper.proofs.Made.{made-end, made-never, made-next}
 use lib.ListN.{length}
-use native.Mathlib.Omega.{arith}
 use Prim.Native.Nat.{ℕ, ◌-◌, ◌≤◌}
-use mathlib.Core.Path.{◌≡◌, refl, ◌∙◌}
+use mathlib.Core.Path.{◌≡◌}
 use mathlib.Core.List.{List}
 use Rattle.mapper.proofs.put_made.Given as goal
 

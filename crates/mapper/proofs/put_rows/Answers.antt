@@ -1,11 +1,5 @@
-use borrow.Author.Rules.{rules}
-use mathlib.Core.Path.{◌≡◌}
-use Prim.Native.Nat.{◌-◌, ◌≤◌}
 use native.Mathlib.Omega.{arith}
-use Rattle.machine.specs.Bytes.{bytes_of, over}
 use Rattle.mapper.proofs.Laws.{row-held, rows_start, rows-put, rows-size, rows_end}
-use Rattle.mapper.specs.Mapped.{held_rows}
-use Rattle.mapping.specs.Mapping.{rows_words}
 use Rattle.mapper.proofs.put_rows.Goals as goal
 
 -- src/lib.rt:75:5

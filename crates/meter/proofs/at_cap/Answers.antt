@@ -1,7 +1,6 @@
 use mathlib.Core.Path.{refl}
 use Rattle.verdict.specs.Told.{bit}
 use Rattle.meter.specs.Store.{at_cap}
-use borrow.Author.Rules.{rules}
 use Rattle.meter.proofs.at_cap.Goals as goal
 
 -- src/lib.rt:58:1

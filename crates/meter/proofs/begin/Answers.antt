@@ -1,10 +1,5 @@
-use Rattle.meter.specs.Store.{numbers_of, called_numbers}
-use mathlib.Core.Path.{◌≡◌}
-use Rattle.meter.proofs.Finds.{BegunUpto, begun_first, begun-next, begun_all}
-use Rattle.machine.specs.Bytes.{table_of}
+use Rattle.meter.proofs.Finds.{begun_first, begun-next, begun_all}
 use borrow.Author.Rules.{rules}
-use lib.ListN.{length}
-use Prim.Native.Nat.{◌-◌}
 use Rattle.meter.proofs.begin.Goals as goal
 
 -- src/lib.rt:469:5

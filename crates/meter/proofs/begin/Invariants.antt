@@ -1,8 +1,7 @@
 use Rattle.meter.specs.Store.{numbers_of, called_numbers}
 use mathlib.Core.Path.{◌≡◌}
-use Rattle.meter.proofs.Finds.{BegunUpto, begun_first, begun-next, begun_all}
+use Rattle.meter.proofs.Finds.{BegunUpto}
 use Rattle.machine.specs.Bytes.{table_of}
-use borrow.Author.Rules.{rules}
 use lib.ListN.{length}
 use Prim.Native.Nat.{◌-◌}
 use Rattle.meter.proofs.begin.Given as goal

@@ -1,6 +1,5 @@
 use mathlib.Core.Path.{sym, ◌∙◌}
 use Rattle.meter.proofs.Store.{called-first, called-own}
-use borrow.Author.Rules.{rules}
 use Rattle.meter.proofs.called_number.Goals as goal
 
 pub returns-then-called-eq-ROWS : goal.returns-then-called-eq-ROWS

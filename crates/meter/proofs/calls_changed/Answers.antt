@@ -1,5 +1,4 @@
 -- `meter::calls_changed` meets its contract.
-use borrow.Author.Rules.{rules}
 use native.Mathlib.Omega.{arith}
 use Rattle.meter.proofs.calls_changed.Goals as goal
 

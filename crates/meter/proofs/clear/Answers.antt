@@ -1,7 +1,6 @@
 use Rattle.meter.proofs.Store.{cleared-numbers}
-use Rattle.meter.proofs.Figures.{ClearedUpto, cleared-first, cleared-next, cleared-all}
+use Rattle.meter.proofs.Figures.{cleared-first, cleared-next, cleared-all}
 use borrow.Author.Rules.{rules}
-use Prim.Native.Nat.{◌-◌}
 use native.Mathlib.Omega.{arith}
 use Rattle.meter.proofs.clear.Goals as goal
 

@@ -1,8 +1,5 @@
-use Rattle.meter.proofs.Store.{cleared-numbers}
-use Rattle.meter.proofs.Figures.{ClearedUpto, cleared-first, cleared-next, cleared-all}
-use borrow.Author.Rules.{rules}
+use Rattle.meter.proofs.Figures.{ClearedUpto}
 use Prim.Native.Nat.{◌-◌}
-use native.Mathlib.Omega.{arith}
 use Rattle.meter.proofs.clear.Given as goal
 
 abbrev pub invariant-loop-i : goal.invariant-loop-i

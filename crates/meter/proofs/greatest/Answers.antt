@@ -1,8 +1,5 @@
-use Rattle.meter.specs.Store.{numbers_of}
 use Rattle.meter.proofs.Store.{length-numbers}
-use Rattle.meter.proofs.Figures.{GreatestUpto, greatest-first, greatest-same, greatest-more, greatest-all}
-use borrow.Author.Rules.{rules}
-use Prim.Native.Nat.{◌-◌}
+use Rattle.meter.proofs.Figures.{greatest-first, greatest-same, greatest-more, greatest-all}
 use native.Mathlib.Omega.{arith}
 use Rattle.meter.proofs.greatest.Goals as goal
 use Rattle.meter.proofs.greatest.Goals.{then-most-v, else-most-v}

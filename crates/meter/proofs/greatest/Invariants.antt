@@ -1,10 +1,6 @@
 use Rattle.meter.specs.Store.{numbers_of}
-use Rattle.meter.proofs.Store.{length-numbers}
-use mathlib.Core.Logic.{⊎_elim}
-use Rattle.meter.proofs.Figures.{GreatestUpto, greatest-first, greatest-same, greatest-more, greatest-all}
-use borrow.Author.Rules.{rules}
+use Rattle.meter.proofs.Figures.{GreatestUpto}
 use Prim.Native.Nat.{◌-◌}
-use native.Mathlib.Omega.{arith}
 use Rattle.meter.proofs.greatest.Given as goal
 
 abbrev pub invariant-loop-i : goal.invariant-loop-i

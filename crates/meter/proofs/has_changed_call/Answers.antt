@@ -1,5 +1,4 @@
 -- `meter::has_changed_call` meets its contract.
-use Prim.Native.Nat.{◌-◌, ◌≤◌}
 use native.Mathlib.Omega.{arith}
 use Rattle.meter.proofs.has_changed_call.Goals as goal
 

@@ -1,6 +1,5 @@
 -- `meter::has_changed_call` meets its contract.
 use Prim.Native.Nat.{◌-◌, ◌≤◌}
-use native.Mathlib.Omega.{arith}
 use Rattle.meter.proofs.has_changed_call.Given as goal
 
 abbrev pub invariant-loop-l : goal.invariant-loop-l

@@ -1,11 +1,8 @@
 -- `meter::is_clear` meets its contract: one number more each time.
-use Prim.Native.Nat.{◌≤◌, ◌-◌}
-use mathlib.Core.Bool.{true}
 use mathlib.Core.Path.{◌≡◌}
 use native.Mathlib.Omega.{arith}
-use borrow.Author.Rules.{rules}
 use Rattle.base.specs.Bools.{never}
-use Rattle.meter.proofs.Store.{ClearUpto, clear_first, clear_next, clear-all}
+use Rattle.meter.proofs.Store.{clear_first, clear_next, clear-all}
 use Rattle.meter.proofs.is_clear.Goals as goal
 
 pub returns-then-i-ne0 : goal.returns-then-i-ne0

@@ -2,10 +2,7 @@
 use Prim.Native.Nat.{◌≤◌, ◌-◌}
 use mathlib.Core.Bool.{true}
 use mathlib.Core.Path.{◌≡◌}
-use native.Mathlib.Omega.{arith}
-use borrow.Author.Rules.{rules}
-use Rattle.base.specs.Bools.{never}
-use Rattle.meter.proofs.Store.{ClearUpto, clear_first, clear_next, clear-all}
+use Rattle.meter.proofs.Store.{ClearUpto}
 use Rattle.meter.proofs.is_clear.Given as goal
 
 abbrev pub invariant-loop-j : goal.invariant-loop-j

@@ -1,5 +1,4 @@
 -- `meter::next_called` meets its contract, in each half.
-use borrow.Author.Rules.{rules}
 use Rattle.meter.specs.Store.{numbers_of}
 use Rattle.meter.proofs.Store.{none_first, none-own}
 use Rattle.meter.proofs.next_called.Goals as goal

@@ -1,10 +1,7 @@
 -- `meter::next_numbered` meets its contract: all that was passed is 0.
 use Prim.Native.Nat.{◌≤◌, ◌-◌}
-use native.Mathlib.Omega.{arith}
-use borrow.Author.Rules.{rules}
 use Rattle.meter.specs.Steps.{ZeroIn}
 use Rattle.meter.specs.Store.{numbers_of}
-use Rattle.meter.proofs.Store.{zero-none, zero_more}
 use Rattle.meter.proofs.next_numbered.Given as goal
 
 abbrev pub invariant-loop-at : goal.invariant-loop-at

@@ -1,7 +1,6 @@
 use mathlib.Core.Path.{sym, ◌∙◌}
 use native.Mathlib.Omega.{arith}
 use Rattle.meter.proofs.Store.{number_past, number-cap, number_word}
-use borrow.Author.Rules.{rules}
 use Rattle.meter.proofs.number.Goals as goal
 
 -- src/lib.rt:71:9

@@ -1,7 +1,6 @@
 -- `meter::past_zeros` meets its contract: what is passed is 0.
 use mathlib.Core.Path.{sym, ◌∙◌}
 use native.Mathlib.Omega.{arith}
-use borrow.Author.Rules.{rules}
 use Rattle.meter.specs.Store.{numbers_of}
 use Prim.Native.Nat.{◌+◌}
 use Rattle.meter.proofs.Store.{zero-none, zero_one, zero-less}

@@ -2,7 +2,6 @@ use Prim.Native.Nat.{◌+◌}
 use Rattle.meter.proofs.Laws.{here-inside, behind-values, behind-nothing, behind-raised}
 use mathlib.Core.Path.{refl}
 use native.Mathlib.Omega.{arith}
-use borrow.Author.Rules.{rules}
 use Rattle.meter.proofs.raise_behind.Goals as goal
 
 pub overflow_add-next : goal.overflow_add-next

@@ -1,4 +1,3 @@
-use borrow.Author.Rules.{rules}
 use native.Mathlib.Omega.{arith}
 use Rattle.machine.proofs.Bytes.{length-table_of}
 use Rattle.meter.proofs.Visits.{label-raised, label-enough}

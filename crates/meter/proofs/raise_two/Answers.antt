@@ -1,5 +1,4 @@
 use Rattle.meter.proofs.Raising.{two}
-use borrow.Author.Rules.{rules}
 use Rattle.meter.proofs.raise_two.Goals as goal
 
 -- src/lib.rt:136:1

@@ -2,7 +2,6 @@ use mathlib.Core.Path.{refl, sym, ◌∙◌}
 use Rattle.meter.proofs.Laws.{choice-fits, rule-inside}
 use Rattle.meter.proofs.Calls.{value-cut, value-other, value-unreached, value-raised}
 use native.Mathlib.Omega.{arith}
-use borrow.Author.Rules.{rules}
 use Rattle.meter.proofs.raise_value.Goals as goal
 
 pub word_at-requires : goal.word_at-requires

@@ -1,12 +1,9 @@
 use Rattle.meter.specs.Store.{numbers_of, called_numbers}
 use lib.ListN.{length}
-use Rattle.meter.proofs.Sweeps.{ValuesUpto, values-first, values-next, values-past, values-all}
-use Rattle.meter.proofs.Laws.{start-end, is-end}
+use Rattle.meter.proofs.Sweeps.{ValuesUpto}
 use Rattle.machine.specs.Bytes.{table_of}
-use borrow.Author.Rules.{rules}
 use mathlib.Core.Path.{◌≡◌}
 use Prim.Native.Nat.{◌-◌}
-use native.Mathlib.Omega.{arith}
 use Rattle.meter.proofs.raise_values.Given as goal
 
 abbrev pub invariant-loop-p : goal.invariant-loop-p

@@ -1,11 +1,6 @@
-use Rattle.meter.specs.Store.{numbers_of}
-use mathlib.Core.Path.{◌≡◌}
-use lib.ListN.{length}
-use Rattle.meter.proofs.Visits.{WaysUpto, ways-first, ways_next, ways-none, ways-all}
-use Rattle.machine.specs.Bytes.{table_of}
+use Rattle.meter.proofs.Visits.{ways-first, ways_next, ways-none, ways-all}
 use Rattle.machine.proofs.Bytes.{length-table_of}
 use borrow.Author.Rules.{rules}
-use Prim.Native.Nat.{◌-◌}
 use native.Mathlib.Omega.{arith}
 use Rattle.meter.proofs.raise_ways.Goals as goal
 

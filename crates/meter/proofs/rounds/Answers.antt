@@ -1,12 +1,5 @@
 -- `meter::rounds` meets its contract.
-use mathlib.Core.Path.{◌≡◌}
-use Prim.Native.Nat.{◌≤◌, ◌-◌}
-use lib.ListN.{length}
 use borrow.Author.Rules.{rules}
-use native.Mathlib.Omega.{arith}
-use Rattle.machine.specs.Bytes.{table_of}
-use Rattle.meter.specs.Steps.{Steps, AskedFrom}
-use Rattle.meter.specs.Store.{numbers_of, called_numbers}
 use Rattle.meter.proofs.Sweeps.{none-asked, then-swept}
 use Rattle.meter.proofs.rounds.Goals as goal
 

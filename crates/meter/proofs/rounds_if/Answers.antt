@@ -1,6 +1,5 @@
 -- `meter::rounds_if` meets its contract.
 use Rattle.meter.proofs.Sweeps.{none-asked}
-use borrow.Author.Rules.{rules}
 use Rattle.meter.proofs.rounds_if.Goals as goal
 
 pub returns : goal.returns

@@ -1,8 +1,4 @@
-use Rattle.meter.specs.Store.{numbers_of, called_numbers}
-use mathlib.Core.Path.{◌≡◌}
-use lib.ListN.{length}
-use Rattle.meter.proofs.Sweeps.{Settling, todo, settling-first, settling-rounds, settling-next, todo-less, settled}
-use Rattle.machine.specs.Bytes.{table_of}
+use Rattle.meter.proofs.Sweeps.{settling-first, settling-rounds, settling-next, todo-less, settled}
 use borrow.Author.Rules.{rules}
 use Rattle.meter.proofs.settle.Goals as goal
 

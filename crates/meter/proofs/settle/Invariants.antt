@@ -1,9 +1,8 @@
 use Rattle.meter.specs.Store.{numbers_of, called_numbers}
 use mathlib.Core.Path.{◌≡◌}
 use lib.ListN.{length}
-use Rattle.meter.proofs.Sweeps.{Settling, todo, settling-first, settling-rounds, settling-next, todo-less, settled}
+use Rattle.meter.proofs.Sweeps.{Settling, todo}
 use Rattle.machine.specs.Bytes.{table_of}
-use borrow.Author.Rules.{rules}
 use Rattle.meter.proofs.settle.Given as goal
 
 abbrev pub invariant-loop-changed : goal.invariant-loop-changed

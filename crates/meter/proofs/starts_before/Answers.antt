@@ -1,7 +1,5 @@
-use Prim.Native.Nat.{◌-◌}
 use native.Mathlib.Omega.{arith}
 use borrow.Author.Rules.{rules}
-use Rattle.meter.specs.Shaped.{Between}
 use Rattle.meter.proofs.Words.{between-all, between-low, between-high, between-met}
 use Rattle.meter.proofs.starts_before.Goals as goal
 

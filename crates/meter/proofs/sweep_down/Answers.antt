@@ -1,8 +1,4 @@
-use Rattle.meter.specs.Store.{numbers_of, called_numbers}
-use mathlib.Core.Path.{◌≡◌}
-use lib.ListN.{length}
-use Rattle.meter.proofs.Sweeps.{RulesFrom, rules-first, rules-next, rules-all}
-use Rattle.machine.specs.Bytes.{table_of}
+use Rattle.meter.proofs.Sweeps.{rules-first, rules-next, rules-all}
 use borrow.Author.Rules.{rules}
 use native.Mathlib.Omega.{arith}
 use Rattle.meter.proofs.sweep_down.Goals as goal

@@ -1,10 +1,8 @@
 use Rattle.meter.specs.Store.{numbers_of, called_numbers}
 use mathlib.Core.Path.{◌≡◌}
 use lib.ListN.{length}
-use Rattle.meter.proofs.Sweeps.{RulesFrom, rules-first, rules-next, rules-all}
+use Rattle.meter.proofs.Sweeps.{RulesFrom}
 use Rattle.machine.specs.Bytes.{table_of}
-use borrow.Author.Rules.{rules}
-use native.Mathlib.Omega.{arith}
 use Rattle.meter.proofs.sweep_down.Given as goal
 
 abbrev pub invariant-loop-r : goal.invariant-loop-r

@@ -1,5 +1,4 @@
 -- `meter::sweep_if` meets its contract.
-use borrow.Author.Rules.{rules}
 use Rattle.meter.proofs.Sweeps.{none-asked, some-swept}
 use Rattle.meter.proofs.sweep_if.Goals as goal
 

@@ -1,11 +1,6 @@
-use Rattle.meter.specs.Store.{numbers_of, called_numbers}
-use mathlib.Core.Path.{◌≡◌}
-use lib.ListN.{length}
-use Rattle.meter.proofs.Sweeps.{SweptUpto, swept-first, swept-next, swept_all}
+use Rattle.meter.proofs.Sweeps.{swept-first, swept-next, swept_all}
 use Rattle.meter.proofs.Laws.{start-end, is-end}
-use Rattle.machine.specs.Bytes.{table_of}
 use borrow.Author.Rules.{rules}
-use Prim.Native.Nat.{◌-◌}
 use native.Mathlib.Omega.{arith}
 use Rattle.meter.proofs.sweep_rule.Goals as goal
 

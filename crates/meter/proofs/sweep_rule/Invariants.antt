@@ -1,12 +1,9 @@
 use Rattle.meter.specs.Store.{numbers_of, called_numbers}
 use mathlib.Core.Path.{◌≡◌}
 use lib.ListN.{length}
-use Rattle.meter.proofs.Sweeps.{SweptUpto, swept-first, swept-next, swept_all}
-use Rattle.meter.proofs.Laws.{start-end, is-end}
+use Rattle.meter.proofs.Sweeps.{SweptUpto}
 use Rattle.machine.specs.Bytes.{table_of}
-use borrow.Author.Rules.{rules}
 use Prim.Native.Nat.{◌-◌}
-use native.Mathlib.Omega.{arith}
 use Rattle.meter.proofs.sweep_rule.Given as goal
 
 abbrev pub invariant-loop-l : goal.invariant-loop-l

@@ -1,9 +1,4 @@
-use Rattle.meter.specs.Store.{numbers_of, called_numbers}
-use mathlib.Core.Path.{◌≡◌}
-use lib.ListN.{length}
-use Prim.Native.Nat.{◌-◌}
-use Rattle.meter.proofs.Sweeps.{RulesBefore, before-first, before-next, before-all}
-use Rattle.machine.specs.Bytes.{table_of}
+use Rattle.meter.proofs.Sweeps.{before-first, before-next, before-all}
 use borrow.Author.Rules.{rules}
 use native.Mathlib.Omega.{arith}
 use Rattle.meter.proofs.sweep_up.Goals as goal

@@ -2,10 +2,8 @@ use Rattle.meter.specs.Store.{numbers_of, called_numbers}
 use mathlib.Core.Path.{◌≡◌}
 use lib.ListN.{length}
 use Prim.Native.Nat.{◌-◌}
-use Rattle.meter.proofs.Sweeps.{RulesBefore, before-first, before-next, before-all}
+use Rattle.meter.proofs.Sweeps.{RulesBefore}
 use Rattle.machine.specs.Bytes.{table_of}
-use borrow.Author.Rules.{rules}
-use native.Mathlib.Omega.{arith}
 use Rattle.meter.proofs.sweep_up.Given as goal
 
 abbrev pub invariant-loop-r : goal.invariant-loop-r

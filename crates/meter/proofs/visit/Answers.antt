@@ -4,7 +4,6 @@ use Rattle.machine.specs.Decode.{decode_one, decode_two}
 use Rattle.loader.proofs.Visits.{decode-none, decode-one, decode-both, decode-short, two-words}
 use mathlib.Core.Path.{sym, ap, ◌∙◌}
 use native.Mathlib.Omega.{arith}
-use borrow.Author.Rules.{rules}
 use Rattle.meter.proofs.visit.Goals as goal
 
 pub returns-then-at-eq0 : goal.returns-then-at-eq0

@@ -1,5 +1,4 @@
 use Rattle.meter.proofs.Visits.{one-return, one_end, one-any, one-update, one-choose}
-use borrow.Author.Rules.{rules}
 use Rattle.meter.proofs.visit_one.Goals as goal
 
 -- src/lib.rt:177:9

@@ -1,7 +1,6 @@
 use Rattle.meter.proofs.Calls.{token-visited}
 use Rattle.machine.proofs.Bytes.{length-table_of}
 use native.Mathlib.Omega.{arith}
-use borrow.Author.Rules.{rules}
 use Rattle.meter.proofs.visit_token.Goals as goal
 
 pub raise_ways-a-requires : goal.raise_ways-a-requires

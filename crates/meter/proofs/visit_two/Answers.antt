@@ -1,7 +1,6 @@
 use Rattle.meter.proofs.Twos.{two-forward, two_back, two-input, two-token, two-call, two_choice, two-plain}
 use Rattle.meter.proofs.Laws.{here-inside, rule-small, token-fits, result_fits, as_call}
 use native.Mathlib.Omega.{arith}
-use borrow.Author.Rules.{rules}
 use Rattle.meter.proofs.visit_two.Goals as goal
 
 pub overflow_add-more : goal.overflow_add-more

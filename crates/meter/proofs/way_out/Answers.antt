@@ -1,9 +1,7 @@
 use native.Mathlib.Omega.{arith}
-use Prim.Native.Nat.{◌-◌}
 use borrow.Author.Rules.{rules}
 use Rattle.machine.proofs.Bytes.{length-table_of}
-use Rattle.machine.specs.Bytes.{table_of}
-use Rattle.meter.proofs.Words.{Seeking, seek-first, seek_found, seek-next, seek-none}
+use Rattle.meter.proofs.Words.{seek-first, seek_found, seek-next, seek-none}
 use Rattle.meter.proofs.way_out.Goals as goal
 
 -- src/lib.rt:109:9

@@ -4,7 +4,6 @@ use native.Mathlib.Omega.{arith}
 use borrow.Author.Tests.{not-true, not-false}
 use Rattle.machine.specs.Bytes.{words_of}
 use Rattle.objects.proofs.Walked.{cycle-none, cycle-some, choice-off, choice-deep, choice-some, act-cycle, act-token, act-ruled, act-asked, acts-start, acts-over, acts-end, acts-fail, acts-more, arm-off, arm-on, last-other, last-bare, arms_start, arms-over, arms_last, arms-fail, arms_more}
-use Prim.Native.Nat.{◌-◌}
 use Rattle.objects.proofs.+act_acts_arm_arms_choice_cycle_last_arm.Goals as goal
 
 pub act-cycle-requires : goal.act-cycle-requires

@@ -1,9 +1,7 @@
 -- `objects::after_call` meets its contract.
 use mathlib.Core.Path.{refl}
-use borrow.Author.Tests.{not-true, not-false}
 use native.Mathlib.Omega.{arith}
 use Rattle.objects.proofs.Told.{leads, name-none, name-some}
-use borrow.Author.Rules.{rules}
 use Rattle.objects.proofs.after_call.Goals as goal
 
 pub returns-then-spot : goal.returns-then-spot

@@ -1,15 +1,9 @@
 -- `objects::among_names` meets its contract: the names passed are others.
 use native.Mathlib.Omega.{arith}
-use mathlib.Core.List.{List}
-use mathlib.Core.Path.{◌≡◌, refl, sym, ◌∙◌}
-use Prim.Native.Nat.{ℕ, ◌+◌, ◌-◌, ◌≤◌}
-use lib.ListN.{length, drop}
-use borrow.Author.Rules.{rules}
+use mathlib.Core.Path.{refl, sym, ◌∙◌}
+use Prim.Native.Nat.{◌+◌, ◌-◌}
 use Rattle.machine.specs.Bytes.{words_of}
-use Rattle.objects.proofs.Among.{Seeking, seeking, none_left, leads-by, found_first, not_first}
-use Rattle.objects.specs.Places.{NameAt}
-use Rattle.objects.specs.Take.{took, times}
-use Rattle.objects.specs.View.{Name, a_name}
+use Rattle.objects.proofs.Among.{seeking, none_left, leads-by, found_first, not_first}
 use Rattle.objects.proofs.among_names.Goals as goal
 
 pub loop-i-init : goal.loop-i-init

@@ -1,7 +1,6 @@
 -- `objects::asked` meets its contract.
 use native.Mathlib.Omega.{arith}
 use Rattle.objects.proofs.Told.{asked-alone, asked-with, asked-none}
-use borrow.Author.Rules.{rules}
 use Rattle.objects.proofs.asked.Goals as goal
 
 pub returns-then-x-lt-ASK_WITH : goal.returns-then-x-lt-ASK_WITH

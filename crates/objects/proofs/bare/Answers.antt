@@ -2,7 +2,6 @@
 use native.Mathlib.Omega.{arith}
 use mathlib.Core.Path.{sym, ◌∙◌}
 use Rattle.objects.proofs.Told.{bare-some, bare-none, token-some, token-none, no_arm}
-use borrow.Author.Rules.{rules}
 use Rattle.objects.proofs.bare.Goals as goal
 
 pub returns-then-token : goal.returns-then-token

@@ -5,7 +5,6 @@ use Prim.Native.Nat.{ℕ}
 use lib.Dec.{eqb}
 use Rattle.machine.specs.Bytes.{words_of}
 use Rattle.objects.proofs.Bodies.{no-body-there, gives-inside, gives-is, calls-inside, cells-inside, all-inside, body-stands}
-use borrow.Author.Rules.{rules}
 use Rattle.objects.proofs.body_at.Goals as goal
 
 pub returns-then-gives-end : goal.returns-then-gives-end

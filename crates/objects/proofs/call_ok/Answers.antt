@@ -3,7 +3,6 @@ use mathlib.Core.Bool.{not}
 use native.Mathlib.Omega.{arith}
 use mathlib.Core.Path.{sym, ap, ◌∙◌}
 use Rattle.objects.proofs.Told.{first_cell, leads, call-named, call-paired}
-use borrow.Author.Rules.{rules}
 use Rattle.objects.proofs.call_ok.Goals as goal
 
 pub returns-then-m-eq0 : goal.returns-then-m-eq0

@@ -3,7 +3,6 @@ use native.Mathlib.Omega.{arith}
 use mathlib.Core.Path.{◌∙◌}
 use Rattle.machine.specs.Bytes.{words_of}
 use Rattle.objects.proofs.Called.{calls_at}
-use borrow.Author.Rules.{rules}
 use Rattle.objects.proofs.calls_name.Goals as goal
 
 pub returns-then-gives-end : goal.returns-then-gives-end

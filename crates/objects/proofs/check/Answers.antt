@@ -1,16 +1,9 @@
 -- `objects::check` meets its contract: the objects passed are in order, and the words left decide.
-use Prim.Native.Nat.{◌*◌, ◌-◌, ◌≤◌}
 use Rattle.machine.specs.Bytes.{words_of}
-use Rattle.names.specs.Known.{Names}
-use Rattle.objects.proofs.Checking.{Checking, taking, seven-on, checking, on-object, bad-object, off-objects, all-objects}
+use Rattle.objects.proofs.Checking.{taking, seven-on, checking, on-object, bad-object, off-objects, all-objects}
 use Rattle.objects.proofs.Views.{view-exact}
-use Rattle.objects.specs.Places.{HeadsAt, SectionsAt}
 use Rattle.objects.specs.Whole.{evenly}
-use Rattle.syntax.specs.Texts.{Head}
-use borrow.Author.Rules.{rules}
-use borrow.Author.Tests.{not-true, not-false}
-use lib.ListN.{length, drop}
-use mathlib.Core.List.{List}
+use lib.ListN.{drop}
 use mathlib.Core.Path.{sym}
 use native.Mathlib.Omega.{arith}
 use Rattle.objects.proofs.check.Goals as goal

@@ -2,17 +2,11 @@
 use Prim.Native.Nat.{◌*◌, ◌-◌, ◌≤◌}
 use Rattle.machine.specs.Bytes.{words_of}
 use Rattle.names.specs.Known.{Names}
-use Rattle.objects.proofs.Checking.{Checking, taking, seven-on, checking, on-object, bad-object, off-objects, all-objects}
-use Rattle.objects.proofs.Views.{view-exact}
+use Rattle.objects.proofs.Checking.{Checking}
 use Rattle.objects.specs.Places.{HeadsAt, SectionsAt}
-use Rattle.objects.specs.Whole.{evenly}
 use Rattle.syntax.specs.Texts.{Head}
-use borrow.Author.Rules.{rules}
-use borrow.Author.Tests.{not-true, not-false}
-use lib.ListN.{length, drop}
+use lib.ListN.{length}
 use mathlib.Core.List.{List}
-use mathlib.Core.Path.{sym}
-use native.Mathlib.Omega.{arith}
 use Rattle.objects.proofs.check.Given as goal
 
 abbrev pub invariant-loop-at : goal.invariant-loop-at

@@ -3,7 +3,6 @@ use native.Mathlib.Omega.{arith}
 use Prim.Native.Nat.{◌+◌, ◌*◌}
 use lib.ListN.{get_or-eq_default}
 use Rattle.objects.proofs.EndsLong.{packed-at}
-use borrow.Author.Rules.{rules}
 use Rattle.objects.proofs.common_word.Goals as goal
 
 pub returns-then-at-common : goal.returns-then-at-common

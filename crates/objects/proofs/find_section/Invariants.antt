@@ -1,13 +1,7 @@
 -- `objects::find_section` meets its contract: the declarations passed are no such section.
 use Prim.Native.Nat.{◌-◌, ◌≤◌}
-use native.Mathlib.Omega.{arith}
-use borrow.Author.Rules.{rules}
-use Rattle.declarations.specs.Decls.{index_of}
 use Rattle.machine.specs.Bytes.{words_of}
-use Rattle.symbols.proofs.Searches.{told-number}
-use Rattle.symbols.specs.Rows.{held}
-use Rattle.symbols.specs.Search.{Tells}
-use Rattle.objects.proofs.Sections.{Seeks, seeks-all, found-section, other-section, no_section}
+use Rattle.objects.proofs.Sections.{Seeks}
 use Rattle.objects.specs.Places.{NameAt}
 use Rattle.objects.specs.View.{Name}
 use Rattle.objects.proofs.find_section.Given as goal

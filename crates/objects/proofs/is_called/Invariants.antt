@@ -1,12 +1,10 @@
 -- `objects::is_called` meets its contract: the rules passed call others.
-use native.Mathlib.Omega.{arith}
 use mathlib.Core.List.{List}
-use mathlib.Core.Path.{◌≡◌, refl, sym, ◌∙◌}
-use Prim.Native.Nat.{ℕ, ◌+◌, ◌-◌, ◌≤◌}
+use mathlib.Core.Path.{◌≡◌}
+use Prim.Native.Nat.{ℕ, ◌-◌, ◌≤◌}
 use lib.ListN.{length, drop}
-use borrow.Author.Rules.{rules}
 use Rattle.machine.specs.Bytes.{words_of}
-use Rattle.objects.proofs.Called.{SeekingRules, seeking-rules, no-rule-left, rules-by, found-rule, not-rule}
+use Rattle.objects.proofs.Called.{SeekingRules}
 use Rattle.objects.specs.Places.{NameAt}
 use Rattle.objects.specs.Take.{took, times}
 use Rattle.objects.specs.View.{Name, RuleView, a_rule}

@@ -1,13 +1,10 @@
 -- `objects::is_listed` meets its contract: the lines passed have another name, so that those left decide.
-use native.Mathlib.Omega.{arith}
-use mathlib.Core.List.{List, []}
-use mathlib.Core.Path.{◌≡◌, refl, sym, ◌∙◌}
+use mathlib.Core.List.{List}
+use mathlib.Core.Path.{◌≡◌}
 use Prim.Native.Nat.{◌-◌, ◌/◌, ◌≤◌}
 use lib.ListN.{length, drop}
-use borrow.Author.Rules.{rules}
 use Rattle.machine.specs.Bytes.{words_of}
 use Rattle.syntax.specs.Texts.{Head}
-use Rattle.objects.proofs.Looked.{listed-none, listed_found, listed-later, line-is}
 use Rattle.objects.specs.Order.{is_listed}
 use Rattle.objects.specs.Places.{NameAt, HeadsAt}
 use Rattle.objects.specs.View.{Name}

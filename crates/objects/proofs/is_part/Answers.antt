@@ -1,6 +1,5 @@
 -- `objects::is_part` meets its contract: outside nothing is asked, inside the names are compared.
 use native.Mathlib.Omega.{arith}
-use borrow.Author.Rules.{rules}
 use Rattle.objects.proofs.is_part.Goals as goal
 
 pub returns-then-start-size : goal.returns-then-start-size

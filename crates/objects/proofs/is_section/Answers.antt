@@ -1,6 +1,5 @@
 -- `objects::is_section` meets its contract: the class, then the name.
 use Rattle.objects.proofs.Sections.{other-class, by-its-name}
-use borrow.Author.Rules.{rules}
 use Rattle.objects.proofs.is_section.Goals as goal
 
 pub returns-then-number-ne-OPERATORS : goal.returns-then-number-ne-OPERATORS

@@ -4,7 +4,6 @@ use native.Mathlib.Omega.{arith}
 use Rattle.base.specs.Common.{same}
 use Rattle.symbols.proofs.Parts.{part-fits, part-own}
 use Rattle.objects.proofs.Sections.{part-outside}
-use borrow.Author.Rules.{rules}
 use Rattle.objects.proofs.is_text.Goals as goal
 
 pub returns-then-text-start : goal.returns-then-text-start

@@ -2,7 +2,6 @@
 use native.Mathlib.Omega.{arith}
 use mathlib.Core.Path.{◌∙◌}
 use Rattle.objects.proofs.Told.{labels-over, labels-off, labels-some}
-use borrow.Author.Rules.{rules}
 use Rattle.objects.proofs.labels.Goals as goal
 
 pub returns-then-n-room : goal.returns-then-n-room

@@ -2,7 +2,6 @@
 use native.Mathlib.Omega.{arith}
 use mathlib.Core.Path.{◌∙◌}
 use Rattle.objects.proofs.Told.{operand-none, operand-some}
-use borrow.Author.Rules.{rules}
 use Rattle.objects.proofs.operand.Goals as goal
 
 pub returns-then-spot : goal.returns-then-spot

@@ -2,7 +2,6 @@
 use Rattle.machine.specs.Bytes.{words_of}
 use Rattle.objects.proofs.PairAt.{pair-at, no_section, operand-listed, operand-called}
 use Rattle.objects.proofs.Sections.{section-there, section-nowhere}
-use borrow.Author.Rules.{rules}
 use native.Mathlib.Omega.{arith}
 use Rattle.objects.proofs.pair_in_order.Goals as goal
 

@@ -1,19 +1,15 @@
 -- `objects::pairs_in_order` meets its contract: those passed are in order.
-use Prim.Native.Nat.{◌+◌, ◌-◌, ◌≤◌}
+use Prim.Native.Nat.{◌-◌, ◌≤◌}
 use Rattle.machine.specs.Bytes.{words_of}
 use Rattle.names.specs.Known.{Names}
-use Rattle.objects.proofs.Every.{Passing, passing-all, heading, all-passed, first-fails, first_passes}
+use Rattle.objects.proofs.Every.{Passing}
 use Rattle.objects.proofs.Views.{pair-exact}
 use Rattle.objects.specs.Places.{HeadsAt, SectionsAt, PartsAt}
 use Rattle.objects.specs.View.{View}
 use Rattle.objects.specs.Whole.{pair_in_order}
 use Rattle.syntax.specs.Texts.{Head}
-use borrow.Author.Rules.{rules}
-use borrow.Author.Tests.{not-true, not-false}
 use lib.ListN.{length}
 use mathlib.Core.List.{List}
-use mathlib.Core.Path.{refl}
-use native.Mathlib.Omega.{arith}
 use Rattle.objects.proofs.pairs_in_order.Given as goal
 
 abbrev pub invariant-loop-i : goal.invariant-loop-i

@@ -1,7 +1,6 @@
 -- `objects::past_body` meets its contract: the four numbers, then the common part, pairs and rules, each behind the other.
 use native.Mathlib.Omega.{arith}
 use Rattle.objects.proofs.EndsLong.{body-short, body-of-other, body-off-common, body-off-pairs, body-ends}
-use borrow.Author.Rules.{rules}
 use Rattle.objects.proofs.past_body.Goals as goal
 
 pub returns-then-end-at-lt4 : goal.returns-then-end-at-lt4

@@ -1,7 +1,6 @@
 -- `objects::past_calls` meets its contract: a word, and as many names as it says.
 use native.Mathlib.Omega.{arith}
 use Rattle.objects.proofs.Ends.{no-calls, calls-end}
-use borrow.Author.Rules.{rules}
 use Rattle.objects.proofs.past_calls.Goals as goal
 
 pub returns-then-at-end : goal.returns-then-at-end

@@ -1,7 +1,6 @@
 -- `objects::past_cells` meets its contract: a word, and as many as it says.
 use native.Mathlib.Omega.{arith}
 use Rattle.objects.proofs.Ends.{no_cells, cells-end}
-use borrow.Author.Rules.{rules}
 use Rattle.objects.proofs.past_cells.Goals as goal
 
 pub returns-then-at-end : goal.returns-then-at-end

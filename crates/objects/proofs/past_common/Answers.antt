@@ -1,12 +1,7 @@
 -- `objects::past_common` meets its contract: the words passed are those of the common part.
 use native.Mathlib.Omega.{arith}
-use mathlib.Core.Path.{◌≡◌, sym, ◌∙◌}
-use Prim.Native.Nat.{ℕ, ◌+◌, ◌-◌, ◌<◌, ◌≤◌}
-use lib.ListN.{get_or}
+use mathlib.Core.Path.{sym, ◌∙◌}
 use borrow.Author.Count.{below_more}
-use borrow.Author.Rules.{rules}
-use Rattle.machine.specs.Bytes.{words_of}
-use Rattle.parts.specs.Form.{packed}
 use Rattle.objects.proofs.EndsLong.{packed-length, words-few, words_are, words-not}
 use Rattle.objects.proofs.past_common.Goals as goal
 

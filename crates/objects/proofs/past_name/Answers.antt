@@ -1,7 +1,6 @@
 -- `objects::past_name` meets its contract: two words, and as many as the second says.
 use native.Mathlib.Omega.{arith}
 use Rattle.objects.proofs.Ends.{name-ends, no_name}
-use borrow.Author.Rules.{rules}
 use Rattle.objects.proofs.past_name.Goals as goal
 
 pub returns-then-end-at-lt2 : goal.returns-then-end-at-lt2

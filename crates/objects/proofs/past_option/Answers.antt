@@ -1,7 +1,6 @@
 -- `objects::past_option` meets its contract: by its first word nothing, a name, or no option at all.
 use native.Mathlib.Omega.{arith}
 use Rattle.objects.proofs.Ends.{no-option, option-none, option-some, option-not}
-use borrow.Author.Rules.{rules}
 use Rattle.objects.proofs.past_option.Goals as goal
 
 pub returns-then-at-end : goal.returns-then-at-end

@@ -1,7 +1,6 @@
 -- `objects::past_pair` meets its contract: two words and two names.
 use native.Mathlib.Omega.{arith}
 use Rattle.objects.proofs.Ends.{no-pair, pair-off, pair_ends}
-use borrow.Author.Rules.{rules}
 use Rattle.objects.proofs.past_pair.Goals as goal
 
 pub returns-then-end-at-lt2 : goal.returns-then-end-at-lt2

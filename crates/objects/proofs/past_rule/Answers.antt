@@ -1,7 +1,6 @@
 -- `objects::past_rule` meets its contract: a name, an option, names and cells, each behind the other.
 use native.Mathlib.Omega.{arith}
 use Rattle.objects.proofs.Ends.{rule-off, rule-off-gives, rule-off-calls, rule-ends}
-use borrow.Author.Rules.{rules}
 use Rattle.objects.proofs.past_rule.Goals as goal
 
 pub returns-then-gives-end : goal.returns-then-gives-end

@@ -1,10 +1,6 @@
 -- `objects::past_rules` meets its contract: a rule at a turn; what ends behind those left ends behind all.
 use native.Mathlib.Omega.{arith}
-use Prim.Native.Nat.{◌-◌, ◌≤◌}
-use lib.ListN.{length}
-use borrow.Author.Rules.{rules}
-use Rattle.machine.specs.Bytes.{words_of}
-use Rattle.objects.proofs.Ends.{Left, left-all, left-more, left-off, left-none}
+use Rattle.objects.proofs.Ends.{left-all, left-more, left-off, left-none}
 use Rattle.objects.specs.View.{a_rule}
 use Rattle.objects.proofs.past_rules.Goals as goal
 

@@ -3,7 +3,6 @@ use native.Mathlib.Omega.{arith}
 use mathlib.Core.Path.{sym, ◌∙◌}
 use Rattle.objects.proofs.EndsLong.{ahead, view-short, no-view, view-off, view-missized, view-ends}
 use Rattle.objects.proofs.Views.{body-exact}
-use borrow.Author.Rules.{rules}
 use Rattle.objects.proofs.past_view.Goals as goal
 
 pub returns-then-end-at-lt3 : goal.returns-then-end-at-lt3

@@ -1,7 +1,6 @@
 -- `objects::past_words` meets its contract: n words on are within the words, or one past the end stands for them.
 use native.Mathlib.Omega.{arith}
 use Rattle.objects.proofs.Ends.{some_words_lem, no_words}
-use borrow.Author.Rules.{rules}
 use Rattle.objects.proofs.past_words.Goals as goal
 
 pub returns-then-n-end : goal.returns-then-n-end

@@ -1,6 +1,5 @@
 -- `objects::plain` meets its contract.
 use Rattle.objects.proofs.Told.{plain-exit, plain-no-exit, plain-call, plain_back, plain-no-back, plain-give, plain-no-give, plain-simple}
-use borrow.Author.Rules.{rules}
 use Rattle.objects.proofs.plain.Goals as goal
 
 pub returns-then-depth : goal.returns-then-depth

@@ -4,7 +4,6 @@ use mathlib.Core.Path.{refl, sym, ◌∙◌}
 use borrow.Author.Tests.{not-true, not-false}
 use Rattle.base.specs.Bools as bools
 use Rattle.objects.proofs.Bodies.{rule-tested}
-use borrow.Author.Rules.{rules}
 use Rattle.objects.proofs.rule_in_order.Goals as goal
 
 pub returns-then-not-body : goal.returns-then-not-body

@@ -1,7 +1,6 @@
 -- `objects::rule_ok` meets its contract.
 use mathlib.Core.Path.{sym, ◌∙◌}
 use Rattle.objects.proofs.Told.{first_cell, leads, rule-named, rule-not}
-use borrow.Author.Rules.{rules}
 use Rattle.objects.proofs.rule_ok.Goals as goal
 
 pub returns-then-number-ne0 : goal.returns-then-number-ne0

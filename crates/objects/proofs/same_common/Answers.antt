@@ -1,11 +1,7 @@
 -- `objects::same_common` meets its contract: the lengths are equal, and each byte passed.
 use native.Mathlib.Omega.{arith}
-use mathlib.Core.Path.{◌≡◌, sym, ◌∙◌}
-use Prim.Native.Nat.{ℕ, ◌+◌, ◌-◌, ◌<◌, ◌≤◌}
-use lib.ListN.{get_or}
+use mathlib.Core.Path.{sym, ◌∙◌}
 use borrow.Author.Count.{below_more}
-use borrow.Author.Rules.{rules}
-use Rattle.machine.specs.Bytes.{words_of}
 use Rattle.objects.proofs.Compared.{name-inside, common-same, common-longer, common-other}
 use Rattle.objects.proofs.same_common.Goals as goal
 

@@ -1,12 +1,8 @@
 -- `objects::same_names` meets its contract: the lengths are equal, and each word passed.
-use native.Mathlib.Omega.{arith}
-use mathlib.Core.Path.{◌≡◌, sym, ◌∙◌}
+use mathlib.Core.Path.{◌≡◌}
 use Prim.Native.Nat.{ℕ, ◌+◌, ◌-◌, ◌<◌, ◌≤◌}
 use lib.ListN.{get_or}
-use borrow.Author.Count.{below_more}
-use borrow.Author.Rules.{rules}
 use Rattle.machine.specs.Bytes.{words_of}
-use Rattle.objects.proofs.Compared.{name-inside, names_same, names-longer, names-other}
 use Rattle.objects.proofs.same_names.Given as goal
 
 abbrev pub invariant-loop-i : goal.invariant-loop-i

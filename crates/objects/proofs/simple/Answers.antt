@@ -3,7 +3,6 @@ use native.Mathlib.Omega.{arith}
 use mathlib.Core.Logic.{inl}
 use Rattle.objects.proofs.Marks.{sort-alone, sort-taking}
 use Rattle.objects.proofs.Told.{simple-alone, simple-taking, simple-unknown, simple-ends, simple-any, sort-few, sort-unknown, left-zero, left-large}
-use borrow.Author.Rules.{rules}
 use Rattle.objects.proofs.simple.Goals as goal
 
 pub returns-then-x-eq-ANY : goal.returns-then-x-eq-ANY

@@ -3,7 +3,6 @@ use native.Mathlib.Omega.{arith}
 use mathlib.Core.Path.{sym, ◌∙◌}
 use Rattle.machine.specs.Bytes.{words_of}
 use Rattle.objects.proofs.Looked.{as_many, stands-none, operand_at}
-use borrow.Author.Rules.{rules}
 use Rattle.objects.proofs.stands_at.Goals as goal
 
 pub returns-then-k-count : goal.returns-then-k-count

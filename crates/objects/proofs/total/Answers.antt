@@ -1,7 +1,6 @@
 -- `objects::total` meets its contract: the words are half the bytes.
 use mathlib.Core.Path.{sym, ◌∙◌}
 use native.Mathlib.Omega.{arith}
-use borrow.Author.Rules.{rules}
 use Rattle.machine.proofs.Bytes.{length-words_of}
 use Rattle.machine.specs.Bytes.{count}
 use Rattle.objects.proofs.total.Goals as goal

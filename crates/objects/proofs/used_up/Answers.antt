@@ -1,7 +1,6 @@
 -- `objects::used_up` meets its contract.
 use borrow.Author.Tests.{not-true, not-false}
 use Rattle.objects.proofs.Told.{used-none, used-cells, used-names, used_all}
-use borrow.Author.Rules.{rules}
 use Rattle.objects.proofs.used_up.Goals as goal
 
 -- `objects::used_up` meets its contract.

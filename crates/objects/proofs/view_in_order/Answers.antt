@@ -2,8 +2,6 @@
 use Prim.Native.Nat.{◌+◌}
 use Rattle.machine.specs.Bytes.{words_of}
 use Rattle.objects.proofs.ViewAt.{view-at, parts-by, no-rule, a-pair-fails, rules-decide}
-use borrow.Author.Rules.{rules}
-use borrow.Author.Tests.{not-true, not-false}
 use lib.ListN.{get_or}
 use mathlib.Core.Path.{refl, sym, ◌∙◌}
 use native.Mathlib.Omega.{arith}

@@ -1,7 +1,5 @@
 -- `partnames::add_name` meets its contract.
-use Rattle.partnames.proofs.Listing.{turned_on}
 use Rattle.partnames.proofs.Mentioned.{not-led, no-name-there, name-known, name-past, name_new}
-use borrow.Author.Rules.{rules}
 use mathlib.Core.Bool.{not}
 use mathlib.Core.Path.{ap}
 use Rattle.partnames.proofs.add_name.Goals as goal

@@ -1,12 +1,6 @@
 -- `partnames::add_others` meets its contract.
 use native.Mathlib.Omega.{arith}
-use mathlib.Core.Bool.{true}
-use mathlib.Core.List.{List}
-use mathlib.Core.Path.{◌≡◌, refl, ◌∙◌}
-use Prim.Native.Nat.{ℕ, ◌-◌, ◌≤◌}
-use lib.ListN.{length}
-use Rattle.partnames.specs.Mentioning.{AddsFrom}
-use Rattle.partnames.specs.declared.Added.{Added}
+use mathlib.Core.Path.{refl, ◌∙◌}
 use Rattle.partnames.proofs.Mentioned.{adds_none, adds_on, adds-past, gets-on}
 use Rattle.partnames.proofs.add_others.Goals as goal
 

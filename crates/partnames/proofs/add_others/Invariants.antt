@@ -1,13 +1,11 @@
 -- `partnames::add_others` meets its contract.
-use native.Mathlib.Omega.{arith}
 use mathlib.Core.Bool.{true}
 use mathlib.Core.List.{List}
-use mathlib.Core.Path.{◌≡◌, refl, ◌∙◌}
+use mathlib.Core.Path.{◌≡◌}
 use Prim.Native.Nat.{ℕ, ◌-◌, ◌≤◌}
 use lib.ListN.{length}
 use Rattle.partnames.specs.Mentioning.{AddsFrom}
 use Rattle.partnames.specs.declared.Added.{Added}
-use Rattle.partnames.proofs.Mentioned.{adds_none, adds_on, adds-past, gets-on}
 use Rattle.partnames.proofs.add_others.Given as goal
 
 abbrev pub invariant-loop-w : goal.invariant-loop-w

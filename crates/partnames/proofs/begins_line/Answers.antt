@@ -1,6 +1,5 @@
 -- `partnames::begins_line` meets its contract.
 use Rattle.partnames.proofs.Listing.{no-name-here, no-type-here, no-semicolon-here, line-here}
-use borrow.Author.Rules.{rules}
 use Rattle.partnames.proofs.begins_line.Goals as goal
 
 pub returns-then-name-ne-NAME : goal.returns-then-name-ne-NAME

@@ -1,12 +1,7 @@
 -- `partnames::collect_list` meets its contract.
-use Rattle.partnames.proofs.Listing.{lines_from, lines_none, lines_more, lines-stuck, turned-off, turned_on}
+use Rattle.partnames.proofs.Listing.{lines_from, lines_none, lines_more, lines-stuck}
 use native.Mathlib.Omega.{arith}
-use mathlib.Core.Path.{◌≡◌, refl, ◌∙◌}
-use mathlib.Core.List.{List}
-use Prim.Native.Nat.{ℕ, ◌-◌, ◌≤◌}
-use lib.ListN.{length}
-use Rattle.collector.specs.declared.Spot.{Spot}
-use Rattle.partnames.specs.Declaring.{SomeLines}
+use mathlib.Core.Path.{refl, ◌∙◌}
 use Rattle.partnames.proofs.collect_list.Goals as goal
 
 pub loop-at-init : goal.loop-at-init

@@ -1,7 +1,5 @@
 -- `partnames::collect_list` meets its contract.
-use Rattle.partnames.proofs.Listing.{lines_from, lines_none, lines_more, lines-stuck, turned-off, turned_on}
-use native.Mathlib.Omega.{arith}
-use mathlib.Core.Path.{◌≡◌, refl, ◌∙◌}
+use mathlib.Core.Path.{◌≡◌}
 use mathlib.Core.List.{List}
 use Prim.Native.Nat.{ℕ, ◌-◌, ◌≤◌}
 use lib.ListN.{length}

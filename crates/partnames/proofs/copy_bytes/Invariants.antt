@@ -1,9 +1,6 @@
 -- `partnames::copy_bytes` meets its contract.
-use mathlib.Core.Path.{refl}
 use Prim.Native.Nat.{◌-◌, ◌≤◌}
-use native.Mathlib.Omega.{arith}
 use Rattle.partnames.specs.Buffer.{Copies}
-use Rattle.partnames.proofs.Copied.{copied_more, copied_none, copied_all}
 use Rattle.partnames.proofs.copy_bytes.Given as goal
 
 abbrev pub invariant-loop-i : goal.invariant-loop-i

@@ -1,9 +1,6 @@
 -- `partnames::copy_heads` meets its contract.
-use native.Mathlib.Omega.{arith}
-use mathlib.Core.Path.{refl}
 use Prim.Native.Nat.{◌-◌, ◌≤◌}
 use Rattle.partnames.specs.Heads.{CopiesHeads}
-use Rattle.partnames.proofs.HeadLaws.{no-heads, more_heads, all-heads}
 use Rattle.partnames.proofs.copy_heads.Given as goal
 
 abbrev pub invariant-loop-i : goal.invariant-loop-i

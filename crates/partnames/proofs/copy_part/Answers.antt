@@ -1,6 +1,5 @@
 -- `partnames::copy_part` meets its contract.
 use Rattle.partnames.proofs.HeadLaws.{part-copied-as}
-use borrow.Author.Rules.{rules}
 use Rattle.partnames.proofs.copy_part.Goals as goal
 
 pub returns : goal.returns

@@ -1,6 +1,5 @@
 -- `partnames::declare` meets its contract.
 use Rattle.partnames.proofs.Listing.{declared}
-use borrow.Author.Rules.{rules}
 use Rattle.partnames.proofs.declare.Goals as goal
 
 pub returns : goal.returns

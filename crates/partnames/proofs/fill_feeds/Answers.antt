@@ -1,8 +1,6 @@
 -- `partnames::fill_feeds` meets its contract.
 use mathlib.Core.Path.{refl}
-use Prim.Native.Nat.{◌-◌, ◌≤◌}
 use native.Mathlib.Omega.{arith}
-use Rattle.partnames.specs.Buffer.{Fills}
 use Rattle.partnames.proofs.Copied.{filled_none, filled_more, filled-all}
 use Rattle.partnames.proofs.fill_feeds.Goals as goal
 

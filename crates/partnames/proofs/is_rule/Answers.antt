@@ -1,9 +1,7 @@
 -- `partnames::is_rule` meets its contract.
 use mathlib.Core.Path.{refl}
-use Prim.Native.Nat.{◌-◌}
 use native.Mathlib.Omega.{arith}
-use Rattle.symbols.specs.Search.{part}
-use Rattle.partnames.proofs.Mentioned.{Searched, search-hit, search-on, search-end}
+use Rattle.partnames.proofs.Mentioned.{search-hit, search-on, search-end}
 use Rattle.partnames.proofs.is_rule.Goals as goal
 
 pub loop-i-init : goal.loop-i-init

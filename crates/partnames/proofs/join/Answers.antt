@@ -1,8 +1,6 @@
 -- `partnames::join` meets its contract.
-use mathlib.Core.Path.{refl, ap, ◌∙◌}
-use Prim.Native.Nat.{◌+◌}
+use mathlib.Core.Path.{refl, ◌∙◌}
 use native.Mathlib.Omega.{arith}
-use borrow.Author.Rules.{rules}
 use Rattle.partnames.specs.Buffer.{part_place}
 use Rattle.partnames.proofs.Copied.{both-copied}
 use Rattle.partnames.proofs.join.Goals as goal

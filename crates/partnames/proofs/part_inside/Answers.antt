@@ -1,7 +1,6 @@
 -- `partnames::part_inside` meets its contract.
 use native.Mathlib.Omega.{arith}
 use Rattle.partnames.proofs.HeadLaws.{past-text, in-text}
-use borrow.Author.Rules.{rules}
 use Rattle.partnames.proofs.part_inside.Goals as goal
 
 -- `partnames::part_inside` meets its contract.

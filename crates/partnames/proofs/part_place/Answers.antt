@@ -1,6 +1,5 @@
 -- `partnames::part_place` meets its contract.
 use native.Mathlib.Omega.{arith}
-use borrow.Author.Rules.{rules}
 use Rattle.partnames.specs.Buffer.{part_place}
 use Rattle.partnames.proofs.part_place.Goals as goal
 

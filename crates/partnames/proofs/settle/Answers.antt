@@ -1,6 +1,5 @@
 -- `partnames::settle` meets its contract.
 use Rattle.partnames.proofs.Settled.{settles-wrong, settles-lines}
-use borrow.Author.Rules.{rules}
 use Rattle.partnames.proofs.settle.Goals as goal
 
 pub returns-then-d-ne0 : goal.returns-then-d-ne0

@@ -5,7 +5,6 @@ use lib.ListN.{length-set}
 use lib.Seq.{get_or-set_same}
 use Rattle.partpairs.proofs.Walking.{pairs-whole}
 use Rattle.symbols.proofs.Indexing.{index-set, kept-behind}
-use borrow.Author.Rules.{rules}
 use Rattle.partpairs.proofs.pairs.Goals as goal
 
 pub take_words-requires : goal.take_words-requires

@@ -1,6 +1,5 @@
 -- `partpairs::read_words` meets its contract.
 use Rattle.partpairs.proofs.Taking.{words-read}
-use borrow.Author.Rules.{rules}
 use Rattle.partpairs.proofs.read_words.Goals as goal
 
 pub returns : goal.returns

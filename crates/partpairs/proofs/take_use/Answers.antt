@@ -3,7 +3,6 @@ use native.Mathlib.Omega.{arith}
 use mathlib.Core.Path.{refl}
 use borrow.Author.Tests.{not-true, not-false}
 use Rattle.partpairs.proofs.Taking.{use-missing, use-again, use-full, use-added}
-use borrow.Author.Rules.{rules}
 use Rattle.partpairs.proofs.take_use.Goals as goal
 
 pub returns-then-not-u : goal.returns-then-not-u

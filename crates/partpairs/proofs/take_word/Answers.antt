@@ -1,6 +1,5 @@
 -- `partpairs::take_word` meets its contract.
 use Rattle.partpairs.proofs.Taking.{word-caret, word-other}
-use borrow.Author.Rules.{rules}
 use Rattle.partpairs.proofs.take_word.Goals as goal
 
 pub returns-then-w-eq-CARET : goal.returns-then-w-eq-CARET

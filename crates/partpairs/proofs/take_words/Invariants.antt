@@ -1,13 +1,9 @@
 -- `partpairs::take_words` meets its contract.
-use native.Mathlib.Omega.{arith}
 use mathlib.Core.List.{List}
-use mathlib.Core.Path.{◌≡◌, sym, ◌∙◌}
+use mathlib.Core.Path.{◌≡◌}
 use Prim.Native.Nat.{ℕ, ◌-◌, ◌≤◌}
-use borrow.Author.Tests.{not-true, not-false}
 use lib.ListN.{length, get_or}
 use Rattle.partpairs.specs.Pairing.{PairsFrom}
-use Rattle.partpairs.proofs.Walking.{pairs-stop, pairs-last, pairs-full, pairs-step}
-use Rattle.symbols.proofs.Indexing.{kept-behind}
 use Rattle.symbols.specs.Index.{Kept}
 use Rattle.partpairs.proofs.take_words.Given as goal
 

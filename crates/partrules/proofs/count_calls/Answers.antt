@@ -1,12 +1,7 @@
 -- `partrules::count_calls` meets its contract.
-use mathlib.Core.Path.{◌≡◌, refl, sym, ◌∙◌}
-use Prim.Native.Nat.{◌+◌, ◌-◌, ◌≤◌}
+use mathlib.Core.Path.{sym, ◌∙◌}
 use native.Mathlib.Omega.{arith}
-use lib.ListN.{length}
-use Rattle.words.specs.Words.{words_at}
-use Rattle.partrules.specs.Calls.{calls_from, signs}
 use Rattle.partrules.proofs.Calling.{is_word, count-on, count-off, signs-few}
-use borrow.Author.Rules.{rules}
 use Rattle.partrules.proofs.count_calls.Goals as goal
 
 pub loop-w-init : goal.loop-w-init

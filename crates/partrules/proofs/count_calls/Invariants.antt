@@ -1,12 +1,9 @@
 -- `partrules::count_calls` meets its contract.
-use mathlib.Core.Path.{◌≡◌, refl, sym, ◌∙◌}
+use mathlib.Core.Path.{◌≡◌}
 use Prim.Native.Nat.{◌+◌, ◌-◌, ◌≤◌}
-use native.Mathlib.Omega.{arith}
 use lib.ListN.{length}
 use Rattle.words.specs.Words.{words_at}
-use Rattle.partrules.specs.Calls.{calls_from, signs}
-use Rattle.partrules.proofs.Calling.{is_word, count-on, count-off, signs-few}
-use borrow.Author.Rules.{rules}
+use Rattle.partrules.specs.Calls.{calls_from}
 use Rattle.partrules.proofs.count_calls.Given as goal
 
 abbrev pub invariant-loop-w : goal.invariant-loop-w

@@ -1,6 +1,5 @@
 -- `partrules::goes_past` meets its contract.
 use Rattle.partrules.proofs.Seeing.{class-goes, class-stays}
-use borrow.Author.Rules.{rules}
 use Rattle.partrules.proofs.goes_past.Goals as goal
 
 -- `partrules::goes_past` meets its contract.

@@ -1,6 +1,5 @@
 -- `partrules::is_last` meets its contract.
 use Rattle.partrules.proofs.Calling.{last-yes, last-no}
-use borrow.Author.Rules.{rules}
 use Rattle.partrules.proofs.is_last.Goals as goal
 
 -- `partrules::is_last` meets its contract.

@@ -1,5 +1,4 @@
 -- `partrules::is_marked` meets its contract.
-use borrow.Author.Rules.{rules}
 use Rattle.partrules.proofs.Seeing.{past-marks}
 use Rattle.partrules.proofs.is_marked.Goals as goal
 

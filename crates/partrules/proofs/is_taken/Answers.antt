@@ -1,6 +1,5 @@
 -- `partrules::is_taken` meets its contract.
 use Rattle.partrules.proofs.Seeing.{operation-taken, rule-taken}
-use borrow.Author.Rules.{rules}
 use Rattle.partrules.proofs.is_taken.Goals as goal
 
 pub returns-then-o-lt-NONE : goal.returns-then-o-lt-NONE

@@ -1,6 +1,5 @@
 -- `partrules::mark` meets its contract.
 use Rattle.partrules.proofs.Seeing.{marks-row, marks-none}
-use borrow.Author.Rules.{rules}
 use Rattle.partrules.proofs.mark.Goals as goal
 
 pub returns-then-i-seen : goal.returns-then-i-seen

@@ -1,9 +1,7 @@
 -- `partrules::open_rule` meets its contract.
 use native.Mathlib.Omega.{arith}
-use Prim.Native.Nat.{◌<◌, ◌≤◌}
-use mathlib.Core.Path.{refl, ◌∙◌}
+use mathlib.Core.Path.{refl}
 use Rattle.partrules.proofs.Ruling.{rule-fails, rule-writes}
-use borrow.Author.Rules.{rules}
 use Rattle.partrules.proofs.open_rule.Goals as goal
 
 pub returns-then-d-ne0 : goal.returns-then-d-ne0

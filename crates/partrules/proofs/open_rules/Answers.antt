@@ -1,13 +1,7 @@
 -- `partrules::open_rules` meets its contract.
-use mathlib.Core.List.{List}
-use mathlib.Core.Path.{◌≡◌, refl, sym, ◌∙◌, subst}
-use Prim.Native.Nat.{ℕ, ◌+◌, ◌-◌, ◌<◌, ◌≤◌}
+use mathlib.Core.Path.{refl, ◌∙◌}
 use native.Mathlib.Omega.{arith}
-use lib.ListN.{length}
 use Rattle.partrules.proofs.Ruling.{rules-fail, rules-last, rules-over, rules-next}
-use Rattle.partrules.specs.Opened.{RulesDone}
-use Rattle.partrules.specs.declared.Rules.{Rules}
-use borrow.Author.Rules.{rules}
 use Rattle.partrules.proofs.open_rules.Goals as goal
 
 pub loop-part-init : goal.loop-part-init

@@ -1,8 +1,5 @@
 -- `partrules::put_call` meets its contract.
-use native.Mathlib.Omega.{arith}
-use Prim.Native.Nat.{◌+◌, ◌-◌, ◌<◌, ◌≤◌}
 use mathlib.Core.Path.{sym}
-use borrow.Author.Rules.{rules}
 use Rattle.partwriter.proofs.Putting.{puts-same}
 use Rattle.partrules.proofs.Calling.{called-one, called-none}
 use Rattle.partrules.proofs.put_call.Goals as goal

@@ -1,15 +1,7 @@
 -- `partrules::put_calls` meets its contract.
-use mathlib.Core.List.{List}
-use mathlib.Core.Path.{◌≡◌, refl, sym, ◌∙◌}
-use Prim.Native.Nat.{ℕ, suc, ◌+◌, ◌-◌, ◌<◌, ◌≤◌}
+use mathlib.Core.Path.{refl, sym, ◌∙◌}
 use native.Mathlib.Omega.{arith}
-use lib.ListN.{length}
-use borrow.Author.Rules.{rules}
-use Rattle.machine.specs.Bytes.{count}
 use Rattle.partwriter.proofs.Putting.{puts-bound, puts_then, puts-same, puts-nothing}
-use Rattle.partwriter.specs.Put.{Puts}
-use Rattle.words.specs.Words.{words_at}
-use Rattle.partrules.specs.Calls.{calls_from, called}
 use Rattle.partrules.proofs.Calling.{is_word, called_on, called-off}
 use Rattle.partrules.proofs.put_calls.Goals as goal
 

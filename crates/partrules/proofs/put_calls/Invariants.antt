@@ -1,16 +1,12 @@
 -- `partrules::put_calls` meets its contract.
 use mathlib.Core.List.{List}
-use mathlib.Core.Path.{◌≡◌, refl, sym, ◌∙◌}
-use Prim.Native.Nat.{ℕ, suc, ◌+◌, ◌-◌, ◌<◌, ◌≤◌}
-use native.Mathlib.Omega.{arith}
+use mathlib.Core.Path.{◌≡◌}
+use Prim.Native.Nat.{ℕ, suc, ◌-◌, ◌≤◌}
 use lib.ListN.{length}
-use borrow.Author.Rules.{rules}
 use Rattle.machine.specs.Bytes.{count}
-use Rattle.partwriter.proofs.Putting.{puts-bound, puts_then, puts-same, puts-nothing}
 use Rattle.partwriter.specs.Put.{Puts}
 use Rattle.words.specs.Words.{words_at}
 use Rattle.partrules.specs.Calls.{calls_from, called}
-use Rattle.partrules.proofs.Calling.{is_word, called_on, called-off}
 use Rattle.partrules.proofs.put_calls.Given as goal
 
 abbrev pub invariant-loop-w : goal.invariant-loop-w

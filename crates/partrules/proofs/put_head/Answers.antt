@@ -1,7 +1,4 @@
 -- `partrules::put_head` meets its contract.
-use native.Mathlib.Omega.{arith}
-use Prim.Native.Nat.{◌+◌, ◌-◌, ◌<◌, ◌≤◌}
-use borrow.Author.Rules.{rules}
 use Rattle.partrules.proofs.Writing.{head-put}
 use Rattle.partrules.proofs.put_head.Goals as goal
 

@@ -1,15 +1,10 @@
 -- `partrules::put_marked` meets its contract.
-use mathlib.Core.List.{List}
 use mathlib.Core.Path.{◌≡◌, refl, ◌∙◌}
-use Prim.Native.Nat.{ℕ, suc, ◌-◌, ◌<◌, ◌≤◌}
+use Prim.Native.Nat.{◌-◌}
 use native.Mathlib.Omega.{arith}
-use lib.ListN.{length, take, drop}
-use borrow.Author.Rules.{rules}
-use Rattle.machine.specs.Bytes.{count}
 use Rattle.partwriter.proofs.Putting.{puts-bound, puts_then, puts-next, puts-nothing}
-use Rattle.partwriter.specs.Put.{Puts}
 use Rattle.partrules.specs.Marks.{mark_by, turn_cells}
-use Rattle.partrules.proofs.Marking.{rest, goes_on, no_more}
+use Rattle.partrules.proofs.Marking.{goes_on, no_more}
 use Rattle.partrules.proofs.put_marked.Goals as goal
 
 pub loop-k-init : goal.loop-k-init

@@ -1,15 +1,12 @@
 -- `partrules::put_marked` meets its contract.
 use mathlib.Core.List.{List}
-use mathlib.Core.Path.{◌≡◌, refl, ◌∙◌}
+use mathlib.Core.Path.{◌≡◌}
 use Prim.Native.Nat.{ℕ, suc, ◌-◌, ◌<◌, ◌≤◌}
-use native.Mathlib.Omega.{arith}
-use lib.ListN.{length, take, drop}
-use borrow.Author.Rules.{rules}
+use lib.ListN.{length, take}
 use Rattle.machine.specs.Bytes.{count}
-use Rattle.partwriter.proofs.Putting.{puts-bound, puts_then, puts-next, puts-nothing}
 use Rattle.partwriter.specs.Put.{Puts}
 use Rattle.partrules.specs.Marks.{mark_by, turn_cells}
-use Rattle.partrules.proofs.Marking.{rest, goes_on, no_more}
+use Rattle.partrules.proofs.Marking.{rest}
 use Rattle.partrules.proofs.put_marked.Given as goal
 
 abbrev pub invariant-loop-k : goal.invariant-loop-k

@@ -1,7 +1,4 @@
 -- `partrules::put_rule` meets its contract.
-use native.Mathlib.Omega.{arith}
-use Prim.Native.Nat.{◌+◌, ◌-◌, ◌<◌, ◌≤◌}
-use borrow.Author.Rules.{rules}
 use Rattle.partrules.proofs.Writing.{rule-put}
 use Rattle.partrules.proofs.put_rule.Goals as goal
 

@@ -1,8 +1,6 @@
 -- `partrules::put_type` meets its contract.
 use native.Mathlib.Omega.{arith}
-use Prim.Native.Nat.{◌+◌, ◌-◌, ◌<◌, ◌≤◌}
 use mathlib.Core.Path.{refl}
-use borrow.Author.Rules.{rules}
 use Rattle.partrules.proofs.Writing.{type-absent, type-there}
 use Rattle.partrules.proofs.put_type.Goals as goal
 

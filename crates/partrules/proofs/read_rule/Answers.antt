@@ -1,10 +1,8 @@
 -- `partrules::read_rule` meets its contract.
 use native.Mathlib.Omega.{arith}
-use Prim.Native.Nat.{◌≤◌}
-use mathlib.Core.Path.{refl, sym, ◌∙◌}
+use mathlib.Core.Path.{refl}
 use Rattle.builder.proofs.Building.{apart}
 use Rattle.partrules.proofs.Opening.{open-taken, open-typed, open-fail, open-closed}
-use borrow.Author.Rules.{rules}
 use Rattle.partrules.proofs.read_rule.Goals as goal
 
 pub returns-then-is_taken : goal.returns-then-is_taken

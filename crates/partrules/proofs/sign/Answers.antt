@@ -1,6 +1,5 @@
 -- `partrules::sign` meets its contract.
 use Rattle.partrules.proofs.Calling.{sign-one, sign-none}
-use borrow.Author.Rules.{rules}
 use Rattle.partrules.proofs.sign.Goals as goal
 
 -- `partrules::sign` meets its contract.

@@ -1,6 +1,5 @@
 -- `partrules::turn` meets its contract.
 use Rattle.partrules.proofs.Marking.{turned-first, turned-call, turned-copy}
-use borrow.Author.Rules.{rules}
 use Rattle.partrules.proofs.turn.Goals as goal
 
 pub returns-then-spot-eq0 : goal.returns-then-spot-eq0

@@ -1,9 +1,5 @@
 -- `partwriter::pair_at` meets its contract.
 use native.Mathlib.Omega.{arith}
-use Prim.Native.Nat.{◌+◌, ◌*◌}
-use mathlib.Core.Path.{◌≡◌}
-use lib.ListN.{get_or}
-use borrow.Author.Rules.{rules}
 use Rattle.partwriter.proofs.Putting.{past-byte}
 use Rattle.partwriter.proofs.pair_at.Goals as goal
 

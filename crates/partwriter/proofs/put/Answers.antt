@@ -2,7 +2,6 @@
 use native.Mathlib.Omega.{arith}
 use Rattle.machine.specs.Bytes.{count}
 use Rattle.partwriter.proofs.Putting.{puts_one, puts-past}
-use borrow.Author.Rules.{rules}
 use Rattle.partwriter.proofs.put.Goals as goal
 
 pub put_word-requires : goal.put_word-requires

@@ -1,13 +1,8 @@
 -- `partwriter::put_bytes` meets its contract.
-use mathlib.Core.List.{List}
 use mathlib.Core.Path.{◌≡◌, refl, ◌∙◌}
-use Prim.Native.Nat.{ℕ, suc, ◌+◌, ◌-◌, ◌≤◌}
+use Prim.Native.Nat.{◌+◌, ◌-◌}
 use native.Mathlib.Omega.{arith}
-use lib.ListN.{length, take, drop}
-use Rattle.machine.specs.Bytes.{count}
-use Rattle.partwriter.specs.Put.{Puts}
 use Rattle.partwriter.proofs.Putting.{puts-bound, puts_then, puts-next, puts-nothing, next-byte, no_byte}
-use borrow.Author.Rules.{rules}
 use Rattle.partwriter.proofs.put_bytes.Goals as goal
 
 pub loop-p-init : goal.loop-p-init

@@ -1,8 +1,6 @@
 -- `partwriter::put_front` meets its contract.
-use native.Mathlib.Omega.{arith}
 use Rattle.partwriter.specs.Put.{front}
 use Rattle.partwriter.proofs.Putting.{puts_then}
-use borrow.Author.Rules.{rules}
 use Rattle.partwriter.proofs.put_front.Goals as goal
 
 pub returns : goal.returns

@@ -1,9 +1,6 @@
 -- `partwriter::put_name` meets its contract.
-use native.Mathlib.Omega.{arith}
-use Prim.Native.Nat.{◌+◌, ◌-◌, ◌<◌, ◌≤◌}
-use mathlib.Core.Path.{sym, ap}
+use mathlib.Core.Path.{sym}
 use Rattle.partwriter.proofs.Putting.{puts_then, puts-same, puts_first, name-words}
-use borrow.Author.Rules.{rules}
 use Rattle.partwriter.proofs.put_name.Goals as goal
 
 pub returns : goal.returns

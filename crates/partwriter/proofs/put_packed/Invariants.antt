@@ -1,14 +1,11 @@
 -- `partwriter::put_packed` meets its contract.
 use mathlib.Core.List.{List}
-use mathlib.Core.Path.{◌≡◌, refl, ◌∙◌}
+use mathlib.Core.Path.{◌≡◌}
 use Prim.Native.Nat.{ℕ, suc, ◌-◌, ◌≤◌}
-use native.Mathlib.Omega.{arith}
 use lib.ListN.{length, drop}
 use Rattle.machine.specs.Bytes.{count}
 use Rattle.partwriter.specs.Put.{Puts}
 use Rattle.parts.specs.Form.{packed}
-use Rattle.partwriter.proofs.Putting.{puts-bound, puts_then, puts-next, puts-nothing, next-packed, no-packed}
-use borrow.Author.Rules.{rules}
 use Rattle.partwriter.proofs.put_packed.Given as goal
 
 abbrev pub invariant-loop-i : goal.invariant-loop-i

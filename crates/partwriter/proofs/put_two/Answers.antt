@@ -1,6 +1,5 @@
 -- `partwriter::put_two` meets its contract.
 use Rattle.partwriter.proofs.Putting.{puts_then}
-use borrow.Author.Rules.{rules}
 use Rattle.partwriter.proofs.put_two.Goals as goal
 
 pub returns : goal.returns

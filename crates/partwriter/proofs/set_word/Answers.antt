@@ -2,7 +2,6 @@
 use native.Mathlib.Omega.{arith}
 use Rattle.machine.specs.Bytes.{count}
 use Rattle.partwriter.proofs.Putting.{leaves_word, leaves-out}
-use borrow.Author.Rules.{rules}
 use Rattle.partwriter.proofs.set_word.Goals as goal
 
 pub put_word-requires : goal.put_word-requires

@@ -1,13 +1,7 @@
 -- `partwriter::zero_from` meets its contract.
-use mathlib.Core.List.{List}
-use mathlib.Core.Path.{◌≡◌, refl, ◌∙◌}
-use Prim.Native.Nat.{ℕ, suc, ◌-◌, ◌≤◌}
+use mathlib.Core.Path.{refl, ◌∙◌}
 use native.Mathlib.Omega.{arith}
-use lib.ListN.{length, replicate}
-use Rattle.machine.specs.Bytes.{count}
-use Rattle.partwriter.specs.Put.{Puts}
-use Rattle.partwriter.proofs.Putting.{puts-bound, puts-next, puts-nothing, same_count, next-zero, no_zero, zeros-left}
-use borrow.Author.Rules.{rules}
+use Rattle.partwriter.proofs.Putting.{puts-next, puts-nothing, same_count, next-zero, no_zero, zeros-left}
 use Rattle.partwriter.proofs.zero_from.Goals as goal
 
 pub loop-i-init : goal.loop-i-init

@@ -1,13 +1,10 @@
 -- `partwriter::zero_from` meets its contract.
 use mathlib.Core.List.{List}
-use mathlib.Core.Path.{◌≡◌, refl, ◌∙◌}
-use Prim.Native.Nat.{ℕ, suc, ◌-◌, ◌≤◌}
-use native.Mathlib.Omega.{arith}
+use mathlib.Core.Path.{◌≡◌}
+use Prim.Native.Nat.{ℕ, ◌-◌, ◌≤◌}
 use lib.ListN.{length, replicate}
 use Rattle.machine.specs.Bytes.{count}
 use Rattle.partwriter.specs.Put.{Puts}
-use Rattle.partwriter.proofs.Putting.{puts-bound, puts-next, puts-nothing, same_count, next-zero, no_zero, zeros-left}
-use borrow.Author.Rules.{rules}
 use Rattle.partwriter.proofs.zero_from.Given as goal
 
 abbrev pub invariant-loop-i : goal.invariant-loop-i

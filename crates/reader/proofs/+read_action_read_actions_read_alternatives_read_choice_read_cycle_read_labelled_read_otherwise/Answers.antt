@@ -1,6 +1,6 @@
 -- The readers of actions, cycles, choices and alternatives meet their contracts. Measure: five times the nesting left, and a rank.
 use mathlib.Core.Path.{refl, sym, ◌∙◌}
-use Prim.Native.Nat.{suc, ◌-◌}
+use Prim.Native.Nat.{suc}
 use native.Mathlib.Omega.{arith}
 use Rattle.reader.proofs.Laws.{above, alternative-goes, alternative-stops, any_value, ends, ends_with, faulty, fueled, goes, goes_with, no, overs, passes, row_ends, row_goes, row-stops, stops, under, yes}
 use Rattle.reader.specs.Parts.{a_labelled}

@@ -1,7 +1,6 @@
 -- `reader::check_name` meets its contract.
 use mathlib.Core.Path.{refl, sym, ◌∙◌}
 use native.Mathlib.Omega.{arith}
-use borrow.Author.Rules.{rules}
 use Rattle.reader.proofs.Laws.{no, one-or-two-not, refuses, shorts, yes, long}
 use Rattle.syntax.specs.Reading.{a_name}
 use Rattle.reader.proofs.check_name.Goals as goal

@@ -1,5 +1,4 @@
 -- `reader::check_part` meets its contract.
-use borrow.Author.Rules.{rules}
 use Rattle.reader.proofs.TextLaws.{long-text, short-text}
 use Rattle.reader.proofs.check_part.Goals as goal
 

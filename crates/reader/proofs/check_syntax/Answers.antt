@@ -1,5 +1,4 @@
 -- `reader::check_syntax` meets its contract.
-use borrow.Author.Rules.{rules}
 use Rattle.reader.proofs.SectionLaws.{not-long, too_long}
 use Rattle.reader.proofs.check_syntax.Goals as goal
 

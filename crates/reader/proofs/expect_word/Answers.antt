@@ -1,7 +1,6 @@
 -- `reader::expect_word` meets its contract.
 use mathlib.Core.Path.{refl}
 use native.Mathlib.Omega.{arith}
-use borrow.Author.Rules.{rules}
 use Rattle.reader.proofs.Laws.{no, passed, refuses, yes}
 use Rattle.syntax.specs.Reading.{expect}
 use Rattle.reader.proofs.expect_word.Goals as goal

@@ -1,6 +1,5 @@
 -- `reader::is_full` meets its contract.
 use mathlib.Core.Path.{refl}
-use borrow.Author.Rules.{rules}
 use Rattle.reader.specs.Counting.{full_in}
 use Rattle.reader.proofs.is_full.Goals as goal
 

@@ -1,6 +1,5 @@
 -- `reader::is_operators` meets its contract.
 use mathlib.Core.Path.{refl}
-use borrow.Author.Rules.{rules}
 use borrow.Author.Tests.{ne_eqb, eq-eqb}
 use Rattle.reader.proofs.is_operators.Goals as goal
 

@@ -1,5 +1,4 @@
 -- `reader::look` meets its contract.
-use borrow.Author.Rules.{rules}
 use Rattle.reader.proofs.Laws.{here}
 use Rattle.reader.proofs.look.Goals as goal
 

@@ -1,6 +1,5 @@
 -- `reader::look_ahead` meets its contract.
 use native.Mathlib.Omega.{arith}
-use borrow.Author.Rules.{rules}
 use Rattle.reader.proofs.SectionLaws.{ahead-open, ahead-plain, ahead-taking, ahead-unclosed}
 use Rattle.reader.specs.Counting.{told_kind}
 use Rattle.reader.proofs.look_ahead.Goals as goal

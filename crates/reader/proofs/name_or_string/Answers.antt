@@ -1,7 +1,6 @@
 -- `reader::name_or_string` meets its contract.
 use mathlib.Core.Path.{refl}
 use native.Mathlib.Omega.{arith}
-use borrow.Author.Rules.{rules}
 use Rattle.reader.proofs.Laws.{no, passed, yes}
 use Rattle.syntax.specs.Reading.{name_or_string}
 use Rattle.reader.proofs.name_or_string.Goals as goal

@@ -1,12 +1,9 @@
 -- `reader::number_of` meets its contract.
-use mathlib.Core.Path.{◌≡◌, refl, sym, ◌∙◌}
-use Prim.Native.Nat.{◌-◌, ◌≤◌}
+use mathlib.Core.Path.{refl, sym, ◌∙◌}
 use native.Mathlib.Omega.{arith}
 use lib.ListN.{take, drop}
-use borrow.Author.Rules.{rules}
 use Rattle.reader.proofs.SectionLaws.{number-on, number_past, value-end}
 use Rattle.scanner.proofs.WordLaws.{part_length}
-use Rattle.words.specs.Words.{value}
 use Rattle.reader.proofs.number_of.Goals as goal
 
 pub loop-i-init : goal.loop-i-init

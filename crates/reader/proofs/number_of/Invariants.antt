@@ -1,11 +1,7 @@
 -- `reader::number_of` meets its contract.
-use mathlib.Core.Path.{◌≡◌, refl, sym, ◌∙◌}
+use mathlib.Core.Path.{◌≡◌}
 use Prim.Native.Nat.{◌-◌, ◌≤◌}
-use native.Mathlib.Omega.{arith}
 use lib.ListN.{take, drop}
-use borrow.Author.Rules.{rules}
-use Rattle.reader.proofs.SectionLaws.{number-on, number_past, value-end}
-use Rattle.scanner.proofs.WordLaws.{part_length}
 use Rattle.words.specs.Words.{value}
 use Rattle.reader.proofs.number_of.Given as goal
 

@@ -3,7 +3,6 @@ use mathlib.Core.Path.{refl}
 use Prim.Native.Nat.{◌+◌}
 use native.Mathlib.Omega.{arith}
 use lib.ListN.{length}
-use borrow.Author.Rules.{rules}
 use Rattle.reader.proofs.Laws.{stops}
 use Rattle.reader.proofs.TextLaws.{closes-off, closes-on, in_two, listed, settles-off, settles_on}
 use Rattle.syntax.specs.Texts.{read_common}

@@ -3,7 +3,6 @@ use mathlib.Core.Path.{refl}
 use Prim.Native.Nat.{◌+◌}
 use native.Mathlib.Omega.{arith}
 use lib.ListN.{length}
-use borrow.Author.Rules.{rules}
 use Rattle.reader.proofs.Laws.{any_value, stops}
 use Rattle.reader.proofs.SectionLaws.{decides-off, decides-on, last_word, no_last}
 use Rattle.reader.specs.Counting.{ending}

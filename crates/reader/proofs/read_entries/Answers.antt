@@ -1,16 +1,12 @@
 -- `reader::read_entries` meets its contract.
 use mathlib.Core.List.{[]}
 use mathlib.Core.Path.{◌≡◌, refl}
-use Prim.Native.Nat.{ℕ, suc, ◌-◌, ◌≤◌}
+use Prim.Native.Nat.{suc, ◌-◌}
 use native.Mathlib.Omega.{arith}
-use lib.ListN.{length}
-use borrow.Author.Rules.{rules}
 use Rattle.reader.proofs.Laws.{ends_with, faulty, fueled-with, gives-with, goes_with, no-with, passes-with, stops, yes-with}
 use Rattle.reader.proofs.SectionLaws.{entered-more, entered-one}
-use Rattle.reader.specs.Answers.{Yields}
 use Rattle.reader.specs.Counting.{Entered}
 use Rattle.syntax.specs.Sections.{entries}
-use Rattle.reader.specs.declared.Out.{Out}
 use Rattle.reader.proofs.read_entries.Goals as goal
 
 pub loop-e-init : goal.loop-e-init

@@ -1,12 +1,6 @@
 -- `reader::read_entries` meets its contract.
-use mathlib.Core.List.{[]}
-use mathlib.Core.Path.{◌≡◌, refl}
-use Prim.Native.Nat.{ℕ, suc, ◌-◌, ◌≤◌}
-use native.Mathlib.Omega.{arith}
+use Prim.Native.Nat.{ℕ, ◌-◌, ◌≤◌}
 use lib.ListN.{length}
-use borrow.Author.Rules.{rules}
-use Rattle.reader.proofs.Laws.{ends_with, faulty, fueled-with, gives-with, goes_with, no-with, passes-with, stops, yes-with}
-use Rattle.reader.proofs.SectionLaws.{entered-more, entered-one}
 use Rattle.reader.specs.Answers.{Yields}
 use Rattle.reader.specs.Counting.{Entered}
 use Rattle.syntax.specs.Sections.{entries}

@@ -1,12 +1,9 @@
 -- `reader::read_entry` meets its contract.
-use mathlib.Core.Option.{some}
 use mathlib.Core.Path.{refl}
 use Prim.Native.Nat.{suc}
 use native.Mathlib.Omega.{arith}
-use borrow.Author.Rules.{rules}
 use Rattle.reader.proofs.Laws.{any_value, ends_with, faulty, goes, goes-from, goes_with, stops}
 use Rattle.reader.proofs.SectionLaws.{count-on, count-over, count_set}
-use Rattle.syntax.specs.Reading.{small}
 use Rattle.syntax.specs.Sections.{an_entry}
 use Rattle.reader.proofs.read_entry.Goals as goal
 

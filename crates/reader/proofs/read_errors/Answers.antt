@@ -1,6 +1,5 @@
 -- `reader::read_errors` meets its contract.
 use native.Mathlib.Omega.{arith}
-use borrow.Author.Rules.{rules}
 use Rattle.reader.proofs.SectionLaws.{errors-read}
 use Rattle.reader.specs.Counting.{error_section}
 use Rattle.reader.proofs.read_errors.Goals as goal

@@ -1,7 +1,6 @@
 -- `reader::read_gives` meets its contract.
 use mathlib.Core.Path.{refl}
 use native.Mathlib.Omega.{arith}
-use borrow.Author.Rules.{rules}
 use Rattle.reader.proofs.Laws.{ends, gives, no, passes, yes}
 use Rattle.syntax.specs.Reading.{optional}
 use Rattle.reader.proofs.read_gives.Goals as goal

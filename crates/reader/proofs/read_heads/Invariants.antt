@@ -1,9 +1,6 @@
 -- `reader::read_heads` meets its contract.
-use mathlib.Core.Path.{refl}
 use Prim.Native.Nat.{◌-◌, ◌≤◌}
-use native.Mathlib.Omega.{arith}
 use lib.ListN.{length}
-use Rattle.reader.proofs.Laws.{ends, fueled, gives, goes, no, stops, yes}
 use Rattle.reader.specs.Answers.{Reads}
 use Rattle.syntax.specs.Texts.{some_heads}
 use Rattle.reader.specs.declared.Out.{Out}

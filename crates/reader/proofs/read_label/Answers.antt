@@ -1,8 +1,6 @@
 -- `reader::read_label` meets its contract.
-use mathlib.Core.Option.{some}
 use mathlib.Core.Path.{refl, sym, ◌∙◌}
 use native.Mathlib.Omega.{arith}
-use borrow.Author.Rules.{rules}
 use Rattle.reader.proofs.Laws.{above, no, one-or-two-not, overs, passed, refuses, shorts, under, yes, long}
 use Rattle.syntax.specs.Actions.{a_label}
 use Rattle.reader.proofs.read_label.Goals as goal

@@ -1,13 +1,11 @@
 -- `reader::read_labels` meets its contract.
 use mathlib.Core.Path.{◌≡◌, refl}
-use Prim.Native.Nat.{ℕ, suc, ◌+◌, ◌-◌, ◌≤◌}
+use Prim.Native.Nat.{suc, ◌-◌}
 use native.Mathlib.Omega.{arith}
 use lib.ListN.{length}
 use Rattle.reader.proofs.Laws.{any_value, ends_with, faulty, fueled-late, gives-with, goes_with, no-with, passes-with, stops, yes-with}
-use Rattle.reader.specs.Answers.{Yields}
 use Rattle.reader.specs.Parts.{Leaves}
 use Rattle.syntax.specs.Actions.{some_labels}
-use Rattle.reader.specs.declared.Out.{Out}
 use Rattle.reader.proofs.read_labels.Goals as goal
 
 pub loop-r-init : goal.loop-r-init

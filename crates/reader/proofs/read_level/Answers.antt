@@ -1,7 +1,6 @@
 -- `reader::read_level` meets its contract.
 use mathlib.Core.Path.{refl, sym, ◌∙◌}
 use native.Mathlib.Omega.{arith}
-use borrow.Author.Rules.{rules}
 use Rattle.reader.proofs.Laws.{no, one-or-two-not, refuses, yes}
 use Rattle.reader.proofs.SectionLaws.{level-zero, level-high, level-got, level-past}
 use Rattle.syntax.specs.Sections.{a_level}

@@ -1,5 +1,4 @@
 -- `reader::read_name` meets its contract.
-use borrow.Author.Rules.{rules}
 use Rattle.reader.proofs.read_name.Goals as goal
 
 pub returns : goal.returns

@@ -1,10 +1,9 @@
 -- `reader::read_number` meets its contract.
 use mathlib.Core.Path.{refl, sym, ◌∙◌}
 use native.Mathlib.Omega.{arith}
-use borrow.Author.Rules.{rules}
 use Rattle.reader.proofs.Laws.{faulty, no, one-or-two-not, refuses, yes, yes-with}
 use Rattle.reader.proofs.SectionLaws.{small-got, small-over}
-use Rattle.syntax.specs.Reading.{a_number, small}
+use Rattle.syntax.specs.Reading.{a_number}
 use Rattle.reader.proofs.read_number.Goals as goal
 
 pub returns-then-w-ne-NUMBER : goal.returns-then-w-ne-NUMBER

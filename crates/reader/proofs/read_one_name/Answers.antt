@@ -1,8 +1,6 @@
 -- `reader::read_one_name` meets its contract.
-use mathlib.Core.Option.{some}
 use mathlib.Core.Path.{refl, sym, ◌∙◌}
 use native.Mathlib.Omega.{arith}
-use borrow.Author.Rules.{rules}
 use Rattle.reader.proofs.Laws.{above, faulty, long, no, one-or-two-not, overs, refuses, under, yes, yes-with}
 use Rattle.reader.proofs.SectionLaws.{shorts-with, under-with}
 use Rattle.syntax.specs.Reading.{one_name}

@@ -3,7 +3,6 @@ use mathlib.Core.Path.{sym, ◌∙◌}
 use Prim.Native.Nat.{◌+◌}
 use native.Mathlib.Omega.{arith}
 use lib.ListN.{length}
-use borrow.Author.Rules.{rules}
 use Rattle.reader.proofs.Laws.{faulty, goes-from, goes_with, stops}
 use Rattle.reader.proofs.SectionLaws.{numbered-got, numbered-stops, operation-over, operation-rest, room-read}
 use Rattle.syntax.specs.Sections.{an_operation}

@@ -1,15 +1,12 @@
 -- `reader::read_operations` meets its contract.
 use mathlib.Core.List.{[], ◌∷◌}
 use mathlib.Core.Path.{◌≡◌, refl}
-use Prim.Native.Nat.{ℕ, ◌-◌, ◌≤◌}
+use Prim.Native.Nat.{◌-◌}
 use native.Mathlib.Omega.{arith}
-use lib.ListN.{length}
 use Rattle.reader.proofs.Laws.{ends_with, faulty, fueled-with, gives-with, goes_with, no-with, passes-with, stops, yes-with}
 use Rattle.reader.proofs.SectionLaws.{kinds-then, operated-more, operated-one}
-use Rattle.reader.specs.Counting.{Operated, SomeOperations}
+use Rattle.reader.specs.Counting.{Operated}
 use Rattle.syntax.specs.Sections.{some_operations}
-use Rattle.reader.specs.declared.Out.{Out}
-use Rattle.reader.specs.declared.Seen.{Seen}
 use Rattle.reader.proofs.read_operations.Goals as goal
 
 pub loop-a-init : goal.loop-a-init

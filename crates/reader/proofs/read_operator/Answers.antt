@@ -1,6 +1,5 @@
 -- `reader::read_operator` meets its contract.
 use native.Mathlib.Omega.{arith}
-use borrow.Author.Rules.{rules}
 use Rattle.reader.proofs.Laws.{ends, goes, stops}
 use Rattle.syntax.specs.Sections.{an_operator}
 use Rattle.reader.proofs.read_operator.Goals as goal

@@ -1,6 +1,5 @@
 -- `reader::read_operator_section` meets its contract.
 use native.Mathlib.Omega.{arith}
-use borrow.Author.Rules.{rules}
 use Rattle.reader.proofs.Laws.{any_value, ends_with, faulty, goes, goes_with, stops}
 use Rattle.reader.proofs.SectionLaws.{kept-operators, name-as}
 use Rattle.syntax.specs.Sections.{operator_section}

@@ -1,11 +1,8 @@
 -- `reader::read_operators` meets its contract.
 use mathlib.Core.Path.{refl}
 use native.Mathlib.Omega.{arith}
-use Prim.Native.Nat.{ℕ, suc, ◌+◌, ◌-◌, ◌≤◌}
-use lib.ListN.{length}
+use Prim.Native.Nat.{suc}
 use Rattle.reader.proofs.Laws.{ends, fueled, gives, goes, no, passes, stops, yes}
-use Rattle.reader.specs.Answers.{Moves}
-use Rattle.reader.specs.declared.Out.{Out}
 use Rattle.syntax.specs.Sections.{some_operators}
 use Rattle.reader.proofs.read_operators.Goals as goal
 

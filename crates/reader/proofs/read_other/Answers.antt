@@ -1,7 +1,6 @@
 -- `reader::read_other` meets its contract.
 use mathlib.Core.Path.{sym, ◌∙◌}
 use native.Mathlib.Omega.{arith}
-use borrow.Author.Rules.{rules}
 use Rattle.reader.proofs.SectionLaws.{is_name, other-mechanism, other-operators}
 use Rattle.reader.proofs.read_other.Goals as goal
 

@@ -1,6 +1,5 @@
 -- `reader::read_outputs` meets its contract.
 use native.Mathlib.Omega.{arith}
-use borrow.Author.Rules.{rules}
 use Rattle.reader.proofs.SectionLaws.{outputs-read}
 use Rattle.reader.specs.Counting.{output_section}
 use Rattle.reader.proofs.read_outputs.Goals as goal

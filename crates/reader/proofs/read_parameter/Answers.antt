@@ -1,7 +1,6 @@
 -- `reader::read_parameter` meets its contract.
 use mathlib.Core.Path.{refl}
 use native.Mathlib.Omega.{arith}
-use borrow.Author.Rules.{rules}
 use Rattle.reader.proofs.Laws.{ends, gives, goes, no, passes, stops, yes}
 use Rattle.syntax.specs.Sections.{a_parameter}
 use Rattle.reader.proofs.read_parameter.Goals as goal

@@ -3,7 +3,6 @@ use mathlib.Core.Path.{refl, ◌∙◌}
 use Prim.Native.Nat.{◌+◌}
 use native.Mathlib.Omega.{arith}
 use lib.ListN.{length}
-use borrow.Author.Rules.{rules}
 use Rattle.reader.proofs.Laws.{any_value, stops}
 use Rattle.reader.proofs.SectionLaws.{from_start, rules-as}
 use Rattle.reader.proofs.TextLaws.{behind, closes-off, closes-on, first_word, settles-off, settles_on}

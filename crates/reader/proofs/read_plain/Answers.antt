@@ -1,7 +1,6 @@
 -- `reader::read_plain` meets its contract.
 use mathlib.Core.Path.{refl, sym, ◌∙◌}
 use native.Mathlib.Omega.{arith}
-use borrow.Author.Rules.{rules}
 use Rattle.reader.proofs.Laws.{apart, constants, ends, gives, no, one-or-two-not, passes, refuses, yes}
 use Rattle.syntax.specs.Actions.{a_plain}
 use Rattle.reader.proofs.read_plain.Goals as goal

@@ -2,7 +2,6 @@
 use Prim.Native.Nat.{◌+◌}
 use native.Mathlib.Omega.{arith}
 use lib.ListN.{length}
-use borrow.Author.Rules.{rules}
 use Rattle.reader.proofs.Laws.{any_value, stops}
 use Rattle.reader.proofs.SectionLaws.{decides-off, decides-on, ends-whole, from_start, rules-as}
 use Rattle.syntax.specs.Parse.{program}

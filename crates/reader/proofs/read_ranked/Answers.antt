@@ -1,6 +1,5 @@
 -- `reader::read_ranked` meets its contract.
 use native.Mathlib.Omega.{arith}
-use borrow.Author.Rules.{rules}
 use Rattle.reader.proofs.Laws.{ends, goes, stops}
 use Rattle.syntax.specs.Actions.{a_ranked}
 use Rattle.reader.proofs.read_ranked.Goals as goal

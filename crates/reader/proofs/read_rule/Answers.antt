@@ -1,5 +1,4 @@
 -- `reader::read_rule` meets its contract.
-use mathlib.Core.Option.{some}
 use Prim.Native.Nat.{suc}
 use native.Mathlib.Omega.{arith}
 use Rattle.reader.proofs.Laws.{ends, goes, stops}

@@ -1,11 +1,7 @@
 -- `reader::read_rules` meets its contract.
-use Prim.Native.Nat.{◌-◌, ◌≤◌}
 use native.Mathlib.Omega.{arith}
-use lib.ListN.{length}
 use Rattle.reader.proofs.Laws.{ends, fueled, gives, goes, no, stops, yes}
-use Rattle.reader.specs.Answers.{Reads}
 use Rattle.syntax.specs.Parse.{some_rules}
-use Rattle.reader.specs.declared.Out.{Out}
 use Rattle.reader.proofs.read_rules.Goals as goal
 
 pub loop-r-init : goal.loop-r-init

@@ -1,6 +1,5 @@
 -- `reader::read_section` meets its contract.
 use native.Mathlib.Omega.{arith}
-use borrow.Author.Rules.{rules}
 use Rattle.reader.proofs.Laws.{apart, no-with, passes-with, yes-with}
 use Rattle.reader.specs.Counting.{error_section, output_section, type_section}
 use Rattle.syntax.specs.Sections.{a_section}

@@ -1,11 +1,7 @@
 -- `reader::read_sections` meets its contract.
-use mathlib.Core.Path.{refl, sym}
 use Prim.Native.Nat.{ℕ, ◌-◌, ◌≤◌}
-use native.Mathlib.Omega.{arith}
 use lib.ListN.{length}
-use Rattle.reader.proofs.Laws.{ends_with, faulty, fueled-with, gives-with, goes_with, no, no-with, stops, yes-with}
 use Rattle.reader.specs.Counting.{SomeSections}
-use Rattle.syntax.specs.Sections.{after, some_sections}
 use Rattle.reader.specs.declared.Out.{Out}
 use Rattle.reader.proofs.read_sections.Given as goal
 

@@ -1,7 +1,6 @@
 -- `reader::read_selector` meets its contract.
 use mathlib.Core.Path.{refl}
 use native.Mathlib.Omega.{arith}
-use borrow.Author.Rules.{rules}
 use Rattle.reader.proofs.Laws.{constants, ends, gives, no, passes, yes}
 use Rattle.syntax.specs.Actions.{a_selector}
 use Rattle.reader.proofs.read_selector.Goals as goal

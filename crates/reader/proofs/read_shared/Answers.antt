@@ -2,7 +2,6 @@
 use Prim.Native.Nat.{◌+◌}
 use native.Mathlib.Omega.{arith}
 use lib.ListN.{length}
-use borrow.Author.Rules.{rules}
 use Rattle.reader.proofs.Laws.{any_value, ends_with, faulty, goes_with, stops}
 use Rattle.reader.proofs.SectionLaws.{from_start}
 use Rattle.reader.proofs.TextLaws.{heads-as}

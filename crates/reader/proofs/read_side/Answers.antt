@@ -1,7 +1,6 @@
 -- `reader::read_side` meets its contract.
 use mathlib.Core.Path.{refl, sym, ◌∙◌}
 use native.Mathlib.Omega.{arith}
-use borrow.Author.Rules.{rules}
 use Rattle.reader.proofs.Laws.{one-or-two-not}
 use Rattle.reader.proofs.SectionLaws.{side-none, side_left, side_right, side-neither}
 use Rattle.reader.proofs.read_side.Goals as goal

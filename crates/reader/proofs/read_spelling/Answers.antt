@@ -1,7 +1,6 @@
 -- `reader::read_spelling` meets its contract.
 use mathlib.Core.Path.{refl}
 use native.Mathlib.Omega.{arith}
-use borrow.Author.Rules.{rules}
 use Rattle.reader.proofs.Laws.{gives, no, passes, yes}
 use Rattle.syntax.specs.Sections.{a_spelling}
 use Rattle.reader.proofs.read_spelling.Goals as goal

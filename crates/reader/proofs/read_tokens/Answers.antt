@@ -1,6 +1,5 @@
 -- `reader::read_tokens` meets its contract.
 use native.Mathlib.Omega.{arith}
-use borrow.Author.Rules.{rules}
 use Rattle.reader.proofs.Laws.{no-with, passes-with, yes-with}
 use Rattle.reader.proofs.SectionLaws.{both_read, inputs_read}
 use Rattle.syntax.specs.Sections.{token_section}

@@ -1,6 +1,5 @@
 -- `reader::read_types` meets its contract.
 use native.Mathlib.Omega.{arith}
-use borrow.Author.Rules.{rules}
 use Rattle.reader.proofs.Laws.{faulty, goes_with, stops}
 use Rattle.reader.proofs.SectionLaws.{values-read, name-as}
 use Rattle.reader.specs.Counting.{type_section}

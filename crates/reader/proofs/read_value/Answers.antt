@@ -1,7 +1,6 @@
 -- `reader::read_value` meets its contract.
 use mathlib.Core.Path.{refl}
 use native.Mathlib.Omega.{arith}
-use borrow.Author.Rules.{rules}
 use Rattle.reader.proofs.Laws.{ends, gives, no, passes, yes}
 use Rattle.syntax.specs.Actions.{a_value}
 use Rattle.reader.proofs.read_value.Goals as goal

@@ -1,6 +1,5 @@
 -- `reader::with_constant` meets its contract.
 use native.Mathlib.Omega.{arith}
-use borrow.Author.Rules.{rules}
 use Rattle.reader.proofs.Laws.{ends, goes, stops}
 use Rattle.reader.specs.Parts.{with_constant}
 use Rattle.reader.proofs.with_constant.Goals as goal

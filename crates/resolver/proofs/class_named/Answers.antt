@@ -1,6 +1,5 @@
 -- `resolver::class_named` meets its contract.
 use Rattle.resolver.proofs.Looking.{class-there, class-nowhere}
-use borrow.Author.Rules.{rules}
 use Rattle.resolver.proofs.class_named.Goals as goal
 
 pub returns-then-i-lt-NONE : goal.returns-then-i-lt-NONE

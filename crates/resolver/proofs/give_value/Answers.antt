@@ -1,7 +1,6 @@
 -- `resolver::give_value` meets its contract.
 use Rattle.program.specs.Program.{give}
 use Rattle.resolver.proofs.Rests.{value-in-procedure, give-goes, give-sends}
-use borrow.Author.Rules.{rules}
 use Rattle.resolver.proofs.give_value.Goals as goal
 
 pub returns-then-class-eq0 : goal.returns-then-class-eq0

@@ -1,10 +1,6 @@
 -- `resolver::is_seen` meets its contract.
-use mathlib.Core.Bool.{false}
-use mathlib.Core.Path.{◌≡◌, refl, sym}
-use Prim.Native.Nat.{◌≤◌, ◌-◌}
+use mathlib.Core.Path.{refl, sym}
 use native.Mathlib.Omega.{arith}
-use lib.ListN.{take}
-use Rattle.base.specs.Common.{member}
 use Rattle.resolver.proofs.Labelling.{seen_at, seen-on, seen_end}
 use Rattle.resolver.proofs.is_seen.Goals as goal
 

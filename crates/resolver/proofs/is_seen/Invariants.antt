@@ -1,11 +1,9 @@
 -- `resolver::is_seen` meets its contract.
 use mathlib.Core.Bool.{false}
-use mathlib.Core.Path.{◌≡◌, refl, sym}
+use mathlib.Core.Path.{◌≡◌}
 use Prim.Native.Nat.{◌≤◌, ◌-◌}
-use native.Mathlib.Omega.{arith}
 use lib.ListN.{take}
 use Rattle.base.specs.Common.{member}
-use Rattle.resolver.proofs.Labelling.{seen_at, seen-on, seen_end}
 use Rattle.resolver.proofs.is_seen.Given as goal
 
 abbrev pub invariant-loop-i : goal.invariant-loop-i

@@ -2,7 +2,6 @@
 use mathlib.Core.Path.{refl, sym, ◌∙◌}
 use native.Mathlib.Omega.{arith}
 use Rattle.resolver.proofs.Rests.{parameter-missing, parameter-none, parameter-extra, parameter-there, same_class}
-use borrow.Author.Rules.{rules}
 use Rattle.resolver.proofs.parameter_of.Goals as goal
 
 pub returns-then-len-ne0 : goal.returns-then-len-ne0

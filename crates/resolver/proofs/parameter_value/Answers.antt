@@ -1,7 +1,6 @@
 -- `resolver::parameter_value` meets its contract.
 use mathlib.Core.Path.{refl}
 use Rattle.resolver.proofs.Rests.{value-stops, value-goes}
-use borrow.Author.Rules.{rules}
 use Rattle.resolver.proofs.parameter_value.Goals as goal
 
 pub returns-then-v-ne0 : goal.returns-then-v-ne0

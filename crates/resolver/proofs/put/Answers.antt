@@ -1,7 +1,6 @@
 -- `resolver::put` meets its contract.
 use native.Mathlib.Omega.{arith}
 use Rattle.resolver.proofs.Appending.{appends-past}
-use borrow.Author.Rules.{rules}
 use Rattle.resolver.proofs.put.Goals as goal
 
 pub returns : goal.returns

@@ -1,6 +1,5 @@
 -- `resolver::put_operation` meets its contract.
 use Rattle.resolver.proofs.Appending.{operation-alone, operation-with}
-use borrow.Author.Rules.{rules}
 use Rattle.resolver.proofs.put_operation.Goals as goal
 
 pub returns-then-there : goal.returns-then-there

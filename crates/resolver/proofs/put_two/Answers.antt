@@ -1,6 +1,5 @@
 -- `resolver::put_two` meets its contract.
 use Rattle.resolver.proofs.Appending.{appends-then}
-use borrow.Author.Rules.{rules}
 use Rattle.resolver.proofs.put_two.Goals as goal
 
 pub returns : goal.returns

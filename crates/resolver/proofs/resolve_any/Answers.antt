@@ -1,6 +1,5 @@
 -- `resolver::resolve_any` meets its contract.
 use Rattle.resolver.proofs.Rests.{any-goes}
-use borrow.Author.Rules.{rules}
 use Rattle.resolver.proofs.resolve_any.Goals as goal
 
 pub returns : goal.returns

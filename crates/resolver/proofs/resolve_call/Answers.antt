@@ -3,7 +3,6 @@ use mathlib.Core.Path.{sym, ◌∙◌}
 use native.Mathlib.Omega.{arith}
 use Rattle.resolver.proofs.Rests.{call-stops, call-chooses, call-goes}
 use Rattle.resolver.proofs.Appending.{appends-same}
-use borrow.Author.Rules.{rules}
 use Rattle.resolver.proofs.resolve_call.Goals as goal
 
 pub returns-then-o-ne0 : goal.returns-then-o-ne0

@@ -1,7 +1,6 @@
 -- `resolver::resolve_emit` meets its contract.
 use Rattle.program.specs.Program.{emit}
 use Rattle.resolver.proofs.Plains.{emit-sends}
-use borrow.Author.Rules.{rules}
 use Rattle.resolver.proofs.resolve_emit.Goals as goal
 
 pub returns : goal.returns

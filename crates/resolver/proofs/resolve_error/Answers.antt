@@ -1,7 +1,6 @@
 -- `resolver::resolve_error` meets its contract.
 use Rattle.program.specs.Program.{error}
 use Rattle.resolver.proofs.Plains.{error-sends}
-use borrow.Author.Rules.{rules}
 use Rattle.resolver.proofs.resolve_error.Goals as goal
 
 pub returns : goal.returns

@@ -1,7 +1,6 @@
 -- `resolver::resolve_exit` meets its contract.
 use mathlib.Core.Path.{refl}
 use Rattle.resolver.proofs.Rests.{exit-goes, exit-stops}
-use borrow.Author.Rules.{rules}
 use Rattle.resolver.proofs.resolve_exit.Goals as goal
 
 pub returns-then-inside : goal.returns-then-inside

@@ -1,7 +1,6 @@
 -- `resolver::resolve_give` meets its contract.
 use mathlib.Core.Logic.{inl, inr}
 use Rattle.resolver.proofs.Rests.{give-with, give-missing, give-back}
-use borrow.Author.Rules.{rules}
 use Rattle.resolver.proofs.resolve_give.Goals as goal
 
 pub returns-then-v-eq-NAME : goal.returns-then-v-eq-NAME

@@ -2,7 +2,6 @@
 use mathlib.Core.Path.{refl, sym, ◌∙◌}
 use native.Mathlib.Omega.{arith}
 use Rattle.resolver.proofs.Labelling.{label-none, label-stops, label-repeats, label-full, label-goes}
-use borrow.Author.Rules.{rules}
 use Rattle.resolver.proofs.resolve_label.Goals as goal
 
 pub returns-then-w-lt-FIRST_WORD : goal.returns-then-w-lt-FIRST_WORD

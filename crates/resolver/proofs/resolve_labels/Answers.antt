@@ -1,13 +1,8 @@
 -- `resolver::resolve_labels` meets its contract.
-use mathlib.Core.List.{List}
-use mathlib.Core.Path.{◌≡◌, refl}
-use Prim.Native.Nat.{ℕ, ◌≤◌, ◌-◌}
+use mathlib.Core.Path.{refl}
 use native.Mathlib.Omega.{arith}
-use borrow.Author.Rules.{rules}
-use lib.ListN.{length, length-set}
+use lib.ListN.{length-set}
 use Rattle.resolver.proofs.Labelling.{labels-stop, labels-last, labels-more}
-use Rattle.resolver.specs.declared.Labels.{Labels}
-use Rattle.resolver.specs.Resolved.{LabelsDone}
 use Rattle.resolver.proofs.resolve_labels.Goals as goal
 
 pub loop-l-init : goal.loop-l-init

@@ -1,11 +1,8 @@
 -- `resolver::resolve_labels` meets its contract.
 use mathlib.Core.List.{List}
-use mathlib.Core.Path.{◌≡◌, refl}
+use mathlib.Core.Path.{◌≡◌}
 use Prim.Native.Nat.{ℕ, ◌≤◌, ◌-◌}
-use native.Mathlib.Omega.{arith}
-use borrow.Author.Rules.{rules}
-use lib.ListN.{length, length-set}
-use Rattle.resolver.proofs.Labelling.{labels-stop, labels-last, labels-more}
+use lib.ListN.{length}
 use Rattle.resolver.specs.declared.Labels.{Labels}
 use Rattle.resolver.specs.Resolved.{LabelsDone}
 use Rattle.resolver.proofs.resolve_labels.Given as goal

@@ -1,6 +1,5 @@
 -- `resolver::resolve_match` meets its contract.
 use Rattle.resolver.proofs.Rests.{match-stops, match-goes}
-use borrow.Author.Rules.{rules}
 use Rattle.resolver.proofs.resolve_match.Goals as goal
 
 pub returns-then-k-eq-OPENING : goal.returns-then-k-eq-OPENING

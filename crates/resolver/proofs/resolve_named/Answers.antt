@@ -1,6 +1,5 @@
 -- `resolver::resolve_named` meets its contract.
 use Rattle.resolver.proofs.Rests.{named-matches, named-updates}
-use borrow.Author.Rules.{rules}
 use Rattle.resolver.proofs.resolve_named.Goals as goal
 
 pub returns-then-v-lt-NONE : goal.returns-then-v-lt-NONE

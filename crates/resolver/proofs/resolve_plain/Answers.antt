@@ -2,7 +2,6 @@
 use mathlib.Core.Path.{refl}
 use native.Mathlib.Omega.{arith}
 use Rattle.resolver.proofs.Plains.{lies-here, first-name, first-string, first_any, first-emit, first-error, first-exit, first-call, first-give, first-ranked, first-none}
-use borrow.Author.Rules.{rules}
 use Rattle.resolver.proofs.resolve_plain.Goals as goal
 
 -- `resolver::resolve_plain` meets its contract.

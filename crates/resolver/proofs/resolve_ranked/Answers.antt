@@ -3,7 +3,6 @@ use mathlib.Core.Path.{sym, ◌∙◌}
 use native.Mathlib.Omega.{arith}
 use Rattle.resolver.proofs.Ranking.{ranked-stops, operand-stops, operand-chooses, ranked-goes}
 use Rattle.resolver.proofs.Appending.{appends-same}
-use borrow.Author.Rules.{rules}
 use Rattle.resolver.proofs.resolve_ranked.Goals as goal
 
 pub returns-then-section-ne0 : goal.returns-then-section-ne0

@@ -1,7 +1,6 @@
 -- `resolver::resolve_selector` meets its contract.
 use Rattle.resolver.proofs.Choosing.{selector-rule, selector-operation, selector-token}
 use Rattle.resolver.proofs.Plains.{lies-here}
-use borrow.Author.Rules.{rules}
 use Rattle.resolver.proofs.resolve_selector.Goals as goal
 
 pub select_rule-requires : goal.select_rule-requires

@@ -1,6 +1,5 @@
 -- `resolver::resolve_sent` meets its contract.
 use Rattle.resolver.proofs.Rests.{sent-stops, sent-goes}
-use borrow.Author.Rules.{rules}
 use Rattle.resolver.proofs.resolve_sent.Goals as goal
 
 pub returns-then-v-ne0 : goal.returns-then-v-ne0

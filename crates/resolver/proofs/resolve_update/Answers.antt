@@ -2,7 +2,6 @@
 use mathlib.Core.Path.{sym, ◌∙◌}
 use native.Mathlib.Omega.{arith}
 use Rattle.resolver.proofs.Rests.{update-stops, update-chooses, update-misfits, update-goes}
-use borrow.Author.Rules.{rules}
 use Rattle.resolver.proofs.resolve_update.Goals as goal
 
 pub returns-then-o-ne0 : goal.returns-then-o-ne0

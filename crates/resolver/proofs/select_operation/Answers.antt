@@ -3,7 +3,6 @@ use mathlib.Core.Path.{sym, ◌∙◌}
 use native.Mathlib.Omega.{arith}
 use Rattle.resolver.proofs.Choosing.{operation-balks, operation-update, operation-picks}
 use Rattle.resolver.proofs.Rests.{same_class}
-use borrow.Author.Rules.{rules}
 use Rattle.resolver.proofs.select_operation.Goals as goal
 
 pub returns-then-o-ne0 : goal.returns-then-o-ne0

@@ -4,7 +4,6 @@ use native.Mathlib.Omega.{arith}
 use Rattle.resolver.proofs.Appending.{appends-same}
 use Rattle.resolver.proofs.Choosing.{rule-balks, rule-procedure, rule-picks}
 use Rattle.resolver.proofs.Rests.{same_class}
-use borrow.Author.Rules.{rules}
 use Rattle.resolver.proofs.select_rule.Goals as goal
 
 pub returns-then-o-ne0 : goal.returns-then-o-ne0

@@ -1,6 +1,5 @@
 -- `resolver::select_with` meets its contract.
 use Rattle.resolver.proofs.Choosing.{with-balks, with-picks}
-use borrow.Author.Rules.{rules}
 use Rattle.resolver.proofs.select_with.Goals as goal
 
 pub returns-then-p-ne0 : goal.returns-then-p-ne0

@@ -1,6 +1,5 @@
 -- `rulerows::pair_of` meets its contract.
 use Rattle.rulerows.proofs.Made.{pair-of}
-use borrow.Author.Rules.{rules}
 use Rattle.rulerows.proofs.pair_of.Goals as goal
 
 -- src/lib.rt:72:1

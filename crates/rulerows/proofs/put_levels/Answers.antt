@@ -1,12 +1,10 @@
 -- `rulerows::put_levels` meets its contract.
 use borrow.Author.Rules.{rules}
-use lib.ListN.{length}
-use mathlib.Core.Path.{◌≡◌, refl, sym, ◌∙◌}
+use mathlib.Core.Path.{refl, sym, ◌∙◌}
 use native.Mathlib.Omega.{arith}
-use Prim.Native.Nat.{◌-◌, ◌<◌, ◌≤◌}
-use Rattle.levels.proofs.Making.{RestIs, rest-is}
+use Rattle.levels.proofs.Making.{rest-is}
 use Rattle.rulerows.proofs.Laws.{row_put}
-use Rattle.rulerows.proofs.Levels.{Going, going-first, going_more, levels-put, levels-full}
+use Rattle.rulerows.proofs.Levels.{going-first, going_more, levels-put, levels-full}
 use Rattle.rulerows.proofs.put_levels.Goals as goal
 
 -- src/lib.rt:101:9

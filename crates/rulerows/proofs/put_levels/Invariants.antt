@@ -1,12 +1,9 @@
 -- `rulerows::put_levels` meets its contract.
-use borrow.Author.Rules.{rules}
 use lib.ListN.{length}
-use mathlib.Core.Path.{◌≡◌, refl, sym, ◌∙◌}
-use native.Mathlib.Omega.{arith}
+use mathlib.Core.Path.{◌≡◌}
 use Prim.Native.Nat.{◌-◌, ◌<◌, ◌≤◌}
-use Rattle.levels.proofs.Making.{RestIs, rest-is}
-use Rattle.rulerows.proofs.Laws.{row_put}
-use Rattle.rulerows.proofs.Levels.{Going, going-first, going_more, levels-put, levels-full}
+use Rattle.levels.proofs.Making.{RestIs}
+use Rattle.rulerows.proofs.Levels.{Going}
 use Rattle.rulerows.proofs.put_levels.Given as goal
 
 abbrev pub invariant-loop-l : goal.invariant-loop-l

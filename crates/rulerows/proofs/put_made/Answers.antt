@@ -1,12 +1,8 @@
 -- `rulerows::put_made` meets its contract.
 use borrow.Author.Rules.{rules}
-use lib.ListN.{length}
-use mathlib.Core.List.{List}
-use mathlib.Core.Path.{◌≡◌, sym, ◌∙◌}
+use mathlib.Core.Path.{sym, ◌∙◌}
 use native.Mathlib.Omega.{arith}
-use Prim.Native.Nat.{ℕ, ◌-◌, ◌≤◌}
 use Rattle.rulerows.proofs.Made.{made-end, made-next}
-use Rattle.rulerows.specs.Filled.{MadePut}
 use Rattle.rulerows.proofs.put_made.Goals as goal
 
 -- src/lib.rt:129:5

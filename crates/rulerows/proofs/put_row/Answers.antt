@@ -1,7 +1,6 @@
 -- `rulerows::put_row` meets its contract.
 use native.Mathlib.Omega.{arith}
 use lib.ListN.{length-set}
-use borrow.Author.Rules.{rules}
 use Rattle.rulerows.proofs.put_row.Goals as goal
 
 -- src/lib.rt:43:5

@@ -1,11 +1,8 @@
 -- `rulerows::put_written` meets its contract.
 use borrow.Author.Rules.{rules}
-use lib.ListN.{length}
-use mathlib.Core.Path.{◌≡◌, refl, sym, ◌∙◌}
+use mathlib.Core.Path.{refl, sym, ◌∙◌}
 use native.Mathlib.Omega.{arith}
-use Prim.Native.Nat.{◌-◌, ◌≤◌}
 use Rattle.rulerows.proofs.Laws.{row_put, written_none, written-more, written-end}
-use Rattle.rulerows.specs.Filled.{WrittenPut}
 use Rattle.rulerows.proofs.put_written.Goals as goal
 
 -- src/lib.rt:56:5

@@ -1,10 +1,7 @@
 -- `rulerows::put_written` meets its contract.
-use borrow.Author.Rules.{rules}
 use lib.ListN.{length}
-use mathlib.Core.Path.{◌≡◌, refl, sym, ◌∙◌}
-use native.Mathlib.Omega.{arith}
+use mathlib.Core.Path.{◌≡◌}
 use Prim.Native.Nat.{◌-◌, ◌≤◌}
-use Rattle.rulerows.proofs.Laws.{row_put, written_none, written-more, written-end}
 use Rattle.rulerows.specs.Filled.{WrittenPut}
 use Rattle.rulerows.proofs.put_written.Given as goal
 

@@ -4,10 +4,8 @@ use Prim.Native.Nat.{ℕ, ◌+◌}
 use native.Mathlib.Nat.{add-zero}
 use native.Mathlib.Omega.{arith}
 use lib.ListN.{get_or, drop}
-use borrow.Author.Rules.{rules}
 use borrow.Author.Tests.{eqb-false}
 use Rattle.scanner.proofs.WordLaws.{spells, twice-is, once_is, past, past_end}
-use Rattle.scanner.specs.Scanning.{found}
 use Rattle.scanner.proofs.greater_here.Goals as goal
 
 pub returns-then-q-eq62 : goal.returns-then-q-eq62

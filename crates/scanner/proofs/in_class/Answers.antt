@@ -1,7 +1,5 @@
 -- `scanner::in_class` meets its contract.
 use mathlib.Core.Path.{refl}
-use borrow.Author.Rules.{rules}
-use Rattle.base.specs.Common.{given}
 use Rattle.scanner.proofs.in_class.Goals as goal
 
 pub returns-in-Name : goal.returns-in-Name

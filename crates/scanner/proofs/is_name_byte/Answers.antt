@@ -2,7 +2,6 @@
 use mathlib.Core.Bool.{or-false}
 use mathlib.Core.Path.{◌∙◌}
 use native.Mathlib.Omega.{arith}
-use borrow.Author.Rules.{rules}
 use borrow.Author.Tests.{lt-leb, le-leb, ne_eqb}
 use Rattle.words.specs.Words.{name_byte, letter, digit}
 use Rattle.scanner.proofs.is_name_byte.Goals as goal

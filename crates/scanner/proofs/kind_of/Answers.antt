@@ -1,7 +1,6 @@
 -- `scanner::kind_of` meets its contract.
 use mathlib.Core.Path.{sym, ◌∙◌}
 use lib.ListN.{take, drop}
-use borrow.Author.Rules.{rules}
 use Rattle.scanner.proofs.WordLaws.{kind-a, kind-b, kind-c}
 use Rattle.scanner.proofs.kind_of.Goals as goal
 

@@ -1,6 +1,5 @@
 -- `scanner::kind_of_brackets` meets its contract.
 use mathlib.Core.Path.{refl, sym, ◌∙◌}
-use borrow.Author.Rules.{rules}
 use Rattle.scanner.specs.Scanning.{brackets}
 use Rattle.words.specs.Words.{kind_of}
 use Rattle.scanner.proofs.kind_of_brackets.Goals as goal

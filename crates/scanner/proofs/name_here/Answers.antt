@@ -1,9 +1,7 @@
 -- `scanner::name_here` meets its contract.
 use Prim.Native.Nat.{◌+◌}
 use native.Mathlib.Omega.{arith}
-use borrow.Author.Rules.{rules}
 use Rattle.scanner.proofs.WordLaws.{spells, name-is}
-use Rattle.scanner.specs.Scanning.{found}
 use Rattle.scanner.proofs.name_here.Goals as goal
 
 pub overflow_add-n : goal.overflow_add-n

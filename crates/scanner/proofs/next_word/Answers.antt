@@ -1,6 +1,5 @@
 -- `scanner::next_word` meets its contract.
 use native.Mathlib.Omega.{arith}
-use borrow.Author.Rules.{rules}
 use Rattle.scanner.proofs.WordLaws.{ended, at_word, earlier}
 use Rattle.scanner.proofs.next_word.Goals as goal
 

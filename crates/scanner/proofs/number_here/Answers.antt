@@ -2,9 +2,7 @@
 use Prim.Native.Nat.{◌+◌}
 use native.Mathlib.Omega.{arith}
 use lib.ListN.{drop}
-use borrow.Author.Rules.{rules}
 use Rattle.scanner.proofs.WordLaws.{spells, number_is}
-use Rattle.scanner.specs.Scanning.{found}
 use Rattle.scanner.proofs.number_here.Goals as goal
 
 pub overflow_add-n : goal.overflow_add-n

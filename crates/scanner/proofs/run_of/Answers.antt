@@ -1,12 +1,8 @@
 -- `scanner::run_of` meets its contract.
-use mathlib.Core.Path.{◌≡◌, sym, ◌∙◌}
-use Prim.Native.Nat.{◌+◌, ◌-◌, ◌≤◌}
+use mathlib.Core.Path.{sym, ◌∙◌}
 use native.Mathlib.Omega.{arith}
-use lib.ListN.{length, drop}
-use borrow.Author.Tests.{not-true, not-false}
 use Rattle.scanner.proofs.WordLaws.{run-go, run-stop, run_end}
 use Rattle.scanner.specs.Scanning.{in_class}
-use Rattle.words.specs.Words.{run}
 use Rattle.scanner.proofs.run_of.Goals as goal
 
 pub loop-i-init : goal.loop-i-init

@@ -1,10 +1,6 @@
 -- `scanner::skip` meets its contract.
-use mathlib.Core.Path.{◌≡◌, refl, sym, ◌∙◌}
-use Prim.Native.Nat.{◌-◌, ◌≤◌}
+use mathlib.Core.Path.{refl, sym, ◌∙◌}
 use native.Mathlib.Omega.{arith}
-use lib.ListN.{length}
-use borrow.Author.Rules.{rules}
-use Rattle.words.specs.Words.{words_at}
 use Rattle.scanner.proofs.WordLaws.{blank_step, comment-step}
 use Rattle.scanner.proofs.skip.Goals as goal
 

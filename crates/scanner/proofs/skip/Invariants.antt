@@ -1,11 +1,8 @@
 -- `scanner::skip` meets its contract.
-use mathlib.Core.Path.{◌≡◌, refl, sym, ◌∙◌}
+use mathlib.Core.Path.{◌≡◌}
 use Prim.Native.Nat.{◌-◌, ◌≤◌}
-use native.Mathlib.Omega.{arith}
 use lib.ListN.{length}
-use borrow.Author.Rules.{rules}
 use Rattle.words.specs.Words.{words_at}
-use Rattle.scanner.proofs.WordLaws.{blank_step, comment-step}
 use Rattle.scanner.proofs.skip.Given as goal
 
 abbrev pub invariant-loop-i : goal.invariant-loop-i

@@ -1,10 +1,8 @@
 -- `scanner::spelt` meets its contract.
-use mathlib.Core.Path.{◌≡◌, refl, sym, ◌∙◌}
-use Prim.Native.Nat.{◌-◌, ◌≤◌}
+use mathlib.Core.Path.{refl, sym, ◌∙◌}
 use native.Mathlib.Omega.{arith}
 use lib.ListN.{take, drop}
 use Rattle.base.proofs.Laws.{same_next, same_not, same_end}
-use Rattle.base.specs.Common.{same}
 use Rattle.scanner.proofs.WordLaws.{same_length, part_length, part_at}
 use Rattle.scanner.proofs.spelt.Goals as goal
 

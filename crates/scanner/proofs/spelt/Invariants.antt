@@ -1,11 +1,8 @@
 -- `scanner::spelt` meets its contract.
-use mathlib.Core.Path.{◌≡◌, refl, sym, ◌∙◌}
+use mathlib.Core.Path.{◌≡◌}
 use Prim.Native.Nat.{◌-◌, ◌≤◌}
-use native.Mathlib.Omega.{arith}
 use lib.ListN.{take, drop}
-use Rattle.base.proofs.Laws.{same_next, same_not, same_end}
 use Rattle.base.specs.Common.{same}
-use Rattle.scanner.proofs.WordLaws.{same_length, part_length, part_at}
 use Rattle.scanner.proofs.spelt.Given as goal
 
 abbrev pub invariant-loop-i : goal.invariant-loop-i

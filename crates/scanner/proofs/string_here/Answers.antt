@@ -3,10 +3,8 @@ use mathlib.Core.Path.{refl, sym, ◌∙◌}
 use Prim.Native.Nat.{◌+◌}
 use native.Mathlib.Omega.{arith}
 use lib.ListN.{drop}
-use borrow.Author.Rules.{rules}
 use borrow.Author.Tests.{eqb-false}
 use Rattle.scanner.proofs.WordLaws.{spells, string-short, string-long, string-open, string-closed, past, past_end}
-use Rattle.scanner.specs.Scanning.{found}
 use Rattle.scanner.proofs.string_here.Goals as goal
 
 pub returns-then-n-lt1 : goal.returns-then-n-lt1

@@ -3,7 +3,6 @@ use mathlib.Core.Path.{ap, sym, ◌∙◌}
 use Prim.Native.Nat.{ℕ}
 use native.Mathlib.Omega.{arith}
 use lib.ListN.{get_or}
-use borrow.Author.Rules.{rules}
 use Rattle.scanner.proofs.WordLaws.{spells, bar-is, symbol-is, no_symbol}
 use Rattle.scanner.specs.Scanning.{found}
 use Rattle.scanner.proofs.symbol_here.Goals as goal

@@ -2,7 +2,6 @@
 use mathlib.Core.Path.{sym, ◌∙◌}
 use Prim.Native.Nat.{◌+◌}
 use lib.ListN.{get_or, drop}
-use borrow.Author.Rules.{rules}
 use Rattle.scanner.proofs.WordLaws.{word-greater, word-name, word_number, word-symbol}
 use Rattle.words.proofs.Before.{word-string}
 use Rattle.scanner.proofs.word_here.Goals as goal

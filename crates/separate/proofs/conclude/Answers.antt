@@ -1,7 +1,6 @@
 -- `separate::conclude` meets its contract.
 use mathlib.Core.Path.{refl}
 use native.Mathlib.Omega.{arith}
-use borrow.Author.Rules.{rules}
 use Rattle.separate.proofs.Writing.{concludes-fault, concludes-short, concludes-whole}
 use Rattle.separate.proofs.conclude.Goals as goal
 

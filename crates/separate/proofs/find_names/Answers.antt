@@ -1,7 +1,5 @@
 -- `separate::find_names` meets its contract.
 use mathlib.Core.Path.{refl, ◌∙◌}
-use native.Mathlib.Omega.{arith}
-use borrow.Author.Rules.{rules}
 use Rattle.separate.proofs.Naming.{finds_past, finds-fault, finds-all}
 use Rattle.separate.proofs.find_names.Goals as goal
 

@@ -1,6 +1,5 @@
 -- `separate::put_use` meets its contract.
 use native.Mathlib.Omega.{arith}
-use borrow.Author.Rules.{rules}
 use Rattle.separate.proofs.Writing.{use-none, use-put}
 use Rattle.separate.proofs.put_use.Goals as goal
 

@@ -1,13 +1,7 @@
 -- `separate::put_uses` meets its contract.
 use native.Mathlib.Omega.{arith}
-use borrow.Author.Rules.{rules}
-use mathlib.Core.List.{List}
-use mathlib.Core.Path.{◌≡◌, refl, ◌∙◌}
-use Prim.Native.Nat.{◌-◌, ◌≤◌}
-use lib.ListN.{length}
-use Rattle.names.specs.Uses.{Use}
-use Rattle.partpairs.specs.Pairing.{UsesAt}
-use Rattle.separate.proofs.Writing.{Rest, rest-first, rest-next, rest-last}
+use mathlib.Core.Path.{refl, ◌∙◌}
+use Rattle.separate.proofs.Writing.{rest-first, rest-next, rest-last}
 use Rattle.separate.proofs.put_uses.Goals as goal
 
 pub loop-k-init : goal.loop-k-init

@@ -1,7 +1,6 @@
 -- `separate::read_texts` meets its contract.
 use mathlib.Core.Path.{refl}
 use native.Mathlib.Omega.{arith}
-use borrow.Author.Rules.{rules}
 use Rattle.separate.proofs.Reading.{long-common, long-part, common-fault, common-read, part-fault, both_read}
 use Rattle.separate.proofs.read_texts.Goals as goal
 

@@ -1,6 +1,5 @@
 -- `separate::refuse` meets its contract.
 use mathlib.Core.Path.{refl}
-use borrow.Author.Rules.{rules}
 use Rattle.buffers.specs.Words.{zeroed}
 use Rattle.parts.specs.Form.{lent_object}
 use Rattle.separate.specs.Answers.{answered, lent_bytes}

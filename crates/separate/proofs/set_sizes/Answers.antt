@@ -1,6 +1,5 @@
 -- `separate::set_sizes` meets its contract.
 use mathlib.Core.Path.{refl}
-use borrow.Author.Rules.{rules}
 use Rattle.separate.proofs.Objects.{sized-words}
 use Rattle.separate.proofs.set_sizes.Goals as goal
 

@@ -2,7 +2,6 @@
 use mathlib.Core.Path.{◌≡◌, refl, ◌∙◌}
 use lib.ListN.{length}
 use native.Mathlib.Omega.{arith}
-use borrow.Author.Rules.{rules}
 use Rattle.separate.proofs.Objects.{fault-of, whole_of}
 use Rattle.separate.proofs.write_object.Goals as goal
 

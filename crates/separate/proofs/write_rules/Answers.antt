@@ -1,6 +1,5 @@
 -- `separate::write_rules` meets its contract.
 use native.Mathlib.Omega.{arith}
-use borrow.Author.Rules.{rules}
 use Rattle.separate.proofs.write_rules.Goals as goal
 
 pub open_rules-requires : goal.open_rules-requires

@@ -1,9 +1,8 @@
-use Prim.Native.Nat.{ℕ, ◌-◌}
-use mathlib.Core.Path.{◌≡◌, ap, ◌∙◌}
+use Prim.Native.Nat.{ℕ}
+use mathlib.Core.Path.{ap, ◌∙◌}
 use lib.ListN.{get_or}
 use borrow.Author.Tests.{lt-ltb, le-ltb}
 use Rattle.sizes.specs.Heads.{cells_of, cells_table}
-use borrow.Author.Rules.{rules}
 use Rattle.sizes.proofs.cells_of.Goals as goal
 
 -- src/lib.rt:179:9

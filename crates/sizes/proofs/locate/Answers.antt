@@ -1,10 +1,7 @@
-use borrow.Author.Rules.{rules}
-use Prim.Native.Nat.{ℕ, ◌+◌, ◌*◌, ◌-◌, ◌≤◌, ◌<◌}
-use mathlib.Core.Path.{◌≡◌, refl, ◌∙◌}
+use mathlib.Core.Path.{refl, ◌∙◌}
 use native.Mathlib.Omega.{arith}
-use lib.ListN.{length}
 use Rattle.sizes.specs.Located.{Locates}
-use Rattle.sizes.proofs.Places.{PlacesGo, places-start, places-go, places-end}
+use Rattle.sizes.proofs.Places.{places-start, places-go, places-end}
 use Rattle.sizes.proofs.locate.Goals as goal
 
 -- src/lib.rt:577:9

@@ -1,10 +1,7 @@
-use borrow.Author.Rules.{rules}
-use Prim.Native.Nat.{ℕ, ◌+◌, ◌*◌, ◌-◌, ◌≤◌, ◌<◌}
-use mathlib.Core.Path.{◌≡◌, refl, ◌∙◌}
-use native.Mathlib.Omega.{arith}
+use Prim.Native.Nat.{◌+◌, ◌*◌, ◌-◌, ◌≤◌}
+use mathlib.Core.Path.{◌≡◌}
 use lib.ListN.{length}
-use Rattle.sizes.specs.Located.{Locates}
-use Rattle.sizes.proofs.Places.{PlacesGo, places-start, places-go, places-end}
+use Rattle.sizes.proofs.Places.{PlacesGo}
 use Rattle.sizes.proofs.locate.Given as goal
 
 abbrev pub invariant-loop-r : goal.invariant-loop-r

@@ -1,8 +1,5 @@
-use Prim.Native.Nat.{ℕ, ◌-◌}
-use mathlib.Core.Path.{◌≡◌}
 use borrow.Author.Tests.{lt-ltb, le-ltb, eq-eqb, ne_eqb}
 use Rattle.sizes.specs.Heads.{open_after}
-use borrow.Author.Rules.{rules}
 use Rattle.sizes.proofs.open_after.Goals as goal
 
 -- src/lib.rt:174:9

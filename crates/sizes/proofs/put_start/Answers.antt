@@ -1,7 +1,6 @@
-use mathlib.Core.Path.{◌≡◌, sym}
+use mathlib.Core.Path.{sym}
 use native.Mathlib.Omega.{arith}
 use Rattle.emitter.proofs.Laws.{set_past}
-use borrow.Author.Rules.{rules}
 use Rattle.sizes.proofs.put_start.Goals as goal
 
 -- src/lib.rt:557:1

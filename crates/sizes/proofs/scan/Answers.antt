@@ -1,12 +1,11 @@
-use borrow.Author.Rules.{rules}
-use Prim.Native.Nat.{ℕ, ◌+◌, ◌*◌, ◌-◌, ◌≤◌, ◌<◌}
+use Prim.Native.Nat.{ℕ}
 use mathlib.Core.Path.{◌≡◌, ap, ◌∙◌}
 use native.Mathlib.Omega.{arith}
-use lib.ListN.{length, get_or}
+use lib.ListN.{get_or}
 use Rattle.sizes.specs.Heads.{cells_of, words_of, open_after}
 use Rattle.sizes.specs.Located.{Scanned}
 use Rattle.emitter.proofs.Leave.{all_in}
-use Rattle.sizes.proofs.Leave.{Runs, runs_none, runs-more, runs-end, turn, head-cells, head-words}
+use Rattle.sizes.proofs.Leave.{runs_none, runs-more, runs-end, turn, head-cells, head-words}
 use Rattle.sizes.proofs.scan.Goals as goal
 
 -- src/lib.rt:245:5

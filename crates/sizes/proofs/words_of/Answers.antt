@@ -1,9 +1,8 @@
-use Prim.Native.Nat.{ℕ, ◌*◌, ◌-◌}
-use mathlib.Core.Path.{◌≡◌, ap, ◌∙◌}
+use Prim.Native.Nat.{ℕ, ◌*◌}
+use mathlib.Core.Path.{ap, ◌∙◌}
 use lib.ListN.{get_or}
 use borrow.Author.Tests.{lt-ltb, le-ltb}
 use Rattle.sizes.specs.Heads.{words_of, words_table}
-use borrow.Author.Rules.{rules}
 use Rattle.sizes.proofs.words_of.Goals as goal
 
 -- src/lib.rt:200:9

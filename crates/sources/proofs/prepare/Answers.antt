@@ -1,4 +1,3 @@
-use borrow.Author.Rules.{rules}
 use Rattle.sources.proofs.Answers.{all-wrong, all-well}
 use Rattle.sources.proofs.prepare.Goals as goal
 

@@ -1,4 +1,3 @@
-use borrow.Author.Rules.{rules}
 use Rattle.sources.proofs.Held.{written}
 use Rattle.sources.proofs.write_table.Goals as goal
 

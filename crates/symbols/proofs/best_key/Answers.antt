@@ -1,9 +1,6 @@
 -- `symbols::best_key` meets its contract.
-use Prim.Native.Nat.{◌-◌, ◌<◌, ◌≤◌}
-use mathlib.Core.Logic.{⊎_elim}
-use mathlib.Core.Path.{◌≡◌, ◌∙◌}
+use mathlib.Core.Path.{◌∙◌}
 use native.Mathlib.Omega.{arith}
-use Rattle.symbols.specs.Index.{RowsKept}
 use Rattle.symbols.proofs.Indexing.{rows_same, rows-after}
 use Rattle.symbols.proofs.best_key.Goals as goal
 use Rattle.symbols.proofs.best_key.Goals.{then-k-least, else-k-least}

@@ -1,9 +1,8 @@
 -- `symbols::bucket` meets its contract.
-use mathlib.Core.Path.{◌≡◌, sym, ap, ◌∙◌}
-use Prim.Native.Nat.{ℕ, ◌-◌, ◌≤◌, ◌<◌}
+use mathlib.Core.Path.{sym, ap, ◌∙◌}
+use Prim.Native.Nat.{ℕ}
 use native.Mathlib.Omega.{arith}
-use lib.ListN.{drop}
-use Rattle.symbols.specs.Index.{hash_from, seed_of}
+use Rattle.symbols.specs.Index.{hash_from}
 use Rattle.symbols.specs.Search.{part}
 use Rattle.symbols.proofs.Parts.{part-fits, part-byte, hash-more, bucket-end, product-low}
 use Rattle.symbols.proofs.bucket.Goals as goal

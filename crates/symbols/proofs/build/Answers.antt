@@ -1,9 +1,7 @@
 -- `symbols::build` meets its contract.
-use mathlib.Core.Path.{◌≡◌, ◌∙◌}
-use Prim.Native.Nat.{ℕ, ◌*◌, ◌≤◌}
+use mathlib.Core.Path.{◌∙◌}
 use native.Mathlib.Omega.{arith}
-use Rattle.symbols.specs.Index.{RowsKept}
-use Rattle.symbols.proofs.Indexing.{IndexedFrom, rows_same, rows-after, index-none, index-all, index_at, mid-kept, row_kept, index-more}
+use Rattle.symbols.proofs.Indexing.{rows_same, rows-after, index-none, index-all, index_at, mid-kept, row_kept, index-more}
 use Rattle.symbols.proofs.build.Goals as goal
 
 pub clear_heads-requires : goal.clear_heads-requires

@@ -1,9 +1,7 @@
 -- `symbols::build` meets its contract.
-use mathlib.Core.Path.{◌≡◌, ◌∙◌}
-use Prim.Native.Nat.{ℕ, ◌*◌, ◌≤◌}
-use native.Mathlib.Omega.{arith}
+use Prim.Native.Nat.{◌*◌, ◌≤◌}
 use Rattle.symbols.specs.Index.{RowsKept}
-use Rattle.symbols.proofs.Indexing.{IndexedFrom, rows_same, rows-after, index-none, index-all, index_at, mid-kept, row_kept, index-more}
+use Rattle.symbols.proofs.Indexing.{IndexedFrom}
 use Rattle.symbols.proofs.build.Given as goal
 
 abbrev pub invariant-loop-i : goal.invariant-loop-i

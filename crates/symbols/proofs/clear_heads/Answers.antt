@@ -1,9 +1,7 @@
 -- `symbols::clear_heads` meets its contract.
-use mathlib.Core.Path.{◌≡◌, ◌∙◌}
-use Prim.Native.Nat.{ℕ, ◌+◌, ◌-◌, ◌≤◌, ◌<◌}
+use mathlib.Core.Path.{◌∙◌}
 use native.Mathlib.Omega.{arith}
-use lib.ListN.{length, length-set}
-use Rattle.symbols.specs.Index.{head_at, RowsKept}
+use lib.ListN.{length-set}
 use Rattle.symbols.proofs.Indexing.{rows_same, rows-after, rows-set, clear-more, clear-keyed, key_set}
 use Rattle.symbols.proofs.clear_heads.Goals as goal
 

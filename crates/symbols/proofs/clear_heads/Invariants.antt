@@ -1,10 +1,7 @@
 -- `symbols::clear_heads` meets its contract.
-use mathlib.Core.Path.{◌≡◌, ◌∙◌}
-use Prim.Native.Nat.{ℕ, ◌+◌, ◌-◌, ◌≤◌, ◌<◌}
-use native.Mathlib.Omega.{arith}
-use lib.ListN.{length, length-set}
+use mathlib.Core.Path.{◌≡◌}
+use Prim.Native.Nat.{ℕ, ◌-◌, ◌≤◌, ◌<◌}
 use Rattle.symbols.specs.Index.{head_at, RowsKept}
-use Rattle.symbols.proofs.Indexing.{rows_same, rows-after, rows-set, clear-more, clear-keyed, key_set}
 use Rattle.symbols.proofs.clear_heads.Given as goal
 
 abbrev pub invariant-loop-b : goal.invariant-loop-b

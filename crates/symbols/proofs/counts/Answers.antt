@@ -1,5 +1,4 @@
 -- `symbols::counts` meets its contract.
-use borrow.Author.Rules.{rules}
 use Rattle.symbols.proofs.Searches.{counts-other, counts-own}
 use Rattle.symbols.proofs.counts.Goals as goal
 

@@ -1,5 +1,4 @@
 -- `symbols::declares` meets its contract.
-use borrow.Author.Rules.{rules}
 use mathlib.Core.Path.{refl}
 use borrow.Author.Tests.{ne_eqb, eq-eqb}
 use Rattle.symbols.specs.Search.{declares}

@@ -1,5 +1,4 @@
 -- `symbols::elsewhere` meets its contract.
-use borrow.Author.Rules.{rules}
 use mathlib.Core.Path.{refl}
 use Rattle.declarations.specs.Decls.{elsewhere_in}
 use Rattle.symbols.proofs.elsewhere.Goals as goal

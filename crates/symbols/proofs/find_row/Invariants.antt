@@ -1,12 +1,8 @@
 -- `symbols::find_row` meets its contract.
-use mathlib.Core.Path.{◌≡◌, refl, sym, ◌∙◌}
 use Prim.Native.Nat.{◌-◌, ◌%◌, ◌<◌}
-use native.Mathlib.Omega.{arith}
-use Rattle.symbols.specs.Index.{bucket_of, key_of}
 use Rattle.symbols.specs.Search.{part}
-use Rattle.symbols.proofs.Along.{Along, along-start, along-end, along-past, along-hit, along-miss, nodes-left, named-among}
-use Rattle.symbols.proofs.Parts.{bucket-low}
-use Rattle.symbols.proofs.Searches.{by_name, tells-there, tells-nowhere, told-number}
+use Rattle.symbols.proofs.Along.{Along}
+use Rattle.symbols.proofs.Searches.{by_name}
 use Rattle.symbols.proofs.find_row.Given as goal
 
 abbrev pub invariant-loop-p : goal.invariant-loop-p

@@ -1,5 +1,4 @@
 -- `symbols::first_node` meets its contract.
-use borrow.Author.Rules.{rules}
 use mathlib.Core.Path.{ap, ◌∙◌}
 use Prim.Native.Nat.{ℕ}
 use Rattle.symbols.specs.Index.{head_at, bucket_of}

@@ -1,5 +1,4 @@
 -- `symbols::has_row` meets its contract.
-use borrow.Author.Rules.{rules}
 use Rattle.symbols.proofs.Lookups.{told-given}
 use Rattle.symbols.proofs.has_row.Goals as goal
 

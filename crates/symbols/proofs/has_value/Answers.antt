@@ -1,12 +1,7 @@
 -- `symbols::has_value` meets its contract.
-use mathlib.Core.List.{List}
-use mathlib.Core.Path.{◌≡◌, sym, ◌∙◌}
-use Prim.Native.Nat.{ℕ, ◌-◌, ◌≤◌}
+use mathlib.Core.Path.{sym, ◌∙◌}
 use native.Mathlib.Omega.{arith}
-use Rattle.base.specs.Common.{member}
-use Rattle.names.specs.Declare.{values_of}
-use Rattle.declarations.specs.Decls.{knowns_in}
-use Rattle.symbols.specs.Rows.{held, held_from, decl_at}
+use Rattle.symbols.specs.Rows.{decl_at}
 use Rattle.symbols.proofs.Searches.{by_number, start, hit, miss, end}
 use Rattle.symbols.proofs.has_value.Goals as goal
 

@@ -1,13 +1,11 @@
 -- `symbols::has_value` meets its contract.
 use mathlib.Core.List.{List}
-use mathlib.Core.Path.{◌≡◌, sym, ◌∙◌}
+use mathlib.Core.Path.{◌≡◌}
 use Prim.Native.Nat.{ℕ, ◌-◌, ◌≤◌}
-use native.Mathlib.Omega.{arith}
 use Rattle.base.specs.Common.{member}
 use Rattle.names.specs.Declare.{values_of}
 use Rattle.declarations.specs.Decls.{knowns_in}
-use Rattle.symbols.specs.Rows.{held, held_from, decl_at}
-use Rattle.symbols.proofs.Searches.{by_number, start, hit, miss, end}
+use Rattle.symbols.specs.Rows.{held, held_from}
 use Rattle.symbols.proofs.has_value.Given as goal
 
 abbrev pub invariant-loop-i : goal.invariant-loop-i

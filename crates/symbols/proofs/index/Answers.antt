@@ -1,5 +1,4 @@
 -- `symbols::index` meets its contract.
-use borrow.Author.Rules.{rules}
 use Rattle.symbols.proofs.Indexing.{rows-after, held_kept}
 use Rattle.symbols.proofs.index.Goals as goal
 

@@ -1,9 +1,6 @@
 -- `symbols::is_declared` meets its contract.
-use mathlib.Core.Path.{◌≡◌, sym, ◌∙◌}
-use Prim.Native.Nat.{◌-◌, ◌≤◌}
+use mathlib.Core.Path.{sym, ◌∙◌}
 use native.Mathlib.Omega.{arith}
-use Rattle.declarations.specs.Decls.{declared_in}
-use Rattle.symbols.specs.Rows.{held, held_from}
 use Rattle.symbols.specs.Search.{part}
 use Rattle.symbols.proofs.Searches.{by_word, start, hit, miss, end}
 use Rattle.symbols.proofs.is_declared.Goals as goal

@@ -1,11 +1,9 @@
 -- `symbols::is_declared` meets its contract.
-use mathlib.Core.Path.{◌≡◌, sym, ◌∙◌}
+use mathlib.Core.Path.{◌≡◌}
 use Prim.Native.Nat.{◌-◌, ◌≤◌}
-use native.Mathlib.Omega.{arith}
 use Rattle.declarations.specs.Decls.{declared_in}
 use Rattle.symbols.specs.Rows.{held, held_from}
 use Rattle.symbols.specs.Search.{part}
-use Rattle.symbols.proofs.Searches.{by_word, start, hit, miss, end}
 use Rattle.symbols.proofs.is_declared.Given as goal
 
 abbrev pub invariant-loop-i : goal.invariant-loop-i

@@ -1,5 +1,4 @@
 -- `symbols::is_known` meets its contract.
-use borrow.Author.Rules.{rules}
 use Rattle.symbols.proofs.Lookups.{told-given}
 use Rattle.symbols.proofs.is_known.Goals as goal
 

@@ -1,5 +1,4 @@
 -- `symbols::is_name` meets its contract.
-use borrow.Author.Rules.{rules}
 use mathlib.Core.Path.{refl}
 use Rattle.symbols.specs.Rows.{decl_at}
 use Rattle.symbols.proofs.is_name.Goals as goal

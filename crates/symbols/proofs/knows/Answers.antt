@@ -1,8 +1,6 @@
 -- `symbols::knows` meets its contract.
-use borrow.Author.Rules.{rules}
 use mathlib.Core.Path.{refl}
-use borrow.Author.Tests.{not-true, not-false}
-use Rattle.symbols.specs.Search.{knows, serves}
+use Rattle.symbols.specs.Search.{knows}
 use Rattle.symbols.proofs.Searches.{feeds-at}
 use Rattle.symbols.proofs.knows.Goals as goal
 

@@ -1,5 +1,4 @@
 -- `symbols::longest` meets its contract.
-use Prim.Native.Nat.{◌-◌, ◌≤◌}
 use native.Mathlib.Omega.{arith}
 use Rattle.symbols.proofs.longest.Goals as goal
 

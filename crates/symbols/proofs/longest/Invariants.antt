@@ -1,6 +1,5 @@
 -- `symbols::longest` meets its contract.
 use Prim.Native.Nat.{◌-◌, ◌≤◌}
-use native.Mathlib.Omega.{arith}
 use Rattle.symbols.proofs.longest.Given as goal
 
 abbrev pub invariant-loop-b : goal.invariant-loop-b

@@ -1,5 +1,4 @@
 -- `symbols::named` meets its contract.
-use borrow.Author.Rules.{rules}
 use mathlib.Core.Path.{refl}
 use borrow.Author.Tests.{ne_eqb, eq-eqb}
 use Rattle.symbols.specs.Rows.{decl_at}

@@ -1,5 +1,4 @@
 -- `symbols::next_node` meets its contract.
-use borrow.Author.Rules.{rules}
 use native.Mathlib.Omega.{arith}
 use Rattle.symbols.proofs.Along.{next_up, next-end}
 use Rattle.symbols.proofs.next_node.Goals as goal

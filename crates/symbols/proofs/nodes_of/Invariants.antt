@@ -1,8 +1,5 @@
 -- `symbols::nodes_of` meets its contract.
-use Prim.Native.Nat.{ℕ, ◌+◌, ◌-◌, ◌%◌, ◌<◌, ◌≤◌}
-use mathlib.Core.Path.{◌≡◌}
-use native.Mathlib.Omega.{arith}
-use Rattle.symbols.proofs.Along.{nodes-left}
+use Prim.Native.Nat.{◌-◌, ◌%◌, ◌<◌, ◌≤◌}
 use Rattle.symbols.proofs.nodes_of.Given as goal
 
 abbrev pub invariant-loop-p : goal.invariant-loop-p

@@ -1,5 +1,4 @@
 -- `symbols::part_len` meets its contract.
-use borrow.Author.Rules.{rules}
 use Rattle.symbols.proofs.Parts.{part-past, part-whole, part_cut}
 use Rattle.symbols.proofs.part_len.Goals as goal
 

@@ -1,5 +1,4 @@
 -- `symbols::push_name` meets its contract.
-use borrow.Author.Rules.{rules}
 use Rattle.symbols.proofs.Indexing.{name-pushed}
 use Rattle.symbols.proofs.push_name.Goals as goal
 

@@ -1,5 +1,4 @@
 -- `symbols::push_second` meets its contract.
-use borrow.Author.Rules.{rules}
 use Rattle.symbols.proofs.Indexing.{second_none, second-some}
 use Rattle.symbols.proofs.push_second.Goals as goal
 

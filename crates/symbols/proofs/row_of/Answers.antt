@@ -1,5 +1,4 @@
 -- `symbols::row_of` meets its contract.
-use borrow.Author.Rules.{rules}
 use Rattle.symbols.specs.Rows.{held, word_of}
 use mathlib.Core.Path.{sym, ◌∙◌}
 use Rattle.symbols.specs.Search.{part}

@@ -1,10 +1,7 @@
 -- `symbols::same_bytes` meets its contract.
-use mathlib.Core.Path.{◌≡◌, refl, sym, ◌∙◌}
-use Prim.Native.Nat.{◌-◌, ◌≤◌}
+use mathlib.Core.Path.{refl, sym, ◌∙◌}
 use native.Mathlib.Omega.{arith}
-use lib.ListN.{drop}
 use Rattle.base.proofs.Laws.{same_next, same_not, same_end}
-use Rattle.base.specs.Common.{same}
 use Rattle.scanner.proofs.WordLaws.{part_at}
 use Rattle.symbols.specs.Search.{part}
 use Rattle.symbols.proofs.Parts.{part-whole}

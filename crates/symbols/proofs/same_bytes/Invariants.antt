@@ -1,13 +1,9 @@
 -- `symbols::same_bytes` meets its contract.
-use mathlib.Core.Path.{◌≡◌, refl, sym, ◌∙◌}
+use mathlib.Core.Path.{◌≡◌}
 use Prim.Native.Nat.{◌-◌, ◌≤◌}
-use native.Mathlib.Omega.{arith}
 use lib.ListN.{drop}
-use Rattle.base.proofs.Laws.{same_next, same_not, same_end}
 use Rattle.base.specs.Common.{same}
-use Rattle.scanner.proofs.WordLaws.{part_at}
 use Rattle.symbols.specs.Search.{part}
-use Rattle.symbols.proofs.Parts.{part-whole}
 use Rattle.symbols.proofs.same_bytes.Given as goal
 
 abbrev pub invariant-loop-i : goal.invariant-loop-i

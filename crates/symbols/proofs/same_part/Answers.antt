@@ -1,5 +1,4 @@
 -- `symbols::same_part` meets its contract.
-use borrow.Author.Rules.{rules}
 use mathlib.Core.Path.{sym, ◌∙◌}
 use Rattle.scanner.proofs.WordLaws.{same_length}
 use Rattle.symbols.proofs.Parts.{part-fits, same-own}

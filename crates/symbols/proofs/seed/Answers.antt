@@ -1,6 +1,5 @@
 -- `symbols::seed` meets its contract.
 use borrow.Author.Tests.{ne_eqb, eq-eqb}
-use mathlib.Core.Path.{refl}
 use native.Mathlib.Omega.{arith}
 use Rattle.symbols.specs.Index.{seed_of}
 use Rattle.symbols.proofs.seed.Goals as goal

@@ -1,5 +1,4 @@
 -- `symbols::type_of` meets its contract.
-use borrow.Author.Rules.{rules}
 use Rattle.symbols.specs.Rows.{held, word_of}
 use native.Mathlib.Omega.{arith}
 use mathlib.Core.Path.{sym, ◌∙◌}

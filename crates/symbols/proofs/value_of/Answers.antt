@@ -1,5 +1,4 @@
 -- `symbols::value_of` meets its contract.
-use borrow.Author.Rules.{rules}
 use Rattle.symbols.specs.Rows.{held, word_of}
 use native.Mathlib.Omega.{arith}
 use Rattle.symbols.proofs.Lookups.{value_there, value_not}

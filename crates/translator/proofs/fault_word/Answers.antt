@@ -1,4 +1,3 @@
-use borrow.Author.Rules.{rules}
 use Rattle.translator.specs.Answered.{fault_word}
 use Rattle.translator.proofs.fault_word.Goals as goal
 

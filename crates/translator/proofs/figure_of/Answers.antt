@@ -1,4 +1,3 @@
-use borrow.Author.Rules.{rules}
 use Rattle.translator.proofs.Measured.{figure-past, figure_is}
 use native.Mathlib.Omega.{arith}
 use Rattle.translator.proofs.figure_of.Goals as goal

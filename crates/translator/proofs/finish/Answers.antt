@@ -1,4 +1,3 @@
-use borrow.Author.Rules.{rules}
 use Rattle.translator.proofs.Ends.{end_refused, end-20, end-good}
 use Rattle.frontend.proofs.Buffers.{ready-cells, ready-laid, too_long}
 use Rattle.emitter.specs.Emitted.{Emits}

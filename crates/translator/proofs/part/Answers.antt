@@ -1,4 +1,3 @@
-use borrow.Author.Rules.{rules}
 use native.Mathlib.Omega.{arith}
 use Rattle.translator.proofs.Parts.{part_none, part-rest, part-whole}
 use Rattle.translator.proofs.part.Goals as goal

@@ -1,4 +1,3 @@
-use borrow.Author.Rules.{rules}
 use Rattle.emitter.specs.Emitted.{zeroed_bytes}
 use Rattle.processor.specs.Process.{lent_bytes, lent_words}
 use Rattle.translator.proofs.refuse.Goals as goal

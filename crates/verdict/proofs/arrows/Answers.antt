@@ -1,10 +1,8 @@
 -- `verdict::arrows` meets its contract: row by row, by the laws of `Table`.
-use Prim.Native.Nat.{◌≤◌, ◌-◌}
-use mathlib.Core.Path.{◌≡◌, refl}
+use mathlib.Core.Path.{refl}
 use native.Mathlib.Omega.{arith}
-use lib.ListN.{length}
 use Rattle.verdict.specs.Told.{known_in}
-use Rattle.verdict.proofs.Table.{Filling, filling-start, filling-next, filling-done}
+use Rattle.verdict.proofs.Table.{filling-start, filling-next, filling-done}
 use Rattle.verdict.proofs.arrows.Goals as goal
 
 pub loop-r-init : goal.loop-r-init

@@ -1,10 +1,9 @@
 -- `verdict::arrows` meets its contract: row by row, by the laws of `Table`.
 use Prim.Native.Nat.{◌≤◌, ◌-◌}
-use mathlib.Core.Path.{◌≡◌, refl}
-use native.Mathlib.Omega.{arith}
+use mathlib.Core.Path.{◌≡◌}
 use lib.ListN.{length}
 use Rattle.verdict.specs.Told.{known_in}
-use Rattle.verdict.proofs.Table.{Filling, filling-start, filling-next, filling-done}
+use Rattle.verdict.proofs.Table.{Filling}
 use Rattle.verdict.proofs.arrows.Given as goal
 
 abbrev pub invariant-loop-r : goal.invariant-loop-r

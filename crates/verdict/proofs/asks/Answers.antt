@@ -1,11 +1,7 @@
 -- `verdict::asks` meets its contract: none of those looked at is v.
-use Prim.Native.Nat.{ℕ, ◌≤◌, ◌<◌, ◌-◌}
-use mathlib.Core.Path.{◌≡◌}
-use mathlib.Core.Bool.{false}
 use native.Mathlib.Omega.{arith}
-use borrow.Author.Rules.{rules}
 use lib.Dec.{eqb}
-use lib.ListN.{length, get_or}
+use lib.ListN.{get_or}
 use Rattle.verdict.proofs.Listed.{neither-one}
 use Rattle.verdict.proofs.asks.Goals as goal
 

@@ -2,11 +2,8 @@
 use Prim.Native.Nat.{ℕ, ◌≤◌, ◌<◌, ◌-◌}
 use mathlib.Core.Path.{◌≡◌}
 use mathlib.Core.Bool.{false}
-use native.Mathlib.Omega.{arith}
-use borrow.Author.Rules.{rules}
 use lib.Dec.{eqb}
 use lib.ListN.{length, get_or}
-use Rattle.verdict.proofs.Listed.{neither-one}
 use Rattle.verdict.proofs.asks.Given as goal
 
 abbrev pub invariant-loop-j : goal.invariant-loop-j

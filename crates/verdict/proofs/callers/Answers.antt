@@ -1,5 +1,4 @@
 -- `verdict::callers` meets its contract.
-use Prim.Native.Nat.{◌-◌}
 use native.Mathlib.Omega.{arith}
 use Rattle.verdict.proofs.callers.Goals as goal
 

@@ -1,6 +1,5 @@
 -- `verdict::callers` meets its contract.
 use Prim.Native.Nat.{◌-◌}
-use native.Mathlib.Omega.{arith}
 use Rattle.verdict.proofs.callers.Given as goal
 
 abbrev pub invariant-loop-i : goal.invariant-loop-i

@@ -1,5 +1,4 @@
 -- `verdict::calls` meets its contract.
-use Prim.Native.Nat.{◌-◌}
 use native.Mathlib.Omega.{arith}
 use Rattle.verdict.proofs.calls.Goals as goal
 

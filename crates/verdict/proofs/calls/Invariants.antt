@@ -1,6 +1,5 @@
 -- `verdict::calls` meets its contract.
 use Prim.Native.Nat.{◌-◌}
-use native.Mathlib.Omega.{arith}
 use Rattle.verdict.proofs.calls.Given as goal
 
 abbrev pub invariant-loop-i : goal.invariant-loop-i

@@ -1,9 +1,7 @@
 -- `verdict::closed` meets its contract: one rule after the other may be gone through, by the laws of `Table`.
-use Prim.Native.Nat.{◌≤◌, ◌-◌}
-use mathlib.Core.Path.{◌≡◌, refl}
+use mathlib.Core.Path.{refl}
 use native.Mathlib.Omega.{arith}
-use lib.ListN.{length}
-use Rattle.verdict.proofs.Table.{Closing, closing-start, closing-next, closing-done}
+use Rattle.verdict.proofs.Table.{closing-start, closing-next, closing-done}
 use Rattle.verdict.proofs.closed.Goals as goal
 
 pub loop-k-init : goal.loop-k-init

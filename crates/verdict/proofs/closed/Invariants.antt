@@ -1,9 +1,8 @@
 -- `verdict::closed` meets its contract: one rule after the other may be gone through, by the laws of `Table`.
 use Prim.Native.Nat.{◌≤◌, ◌-◌}
-use mathlib.Core.Path.{◌≡◌, refl}
-use native.Mathlib.Omega.{arith}
+use mathlib.Core.Path.{◌≡◌}
 use lib.ListN.{length}
-use Rattle.verdict.proofs.Table.{Closing, closing-start, closing-next, closing-done}
+use Rattle.verdict.proofs.Table.{Closing}
 use Rattle.verdict.proofs.closed.Given as goal
 
 abbrev pub invariant-loop-k : goal.invariant-loop-k

@@ -1,11 +1,8 @@
 -- `verdict::collected` meets its contract: one label more each time.
 use Prim.Native.Nat.{◌≤◌, ◌-◌, ◌+◌}
-use mathlib.Core.Path.{◌≡◌, refl, ◌∙◌}
+use mathlib.Core.Path.{◌≡◌}
 use mathlib.Core.List.{◌++◌}
-use Rattle.verdict.proofs.Listed.{collect-next, collect-start, collect-done, collect-full}
-use native.Mathlib.Omega.{arith}
-use lib.ListN.{length, take, drop, get_or, length-set}
-use borrow.Author.Rules.{rules}
+use lib.ListN.{length, take, drop}
 use Rattle.verdict.proofs.collected.Given as goal
 
 abbrev pub invariant-loop-i : goal.invariant-loop-i

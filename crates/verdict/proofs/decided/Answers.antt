@@ -4,7 +4,6 @@ use Rattle.verdict.specs.Told.{known_in}
 use Rattle.verdict.proofs.Laid.{laid}
 use Rattle.verdict.proofs.Room.{room}
 use Rattle.verdict.proofs.Table.{answer, sound-known, closed-known}
-use borrow.Author.Rules.{rules}
 use Rattle.verdict.proofs.decided.Goals as goal
 
 pub returns : goal.returns

@@ -1,11 +1,8 @@
 -- `verdict::gathered` meets its contract: one cell more each time.
-use Prim.Native.Nat.{◌≤◌, ◌-◌}
-use mathlib.Core.Path.{◌≡◌, refl, sym, ap, ◌∙◌}
-use mathlib.Core.Logic.{⊎_elim}
+use mathlib.Core.Path.{refl, sym, ap, ◌∙◌}
 use native.Mathlib.Omega.{arith}
 use lib.ListN.{length, length-set}
-use borrow.Author.Rules.{rules}
-use Rattle.verdict.proofs.Growth.{Gathering, gather-start, gather-skip, gather-more, gather-full, gather-done}
+use Rattle.verdict.proofs.Growth.{gather-start, gather-skip, gather-more, gather-full, gather-done}
 use Rattle.verdict.proofs.gathered.Goals as goal
 use Rattle.verdict.proofs.gathered.Goals.{then-seeks+else-wanted-n, else-seeks}
 
@@ -45,8 +42,8 @@ loop-i-preserved c =
     let l = c.loop-i in
     let e = c.seeks.ensures in
     elim c.if-seeks.branch [
-      then-seeks+else-wanted-n w ↦ (omega arith, omega (arith, ap length w.wanted-is ∙ length-set l.wanted l.n w.cell.result), rw (w.wanted-is, w.n-is) (gather-more a.cells.now a.from a.facts.now a.m a.r l.wanted l.n l.i w.cell.result (omega arith) w.cell.ensures l.invariant.2))
-    | else-seeks w ↦ (omega arith, omega (arith, ap length w.wanted-is), rw (w.wanted-is, w.n-is) (gather-skip a.cells.now a.from a.facts.now a.m a.r l.wanted l.n l.i (sym e ∙ w.if-seeks.false) l.invariant.2))
+      | then-seeks+else-wanted-n w ↦ (omega arith, omega (arith, ap length w.wanted-is ∙ length-set l.wanted l.n w.cell.result), rw (w.wanted-is, w.n-is) (gather-more a.cells.now a.from a.facts.now a.m a.r l.wanted l.n l.i w.cell.result (omega arith) w.cell.ensures l.invariant.2))
+      | else-seeks w ↦ (omega arith, omega (arith, ap length w.wanted-is), rw (w.wanted-is, w.n-is) (gather-skip a.cells.now a.from a.facts.now a.m a.r l.wanted l.n l.i (sym e ∙ w.if-seeks.false) l.invariant.2))
     ]
 
 pub shape_of-wanted : goal.shape_of-wanted

@@ -1,11 +1,8 @@
 -- `verdict::gathered` meets its contract: one cell more each time.
 use Prim.Native.Nat.{◌≤◌, ◌-◌}
-use mathlib.Core.Path.{◌≡◌, refl, sym, ap, ◌∙◌}
-use mathlib.Core.Logic.{⊎_elim}
-use native.Mathlib.Omega.{arith}
-use lib.ListN.{length, length-set}
-use borrow.Author.Rules.{rules}
-use Rattle.verdict.proofs.Growth.{Gathering, gather-start, gather-skip, gather-more, gather-full, gather-done}
+use mathlib.Core.Path.{◌≡◌}
+use lib.ListN.{length}
+use Rattle.verdict.proofs.Growth.{Gathering}
 use Rattle.verdict.proofs.gathered.Given as goal
 
 abbrev pub invariant-loop-i : goal.invariant-loop-i

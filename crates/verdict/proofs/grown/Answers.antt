@@ -1,11 +1,7 @@
 -- `verdict::grown` meets its contract: one value more each time.
-use Prim.Native.Nat.{◌≤◌, ◌-◌}
 use mathlib.Core.Path.{◌≡◌, refl, sym, ap, ◌∙◌}
-use mathlib.Core.Logic.{⊎_elim}
 use native.Mathlib.Omega.{arith}
 use lib.ListN.{length, get_or}
-use borrow.Author.Rules.{rules}
-use Rattle.verdict.specs.Told.{NotesTold}
 use Rattle.verdict.proofs.Growth.{notes-start, notes-off, notes-on}
 use Rattle.verdict.proofs.grown.Goals as goal
 use Rattle.verdict.proofs.grown.Goals.{then-has, else-has}
@@ -33,8 +29,8 @@ loop-j-preserved c =
     let a = c.args in
     let e = c.has.ensures in
     elim c.if-has.branch [
-      then-has w ↦ (omega arith, omega (arith, ap length w.facts-is, w.noted-k.auto.facts), rw (w.facts-is, w.k-is) (notes-on a.facts.now a.m a.r a.wanted.now c.loop-j.j a.given c.loop-j.facts c.loop-j.k w.noted-k.new.facts w.noted-k.result (get_or a.wanted.now c.loop-j.j 0) refl (sym e ∙ w.if-has.true) c.loop-j.invariant.2 w.noted-k.ensures))
-    | else-has w ↦ (omega arith, omega (arith, ap length w.facts-is), rw (w.facts-is, w.k-is) (notes-off a.facts.now a.m a.r a.wanted.now c.loop-j.j a.given c.loop-j.facts c.loop-j.k (sym e ∙ w.if-has.false) c.loop-j.invariant.2))
+      | then-has w ↦ (omega arith, omega (arith, ap length w.facts-is, w.noted-k.auto.facts), rw (w.facts-is, w.k-is) (notes-on a.facts.now a.m a.r a.wanted.now c.loop-j.j a.given c.loop-j.facts c.loop-j.k w.noted-k.new.facts w.noted-k.result (get_or a.wanted.now c.loop-j.j 0) refl (sym e ∙ w.if-has.true) c.loop-j.invariant.2 w.noted-k.ensures))
+      | else-has w ↦ (omega arith, omega (arith, ap length w.facts-is), rw (w.facts-is, w.k-is) (notes-off a.facts.now a.m a.r a.wanted.now c.loop-j.j a.given c.loop-j.facts c.loop-j.k (sym e ∙ w.if-has.false) c.loop-j.invariant.2))
     ]
 
 pub shape_of-facts : goal.shape_of-facts

@@ -1,12 +1,8 @@
 -- `verdict::grown` meets its contract: one value more each time.
 use Prim.Native.Nat.{◌≤◌, ◌-◌}
-use mathlib.Core.Path.{◌≡◌, refl, sym, ap, ◌∙◌}
-use mathlib.Core.Logic.{⊎_elim}
-use native.Mathlib.Omega.{arith}
-use lib.ListN.{length, get_or}
-use borrow.Author.Rules.{rules}
+use mathlib.Core.Path.{◌≡◌}
+use lib.ListN.{length}
 use Rattle.verdict.specs.Told.{NotesTold}
-use Rattle.verdict.proofs.Growth.{notes-start, notes-off, notes-on}
 use Rattle.verdict.proofs.grown.Given as goal
 
 abbrev pub invariant-loop-j : goal.invariant-loop-j

@@ -1,11 +1,8 @@
 -- `verdict::holds` meets its contract: what is left to look at has v exactly if all has.
 use Prim.Native.Nat.{◌≤◌, ◌-◌}
-use mathlib.Core.Path.{◌≡◌, refl, sym, ◌∙◌}
-use native.Mathlib.Omega.{arith}
-use borrow.Author.Rules.{rules}
-use lib.ListN.{length, take, drop}
+use mathlib.Core.Path.{◌≡◌}
+use lib.ListN.{take, drop}
 use Rattle.base.specs.Common.{member}
-use Rattle.verdict.proofs.Listed.{listed_next, listed_here, listed-end}
 use Rattle.verdict.proofs.holds.Given as goal
 
 abbrev pub invariant-loop-i : goal.invariant-loop-i

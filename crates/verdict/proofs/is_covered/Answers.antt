@@ -3,7 +3,6 @@ use mathlib.Core.Path.{sym, ◌∙◌}
 use borrow.Author.Tests.{eqb-true}
 use Rattle.base.specs.Bools.{never}
 use Rattle.verdict.proofs.Worthy.{implied, same_words}
-use borrow.Author.Rules.{rules}
 use Rattle.verdict.proofs.is_covered.Goals as goal
 
 pub returns-then-a-w : goal.returns-then-a-w

@@ -1,5 +1,4 @@
 -- `verdict::itself` meets its contract: one rule after the other.
-use Prim.Native.Nat.{◌≤◌, ◌-◌}
 use mathlib.Core.Path.{◌≡◌, refl, ap, ◌∙◌}
 use native.Mathlib.Omega.{arith}
 use Rattle.verdict.specs.Told.{row_of, member}

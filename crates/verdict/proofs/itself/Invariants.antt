@@ -1,10 +1,8 @@
 -- `verdict::itself` meets its contract: one rule after the other.
 use Prim.Native.Nat.{◌≤◌, ◌-◌}
-use mathlib.Core.Path.{◌≡◌, refl, ap, ◌∙◌}
-use native.Mathlib.Omega.{arith}
+use mathlib.Core.Path.{◌≡◌}
 use Rattle.verdict.specs.Told.{row_of, member}
 use Rattle.finishing.specs.Test.{some_below}
-use Rattle.verdict.proofs.Table.{below_next}
 use Rattle.verdict.proofs.itself.Given as goal
 
 abbrev pub invariant-loop-r : goal.invariant-loop-r

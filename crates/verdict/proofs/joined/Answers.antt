@@ -1,7 +1,5 @@
 -- `verdict::joined` meets its contract: one rule more, or none.
 use mathlib.Core.Path.{sym, ◌∙◌}
-use borrow.Author.Rules.{rules}
-use borrow.Author.Tests.{not-true, not-false}
 use Rattle.verdict.proofs.Growth.{join-new, join-old, join-off}
 use Rattle.verdict.proofs.joined.Goals as goal
 

@@ -1,13 +1,10 @@
 -- `verdict::looked` meets its contract: one look after the other, until the rule's end.
 use Prim.Native.Nat.{ℕ, ◌-◌}
-use mathlib.Core.Path.{◌≡◌, refl}
+use mathlib.Core.Path.{◌≡◌}
 use mathlib.Core.List.{List}
-use native.Mathlib.Omega.{arith}
 use lib.ListN.{length}
-use borrow.Author.Rules.{rules}
 use Rattle.verdict.specs.Told.{Looks}
 use Rattle.verdict.specs.declared.Learnt.{Learnt}
-use Rattle.verdict.proofs.Looking.{looks-next, looks-done}
 use Rattle.verdict.proofs.looked.Given as goal
 
 abbrev pub invariant-loop-t : goal.invariant-loop-t

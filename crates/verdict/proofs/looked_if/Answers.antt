@@ -1,5 +1,4 @@
 -- `verdict::looked_if` meets its contract.
-use borrow.Author.Rules.{rules}
 use Rattle.verdict.proofs.Looking.{look-swept, sweep-start}
 use Rattle.verdict.proofs.looked_if.Goals as goal
 

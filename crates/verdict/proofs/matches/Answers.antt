@@ -1,11 +1,8 @@
 -- `verdict::matches` meets its contract: none, or one value more each time.
-use Prim.Native.Nat.{◌≤◌, ◌-◌}
 use mathlib.Core.Path.{refl}
 use native.Mathlib.Omega.{arith}
-use borrow.Author.Rules.{rules}
-use borrow.Author.Tests.{not-true}
-use lib.ListN.{length, get_or}
-use Rattle.verdict.proofs.Sets.{Matching, matching-none, matching-start, matching-next}
+use lib.ListN.{get_or}
+use Rattle.verdict.proofs.Sets.{matching-none, matching-start, matching-next}
 use Rattle.verdict.proofs.matches.Goals as goal
 
 pub asks-requires : goal.asks-requires

@@ -1,11 +1,7 @@
 -- `verdict::matches` meets its contract: none, or one value more each time.
 use Prim.Native.Nat.{◌≤◌, ◌-◌}
-use mathlib.Core.Path.{refl}
-use native.Mathlib.Omega.{arith}
-use borrow.Author.Rules.{rules}
-use borrow.Author.Tests.{not-true}
-use lib.ListN.{length, get_or}
-use Rattle.verdict.proofs.Sets.{Matching, matching-none, matching-start, matching-next}
+use lib.ListN.{length}
+use Rattle.verdict.proofs.Sets.{Matching}
 use Rattle.verdict.proofs.matches.Given as goal
 
 abbrev pub invariant-loop-j : goal.invariant-loop-j

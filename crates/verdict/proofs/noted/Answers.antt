@@ -2,7 +2,6 @@
 use native.Mathlib.Omega.{arith}
 use lib.ListN.{length-set}
 use mathlib.Core.Path.{sym, ◌∙◌}
-use borrow.Author.Rules.{rules}
 use Rattle.verdict.proofs.Growth.{noted-known, noted-full, noted_more}
 use Rattle.verdict.proofs.noted.Goals as goal
 

@@ -1,11 +1,6 @@
 -- `verdict::opened` meets its contract: what is left to look at opens exactly if all does.
-use Prim.Native.Nat.{◌≤◌, ◌-◌}
-use mathlib.Core.Path.{◌≡◌, refl, sym, ◌∙◌}
+use mathlib.Core.Path.{refl, sym, ◌∙◌}
 use native.Mathlib.Omega.{arith}
-use borrow.Author.Rules.{rules}
-use lib.ListN.{take, drop}
-use Rattle.base.specs.Common.{member as listed}
-use Rattle.verdict.specs.Told.{some_in}
 use Rattle.verdict.proofs.Listed.{open-split, open-end}
 use Rattle.verdict.proofs.opened.Goals as goal
 

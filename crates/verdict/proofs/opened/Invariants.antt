@@ -1,12 +1,9 @@
 -- `verdict::opened` meets its contract: what is left to look at opens exactly if all does.
 use Prim.Native.Nat.{◌≤◌, ◌-◌}
-use mathlib.Core.Path.{◌≡◌, refl, sym, ◌∙◌}
-use native.Mathlib.Omega.{arith}
-use borrow.Author.Rules.{rules}
+use mathlib.Core.Path.{◌≡◌}
 use lib.ListN.{take, drop}
 use Rattle.base.specs.Common.{member as listed}
 use Rattle.verdict.specs.Told.{some_in}
-use Rattle.verdict.proofs.Listed.{open-split, open-end}
 use Rattle.verdict.proofs.opened.Given as goal
 
 abbrev pub invariant-loop-i : goal.invariant-loop-i

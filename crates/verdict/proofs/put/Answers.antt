@@ -3,7 +3,6 @@ use Prim.Native.Nat.{◌*◌}
 use native.Mathlib.Omega.{arith}
 use lib.ListN.{length-set}
 use Rattle.verdict.proofs.Table.{puts}
-use borrow.Author.Rules.{rules}
 use Rattle.verdict.proofs.put.Goals as goal
 
 pub bounds-rows-r-2 : goal.bounds-rows-r-2

@@ -1,9 +1,6 @@
 -- `verdict::round` meets its contract: one rule after the other, those that are due.
-use Prim.Native.Nat.{◌≤◌, ◌-◌}
-use mathlib.Core.Path.{◌≡◌, refl}
+use mathlib.Core.Path.{refl}
 use native.Mathlib.Omega.{arith}
-use lib.ListN.{length}
-use Rattle.verdict.specs.Told.{SweepTold}
 use Rattle.verdict.proofs.Looking.{sweep-start, sweep-after}
 use Rattle.verdict.proofs.round.Goals as goal
 

@@ -1,10 +1,8 @@
 -- `verdict::round` meets its contract: one rule after the other, those that are due.
-use Prim.Native.Nat.{◌≤◌, ◌-◌}
-use mathlib.Core.Path.{◌≡◌, refl}
-use native.Mathlib.Omega.{arith}
+use Prim.Native.Nat.{◌≤◌}
+use mathlib.Core.Path.{◌≡◌}
 use lib.ListN.{length}
 use Rattle.verdict.specs.Told.{SweepTold}
-use Rattle.verdict.proofs.Looking.{sweep-start, sweep-after}
 use Rattle.verdict.proofs.round.Given as goal
 
 abbrev pub invariant-loop-r : goal.invariant-loop-r

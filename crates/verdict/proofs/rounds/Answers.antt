@@ -1,8 +1,6 @@
 -- `verdict::rounds` meets its contract: rounds, not too many.
-use mathlib.Core.Path.{◌≡◌, refl}
+use mathlib.Core.Path.{refl}
 use native.Mathlib.Omega.{arith}
-use lib.ListN.{length}
-use Rattle.verdict.specs.Told.{SweepTold}
 use Rattle.verdict.proofs.Looking.{sweep-start, sweep-after}
 use Rattle.verdict.proofs.rounds.Goals as goal
 

@@ -1,9 +1,7 @@
 -- `verdict::rounds` meets its contract: rounds, not too many.
-use mathlib.Core.Path.{◌≡◌, refl}
-use native.Mathlib.Omega.{arith}
+use mathlib.Core.Path.{◌≡◌}
 use lib.ListN.{length}
 use Rattle.verdict.specs.Told.{SweepTold}
-use Rattle.verdict.proofs.Looking.{sweep-start, sweep-after}
 use Rattle.verdict.proofs.rounds.Given as goal
 
 abbrev pub invariant-loop-left : goal.invariant-loop-left

@@ -1,7 +1,6 @@
 -- `verdict::row` meets its contract: two words read.
 use mathlib.Core.Path.{refl}
 use Rattle.verdict.specs.Told.{row_of}
-use borrow.Author.Rules.{rules}
 use Rattle.verdict.proofs.row.Goals as goal
 
 pub returns : goal.returns

@@ -1,7 +1,6 @@
 -- `verdict::rule` meets its contract: from the cell that starts says on.
 use Rattle.verdict.proofs.Passing.{rule_told}
 use Rattle.verdict.specs.Told.{known_in}
-use borrow.Author.Rules.{rules}
 use Rattle.verdict.proofs.rule.Goals as goal
 
 pub returns : goal.returns

@@ -1,7 +1,6 @@
 -- `verdict::seeks` meets its contract: what the cell and the facts say.
 use native.Mathlib.Omega.{arith}
 use mathlib.Core.Path.{sym, ◌∙◌}
-use borrow.Author.Rules.{rules}
 use Rattle.verdict.proofs.Growth.{seeks-yes, seeks-no}
 use Rattle.verdict.proofs.seeks.Goals as goal
 

@@ -1,8 +1,8 @@
 -- `verdict::settled` meets its contract: sweeps, each of which leaves less to find.
-use mathlib.Core.Path.{◌≡◌, refl}
+use mathlib.Core.Path.{refl}
 use native.Mathlib.Omega.{arith}
 use lib.ListN.{length}
-use Rattle.verdict.proofs.Looking.{Settling, settle-start, settle-next, settle-done, settle-less, unsettled}
+use Rattle.verdict.proofs.Looking.{settle-start, settle-next, settle-done, settle-less}
 use Rattle.verdict.proofs.settled.Goals as goal
 
 pub loop-more-init : goal.loop-more-init

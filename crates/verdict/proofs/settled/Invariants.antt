@@ -1,8 +1,7 @@
 -- `verdict::settled` meets its contract: sweeps, each of which leaves less to find.
-use mathlib.Core.Path.{◌≡◌, refl}
-use native.Mathlib.Omega.{arith}
+use mathlib.Core.Path.{◌≡◌}
 use lib.ListN.{length}
-use Rattle.verdict.proofs.Looking.{Settling, settle-start, settle-next, settle-done, settle-less, unsettled}
+use Rattle.verdict.proofs.Looking.{Settling, unsettled}
 use Rattle.verdict.proofs.settled.Given as goal
 
 abbrev pub invariant-loop-more : goal.invariant-loop-more

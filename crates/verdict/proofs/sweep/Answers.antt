@@ -1,9 +1,7 @@
 -- `verdict::sweep` meets its contract: one rule after the other, the last first.
-use Prim.Native.Nat.{◌≤◌, ◌-◌}
+use Prim.Native.Nat.{◌-◌}
 use mathlib.Core.Path.{◌≡◌, refl}
 use native.Mathlib.Omega.{arith}
-use lib.ListN.{length}
-use Rattle.verdict.specs.Told.{SweepTold}
 use Rattle.verdict.proofs.Looking.{sweep-start, sweep-next}
 use Rattle.verdict.proofs.sweep.Goals as goal
 

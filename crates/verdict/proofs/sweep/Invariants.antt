@@ -1,10 +1,8 @@
 -- `verdict::sweep` meets its contract: one rule after the other, the last first.
-use Prim.Native.Nat.{◌≤◌, ◌-◌}
-use mathlib.Core.Path.{◌≡◌, refl}
-use native.Mathlib.Omega.{arith}
+use Prim.Native.Nat.{◌≤◌}
+use mathlib.Core.Path.{◌≡◌}
 use lib.ListN.{length}
 use Rattle.verdict.specs.Told.{SweepTold}
-use Rattle.verdict.proofs.Looking.{sweep-start, sweep-next}
 use Rattle.verdict.proofs.sweep.Given as goal
 
 abbrev pub invariant-loop-r : goal.invariant-loop-r

@@ -1,5 +1,4 @@
 -- `verdict::swept` meets its contract.
-use borrow.Author.Rules.{rules}
 use Rattle.verdict.proofs.Looking.{sweep-after}
 use Rattle.verdict.proofs.swept.Goals as goal
 

@@ -1,15 +1,8 @@
 -- `verdict::told` meets its contract: one fact more each time.
-use Prim.Native.Nat.{◌≤◌, ◌-◌, ◌*◌, ◌+◌}
-use mathlib.Core.Path.{◌≡◌, refl}
-use mathlib.Core.Bool.{◌&&◌}
-use native.Mathlib.Omega.{arith}
-use borrow.Author.Rules.{rules}
+use Prim.Native.Nat.{◌≤◌, ◌-◌}
+use mathlib.Core.Path.{◌≡◌}
 use lib.Dec.{eqb}
-use lib.ListN.{get_or}
-use Rattle.finishing.specs.Test.{some_below}
 use Rattle.verdict.specs.Told.{some_in}
-use Rattle.verdict.proofs.Table.{below_next}
-use Rattle.verdict.proofs.Listed.{packed-same}
 use Rattle.verdict.proofs.told.Given as goal
 
 abbrev pub invariant-loop-i : goal.invariant-loop-i

@@ -4,7 +4,6 @@ use native.Mathlib.Omega.{arith}
 use lib.ListN.{length}
 use Rattle.verdict.specs.Told.{known_in, RuleTold, Joined}
 use Rattle.verdict.proofs.Looking.{look-told}
-use borrow.Author.Rules.{rules}
 use Rattle.verdict.proofs.tried.Goals as goal
 
 pub grown-count-requires : goal.grown-count-requires

@@ -1,13 +1,7 @@
 -- `verdict::tried_to_fixpoint` meets its contract: after a look that brought values any look does.
-use Prim.Native.Nat.{ℕ, ◌≤◌, ◌-◌, ◌*◌}
-use mathlib.Core.Path.{◌≡◌, refl, sym}
-use mathlib.Core.List.{List}
+use mathlib.Core.Path.{refl, sym}
 use native.Mathlib.Omega.{arith}
-use lib.ListN.{length}
 use lib.Seq.{length-take-le}
-use borrow.Author.Rules.{rules}
-use Rattle.verdict.specs.Told.{TriedTold}
-use Rattle.verdict.specs.declared.Learnt.{Learnt}
 use Rattle.verdict.proofs.Looking.{gather-first, gather-nothing, take-most, look_at, tried-more}
 use Rattle.verdict.proofs.tried_to_fixpoint.Goals as goal
 

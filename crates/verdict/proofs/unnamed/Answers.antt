@@ -1,5 +1,5 @@
 -- `verdict::unnamed` meets its contract: none of the facts looked at is one.
-use Prim.Native.Nat.{◌≤◌, ◌-◌, ◌+◌, ◌*◌}
+use Prim.Native.Nat.{◌+◌, ◌*◌}
 use mathlib.Core.Path.{◌≡◌, refl, sym, ◌∙◌}
 use mathlib.Core.Bool.{false, ◌&&◌, not}
 use native.Mathlib.Omega.{arith}

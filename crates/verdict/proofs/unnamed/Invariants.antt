@@ -1,15 +1,10 @@
 -- `verdict::unnamed` meets its contract: none of the facts looked at is one.
-use Prim.Native.Nat.{◌≤◌, ◌-◌, ◌+◌, ◌*◌}
-use mathlib.Core.Path.{◌≡◌, refl, sym, ◌∙◌}
-use mathlib.Core.Bool.{false, ◌&&◌, not}
-use native.Mathlib.Omega.{arith}
-use lib.Dec.{eqb}
-use lib.ListN.{get_or, take}
+use Prim.Native.Nat.{◌≤◌, ◌-◌}
+use mathlib.Core.Path.{◌≡◌}
+use mathlib.Core.Bool.{false, not}
+use lib.ListN.{take}
 use Rattle.base.specs.Common.{member as listed}
-use Rattle.finishing.specs.Test.{some_below}
-use Rattle.finishing.proofs.Exact.{below_true}
 use Rattle.verdict.specs.Told.{some_in}
-use Rattle.verdict.proofs.Table.{below_next}
 use Rattle.verdict.proofs.unnamed.Given as goal
 
 abbrev pub invariant-loop-i : goal.invariant-loop-i

@@ -1,6 +1,5 @@
 -- `verdict::verdict` meets its contract: by `decided`; of more than 128 rules nothing is said.
 use native.Mathlib.Omega.{arith}
-use borrow.Author.Rules.{rules}
 use Rattle.verdict.proofs.verdict.Goals as goal
 
 -- `verdict::verdict` meets its contract: by `decided`; of more than 128 rules nothing is said.

@@ -1,9 +1,7 @@
 -- `verdict::widen` meets its contract: one row after the other.
-use Prim.Native.Nat.{◌≤◌, ◌-◌}
-use mathlib.Core.Path.{◌≡◌, refl}
+use mathlib.Core.Path.{refl}
 use native.Mathlib.Omega.{arith}
-use lib.ListN.{length}
-use Rattle.verdict.proofs.Table.{Widening, widening-start, widening-next, widening-done}
+use Rattle.verdict.proofs.Table.{widening-start, widening-next, widening-done}
 use Rattle.verdict.proofs.widen.Goals as goal
 
 pub row-b-requires : goal.row-b-requires

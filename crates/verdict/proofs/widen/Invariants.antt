@@ -1,9 +1,8 @@
 -- `verdict::widen` meets its contract: one row after the other.
 use Prim.Native.Nat.{◌≤◌, ◌-◌}
-use mathlib.Core.Path.{◌≡◌, refl}
-use native.Mathlib.Omega.{arith}
+use mathlib.Core.Path.{◌≡◌}
 use lib.ListN.{length}
-use Rattle.verdict.proofs.Table.{Widening, widening-start, widening-next, widening-done}
+use Rattle.verdict.proofs.Table.{Widening}
 use Rattle.verdict.proofs.widen.Given as goal
 
 abbrev pub invariant-loop-r : goal.invariant-loop-r

@@ -2,7 +2,6 @@
 use mathlib.Core.Path.{sym, ◌∙◌}
 use Rattle.verdict.specs.Told.{member}
 use Rattle.base.specs.Bools.{on_true, on_false}
-use borrow.Author.Rules.{rules}
 use Rattle.verdict.proofs.widened.Goals as goal
 
 pub returns-then-has : goal.returns-then-has

@@ -1,10 +1,7 @@
 -- `verdict::without` meets its contract: what is left is never more than what was looked at.
-use Prim.Native.Nat.{◌≤◌, ◌-◌}
-use mathlib.Core.Path.{◌≡◌, refl, ap, ◌∙◌}
-use mathlib.Core.Logic.{⊎_elim}
+use mathlib.Core.Path.{refl, ap, ◌∙◌}
 use native.Mathlib.Omega.{arith}
 use lib.ListN.{length, get_or, length-set}
-use borrow.Author.Rules.{rules}
 use Rattle.verdict.proofs.without.Goals as goal
 use Rattle.verdict.proofs.without.Goals.{then-not-has, else-not-has}
 
@@ -32,8 +29,8 @@ loop-j-smaller c = omega arith
 pub loop-j-preserved : goal.loop-j-preserved
 loop-j-preserved c =
     elim c.if-not-has.branch [
-      then-not-has w ↦ (omega (arith, ap length w.wanted-is ∙ length-set c.loop-j.wanted c.loop-j.k (get_or c.loop-j.wanted c.loop-j.j 0), c.loop-j.invariant.0), omega (arith, w.k-is, c.loop-j.invariant.1), omega arith)
-    | else-not-has w ↦ (omega (arith, ap length w.wanted-is, c.loop-j.invariant.0), omega (arith, w.k-is, c.loop-j.invariant.1), omega arith)
+      | then-not-has w ↦ (omega (arith, ap length w.wanted-is ∙ length-set c.loop-j.wanted c.loop-j.k (get_or c.loop-j.wanted c.loop-j.j 0), c.loop-j.invariant.0), omega (arith, w.k-is, c.loop-j.invariant.1), omega arith)
+      | else-not-has w ↦ (omega (arith, ap length w.wanted-is, c.loop-j.invariant.0), omega (arith, w.k-is, c.loop-j.invariant.1), omega arith)
     ]
 
 pub shape_of-wanted : goal.shape_of-wanted

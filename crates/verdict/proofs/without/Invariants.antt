@@ -1,10 +1,7 @@
 -- `verdict::without` meets its contract: what is left is never more than what was looked at.
 use Prim.Native.Nat.{◌≤◌, ◌-◌}
-use mathlib.Core.Path.{◌≡◌, refl, ap, ◌∙◌}
-use mathlib.Core.Logic.{⊎_elim}
-use native.Mathlib.Omega.{arith}
-use lib.ListN.{length, get_or, length-set}
-use borrow.Author.Rules.{rules}
+use mathlib.Core.Path.{◌≡◌}
+use lib.ListN.{length}
 use Rattle.verdict.proofs.without.Given as goal
 
 abbrev pub invariant-loop-j : goal.invariant-loop-j

@@ -6,7 +6,6 @@ use borrow.Author.Tests.{le-leb, lt-leb}
 use Rattle.machine.specs.Bytes.{word_at}
 use Rattle.walker.specs.Shape.{size}
 use Rattle.walker.specs.Shape.{inside_table, table_at, labels_at}
-use borrow.Author.Rules.{rules}
 use Rattle.walker.proofs.choice_target.Goals as goal
 
 pub returns-then-n-b : goal.returns-then-n-b

@@ -4,7 +4,6 @@ use Prim.Native.Nat.{◌≤◌, ◌<◌}
 use borrow.Author.Tests.{eq-eqb, ne_eqb, le-leb, lt-leb}
 use Rattle.walker.specs.Shape.{size}
 use Rattle.walker.specs.Steps.{number_at}
-use borrow.Author.Rules.{rules}
 use Rattle.walker.proofs.fetched.Goals as goal
 
 -- `fetched` meets its contract.

@@ -4,7 +4,6 @@ use native.Mathlib.Omega.{arith}
 use borrow.Author.Tests.{lt-ltb, le-ltb}
 use Rattle.machine.specs.Bytes.{word_at}
 use Rattle.walker.specs.Shape.{label_of}
-use borrow.Author.Rules.{rules}
 use Rattle.walker.proofs.label.Goals as goal
 
 pub returns-then-d-from : goal.returns-then-d-from

@@ -1,11 +1,10 @@
 -- `labelled` meets its contract: at the head of the loop no label before `at` is the one sought.
 use mathlib.Core.Path.{sym, ap, ◌∙◌}
-use Prim.Native.Nat.{ℕ, ◌+◌, ◌*◌, ◌-◌}
+use Prim.Native.Nat.{ℕ, ◌+◌, ◌*◌}
 use native.Mathlib.Omega.{arith}
 use Rattle.walker.specs.Shape.{swapped, find_from, otherwise_of}
-use Rattle.walker.proofs.Laws.{Sought, swapped_same, sought-hit, sought-next, sought-none}
+use Rattle.walker.proofs.Laws.{swapped_same, sought-hit, sought-next, sought-none}
 use Rattle.walker.proofs.LinkWords.{word_below}
-use borrow.Author.Rules.{rules}
 use Rattle.walker.proofs.labelled.Goals as goal
 
 pub overflow_mul-end : goal.overflow_mul-end

@@ -3,7 +3,6 @@ use Prim.Native.Nat.{◌+◌, ◌≤◌, ◌<◌}
 use native.Mathlib.Omega.{arith}
 use borrow.Author.Tests.{le-leb, lt-leb}
 use Rattle.walker.specs.Shape.{otherwise_of}
-use borrow.Author.Rules.{rules}
 use Rattle.walker.proofs.otherwise.Goals as goal
 
 pub returns-then-end-n : goal.returns-then-end-n

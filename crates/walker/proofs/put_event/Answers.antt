@@ -1,6 +1,5 @@
 -- `put_event` meets its contract.
 use Rattle.walker.specs.Shape.{put_event}
-use borrow.Author.Rules.{rules}
 use Rattle.walker.proofs.put_event.Goals as goal
 
 pub returns-in-Output : goal.returns-in-Output

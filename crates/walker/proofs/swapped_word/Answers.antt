@@ -2,7 +2,6 @@
 use native.Mathlib.Omega.{arith}
 use Rattle.machine.specs.Bytes.{count, word_at}
 use Rattle.walker.specs.Shape.{swapped}
-use borrow.Author.Rules.{rules}
 use Rattle.walker.proofs.swapped_word.Goals as goal
 
 -- `swapped_word` meets its contract.

@@ -1,6 +1,5 @@
 -- `writer::file_word` meets its contract.
 use Rattle.writer.proofs.Places.{header_at, record-at, record-inside}
-use borrow.Author.Rules.{rules}
 use Rattle.writer.proofs.file_word.Goals as goal
 
 pub returns-then-j-lt-RECORDS_AT : goal.returns-then-j-lt-RECORDS_AT

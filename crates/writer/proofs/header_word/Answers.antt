@@ -1,6 +1,5 @@
 -- `writer::header_word` meets its contract.
 use Rattle.writer.proofs.Places.{header-last}
-use borrow.Author.Rules.{rules}
 use Rattle.writer.proofs.header_word.Goals as goal
 
 pub returns : goal.returns

@@ -1,11 +1,10 @@
 -- `writer::put_file` meets its contract.
-use mathlib.Core.Path.{◌≡◌, ap, ◌∙◌}
-use Prim.Native.Nat.{◌-◌, ◌≤◌}
+use mathlib.Core.Path.{ap, ◌∙◌}
 use native.Mathlib.Omega.{arith}
-use lib.ListN.{length, take}
+use lib.ListN.{length}
 use Rattle.buffers.proofs.Writes.{upto-start, upto-size, upto_put, upto-end}
 use Rattle.loading.specs.File.{file_words}
-use Rattle.machine.specs.Bytes.{words_of, bytes_of, over}
+use Rattle.machine.specs.Bytes.{words_of}
 use Rattle.writer.proofs.Places.{room_for}
 use Rattle.writer.proofs.put_file.Goals as goal
 

@@ -1,12 +1,9 @@
 -- `writer::put_file` meets its contract.
-use mathlib.Core.Path.{◌≡◌, ap, ◌∙◌}
+use mathlib.Core.Path.{◌≡◌}
 use Prim.Native.Nat.{◌-◌, ◌≤◌}
-use native.Mathlib.Omega.{arith}
-use lib.ListN.{length, take}
-use Rattle.buffers.proofs.Writes.{upto-start, upto-size, upto_put, upto-end}
+use lib.ListN.{take}
 use Rattle.loading.specs.File.{file_words}
 use Rattle.machine.specs.Bytes.{words_of, bytes_of, over}
-use Rattle.writer.proofs.Places.{room_for}
 use Rattle.writer.proofs.put_file.Given as goal
 
 abbrev pub invariant-loop-j : goal.invariant-loop-j

@@ -1,8 +1,6 @@
 -- `writer::write_file` meets its contract.
-use borrow.Author.Tests.{not-true, not-false}
 use Rattle.machine.specs.Bytes.{count}
 use Rattle.writer.proofs.Answers.{store-40, store-20, store-41, store-0, sized, claim, few, fits}
-use borrow.Author.Rules.{rules}
 use Rattle.writer.proofs.write_file.Goals as goal
 
 pub returns-then-not-is_allowed : goal.returns-then-not-is_allowed

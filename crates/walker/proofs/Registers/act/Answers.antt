@@ -4,7 +4,6 @@ use native.Mathlib.Omega.{arith}
 use Rattle.machine.specs.Lengths.{lengths, length_of}
 use Rattle.walker.specs.Shape.{act_of, fetched_of}
 use Rattle.walker.proofs.Laws.{here, nothing, above, less, zero_of}
-use borrow.Author.Rules.{rules}
 use Rattle.walker.proofs.Registers.act.Goals as goal
 
 pub forward-requires : goal.forward-requires

@@ -4,7 +4,6 @@ use native.Mathlib.Omega.{arith}
 use borrow.Author.Tests.{lt-ltb, le-ltb, le-leb, lt-leb}
 use Rattle.machine.specs.Bytes.{count}
 use Rattle.walker.specs.Shape.{ask_of, answer_of}
-use borrow.Author.Rules.{rules}
 use Rattle.walker.proofs.Registers.answer.Goals as goal
 
 pub returns-then-n-loc : goal.returns-then-n-loc

@@ -4,7 +4,6 @@ use Prim.Native.Nat.{◌≤◌, ◌<◌}
 use borrow.Author.Tests.{lt-ltb, le-ltb}
 use Rattle.machine.specs.Bytes.{count}
 use Rattle.walker.specs.Shape.{any_of}
-use borrow.Author.Rules.{rules}
 use Rattle.walker.proofs.Registers.any.Goals as goal
 
 pub returns-then-n-loc : goal.returns-then-n-loc

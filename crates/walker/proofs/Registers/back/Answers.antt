@@ -5,7 +5,6 @@ use borrow.Author.Tests.{le-leb, lt-leb}
 use Rattle.machine.specs.Bytes.{word_at}
 use Rattle.walker.specs.Shape.{back_of}
 use Rattle.walker.proofs.Laws.{inside, behind}
-use borrow.Author.Rules.{rules}
 use Rattle.walker.proofs.Registers.back.Goals as goal
 
 pub returns-then-n-loc : goal.returns-then-n-loc

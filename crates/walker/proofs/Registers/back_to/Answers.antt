@@ -4,7 +4,6 @@ use Prim.Native.Nat.{◌≤◌, ◌<◌}
 use borrow.Author.Tests.{le-leb, lt-leb, eq-eqb, ne_eqb}
 use Rattle.walker.specs.Shape.{size}
 use Rattle.walker.specs.Shape.{back_to}
-use borrow.Author.Rules.{rules}
 use Rattle.walker.proofs.Registers.back_to.Goals as goal
 
 -- `Registers::back_to` meets its contract.

@@ -7,7 +7,6 @@ use Rattle.machine.specs.Bytes.{word_at}
 use Rattle.walker.specs.Shape.{size}
 use Rattle.walker.specs.Shape.{call_of}
 use Rattle.walker.proofs.Laws.{inside, behind}
-use borrow.Author.Rules.{rules}
 use Rattle.walker.proofs.Registers.call.Goals as goal
 
 pub returns-then-n-loc : goal.returns-then-n-loc

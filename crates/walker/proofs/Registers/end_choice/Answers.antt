@@ -1,6 +1,5 @@
 -- `Registers::end_choice` meets its contract.
 use native.Mathlib.Omega.{arith}
-use borrow.Author.Rules.{rules}
 use Rattle.walker.proofs.Registers.end_choice.Goals as goal
 
 pub returns-then-n-self : goal.returns-then-n-self

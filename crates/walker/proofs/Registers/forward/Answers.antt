@@ -6,7 +6,6 @@ use Rattle.machine.specs.Bytes.{word_at}
 use Rattle.walker.specs.Shape.{size}
 use Rattle.walker.specs.Shape.{forward_of}
 use Rattle.walker.proofs.Laws.{inside, behind}
-use borrow.Author.Rules.{rules}
 use Rattle.walker.proofs.Registers.forward.Goals as goal
 
 pub returns-then-n-loc : goal.returns-then-n-loc

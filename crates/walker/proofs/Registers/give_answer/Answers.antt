@@ -1,7 +1,6 @@
 -- `Registers::give_answer` meets its contract.
 use Rattle.walker.specs.Shape.{one_more}
 use borrow.Author.Tests.{lt-ltb, le-ltb}
-use borrow.Author.Rules.{rules}
 use Rattle.walker.proofs.Registers.give_answer.Goals as goal
 
 pub returns-then-self-lt-MOST_USED : goal.returns-then-self-lt-MOST_USED

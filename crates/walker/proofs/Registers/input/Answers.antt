@@ -6,7 +6,6 @@ use borrow.Author.Tests.{lt-ltb, le-ltb, eq-eqb, ne_eqb}
 use Rattle.machine.specs.Bytes.{count, word_at}
 use Rattle.walker.specs.Shape.{input_of}
 use Rattle.walker.proofs.Laws.{inside, behind}
-use borrow.Author.Rules.{rules}
 use Rattle.walker.proofs.Registers.input.Goals as goal
 
 pub returns-then-n-loc : goal.returns-then-n-loc

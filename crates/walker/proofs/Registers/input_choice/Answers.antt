@@ -4,9 +4,8 @@ use native.Mathlib.Omega.{arith}
 use Prim.Native.Nat.{◌≤◌, ◌<◌}
 use borrow.Author.Tests.{lt-ltb, le-ltb}
 use Rattle.machine.specs.Bytes.{count, word_at}
-use Rattle.walker.specs.Shape.{input_choice_of, take_input, choice_of, moved}
+use Rattle.walker.specs.Shape.{input_choice_of, take_input, choice_of}
 use Rattle.walker.proofs.Laws.{inside, behind}
-use borrow.Author.Rules.{rules}
 use Rattle.walker.proofs.Registers.input_choice.Goals as goal
 
 pub returns-then-n-loc : goal.returns-then-n-loc

@@ -4,7 +4,6 @@ use Prim.Native.Nat.{◌<◌, ◌≤◌}
 use native.Mathlib.Omega.{arith}
 use borrow.Author.Tests.{lt-ltb, le-ltb}
 use Rattle.walker.specs.Shape.{mend_of}
-use borrow.Author.Rules.{rules}
 use Rattle.walker.proofs.Registers.mend.Goals as goal
 
 pub spend-requires : goal.spend-requires

@@ -4,7 +4,6 @@ use Prim.Native.Nat.{◌≤◌, ◌<◌}
 use borrow.Author.Tests.{le-leb, lt-leb, eq-eqb, ne_eqb}
 use Rattle.walker.specs.Shape.{size}
 use Rattle.walker.specs.Shape.{step_of}
-use borrow.Author.Rules.{rules}
 use Rattle.walker.proofs.Registers.next.Goals as goal
 
 pub returns-then-at-eq0 : goal.returns-then-at-eq0

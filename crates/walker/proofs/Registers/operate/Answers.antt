@@ -4,7 +4,6 @@ use native.Mathlib.Omega.{arith}
 use borrow.Author.Tests.{lt-ltb, le-ltb}
 use Rattle.machine.proofs.Lengths.{length-operation}
 use Rattle.walker.specs.Shape.{operate_of}
-use borrow.Author.Rules.{rules}
 use Rattle.walker.proofs.Registers.operate.Goals as goal
 
 pub update-requires : goal.update-requires

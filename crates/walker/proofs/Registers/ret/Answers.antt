@@ -2,7 +2,6 @@
 use native.Mathlib.Omega.{arith}
 use borrow.Author.Tests.{eq-eqb, ne_eqb}
 use Rattle.walker.specs.Shape.{return_of}
-use borrow.Author.Rules.{rules}
 use Rattle.walker.proofs.Registers.ret.Goals as goal
 
 pub returns-then-n-self : goal.returns-then-n-self

@@ -1,6 +1,5 @@
 -- `Registers::set_parameter` meets its contract.
 use Rattle.walker.proofs.Laws.{inside, behind}
-use borrow.Author.Rules.{rules}
 use Rattle.walker.proofs.Registers.set_parameter.Goals as goal
 
 pub returns-then-n-loc : goal.returns-then-n-loc

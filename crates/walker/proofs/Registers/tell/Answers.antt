@@ -1,7 +1,6 @@
 -- `Registers::tell` meets its contract.
 use borrow.Author.Tests.{le-leb, lt-leb}
 use Rattle.walker.specs.Shape.{tell_of}
-use borrow.Author.Rules.{rules}
 use Rattle.walker.proofs.Registers.tell.Goals as goal
 
 pub returns-then-room-ge-EVENT_WORDS : goal.returns-then-room-ge-EVENT_WORDS

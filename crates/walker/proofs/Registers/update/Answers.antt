@@ -1,6 +1,5 @@
 -- `Registers::update` meets its contract.
 use native.Mathlib.Omega.{arith}
-use borrow.Author.Rules.{rules}
 use Rattle.walker.proofs.Registers.update.Goals as goal
 
 pub returns-then-n-loc : goal.returns-then-n-loc

@@ -1,5 +1,4 @@
 -- `Walk::give_answer` meets its contract.
-use borrow.Author.Rules.{rules}
 use Rattle.walker.proofs.Walk.give_answer.Goals as goal
 
 pub returns : goal.returns

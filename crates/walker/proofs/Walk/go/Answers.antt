@@ -1,12 +1,12 @@
 -- `Walk::go` meets its contract: the invariant carries `go_of` with what is left of the budget, and each step that goes on keeps it.
-use mathlib.Core.Path.{◌≡◌, refl, sym, ap, ◌∙◌}
+use mathlib.Core.Path.{refl, sym, ap, ◌∙◌}
 use native.Mathlib.Omega.{arith}
-use Prim.Native.Nat.{ℕ, ◌+◌, ◌-◌, ◌<◌, ◌≤◌}
+use Prim.Native.Nat.{ℕ, ◌-◌}
 use borrow.Enum.Refused.{opened}
 use Rattle.machine.specs.Bytes.{count}
 use Rattle.machine.specs.Lengths.{lengths}
-use Rattle.walker.specs.Shape.{go_of, step_of}
-use Rattle.walker.proofs.Go.{Inv, inv-as, kept, again-on, again-tells, again-pushes, others, ends, parts, spent}
+use Rattle.walker.specs.Shape.{go_of}
+use Rattle.walker.proofs.Go.{inv-as, kept, again-on, again-tells, again-pushes, others, ends, parts, spent}
 use Rattle.walker.proofs.Walk.go.Goals.{in-On, in-Tells, in-Push}
 use Rattle.walker.proofs.Walk.go.Goals as goal
 
@@ -59,9 +59,9 @@ loop-done-preserved c =
     let more = c.loop-done-test.true in
     let told = sym c.next-x.ensures in
     elim c.match-x.branch [
-      in-On w ↦ inv-as w.at-is w.returns-is w.out-is w.events-is w.room-is (again-on i more (told ∙ w.in-On.is))
-    | in-Tells w ↦ inv-as w.at-is w.returns-is w.out-is w.events-is w.room-is (again-tells i more (told ∙ w.in-Tells.is) w.put_event.ensures w.put_event.auto.out)
-    | in-Push w ↦ inv-as (w.at-is ∙ w.hold-at.ensures.value) (w.returns-is ∙ w.hold-at.ensures.returns_after) w.out-is w.events-is w.room-is (again-pushes i more (told ∙ w.in-Push.is))
+      | in-On w ↦ inv-as w.at-is w.returns-is w.out-is w.events-is w.room-is (again-on i more (told ∙ w.in-On.is))
+      | in-Tells w ↦ inv-as w.at-is w.returns-is w.out-is w.events-is w.room-is (again-tells i more (told ∙ w.in-Tells.is) w.put_event.ensures w.put_event.auto.out)
+      | in-Push w ↦ inv-as (w.at-is ∙ w.hold-at.ensures.value) (w.returns-is ∙ w.hold-at.ensures.returns_after) w.out-is w.events-is w.room-is (again-pushes i more (told ∙ w.in-Push.is))
     ]
 
 pub shape_of-out : goal.shape_of-out

@@ -1,13 +1,6 @@
 -- `Walk::go` meets its contract: the invariant carries `go_of` with what is left of the budget, and each step that goes on keeps it.
-use mathlib.Core.Logic.{◌⊎◌, ⊎_elim}
-use mathlib.Core.Path.{◌≡◌, refl, sym, ap, ◌∙◌}
-use native.Mathlib.Omega.{arith}
-use Prim.Native.Nat.{ℕ, ◌+◌, ◌-◌, ◌<◌, ◌≤◌}
-use borrow.Author.Rules.{rules}
-use Rattle.machine.specs.Bytes.{count}
-use Rattle.machine.specs.Lengths.{lengths}
-use Rattle.walker.specs.Shape.{go_of, step_of}
-use Rattle.walker.proofs.Go.{Inv, inv-as, kept, again-on, again-tells, again-pushes, others, ends, parts, spent}
+use Prim.Native.Nat.{◌-◌}
+use Rattle.walker.proofs.Go.{Inv}
 use Rattle.walker.proofs.Walk.go.Given as goal
 
 abbrev pub invariant-loop-done : goal.invariant-loop-done

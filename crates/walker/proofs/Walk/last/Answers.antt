@@ -1,6 +1,6 @@
 -- `Walk::last` meets its contract, by what the step does.
 use mathlib.Core.Path.{subst}
-use Prim.Native.Nat.{◌+◌, ◌*◌, ◌-◌, ◌≤◌}
+use Prim.Native.Nat.{◌*◌, ◌-◌, ◌≤◌}
 use native.Mathlib.Omega.{arith}
 use Rattle.machine.specs.Bytes.{count}
 use Rattle.walker.specs.Shape.{number_of}

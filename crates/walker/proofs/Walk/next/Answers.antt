@@ -4,7 +4,6 @@ use native.Mathlib.Omega.{arith}
 use Rattle.machine.specs.Lengths.{lengths, length_of}
 use Rattle.walker.specs.Steps.{took_of}
 use Rattle.walker.proofs.Steps.{inside-at, step-any, step-return, step-holds}
-use borrow.Author.Rules.{rules}
 use Rattle.walker.proofs.Walk.next.Goals as goal
 
 pub length_of-requires : goal.length_of-requires

@@ -6,7 +6,6 @@ use Rattle.walker.specs.declared.Registers.{Registers}
 use Rattle.walker.specs.declared.Walk.{Walk}
 use Rattle.walker.proofs.Go.{parts}
 use Rattle.walker.proofs.Calls.{retold, paused-goes, paused-answers, paused-stops, refused-going, refused-waiting, refused-stopped}
-use borrow.Author.Rules.{rules}
 use Rattle.walker.proofs.Walk.paused.Goals as goal
 
 pub returns-then-given : goal.returns-then-given

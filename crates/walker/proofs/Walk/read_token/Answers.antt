@@ -1,5 +1,4 @@
 -- `Walk::read_token` meets its contract.
-use borrow.Author.Rules.{rules}
 use Rattle.walker.proofs.Walk.read_token.Goals as goal
 
 pub returns : goal.returns

@@ -1,5 +1,4 @@
 -- `Walk::ret` meets its contract.
-use borrow.Author.Rules.{rules}
 use Rattle.walker.proofs.Walk.ret.Goals as goal
 
 pub returns : goal.returns

@@ -2,7 +2,6 @@
 use mathlib.Core.Path.{◌∙◌}
 use native.Mathlib.Omega.{arith}
 use Rattle.walker.proofs.Steps.{step-goes, step_waits, step-stops}
-use borrow.Author.Rules.{rules}
 use Rattle.walker.proofs.Walk.step.Goals as goal
 
 pub next-requires : goal.next-requires

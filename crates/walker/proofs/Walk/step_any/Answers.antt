@@ -5,7 +5,6 @@ use borrow.Author.Tests.{lt-ltb, le-ltb}
 use Rattle.machine.specs.Bytes.{count}
 use Rattle.walker.specs.Shape.{any_of}
 use Rattle.walker.specs.Steps.{took_of}
-use borrow.Author.Rules.{rules}
 use Rattle.walker.proofs.Walk.step_any.Goals as goal
 
 pub returns-then-n-loc : goal.returns-then-n-loc

@@ -7,7 +7,6 @@ use borrow.Author.Tests.{eq-eqb, ne_eqb, le-leb, lt-leb}
 use Rattle.walker.specs.Shape.{size, back_to, return_of}
 use Rattle.walker.specs.Steps.{took_of}
 use Rattle.walker.specs.declared.Walk.{Walk}
-use borrow.Author.Rules.{rules}
 use Rattle.walker.proofs.Walk.step_return.Goals as goal
 
 pub returns-then-n-at : goal.returns-then-n-at

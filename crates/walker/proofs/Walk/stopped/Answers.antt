@@ -1,6 +1,5 @@
 -- `Walk::stopped` meets its contract.
 use mathlib.Core.Path.{refl}
-use borrow.Author.Rules.{rules}
 use Rattle.walker.proofs.Walk.stopped.Goals as goal
 
 pub returns : goal.returns

@@ -1,7 +1,6 @@
 -- `Walk::took` meets its contract, by what the instruction did.
 use mathlib.Core.Path.{subst}
 use Rattle.walker.specs.Steps.{Holds, took_of}
-use borrow.Author.Rules.{rules}
 use Rattle.walker.proofs.Walk.took.Goals as goal
 
 pub push-requires : goal.push-requires

@@ -2,7 +2,6 @@
 use native.Mathlib.Omega.{arith}
 use Rattle.walker.proofs.Go.{parts}
 use Rattle.walker.proofs.Calls.{retold, whole-goes, whole-waits, whole-stops}
-use borrow.Author.Rules.{rules}
 use Rattle.walker.proofs.Walk.whole.Goals as goal
 
 pub go-requires : goal.go-requires
