@@ -43,7 +43,7 @@ pub data Shows (text : List ℕ) (n : ℕ) : List ℕ → Type 0 where
   the_word : {w : Word} → ShownBy text n w → Shows text n w.text
   nothing : ((n ≡ 9) × (32768 < length text)) ⊎ (n ≡ 20) → Shows text n []
 
--- all of these lie in the text; a part of 1 is one byte, and only 2, 9 (over_long text) and 20 show none, and that at the text's end
+-- all of these lie in the text; a part of 1 is one byte, and only 2, 9 (over-long text) and 20 show none, and that at the text's end
 pub record LiesIn (text : List ℕ) (n : ℕ) (at : Part) : Type 0 where
   pub inside : at.start + at.size ≤ length text
   pub one_byte : n ≡ 1 → at.size ≡ 1

@@ -147,7 +147,7 @@ unanswered t ts vs es r u q = record { text = t; tokens = ts; answers = vs; allo
 
 -- Programs
 
--- blanks, words and bad characters: blank 2, illegal_char 3, word 5
+-- blanks, words and bad characters: blank 2, illegalChar 3, word 5
 abbrev scanner : String
 scanner = "input: blank = 2 illegalChar = 3 word = 5; output: w = 1; error: badChar = 10; rules M: {[ | blank: | illegalChar: #badChar | word: .w | *: > ]}; end"
 

@@ -6,7 +6,7 @@
 --
 --     Lines:
 --       {  [ fits                   opens_operation: an operation's answer is any, so each alternative is open
---            | yes: (?).line         `?` reads a token: no path
+--            | yes: ? .line         `?` reads a token: no path
 --            | no: .page > ]        path_labelled (paths_that ..): .page (path_emit), then to_exit (path_exit)
 --       }                           path_out: a path of the cycle to its end; `loop_here` has none, since no path comes to the body's end
 --       [ @Foot                     path_selects: to_call Foot
@@ -14,7 +14,7 @@
 --            | *: ]                 path_unnamed: Foot gives `none`, which no label names
 --       ;                           by_end: a quiet path to the rule's return, so a call of Lines is passed quietly (Passed)
 --
--- With `yes: .line` for `yes: (?).line` the body has a path to its end: `loop_here`, and the program is not finishing. With @Lines in Foot before a token is
+-- With `yes: .line` for `yes: ? .line` the body has a path to its end: `loop_here`, and the program is not finishing. With @Lines in Foot before a token is
 -- read, Lines comes to Foot and Foot to Lines: `through`, and it is not finishing either.
 use Rattle.std.specs.Prelude.{Bool, true, false, ◌||◌, List, ◌≡◌, ℕ, ◌<◌, length}
 use Rattle.base.specs.Common.{member}

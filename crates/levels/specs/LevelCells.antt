@@ -2,7 +2,7 @@
 use Rattle.std.specs.Prelude.{Bool, true, false, List, [], ◌∷◌, ℕ}
 use Rattle.program.specs.Made.{Operator}
 
--- `| token: @called.emits`
+-- `| token: @called .emits`
 unfoldable pub operator_cells : ℕ → List Operator → List ℕ → List ℕ
 operator_cells c [] k = k
 operator_cells c (o ∷ os) k = 65 ∷ o.token ∷ 8 ∷ c ∷ 5 ∷ o.emits ∷ 0 ∷ operator_cells c os k

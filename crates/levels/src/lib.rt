@@ -89,7 +89,7 @@ fn value_in(text: &[u8], rows: &[u16], n: usize, class: usize, start: usize, len
     0
 }
 
-// `| token: @called.emits`
+// `| token: @called .emits`
 fn put_operator(
     text: &[u8],
     rows: &[u16],

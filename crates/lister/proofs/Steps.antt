@@ -41,7 +41,7 @@ unfolding count_on flatten line_feeds
 count-on feeds [] = omega arith
 count-on feeds (piece ∷ pieces) = omega (arith, count-on (feeds + line_feeds piece) pieces, feeds-append piece (flatten pieces))
 
--- An over_long text
+-- An over-long text
 
 -- "Text over 32,768 bytes is 9 before all else", at the empty part at the end
 over_long : (text : List ℕ) (room : ℕ) → 32768 < length text → process text room ≡ refused 9 (record { start = length text; size = 0 })
@@ -71,7 +71,7 @@ module _ (kept rest : List ℕ) (e : kept ≡ take 32769 (kept ++ rest)) where
   kept-length : length kept ≤ 32768 → length (kept ++ rest) ≤ 32768
   kept-length h = omega (arith, ap length e, length-take 32769 (kept ++ rest))
 
-  -- an input that is not over_long is kept whole
+  -- an input that is not over-long is kept whole
   kept_whole : length kept ≤ 32768 → kept ≡ kept ++ rest
   kept_whole h = e ∙ take_all 32769 (kept ++ rest) (omega (arith, kept-length h))
 
@@ -85,7 +85,7 @@ unfolding answered listing
 refusal text (accepted ws verdict) f s q e n = absurd (n (ap (λ (x : Answer). x.number) e))
 refusal text (refused number at) f s q e n = ap (λ (x : Answer). refusal_listing x.number (line_at text x.start)) e
 
--- of a text that is over_long, the line of its end
+-- of a text that is over-long, the line of its end
 end_line : (kept rest : List ℕ) → line_at kept (length kept) + line_feeds rest ≡ line_at (kept ++ rest) (length (kept ++ rest))
 unfolding line_at
 end_line kept rest = rw (take-length kept, take-length (kept ++ rest)) (omega (arith, feeds-append kept rest))

@@ -34,7 +34,7 @@ pub record Shown (input kept new : List ℕ) (r : Printed) : Type 0 where
   pub listed : take r.len new ≡ listing input (process input 4096) (figure_of input 4096).figure
   pub word : fault_word kept r.answer ≡ fault_word input (answered (process input 4096) (figure_of input 4096))
 
--- The input is what is kept of it, its first 32,769 bytes, which is enough to see that it is over_long, and then the pieces whose line feeds were counted.
+-- The input is what is kept of it, its first 32,769 bytes, which is enough to see that it is over-long, and then the pieces whose line feeds were counted.
 abbrev pub Prints : List ℕ → ℕ → List ℕ → Printed → Type 0
 Prints kept feeds new r = (pieces : List (List ℕ)) → kept ≡ take 32769 (kept ++ flatten pieces) → feeds ≡ count_on 0 pieces
     → Shown (kept ++ flatten pieces) kept new r

@@ -9,7 +9,7 @@ ghost use Rattle.lister.specs.Prints.{Prints, Counted, most};
 use std::io;
 use std::io::{Read, Write};
 
-// One byte more than a program may have: enough to see that a text is over_long.
+// One byte more than a program may have: enough to see that a text is over-long.
 const KEPT: usize = base::TEXT_BYTES + 1;
 
 // The bytes of the longest table.

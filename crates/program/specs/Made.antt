@@ -35,7 +35,7 @@ levels_from (suc n) l os = level_and (at_level l os) (levels_from n (suc l) os)
 unfoldable pub levels_of : List Operator → List Level
 levels_of os = levels_from 15 1 os
 
--- `| token: @called.emits` for each operator: "Alternatives follow the section's order."
+-- `| token: @called .emits` for each operator: "Alternatives follow the section's order."
 unfoldable pub operator_alts : ℕ → List Operator → Alts
 operator_alts called [] = nil
 operator_alts called (o ∷ os) = alternative (o.token ∷ []) (plain (call called) ▸ plain (emit o.emits) ▸ done) (operator_alts called os)

@@ -47,7 +47,7 @@ pub record Translates (text old new places : List ℕ) (r : Answer) (rules : ℕ
 unfoldable pub fault_word : List ℕ → Answer → List ℕ
 fault_word text r = take r.len (drop r.start text)
 
--- of the code's answer for a text that is refused it is a word of the text, the one that the number shows; or nothing, for over_long text and 20
+-- of the code's answer for a text that is refused it is a word of the text, the one that the number shows; or nothing, for over-long text and 20
 abbrev pub FaultShown : Type 0
 FaultShown =
     (text : List ℕ) (room number : ℕ) (at : Part) (f : Told) → means.process text room ≡ refused number at
