@@ -359,6 +359,7 @@ fn past_zeros(rows: &[u32], i: usize, to: usize) -> usize
 }
 
 // The first place from i on, before an end, with a number; the end where none has one.
+#[inline(always)]
 fn next_numbered(rows: &[u32], i: usize, to: usize) -> usize
     requires { (length rows.now ≡ 4490) × (i ≤ to) }
     ensures { (i ≤ result) × (result ≤ to) × ZeroIn (numbers_of rows.now) i result }
@@ -400,6 +401,7 @@ fn choice_at(table: &[u8], l: usize) -> usize
 }
 
 // The same for each value with which rule q can be back.
+#[inline(never)]
 fn raise_values(
     table: &[u8],
     starts: &[usize],

@@ -492,6 +492,7 @@ fn unnamed(labels: &[u16], n: usize, facts: &[u16], m: usize, r: u16) -> bool
 }
 
 // The labels with those from one place to another behind the first n, as many as there is room for; how many there are then.
+#[inline(never)]
 fn collected(cells: &[u16], from: usize, to: usize, labels: &mut [u16], n: usize) -> usize
     requires { (from ≤ to) × (to ≤ length cells.now) × (n ≤ length labels.old) }
     ensures within { result ≤ length labels.new }
@@ -512,6 +513,7 @@ fn collected(cells: &[u16], from: usize, to: usize, labels: &mut [u16], n: usize
 
 // The ways of one action. Alternatives are scanned from one place here, so that the scan of nested ones needs no frame more.
 #[cycle(act_acts_alts_valued)]
+#[inline(never)]
 fn act(cells: &[u16], at: usize, known: Learnt, facts: &[u16], wanted: &[u16]) -> Ways
     requires { (at < length cells.now) × (2 * known.count ≤ length facts.now) }
     ensures { ActTold cells.now at (known_in known.passed facts.now known.count) wanted.now result }
