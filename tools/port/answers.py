@@ -199,6 +199,24 @@ class Turn:
         return text
 
 
+def helpers_of(text, helpers):
+    """The helpers that a text names, and those that they name."""
+    below, more = [], True
+    while more:
+        more = False
+        for n, t in helpers:
+            if (n, t) not in below and re.search(rf"(?<![\w'.-]){re.escape(n)}(?![\w'-])", text + "\n".join(x for _, x in below)):
+                below.append((n, t))
+                more = True
+    return below
+
+
+def first_comment(text):
+    """The comment at a file's head, or nothing."""
+    first = re.match(r"((?:--[^\n]*\n)+)", text)
+    return first[1] if first else ""
+
+
 def turn(top, names, crate, inside):
     at = os.path.join(top, "crates", crate, "proofs", inside)
     with open(os.path.join(at, "Proof.antt"), encoding="utf-8") as file:
@@ -287,15 +305,8 @@ def turn(top, names, crate, inside):
     uses = [l for l in head if l.startswith("use ") and not re.search(r"\.(Statement\.\{statement\}|Tie as tie)$", l)]
     # helpers that invariants need
     inv = "\n".join(invariants)
-    below, more = [], True
-    while more:
-        more = False
-        for n, t in helpers:
-            if (n, t) not in below and re.search(rf"(?<![\w'.-]){re.escape(n)}(?![\w'-])", inv + "\n".join(x for _, x in below)):
-                below.append((n, t))
-                more = True
-    first = re.match(r"((?:--[^\n]*\n)+)", text)
-    comment = first[1] if first else ""
+    below = helpers_of(inv, helpers)
+    comment = first_comment(text)
     os.makedirs(at, exist_ok=True)
     os.remove(os.path.join(at, "Proof.antt"))
     written = []
@@ -413,15 +424,8 @@ def turn_cycle(top, names, crate, inside):
     heads = re.sub(r"\{\s*([^}]*?),?\s*\}", lambda m: "{" + re.sub(r"\s+", " ", m[1]) + "}", "\n".join(whole_uses(text)))
     uses = [l for l in heads.split("\n") if l.startswith("use ") and not gone.search(l)]
     inv = "\n".join(invariants + measures)
-    below, more = [], True
-    while more:
-        more = False
-        for n, t in helpers:
-            if (n, t) not in below and re.search(rf"(?<![\w'.-]){re.escape(n)}(?![\w'-])", inv + "\n".join(x for _, x in below)):
-                below.append((n, t))
-                more = True
-    first = re.match(r"((?:--[^\n]*\n)+)", text)
-    comment = first[1] if first else ""
+    below = helpers_of(inv, helpers)
+    comment = first_comment(text)
     path = f"Rattle.{crate}.proofs.{inside.replace('/', '.')}"
     os.remove(os.path.join(at, "Proof.antt"))
     pubs = [re.sub(rf"(?m)^((?:abbrev |unfoldable )*)(?={re.escape(n)}\b)", r"\1pub ", t, count=1) if not re.search(r"(?m)^(?:abbrev |unfoldable )*pub ", t) else t for n, t in helpers if (n, t) in below]
